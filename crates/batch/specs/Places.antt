@@ -1,0 +1,25 @@
+-- Where a transfer reads and where it writes. This project's choice of two kinds over peek and poke.
+use Rattle.batch.specs.declared.transfer.Kind.TheVariants.{Push, Pull}
+use Rattle.batch.specs.declared.transfer.Kind.{Kind}
+use Rattle.batch.specs.declared.transfer.Place.{Place}
+use Rattle.batch.specs.declared.transfer.Transfer.{Transfer}
+
+-- the initiator's block
+abbrev pub own_place : Transfer → Place
+own_place t = record { «module» = t.initiator; block = t.own_block }
+
+-- the responder's block
+abbrev pub far_place : Transfer → Place
+far_place t = record { «module» = t.responder; block = t.far_block }
+
+abbrev pub by_kind : Kind → Place → Place → Place
+by_kind Push of_push of_pull = of_push
+by_kind Pull of_push of_pull = of_pull
+
+-- a push reads the initiator's block, a pull the responder's
+abbrev pub source_of : Transfer → Place
+source_of t = by_kind t.kind (own_place t) (far_place t)
+
+-- a push writes the responder's block, a pull the initiator's
+abbrev pub destination_of : Transfer → Place
+destination_of t = by_kind t.kind (far_place t) (own_place t)

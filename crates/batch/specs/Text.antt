@@ -1,0 +1,72 @@
+-- The text of a batch. The form is this project's choice.
+use Rattle.std.specs.Prelude.{◌≡◌, ℕ, ◌<◌, ◌≤◌, ◌+◌, ◌^◌, List, [], ◌∷◌, ◌++◌, length, All, ◌⊎◌, codes}
+use Rattle.std.specs.List.{flat_map, AllByRecursion}
+use Rattle.std.specs.Fmt.{decimal}
+use Rattle.batch.specs.declared.limits.TheConstants.{MAX_TRANSFERS, MAX_DIGITS}
+use Rattle.batch.specs.declared.transfer.Kind.{Kind}
+use Rattle.batch.specs.declared.transfer.Kind.TheVariants.{Push, Pull}
+use Rattle.batch.specs.declared.transfer.Transfer.{Transfer}
+use Rattle.batch.specs.Extent.{Extent}
+
+-- a number of a text: it has at most nine digits
+abbrev pub IsNumber : ℕ → Type 0
+IsNumber n = n < 10 ^ MAX_DIGITS
+
+abbrev pub space : ℕ
+space = 32
+
+abbrev pub line_feed : ℕ
+line_feed = 10
+
+-- a number and the byte that ends it
+abbrev pub number : ℕ → ℕ → List ℕ
+number n end = decimal n ++ end ∷ []
+
+-- the line `batch N`
+abbrev pub head : ℕ → List ℕ
+head n = codes "batch " ++ number n line_feed
+
+abbrev pub word : Kind → List ℕ
+word Push = codes "push "
+word Pull = codes "pull "
+
+-- the line `push I b R c` or `pull I b R c`
+abbrev pub line : Transfer → List ℕ
+line t = word t.kind ++ number t.initiator space ++ number t.own_block space ++ number t.responder space ++ number t.far_block line_feed
+
+-- the one text of a list of transfers
+abbrev pub batch_text : List Transfer → List ℕ
+batch_text ts = head (length ts) ++ flat_map line ts
+
+-- the shape has the transfer's modules
+abbrev pub HasModules : Extent → Transfer → Type 0
+HasModules shape t = (t.initiator < shape.modules) × (t.responder < shape.modules)
+
+-- the shape has the transfer's blocks
+abbrev pub HasBlocks : Extent → Transfer → Type 0
+HasBlocks shape t = (t.own_block < shape.blocks) × (t.far_block < shape.blocks)
+
+-- the shape has both
+abbrev pub IsWithin : Extent → Transfer → Type 0
+IsWithin shape t = HasModules shape t × HasBlocks shape t
+
+-- the text is that of these transfers, which the limit and the shape allow
+pub record Denotes (shape : Extent) (text : List ℕ) (ts : List Transfer) : Type 0 where
+  pub spelled : text ≡ batch_text ts
+  pub few : length ts ≤ MAX_TRANSFERS
+  pub within : All (IsWithin shape) ts
+
+-- ---- the grammar of a number
+
+-- a byte from `0` to `9`
+abbrev pub IsDigit : ℕ → Type 0
+IsDigit c = (48 ≤ c) × (c ≤ 57)
+
+-- `0`, or a digit from 1 to 9 followed by at most eight digits
+abbrev pub IsNumeral : List ℕ → Type 0
+IsNumeral [] = ⊥
+IsNumeral (c ∷ cs) = ((c ≡ 48) × (cs ≡ [])) ⊎ ((49 ≤ c) × (c ≤ 57) × AllByRecursion IsDigit cs × (length cs + 1 ≤ MAX_DIGITS))
+
+-- the digits of a number
+abbrev pub SpellsNumber : List ℕ → Type 0
+SpellsNumber digits = (n : ℕ) × IsNumber n × (digits ≡ decimal n)

@@ -1,0 +1,72 @@
+ghost use Rattle.std.specs.Prelude.{◌≡◌, ◌≢◌, length, slice_get, IfOk, IfErr};
+ghost use Rattle.batch.specs.declared.fault.BatchFault.TheVariants.{NoMemory};
+ghost use Rattle.batch.specs.Batches.{IsBatch};
+ghost use Rattle.batch.specs.Text.{Denotes};
+ghost use Rattle.batch.specs.Faults.{IsFirstFault, NeedsMemory};
+
+use crate::fault::BatchFault;
+use crate::limits::MAX_TRANSFERS;
+use crate::reading;
+use crate::shape::Shape;
+use crate::transfer::Transfer;
+use std::alloc::Global;
+use std::marker::Model;
+
+/// A list of transfers, numbered from 0: at most [`MAX_TRANSFERS`] of them, all of them between
+/// blocks of the widest shape. Equal transfers are different members of the list.
+#[derive(Drop)]
+pub struct Batch {
+    transfers: Vec<Transfer>,
+}
+
+impl Model for Batch {
+    ghost use Rattle.std.specs.Prelude.{List};
+    ghost use Rattle.batch.specs.declared.transfer.Transfer.{Transfer};
+    ghost use Rattle.batch.specs.Batches.{IsBatch};
+
+    ghost Value = { List Transfer };
+
+    ghost view = { λ b. b.transfers.items };
+
+    ghost invariant = { λ b. IsBatch b.transfers.items };
+}
+
+impl Batch {
+    /// Reads a batch text: the line `batch N`, then N lines `push I b R c` or `pull I b R c`.
+    ///
+    /// Gives the batch that the text denotes, or the text's first fault. Every module and block has
+    /// to be one of the shape. Want of memory is answered only where a transfer had to be kept.
+    /// Takes time that grows with the length of the text.
+    pub fn read(alloc: Global, text: &[u8], shape: Shape) -> Result<Batch, BatchFault>
+        ensures batch { IfOk result (λ batch. Denotes shape text.now batch) }
+        ensures fault { IfErr result (λ fault. fault ≢ NoMemory → IsFirstFault shape text.now fault) }
+        ensures memory { IfErr result (λ fault. fault ≡ NoMemory → NeedsMemory shape text.now) }
+    {
+        let Some((count, lines)) = reading::first_line(text) else {
+            return Err(BatchFault::Line(1));
+        };
+        if count > MAX_TRANSFERS {
+            return Err(BatchFault::TooMany);
+        }
+        let (transfers, rest) = reading::transfers(alloc, lines, count, shape)?;
+        if !rest.is_empty() {
+            return Err(BatchFault::Count);
+        }
+        Ok(Batch { transfers })
+    }
+
+    /// How many transfers there are.
+    pub fn len(&self) -> usize
+        ensures value { result ≡ length self.now }
+        ensures batch { IsBatch self.now }
+    {
+        self.transfers.len()
+    }
+
+    /// Transfer `t`, where there is one.
+    pub fn transfer(&self, t: usize) -> Option<Transfer>
+        ensures { result ≡ slice_get self.now t }
+    {
+        self.transfers.get(t).copied()
+    }
+}

@@ -1,0 +1,20 @@
+//! Laws of the text of a batch, proved of its definition alone. None of them does anything.
+
+ghost use Rattle.std.specs.Prelude.{◌≡◌, ℕ, ◌↔◌, List};
+ghost use Rattle.batch.specs.declared.fault.BatchFault.{BatchFault};
+ghost use Rattle.batch.specs.declared.transfer.Transfer.{Transfer};
+ghost use Rattle.batch.specs.Extent.{Extent, IsShape};
+ghost use Rattle.batch.specs.Text.{Denotes, IsNumeral, SpellsNumber};
+ghost use Rattle.batch.specs.Faults.{IsFirstFault};
+
+/// A text denotes at most one batch, has at most one first fault, and never both.
+pub fn one_reading()
+    ensures batch { (shape : Extent) → IsShape shape → (text : List ℕ) (a b : List Transfer) → Denotes shape text a → Denotes shape text b → a ≡ b }
+    ensures apart { (shape : Extent) → IsShape shape → (text : List ℕ) (a : List Transfer) (fault : BatchFault) → Denotes shape text a → IsFirstFault shape text fault → ⊥ }
+    ensures fault { (shape : Extent) → IsShape shape → (text : List ℕ) (one other : BatchFault) → IsFirstFault shape text one → IsFirstFault shape text other → one ≡ other }
+{}
+
+/// The digits of a number are `0`, or a digit from 1 to 9 and at most eight digits behind it.
+pub fn number_grammar()
+    ensures { (digits : List ℕ) → IsNumeral digits ↔ SpellsNumber digits }
+{}

@@ -1,0 +1,23 @@
+//! Batches of block transfers in a rack of modules, and their text.
+//!
+//! The bottom of the controller: the shape of a rack, the places of its blocks, transfers between
+//! them, and the batches that a user writes into a file. [`Batch::read`] reads such a text, or says
+//! what is first wrong with it.
+#![tactic(auto)]
+
+mod batch;
+mod fault;
+pub mod laws;
+mod limits;
+mod reading;
+mod shape;
+mod transfer;
+
+pub use batch::Batch;
+pub use fault::{BatchFault, ShapeFault};
+pub use limits::{MAX_BLOCKS, MAX_DIGITS, MAX_MODULES, MAX_TRANSFERS, MAX_WORDS};
+pub use shape::Shape;
+pub use transfer::{Kind, Place, Transfer};
+
+#[cfg(test)]
+mod tests;

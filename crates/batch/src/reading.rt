@@ -1,0 +1,141 @@
+//! The parts of a batch text, read from the left. Each reader gives what it has read and the rest.
+
+ghost use Rattle.std.specs.Prelude.{◌≡◌, ◌≢◌, ℕ, ◌+◌, ◌<◌, ◌≤◌, List, ◌++◌, IfSome, IfNone, IfOk, IfErr, length, ◌⊎◌, position, ◌==◌, ◌↔◌, IsTrue, slice_index};
+ghost use Rattle.std.specs.Fmt.{decimal};
+ghost use Rattle.batch.specs.declared.transfer.Kind.{Kind};
+ghost use Rattle.batch.specs.declared.transfer.Transfer.{Transfer};
+ghost use Rattle.batch.specs.Text.{IsNumber, number, word, line, space, line_feed, IsWithin};
+ghost use Rattle.batch.specs.declared.fault.BatchFault.TheVariants.{NoMemory};
+ghost use Rattle.batch.specs.Faults.{IsHeaded, BeginsWithLine, IsLineFault, AreTransfers, StopsAt, HasGrown};
+
+use crate::fault::BatchFault;
+use crate::limits::{MAX_DIGITS, MAX_TRANSFERS};
+use crate::shape::Shape;
+use crate::transfer::{Kind, Transfer};
+use std::alloc::Global;
+
+/// Whether these are several digits, the first of which is 0.
+fn has_leading_zero(digits: &[u8]) -> bool
+    ensures { IsTrue result ↔ ((1 < length digits.now) × (slice_index digits.now 0 ≡ 48)) }
+{
+    digits.len() > 1 && digits[0] == b'0'
+}
+
+/// The number that these digits spell.
+fn number_from_digits(digits: &[u8]) -> Option<usize>
+    ensures some { IfSome result (λ n. IsNumber n × (digits.now ≡ decimal n)) }
+    ensures none { IfNone result ((n : ℕ) → IsNumber n → digits.now ≢ decimal n) }
+{
+    if digits.is_empty() || digits.len() > MAX_DIGITS || has_leading_zero(digits) {
+        return None;
+    }
+    let mut n = 0usize;
+    for digit in digits {
+        if !digit.is_ascii_digit() {
+            return None;
+        }
+        n = n * 10 + usize::from(*digit - b'0');
+    }
+    Some(n)
+}
+
+/// Where a byte stands first.
+fn first_place(bytes: &[u8], byte: u8) -> Option<usize>
+    ensures { result ≡ position (λ b. b == byte) bytes.now }
+{
+    bytes.iter().position(|b| *b == byte)
+}
+
+/// A number and the byte that ends it.
+fn number_before(bytes: &[u8], end: u8) -> Option<(usize, &[u8])>
+    requires { (end ≡ space) ⊎ (end ≡ line_feed) }
+    ensures some { IfSome result (λ x. IsNumber x.0 × (bytes.now ≡ number x.0 end ++ x.1.now)) }
+    ensures none { IfNone result ((n : ℕ) (rest : List ℕ) → IsNumber n → bytes.now ≢ number n end ++ rest) }
+{
+    let at = first_place(bytes, end)?;
+    let n = number_from_digits(&bytes[..at])?;
+    Some((n, &bytes[at + 1..]))
+}
+
+/// The first line of a batch text.
+pub(crate) fn first_line(text: &[u8]) -> Option<(usize, &[u8])>
+    ensures some { IfSome result (λ x. IsHeaded text.now x.0 x.1.now) }
+    ensures none { IfNone result ((n : ℕ) (rest : List ℕ) → IsHeaded text.now n rest → ⊥) }
+{
+    number_before(text.strip_prefix(b"batch ")?, b'\n')
+}
+
+/// The word that a transfer's line begins with.
+fn kind_word(bytes: &[u8]) -> Option<(Kind, &[u8])>
+    ensures some { IfSome result (λ x. bytes.now ≡ word x.0 ++ x.1.now) }
+    ensures none { IfNone result ((kind : Kind) (rest : List ℕ) → bytes.now ≢ word kind ++ rest) }
+{
+    if let Some(rest) = bytes.strip_prefix(b"push ") {
+        return Some((Kind::Push, rest));
+    }
+    let rest = bytes.strip_prefix(b"pull ")?;
+    Some((Kind::Pull, rest))
+}
+
+/// The line of a transfer.
+fn transfer_line(bytes: &[u8]) -> Option<(Transfer, &[u8])>
+    ensures some { IfSome result (λ x. BeginsWithLine bytes.now x.0 x.1.now) }
+    ensures none { IfNone result ((t : Transfer) (after : List ℕ) → BeginsWithLine bytes.now t after → ⊥) }
+{
+    let (kind, rest) = kind_word(bytes)?;
+    let (initiator, rest) = number_before(rest, b' ')?;
+    let (own_block, rest) = number_before(rest, b' ')?;
+    let (responder, rest) = number_before(rest, b' ')?;
+    let (far_block, rest) = number_before(rest, b'\n')?;
+    let transfer = Transfer {
+        kind,
+        initiator,
+        own_block,
+        responder,
+        far_block,
+    };
+    Some((transfer, rest))
+}
+
+/// Transfer `t`, which the shape must have.
+fn next_transfer(rest: &[u8], t: usize, shape: Shape) -> Result<(Transfer, &[u8]), BatchFault>
+    requires { t < MAX_TRANSFERS }
+    ensures ok { IfOk result (λ x. IsWithin shape x.0 × (rest.now ≡ line x.0 ++ x.1.now)) }
+    ensures err { IfErr result (λ fault. IsLineFault shape t rest.now fault) }
+{
+    if rest.is_empty() {
+        return Err(BatchFault::Count);
+    }
+    let Some((transfer, after)) = transfer_line(rest) else {
+        return Err(BatchFault::Line(t + 2));
+    };
+    if transfer.initiator >= shape.modules() || transfer.responder >= shape.modules() {
+        return Err(BatchFault::NoModule(t));
+    }
+    if transfer.own_block >= shape.blocks() || transfer.far_block >= shape.blocks() {
+        return Err(BatchFault::NoBlock(t));
+    }
+    Ok((transfer, after))
+}
+
+/// As many transfers as the first line announces.
+pub(crate) fn transfers(
+    alloc: Global,
+    lines: &[u8],
+    count: usize,
+    shape: Shape,
+) -> Result<(Vec<Transfer>, &[u8]), BatchFault>
+    requires { count ≤ MAX_TRANSFERS }
+    ensures ok { IfOk result (λ x. AreTransfers shape lines.now count x.0.items x.1.now) }
+    ensures err { IfErr result (λ fault. fault ≢ NoMemory → StopsAt shape lines.now count fault) }
+    ensures memory { IfErr result (λ fault. fault ≡ NoMemory → HasGrown shape lines.now count) }
+{
+    let mut transfers = Vec::new(alloc);
+    let mut rest = lines;
+    for t in 0..count {
+        let (transfer, after) = next_transfer(rest, t, shape)?;
+        transfers.push(transfer)?;
+        rest = after;
+    }
+    Ok((transfers, rest))
+}

@@ -1,0 +1,120 @@
+ghost use Rattle.std.specs.Prelude.{◌≡◌, [], ◌∷◌, codes};
+ghost use Rattle.batch.specs.Text.{batch_text};
+ghost use Rattle.batch.specs.Extent.{extent, widest};
+ghost use Rattle.batch.specs.ShapeText.{shape_text};
+ghost use Rattle.batch.specs.Places.{source_of, destination_of};
+ghost use Rattle.batch.specs.Rows.{pull, three_transfers};
+
+use crate::{Batch, BatchFault, MAX_TRANSFERS, Place, Shape, ShapeFault};
+use std::alloc::{AllocError, Global};
+use std::test::Fail;
+
+/// The definitions give the texts of worked rows.
+fn the_definitions_spell_the_rows()
+    ensures three_transfers { batch_text three_transfers ≡ codes "batch 3\npush 0 0 1 0\npush 0 1 2 0\npush 1 1 2 1\n" }
+    ensures empty_batch { batch_text [] ≡ codes "batch 0\n" }
+    ensures pull { batch_text (pull 13 63 0 10 ∷ []) ≡ codes "batch 1\npull 13 63 0 10\n" }
+    ensures shape { shape_text (extent 3 2 2) ≡ codes "3x2x2" }
+    ensures widest_shape { shape_text widest ≡ codes "16x64x256" }
+{}
+
+/// What the widest shape reads: how many transfers there are, or the fault.
+fn count(alloc: Global, text: &str) -> Result<usize, BatchFault> {
+    let batch = Batch::read(alloc, text.as_bytes(), Shape::WIDEST)?;
+    Ok(batch.len())
+}
+
+#[test]
+fn three_transfers(rt: HostRuntime) {
+    let text = "batch 3\npush 0 0 1 0\npush 0 1 2 0\npush 1 1 2 1\n";
+    assert_eq!(rt; count(rt.alloc(), text), Ok(3));
+    assert_eq!(rt; count(rt.alloc(), "batch 0\n"), Ok(0));
+}
+
+#[test]
+fn batch_refusals(rt: HostRuntime) {
+    let rows = [
+        ("", BatchFault::Line(1)),
+        ("batch 01\n", BatchFault::Line(1)),
+        ("batch 1\npush 0 0 1\n", BatchFault::Line(2)),
+        ("batch 1\npush 0 0 1 0", BatchFault::Line(2)),
+        ("batch 1\npush 16 0 0 0\n", BatchFault::NoModule(0)),
+        ("batch 1\npush 0 64 0 0\n", BatchFault::NoBlock(0)),
+        ("batch 2\npush 0 0 1 0\n", BatchFault::Count),
+        ("batch 0\nx", BatchFault::Count),
+    ];
+    for (text, fault) in rows {
+        assert_eq!(rt; count(rt.alloc(), text), Err(fault), "{text:?}");
+    }
+}
+
+/// So many times one line, and a first line that announces this many.
+fn repeated(alloc: Global, announced: usize, lines: usize) -> Result<String, AllocError> {
+    let mut text = format!(in alloc; "batch {announced}\n")?;
+    for _ in 0..lines {
+        text.push_str("push 0 0 1 0\n")?;
+    }
+    Ok(text)
+}
+
+#[test]
+fn largest_batch(rt: HostRuntime) -> Result<(), Fail> {
+    let text = repeated(rt.alloc(), MAX_TRANSFERS, MAX_TRANSFERS)?;
+    assert_eq!(rt; count(rt.alloc(), text.as_str()), Ok(4096));
+    assert_eq!(rt; count(rt.alloc(), "batch 4097\n"), Err(BatchFault::TooMany));
+    Ok(())
+}
+
+#[test]
+fn transfers_have_places(rt: HostRuntime) -> Result<(), Fail> {
+    let text = b"batch 2\npull 3 4 5 6\npush 3 4 5 6\n";
+    let batch = Batch::read(rt.alloc(), text, Shape::WIDEST)?;
+    let own = Place {
+        module: 3,
+        block: 4,
+    };
+    let far = Place {
+        module: 5,
+        block: 6,
+    };
+    let pull = batch.transfer(0).ok_or("no pull")?;
+    assert_eq!(rt; (pull.source(), pull.destination()), (far, own));
+    let push = batch.transfer(1).ok_or("no push")?;
+    assert_eq!(rt; (push.source(), push.destination()), (own, far));
+    assert_eq!(rt; batch.transfer(2), None);
+    Ok(())
+}
+
+#[test]
+fn shapes_have_limits(rt: HostRuntime) -> Result<(), Fail> {
+    let shape = Shape::new(3, 2, 1)?;
+    assert_eq!(rt; (shape.modules(), shape.blocks(), shape.words()), (3, 2, 1));
+    assert_eq!(rt; Shape::new(16, 64, 256), Ok(Shape::WIDEST));
+    for (modules, blocks, words) in [(0, 1, 1), (17, 1, 1), (1, 65, 1), (1, 1, 257)] {
+        assert_eq!(rt;
+            Shape::new(modules, blocks, words),
+            Err(ShapeFault::BadShape)
+        );
+    }
+    Ok(())
+}
+
+#[test]
+fn faults_are_printed(rt: HostRuntime) -> Result<(), Fail> {
+    let rows = [
+        (BatchFault::Line(2), "line 2"),
+        (BatchFault::TooMany, "too many"),
+        (BatchFault::NoModule(0), "no module 0"),
+        (BatchFault::NoBlock(7), "no block 7"),
+        (BatchFault::Count, "count"),
+        (BatchFault::NoMemory, "no memory"),
+    ];
+    for (fault, text) in rows {
+        assert_eq!(rt; fault.to_string(rt.alloc())?.as_str(), text);
+    }
+    assert_eq!(rt;
+        ShapeFault::BadShape.to_string(rt.alloc())?.as_str(),
+        "bad shape"
+    );
+    Ok(())
+}

@@ -1,0 +1,4 @@
+//! The limits of the program's words. They are this project's choice.
+
+/// The most workers that planning may be given.
+pub const MAX_WORKERS: usize = 64;

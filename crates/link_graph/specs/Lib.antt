@@ -1,0 +1,4 @@
+pub mod Links
+pub mod Uses
+pub mod Schedules
+pub mod ScheduleText

@@ -1,0 +1,170 @@
+-- Placing one transfer after the other.
+use Rattle.std.proofs.Common.{◌≡◌, ◌≢◌, ℕ, ◌+◌, ◌<◌, ◌≤◌, cond, List, [], ◌∷◌, ◌++◌, length, get_or, set, take, All, ◌⊎◌, refl, sym, ap, subst, ◌∙◌, arith, inl, inr}
+use Rattle.std.specs.Prelude.{count_by, ◌==◌, AllPairs, Contains}
+use Rattle.std.proofs.lemmas.Bool.{cases_lt}
+use Rattle.std.specs.Global.{Vec}
+use Rattle.std.proofs.lemmas.Bool.Decides.{eqb_tells}
+use Rattle.std.proofs.lemmas.List.{map-set, map_push, get_or-map, length-set, length_push, length-append, length-take, get_or_default, get_or_append_left, get_or_push, get_or-set_same, get_or-set_other, get_or-take}
+use Rattle.std.proofs.lemmas.List.Elements.{All-set, All-push, All-get_or, All-weaker, All-contains}
+use Rattle.std.proofs.lemmas.List.Quantifiers.{all_pairs_push}
+use Rattle.std.proofs.lemmas.List.Sums.{sum_by-set, sum_by_push}
+use Rattle.batch.specs.declared.transfer.Transfer.{Transfer}
+use Rattle.link_graph.specs.Uses.{AreApart, IsMatching}
+use Rattle.link_graph.specs.Schedules.{lists_of, times, IsScheduleOf}
+use Rattle.schedule_certificate.specs.FirstFit.{Places, into, alone, IsBlocked, AllBlocked, IsTaken, IsFirstFit}
+
+-- ---- what lies in memory, as lists
+
+pub list_at : (lists : List (Vec ℕ)) (k : ℕ) (v : Vec ℕ) → k < length lists → v ≡ get_or lists k v → get_or (lists_of lists) k [] ≡ v.items
+list_at lists k v lt is = get_or-map (λ w. w.items) lists k v [] lt ∙ ap (λ (w : Vec ℕ). w.items) (sym is)
+
+pub placed : (lists : List (Vec ℕ)) (k t : ℕ) (v w : Vec ℕ) → k < length lists → v ≡ get_or lists k v → w.items ≡ v.items ++ t ∷ [] → lists_of (set lists k w) ≡ set (lists_of lists) k (get_or (lists_of lists) k [] ++ t ∷ [])
+placed lists k t v w lt is pushed =
+    map-set (λ x. x.items) lists k w ∙ ap (λ (x : List ℕ). set (lists_of lists) k x) (pushed ∙ ap (λ (x : List ℕ). x ++ t ∷ []) (sym (list_at lists k v lt is)))
+
+pub added : (lists all : List (Vec ℕ)) (t : ℕ) (v : Vec ℕ) → all ≡ lists ++ v ∷ [] → v.items ≡ t ∷ [] → lists_of all ≡ lists_of lists ++ (t ∷ []) ∷ []
+added lists all t v pushed is = ap lists_of pushed ∙ map_push (λ x. x.items) lists v ∙ ap (λ (x : List ℕ). lists_of lists ++ x ∷ []) is
+
+pub contains_at : (xs : List ℕ) (i : ℕ) → i < length xs → Contains xs (get_or xs i 0)
+contains_at xs i lt = (i, lt, get_or_default xs i (get_or xs i 0) 0 lt)
+
+-- ---- the transfers below t are placed
+
+pub record Partial (batch : List Transfer) (t : ℕ) (settings : List (List ℕ)) : Type 0 where
+  pub matchings : All (IsMatching batch) settings
+  pub once : (u : ℕ) → u < t → times u settings ≡ 1
+  pub others : (u : ℕ) → t ≤ u → times u settings ≡ 0
+  pub below : All (All (λ u. u < t)) settings
+  pub count : length settings ≤ t
+  pub fits : IsFirstFit batch settings
+
+-- how often u stands in t alone
+one : ℕ → ℕ → ℕ
+one u t = cond (t == u) 1 0
+
+one_same : (u t : ℕ) → u ≡ t → one u t ≡ 1
+unfolding one
+one_same u t e = elim (eqb_tells t u) [ inl p ↦ rw p.0 refl | inr p ↦ absurd (p.1 (sym e)) ]
+
+one_other : (u t : ℕ) → u ≢ t → one u t ≡ 0
+unfolding one
+one_other u t ne = elim (eqb_tells t u) [ inl p ↦ absurd (ne (sym p.1)) | inr p ↦ rw p.0 refl ]
+
+count_push : (u t : ℕ) (setting : List ℕ) → count_by (λ x. x == u) (setting ++ t ∷ []) ≡ count_by (λ x. x == u) setting + one u t
+unfolding one
+count_push u t setting = sum_by_push (λ x. cond (x == u) 1 0) setting t
+
+times_into : (u t k : ℕ) (settings : List (List ℕ)) → k < length settings → times u (set settings k (get_or settings k [] ++ t ∷ [])) ≡ times u settings + one u t
+times_into u t k settings lt =
+    let changed = sum_by-set (λ s. count_by (λ x. x == u) s) settings k (get_or settings k [] ++ t ∷ []) [] lt in
+    omega (arith, changed, count_push u t (get_or settings k []))
+
+times_alone : (u t : ℕ) (settings : List (List ℕ)) → times u (settings ++ (t ∷ []) ∷ []) ≡ times u settings + one u t
+times_alone u t settings =
+    let pushed : times u (settings ++ (t ∷ []) ∷ []) ≡ times u settings + count_by (λ x. x == u) (t ∷ []) = sum_by_push (λ s. count_by (λ x. x == u) s) settings (t ∷ []) in
+    let single : count_by (λ x. x == u) (t ∷ []) ≡ count_by (λ x. x == u) [] + one u t = count_push u t [] in
+    omega arith
+
+counts_more : (batch : List Transfer) (t : ℕ) (old new : List (List ℕ)) → Partial batch t old → ((u : ℕ) → times u new ≡ times u old + one u t) → All (IsMatching batch) new → All (All (λ u. u < t + 1)) new → length new ≤ t + 1 → IsFirstFit batch new → Partial batch (t + 1) new
+counts_more batch t old new p counts matchings below count fits = record {
+  fits = fits;
+  below = below;
+  count = count;
+  matchings = matchings;
+  once = λ u lt. elim (eqb_tells u t) [
+    | inl e ↦ omega (arith, counts u, one_same u t e.1, p.others u (omega (arith, e.1)))
+    | inr e ↦ omega (arith, counts u, one_other u t e.1, p.once u (omega (arith, e.1)))
+  ];
+  others = λ u le. omega (arith, counts u, one_other u t (λ e. omega arith), p.others u (omega arith));
+}
+
+rise : (t : ℕ) (setting : List ℕ) → All (λ u. u < t) setting → All (λ u. u < t + 1) setting
+rise t setting = All-weaker (λ u. u < t) (λ u. u < t + 1) (λ u lt. omega arith) setting
+
+rise_all : (t : ℕ) (settings : List (List ℕ)) → All (All (λ u. u < t)) settings → All (All (λ u. u < t + 1)) settings
+rise_all t settings = All-weaker (All (λ u. u < t)) (All (λ u. u < t + 1)) (rise t) settings
+
+-- ---- the first setting that was free
+
+in_front : (xs ys : List ℕ) (x : ℕ) → Contains xs x → Contains (xs ++ ys) x
+in_front xs ys x c = (c.0, omega (arith, c.1, length-append xs ys), get_or_append_left xs ys x c.0 c.1 ∙ c.2)
+
+in_pushed : (xs : List ℕ) (y x : ℕ) → Contains (xs ++ y ∷ []) x → Contains xs x ⊎ (x ≡ y)
+in_pushed xs y x c =
+    elim (cases_lt c.0 (length xs)) [
+      | inl less ↦ inl (c.0, less, sym (get_or_append_left xs (y ∷ []) x c.0 less) ∙ c.2)
+      | inr more ↦ inr (sym c.2 ∙ get_or_push xs y x c.0 (omega (arith, c.1, length_push xs y)))
+    ]
+
+not_in_nothing : (x : ℕ) → Contains [] x → ⊥
+not_in_nothing x c = omega (arith, c.1)
+
+grows : (batch : List Transfer) (setting more : List ℕ) (x : ℕ) → IsTaken batch setting x → IsTaken batch (setting ++ more) x
+grows batch setting more x taken = record { u = taken.u; stands = in_front setting more taken.u taken.stands; smaller = taken.smaller; share = taken.share }
+
+was_blocked : (batch : List Transfer) (setting : List ℕ) (t : ℕ) → All (λ u. u < t) setting → IsBlocked batch setting t → IsTaken batch setting t
+was_blocked batch setting t below blocked = record { u = blocked.u; stands = blocked.stands; smaller = All-contains (λ u. u < t) setting blocked.u below blocked.stands; share = blocked.share }
+
+taken_after : (batch : List Transfer) (old : List (List ℕ)) (k t j x : ℕ) → k < length old → IsTaken batch (get_or old j []) x → IsTaken batch (get_or (set old k (get_or old k [] ++ t ∷ [])) j []) x
+taken_after batch old k t j x lt taken =
+    elim (eqb_tells j k) [
+      | inl e ↦ subst (λ (s : List ℕ). IsTaken batch s x) (ap (λ (i : ℕ). get_or old i [] ++ t ∷ []) e.1 ∙ sym (get_or-set_same old k (get_or old k [] ++ t ∷ []) [] lt) ∙ ap (λ (i : ℕ). get_or (set old k (get_or old k [] ++ t ∷ [])) i []) (sym e.1)) (grows batch (get_or old j []) (t ∷ []) x taken)
+      | inr e ↦ subst (λ (s : List ℕ). IsTaken batch s x) (sym (get_or-set_other old k j (get_or old k [] ++ t ∷ []) [] e.1)) taken
+    ]
+
+fits_into : (batch : List Transfer) (t k : ℕ) (old : List (List ℕ)) → Partial batch t old → k < length old → AllBlocked batch (take k old) t → IsFirstFit batch (set old k (get_or old k [] ++ t ∷ []))
+fits_into batch t k old p lt blocked = record {
+  none_empty = All-set (λ s. 0 < length s) old k (get_or old k [] ++ t ∷ []) (omega (arith, length_push (get_or old k []) t)) p.fits.none_empty;
+  ascending = All-set (AllPairs (λ a b. a < b)) old k (get_or old k [] ++ t ∷ [])
+      (all_pairs_push (λ a b. a < b) (get_or old k []) t (All-get_or (AllPairs (λ a b. a < b)) old k [] lt p.fits.ascending) (All-get_or (All (λ u. u < t)) old k [] lt p.below)) p.fits.ascending;
+  first = λ j i x less within stands. taken_after batch old k t j x lt (elim (eqb_tells i k) [
+    | inl e ↦
+        let at : Contains (get_or old k [] ++ t ∷ []) x = subst (λ (s : List ℕ). Contains s x) (ap (λ (n : ℕ). get_or (set old k (get_or old k [] ++ t ∷ [])) n []) e.1 ∙ get_or-set_same old k (get_or old k [] ++ t ∷ []) [] lt) stands in
+        let before : j < k = omega (arith, e.1, less) in
+        elim (in_pushed (get_or old k []) t x at) [
+          | inl inside ↦ p.fits.first j k x before lt inside
+          | inr is ↦
+              let there : IsBlocked batch (get_or old j []) t = subst (λ (s : List ℕ). IsBlocked batch s t) (get_or-take k old j [] before) (All-get_or (λ s. IsBlocked batch s t) (take k old) j [] (omega (arith, length-take k old)) blocked) in
+              subst (λ (n : ℕ). IsTaken batch (get_or old j []) n) (sym is) (was_blocked batch (get_or old j []) t (All-get_or (All (λ u. u < t)) old j [] (omega arith) p.below) there)
+        ]
+    | inr e ↦ p.fits.first j i x less (omega (arith, within, length-set old k (get_or old k [] ++ t ∷ []))) (subst (λ (s : List ℕ). Contains s x) (get_or-set_other old k i (get_or old k [] ++ t ∷ []) [] e.1) stands)
+  ]);
+}
+
+fits_alone : (batch : List Transfer) (t : ℕ) (old : List (List ℕ)) → Partial batch t old → AllBlocked batch old t → IsFirstFit batch (old ++ (t ∷ []) ∷ [])
+fits_alone batch t old p blocked = record {
+  none_empty = All-push (λ s. 0 < length s) old (t ∷ []) p.fits.none_empty (omega arith);
+  ascending = All-push (AllPairs (λ a b. a < b)) old (t ∷ []) p.fits.ascending (λ i j d lt inside. absurd (omega arith));
+  first = λ j i x less within stands.
+      let few : i < length old + 1 = omega (arith, within, length_push old (t ∷ [])) in
+      let early : j < length old = omega arith in
+      subst (λ (s : List ℕ). IsTaken batch s x) (sym (get_or_append_left old ((t ∷ []) ∷ []) [] j early)) (elim (cases_lt i (length old)) [
+        | inl inside ↦ p.fits.first j i x less inside (subst (λ (s : List ℕ). Contains s x) (get_or_append_left old ((t ∷ []) ∷ []) [] i inside) stands)
+        | inr last ↦
+            let at : Contains (t ∷ []) x = subst (λ (s : List ℕ). Contains s x) (get_or_push old (t ∷ []) [] i (omega arith)) stands in
+            elim (in_pushed [] t x at) [
+              | inl none ↦ absurd (not_in_nothing x none)
+              | inr is ↦ subst (λ (n : ℕ). IsTaken batch (get_or old j []) n) (sym is) (was_blocked batch (get_or old j []) t (All-get_or (All (λ u. u < t)) old j [] early p.below) (All-get_or (λ s. IsBlocked batch s t) old j [] early blocked))
+            ]
+      ]);
+}
+
+pub places_more : (batch : List Transfer) (t : ℕ) (old new : List (List ℕ)) → Partial batch t old → Places batch t old new → Partial batch (t + 1) new
+places_more batch t old new p (into k lt free none is) =
+    counts_more batch t old new p (λ u. rw is (times_into u t k old lt))
+    (rw is (All-set (IsMatching batch) old k (get_or old k [] ++ t ∷ []) (all_pairs_push (AreApart batch) (get_or old k []) t (All-get_or (IsMatching batch) old k [] lt p.matchings) free.apart) p.matchings))
+    (rw is (All-set (All (λ u. u < t + 1)) old k (get_or old k [] ++ t ∷ []) (All-push (λ u. u < t + 1) (get_or old k []) t (rise t (get_or old k []) (All-get_or (All (λ u. u < t)) old k [] lt p.below)) (omega arith)) (rise_all t old p.below)))
+    (rw (is, length-set) (omega (arith, p.count)))
+    (rw is (fits_into batch t k old p lt none))
+places_more batch t old new p (alone none is) =
+    counts_more batch t old new p (λ u. rw is (times_alone u t old))
+    (rw is (All-push (IsMatching batch) old (t ∷ []) p.matchings (λ i j d lt inside. absurd (omega arith))))
+    (rw is (All-push (All (λ u. u < t + 1)) old (t ∷ []) (rise_all t old p.below) (All-push (λ u. u < t + 1) [] t (λ k d lt. absurd (omega arith)) (omega arith))))
+    (rw (is, length_push) (omega (arith, p.count)))
+    (rw is (fits_alone batch t old p none))
+
+pub nothing_placed : (batch : List Transfer) → Partial batch 0 []
+nothing_placed batch = record { matchings = λ k d lt. absurd (omega arith); once = λ u lt. absurd (omega arith); others = λ u le. refl; below = λ k d lt. absurd (omega arith); count = omega arith; fits = record { none_empty = λ k d lt. absurd (omega arith); ascending = λ k d lt. absurd (omega arith); first = λ j k x less lt stands. absurd (omega arith) } }
+
+pub all_placed : (batch : List Transfer) (t : ℕ) (settings : List (List ℕ)) → t ≡ length batch → Partial batch t settings → IsScheduleOf batch settings
+all_placed batch t settings e p = record { matchings = p.matchings; once = λ u lt. p.once u (omega arith); no_other = subst (λ (n : ℕ). All (All (λ u. u < n)) settings) e p.below }

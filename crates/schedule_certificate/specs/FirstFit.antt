@@ -1,0 +1,44 @@
+-- First fit: each transfer by number into the first setting that has neither of its links.
+use Rattle.std.specs.Prelude.{◌≡◌, ℕ, ◌<◌, ◌++◌, ◌∷◌, List, [], length, All, AllPairs, Contains, slice_index_or, slice_set, take}
+use Rattle.batch.specs.declared.transfer.Transfer.{Transfer}
+use Rattle.link_graph.specs.declared.link.Link.{Link}
+use Rattle.link_graph.specs.Uses.{AreApart, Uses}
+
+-- two transfers have a link in common
+pub record Share (batch : List Transfer) (u t : ℕ) : Type 0 where
+  pub link : Link
+  pub first : Uses batch u link
+  pub second : Uses batch t link
+
+-- a smaller number of the setting has a link in common with t
+pub record IsTaken (batch : List Transfer) (setting : List ℕ) (t : ℕ) : Type 0 where
+  pub u : ℕ
+  pub stands : Contains setting u
+  pub smaller : u < t
+  pub share : Share batch u t
+
+-- No setting is empty. Numbers ascend in each setting, and each stands in the first setting that no smaller number has taken from it.
+pub record IsFirstFit (batch : List Transfer) (settings : List (List ℕ)) : Type 0 where
+  pub none_empty : All (λ setting. 0 < length setting) settings
+  pub ascending : All (AllPairs (λ t u. t < u)) settings
+  pub first : (j k t : ℕ) → j < k → k < length settings → Contains (slice_index_or settings k []) t → IsTaken batch (slice_index_or settings j []) t
+
+-- ---- one step, for the parts of the body
+
+-- no number of the setting has a link in common with t
+pub record IsFree (batch : List Transfer) (setting : List ℕ) (t : ℕ) : Type 0 where
+  pub apart : All (λ u. AreApart batch u t) setting
+
+-- a number of the setting has one
+pub record IsBlocked (batch : List Transfer) (setting : List ℕ) (t : ℕ) : Type 0 where
+  pub u : ℕ
+  pub stands : Contains setting u
+  pub share : Share batch u t
+
+abbrev pub AllBlocked : List Transfer → List (List ℕ) → ℕ → Type 0
+AllBlocked batch settings t = All (λ setting. IsBlocked batch setting t) settings
+
+-- t goes to the end of the first free setting, or into a new one where none is free
+pub data Places (batch : List Transfer) (t : ℕ) (old new : List (List ℕ)) : Type 0 where
+  into : (k : ℕ) → k < length old → IsFree batch (slice_index_or old k []) t → AllBlocked batch (take k old) t → new ≡ slice_set old k (slice_index_or old k [] ++ t ∷ []) → Places batch t old new
+  alone : AllBlocked batch old t → new ≡ old ++ (t ∷ []) ∷ [] → Places batch t old new
