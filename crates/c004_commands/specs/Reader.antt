@@ -1,0 +1,28 @@
+-- How contracts see a reader: the bytes of the command that was begun.
+use Rattle.std.specs.Prelude.{◌≡◌, ℕ, List, [], ◌∷◌, ◌++◌, drop, Option}
+use Rattle.std.specs.Option.{option_to_list}
+use Rattle.c004_commands.specs.Commands.{text, ArePorts, AreCommands}
+use Rattle.c004_commands.specs.declared.command.Command.{Command}
+use Rattle.c004_commands.specs.declared.reader.Begun.{Begun}
+use Rattle.c004_commands.specs.declared.reader.Begun.TheVariants.{Nothing, Connect, ConnectFrom, Join, JoinOf, Enquire, Cut, CutPair, CutPairOf}
+
+-- the bytes that have come of a command
+abbrev pub begun_bytes : Begun → List ℕ
+begun_bytes Nothing = []
+begun_bytes Connect = 0 ∷ []
+begun_bytes (ConnectFrom input) = 0 ∷ input ∷ []
+begun_bytes Join = 1 ∷ []
+begun_bytes (JoinOf link1) = 1 ∷ link1 ∷ []
+begun_bytes Enquire = 2 ∷ []
+begun_bytes Cut = 5 ∷ []
+begun_bytes CutPair = 6 ∷ []
+begun_bytes (CutPairOf link1) = 6 ∷ link1 ∷ []
+
+-- the chip has the ports that have come
+abbrev pub HasBegunPorts : Begun → Type 0
+HasBegunPorts begun = ArePorts (drop 1 (begun_bytes begun))
+
+-- what has come and the byte are the command that is given, if one is, and then what is left
+pub record Reads (rest : List ℕ) (byte : ℕ) (given : Option Command) (left : List ℕ) : Type 0 where
+  pub whole : rest ++ byte ∷ [] ≡ text (option_to_list given) ++ left
+  pub ports : AreCommands (option_to_list given)

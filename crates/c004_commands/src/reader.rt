@@ -1,0 +1,175 @@
+//! Commands that come byte by byte.
+
+ghost use Rattle.std.specs.Prelude.{◌≡◌, ◌≢◌, ◌<◌, ◌≤◌, ◌↔◌, ◌++◌, ◌∷◌, [], List, ℕ, IsTrue, IfOk, IfErr, OnErr, IsOk};
+ghost use Rattle.std.specs.Option.{option_to_list};
+ghost use Rattle.std.specs.Result.{IsErrOf};
+ghost use Rattle.c004_commands.specs.Commands.{Spells, IsRest};
+ghost use Rattle.c004_commands.specs.Faults.{IsFault};
+ghost use Rattle.c004_commands.specs.Reader.{begun_bytes, HasBegunPorts, Reads};
+ghost use Rattle.c004_commands.specs.declared.command.Command.{Command};
+ghost use Rattle.c004_commands.specs.declared.reader.CommandFault.{CommandFault};
+ghost use Rattle.c004_commands.specs.declared.reader.Begun.TheVariants.{Nothing};
+
+use crate::command::{CONNECT, CUT, CUT_PAIR, Command, ENQUIRE, JOIN, RESET, SETTLE};
+use crate::port::PortNo;
+use std::marker::Model;
+use thiserror::Error;
+
+/// A byte that can't stand where it came. That it is refused, and drops the command that was begun, is
+/// this project's choice.
+#[derive(Clone, Copy, Debug, PartialEq, Eq, Error)]
+pub enum CommandFault {
+    /// No command begins with this byte.
+    #[error("no command begins with the byte {0}")]
+    UnknownCommand(u8),
+    /// A port is due, and none has this number.
+    #[error("no port has the number {0}")]
+    BadPort(u8),
+}
+
+// What has come of a command.
+#[derive(Clone, Copy, Debug)]
+enum Begun {
+    Nothing,
+    Connect,
+    ConnectFrom(PortNo),
+    Join,
+    JoinOf(PortNo),
+    Enquire,
+    Cut,
+    CutPair,
+    CutPairOf(PortNo),
+}
+
+/// Reads commands byte by byte. Contracts see the bytes of the command that isn't whole yet.
+#[derive(Debug, Drop)]
+pub struct CommandReader {
+    begun: Begun,
+}
+
+impl Model for CommandReader {
+    ghost use Rattle.std.specs.Prelude.{List, ℕ};
+
+    ghost Value = { List ℕ };
+
+    ghost use Rattle.c004_commands.specs.Reader.{begun_bytes, HasBegunPorts};
+
+    ghost view = { λ reader. begun_bytes reader.begun };
+
+    ghost invariant = { λ reader. HasBegunPorts reader.begun };
+}
+
+impl CommandReader {
+    /// A reader to which no byte has come.
+    pub fn new() -> CommandReader
+        ensures { result ≡ [] }
+    {
+        CommandReader {
+            begun: Begun::Nothing,
+        }
+    }
+
+    /// Whether no command has been begun, so that the text may end here.
+    #[tactic(auto, using(crate::proofs::Rests::begun_is_rest))]
+    pub fn at_rest(&self) -> bool
+        ensures rest { IsTrue result ↔ (self.now ≡ []) }
+        ensures partial { IsRest self.now }
+    {
+        matches!(self.begun, Begun::Nothing)
+    }
+
+    /// Takes the next byte, and gives the command that it ends, if it ends one. Takes constant time.
+    ///
+    /// Where a command begins, a byte that begins none is `UnknownCommand`. Where a port is due, a byte
+    /// that is no port's number is `BadPort`. Either drops the bytes of that command, this one too, and
+    /// the next byte begins a command.
+    #[tactic(auto, using(crate::proofs::Rests::begun_is_rest, crate::proofs::Faults::not_fault))]
+    pub fn feed(&mut self, byte: u8) -> Result<Option<Command>, CommandFault>
+        // Whatever the text since the last fault is, with this byte it spells the command given as well.
+        ensures text { (bytes : List ℕ) (commands : List Command) → Spells bytes commands self.old →
+            IfOk result (λ given. Spells (bytes ++ byte ∷ []) (commands ++ option_to_list given) self.new) }
+        ensures rest { IsRest self.new }
+
+        ensures fault { (fault : CommandFault) → IsErrOf result fault ↔ IsFault self.old byte fault }
+        ensures dropped { OnErr result (self.new ≡ []) }
+        // No byte is refused with which the text goes on to a text of commands.
+        ensures taken { (bytes more left : List ℕ) (commands others : List Command) →
+            Spells bytes commands self.old → Spells (bytes ++ byte ∷ more) others left → IsOk result }
+    {
+        match next(self.begun, byte) {
+            Ok((begun, given)) => {
+                self.begun = begun;
+                Ok(given)
+            }
+            Err(fault) => {
+                self.begun = Begun::Nothing;
+                Err(fault)
+            }
+        }
+    }
+}
+
+// What the byte makes of the command that was begun, and the command that it ends.
+fn next(begun: Begun, byte: u8) -> Result<(Begun, Option<Command>), CommandFault>
+    requires { HasBegunPorts begun }
+    ensures ports { IfOk result (λ read. HasBegunPorts read.0) }
+    ensures read { IfOk result (λ read. Reads (begun_bytes begun) byte read.1 (begun_bytes read.0)) }
+    ensures fault { IfErr result (λ fault. IsFault (begun_bytes begun) byte fault) }
+{
+    if let Begun::Nothing = begun {
+        return begin(byte);
+    }
+    match PortNo::new(byte) {
+        Some(port) => Ok(with_port(begun, port)),
+        None => Err(CommandFault::BadPort(byte)),
+    }
+}
+
+// The first byte of a command.
+fn begin(byte: u8) -> Result<(Begun, Option<Command>), CommandFault>
+    ensures ports { IfOk result (λ read. HasBegunPorts read.0) }
+    ensures read { IfOk result (λ read. Reads [] byte read.1 (begun_bytes read.0)) }
+    ensures fault { IfErr result (λ fault. IsFault [] byte fault) }
+{
+    match byte {
+        CONNECT => Ok((Begun::Connect, None)),
+        JOIN => Ok((Begun::Join, None)),
+        ENQUIRE => Ok((Begun::Enquire, None)),
+        SETTLE => Ok((Begun::Nothing, Some(Command::Settle))),
+        RESET => Ok((Begun::Nothing, Some(Command::Reset))),
+        CUT => Ok((Begun::Cut, None)),
+        CUT_PAIR => Ok((Begun::CutPair, None)),
+        _ => Err(CommandFault::UnknownCommand(byte)),
+    }
+}
+
+// The next port of a command that was begun.
+fn with_port(begun: Begun, port: PortNo) -> (Begun, Option<Command>)
+    requires begun { begun ≢ Nothing }
+    requires ports { HasBegunPorts begun }
+    ensures ports { HasBegunPorts result.0 }
+    ensures read { Reads (begun_bytes begun) port result.1 (begun_bytes result.0) }
+{
+    // The proof learns here that the number is a port's.
+    let _number = port.get();
+    match begun {
+        Begun::Nothing => unreachable!(),
+        Begun::Connect => (Begun::ConnectFrom(port), None),
+        Begun::ConnectFrom(input) => {
+            let output = port;
+            (Begun::Nothing, Some(Command::Connect { input, output }))
+        }
+        Begun::Join => (Begun::JoinOf(port), None),
+        Begun::JoinOf(link1) => {
+            let link2 = port;
+            (Begun::Nothing, Some(Command::Join { link1, link2 }))
+        }
+        Begun::Enquire => (Begun::Nothing, Some(Command::Enquire { output: port })),
+        Begun::Cut => (Begun::Nothing, Some(Command::Cut { output: port })),
+        Begun::CutPair => (Begun::CutPairOf(port), None),
+        Begun::CutPairOf(link1) => {
+            let link2 = port;
+            (Begun::Nothing, Some(Command::CutPair { link1, link2 }))
+        }
+    }
+}

@@ -1,0 +1,3 @@
+pub mod DataBits
+pub mod Lines
+pub mod BitSteps

@@ -1,0 +1,15 @@
+//! The bits of an INMOS link (IMS T414): data packets and acknowledges, read bit by bit, and the sender's wait for each acknowledge.
+#![tactic(auto)]
+
+mod fault;
+mod half_link;
+pub mod laws;
+mod packet;
+mod reader;
+#[cfg(test)]
+mod tests;
+
+pub use fault::LinkFault;
+pub use half_link::HalfLink;
+pub use packet::{ACK, DATA_BITS, FRAME_BITS, Packet, frame};
+pub use reader::BitReader;

@@ -1,0 +1,114 @@
+//! A line that is read bit by bit.
+
+ghost use Rattle.std.specs.Prelude.{◌≡◌, ◌≢◌, ◌<◌, ◌^◌, ◌+◌, ◌↔◌, ◌++◌, ◌∷◌, [], List, Bool, Option, IsOk, IsErr, IfOk, IfErr, OnOk, OnErr};
+ghost use Rattle.std.specs.Option.{option_to_list};
+ghost use Rattle.link_bytes.specs.declared.packet.Packet.{Packet};
+ghost use Rattle.link_bytes.specs.declared.fault.LinkFault.TheVariants.{Framing};
+ghost use Rattle.link_bytes.specs.Line.{ArePackets, IsLine, IsRest, Sign, line_bits, low_bits, packets_among};
+ghost use Rattle.link_bytes.specs.Reading.{begun, failed, HasRead, IsPartial, IsFramingFault, packets_given};
+ghost use Rattle.link_bytes.specs.Stages.{IsStage, Reads, reading_of};
+
+use crate::fault::LinkFault;
+use crate::packet::{DATA_BITS, Packet};
+use std::marker::Model;
+
+// How far a packet has come.
+#[derive(Clone, Copy, Debug)]
+enum Stage {
+    // No bit of one.
+    Idle,
+    // The start bit.
+    Started,
+    // The start bit, the one bit and the data bits below `count`, which `value` has so far.
+    Data { count: usize, value: u8 },
+    // One ended in a high bit.
+    Failed,
+}
+
+/// Reads the bits of a line one by one, and answers each packet at its last bit (IMS T414 data sheet, link
+/// protocol). Contracts see the bits of the packet that isn't whole yet, or that the reader has failed.
+#[derive(Debug, Drop)]
+pub struct BitReader {
+    stage: Stage,
+}
+
+impl Model for BitReader {
+    ghost use Rattle.link_bytes.specs.Reading.{Reading};
+
+    ghost Value = { Reading };
+
+    ghost use Rattle.link_bytes.specs.Stages.{IsStage, reading_of};
+
+    ghost view = { λ r. reading_of r.stage };
+
+    ghost invariant = { λ r. IsStage r.stage };
+}
+
+impl BitReader {
+    /// A reader of a line of which no bit has come.
+    pub fn new() -> BitReader
+        ensures { result ≡ begun [] }
+    {
+        BitReader { stage: Stage::Idle }
+    }
+
+    /// Takes the next bit and answers the packet that ends with it, if one does.
+    ///
+    /// The one fault is `Framing`: the bit after the eight data bits is high. From then on every bit is
+    /// answered with it, which is this project's choice.
+    pub fn feed(&mut self, bit: bool) -> Result<Option<Packet>, LinkFault>
+        // Whatever bits came before, the packets given are those of all the bits, and no others.
+        ensures text { (bits : List Bool) (packets : List Packet) → HasRead bits packets self.old
+            → HasRead (bits ++ bit ∷ []) (packets ++ packets_given result) self.new }
+        // What had come of a packet and the bit are a line in at most one way, and that is the answer.
+        ensures step { (rest left : List Bool) (given : Option Packet) → self.old ≡ begun rest
+            → (IsLine (rest ++ bit ∷ []) (option_to_list given) left
+            ↔ ((result ≡ Ok given) × (self.new ≡ begun left))) }
+        // What isn't whole is less than a packet.
+        ensures partial { IsPartial self.old × IsPartial self.new }
+        // Bits with which the line can go on are taken.
+        ensures only { (rest more left : List Bool) (signs : List Sign) → self.old ≡ begun rest
+            → ArePackets (packets_among signs) → IsRest left
+            → rest ++ bit ∷ more ≡ line_bits signs ++ left → IsOk result }
+        ensures fault { IsErr result ↔ IsFramingFault self.old bit }
+        ensures framing { IfErr result (λ fault. (fault ≡ Framing) × (self.new ≡ failed)) }
+        ensures taken { OnOk result ((self.old ≢ failed) × (self.new ≢ failed)) }
+    {
+        let (stage, given) = next_stage(self.stage, bit);
+        self.stage = stage;
+        given
+    }
+}
+
+// What one more bit makes of a packet that is begun, and the answer to it.
+fn next_stage(stage: Stage, bit: bool) -> (Stage, Result<Option<Packet>, LinkFault>)
+    requires { IsStage stage }
+    ensures stage { IsStage result.0 }
+    ensures taken { IfOk result.1 (λ given. Reads (reading_of stage) bit given (reading_of result.0)) }
+    ensures fault { OnErr result.1 (IsFramingFault (reading_of stage) bit) }
+    ensures framing { IfErr result.1 (λ fault. (fault ≡ Framing) × (reading_of result.0 ≡ failed)) }
+{
+    match (stage, bit) {
+        (Stage::Idle, false) => (Stage::Idle, Ok(None)),
+        (Stage::Idle, true) => (Stage::Started, Ok(None)),
+        (Stage::Started, false) => (Stage::Idle, Ok(Some(Packet::Ack))),
+        (Stage::Started, true) => (Stage::Data { count: 0, value: 0 }, Ok(None)),
+        (Stage::Data { count, value }, bit) if count < DATA_BITS => {
+            let value = with_bit(value, count, bit);
+            let count = count + 1;
+            (Stage::Data { count, value }, Ok(None))
+        }
+        (Stage::Data { value, .. }, false) => (Stage::Idle, Ok(Some(Packet::Byte(value)))),
+        (Stage::Data { .. }, true) | (Stage::Failed, _) => (Stage::Failed, Err(LinkFault::Framing)),
+    }
+}
+
+// The value with the next data bit above the `count` bits that it has.
+fn with_bit(value: u8, count: usize, bit: bool) -> u8
+    requires room { count < DATA_BITS }
+    requires range { value < 2 ^ count }
+    ensures bits { low_bits result (count + 1) ≡ low_bits value count ++ bit ∷ [] }
+    ensures range { result < 2 ^ (count + 1) }
+{
+    if bit { value | 1 << count } else { value }
+}
