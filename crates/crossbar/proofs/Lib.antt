@@ -1,0 +1,3 @@
+pub mod Latches
+pub mod Carrying
+pub mod Changes

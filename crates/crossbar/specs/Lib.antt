@@ -1,0 +1,5 @@
+pub mod Switch
+pub mod Modules
+pub mod Latches
+pub mod Port
+pub mod Pairs

@@ -1,0 +1,17 @@
+//! The crossbar switch of an INMOS IMS C004, emulated, and the port through which a controller sets it
+//! and asks it.
+//!
+//! The commands and their effects are those of the INMOS IMS C004 data sheet. Where the sheet is
+//! silent, the choice is this project's: when the switch is ready, that a new connection replaces the
+//! one that the output had, and which links the modules of a rack are on.
+#![tactic(auto)]
+
+pub mod laws;
+mod port;
+mod switch;
+
+pub use port::{ConfigPort, MemoryPort, PortFault};
+pub use switch::{Crossbar, JOINED_MODULES};
+
+#[cfg(test)]
+mod tests;

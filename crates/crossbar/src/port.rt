@@ -1,0 +1,137 @@
+//! The port through which a switch is set and asked.
+
+ghost use Rattle.std.specs.Prelude.{◌≡◌, ◌<◌, ◌≤◌, ◌+◌, ◌++◌, Bool, true, ℕ, IsTrue, List, length, take, IsOk, OnOk, OnErr};
+ghost use Rattle.std.specs.Option.{option_to_list};
+ghost use Rattle.c004_commands.specs.Commands.{Spells};
+ghost use Rattle.c004_commands.specs.declared.command.Command.{Command};
+ghost use Rattle.crossbar.specs.Switch.{Switch, idle, after_all, answers, enquiries};
+ghost use Rattle.crossbar.specs.Port.{IsExchange, CarriesOut, IsFront};
+
+use crate::switch::Crossbar;
+use c004_commands::{Command, CommandReader};
+use std::marker::Model;
+use thiserror::Error;
+
+/// The port failed. Which of the commands the switch has carried out isn't known.
+#[derive(Clone, Copy, Debug, PartialEq, Eq, Error)]
+#[error("the port to the switch failed")]
+pub struct PortFault;
+
+/// The controller's way to a switch: command bytes go out, and the answers to enquiries come back.
+pub trait ConfigPort {
+    // The switch at the port's other end.
+    ghost switch: { Self → Switch };
+    // Whether the port carries out what it answers Ok to. No call changes it.
+    ghost honest: { Self → Bool };
+    // How often the port has failed.
+    ghost failures: { Self → ℕ };
+
+    /// Sends the bytes of whole commands, and fills `replies` with the answers to their enquiries, in
+    /// order.
+    fn exchange(&mut self, bytes: &[u8], replies: &mut [u8]) -> Result<(), PortFault>
+        requires { IsExchange bytes.now (length replies.old) }
+        ensures done { IsTrue (honest self.old) →
+            OnOk result (CarriesOut bytes.now (switch self.old) (switch self.new) replies.new) }
+        // A fault comes only from a failure in this call, and failures are never taken back.
+        ensures fault { OnErr result (failures self.old < failures self.new) }
+        ensures counted { failures self.old ≤ failures self.new }
+        ensures honesty { honest self.new ≡ honest self.old };
+}
+
+/// A port to a switch in memory. It is honest and never fails. Contracts see its switch.
+#[derive(Debug, Drop)]
+pub struct MemoryPort {
+    crossbar: Crossbar,
+}
+
+impl Model for MemoryPort {
+    ghost use Rattle.crossbar.specs.Switch.{Switch, switch_code};
+
+    ghost Value = { Switch };
+
+    ghost coded = { switch_code };
+
+    ghost view = { λ port. port.crossbar };
+}
+
+impl MemoryPort {
+    /// A port to a new switch.
+    pub fn new() -> MemoryPort
+        ensures { result ≡ idle }
+    {
+        MemoryPort {
+            crossbar: Crossbar::new(),
+        }
+    }
+
+    /// The switch.
+    pub fn crossbar(&self) -> &Crossbar
+        ensures { result.now ≡ self.now }
+    {
+        &self.crossbar
+    }
+}
+
+impl ConfigPort for MemoryPort {
+    ghost switch = { λ port. port };
+
+    ghost honest = { λ _. true };
+
+    ghost failures = { λ _. 0 };
+
+    /// Takes time by the number of bytes, and never fails.
+    #[tactic(auto, using(crate::proofs::Carrying::exchange_front))]
+    fn exchange(&mut self, bytes: &[u8], replies: &mut [u8]) -> Result<(), PortFault>
+        requires { IsExchange bytes.now (length replies.old) }
+        ensures done { CarriesOut bytes.now self.old self.new replies.new }
+        ensures never_fails { IsOk result }
+    {
+        carry_out(&mut self.crossbar, bytes, replies);
+        Ok(())
+    }
+}
+
+// Carries out the commands that are whole within the bytes, in order, and writes their answers to the
+// front of the replies.
+fn carry_out(crossbar: &mut Crossbar, bytes: &[u8], replies: &mut [u8])
+    requires { IsFront bytes.now (length replies.old) }
+    ensures switch { (commands : List Command) (rest : List ℕ) → Spells bytes.now commands rest →
+        crossbar.new ≡ after_all commands crossbar.old }
+    ensures replies { (commands : List Command) (rest : List ℕ) → Spells bytes.now commands rest →
+        take (enquiries commands) replies.new ≡ answers commands crossbar.old }
+{
+    let mut reader = CommandReader::new();
+    let mut answered = 0;
+    for byte in bytes {
+        let Ok(given) = reader.feed(*byte) else {
+            unreachable!();
+        };
+        answered = carry_given(crossbar, given, replies, answered);
+    }
+}
+
+// Carries out a command, if there is one, writes its answer behind those that stand, and says how many
+// stand then.
+fn carry_given(
+    crossbar: &mut Crossbar,
+    given: Option<Command>,
+    replies: &mut [u8],
+    answered: usize,
+) -> usize
+    requires { answered + enquiries (option_to_list given) ≤ length replies.old }
+    ensures switch { crossbar.new ≡ after_all (option_to_list given) crossbar.old }
+    ensures count { result ≡ answered + enquiries (option_to_list given) }
+    ensures replies { take result replies.new
+        ≡ take answered replies.old ++ answers (option_to_list given) crossbar.old }
+{
+    let Some(command) = given else {
+        return answered;
+    };
+    match crossbar.apply(command) {
+        Some(answer) => {
+            replies[answered] = answer;
+            answered + 1
+        }
+        None => answered,
+    }
+}

@@ -1,0 +1,90 @@
+ghost use Rattle.std.specs.Prelude.{◌≡◌, ◌<◌, ◌∷◌, [], IsTrue, IfOk, OnErr};
+
+use crate::{ConfigPort, Crossbar, JOINED_MODULES, MemoryPort, PortFault};
+use c004_commands::{CommandFault, CommandReader, PortNo};
+use std::test::Fail;
+
+// Resets the switch, joins module 0 to module 1, and asks both ends. What is answered follows from the
+// port's contract alone, whatever the port and whatever its switch was.
+fn answers_of_a_join<P: ConfigPort>(port: &mut P) -> Result<[u8; 2], PortFault>
+    requires { IsTrue (P.honest port.old) }
+    ensures answers { IfOk result (λ replies. replies ≡ 0x80 ∷ 0x91 ∷ []) }
+    ensures fault { OnErr result (P.failures port.old < P.failures port.new) }
+{
+    let mut replies = [0; 2];
+    port.exchange(
+        &[0x04, 0x01, 0x00, 0x11, 0x03, 0x02, 0x11, 0x02, 0x00],
+        &mut replies,
+    )?;
+    Ok(replies)
+}
+
+// Feeds the bytes to a reader, carries out the commands that it gives, and says what came last.
+fn feed_all(
+    reader: &mut CommandReader,
+    crossbar: &mut Crossbar,
+    bytes: &[u8],
+) -> Result<Option<u8>, CommandFault> {
+    let mut answer = None;
+    for byte in bytes {
+        if let Some(command) = reader.feed(*byte)? {
+            answer = crossbar.apply(command);
+        }
+    }
+    Ok(answer)
+}
+
+#[test]
+fn join_and_enquire(rt: HostRuntime) -> Result<(), Fail> {
+    let mut port = MemoryPort::new();
+    let mut replies = [0; 2];
+    port.exchange(
+        &[0x01, 0x00, 0x11, 0x03, 0x02, 0x11, 0x02, 0x00],
+        &mut replies,
+    )?;
+    assert_eq!(rt; replies, [0x80, 0x91]);
+    assert!(rt; port.crossbar().is_ready());
+    assert!(rt; port.crossbar().joined(0, 1));
+    assert!(rt; !port.crossbar().joined(1, 0));
+    let output = PortNo::new(JOINED_MODULES + 1).ok_or("a port")?;
+    assert_eq!(rt; port.crossbar().source_of(output), PortNo::new(0));
+    Ok(())
+}
+
+#[test]
+fn bad_commands(rt: HostRuntime) -> Result<(), Fail> {
+    let mut reader = CommandReader::new();
+    let mut crossbar = Crossbar::new();
+    assert_eq!(rt;
+        feed_all(&mut reader, &mut crossbar, &[0x02, 0x05]),
+        Ok(Some(0x00))
+    );
+    assert_eq!(rt;
+        feed_all(&mut reader, &mut crossbar, &[0x07]),
+        Err(CommandFault::UnknownCommand(7))
+    );
+    assert_eq!(rt;
+        feed_all(&mut reader, &mut crossbar, &[0x00, 0x20]),
+        Err(CommandFault::BadPort(32))
+    );
+    assert_eq!(rt; feed_all(&mut reader, &mut crossbar, &[0x00]), Ok(None));
+    assert!(rt; !reader.at_rest());
+    assert!(rt; crossbar.is_ready());
+    let output = PortNo::new(0).ok_or("a port")?;
+    assert_eq!(rt; crossbar.source_of(output), None);
+    Ok(())
+}
+
+#[test]
+fn any_port_answers(rt: HostRuntime) -> Result<(), Fail> {
+    let mut port = MemoryPort::new();
+    assert_eq!(rt; answers_of_a_join(&mut port)?, [0x80, 0x91]);
+    Ok(())
+}
+
+#[test]
+fn printed_fault(rt: HostRuntime) -> Result<(), Fail> {
+    let text = format!(in rt.alloc(); "{}", PortFault)?;
+    assert_eq!(rt; text.as_str(), "the port to the switch failed");
+    Ok(())
+}
