@@ -1,5 +1,5 @@
 -- One transfer after the other, and the whole text.
-use Rattle.std.proofs.Common.{◌<◌, ◌≡◌, ◌≢◌, ℕ, ◌+◌, ◌≤◌, List, [], ◌∷◌, ◌++◌, length, refl, sym, ap, ◌∙◌, append_assoc, arith}
+use Rattle.std.proofs.Common.{◌<◌, ◌≡◌, ◌≢◌, ℕ, ◌+◌, ◌≤◌, List, [], ◌∷◌, ◌++◌, refl, sym, ap, ◌∙◌, append_assoc, arith}
 use Rattle.std.specs.List.{flat_map}
 use Rattle.std.proofs.lemmas.List.{flat_map_more, length_push}
 use Rattle.std.proofs.lemmas.List.Elements.{All-push}
@@ -8,7 +8,7 @@ use Rattle.batch.specs.declared.fault.BatchFault.TheVariants.{Count}
 use Rattle.batch.specs.declared.transfer.Transfer.{Transfer}
 use Rattle.batch.specs.declared.limits.TheConstants.{MAX_TRANSFERS}
 use Rattle.batch.specs.Extent.{Extent}
-use Rattle.batch.specs.Text.{head, line, IsWithin}
+use Rattle.batch.specs.Text.{line, IsWithin}
 use Rattle.batch.specs.Faults.{IsHeaded, IsGoodUpTo, IsFirstFault, at_line, at_end, AreTransfers, StopsAt, HasGrown, NeedsMemory}
 
 pub more_transfers : (shape : Extent) (lines : List ℕ) (t : ℕ) (ts : List Transfer) (rest : List ℕ) (u : Transfer) (after : List ℕ) (all : List Transfer) → AreTransfers shape lines t ts rest → IsWithin shape u × (rest ≡ line u ++ after) → all ≡ ts ++ u ∷ []

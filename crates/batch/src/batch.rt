@@ -36,7 +36,7 @@ impl Batch {
     ///
     /// Gives the batch that the text denotes, or the text's first fault. Every module and block has
     /// to be one of the shape. Want of memory is answered only where a transfer had to be kept.
-    /// Takes time that grows with the length of the text.
+    /// Takes time linear in the length of the text.
     pub fn read(alloc: Global, text: &[u8], shape: Shape) -> Result<Batch, BatchFault>
         ensures batch { IfOk result (λ batch. Denotes shape text.now batch) }
         ensures fault { IfErr result (λ fault. fault ≢ NoMemory → IsFirstFault shape text.now fault) }

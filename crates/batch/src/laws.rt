@@ -1,11 +1,13 @@
-//! Laws of the text of a batch, proved of its definition alone. None of them does anything.
+//! Laws of shapes and of the text of a batch. None of them does anything.
 
 ghost use Rattle.std.specs.Prelude.{◌≡◌, ℕ, ◌↔◌, List};
 ghost use Rattle.batch.specs.declared.fault.BatchFault.{BatchFault};
 ghost use Rattle.batch.specs.declared.transfer.Transfer.{Transfer};
-ghost use Rattle.batch.specs.Extent.{Extent, IsShape};
+ghost use Rattle.batch.specs.Extent.{Extent, IsShape, widest};
 ghost use Rattle.batch.specs.Text.{Denotes, IsNumeral, SpellsNumber};
 ghost use Rattle.batch.specs.Faults.{IsFirstFault};
+
+use crate::shape::Shape;
 
 /// A text denotes at most one batch, has at most one first fault, and never both.
 pub fn one_reading()
@@ -18,3 +20,10 @@ pub fn one_reading()
 pub fn number_grammar()
     ensures { (digits : List ℕ) → IsNumeral digits ↔ SpellsNumber digits }
 {}
+
+/// [`Shape::WIDEST`] is the widest shape.
+pub fn widest_shape() -> Shape
+    ensures { result ≡ widest }
+{
+    Shape::WIDEST
+}

@@ -2,6 +2,7 @@ ghost use Rattle.std.specs.Prelude.{◌≡◌, ◌≢◌, IfOk};
 ghost use Rattle.batch.specs.declared.fault.BatchFault.TheVariants.{NoMemory};
 ghost use Rattle.exchange.specs.Refusals.{refusal};
 
+use crate::limits::{DONE, REFUSED};
 use batch::BatchFault;
 use std::alloc::{AllocError, Global};
 use std::marker::Model;
@@ -29,30 +30,30 @@ impl Answer {
         self.bytes.as_slice()
     }
 
-    /// 0 where the command did what was asked, 1 where it refused.
+    /// [`DONE`] where the command did what was asked, [`REFUSED`] where it refused.
     pub fn status(&self) -> u8
         ensures { result ≡ self.now.status }
     {
         self.code
     }
 
-    /// A text under status 0.
+    /// A text under the status [`DONE`].
     pub fn done(text: Vec<u8>) -> Answer
         ensures text { result.text ≡ text.items }
-        ensures status { result.status ≡ 0 }
+        ensures status { result.status ≡ DONE }
     {
         Answer {
             bytes: text,
-            code: 0,
+            code: DONE,
         }
     }
 
-    /// The refusal of a batch text under status 1. Where the fault is want of memory, the error is the
+    /// The refusal of a batch text under the status [`REFUSED`]. Where the fault is want of memory, the error is the
     /// same.
     pub fn refused(alloc: Global, fault: BatchFault) -> Result<Answer, AllocError>
         ensures real { IfOk result (λ _. fault ≢ NoMemory) }
         ensures text { IfOk result (λ answer. answer.text ≡ refusal fault) }
-        ensures status { IfOk result (λ answer. answer.status ≡ 1) }
+        ensures status { IfOk result (λ answer. answer.status ≡ REFUSED) }
     {
         let text = match fault {
             BatchFault::Line(n) => format!(in alloc; "refused batch line {n}\n")?,
@@ -64,7 +65,7 @@ impl Answer {
         };
         Ok(Answer {
             bytes: text.into_bytes(),
-            code: 1,
+            code: REFUSED,
         })
     }
 }

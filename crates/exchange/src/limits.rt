@@ -1,4 +1,17 @@
-//! The limits of the program's words. They are this project's choice.
+//! The limits of the program's words, and the statuses that it ends with. They are this project's
+//! choice.
 
 /// The most workers that planning may be given.
 pub const MAX_WORKERS: usize = 64;
+
+/// The status where the command did what was asked.
+pub const DONE: u8 = 0;
+
+/// The status where the command refused, or there was no memory.
+pub const REFUSED: u8 = 1;
+
+/// The status where the words fit no command.
+pub const MISUSED: u8 = 2;
+
+/// The status where the answer couldn't be written.
+pub const UNWRITTEN: u8 = 3;

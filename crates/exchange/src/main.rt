@@ -3,7 +3,8 @@
 //! The commands of the program: each reads the files that its words name and prints one answer.
 #![tactic(auto)]
 
-ghost use Rattle.std.specs.Prelude.{◌≤◌};
+ghost use Rattle.std.specs.Prelude.{◌≤◌, ◌≡◌, IfOk};
+ghost use Rattle.std.specs.Process.{exit_status};
 
 mod answer;
 mod limits;
@@ -12,37 +13,57 @@ mod text;
 mod words;
 
 use crate::answer::Answer;
-use crate::limits::MAX_WORKERS;
+use crate::limits::{DONE, MAX_WORKERS, MISUSED, REFUSED, UNWRITTEN};
 use crate::planning::answer_plan;
 use crate::text::Text;
 use crate::words::{Job, WordsFault, read_words};
 use std::alloc::AllocError;
 use std::io::{ErrorKind, Write};
 use std::process::ExitCode;
-use std::rt::Files;
+use std::rt::{Env, Files};
 use std::thread::Threads;
 use std::{env, fs, io};
 
 /// The refusal where there was no memory.
 const NO_MEMORY: &str = "no memory";
 
-/// The status of a refusal.
-const REFUSED: u8 = 1;
+/// The refusal where a file can't be read.
+const NO_FILE: &str = "file";
 
-/// The status where the words fit no command.
-const MISUSED: u8 = 2;
+fn main(rt: HostRuntime) -> ExitCode {
+    match run(&rt) {
+        Ok(status) => status,
+        Err(error) => {
+            let _ = eprintln!(rt; "exchange: the answer can't be written: {error}");
+            ExitCode::from(UNWRITTEN)
+        }
+    }
+}
 
-fn main(rt: HostRuntime) -> io::Result<ExitCode> {
-    let words: Vec<String> = env::args(&rt)?.collect(rt.alloc())?;
+/// Does what the words ask for. The error is that of writing the answer.
+fn run<R: AllocGlobal + Env + Eprint + Files + Print + Threads>(rt: &R) -> io::Result<ExitCode> {
+    let words = match command_line(rt) {
+        Ok(words) => words,
+        Err(error) if error.kind() == ErrorKind::OutOfMemory => return refuse(rt, NO_MEMORY),
+        Err(_) => {
+            eprintln!(rt; "error: a word isn't UTF-8 text")?;
+            return Ok(ExitCode::from(MISUSED));
+        }
+    };
     match read_words(rt.alloc(), words.as_slice()) {
-        Ok(Job::Plan { file, workers }) => plan(&rt, &file, workers),
+        Ok(Job::Plan { file, workers }) => plan(rt, &file, workers),
         Err(WordsFault::Clap(error)) => {
-            error.print(&rt)?;
-            let status = if error.use_stderr() { MISUSED } else { 0 };
+            error.print(rt)?;
+            let status = if error.use_stderr() { MISUSED } else { DONE };
             Ok(ExitCode::from(status))
         }
-        Err(WordsFault::NoMemory) => refuse(&rt, NO_MEMORY),
+        Err(WordsFault::NoMemory) => refuse(rt, NO_MEMORY),
     }
+}
+
+/// The words of the command line, the first of which is the program's name.
+fn command_line<R: AllocGlobal + Env>(rt: &R) -> io::Result<Vec<String>> {
+    Ok(env::args(rt)?.collect(rt.alloc())?)
 }
 
 /// `exchange plan FILE`.
@@ -65,12 +86,14 @@ fn read_file<R: AllocGlobal + Files>(rt: &R, file: &Text) -> Result<Vec<u8>, &'s
     match fs::read(rt, file.as_str()) {
         Ok(bytes) => Ok(bytes),
         Err(error) if error.kind() == ErrorKind::OutOfMemory => Err(NO_MEMORY),
-        Err(_) => Err("file"),
+        Err(_) => Err(NO_FILE),
     }
 }
 
 /// Prints an answer, and ends with its status.
-fn print(rt: &impl Print, answer: Result<Answer, AllocError>) -> io::Result<ExitCode> {
+fn print(rt: &impl Print, answer: Result<Answer, AllocError>) -> io::Result<ExitCode>
+    ensures { IfOk answer (λ a. IfOk result (λ code. exit_status code ≡ a.status)) }
+{
     match answer {
         Ok(answer) => {
             io::writer(rt).write_all(answer.text())?;
@@ -81,7 +104,9 @@ fn print(rt: &impl Print, answer: Result<Answer, AllocError>) -> io::Result<Exit
 }
 
 /// Prints a refusal, and ends with its status.
-fn refuse(rt: &impl Print, refusal: &str) -> io::Result<ExitCode> {
+fn refuse(rt: &impl Print, refusal: &str) -> io::Result<ExitCode>
+    ensures { IfOk result (λ code. exit_status code ≡ REFUSED) }
+{
     println!(rt; "refused {refusal}")?;
     Ok(ExitCode::from(REFUSED))
 }

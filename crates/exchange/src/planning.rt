@@ -18,13 +18,12 @@ pub fn answer_plan<R: Threads>(
     _rt: &R,
     alloc: Global,
     batch: &[u8],
-    workers: usize,
+    _workers: usize,
 ) -> Result<Answer, AllocError>
-    requires some { 1 ≤ workers }
-    requires few { workers ≤ MAX_WORKERS }
+    requires some { 1 ≤ _workers }
+    requires few { _workers ≤ MAX_WORKERS }
     ensures { IfOk result (λ answer. IsPlanned widest batch.now answer) }
 {
-    let _unused = workers;
     match Batch::read(alloc, batch, Shape::WIDEST) {
         Ok(batch) => {
             let schedule = first_fit(alloc, &batch)?;

@@ -55,7 +55,8 @@ transfers that move at once, numbered from 0 in the order of their lines.
 In one setting no two of them share link 0 of an initiator I or link 3 of a
 responder R.
 
-Status: 0 a schedule was printed, 1 the batch was refused, 2 wrong words.";
+Status: 0 a schedule was printed, 1 the batch was refused or there was no
+memory, 2 the words fit no command, 3 the answer couldn't be written.";
 
 /// A word that has to be there.
 fn required<'a>(alloc: Global, id: &'a str, help: &'a str) -> Arg<'a>

@@ -1,5 +1,5 @@
 -- The text of a schedule, and the first line at fault of a text that is none. The form is this project's choice.
-use Rattle.std.specs.Prelude.{◌≡◌, ℕ, ◌+◌, ◌<◌, ◌^◌, List, [], ◌∷◌, ◌++◌, length, All, Option, Some, None, ◌⊎◌, ◌==◌, count_by, codes}
+use Rattle.std.specs.Prelude.{◌≡◌, ℕ, ◌+◌, ◌<◌, List, [], ◌∷◌, ◌++◌, length, All, Option, Some, None, ◌⊎◌, ◌==◌, count_by, codes}
 use Rattle.std.specs.List.{flat_map}
 use Rattle.std.specs.Fmt.{decimal}
 use Rattle.batch.specs.declared.limits.TheConstants.{MAX_MODULES}

@@ -1,3 +1,2 @@
-/// Why no schedule of a batch is shorter. As yet no certificate can be made.
-#[derive(Clone, Copy, Debug, PartialEq, Eq)]
+/// Why no schedule of a batch is shorter. As yet there is no certificate: the type has no value.
 pub enum Certificate {}

@@ -5,6 +5,7 @@
 #![tactic(auto)]
 
 mod certificate;
+pub mod laws;
 mod link;
 mod schedule;
 mod writing;

@@ -1,8 +1,10 @@
-ghost use Rattle.std.specs.Prelude.{◌≡◌, ◌↔◌, [], ◌∷◌, ◌++◌, codes, Some, None, IsTrue};
+ghost use Rattle.std.specs.Prelude.{◌≡◌, [], ◌∷◌, codes, Some};
 ghost use Rattle.link_graph.specs.declared.link.End.TheVariants.{Zero};
-ghost use Rattle.link_graph.specs.Links.{StandsBefore};
+ghost use Rattle.batch.specs.Rows.{three_transfers};
+ghost use Rattle.link_graph.specs.Uses.{IsMatching};
 ghost use Rattle.link_graph.specs.ScheduleText.{schedule_text, said_text, names, nothing};
 
+use crate::laws::link_order;
 use crate::{End, Link, Schedule};
 use std::test::Fail;
 
@@ -14,12 +16,12 @@ fn the_definitions_spell_the_rows()
     ensures no_transfers { schedule_text ([] ∷ []) ≡ codes "settings 1\nsetting\n" }
 {}
 
-/// The derived order is that of the definition.
-fn stands_before(a: Link, b: Link) -> bool
-    ensures { IsTrue result ↔ StandsBefore a b }
-{
-    a < b
-}
+/// Transfers 0 and 1 of the row both use link 0 of module 0, transfers 1 and 2 both link 3 of module 2.
+fn the_definitions_refuse_settings()
+    ensures link_0 { IsMatching three_transfers (0 ∷ 1 ∷ []) → ⊥ }
+    ensures link_3 { IsMatching three_transfers (1 ∷ 2 ∷ []) → ⊥ }
+    ensures repeated { IsMatching three_transfers (0 ∷ 0 ∷ []) → ⊥ }
+{}
 
 #[test]
 fn three_transfers(rt: HostRuntime) -> Result<(), Fail> {
@@ -54,6 +56,6 @@ fn links_are_ordered(rt: HostRuntime) {
         end: End::Three,
         module: 0,
     };
-    assert!(rt; stands_before(last_start, first_answer));
-    assert!(rt; !stands_before(first_answer, last_start));
+    assert!(rt; link_order(last_start, first_answer));
+    assert!(rt; !link_order(first_answer, last_start));
 }
