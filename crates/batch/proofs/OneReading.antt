@@ -8,10 +8,10 @@ use Rattle.std.proofs.lemmas.List.{append-nil, append_cancel_left, length-append
 use Rattle.std.proofs.lemmas.List.Elements.{All-head, All-tail}
 use Rattle.batch.specs.declared.fault.BatchFault.{BatchFault}
 use Rattle.batch.specs.declared.fault.BatchFault.TheVariants.{Line, TooMany, NoModule, NoBlock, Count, NoMemory}
-use Rattle.batch.specs.declared.transfer.Kind.{Kind}
 use Rattle.batch.specs.declared.transfer.Transfer.{Transfer}
 use Rattle.batch.specs.declared.limits.TheConstants.{MAX_TRANSFERS}
 use Rattle.batch.specs.Extent.{Extent, IsShape}
+use Rattle.batch.specs.Equal.{same_transfer_parts}
 use Rattle.batch.specs.Text.{IsNumber, number, head, word, line, space, line_feed, HasModules, HasBlocks, IsWithin, Denotes}
 use Rattle.batch.specs.Faults.{IsSpellable, BeginsWithLine, IsLineFault, IsHeadFault, IsGoodUpTo, IsFirstFault, at_head, at_line, at_end}
 use Rattle.batch.proofs.Lines.{one_number, fields, line_parts, to_responder, ends_line}
@@ -24,15 +24,6 @@ spellable shape valid t w = record {
   far_block = omega (arith, w.1.1, valid.few_blocks);
 }
 
-abbrev made : Kind → ℕ → ℕ → ℕ → ℕ → Transfer
-made k i o r f = record { kind = k; initiator = i; own_block = o; responder = r; far_block = f }
-
-same_made : (k l : Kind) (i j o p r q f g : ℕ) → k ≡ l → i ≡ j → o ≡ p → r ≡ q → f ≡ g → made k i o r f ≡ made l j p q g
-same_made k l i j o p r q f g a b c d e = ap (λ (x : Kind). made x i o r f) a ∙ ap (λ (x : ℕ). made l x o r f) b ∙ ap (λ (x : ℕ). made l j x r f) c ∙ ap (λ (x : ℕ). made l j p x f) d ∙ ap (λ (x : ℕ). made l j p q x) e
-
-same_transfer : (t u : Transfer) → t.kind ≡ u.kind → t.initiator ≡ u.initiator → t.own_block ≡ u.own_block → t.responder ≡ u.responder → t.far_block ≡ u.far_block → t ≡ u
-same_transfer t u a b c d e = same_made t.kind u.kind t.initiator u.initiator t.own_block u.own_block t.responder u.responder t.far_block u.far_block a b c d e
-
 -- one line, and one rest
 pub one_line : (t u : Transfer) (x y : List ℕ) → IsSpellable t → IsSpellable u → line t ++ x ≡ line u ++ y → (t ≡ u) × (x ≡ y)
 one_line t u x y st su same =
@@ -40,7 +31,7 @@ one_line t u x y st su same =
     let p = to_responder bytes t.kind t.initiator t.own_block t.responder (fields t x) (number t.own_block space ++ (number t.responder space ++ (number t.far_block line_feed ++ x)))
     (number t.responder space ++ (number t.far_block line_feed ++ x)) (number t.far_block line_feed ++ x) u y su (line_parts t x) (st.initiator, refl) (st.own_block, refl) (st.responder, refl) same in
     let q = one_number t.far_block u.far_block line_feed x y st.far_block su.far_block ends_line p.4 in
-    (same_transfer t u p.0 p.1 p.2 p.3 q.0, q.1)
+    (same_transfer_parts t u p.0 p.1 p.2 p.3 q.0, q.1)
 
 pub one_head : (n m : ℕ) (x y : List ℕ) → IsNumber n → IsNumber m → head n ++ x ≡ head m ++ y → (n ≡ m) × (x ≡ y)
 one_head n m x y ln lm same =

@@ -3,5 +3,8 @@ pub mod Places
 pub mod Text
 pub mod Faults
 pub mod Batches
+pub mod Equal
+pub mod Overlap
+pub mod Written
 pub mod ShapeText
 pub mod Rows

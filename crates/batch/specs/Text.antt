@@ -62,7 +62,7 @@ pub record Denotes (shape : Extent) (text : List ℕ) (ts : List Transfer) : Typ
 abbrev pub IsDigit : ℕ → Type 0
 IsDigit c = (48 ≤ c) × (c ≤ 57)
 
--- `0`, or a digit from 1 to 9 followed by at most eight digits
+-- `0` alone, or digits of which the first isn't `0`, no more than a number of a text may have
 abbrev pub IsNumeral : List ℕ → Type 0
 IsNumeral [] = ⊥
 IsNumeral (c ∷ cs) = ((c ≡ 48) × (cs ≡ [])) ⊎ ((49 ≤ c) × (c ≤ 57) × AllByRecursion IsDigit cs × (length cs + 1 ≤ MAX_DIGITS))

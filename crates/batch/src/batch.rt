@@ -1,15 +1,15 @@
 ghost use Rattle.std.specs.Prelude.{◌≡◌, ◌≢◌, length, slice_get, IfOk, IfErr};
 ghost use Rattle.batch.specs.declared.fault.BatchFault.TheVariants.{NoMemory};
 ghost use Rattle.batch.specs.Batches.{IsBatch};
-ghost use Rattle.batch.specs.Text.{Denotes};
+ghost use Rattle.batch.specs.Text.{Denotes, batch_text};
 ghost use Rattle.batch.specs.Faults.{IsFirstFault, NeedsMemory};
 
 use crate::fault::BatchFault;
 use crate::limits::MAX_TRANSFERS;
-use crate::reading;
 use crate::shape::Shape;
 use crate::transfer::Transfer;
-use std::alloc::Global;
+use crate::{reading, writing};
+use std::alloc::{AllocError, Global};
 use std::marker::Model;
 
 /// A list of transfers, numbered from 0: at most [`MAX_TRANSFERS`] of them, all of them between
@@ -55,6 +55,14 @@ impl Batch {
         Ok(Batch { transfers })
     }
 
+    /// The batch's text: the line `batch N`, then the N lines of its transfers. Reading it gives an
+    /// equal batch. Takes time that grows with the length of the text.
+    pub fn write(&self) -> Result<Vec<u8>, AllocError>
+        ensures { IfOk result (λ text. text.items ≡ batch_text self.now) }
+    {
+        writing::transfers_text(*self.transfers.allocator(), self.transfers.as_slice())
+    }
+
     /// How many transfers there are.
     pub fn len(&self) -> usize
         ensures value { result ≡ length self.now }
@@ -69,4 +77,47 @@ impl Batch {
     {
         self.transfers.get(t).copied()
     }
+
+    // All transfers, in order.
+    pub(crate) fn transfers(&self) -> &[Transfer]
+        ensures value { result.now ≡ self.now }
+        ensures batch { IsBatch self.now }
+    {
+        self.transfers.as_slice()
+    }
+
+    /// The allocator that the batch was made with.
+    pub fn allocator(&self) -> Global {
+        *self.transfers.allocator()
+    }
+
+    /// An equal batch. Takes time that grows with the number of transfers.
+    pub fn copy(&self) -> Result<Batch, AllocError>
+        ensures { IfOk result (λ batch. batch ≡ self.now) }
+    {
+        let transfers = self.transfers.clone()?;
+        Ok(Batch { transfers })
+    }
+}
+
+impl PartialEq for Batch {
+    ghost use Rattle.std.specs.Prelude.{◌≡◌, ◌↔◌, IsTrue};
+    ghost use Rattle.batch.specs.Equal.{same_transfers, same_laws};
+
+    ghost eq = { same_transfers };
+
+    ghost laws = { same_laws };
+
+    fn eq(&self, other: &Batch) -> bool
+        ensures value { result ≡ same_transfers self.now other.now }
+        ensures equal { IsTrue result ↔ (self.now ≡ other.now) }
+    {
+        self.transfers == other.transfers
+    }
+}
+
+impl Eq for Batch {
+    ghost use Rattle.batch.specs.Equal.{same_equivalence};
+
+    ghost laws = { same_equivalence };
 }

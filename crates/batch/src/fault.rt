@@ -11,12 +11,12 @@ pub enum ShapeFault {
 
 /// Why a text denotes no batch: its first fault, or want of memory.
 ///
-/// A transfer's line is tested for `Line`, then `NoModule`, then `NoBlock`, before the next line is
-/// looked at. The order of the faults is this project's choice.
+/// Lines are judged one after another. Of a line of a transfer the form counts first, then the
+/// modules, then the blocks. That order is this project's choice.
 #[derive(Clone, Copy, Debug, PartialEq, Eq, Error)]
 pub enum BatchFault {
-    /// This line, counted from 1, doesn't have the form that is wanted in its place, or has no line
-    /// feed. Of the empty text it is line 1.
+    /// The first line, by its number from 1, whose form isn't the one that belongs there, or which no
+    /// line feed ends. An empty text is at fault in line 1.
     #[error("line {0}")]
     Line(usize),
     /// The first line announces more than [`MAX_TRANSFERS`](crate::MAX_TRANSFERS) transfers.

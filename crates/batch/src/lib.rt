@@ -9,13 +9,16 @@ mod batch;
 mod fault;
 pub mod laws;
 mod limits;
+mod overlap;
 mod reading;
 mod shape;
 mod transfer;
+mod writing;
 
 pub use batch::Batch;
 pub use fault::{BatchFault, ShapeFault};
 pub use limits::{MAX_BLOCKS, MAX_DIGITS, MAX_MODULES, MAX_TRANSFERS, MAX_WORDS};
+pub use reading::number_from_digits;
 pub use shape::Shape;
 pub use transfer::{Kind, Place, Transfer};
 

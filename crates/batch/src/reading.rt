@@ -21,8 +21,9 @@ fn has_leading_zero(digits: &[u8]) -> bool
     digits.len() > 1 && digits[0] == b'0'
 }
 
-/// The number that these digits spell.
-fn number_from_digits(digits: &[u8]) -> Option<usize>
+/// The number that these digits spell: `0`, or a digit from 1 to 9 and digits behind it, at most
+/// [`MAX_DIGITS`] in all. Takes time that grows with the number of digits.
+pub fn number_from_digits(digits: &[u8]) -> Option<usize>
     ensures some { IfSome result (λ n. IsNumber n × (digits.now ≡ decimal n)) }
     ensures none { IfNone result ((n : ℕ) → IsNumber n → digits.now ≢ decimal n) }
 {

@@ -18,6 +18,18 @@ fn the_definitions_spell_the_rows()
     ensures widest_shape { shape_text widest ≡ codes "16x64x256" }
 {}
 
+#[test]
+fn three_transfers_are_written(rt: HostRuntime) -> Result<(), Fail> {
+    let text = b"batch 3\npush 0 0 1 0\npush 0 1 2 0\npush 1 1 2 1\n";
+    let batch = Batch::read(rt.alloc(), text, Shape::WIDEST)?;
+    assert_eq!(rt; batch.write()?.as_slice(), text.as_slice());
+    let copy = batch.copy()?;
+    assert!(rt; copy == batch);
+    let other = Batch::read(rt.alloc(), b"batch 1\npull 0 0 1 0\n", Shape::WIDEST)?;
+    assert!(rt; copy != other);
+    Ok(())
+}
+
 /// What the widest shape reads: how many transfers there are, or the fault.
 fn count(alloc: Global, text: &str) -> Result<usize, BatchFault> {
     let batch = Batch::read(alloc, text.as_bytes(), Shape::WIDEST)?;
@@ -83,6 +95,28 @@ fn transfers_have_places(rt: HostRuntime) -> Result<(), Fail> {
     assert_eq!(rt; (push.source(), push.destination()), (own, far));
     assert_eq!(rt; batch.transfer(2), None);
     Ok(())
+}
+
+/// The first two transfers of a batch text that overlap.
+fn overlap(alloc: Global, text: &str) -> Result<Option<(usize, usize)>, BatchFault> {
+    let batch = Batch::read(alloc, text.as_bytes(), Shape::WIDEST)?;
+    Ok(batch.first_overlap())
+}
+
+#[test]
+fn transfers_overlap(rt: HostRuntime) {
+    let rows = [
+        ("batch 2\npush 0 0 1 0\npush 1 0 2 0\n", Some((0, 1))),
+        ("batch 1\npush 5 0 5 0\n", Some((0, 0))),
+        (
+            "batch 3\npush 0 0 1 0\npush 0 0 1 0\npush 0 0 1 0\n",
+            Some((0, 1)),
+        ),
+        ("batch 3\npush 0 0 1 0\npush 0 1 2 0\npush 1 1 2 1\n", None),
+    ];
+    for (text, pair) in rows {
+        assert_eq!(rt; overlap(rt.alloc(), text), Ok(pair), "{text:?}");
+    }
 }
 
 #[test]

@@ -11,8 +11,8 @@ pub fn setting()
         after_all (setting pairs) switch ≡ switch_of pairs }
 {}
 
-/// The cuts of the pairs that go, the joins of the pairs that come and a settle turn the switch of the
-/// old pairs into that of the new ones.
+/// From the switch of the old pairs it is enough to cut what isn't wanted any more, to join what is
+/// new, and to settle: the result is the switch of the new pairs.
 pub fn change()
     ensures { (old new : List Pair) → ArePairs old → ArePairs new →
         after_all (change old new) (switch_of old) ≡ switch_of new }

@@ -1,21 +1,75 @@
 -- What the commands answer.
-use Rattle.std.specs.Prelude.{◌≡◌, ℕ, List, None}
+use Rattle.std.specs.Prelude.{◌≡◌, ℕ, List, ◌++◌, length, Some, None, codes}
+use Rattle.std.specs.Fmt.{decimal}
 use Rattle.batch.specs.declared.fault.BatchFault.{BatchFault}
 use Rattle.batch.specs.declared.transfer.Transfer.{Transfer}
 use Rattle.batch.specs.Extent.{Extent}
 use Rattle.batch.specs.Text.{Denotes}
 use Rattle.batch.specs.Faults.{IsFirstFault}
-use Rattle.link_graph.specs.Schedules.{IsScheduleOf}
-use Rattle.link_graph.specs.ScheduleText.{Says}
+use Rattle.link_graph.specs.declared.schedule_fault.ScheduleFault.{ScheduleFault}
+use Rattle.link_graph.specs.declared.schedule_fault.ScheduleFault.TheVariants as schedule_fault
+use Rattle.link_graph.specs.Certificates.{Naming, IsShortest, IsCertificate}
+use Rattle.link_graph.specs.Checks.{IsFirstCheckFault}
+use Rattle.link_graph.specs.ScheduleText.{said, Says}
+use Rattle.link_graph.specs.ScheduleFaults.{IsFirstBadLine}
+use Rattle.schedule_certificate.specs.Plans.{Plan, IsPlan}
 use Rattle.exchange.specs.declared.limits.TheConstants.{DONE, REFUSED}
-use Rattle.exchange.specs.Refusals.{refusal}
+use Rattle.exchange.specs.declared.refusal.Refusal.{Refusal}
+use Rattle.exchange.specs.declared.refusal.Refusal.TheVariants.{Batch, Schedule, NoCertificate, Check}
+use Rattle.exchange.specs.Refusals.{refusal_line}
 
 -- what a command prints, and the status that the program ends with
 pub record Printed : Type 0 where
   pub text : List ℕ
   pub status : ℕ
 
--- a text that says a schedule of the batch that the batch text denotes, or the refusal of that text's first fault, each under its status
-pub data IsPlanned (shape : Extent) (text : List ℕ) (printed : Printed) : Type 0 where
-  planned : (batch : List Transfer) (settings : List (List ℕ)) → Denotes shape text batch → IsScheduleOf batch settings → Says printed.text (record { settings = settings; certificate = None }) → printed.status ≡ DONE → IsPlanned shape text printed
-  refused : (fault : BatchFault) → IsFirstFault shape text fault → printed.text ≡ refusal fault → printed.status ≡ REFUSED → IsPlanned shape text printed
+-- a refusal's line, under its status
+pub record IsRefusedBy (refusal : Refusal) (printed : Printed) : Type 0 where
+  pub line : printed.text ≡ refusal_line refusal
+  pub status : printed.status ≡ REFUSED
+
+-- ---- `plan`
+
+-- the text says the plan's schedule and certificate
+abbrev pub SaysPlan : List ℕ → Plan → Type 0
+SaysPlan text plan = Says text (said plan.settings (Some plan.named))
+
+-- a text that says a plan of the batch that the batch text denotes, or the refusal of that text's first fault, each under its status
+pub data IsPlanned (shape : Extent) (batch : List ℕ) (printed : Printed) : Type 0 where
+  planned : (plan : Plan) → Denotes shape batch plan.batch → IsPlan plan → SaysPlan printed.text plan → printed.status ≡ DONE → IsPlanned shape batch printed
+  refused : (fault : BatchFault) → IsFirstFault shape batch fault → IsRefusedBy (Batch fault) printed → IsPlanned shape batch printed
+
+-- ---- `check`
+
+-- The texts are those of a batch and of a shortest schedule of it, which has so many settings, with a certificate that shows it.
+pub record IsShown (shape : Extent) (batch schedule : List ℕ) (count : ℕ) : Type 0 where
+  pub transfers : List Transfer
+  pub settings : List (List ℕ)
+  pub named : Naming
+  pub batch_read : Denotes shape batch transfers
+  pub schedule_read : Says schedule (said settings (Some named))
+  pub shortest : IsShortest transfers settings
+  pub certificate : IsCertificate transfers settings named
+  pub counted : count ≡ length settings
+
+-- the first line at fault of the schedule text
+abbrev pub IsFirstScheduleFault : List ℕ → ScheduleFault → Type 0
+IsFirstScheduleFault schedule (schedule_fault.Line n) = IsFirstBadLine schedule n
+IsFirstScheduleFault schedule schedule_fault.NoMemory = ⊥
+
+-- What is first wrong: the batch text is looked at first, then the schedule text, then whether it has the certificate part, then what the checker finds.
+abbrev pub IsFirstWrong : Extent → List ℕ → List ℕ → Refusal → Type 0
+IsFirstWrong shape batch schedule (Batch fault) = IsFirstFault shape batch fault
+IsFirstWrong shape batch schedule (Schedule fault) = (transfers : List Transfer) × Denotes shape batch transfers × IsFirstScheduleFault schedule fault
+IsFirstWrong shape batch schedule NoCertificate = (transfers : List Transfer) × (settings : List (List ℕ)) × Denotes shape batch transfers × Says schedule (said settings None)
+IsFirstWrong shape batch schedule (Check fault) = (transfers : List Transfer) × (settings : List (List ℕ)) × (named : Naming)
+    × Denotes shape batch transfers × Says schedule (said settings (Some named)) × IsFirstCheckFault transfers settings named fault
+
+-- `shortest S`
+abbrev pub shortest_line : ℕ → List ℕ
+shortest_line count = codes "shortest " ++ decimal count ++ codes "\n"
+
+-- how many settings the shortest schedule has, or what is first wrong, each under its status
+pub data IsChecked (shape : Extent) (batch schedule : List ℕ) (printed : Printed) : Type 0 where
+  shortest : (count : ℕ) → IsShown shape batch schedule count → printed.text ≡ shortest_line count → printed.status ≡ DONE → IsChecked shape batch schedule printed
+  refused : (refusal : Refusal) → IsFirstWrong shape batch schedule refusal → IsRefusedBy refusal printed → IsChecked shape batch schedule printed

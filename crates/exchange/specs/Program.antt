@@ -2,7 +2,7 @@
 use Rattle.std.specs.Prelude.{ℕ, List, [], ◌∷◌, Some, codes, pos, true}
 use Rattle.clap.specs.Words.{App, Rule, new_app, new_rule, with_rule, with_subcommand}
 use Rattle.clap.specs.declared.builder.value_parser.ValueParser.TheVariants as parser
-use Rattle.exchange.specs.declared.limits.TheConstants.{MAX_WORKERS}
+use Rattle.schedule_certificate.specs.declared.limits.TheConstants.{MAX_WORKERS}
 
 -- a word that has to be there
 abbrev pub word : List ℕ → Rule
@@ -21,9 +21,14 @@ workers = record (new_rule (codes "workers")) {
 abbrev pub plan : App
 plan = with_rule (with_rule (new_app (codes "plan")) (word (codes "FILE"))) workers
 
+-- `check BATCH SCHEDULE`
+abbrev pub check : App
+check = with_rule (with_rule (new_app (codes "check")) (word (codes "BATCH"))) (word (codes "SCHEDULE"))
+
+-- the program's name, which a command has to follow
 abbrev pub top : App
 top = record (new_app (codes "exchange")) { top = record (new_app (codes "exchange")).top { subcommand_required = true } }
 
 -- the whole program
 abbrev pub program : App
-program = with_subcommand top plan.top
+program = with_subcommand (with_subcommand top plan.top) check.top

@@ -1,10 +1,6 @@
-ghost use Rattle.std.specs.Prelude.{◌≡◌, ◌≢◌, IfOk};
-ghost use Rattle.batch.specs.declared.fault.BatchFault.TheVariants.{NoMemory};
-ghost use Rattle.exchange.specs.Refusals.{refusal};
+ghost use Rattle.std.specs.Prelude.{◌≡◌, string_bytes};
 
 use crate::limits::{DONE, REFUSED};
-use batch::BatchFault;
-use std::alloc::{AllocError, Global};
 use std::marker::Model;
 
 /// What a command prints on standard output, and the status that the program ends with.
@@ -48,24 +44,14 @@ impl Answer {
         }
     }
 
-    /// The refusal of a batch text under the status [`REFUSED`]. Where the fault is want of memory, the error is the
-    /// same.
-    pub fn refused(alloc: Global, fault: BatchFault) -> Result<Answer, AllocError>
-        ensures real { IfOk result (λ _. fault ≢ NoMemory) }
-        ensures text { IfOk result (λ answer. answer.text ≡ refusal fault) }
-        ensures status { IfOk result (λ answer. answer.status ≡ REFUSED) }
+    /// A refusal's line under the status [`REFUSED`].
+    pub fn refused(line: String) -> Answer
+        ensures text { result.text ≡ string_bytes line }
+        ensures status { result.status ≡ REFUSED }
     {
-        let text = match fault {
-            BatchFault::Line(n) => format!(in alloc; "refused batch line {n}\n")?,
-            BatchFault::TooMany => format!(in alloc; "refused too many\n")?,
-            BatchFault::NoModule(t) => format!(in alloc; "refused no module {t}\n")?,
-            BatchFault::NoBlock(t) => format!(in alloc; "refused no block {t}\n")?,
-            BatchFault::Count => format!(in alloc; "refused count\n")?,
-            BatchFault::NoMemory => return Err(AllocError),
-        };
-        Ok(Answer {
-            bytes: text.into_bytes(),
+        Answer {
+            bytes: line.into_bytes(),
             code: REFUSED,
-        })
+        }
     }
 }

@@ -1,8 +1,4 @@
-//! The limits of the program's words, and the statuses that it ends with. They are this project's
-//! choice.
-
-/// The most workers that planning may be given.
-pub const MAX_WORKERS: usize = 64;
+//! The statuses that the program ends with. They are this project's choice.
 
 /// The status where the command did what was asked.
 pub const DONE: u8 = 0;

@@ -7,16 +7,20 @@ ghost use Rattle.std.specs.Prelude.{◌≤◌, ◌≡◌, IfOk};
 ghost use Rattle.std.specs.Process.{exit_status};
 
 mod answer;
+mod checking;
 mod limits;
 mod planning;
+mod refusal;
 mod text;
 mod words;
 
 use crate::answer::Answer;
-use crate::limits::{DONE, MAX_WORKERS, MISUSED, REFUSED, UNWRITTEN};
+use crate::checking::answer_check;
+use crate::limits::{DONE, MISUSED, REFUSED, UNWRITTEN};
 use crate::planning::answer_plan;
 use crate::text::Text;
 use crate::words::{Job, WordsFault, read_words};
+use schedule_certificate::MAX_WORKERS;
 use std::alloc::AllocError;
 use std::io::{ErrorKind, Write};
 use std::process::ExitCode;
@@ -41,7 +45,9 @@ fn main(rt: HostRuntime) -> ExitCode {
 }
 
 /// Does what the words ask for. The error is that of writing the answer.
-fn run<R: AllocGlobal + Env + Eprint + Files + Print + Threads>(rt: &R) -> io::Result<ExitCode> {
+fn run<R: AllocGlobal + Env + Eprint + Files + Print + Threads + Sync>(
+    rt: &R,
+) -> io::Result<ExitCode> {
     let words = match command_line(rt) {
         Ok(words) => words,
         Err(error) if error.kind() == ErrorKind::OutOfMemory => return refuse(rt, NO_MEMORY),
@@ -52,6 +58,7 @@ fn run<R: AllocGlobal + Env + Eprint + Files + Print + Threads>(rt: &R) -> io::R
     };
     match read_words(rt.alloc(), words.as_slice()) {
         Ok(Job::Plan { file, workers }) => plan(rt, &file, workers),
+        Ok(Job::Check { batch, schedule }) => check(rt, &batch, &schedule),
         Err(WordsFault::Clap(error)) => {
             error.print(rt)?;
             let status = if error.use_stderr() { MISUSED } else { DONE };
@@ -67,7 +74,7 @@ fn command_line<R: AllocGlobal + Env>(rt: &R) -> io::Result<Vec<String>> {
 }
 
 /// `exchange plan FILE`.
-fn plan<R: AllocGlobal + Files + Print + Threads>(
+fn plan<R: AllocGlobal + Files + Print + Threads + Sync>(
     rt: &R,
     file: &Text,
     workers: usize,
@@ -79,6 +86,22 @@ fn plan<R: AllocGlobal + Files + Print + Threads>(
         Ok(batch) => print(rt, answer_plan(rt, rt.alloc(), batch.as_slice(), workers)),
         Err(refusal) => refuse(rt, refusal),
     }
+}
+
+/// `exchange check BATCH SCHEDULE`.
+fn check<R: AllocGlobal + Files + Print>(
+    rt: &R,
+    batch: &Text,
+    schedule: &Text,
+) -> io::Result<ExitCode> {
+    let (batch, schedule) = match (read_file(rt, batch), read_file(rt, schedule)) {
+        (Ok(batch), Ok(schedule)) => (batch, schedule),
+        (Err(refusal), _) | (_, Err(refusal)) => return refuse(rt, refusal),
+    };
+    print(
+        rt,
+        answer_check(rt.alloc(), batch.as_slice(), schedule.as_slice()),
+    )
 }
 
 /// The bytes of a file, or why there are none.

@@ -1,20 +1,26 @@
 use crate::answer::Answer;
-use crate::limits::MAX_WORKERS;
+use crate::check;
+use crate::checking::answer_check;
+use crate::limits::{DONE, REFUSED};
 use crate::planning::answer_plan;
+use crate::text::Text;
 use crate::words::{Job, WordsFault, read_words};
+use schedule_certificate::MAX_WORKERS;
 use std::alloc::{AllocError, Global};
+use std::fs;
+use std::process::ExitCode;
 use std::test::Fail;
 use std::thread::Threads;
 
 /// What `plan` answers to a batch text.
-fn plan<R: AllocGlobal + Threads>(rt: &R, batch: &str) -> Result<Answer, AllocError> {
+fn plan<R: AllocGlobal + Threads + Sync>(rt: &R, batch: &str) -> Result<Answer, AllocError> {
     answer_plan(rt, rt.alloc(), batch.as_bytes(), 1)
 }
 
 #[test]
 fn three_transfers(rt: HostRuntime) -> Result<(), Fail> {
     let answer = plan(&rt, "batch 3\npush 0 0 1 0\npush 0 1 2 0\npush 1 1 2 1\n")?;
-    let lines = b"settings 2\nsetting 0 2\nsetting 1\n";
+    let lines = b"settings 2\nsetting 0 2\nsetting 1\nbusiest link 0 module 0\nnamed 0 1\n";
     assert_eq!(rt; answer.text(), lines.as_slice());
     assert_eq!(rt; answer.status(), 0);
     Ok(())
@@ -23,8 +29,94 @@ fn three_transfers(rt: HostRuntime) -> Result<(), Fail> {
 #[test]
 fn empty_batch(rt: HostRuntime) -> Result<(), Fail> {
     let answer = plan(&rt, "batch 0\n")?;
-    assert_eq!(rt; answer.text(), b"settings 0\n".as_slice());
+    assert_eq!(rt; answer.text(), b"settings 0\nbusiest none\n".as_slice());
     assert_eq!(rt; answer.status(), 0);
+    Ok(())
+}
+
+/// Row checker, and what `check` refuses before the checker is asked.
+#[test]
+fn checker(rt: HostRuntime) -> Result<(), Fail> {
+    let batch = "batch 3\npush 0 0 1 0\npush 0 1 2 0\npush 1 1 2 1\n";
+    let rows = [
+        ("setting 0 2\nsetting 1\n", "named 0 1\n", "shortest 2\n", 0),
+        (
+            "setting 0 3\nsetting 1\n",
+            "named 0 1\n",
+            "refused check unknown 3\n",
+            1,
+        ),
+        (
+            "setting 0 2\nsetting 1 2\n",
+            "named 0 1\n",
+            "refused check repeated 2\n",
+            1,
+        ),
+        (
+            "setting 0\nsetting 1\n",
+            "named 0 1\n",
+            "refused check missing 2\n",
+            1,
+        ),
+        (
+            "setting 0 1\nsetting 2\n",
+            "named 0 1\n",
+            "refused check clash 0 link 0 module 0\n",
+            1,
+        ),
+        (
+            "setting 0 2\nsetting 1\n",
+            "named 0 2\n",
+            "refused check wrong link 2\n",
+            1,
+        ),
+        (
+            "setting 0 2\nsetting 1\n",
+            "named 0 0\n",
+            "refused check certificate repeats 0\n",
+            1,
+        ),
+        (
+            "setting 0 2\nsetting 1\n",
+            "named 0\n",
+            "refused check not tight 2 1\n",
+            1,
+        ),
+    ];
+    for (settings, named, line, status) in rows {
+        let schedule = format!(in rt.alloc();
+            "settings 2\n{settings}busiest link 0 module 0\n{named}"
+        )?;
+        let answer = answer_check(rt.alloc(), batch.as_bytes(), schedule.as_bytes())?;
+        assert_eq!(rt; answer.text(), line.as_bytes());
+        assert_eq!(rt; answer.status(), status);
+    }
+    Ok(())
+}
+
+/// What `check` answers to texts.
+#[test]
+fn check_refusals(rt: HostRuntime) -> Result<(), Fail> {
+    let rows = [
+        ("batch 1\n", "settings 0\n", "refused count\n"),
+        ("batch 0\n", "settings 1\n", "refused schedule line 2\n"),
+        ("batch 0\n", "settings 0\n", "refused no certificate\n"),
+        ("batch 0\n", "settings 0\nbusiest none\n", "shortest 0\n"),
+        (
+            "batch 2\npush 0 0 1 0\npush 2 0 1 1\n",
+            "settings 1\nsetting 0 1\nbusiest link 3 module 1\nnamed 0 1\n",
+            "refused check clash 0 link 3 module 1\n",
+        ),
+        (
+            "batch 2\npush 0 0 1 0\npush 2 0 3 1\n",
+            "settings 2\nsetting 0\nsetting 1\nbusiest link 3 module 1\nnamed 0\n",
+            "refused check not tight 2 1\n",
+        ),
+    ];
+    for (batch, schedule, line) in rows {
+        let answer = answer_check(rt.alloc(), batch.as_bytes(), schedule.as_bytes())?;
+        assert_eq!(rt; answer.text(), line.as_bytes());
+    }
     Ok(())
 }
 
@@ -49,6 +141,26 @@ fn batch_refusals(rt: HostRuntime) -> Result<(), Fail> {
     Ok(())
 }
 
+/// The program hands the two files over in the order of its words, and a file that isn't there is
+/// refused before any text is looked at.
+#[test]
+fn check_reads_two_files(rt: HostRuntime) -> Result<(), Fail> {
+    let alloc = rt.alloc();
+    let batch = Text::of(alloc, "check_reads_two_files.batch")?;
+    let schedule = Text::of(alloc, "check_reads_two_files.schedule")?;
+    fs::write(&rt, batch.as_str(), b"batch 0\n")?;
+    fs::write(&rt, schedule.as_str(), b"settings 0\nbusiest none\n")?;
+    let right = check(&rt, &batch, &schedule)?;
+    let swapped = check(&rt, &schedule, &batch)?;
+    fs::remove_file(&rt, batch.as_str())?;
+    let gone = check(&rt, &batch, &schedule)?;
+    fs::remove_file(&rt, schedule.as_str())?;
+    assert_eq!(rt; right, ExitCode::from(DONE));
+    assert_eq!(rt; swapped, ExitCode::from(REFUSED));
+    assert_eq!(rt; gone, ExitCode::from(REFUSED));
+    Ok(())
+}
+
 /// The words of a line, which one space parts.
 fn words(alloc: Global, line: &str) -> Result<Vec<String>, AllocError> {
     let mut words = Vec::new(alloc);
@@ -67,7 +179,17 @@ fn read(alloc: Global, line: &str) -> Result<Job, WordsFault> {
 fn is_plan(job: Result<Job, WordsFault>, name: &str, count: usize) -> bool {
     match job {
         Ok(Job::Plan { file, workers }) => file.as_str() == name && workers == count,
-        Err(_) => false,
+        _ => false,
+    }
+}
+
+/// Whether the words ask to judge the schedule of a file against the batch of another.
+fn is_check(job: Result<Job, WordsFault>, batch_name: &str, schedule_name: &str) -> bool {
+    match job {
+        Ok(Job::Check { batch, schedule }) => {
+            batch.as_str() == batch_name && schedule.as_str() == schedule_name
+        }
+        _ => false,
     }
 }
 
@@ -90,11 +212,16 @@ fn words_name_jobs(rt: HostRuntime) {
             MAX_WORKERS
         )
     );
+    assert!(rt; is_check(read(alloc, "exchange check B S"), "B", "S"));
     for line in [
         "exchange",
         "exchange plan",
         "exchange plan F G",
-        "exchange check F G",
+        "exchange check",
+        "exchange check F",
+        "exchange check F G H",
+        "exchange check F G --workers 1",
+        "exchange chart F",
         "exchange plan F --workers 0",
         "exchange plan F --workers 65",
     ] {

@@ -3,13 +3,13 @@
 ghost use Rattle.std.specs.Prelude.{◌≡◌, List, map, IfOk, false, Some, string_bytes};
 ghost use Rattle.clap.specs.Words.{app_of, rule_of, subcommand_rows_of, subcommand_of, first_of, rows_of, found_of};
 ghost use Rattle.clap.specs.declared.builder.Command.TheViews.{out-Command as fields_of};
-ghost use Rattle.exchange.specs.Program.{program, workers, word, plan as plan_app};
+ghost use Rattle.exchange.specs.Program.{program, workers, word, plan as plan_app, check as check_app};
 ghost use Rattle.exchange.specs.Jobs.{Holds, HasWorkers, IsJob, IsWithinLimits};
 
-use crate::limits::MAX_WORKERS;
 use crate::text::Text;
 use clap::error::ErrorKind;
 use clap::{Arg, ArgMatches, Command, value_parser};
+use schedule_certificate::MAX_WORKERS;
 use std::alloc::{AllocError, Global};
 
 /// What the program is to do.
@@ -17,6 +17,8 @@ use std::alloc::{AllocError, Global};
 pub enum Job {
     /// Plan the batch of a file, with 1 to [`MAX_WORKERS`] workers.
     Plan { file: Text, workers: usize },
+    /// Judge the schedule of a file against the batch of another.
+    Check { batch: Text, schedule: Text },
 }
 
 /// Why the words name no job.
@@ -53,10 +55,34 @@ with modules from 0 to 15 and blocks from 0 to 63, at most 4096 lines.
 The answer is the line `settings S`, then S lines `setting t t ..`: the
 transfers that move at once, numbered from 0 in the order of their lines.
 In one setting no two of them share link 0 of an initiator I or link 3 of a
-responder R.
+responder R. No schedule has fewer settings, as the two last lines show:
+  busiest link E module M   the link that most transfers use
+  named t t ..              all transfers that use it, one in each setting
+or the line `busiest none` where there is no transfer.
 
 Status: 0 a schedule was printed, 1 the batch was refused or there was no
 memory, 2 the words fit no command, 3 the answer couldn't be written.";
+
+/// What `check --help` says below its options.
+const CHECK_NOTES: &str = "\
+BATCH is a batch text and SCHEDULE a schedule text with the certificate part,
+in the form that `exchange plan --help` shows.
+
+The answer is the line `shortest S` where the S settings use each transfer
+once and no link twice at a time, and S distinct transfers are named that all
+use the link. Then no schedule of the batch has fewer settings. Else it is
+the first of these that is wrong: `refused batch line N`, `refused schedule
+line N`, `refused no certificate`, or of the schedule
+  refused check unknown T               no transfer T
+  refused check repeated T              T stands twice
+  refused check missing T               T stands nowhere
+  refused check clash S link E module M two of setting S use the link
+  refused check wrong link T            T is named and doesn't use the link
+  refused check certificate repeats T   T is named twice
+  refused check not tight S U           S settings, but U transfers named
+
+Status: 0 it is shortest, 1 it was refused or there was no memory, 2 the
+words fit no command, 3 the answer couldn't be written.";
 
 /// A word that has to be there.
 fn required<'a>(alloc: Global, id: &'a str, help: &'a str) -> Arg<'a>
@@ -90,6 +116,17 @@ fn plan<'a>(alloc: Global) -> Result<Command<'a>, AllocError>
         .arg(workers(alloc))
 }
 
+/// `check BATCH SCHEDULE`.
+fn check<'a>(alloc: Global) -> Result<Command<'a>, AllocError>
+    ensures { IfOk result (λ c. (app_of c ≡ check_app) × ((fields_of c).has_globals ≡ false)) }
+{
+    Command::new(alloc, "check")
+        .about("Judges a schedule of a batch: whether its certificate shows that none is shorter")
+        .after_help(CHECK_NOTES)
+        .arg(required(alloc, "BATCH", "The file of the batch"))?
+        .arg(required(alloc, "SCHEDULE", "The file of the schedule"))
+}
+
 /// All commands.
 fn program<'a>(alloc: Global) -> Result<Command<'a>, AllocError>
     ensures { IfOk result (λ c. app_of c ≡ program) }
@@ -98,7 +135,8 @@ fn program<'a>(alloc: Global) -> Result<Command<'a>, AllocError>
         .about("Plans block transfers between transputer modules that one C004 crossbar joins")
         .after_help("`exchange plan --help` shows the form of a batch.")
         .subcommand_required(true)
-        .subcommand(plan(alloc)?)
+        .subcommand(plan(alloc)?)?
+        .subcommand(check(alloc)?)
 }
 
 /// The matches of the words.
@@ -148,6 +186,11 @@ fn job_of(alloc: Global, name: &str, found: &ArgMatches<'_>) -> Result<Job, Word
         let file = text_of(alloc, found, "FILE")?;
         let workers = workers_of(alloc, found)?;
         return Ok(Job::Plan { file, workers });
+    }
+    if name == "check" {
+        let batch = text_of(alloc, found, "BATCH")?;
+        let schedule = text_of(alloc, found, "SCHEDULE")?;
+        return Ok(Job::Check { batch, schedule });
     }
     Err(missing(alloc))
 }

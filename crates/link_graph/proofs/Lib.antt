@@ -1,0 +1,15 @@
+pub mod Sums
+pub mod Koenig
+pub mod Users
+pub mod Tables
+pub mod Texts
+pub mod LineBreaks
+pub mod LinkLines
+pub mod Parts
+pub mod CountedLines
+pub mod CertificateLines
+pub mod SaidLines
+pub mod Firsts
+pub mod Sharing
+pub mod Once
+pub mod OneFault

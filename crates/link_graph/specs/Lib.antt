@@ -1,4 +1,9 @@
 pub mod Links
 pub mod Uses
+pub mod Counts
 pub mod Schedules
+pub mod Certificates
+pub mod Checks
+pub mod Marks
 pub mod ScheduleText
+pub mod ScheduleFaults

@@ -1,8 +1,19 @@
 -- The links of the modules, and their order. Link 0 and link 3 of each module go to the switch: this project's choice.
-use Rattle.std.specs.Prelude.{◌≡◌, ◌<◌, ◌⊎◌}
+use Rattle.std.specs.Prelude.{ℕ, ◌≡◌, ◌<◌, ◌+◌, ◌⊎◌}
+use Rattle.batch.specs.declared.limits.TheConstants.{MAX_MODULES}
+use Rattle.link_graph.specs.declared.link.End.{End}
 use Rattle.link_graph.specs.declared.link.End.TheVariants.{Zero, Three}
 use Rattle.link_graph.specs.declared.link.Link.{Link}
 
 -- a link 0 stands before each link 3; otherwise the smaller module's link stands first
 abbrev pub StandsBefore : Link → Link → Type 0
 StandsBefore a b = ((a.end ≡ Zero) × (b.end ≡ Three)) ⊎ ((a.end ≡ b.end) × (a.«module» < b.«module»))
+
+-- the place in that order, from 0, of the link of an end and a module
+abbrev pub index_by : End → ℕ → ℕ
+index_by Zero m = m
+index_by Three m = MAX_MODULES + m
+
+-- the place of a link
+abbrev pub index_of : Link → ℕ
+index_of link = index_by link.end link.«module»

@@ -5,14 +5,27 @@
 #![tactic(auto)]
 
 mod certificate;
+mod check_fault;
+mod checker;
+mod checking;
+mod counting;
+mod graph;
 pub mod laws;
+mod limits;
 mod link;
+mod reading;
 mod schedule;
+mod schedule_fault;
 mod writing;
 
 pub use certificate::Certificate;
+pub use check_fault::CheckFault;
+pub use checker::{Shortest, check_schedule};
+pub use graph::LinkGraph;
+pub use limits::LINKS;
 pub use link::{End, Link};
 pub use schedule::Schedule;
+pub use schedule_fault::ScheduleFault;
 
 #[cfg(test)]
 mod tests;

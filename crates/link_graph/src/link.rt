@@ -1,3 +1,11 @@
+ghost use Rattle.std.specs.Prelude.{◌≡◌, ◌<◌};
+ghost use Rattle.link_graph.specs.Links.{index_of};
+ghost use Rattle.link_graph.specs.ScheduleText.{end_number};
+
+use crate::limits::LINKS;
+use batch::MAX_MODULES;
+use std::fmt;
+
 /// Which end of the wire between two modules a link is.
 #[derive(Clone, Copy, Debug, PartialEq, Eq, PartialOrd, Ord)]
 pub enum End {
@@ -7,12 +15,64 @@ pub enum End {
     Three,
 }
 
-/// A link of a module.
+impl End {
+    /// The link's number at a module: 0 or 3.
+    pub fn number(self) -> usize
+        ensures { result ≡ end_number self }
+    {
+        match self {
+            End::Zero => 0,
+            End::Three => 3,
+        }
+    }
+}
+
+/// A link of a module, which may also be a module that no rack has.
 ///
-/// Links are ordered: link 0 of each module by number, then link 3 of each module by number.
+/// In the order of links all links 0 stand before all links 3, and links of one kind by their modules.
 #[derive(Clone, Copy, Debug, PartialEq, Eq, PartialOrd, Ord)]
 pub struct Link {
     pub end: End,
     /// The module's number, from 0.
     pub module: usize,
+}
+
+impl Link {
+    /// The link's place in the order of links, from 0: the index of what a table keeps of it.
+    pub fn index(self) -> usize
+        requires { self.«module» < MAX_MODULES }
+        ensures index { result ≡ index_of self }
+        ensures below { result < LINKS }
+    {
+        match self.end {
+            End::Zero => self.module,
+            End::Three => MAX_MODULES + self.module,
+        }
+    }
+
+    /// The link at this place in the order of links.
+    pub(crate) fn at(index: usize) -> Link
+        requires { index < LINKS }
+        ensures index { index_of result ≡ index }
+        ensures module { result.«module» < MAX_MODULES }
+    {
+        if index < MAX_MODULES {
+            Link {
+                end: End::Zero,
+                module: index,
+            }
+        } else {
+            Link {
+                end: End::Three,
+                module: index - MAX_MODULES,
+            }
+        }
+    }
+}
+
+impl fmt::Display for Link {
+    fn fmt<W: fmt::Write>(&self, f: &mut fmt::Formatter<W>) -> fmt::Result {
+        let (end, module) = (self.end.number(), self.module);
+        write!(f, "link {end} module {module}")
+    }
 }

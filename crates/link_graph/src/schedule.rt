@@ -1,10 +1,13 @@
-ghost use Rattle.std.specs.Prelude.{◌≡◌, length, IfOk, slice_get, option_map};
+ghost use Rattle.std.specs.Prelude.{◌≡◌, length, IfOk, IfErr, slice_get, option_map};
+ghost use Rattle.std.specs.Option.{option_copied};
 ghost use Rattle.link_graph.specs.Schedules.{lists_of};
-ghost use Rattle.link_graph.specs.ScheduleText.{schedule_text, CanSpell};
+ghost use Rattle.link_graph.specs.ScheduleText.{said, said_text, Says, CanSpell, CanName};
+ghost use Rattle.link_graph.specs.ScheduleFaults.{IsFaultOf};
 
 use crate::certificate::Certificate;
-use crate::writing;
-use std::alloc::AllocError;
+use crate::schedule_fault::ScheduleFault;
+use crate::{reading, writing};
+use std::alloc::{AllocError, Global};
 use std::marker::Model;
 
 /// A list of switch settings, numbered from 0, each of them a list of transfer numbers.
@@ -45,18 +48,60 @@ impl Schedule {
         Some(setting.as_slice())
     }
 
-    /// The schedule's text: the line `settings S`, then a line `setting t t ..` for each of the S
-    /// settings. The certificate, where there is one, stands behind them; as yet there is none.
-    ///
-    /// S and each transfer number must have at most nine digits. Takes time that grows with the
-    /// length of the text.
-    pub fn write(&self, certificate: Option<&Certificate>) -> Result<Vec<u8>, AllocError>
-        requires { CanSpell self.now }
-        ensures { IfOk result (λ text. text.items ≡ schedule_text self.now) }
+    /// The lists that the settings were made of.
+    pub fn into_lists(self) -> Vec<Vec<usize>>
+        ensures { lists_of result.items ≡ self }
     {
+        let Schedule { lists } = self;
+        lists
+    }
+
+    /// The settings, in order.
+    pub(crate) fn lists(&self) -> &[Vec<usize>]
+        ensures { lists_of result.now ≡ self.now }
+    {
+        self.lists.as_slice()
+    }
+
+    /// The schedule's text: the line `settings S`, then a line `setting t t ..` for each of the S
+    /// settings. The certificate part, where a certificate is handed in, stands behind them: the
+    /// lines `busiest link E module M` and `named t t ..`, or the line `busiest none`.
+    ///
+    /// S and each transfer number must have at most nine digits, and the link must be one of a module
+    /// that a rack may have. Takes time that grows with the length of the text.
+    pub fn write(&self, certificate: Option<&Certificate>) -> Result<Vec<u8>, AllocError>
+        requires settings { CanSpell self.now }
+        requires named { CanName (option_copied certificate) }
+        ensures { IfOk result (λ text. text.items ≡ said_text (said self.now (option_copied certificate.entry))) }
+    {
+        let mut text = writing::settings_text(*self.lists.allocator(), self.lists.as_slice())?;
         if let Some(certificate) = certificate {
-            match *certificate {}
+            writing::push_naming(&mut text, certificate.link(), certificate.transfers())?;
         }
-        writing::settings_text(*self.lists.allocator(), self.lists.as_slice())
+        Ok(text.into_bytes())
+    }
+
+    /// Reads a schedule's text, as [`write`](Schedule::write) gives it: the schedule, and the
+    /// certificate where the text has the certificate part.
+    ///
+    /// Gives what the text says, or its first line at fault. Want of memory is answered only where a
+    /// setting or a number behind a good first line had to be kept. Takes time linear in the length
+    /// of the text.
+    pub fn read(
+        alloc: Global,
+        text: &[u8],
+    ) -> Result<(Schedule, Option<Certificate>), ScheduleFault>
+        ensures says { IfOk result (λ read. Says text.now (said read.0 read.1)) }
+        ensures fault { IfErr result (λ fault. IsFaultOf text.now fault) }
+    {
+        let Some((line, rest)) = reading::next_line(text) else {
+            return Err(ScheduleFault::Line(1));
+        };
+        let Some(count) = reading::settings_count(line) else {
+            return Err(ScheduleFault::Line(1));
+        };
+        let (lists, rest) = reading::settings(alloc, rest, count)?;
+        let certificate = reading::certificate(alloc, rest, count + 1)?;
+        Ok((Schedule { lists }, certificate))
     }
 }

@@ -1,18 +1,24 @@
-ghost use Rattle.std.specs.Prelude.{◌≡◌, [], ◌∷◌, codes, Some};
+ghost use Rattle.std.specs.Prelude.{◌≡◌, [], ◌∷◌, codes, Some, None, IfOk};
 ghost use Rattle.link_graph.specs.declared.link.End.TheVariants.{Zero};
 ghost use Rattle.batch.specs.Rows.{three_transfers};
 ghost use Rattle.link_graph.specs.Uses.{IsMatching};
-ghost use Rattle.link_graph.specs.ScheduleText.{schedule_text, said_text, names, nothing};
+ghost use Rattle.link_graph.specs.Certificates.{naming};
+ghost use Rattle.link_graph.specs.ScheduleText.{schedule_text, said_text, said};
 
 use crate::laws::link_order;
-use crate::{End, Link, Schedule};
+use crate::{
+    Certificate, CheckFault, End, Link, LinkGraph, Schedule, ScheduleFault, Shortest,
+    check_schedule,
+};
+use batch::{Batch, BatchFault, Shape};
+use std::alloc::{AllocError, Global};
 use std::test::Fail;
 
 /// The definition of the schedule text gives the texts of worked rows.
 fn the_definitions_spell_the_rows()
     ensures three_transfers { schedule_text ((0 ∷ 2 ∷ []) ∷ (1 ∷ []) ∷ []) ≡ codes "settings 2\nsetting 0 2\nsetting 1\n" }
-    ensures certified { said_text (record { settings = (0 ∷ 2 ∷ []) ∷ (1 ∷ []) ∷ []; certificate = Some (names (record { end = Zero; «module» = 0 }) 0 (1 ∷ [])) }) ≡ codes "settings 2\nsetting 0 2\nsetting 1\nbusiest link 0 module 0\nnamed 0 1\n" }
-    ensures empty_batch { said_text (record { settings = []; certificate = Some nothing }) ≡ codes "settings 0\nbusiest none\n" }
+    ensures certified { said_text (said ((0 ∷ 2 ∷ []) ∷ (1 ∷ []) ∷ []) (Some (naming (Some (record { end = Zero; «module» = 0 })) (0 ∷ 1 ∷ [])))) ≡ codes "settings 2\nsetting 0 2\nsetting 1\nbusiest link 0 module 0\nnamed 0 1\n" }
+    ensures empty_batch { said_text (said [] (Some (naming None []))) ≡ codes "settings 0\nbusiest none\n" }
     ensures no_transfers { schedule_text ([] ∷ []) ≡ codes "settings 1\nsetting\n" }
 {}
 
@@ -23,26 +29,293 @@ fn the_definitions_refuse_settings()
     ensures repeated { IsMatching three_transfers (0 ∷ 0 ∷ []) → ⊥ }
 {}
 
+/// Link 0 of module 0.
+const FIRST: Link = Link {
+    end: End::Zero,
+    module: 0,
+};
+
+/// The batch of three transfers, of which 0 and 1 use link 0 of module 0.
+fn three(alloc: Global) -> Result<Batch, BatchFault> {
+    let text = b"batch 3\npush 0 0 1 0\npush 0 1 2 0\npush 1 1 2 1\n";
+    Batch::read(alloc, text, Shape::WIDEST)
+}
+
+/// The schedule of these settings.
+fn schedule_of(alloc: Global, settings: &[&[usize]]) -> Result<Schedule, AllocError> {
+    let mut lists = Vec::new(alloc);
+    for setting in settings {
+        lists.push(setting.to_vec(alloc)?)?;
+    }
+    Ok(Schedule::of(lists))
+}
+
+/// The certificate that names the first link and these transfers, or none.
+fn certificate_of(alloc: Global, named: &[usize]) -> Result<Certificate, AllocError> {
+    let certificate = Certificate::of(FIRST, named.to_vec(alloc)?);
+    Ok(certificate.unwrap_or(Certificate::none()))
+}
+
 #[test]
 fn three_transfers(rt: HostRuntime) -> Result<(), Fail> {
-    let mut lists = Vec::new(rt.alloc());
-    lists.push([0, 2].to_vec(rt.alloc())?)?;
-    lists.push([1].to_vec(rt.alloc())?)?;
-    let schedule = Schedule::of(lists);
+    let graph = LinkGraph::of(&three(rt.alloc())?)?;
+    assert_eq!(rt; graph.len(), 3);
+    assert_eq!(rt; graph.busiest(), Some(FIRST));
+    assert_eq!(rt; graph.uses(FIRST), 2);
+    assert_eq!(rt; graph.transfers_of(FIRST)?.as_slice(), [0, 1].as_slice());
+    let answering = Link {
+        end: End::Three,
+        module: 2,
+    };
+    assert_eq!(rt; graph.ends(1), Some((FIRST, answering)));
+    let schedule = schedule_of(rt.alloc(), &[&[0, 2], &[1]])?;
+    assert_eq!(rt; schedule.settings(), 2);
+    assert_eq!(rt; schedule.setting(1).ok_or("no setting 1")?, [1].as_slice());
+    let certificate = certificate_of(rt.alloc(), &[0, 1])?;
+    assert_eq!(rt; certificate.link(), Some(FIRST));
+    Ok(())
+}
+
+#[test]
+fn empty_batch(rt: HostRuntime) -> Result<(), Fail> {
+    let batch = Batch::read(rt.alloc(), b"batch 0\n", Shape::WIDEST)?;
+    assert_eq!(rt; LinkGraph::of(&batch)?.busiest(), None);
+    let schedule = schedule_of(rt.alloc(), &[])?;
+    assert_eq!(rt;
+        check_schedule(rt.alloc(), &batch, &schedule, &Certificate::none()),
+        Ok(Shortest { settings: 0 })
+    );
+    Ok(())
+}
+
+/// The text of a shortest schedule of the batch of three transfers, with its certificate.
+const CERTIFIED: &[u8] =
+    b"settings 2\nsetting 0 2\nsetting 1\nbusiest link 0 module 0\nnamed 0 1\n";
+
+/// Reads a text, and writes what it says: the same text.
+fn copied(alloc: Global, text: &[u8]) -> Result<Vec<u8>, ScheduleFault>
+    ensures { IfOk result (λ copy. copy.items ≡ text.now) }
+{
+    let (schedule, certificate) = Schedule::read(alloc, text)?;
+    Ok(schedule.write(certificate.as_ref())?)
+}
+
+#[test]
+fn texts_are_written_as_they_were_read(rt: HostRuntime) -> Result<(), Fail> {
+    let texts = [
+        CERTIFIED,
+        b"settings 2\nsetting 0 2\nsetting 1\n",
+        b"settings 0\n",
+        b"settings 0\nbusiest none\n",
+        b"settings 2\nsetting\nsetting 999999999\nbusiest link 3 module 15\nnamed 0\n",
+    ];
+    for text in texts {
+        assert_eq!(rt; copied(rt.alloc(), text)?.as_slice(), text);
+    }
+    Ok(())
+}
+
+#[test]
+fn texts_are_read(rt: HostRuntime) -> Result<(), Fail> {
+    let (schedule, certificate) = Schedule::read(rt.alloc(), CERTIFIED)?;
     assert_eq!(rt; schedule.settings(), 2);
     assert_eq!(rt;
         schedule.setting(0).ok_or("no setting 0")?,
         [0, 2].as_slice()
     );
     assert_eq!(rt; schedule.setting(1).ok_or("no setting 1")?, [1].as_slice());
-    assert!(rt; schedule.setting(2).is_none());
+    let certificate = certificate.ok_or("no certificate")?;
+    assert_eq!(rt; certificate.link(), Some(FIRST));
+    assert_eq!(rt; certificate.transfers(), [0, 1].as_slice());
     Ok(())
 }
 
 #[test]
-fn empty_batch(rt: HostRuntime) -> Result<(), Fail> {
-    let text = Schedule::of(Vec::new(rt.alloc())).write(None)?;
-    assert_eq!(rt; text.as_slice(), b"settings 0\n".as_slice());
+fn missing_certificates_are_read(rt: HostRuntime) -> Result<(), Fail> {
+    let (schedule, missing) = Schedule::read(rt.alloc(), b"settings 1\nsetting\n")?;
+    assert_eq!(rt; schedule.setting(0).ok_or("no setting 0")?.len(), 0);
+    assert!(rt; missing.is_none());
+    let (_, none) = Schedule::read(rt.alloc(), b"settings 0\nbusiest none\n")?;
+    let none = none.ok_or("no certificate")?;
+    assert_eq!(rt; none.link(), None);
+    assert_eq!(rt; none.transfers().len(), 0);
+    Ok(())
+}
+
+#[test]
+fn bad_setting_lines_are_named(rt: HostRuntime) -> Result<(), Fail> {
+    let rows: [(&[u8], usize); 20] = [
+        (b"", 1),
+        (b"\n", 1),
+        (b"settings 0", 1),
+        (b"settings 00\n", 1),
+        (b"settings\n", 1),
+        (b"settings 1000000000\n", 1),
+        (b"setting 0\n", 1),
+        (b"settings 999999999\n", 2),
+        (b"settings 2\nsetting 0\n", 3),
+        (b"settings 2\nsetting 0\nsetting 1", 3),
+        (b"settings 2\nsetting 0 \nsetting 1\n", 2),
+        (b"settings 2\nsetting 0\nsetting 01\n", 3),
+        (b"settings 2\nsetting 0\nsetting  1\n", 3),
+        (b"settings 2\nsetting 0\nsetting1\n", 3),
+        (b"settings 2\nsetting 0\nsetting 1000000000\n", 3),
+        (b"settings 2\nsetting 0\nsetting 1\r\n", 3),
+        (b"settings 2\nsetting 0\nbusiest none\n", 3),
+        (b"settings 1\nsetting 0\nsetting 1\n", 3),
+        (b"settings 1\nsetting 0\n\n", 3),
+        (b"settings 1\nsetting 0\nx", 3),
+    ];
+    for (text, line) in rows {
+        let fault = Schedule::read(rt.alloc(), text).err();
+        assert_eq!(rt; fault, Some(ScheduleFault::Line(line)));
+    }
+    Ok(())
+}
+
+#[test]
+fn bad_certificate_lines_are_named(rt: HostRuntime) -> Result<(), Fail> {
+    let rows: [(&[u8], usize); 15] = [
+        (b"settings 0\nbusiest none", 2),
+        (b"settings 0\nbusiest\n", 2),
+        (
+            b"settings 0\nbusiest link 1 module 0\nnamed 0\n".as_slice(),
+            2,
+        ),
+        (
+            b"settings 0\nbusiest link 0 module 16\nnamed 0\n".as_slice(),
+            2,
+        ),
+        (
+            b"settings 0\nbusiest link 0 module 00\nnamed 0\n".as_slice(),
+            2,
+        ),
+        (b"settings 0\nbusiest link 0 module 0", 2),
+        (b"settings 0\nnamed 0\n", 2),
+        (b"settings 0\nbusiest none\nnamed 0\n", 3),
+        (b"settings 0\nbusiest none\nx", 3),
+        (b"settings 0\nbusiest link 0 module 0\n", 3),
+        (
+            b"settings 0\nbusiest link 0 module 0\nnamed\n".as_slice(),
+            3,
+        ),
+        (
+            b"settings 0\nbusiest link 0 module 0\nnamed 0".as_slice(),
+            3,
+        ),
+        (
+            b"settings 0\nbusiest link 0 module 0\nnamed 0 \n".as_slice(),
+            3,
+        ),
+        (
+            b"settings 0\nbusiest link 0 module 0\nnamed 0\n\n".as_slice(),
+            4,
+        ),
+        (
+            b"settings 0\nbusiest link 0 module 0\nnamed 0\nx".as_slice(),
+            4,
+        ),
+    ];
+    for (text, line) in rows {
+        let fault = Schedule::read(rt.alloc(), text).err();
+        assert_eq!(rt; fault, Some(ScheduleFault::Line(line)));
+    }
+    Ok(())
+}
+
+/// What the checker says of these settings, where the first link is named with these transfers.
+fn checked(
+    alloc: Global,
+    batch: &Batch,
+    settings: &[&[usize]],
+    named: &[usize],
+) -> Result<Result<Shortest, CheckFault>, AllocError> {
+    let schedule = schedule_of(alloc, settings)?;
+    let certificate = certificate_of(alloc, named)?;
+    Ok(check_schedule(alloc, batch, &schedule, &certificate))
+}
+
+#[test]
+fn checker(rt: HostRuntime) -> Result<(), Fail> {
+    let alloc = rt.alloc();
+    let batch = three(alloc)?;
+    assert_eq!(rt;
+        checked(alloc, &batch, &[&[0, 2], &[1]], &[0, 1])?,
+        Ok(Shortest { settings: 2 })
+    );
+    assert_eq!(rt;
+        checked(alloc, &batch, &[&[0, 3], &[1]], &[0, 1])?,
+        Err(CheckFault::Unknown(3))
+    );
+    assert_eq!(rt;
+        checked(alloc, &batch, &[&[0, 2], &[1, 2]], &[0, 1])?,
+        Err(CheckFault::Repeated(2))
+    );
+    assert_eq!(rt;
+        checked(alloc, &batch, &[&[0], &[1]], &[0, 1])?,
+        Err(CheckFault::Missing(2))
+    );
+    assert_eq!(rt;
+        checked(alloc, &batch, &[&[0, 1], &[2]], &[0, 1])?,
+        Err(CheckFault::Clash(0, FIRST))
+    );
+    let (schedule, certificate) = Schedule::read(alloc, CERTIFIED)?;
+    let certificate = certificate.ok_or("no certificate")?;
+    assert_eq!(rt;
+        check_schedule(alloc, &batch, &schedule, &certificate),
+        Ok(Shortest { settings: 2 })
+    );
+    Ok(())
+}
+
+#[test]
+fn checker_of_certificates(rt: HostRuntime) -> Result<(), Fail> {
+    let alloc = rt.alloc();
+    let batch = three(alloc)?;
+    assert_eq!(rt;
+        checked(alloc, &batch, &[&[0, 2], &[1]], &[0, 2])?,
+        Err(CheckFault::WrongLink(2))
+    );
+    assert_eq!(rt;
+        checked(alloc, &batch, &[&[0, 2], &[1]], &[0, 0])?,
+        Err(CheckFault::CertificateRepeats(0))
+    );
+    assert_eq!(rt;
+        checked(alloc, &batch, &[&[0, 2], &[1]], &[0])?,
+        Err(CheckFault::NotTight(2, 1))
+    );
+    assert_eq!(rt;
+        checked(alloc, &batch, &[&[0], &[1], &[2]], &[0, 1])?,
+        Err(CheckFault::NotTight(3, 2))
+    );
+    Ok(())
+}
+
+#[test]
+fn faults_are_printed(rt: HostRuntime) -> Result<(), Fail> {
+    let rows = [
+        (CheckFault::Unknown(3), "unknown 3"),
+        (CheckFault::Repeated(2), "repeated 2"),
+        (CheckFault::Missing(2), "missing 2"),
+        (
+            CheckFault::Clash(0, FIRST),
+            "clash in setting 0 at link 0 module 0",
+        ),
+        (CheckFault::WrongLink(2), "wrong link 2"),
+        (CheckFault::CertificateRepeats(0), "certificate repeats 0"),
+        (CheckFault::NotTight(3, 2), "not tight: 3 settings, 2 named"),
+        (CheckFault::NoMemory, "no memory"),
+    ];
+    for (fault, text) in rows {
+        assert_eq!(rt; fault.to_string(rt.alloc())?.as_str(), text);
+    }
+    let rows = [
+        (ScheduleFault::Line(3), "line 3"),
+        (ScheduleFault::NoMemory, "no memory"),
+    ];
+    for (fault, text) in rows {
+        assert_eq!(rt; fault.to_string(rt.alloc())?.as_str(), text);
+    }
     Ok(())
 }
 

@@ -1,4 +1,4 @@
--- First fit: each transfer by number into the first setting that has neither of its links.
+-- First fit, the greedy colouring of edges: transfers come by number, and each joins the first setting whose transfers use other links.
 use Rattle.std.specs.Prelude.{◌≡◌, ℕ, ◌<◌, ◌++◌, ◌∷◌, List, [], length, All, AllPairs, Contains, slice_index_or, slice_set, take}
 use Rattle.batch.specs.declared.transfer.Transfer.{Transfer}
 use Rattle.link_graph.specs.declared.link.Link.{Link}
@@ -35,6 +35,7 @@ pub record IsBlocked (batch : List Transfer) (setting : List ℕ) (t : ℕ) : Ty
   pub stands : Contains setting u
   pub share : Share batch u t
 
+-- each setting has one
 abbrev pub AllBlocked : List Transfer → List (List ℕ) → ℕ → Type 0
 AllBlocked batch settings t = All (λ setting. IsBlocked batch setting t) settings
 

@@ -44,7 +44,7 @@ fn first_free(batch: &Batch, lists: &[Vec<usize>], t: usize) -> Option<usize>
     None
 }
 
-/// Puts a transfer into the first setting that has neither of its links.
+/// Puts a transfer into the first setting that is free for it.
 fn place(
     alloc: Global,
     batch: &Batch,
@@ -63,7 +63,8 @@ fn place(
     Ok(())
 }
 
-/// Puts each transfer, by number, into the first setting that has neither of its links.
+/// The greedy schedule: transfers come by number, and each joins the first setting whose transfers
+/// use other links.
 ///
 /// The schedule has no empty setting, so at most as many settings as the batch has transfers; it may
 /// have more than are needed. A transfer is compared with those before it at most once each, so the

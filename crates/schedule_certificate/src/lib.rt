@@ -1,9 +1,17 @@
-//! Schedules of batches.
+//! Schedules of batches: shortest ones with their certificates, and first fit.
 #![tactic(auto)]
 
+mod gate;
 mod greedy;
+mod limits;
+mod planned;
+mod planning;
 
+pub use gate::{Gate, OpenGate};
 pub use greedy::first_fit;
+pub use limits::MAX_WORKERS;
+pub use planned::Planned;
+pub use planning::schedule;
 
 #[cfg(test)]
 mod tests;

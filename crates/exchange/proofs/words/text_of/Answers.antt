@@ -1,7 +1,6 @@
-use Rattle.std.proofs.Common.{◌≡◌, ◌∙◌, sym, ap, Some, codes, map, rules}
-use Rattle.std.specs.Option.{option_map}
+use Rattle.std.proofs.Common.{◌∙◌, sym, ap, Some}
 use Rattle.clap.specs.Words.{found_of}
-use Rattle.clap.proofs.WalkLemmas.{first_value-rows, raw_values-rows}
+use Rattle.clap.proofs.WalkLemmas.{first_value-rows}
 use Rattle.exchange.proofs.words.text_of.Goals as goal
 
 pub returns-in_ok-of-in-Some : goal.returns-in_ok-of-in-Some

@@ -1,8 +1,7 @@
-use Rattle.std.proofs.Common.{◌≡◌, ◌++◌, take, string_bytes}
-use Rattle.std.specs.List.{flat_map}
+use Rattle.std.proofs.Common.{◌≡◌, ◌++◌, take, map, string_bytes}
 use Rattle.link_graph.specs.Schedules.{lists_of}
-use Rattle.link_graph.specs.ScheduleText.{setting_line}
+use Rattle.link_graph.specs.ScheduleText.{setting_line, text_of}
 use Rattle.link_graph.proofs.writing.settings_text.Given as goal
 
 abbrev pub invariant-loop-setting : goal.invariant-loop-setting
-invariant-loop-setting l = string_bytes l.text ≡ string_bytes l.initial.text ++ flat_map setting_line (lists_of (take l.setting-index l.settings))
+invariant-loop-setting l = string_bytes l.text ≡ string_bytes l.initial.text ++ text_of (map setting_line (lists_of (take l.setting-index l.settings)))

@@ -1,0 +1,49 @@
+-- How the cells of a table show a colouring: each colour has a row, with a cell for each link, which has the transfer of that colour that uses the link.
+use Rattle.std.specs.Prelude.{◌≡◌, ℕ, zero, suc, ◌+◌, ◌*◌, ◌<◌, List, length, map, Option, Some, None, Bool, false, ◌==◌, cond, slice_index_or}
+use Rattle.std.specs.List.{range_with_len}
+use Rattle.batch.specs.Batches.{IsBatch}
+use Rattle.batch.specs.declared.transfer.Transfer.{Transfer}
+use Rattle.link_graph.specs.declared.limits.TheConstants.{LINKS}
+use Rattle.link_graph.specs.declared.link.End.{End}
+use Rattle.link_graph.specs.declared.link.End.TheVariants.{Zero}
+use Rattle.link_graph.specs.Links.{index_of}
+use Rattle.alternating_path.specs.Ends.{link_at}
+use Rattle.alternating_path.specs.Colouring.{colour_at}
+
+-- the place in a row of the link that transfer t uses at an end
+unfoldable pub place_at : List Transfer → ℕ → End → ℕ
+place_at batch t end = index_of (link_at batch t end)
+
+-- what stands in the row of colour c at a place
+abbrev pub holder_at : List (Option ℕ) → ℕ → ℕ → Option ℕ
+holder_at cells c place = slice_index_or cells (c * LINKS + place) None
+
+-- whether a cell holds transfer t
+abbrev pub is_transfer : ℕ → Option ℕ → Bool
+is_transfer t None = false
+is_transfer t (Some u) = u == t
+
+-- the last number below n that passes a test
+abbrev pub last_below : ℕ → (ℕ → Bool) → Option ℕ
+last_below zero test = None
+last_below (suc n) test = cond (test n) (Some n) (last_below n test)
+
+-- the last colour in whose row transfer t stands at its link 0
+unfoldable pub shown_colour : List Transfer → ℕ → List (Option ℕ) → ℕ → Option ℕ
+shown_colour batch k cells t = last_below k (λ c. is_transfer t (holder_at cells c (place_at batch t Zero)))
+
+-- the colour of each transfer
+unfoldable pub shown_colours : List Transfer → ℕ → List (Option ℕ) → List (Option ℕ)
+shown_colours batch k cells = map (shown_colour batch k cells) (range_with_len 0 (length batch))
+
+-- the cells of k rows have just the placed transfers, each at both of its links in the row of its colour
+pub record AreCellsOf (batch : List Transfer) (k : ℕ) (colour cells : List (Option ℕ)) : Type 0 where
+  pub is_batch : IsBatch batch
+  pub sized : length colour ≡ length batch
+  pub rows : length cells ≡ k * LINKS
+  pub held : (t c : ℕ) (end : End) → colour_at colour t ≡ Some c → holder_at cells c (place_at batch t end) ≡ Some t
+  pub back : (c place t : ℕ) → place < LINKS → holder_at cells c place ≡ Some t → (colour_at colour t ≡ Some c) × ((end : End) × (place_at batch t end ≡ place))
+
+-- the table's cells show the colouring that contracts see
+abbrev pub ShowColouring : List Transfer → ℕ → List (Option ℕ) → Type 0
+ShowColouring batch k cells = AreCellsOf batch k (shown_colours batch k cells) cells

@@ -1,0 +1,44 @@
+-- Partial edge colourings of the graph of a batch. Its nodes are the links, its edges the transfers; each edge joins a link 0 to a link 3, so the graph
+-- is a bipartite multigraph. D. König, "Über Graphen und ihre Anwendung auf Determinantentheorie und Mengenlehre", 1916: where d is the greatest number of
+-- edges at a node, d colours suffice for a proper edge colouring of all edges.
+use Rattle.std.specs.Prelude.{◌≡◌, ◌≢◌, ℕ, ◌<◌, ◌⊎◌, ◌↔◌, List, length, replicate, Option, Some, None, IsSome, slice_index_or}
+use Rattle.batch.specs.declared.transfer.Transfer.{Transfer}
+use Rattle.link_graph.specs.declared.link.Link.{Link}
+use Rattle.link_graph.specs.Uses.{Uses, AreApart}
+
+-- some transfers of a batch with a colour each: the batch, how many colours there are, each transfer's colour where it is placed, and how many insertions succeeded
+pub record Colouring : Type 0 where
+  pub batch : List Transfer
+  pub colours : ℕ
+  pub colour : List (Option ℕ)
+  pub inserted : ℕ
+
+-- the colour of transfer t, where t is placed
+abbrev pub colour_at : List (Option ℕ) → ℕ → Option ℕ
+colour_at colour t = slice_index_or colour t None
+
+-- the transfer has a colour
+abbrev pub IsPlaced : List (Option ℕ) → ℕ → Type 0
+IsPlaced colour t = IsSome (colour_at colour t)
+
+-- every transfer of the batch has a colour
+abbrev pub AllPlaced : Colouring → Type 0
+AllPlaced s = (t : ℕ) → t < length s.batch → IsPlaced s.colour t
+
+-- no transfer of the batch is placed
+abbrev pub nothing_placed : List Transfer → ℕ → Colouring
+nothing_placed batch colours = record { batch = batch; colours = colours; colour = replicate (length batch) None; inserted = 0 }
+
+-- the colouring is proper: each colour is one of k, and different transfers of one colour use no common link
+pub record IsProper (batch : List Transfer) (k : ℕ) (colour : List (Option ℕ)) : Type 0 where
+  pub sized : length colour ≡ length batch
+  pub below : (t c : ℕ) → colour_at colour t ≡ Some c → c < k
+  pub apart : (t u c : ℕ) → t ≢ u → colour_at colour t ≡ Some c → colour_at colour u ≡ Some c → AreApart batch t u
+
+-- the colour c is free at the link: no transfer of that colour uses it
+pub record IsFree (batch : List Transfer) (colour : List (Option ℕ)) (link : Link) (c : ℕ) : Type 0 where
+  pub none : (u : ℕ) → colour_at colour u ≡ Some c → Uses batch u link → ⊥
+
+-- the transfers placed now are those placed before and t
+pub record PlacesJust (old new : List (Option ℕ)) (t : ℕ) : Type 0 where
+  pub placed : (u : ℕ) → IsPlaced new u ↔ (IsPlaced old u ⊎ (u ≡ t))

@@ -1,0 +1,5 @@
+pub mod Ends
+pub mod Colouring
+pub mod Counts
+pub mod Classes
+pub mod Cells

@@ -1,0 +1,54 @@
+//! The colour classes of a colouring.
+
+ghost use Rattle.std.specs.Prelude.{◌≡◌, ℕ, ◌+◌, ◌<◌, ◌≤◌, ◌++◌, ◌∷◌, [], length, slice_set, slice_index_or, Some, IfOk, OnOk};
+ghost use Rattle.link_graph.specs.Schedules.{lists_of, times};
+ghost use Rattle.alternating_path.specs.Colouring.{colour_at, IsPlaced};
+ghost use Rattle.alternating_path.specs.Classes.{AreClassesOf};
+
+use std::alloc::{AllocError, Global};
+
+/// Puts a transfer at the end of list `k`.
+fn push_into(lists: &mut Vec<Vec<usize>>, k: usize, t: usize) -> Result<(), AllocError>
+    requires { k < length (lists_of lists.old.items) }
+    ensures { OnOk result (lists_of lists.new.items ≡ slice_set (lists_of lists.old.items) k (slice_index_or (lists_of lists.old.items) k [] ++ t ∷ [])) }
+{
+    lists[k].push(t)?;
+    Ok(())
+}
+
+/// Puts a transfer into a new list behind the others.
+fn push_alone(alloc: Global, lists: &mut Vec<Vec<usize>>, t: usize) -> Result<(), AllocError>
+    ensures { OnOk result (lists_of lists.new.items ≡ lists_of lists.old.items ++ (t ∷ []) ∷ []) }
+{
+    let mut alone = Vec::new(alloc);
+    alone.push(t)?;
+    lists.push(alone)?;
+    Ok(())
+}
+
+/// The classes that hold something. Each stands where its least number comes first.
+pub(crate) fn classes(
+    alloc: Global,
+    colour: &[Option<usize>],
+    colours: usize,
+) -> Result<Vec<Vec<usize>>, AllocError>
+    requires { (t c : ℕ) → colour_at colour.now t ≡ Some c → c < colours }
+    ensures classes { IfOk result (λ lists. AreClassesOf colour.now (lists_of lists.items)) }
+    ensures once { IfOk result (λ lists. (t : ℕ) → IsPlaced colour.now t → times t (lists_of lists.items) ≡ 1) }
+    ensures count { IfOk result (λ lists. length (lists_of lists.items) ≤ colours) }
+{
+    let mut lists = Vec::new(alloc);
+    let mut list_of_colour = vec![in alloc; None; colours]?;
+    for t in 0..colour.len() {
+        let Some(c) = colour[t] else {
+            continue;
+        };
+        if let Some(k) = list_of_colour[c] {
+            push_into(&mut lists, k, t)?;
+            continue;
+        }
+        list_of_colour[c] = Some(lists.len());
+        push_alone(alloc, &mut lists, t)?;
+    }
+    Ok(lists)
+}

@@ -1,0 +1,70 @@
+ghost use Rattle.std.specs.Prelude.{◌≡◌, IfOk, OnOk, take, length};
+ghost use Rattle.link_graph.specs.Schedules.{lists_of};
+
+use link_graph::Schedule;
+use std::alloc::{AllocError, Global};
+use std::marker::Model;
+
+/// The schedule of a table's colour classes, and how many insertions the table counted.
+///
+/// Only [`Table::into_schedule`](crate::Table::into_schedule) makes one, and [`Coloured::copy`].
+#[derive(Drop)]
+pub struct Coloured {
+    schedule: Schedule,
+    inserted: usize,
+    alloc: Global,
+}
+
+impl Model for Coloured {
+    ghost use Rattle.alternating_path.specs.Classes.{ColouredSettings};
+
+    ghost Value = { ColouredSettings };
+
+    ghost view = { λ s. record { settings = s.schedule; inserted = s.inserted } };
+}
+
+impl Coloured {
+    pub(crate) fn of(alloc: Global, lists: Vec<Vec<usize>>, inserted: usize) -> Coloured
+        ensures { result ≡ record { settings = lists_of lists.items; inserted = inserted } }
+    {
+        Coloured {
+            schedule: Schedule::of(lists),
+            inserted,
+            alloc,
+        }
+    }
+
+    /// The classes, as the settings of a schedule.
+    pub fn schedule(&self) -> &Schedule
+        ensures { result.now ≡ self.now.settings }
+    {
+        &self.schedule
+    }
+
+    /// How many insertions the table counted.
+    pub fn inserted(&self) -> usize
+        ensures { result ≡ self.now.inserted }
+    {
+        self.inserted
+    }
+
+    /// An equal value. Takes time that grows with the number of transfers.
+    pub fn copy(&self) -> Result<Coloured, AllocError>
+        ensures { IfOk result (λ copy. copy ≡ self.now) }
+    {
+        let lists = copied(self.alloc, &self.schedule)?;
+        Ok(Coloured::of(self.alloc, lists, self.inserted))
+    }
+}
+
+/// The settings of a schedule.
+fn copied(alloc: Global, schedule: &Schedule) -> Result<Vec<Vec<usize>>, AllocError>
+    ensures { IfOk result (λ lists. lists_of lists.items ≡ schedule.now) }
+{
+    let mut lists = Vec::with_capacity(alloc, schedule.settings())?;
+    for k in 0..schedule.settings() {
+        let setting = schedule.setting(k).unwrap();
+        lists.push(setting.to_vec(alloc)?)?;
+    }
+    Ok(lists)
+}

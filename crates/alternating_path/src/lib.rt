@@ -1,0 +1,24 @@
+//! Edge colourings of the graph of a batch, made by inserting one transfer after the other.
+//!
+//! The nodes of the graph are the links of the modules, its edges the transfers; each edge joins a
+//! link 0 to a link 3. A [`Table`] gives some of the transfers a colour so that no two transfers of
+//! one colour use a common link. As long as its links aren't full, another transfer can be put in:
+//! where the colour that is free at the one link is taken at the other, two colours change places
+//! along an alternating path (König 1916). The colours that hold something are the settings of a
+//! schedule.
+#![tactic(auto)]
+
+mod classes;
+mod coloured;
+mod fault;
+pub mod laws;
+mod limits;
+mod table;
+
+pub use coloured::Coloured;
+pub use fault::InsertFault;
+pub use limits::MAX_COLOURS;
+pub use table::Table;
+
+#[cfg(test)]
+mod tests;

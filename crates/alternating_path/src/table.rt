@@ -1,0 +1,282 @@
+//! Tables of edge colourings, and the insertion of an edge.
+
+ghost use Rattle.std.specs.Prelude.{◌≡◌, ℕ, ◌+◌, ◌<◌, ◌≤◌, ◌↔◌, min, length, set, Some, None, Err, IfOk, OnOk, OnErr, MatchOption, IfSome, IfNone, OnSome};
+ghost use Rattle.batch.specs.Batches.{IsBatch};
+ghost use Rattle.link_graph.specs.declared.link.End.TheVariants.{Zero, Three};
+ghost use Rattle.link_graph.specs.Uses.{Uses};
+ghost use Rattle.alternating_path.specs.Ends.{link_at, other_end};
+ghost use Rattle.alternating_path.specs.Colouring.{colour_at, IsPlaced, AllPlaced, nothing_placed, IsProper, IsFree, PlacesJust};
+ghost use Rattle.link_graph.specs.Schedules.{IsScheduleOf};
+ghost use Rattle.alternating_path.specs.Classes.{AreClassesOf};
+ghost use Rattle.alternating_path.specs.Counts.{placed_uses, HasFullLink};
+ghost use Rattle.alternating_path.specs.Cells.{place_at};
+
+use crate::classes::classes;
+use crate::coloured::Coloured;
+use crate::fault::InsertFault;
+use crate::limits::MAX_COLOURS;
+use batch::MAX_TRANSFERS;
+use link_graph::{End, LINKS, LinkGraph};
+use std::alloc::{AllocError, Global};
+use std::marker::Model;
+
+/// Some of the transfers of a graph, each with a colour, so that no two transfers of one colour use
+/// a common link. Colours are numbered from 0.
+///
+/// Its room depends on the number of colours alone, and not on the number of transfers.
+#[derive(Drop)]
+pub struct Table<'a> {
+    graph: &'a LinkGraph,
+    colours: usize,
+    /// A row for each colour, with a cell for each link: the transfer of that colour that uses the
+    /// link, where there is one.
+    cells: Vec<Option<u16>>,
+    inserted: usize,
+}
+
+impl<'a> Model for Table<'a> {
+    ghost use Rattle.alternating_path.specs.Colouring.{Colouring};
+    ghost use Rattle.alternating_path.specs.Cells.{shown_colours, ShowColouring};
+
+    ghost Value = { Colouring };
+
+    ghost view = { λ t. record { batch = t.graph.now; colours = t.colours; colour = shown_colours t.graph.now t.colours t.cells.items; inserted = t.inserted } };
+
+    ghost invariant = { λ t. ShowColouring t.graph.now t.colours t.cells.items };
+}
+
+impl<'a> Table<'a> {
+    /// A table with this many colours, at most [`MAX_COLOURS`], in which nothing is placed.
+    ///
+    /// Takes time and room that grow with the number of colours.
+    pub fn new(alloc: Global, graph: &'a LinkGraph, colours: usize) -> Result<Table<'a>, AllocError>
+        requires { colours ≤ MAX_COLOURS }
+        ensures { IfOk result (λ table. table ≡ nothing_placed graph.now colours) }
+    {
+        prove!(graph.len() <= MAX_TRANSFERS);
+        let cells = vec![in alloc; None; colours * LINKS]?;
+        Ok(Table {
+            graph,
+            colours,
+            cells,
+            inserted: 0,
+        })
+    }
+
+    /// How many colours there are.
+    pub fn colours(&self) -> usize
+        ensures colours { result ≡ self.now.colours }
+        ensures proper { IsProper self.now.batch self.now.colours self.now.colour }
+    {
+        self.colours
+    }
+
+    /// How many insertions succeeded, counted no further than `usize::MAX`.
+    pub fn inserted(&self) -> usize
+        ensures { result ≡ self.now.inserted }
+    {
+        self.inserted
+    }
+
+    /// The colour of transfer `t`, where it is placed. Looks along one link: takes time that grows
+    /// with the number of colours.
+    pub fn colour_of(&self, t: usize) -> Option<usize>
+        ensures colour { result ≡ colour_at self.now.colour t }
+        ensures proper { IsProper self.now.batch self.now.colours self.now.colour }
+    {
+        if t >= self.graph.len() {
+            return None;
+        }
+        let place = place_at(self.graph, t, End::Zero);
+        for colour in 0..self.colours {
+            if let Some(holder) = self.cells[colour * LINKS + place] {
+                if usize::from(holder) == t {
+                    return Some(colour);
+                }
+            }
+        }
+        None
+    }
+
+    /// Places transfer `t`, which must be one of the graph. Other placed transfers may change their
+    /// colours. Where `t` is placed already it answers [`InsertFault::Already`], else
+    /// [`InsertFault::NoRoom`] where one of its links is full, as the transfers placed there have all
+    /// colours; then nothing changes.
+    ///
+    /// Takes time that grows with the number of colours, which are looked at along two links, and
+    /// with the length of an alternating path, which meets each link at most once.
+    pub fn insert(&mut self, t: usize) -> Result<(), InsertFault>
+        requires { t < length self.old.batch }
+        ensures already { (result ≡ Err InsertFault.Already) ↔ IsPlaced self.old.colour t }
+        ensures no_room { (result ≡ Err InsertFault.NoRoom) ↔ ((colour_at self.old.colour t ≡ None) × HasFullLink self.old t) }
+
+        ensures placed { OnOk result (PlacesJust self.old.colour self.new.colour t) }
+        ensures counted { OnOk result (self.new.inserted ≡ min (self.old.inserted + 1) usize.MAX) }
+        ensures unchanged { OnErr result (self.new ≡ self.old) }
+
+        ensures batch { self.new.batch ≡ self.old.batch }
+        ensures colours { self.new.colours ≡ self.old.colours }
+        ensures proper { IsProper self.new.batch self.new.colours self.new.colour }
+    {
+        if self.colour_of(t).is_some() {
+            return Err(InsertFault::Already);
+        }
+        let Some(first) = self.free_colour(t, End::Zero) else {
+            return Err(InsertFault::NoRoom);
+        };
+        let Some(second) = self.free_colour(t, End::Three) else {
+            return Err(InsertFault::NoRoom);
+        };
+        self.place(t, first, second);
+        self.inserted = self.inserted.saturating_add(1);
+        Ok(())
+    }
+
+    /// The schedule of the colour classes that hold something, in the order of their least numbers;
+    /// the numbers ascend in each. The table is dropped also where there is no memory.
+    ///
+    /// Takes time that grows with the number of colours and the number of transfers.
+    pub fn into_schedule(self) -> Result<Coloured, AllocError>
+        ensures classes { IfOk result (λ coloured. AreClassesOf self.entry.colour coloured.settings) }
+        ensures inserted { IfOk result (λ coloured. coloured.inserted ≡ self.entry.inserted) }
+        ensures count { IfOk result (λ coloured. length coloured.settings ≤ self.entry.colours) }
+
+        // Where all transfers are placed, that is a schedule of the batch.
+        ensures schedule { IfOk result (λ coloured. AllPlaced self.entry → IsScheduleOf self.entry.batch coloured.settings) }
+    {
+        let alloc = *self.cells.allocator();
+        let colour = self.colour_list(alloc)?;
+        let lists = classes(alloc, colour.as_slice(), self.colours)?;
+        Ok(Coloured::of(alloc, lists, self.inserted))
+    }
+
+    /// The colour of each transfer of the graph.
+    fn colour_list(&self, alloc: Global) -> Result<Vec<Option<usize>>, AllocError>
+        ensures { IfOk result (λ list. list.items ≡ self.now.colour) }
+    {
+        let count = self.graph.len();
+        let mut list = vec![in alloc; None; count]?;
+        for (cell, holder) in self.cells.iter().enumerate() {
+            let Some(t) = *holder else {
+                continue;
+            };
+            list[usize::from(t)] = Some(cell / LINKS);
+        }
+        Ok(list)
+    }
+
+    /// A colour that is free at the link that `t` uses at an end, where one is.
+    fn free_colour(&self, t: usize, end: End) -> Option<usize>
+        requires { t < length self.now.batch }
+        ensures some { IfSome result (λ c. (c < self.now.colours) × IsFree self.now.batch self.now.colour (link_at self.now.batch t end) c) }
+        ensures room { OnSome result (placed_uses self.now.batch self.now.colour (link_at self.now.batch t end) < self.now.colours) }
+        ensures none { IfNone result (placed_uses self.now.batch self.now.colour (link_at self.now.batch t end) ≡ self.now.colours) }
+    {
+        let place = place_at(self.graph, t, end);
+        for colour in 0..self.colours {
+            if self.cells[colour * LINKS + place].is_none() {
+                return Some(colour);
+            }
+        }
+        None
+    }
+
+    /// The transfer of a colour at the link that `t` uses at an end.
+    fn holder(&self, t: usize, end: End, colour: usize) -> Option<usize>
+        requires known { t < length self.now.batch }
+        requires in_range { colour < self.now.colours }
+        ensures { MatchOption result
+            (IsFree self.now.batch self.now.colour (link_at self.now.batch t end) colour)
+            (λ u. (colour_at self.now.colour u ≡ Some colour) × (link_at self.now.batch u end ≡ link_at self.now.batch t end)) }
+    {
+        let place = place_at(self.graph, t, end);
+        let holder = self.cells[colour * LINKS + place]?;
+        Some(usize::from(holder))
+    }
+
+    /// Gives `t` a colour that is free at both of its links.
+    fn put_in(&mut self, t: usize, colour: usize)
+        requires known { t < length self.old.batch }
+        requires in_range { colour < self.old.colours }
+        requires out { colour_at self.old.colour t ≡ None }
+        requires zero_free { IsFree self.old.batch self.old.colour (link_at self.old.batch t Zero) colour }
+        requires three_free { IsFree self.old.batch self.old.colour (link_at self.old.batch t Three) colour }
+        ensures written { self.new ≡ record self.old { colour = set self.old.colour t (Some colour) } }
+        ensures proper { IsProper self.new.batch self.new.colours self.new.colour }
+    {
+        let zero = place_at(self.graph, t, End::Zero);
+        let three = place_at(self.graph, t, End::Three);
+        let number = t as u16;
+        self.cells[colour * LINKS + zero] = Some(number);
+        self.cells[colour * LINKS + three] = Some(number);
+    }
+
+    /// Takes the colour of `t` away.
+    fn take_out(&mut self, t: usize, colour: usize)
+        requires known { t < length self.old.batch }
+        requires in_range { colour < self.old.colours }
+        requires placed { colour_at self.old.colour t ≡ Some colour }
+        ensures written { self.new ≡ record self.old { colour = set self.old.colour t None } }
+        ensures proper { IsProper self.new.batch self.new.colours self.new.colour }
+    {
+        let zero = place_at(self.graph, t, End::Zero);
+        let three = place_at(self.graph, t, End::Three);
+        self.cells[colour * LINKS + zero] = None;
+        self.cells[colour * LINKS + three] = None;
+    }
+
+    /// Places `t` with the colour `first`, which is free at its link 0, where `second` is free at its
+    /// link 3.
+    ///
+    /// A transfer that is in the way loses its colour and is in hand next. It takes the other of the
+    /// two colours, which is free where it made way; another may be in the way at its other end, and
+    /// so on along a path on which the two colours alternate.
+    fn place(&mut self, t: usize, first: usize, second: usize)
+        requires known { t < length self.old.batch }
+        requires proper { IsProper self.old.batch self.old.colours self.old.colour }
+        requires out { colour_at self.old.colour t ≡ None }
+        requires first_in { first < self.old.colours }
+        requires second_in { second < self.old.colours }
+        requires first_free { IsFree self.old.batch self.old.colour (link_at self.old.batch t Zero) first }
+        requires second_free { IsFree self.old.batch self.old.colour (link_at self.old.batch t Three) second }
+        ensures placed { PlacesJust self.old.colour self.new.colour t }
+        ensures rest { self.new ≡ record self.old { colour = self.new.colour } }
+        ensures proper { IsProper self.new.batch self.new.colours self.new.colour }
+    {
+        let mut hand = t;
+        let mut end = End::Three;
+        let mut colour = first;
+        let mut other = second;
+        'path: while let Some(next) = self.holder(hand, end, colour) {
+            self.take_out(next, colour);
+            self.put_in(hand, colour);
+            hand = next;
+            end = other_end(end);
+            (colour, other) = (other, colour);
+        }
+        self.put_in(hand, colour);
+    }
+}
+
+/// The place in a row of the link that transfer `t` uses at an end.
+fn place_at(graph: &LinkGraph, t: usize, end: End) -> usize
+    requires known { t < length graph.now }
+    requires batch { IsBatch graph.now }
+    ensures place { result ≡ place_at graph.now t end }
+    ensures below { result < LINKS }
+{
+    let (start, answer) = graph.ends(t).unwrap();
+    match end {
+        End::Zero => start.index(),
+        End::Three => answer.index(),
+    }
+}
+
+fn other_end(end: End) -> End
+    ensures { result ≡ other_end end }
+{
+    match end {
+        End::Zero => End::Three,
+        End::Three => End::Zero,
+    }
+}

@@ -1,0 +1,25 @@
+use Rattle.std.proofs.Common.{◌∙◌, true, arith, length-set, rules}
+use Rattle.batch.specs.declared.overlap.TheConstants.{MAX_PLACES}
+use Rattle.batch.specs.Extent.{widest}
+use Rattle.batch.specs.Places.{HasPlace}
+use Rattle.batch.proofs.Flags.{flags_none, flags_more, two_writers}
+use Rattle.batch.proofs.overlap.written_once.Goals as goal
+
+pub loop-transfer-init : goal.loop-transfer-init
+loop-transfer-init c = record { size = search rules; flags = flags_none c.args.transfers.now MAX_PLACES }
+
+pub loop-transfer-preserved : goal.loop-transfer-preserved
+loop-transfer-preserved c =
+    let now = c.loop-transfer in
+    let k = c.index_of-index.result in
+    let here : HasPlace widest c.destination.result = search rules in
+    record {
+      size = length-set now.written k true ∙ now.invariant.size;
+      flags = flags_more c.args.transfers.now now.transfer-index now.written k c.destination.result c.index_of-index.ensures.value c.destination.ensures here (omega arith) now.invariant.flags c.if-written-index.false;
+    }
+
+pub returns-then-written-index : goal.returns-then-written-index
+returns-then-written-index c =
+    let now = c.loop-transfer in
+    let here : HasPlace widest c.destination.result = search rules in
+    two_writers c.args.transfers.now now.transfer-index now.written c.index_of-index.result c.destination.result c.index_of-index.ensures.value c.destination.ensures here c.loop-transfer-test.true now.invariant.flags c.if-written-index.true

@@ -1,0 +1,41 @@
+-- Which transfers of a batch overlap: the order in which these move their words would show. This project's choice.
+use Rattle.std.specs.Prelude.{ℕ, ◌≡◌, ◌≢◌, ◌≤◌, ◌<◌, ◌⊎◌, List, length, slice_index_or}
+use Rattle.batch.specs.declared.transfer.Kind.TheVariants.{Push}
+use Rattle.batch.specs.declared.transfer.Place.{Place}
+use Rattle.batch.specs.declared.transfer.Transfer.{Transfer}
+use Rattle.batch.specs.Places.{source_of, destination_of}
+
+-- the transfer of a number; past the end, one that no clause speaks of
+abbrev pub transfer_at : List Transfer → ℕ → Transfer
+transfer_at ts i = slice_index_or ts i (record { kind = Push; initiator = 0; own_block = 0; responder = 0; far_block = 0 })
+
+-- the block that the transfer of a number reads
+abbrev pub source_at : List Transfer → ℕ → Place
+source_at ts i = source_of (transfer_at ts i)
+
+-- the block that the transfer of a number writes
+abbrev pub destination_at : List Transfer → ℕ → Place
+destination_at ts i = destination_of (transfer_at ts i)
+
+-- one writes what the other reads, or they are two and write one block
+abbrev pub Collide : List Transfer → ℕ → ℕ → Type 0
+Collide ts i j = (destination_at ts i ≡ source_at ts j) ⊎ ((destination_at ts j ≡ source_at ts i) ⊎ ((i ≢ j) × (destination_at ts i ≡ destination_at ts j)))
+
+-- transfers i and j of the list, i at most j, overlap
+pub record Overlap (ts : List Transfer) (i j : ℕ) : Type 0 where
+  pub ordered : i ≤ j
+  pub within : j < length ts
+  pub collide : Collide ts i j
+
+-- no transfers of the list overlap
+abbrev pub IsApart : List Transfer → Type 0
+IsApart ts = (i j : ℕ) → Overlap ts i j → ⊥
+
+-- the pair i and j is before the pair k and l, or it is that pair
+abbrev pub IsPairUpTo : ℕ → ℕ → ℕ → ℕ → Type 0
+IsPairUpTo i j k l = (i < k) ⊎ ((i ≡ k) × (j ≤ l))
+
+-- the first pair that overlaps, by its first number and then by its second
+pub record IsFirstOverlap (ts : List Transfer) (i j : ℕ) : Type 0 where
+  pub overlap : Overlap ts i j
+  pub first : (k l : ℕ) → Overlap ts k l → IsPairUpTo i j k l

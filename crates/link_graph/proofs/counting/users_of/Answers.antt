@@ -1,0 +1,14 @@
+use Rattle.std.proofs.Common.{◌≡◌, ◌∙◌, true, false, arith, sym}
+use Rattle.link_graph.proofs.Users.{one_user, other_user, all_users}
+use Rattle.link_graph.proofs.counting.users_of.Goals as goal
+use Rattle.link_graph.proofs.counting.users_of.Goals.{then-uses_link+in_ok-push, else-uses_link}
+
+pub loop-t-preserved : goal.loop-t-preserved
+loop-t-preserved c =
+    elim c.if-uses_link.branch [
+      | then-uses_link+in_ok-push w ↦ rw w.users-is (rw w.in_ok-push.ensures.items (one_user _ _ _ _ c.loop-t.invariant (c.uses_link.ensures.0 w.if-uses_link.true)))
+      | else-uses_link w ↦ rw w.users-is (other_user _ _ _ _ (omega (arith, c.loop-t-test.true, c.len-t-end.ensures.value)) c.loop-t.invariant (λ used. let bad : false ≡ true = sym w.if-uses_link.false ∙ c.uses_link.ensures.1 used in cc))
+    ]
+
+pub returns-clause-users : goal.returns-clause-users
+returns-clause-users c = (all_users _ _ _ _ (omega (arith, c.loop-t-test.false, c.len-t-end.ensures.value)) c.loop-t.invariant).0

@@ -1,0 +1,102 @@
+ghost use Rattle.std.specs.Prelude.{◌≡◌, ◌≢◌, ◌<◌, ◌≤◌, ◌↔◌, ℕ, List, [], ◌++◌, length, replicate, true, false, All, IsTrue, IfOk, IfErr, IfSome, IfNone, OnOk};
+ghost use Rattle.std.specs.List.{concat};
+ghost use Rattle.std.specs.Option.{IsSomeAnd};
+ghost use Rattle.batch.specs.Batches.{IsBatch};
+ghost use Rattle.link_graph.specs.declared.check_fault.CheckFault.TheVariants.{NoMemory};
+ghost use Rattle.link_graph.specs.Uses.{Uses, IsMatching};
+ghost use Rattle.link_graph.specs.Schedules.{lists_of, IsScheduleOf};
+ghost use Rattle.link_graph.specs.Certificates.{Naming, naming, AreDistinct, IsShortest, IsCertificate};
+ghost use Rattle.link_graph.specs.Counts.{AreCounts};
+ghost use Rattle.link_graph.specs.Checks.{IsFirstWithout, IsFirstRepeated, IsFirstMissing, IsFirstClash, AreKnown, UsesNamed, IsFirstCheckFault};
+ghost use Rattle.link_graph.specs.Marks.{AreMarks};
+
+use crate::certificate::Certificate;
+use crate::check_fault::CheckFault;
+use crate::checking;
+use crate::schedule::Schedule;
+use batch::Batch;
+use std::alloc::Global;
+
+/// The schedule of a batch is shortest.
+#[derive(Clone, Copy, Debug, PartialEq, Eq)]
+pub struct Shortest {
+    /// How many settings it has: no schedule of the batch has fewer.
+    pub settings: usize,
+}
+
+/// Whether the lists, whose numbers are all those of transfers, are a schedule of the batch. The
+/// marks are one for each transfer.
+fn check_settings(batch: &Batch, lists: &[Vec<usize>], marks: &mut [bool]) -> Result<(), CheckFault>
+    requires known { AreKnown batch.now (lists_of lists.now) }
+    requires marks { marks.old ≡ replicate (length batch.now) false }
+    requires batch { IsBatch batch.now }
+    ensures ok { OnOk result (IsScheduleOf batch.now (lists_of lists.now)) }
+    ensures err { IfErr result (λ fault. fault ≢ NoMemory × ((named : Naming) → IsFirstCheckFault batch.now (lists_of lists.now) named fault)) }
+{
+    if let Some(t) = checking::first_repeated(marks, lists) {
+        return Err(CheckFault::Repeated(t));
+    }
+    if let Some(t) = checking::first_unmarked(marks) {
+        return Err(CheckFault::Missing(t));
+    }
+    if let Some((setting, link)) = checking::first_clash(batch, lists) {
+        return Err(CheckFault::Clash(setting, link));
+    }
+    Ok(())
+}
+
+/// Whether the certificate shows that a schedule of so many settings is shortest. The marks are one
+/// for each transfer.
+fn check_certificate(
+    batch: &Batch,
+    settings: usize,
+    certificate: &Certificate,
+    marks: &mut [bool],
+) -> Result<Shortest, CheckFault>
+    requires { length marks.old ≡ length batch.now }
+    ensures ok { IfOk result (λ shortest. (lists : List (List ℕ)) → IsScheduleOf batch.now lists → length lists ≡ settings → IsCertificate batch.now lists certificate.now × (shortest.settings ≡ settings)) }
+    ensures err { IfErr result (λ fault. fault ≢ NoMemory × ((lists : List (List ℕ)) → IsScheduleOf batch.now lists → length lists ≡ settings → IsFirstCheckFault batch.now lists certificate.now fault)) }
+{
+    let transfers = certificate.transfers();
+    if let Some(t) = checking::first_stray(batch, certificate.link(), transfers) {
+        return Err(CheckFault::WrongLink(t));
+    }
+    marks.fill(false);
+    if let Some(t) = checking::mark(marks, transfers) {
+        return Err(CheckFault::CertificateRepeats(t));
+    }
+    if settings != transfers.len() {
+        return Err(CheckFault::NotTight(settings, transfers.len()));
+    }
+    Ok(Shortest { settings })
+}
+
+/// Whether this is a schedule of the batch, and the certificate shows that none is shorter.
+///
+/// Answers what is first wrong, in the order in which [`CheckFault`] lists the faults. Memory is
+/// asked for once, one mark for each transfer, and not before all numbers are known. Takes time that
+/// grows with the numbers of transfers, of settings and of all that stands in the settings and in
+/// the certificate.
+pub fn check_schedule(
+    alloc: Global,
+    batch: &Batch,
+    schedule: &Schedule,
+    certificate: &Certificate,
+) -> Result<Shortest, CheckFault>
+    ensures schedule { OnOk result (IsScheduleOf batch.now schedule.now) }
+    ensures certificate { OnOk result (IsCertificate batch.now schedule.now certificate.now) }
+    ensures shortest { OnOk result (IsShortest batch.now schedule.now) }
+    ensures settings { IfOk result (λ shortest. shortest.settings ≡ length schedule.now) }
+    ensures fault { IfErr result (λ fault. fault ≢ NoMemory → IsFirstCheckFault batch.now schedule.now certificate.now fault) }
+    ensures accepted { IsScheduleOf batch.now schedule.now → IsCertificate batch.now schedule.now certificate.now → IfErr result (λ fault. fault ≡ NoMemory) }
+    ensures memory { IfErr result (λ fault. fault ≡ NoMemory → AreKnown batch.now schedule.now) }
+{
+    let count = batch.len();
+    let lists = schedule.lists();
+    if let Some(t) = checking::first_unknown(lists, count) {
+        return Err(CheckFault::Unknown(t));
+    }
+    let mut marks = vec![in alloc; false; count]?;
+    check_settings(batch, lists, &mut marks)?;
+    check_certificate(batch, lists.len(), certificate, &mut marks)
+}

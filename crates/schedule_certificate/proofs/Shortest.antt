@@ -1,0 +1,48 @@
+-- A schedule with no more settings than the busiest link has uses is shortest, as that link's transfers show (Koenig 1916).
+use Rattle.std.proofs.Common.{◌≡◌, ℕ, ◌≤◌, List, [], ◌∷◌, length, Option, Some, None, refl, arith}
+use Rattle.batch.specs.declared.transfer.Transfer.{Transfer}
+use Rattle.batch.specs.Batches.{IsBatch}
+use Rattle.link_graph.specs.declared.link.Link.{Link}
+use Rattle.link_graph.specs.Counts.{uses}
+use Rattle.link_graph.specs.Certificates.{Naming, AreDistinct, CertifiesBy}
+use Rattle.link_graph.proofs.Koenig.{at_least, certified}
+use Rattle.link_graph.proofs.Users.{counted, uses_few}
+use Rattle.alternating_path.specs.Classes.{ColouredSettings}
+use Rattle.schedule_certificate.specs.Plans.{NamesBusiest, IsPlan, IsColoured}
+
+no_settings : (settings : List (List ℕ)) → length settings ≤ 0 → settings ≡ []
+no_settings [] few = refl
+no_settings (s ∷ settings) few = absurd (omega (arith, few))
+
+unused : (batch : List Transfer) (link : Link) → batch ≡ [] → uses batch link ≤ 0
+unused batch link empty = rw empty (omega arith)
+
+certifies : (batch : List Transfer) (coloured : ColouredSettings) (link : Option Link) (named : List ℕ) → IsColoured batch coloured → NamesBusiest batch link named → CertifiesBy batch coloured.settings link named
+certifies batch coloured None named c names = record {
+  batch_empty = names.0;
+  none_named = names.1;
+  no_settings = no_settings coloured.settings (c.most 0 (λ link. unused batch link names.0));
+}
+certifies batch coloured (Some link) named c names =
+    let distinct : AreDistinct named = λ i j d less within same. omega (arith, names.1.ascending i j d less within, same) in
+    record {
+      some = omega (arith, counted batch link named names.1, names.0.used);
+      all_use = names.1.each;
+      distinct = distinct;
+      many = omega (arith, counted batch link named names.1, c.most (uses batch link) names.0.most, at_least batch link named coloured.settings names.1.each distinct c.schedule);
+    }
+
+pub is_plan : (batch : List Transfer) (coloured : ColouredSettings) (named : Naming) → IsBatch batch → IsColoured batch coloured → NamesBusiest batch named.link named.transfers
+    → IsPlan record { batch = batch; settings = coloured.settings; named = named; reinserted = coloured.inserted }
+is_plan batch coloured named fits c names =
+    let certificate = certifies batch coloured named.link named.transfers c names in
+    record {
+      fits = fits;
+      shortest = certified batch coloured.settings named c.schedule certificate;
+      certificate = certificate;
+      busiest = names;
+      none_empty = c.none_empty;
+      ascending = c.ascending;
+      by_least = c.by_least;
+      few = c.most (length batch) (λ link. uses_few batch link);
+    }

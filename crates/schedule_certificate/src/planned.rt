@@ -1,0 +1,95 @@
+ghost use Rattle.std.specs.Prelude.{◌≡◌, IfOk, Some, None};
+ghost use Rattle.schedule_certificate.specs.Plans.{IsPlan};
+
+use alternating_path::Coloured;
+use batch::Batch;
+use link_graph::{Certificate, Schedule};
+use std::alloc::AllocError;
+use std::marker::Model;
+
+/// A batch with a shortest schedule of it, and the certificate that shows that none is shorter.
+///
+/// No setting is empty, so there are at most as many as transfers. Numbers ascend in each setting,
+/// and the settings are in the order of their least numbers. The certificate names the busiest link,
+/// the first in the order of links among equals, and all transfers that use it, ascending.
+#[derive(Drop)]
+pub struct Planned {
+    batch: Batch,
+    coloured: Coloured,
+    certificate: Certificate,
+}
+
+impl Model for Planned {
+    ghost use Rattle.schedule_certificate.specs.Plans.{Plan, IsPlan};
+
+    ghost Value = { Plan };
+
+    ghost view = { λ p. record { batch = p.batch; settings = p.coloured.settings; named = p.certificate; reinserted = p.coloured.inserted } };
+
+    ghost invariant = { λ p. IsPlan (record { batch = p.batch; settings = p.coloured.settings; named = p.certificate; reinserted = p.coloured.inserted }) };
+}
+
+impl Planned {
+    pub(crate) fn of(batch: Batch, coloured: Coloured, certificate: Certificate) -> Planned
+        requires { IsPlan (record { batch = batch; settings = coloured.settings; named = certificate; reinserted = coloured.inserted }) }
+        ensures { result ≡ record { batch = batch; settings = coloured.settings; named = certificate; reinserted = coloured.inserted } }
+    {
+        Planned {
+            batch,
+            coloured,
+            certificate,
+        }
+    }
+
+    /// The batch.
+    pub fn batch(&self) -> &Batch
+        ensures batch { result.now ≡ self.now.batch }
+        ensures plan { IsPlan self.now }
+    {
+        &self.batch
+    }
+
+    /// The schedule.
+    pub fn schedule(&self) -> &Schedule
+        ensures schedule { result.now ≡ self.now.settings }
+        ensures plan { IsPlan self.now }
+    {
+        self.coloured.schedule()
+    }
+
+    /// The certificate.
+    pub fn certificate(&self) -> &Certificate
+        ensures certificate { result.now ≡ self.now.named }
+        ensures plan { IsPlan self.now }
+    {
+        &self.certificate
+    }
+
+    /// How many transfers were put in one by one.
+    pub fn reinserted(&self) -> usize
+        ensures { result ≡ self.now.reinserted }
+    {
+        self.coloured.inserted()
+    }
+
+    /// An equal value. Takes time that grows with the number of transfers.
+    pub fn copy(&self) -> Result<Planned, AllocError>
+        ensures { IfOk result (λ copy. copy ≡ self.now) }
+    {
+        let batch = self.batch.copy()?;
+        let coloured = self.coloured.copy()?;
+        let certificate = copied(&self.batch, &self.certificate)?;
+        Ok(Planned::of(batch, coloured, certificate))
+    }
+}
+
+/// An equal certificate, on the batch's allocator.
+fn copied(batch: &Batch, certificate: &Certificate) -> Result<Certificate, AllocError>
+    ensures { IfOk result (λ copy. copy ≡ certificate.now) }
+{
+    let Some(link) = certificate.link() else {
+        return Ok(Certificate::none());
+    };
+    let transfers = certificate.transfers().to_vec(batch.allocator())?;
+    Ok(Certificate::of(link, transfers).unwrap())
+}
