@@ -1,0 +1,12 @@
+//! A count of failures that contracts alone see.
+//!
+//! A port or a wire that may fail keeps one and raises it in each call that fails. So a contract can say
+//! that a fault comes only where something failed. The count is bound to no machine word: no code can
+//! read it.
+#![tactic(auto)]
+
+mod count;
+#[cfg(test)]
+mod tests;
+
+pub use count::FailureCount;

@@ -1,0 +1,20 @@
+//! The count is made and raised. Nothing can be seen of it.
+
+ghost use Rattle.std.specs.Prelude.{◌≡◌};
+
+use crate::FailureCount;
+
+/// A count of two failures.
+fn two() -> FailureCount
+    ensures { result ≡ 2 }
+{
+    let mut count = FailureCount::zero();
+    count.raise();
+    count.raise();
+    count
+}
+
+#[test]
+fn counts_are_raised() {
+    let _count = two();
+}

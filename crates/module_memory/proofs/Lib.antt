@@ -1,0 +1,9 @@
+pub mod Blocks
+pub mod CoreLaw
+pub mod PartLaws
+pub mod Marking
+pub mod Addresses
+pub mod BayLaws
+pub mod SettingLaws
+pub mod StepLists
+pub mod PartedSettings

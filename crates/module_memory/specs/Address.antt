@@ -1,0 +1,68 @@
+-- The addresses of a module's words: INMOS IMS T414 data sheet, memory map (the words are from `WINDOW_START` on, four bytes each).
+-- That a module has one window of blocks is this project's choice.
+use Rattle.std.specs.Prelude.{Bool, ℕ, ◌≡◌, ◌≢◌, ◌<◌, ◌+◌, ◌-◌, ◌*◌, ◌/◌, ◌%◌, ◌&&◌, ◌==◌, nat_lt, nat_le, Option, Some, None, if◌then◌else◌, ◌⊎◌}
+use Rattle.batch.specs.Extent.{Extent, IsShape}
+use Rattle.batch.specs.declared.transfer.Place.{Place}
+use Rattle.batch.specs.Places.{HasPlace}
+use Rattle.module_memory.specs.declared.address.TheConstants.{WINDOW_START, WORD_BYTES}
+use Rattle.module_memory.specs.declared.fault.MemoryFault.{MemoryFault}
+use Rattle.module_memory.specs.declared.fault.MemoryFault.TheVariants.{NoModule, Misaligned, Outside}
+use Rattle.module_memory.specs.Store.{Store, word, set_word, IsWhole}
+
+-- the address of word j of block b
+abbrev pub address_of : Extent → ℕ → ℕ → ℕ
+address_of shape b j = WINDOW_START + WORD_BYTES * (b * shape.words + j)
+
+-- which word of its module an address is, counted over all blocks
+abbrev pub word_number : ℕ → ℕ
+word_number a = (a - WINDOW_START) / WORD_BYTES
+
+-- the block of a module's address, if it has that address
+abbrev pub place_of : Extent → ℕ → ℕ → Place
+place_of shape m a = record { «module» = m; block = word_number a / shape.words }
+
+-- which word of its block an address is
+abbrev pub index_of : Extent → ℕ → ℕ
+index_of shape a = word_number a % shape.words
+
+-- the address is in the window of a module
+abbrev pub is_inside : Extent → ℕ → Bool
+is_inside shape a = nat_le WINDOW_START a && nat_lt (word_number a) (shape.blocks * shape.words)
+
+-- why a module has no such address, if it hasn't: the first of three causes
+abbrev pub fault_of : Extent → ℕ → ℕ → Option MemoryFault
+fault_of shape m a =
+    if nat_lt m shape.modules
+    then (if a % WORD_BYTES == 0 then (if is_inside shape a then None else Some Outside) else Some Misaligned)
+    else Some NoModule
+
+-- the word at an address of a module
+abbrev pub word_at : Store → ℕ → ℕ → ℕ
+word_at s m a = word s (place_of s.shape m a) (index_of s.shape a)
+
+-- the store with this word at an address of a module, and all else as it was
+abbrev pub write_at : Store → ℕ → ℕ → ℕ → Store
+write_at s m a w = set_word s (place_of s.shape m a) (index_of s.shape a) w
+
+-- an address of module m is that of word j of a block of the module
+pub record IsAddress (shape : Extent) (m a : ℕ) (p : Place) (j : ℕ) : Type 0 where
+  pub place : HasPlace shape p
+  pub word : j < shape.words
+  pub number : p.«module» ≡ m
+  pub address : a ≡ address_of shape p.block j
+
+-- an address without a fault is that of a word of a block
+abbrev pub WindowsAreWhole : Type 0
+WindowsAreWhole = (shape : Extent) (m a : ℕ) → IsShape shape → fault_of shape m a ≡ None → IsAddress shape m a (place_of shape m a) (index_of shape a)
+
+-- the address of a word of a block has no fault, and is that of no other word
+abbrev pub AddressesAreKnown : Type 0
+AddressesAreKnown = (shape : Extent) (m a j : ℕ) (p : Place) → IsShape shape → IsAddress shape m a p j → (fault_of shape m a ≡ None) × (place_of shape m a ≡ p) × (index_of shape a ≡ j)
+
+-- a write changes the word at its address, and keeps the store whole
+abbrev pub WritesAreKept : Type 0
+WritesAreKept = (s : Store) (m a w : ℕ) → IsWhole s → fault_of s.shape m a ≡ None → IsWhole (write_at s m a w) × (word_at (write_at s m a w) m a ≡ w)
+
+-- a write changes no word at another address of the shape
+abbrev pub WritesAreApart : Type 0
+WritesAreApart = (s : Store) (m a n b w : ℕ) → IsWhole s → fault_of s.shape m a ≡ None → fault_of s.shape n b ≡ None → (m ≢ n) ⊎ (a ≢ b) → word_at (write_at s m a w) n b ≡ word_at s n b

@@ -1,0 +1,103 @@
+-- The machine that moves the words of a setting's transfers, one word of one transfer at a time. This project's choice.
+use Rattle.std.specs.Prelude.{ℕ, ◌≡◌, ◌≢◌, ◌≤◌, ◌<◌, ◌+◌, ◌==◌, List, [], ◌∷◌, ◌++◌, length, map, take, drop, slice_index, slice_set, count_by, All}
+use Rattle.batch.specs.declared.transfer.Place.{Place}
+use Rattle.batch.specs.declared.transfer.Transfer.{Transfer}
+use Rattle.batch.specs.Places.{HasPlace, source_of, destination_of}
+use Rattle.batch.specs.Overlap.{transfer_at, source_at, destination_at, IsApart}
+use Rattle.batch.specs.Extent.{Extent}
+use Rattle.module_memory.specs.Store.{Store, IsWhole, block_of, word, set_word}
+
+-- a store, and how many words each transfer of a setting has moved
+pub record Core : Type 0 where
+  pub store : Store
+  pub moved : List ℕ
+
+-- before any step
+abbrev pub at_start : Store → List Transfer → Core
+at_start s ts = record { store = s; moved = map (λ _. 0) ts }
+
+-- word j of the transfer's source, as it now is, copied to its destination
+abbrev pub copy_word : Store → Transfer → ℕ → Store
+copy_word s t j = set_word s (destination_of t) j (word s (source_of t) j)
+
+-- transfer i moves its next word
+abbrev pub step : List Transfer → Core → ℕ → Core
+step ts c i = record {
+  store = copy_word c.store (transfer_at ts i) (slice_index c.moved i);
+  moved = slice_set c.moved i (slice_index c.moved i + 1);
+}
+
+-- the transfers of these numbers move a word each, in this order
+abbrev pub run : List Transfer → Core → List ℕ → Core
+run ts c [] = c
+run ts c (i ∷ steps) = run ts (step ts c i) steps
+
+-- how often a step list has transfer i
+abbrev pub times : ℕ → List ℕ → ℕ
+times i steps = count_by (λ k. k == i) steps
+
+-- steps of these transfers, each at most as often as a block has words
+pub record IsStepList (ts : List Transfer) (words : ℕ) (steps : List ℕ) : Type 0 where
+  pub known : All (λ i. i < length ts) steps
+  pub bounded : (i : ℕ) → i < length ts → times i steps ≤ words
+
+-- steps of these transfers, each as often as a block has words
+pub record IsComplete (ts : List Transfer) (words : ℕ) (steps : List ℕ) : Type 0 where
+  pub known : All (λ i. i < length ts) steps
+  pub complete : (i : ℕ) → i < length ts → times i steps ≡ words
+
+-- the blocks of the transfers exist
+abbrev pub FitsIn : Extent → List Transfer → Type 0
+FitsIn shape ts = (i : ℕ) → i < length ts → HasPlace shape (source_at ts i) × HasPlace shape (destination_at ts i)
+
+-- no transfer of the list writes the block
+abbrev pub IsUnwritten : List Transfer → Place → Type 0
+IsUnwritten ts p = (i : ℕ) → i < length ts → destination_at ts i ≢ p
+
+-- the store of the counts: each destination begins with the words that its transfer has moved, as they were in its source, and all else is old
+pub record IsMoved (old : Store) (ts : List Transfer) (moved : ℕ → ℕ) (new : Store) : Type 0 where
+  pub same_shape : new.shape ≡ old.shape
+  pub same_length : length new.blocks ≡ length old.blocks
+  pub destinations : (i : ℕ) → i < length ts → block_of new (destination_at ts i) ≡ take (moved i) (block_of old (source_at ts i)) ++ drop (moved i) (block_of old (destination_at ts i))
+  pub others : (p : Place) → HasPlace old.shape p → IsUnwritten ts p → block_of new p ≡ block_of old p
+
+-- all blocks of the transfers are placed at once: each destination has the words that its source had, and all else is old
+pub record IsPlaced (old : Store) (ts : List Transfer) (new : Store) : Type 0 where
+  pub same_shape : new.shape ≡ old.shape
+  pub same_length : length new.blocks ≡ length old.blocks
+  pub destinations : (i : ℕ) → i < length ts → block_of new (destination_at ts i) ≡ block_of old (source_at ts i)
+  pub others : (p : Place) → HasPlace old.shape p → IsUnwritten ts p → block_of new p ≡ block_of old p
+
+-- the transfers of a setting, by their numbers in the batch
+abbrev pub setting_of : List Transfer → List ℕ → List Transfer
+setting_of batch numbers = map (transfer_at batch) numbers
+
+-- numbers of the batch, each at most once
+pub record IsSetting (batch : List Transfer) (numbers : List ℕ) : Type 0 where
+  pub known : All (λ t. t < length batch) numbers
+  pub distinct : (i j : ℕ) → i < length numbers → j < length numbers → slice_index numbers i ≡ slice_index numbers j → i ≡ j
+
+-- a whole store, a batch of its blocks that doesn't overlap, and some of its numbers
+pub record IsReady (s : Store) (batch : List Transfer) (numbers : List ℕ) : Type 0 where
+  pub whole : IsWhole s
+  pub places : FitsIn s.shape batch
+  pub apart : IsApart batch
+  pub setting : IsSetting batch numbers
+
+-- whichever order a setting's words move in, all of them, there is one store at the end
+abbrev pub OneEnd : Type 0
+OneEnd = (s : Store) (batch : List Transfer) (numbers : List ℕ) → IsReady s batch numbers
+    → let ts = setting_of batch numbers in (a b : List ℕ) → IsComplete ts s.shape.words a → IsComplete ts s.shape.words b
+    → (run ts (at_start s ts) a).store ≡ (run ts (at_start s ts) b).store
+
+-- after a complete step list all blocks of the setting are placed
+abbrev pub EndIsPlaced : Type 0
+EndIsPlaced = (s : Store) (batch : List Transfer) (numbers : List ℕ) → IsReady s batch numbers
+    → let ts = setting_of batch numbers in (steps : List ℕ) → IsComplete ts s.shape.words steps
+    → IsPlaced s ts (run ts (at_start s ts) steps).store
+
+-- wherever the machine stops, a destination begins with the words that were moved, as its source had them, and nothing else has changed
+abbrev pub EachPrefix : Type 0
+EachPrefix = (s : Store) (batch : List Transfer) (numbers : List ℕ) → IsReady s batch numbers
+    → let ts = setting_of batch numbers in (steps : List ℕ) → IsStepList ts s.shape.words steps
+    → IsMoved s ts (λ i. times i steps) (run ts (at_start s ts) steps).store

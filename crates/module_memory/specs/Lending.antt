@@ -1,0 +1,68 @@
+-- A rack of which some blocks are lent: bays that own the words of their blocks, and the rest. This project's choice.
+use Rattle.std.specs.Prelude.{ℕ, ◌≡◌, ◌≢◌, ◌<◌, List, [], ◌∷◌, length, map, slice_index_or, All}
+use Rattle.batch.specs.Extent.{Extent}
+use Rattle.batch.specs.declared.transfer.Place.{Place}
+use Rattle.batch.specs.Places.{HasPlace}
+use Rattle.module_memory.specs.declared.fault.LendFault.{LendFault}
+use Rattle.module_memory.specs.declared.fault.LendFault.TheVariants.{SamePlace, NoPlace, NoMemory}
+use Rattle.module_memory.specs.Store.{Store, IsWhole, block_of, set_block}
+
+-- a block that is lent: where it stands, and its words
+pub record Lent : Type 0 where
+  pub place : Place
+  pub words : List ℕ
+
+-- the place at a position of a list; past the end, one that no clause speaks of
+abbrev pub place_in : List Place → ℕ → Place
+place_in places i = slice_index_or places i (record { «module» = 0; block = 0 })
+
+-- the bay at a position of a list; past the end, one that no clause speaks of
+abbrev pub bay_in : List Lent → ℕ → Lent
+bay_in bays k = slice_index_or bays k (record { place = record { «module» = 0; block = 0 }; words = [] })
+
+-- the places of bays
+abbrev pub places_of : List Lent → List Place
+places_of bays = map (λ (b : Lent). b.place) bays
+
+-- the places before the one at a position exist
+abbrev pub ExistBefore : Extent → List Place → ℕ → Type 0
+ExistBefore shape places i = (k : ℕ) → k < i → HasPlace shape (place_in places k)
+
+-- the places before the one at a position are different
+abbrev pub DifferBefore : List Place → ℕ → Type 0
+DifferBefore places i = (j k : ℕ) → j < k → k < i → place_in places j ≢ place_in places k
+
+-- the place stands before too
+abbrev pub StandsBefore : List Place → ℕ → Type 0
+StandsBefore places i = (k : ℕ) × (k < i) × (place_in places k ≡ place_in places i)
+
+-- the places exist, and no two are one
+pub record AreLendable (shape : Extent) (places : List Place) : Type 0 where
+  pub exist : ExistBefore shape places (length places)
+  pub distinct : DifferBefore places (length places)
+
+-- The first place at fault. That a place doesn't exist is looked at first, over all places, and memory is asked for last, where
+-- there is something to lend.
+abbrev pub IsLendFault : Extent → List Place → LendFault → Type 0
+IsLendFault shape places (NoPlace i) = (i < length places) × (HasPlace shape (place_in places i) → ⊥) × ExistBefore shape places i
+IsLendFault shape places (SamePlace i) = ExistBefore shape places (length places) × (i < length places) × StandsBefore places i × DifferBefore places i
+IsLendFault shape places NoMemory = AreLendable shape places × (0 < length places)
+
+-- the bays of these places
+abbrev pub bays_of : Store → List Place → List Lent
+bays_of s places = map (λ p. record { place = p; words = block_of s p }) places
+
+-- what stays: no words at these places
+abbrev pub without : Store → List Place → Store
+without s [] = s
+without s (p ∷ places) = without (set_block s p []) places
+
+-- the store of the rest and the bays: the words of each bay in its place
+abbrev pub joined : Store → List Lent → Store
+joined rest [] = rest
+joined rest (b ∷ bays) = joined (set_block rest b.place b.words) bays
+
+-- the bays have places of the rack, and nothing is missing
+pub record Rejoins (rest : Store) (bays : List Lent) : Type 0 where
+  pub exist : All (λ (b : Lent). HasPlace rest.shape b.place) bays
+  pub whole : IsWhole (joined rest bays)

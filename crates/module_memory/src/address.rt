@@ -1,0 +1,68 @@
+//! Where the words of a module stand.
+
+ghost use Rattle.std.specs.Prelude.{◌≡◌, ◌<◌, ◌*◌, Some, None, MatchOption, MatchResult};
+ghost use Rattle.batch.specs.Extent.{IsShape};
+ghost use Rattle.batch.specs.Places.{HasPlace, place_index};
+ghost use Rattle.module_memory.specs.Address.{fault_of, place_of, index_of as word_index};
+
+use crate::fault::MemoryFault;
+use batch::{Place, Shape};
+
+/// The address at which the window of each module begins: the first one behind the two kilobytes of an
+/// IMS T414's memory on the chip (data sheet, memory map). That the window begins here is this
+/// project's choice.
+pub const WINDOW_START: u32 = 0x8000_0800;
+
+/// How many bytes a word has (IMS T414 data sheet).
+pub const WORD_BYTES: u32 = 4;
+
+/// One word of a rack.
+#[derive(Clone, Copy)]
+pub struct Site {
+    pub place: Place,
+    pub word: usize,
+}
+
+/// Where a block stands among all blocks, where the shape has it.
+pub fn index_of(shape: Shape, place: Place) -> Option<usize>
+    ensures value { MatchOption result (HasPlace shape place → ⊥) (λ k. HasPlace shape place × (k ≡ place_index shape place) × (k < shape.modules * shape.blocks)) }
+    ensures within { IsShape shape }
+{
+    let blocks = shape.blocks();
+    if place.module < shape.modules() && place.block < blocks {
+        Some(place.module * blocks + place.block)
+    } else {
+        None
+    }
+}
+
+/// The word that stands at an address of a module.
+pub fn site_of(shape: Shape, module: usize, address: u32) -> Result<Site, MemoryFault>
+    ensures { MatchResult result
+        (λ s. (fault_of shape «module» address ≡ None) × (s.place ≡ place_of shape «module» address) × (s.word ≡ word_index shape address) × HasPlace shape s.place × (s.word < shape.words))
+        (λ e. fault_of shape «module» address ≡ Some e) }
+{
+    let words = shape.words();
+    let all_words = shape.blocks() * words;
+    if module >= shape.modules() {
+        return Err(MemoryFault::NoModule);
+    }
+    if address % WORD_BYTES != 0 {
+        return Err(MemoryFault::Misaligned);
+    }
+    if address < WINDOW_START {
+        return Err(MemoryFault::Outside);
+    }
+    let number = ((address - WINDOW_START) / WORD_BYTES) as usize;
+    if number >= all_words {
+        return Err(MemoryFault::Outside);
+    }
+    let place = Place {
+        module,
+        block: number / words,
+    };
+    Ok(Site {
+        place,
+        word: number % words,
+    })
+}

@@ -1,0 +1,93 @@
+ghost use Rattle.std.specs.Prelude.{◌≡◌, ◌<◌, ◌+◌, ◌^◌, [], length, replicate, slice_index, slice_set, slice_get, IfOk};
+ghost use Rattle.std.specs.List.{range_with_len};
+
+use std::alloc::{AllocError, Global};
+use std::marker::Model;
+
+/// The words of one block. Contracts see the list of them.
+#[derive(Drop)]
+pub struct Block {
+    words: Vec<u32>,
+}
+
+impl Model for Block {
+    ghost use Rattle.std.specs.Prelude.{ℕ, List};
+
+    ghost Value = { List ℕ };
+
+    ghost view = { λ b. b.words.items };
+}
+
+impl Block {
+    /// A block of zeros.
+    pub fn zeros(alloc: Global, words: usize) -> Result<Block, AllocError>
+        ensures { IfOk result (λ b. b ≡ replicate words 0) }
+    {
+        let words = vec![in alloc; 0u32; words]?;
+        Ok(Block { words })
+    }
+
+    /// A block without words. It takes no memory.
+    pub fn empty(&self) -> Block
+        ensures { result ≡ [] }
+    {
+        Block {
+            words: Vec::new(*self.words.allocator()),
+        }
+    }
+
+    /// An equal block.
+    pub fn copy(&self) -> Result<Block, AllocError>
+        ensures { IfOk result (λ b. b ≡ self.now) }
+    {
+        let words = self.words.clone()?;
+        Ok(Block { words })
+    }
+
+    /// How many words there are.
+    pub fn len(&self) -> usize
+        ensures { result ≡ length self.now }
+    {
+        self.words.len()
+    }
+
+    /// All words.
+    pub fn as_slice(&self) -> &[u32]
+        ensures { result.now ≡ self.now }
+    {
+        self.words.as_slice()
+    }
+
+    /// Word `j`, where there is one.
+    pub fn word(&self, j: usize) -> Option<u32>
+        ensures { result ≡ slice_get self.now j }
+    {
+        self.words.get(j).copied()
+    }
+
+    /// Word `j`, which there is.
+    pub fn at(&self, j: usize) -> u32
+        requires { j < length self.now }
+        ensures { result ≡ slice_index self.now j }
+    {
+        self.words[j]
+    }
+
+    /// Writes word `j`.
+    pub fn set(&mut self, j: usize, word: u32)
+        requires { j < length self.old }
+        ensures { self.new ≡ slice_set self.old j word }
+    {
+        self.words[j] = word;
+    }
+
+    /// Makes each word one more than the one before it.
+    pub fn count_from(&mut self, first: u32)
+        requires { first + length self.old < 2 ^ 32 }
+        ensures { self.new ≡ range_with_len first (length self.old) }
+    {
+        for j in 0..self.words.len() {
+            self.words[j] = first + j as u32;
+        }
+    }
+}

@@ -1,0 +1,34 @@
+//! What can go wrong with addresses and with lending.
+
+use thiserror::Error;
+
+/// Why a word can't be read or written. The causes are tested in this order, which is this project's
+/// choice.
+#[derive(Clone, Copy, Debug, PartialEq, Eq, Error)]
+pub enum MemoryFault {
+    /// The rack has no such module.
+    #[error("no such module")]
+    NoModule,
+    /// The address is no multiple of four.
+    #[error("the address is misaligned")]
+    Misaligned,
+    /// The address isn't in the module's window.
+    #[error("the address is outside the window")]
+    Outside,
+}
+
+/// Why blocks can't be lent. Positions in the list of places are counted from 0.
+///
+/// `NoPlace` is tested first, over all places, and then `SamePlace`. This is the project's choice.
+#[derive(Clone, Copy, Debug, PartialEq, Eq, Error)]
+pub enum LendFault {
+    /// The place at this position stands before it too. It is the first such position.
+    #[error("place {0} is lent twice")]
+    SamePlace(usize),
+    /// The rack has no place as at this position. It is the first such position.
+    #[error("place {0} does not exist")]
+    NoPlace(usize),
+    /// There was no memory for the list of bays.
+    #[error("no memory")]
+    NoMemory,
+}

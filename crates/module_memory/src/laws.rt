@@ -1,0 +1,56 @@
+//! Laws of a rack's memories and of the machine that moves their words. They make no call.
+
+ghost use Rattle.module_memory.specs.Address.{AddressesAreKnown, WindowsAreWhole, WritesAreApart, WritesAreKept};
+ghost use Rattle.module_memory.specs.Bays.{BaysHoldTheCounts, BaysStayLent, BaysStayWhole, BlocksAreWide, LentBlockIsGone, LentBlockIsItsBay, OtherBlockIsTheRest, SetIsOneWord, SettingsHaveBays};
+ghost use Rattle.module_memory.specs.Core.{EachPrefix, EndIsPlaced, OneEnd};
+ghost use Rattle.module_memory.specs.Settings.{AllMovedIsPlaced, CountsAreReached, OneAfterAnother, OneStore, OthersStayReady, RunIsPlaced, StopIsMoved, WholeBatchIsPlaced};
+
+/// Where a batch doesn't overlap, the order in which the words of a setting move doesn't matter.
+pub fn any_order()
+    ensures one_end { OneEnd }
+    ensures placed { EndIsPlaced }
+    ensures each_prefix { EachPrefix }
+{}
+
+/// The addresses without a fault are just those of the words of the shape's blocks, each of one word.
+pub fn addresses()
+    ensures whole { WindowsAreWhole }
+    ensures known { AddressesAreKnown }
+{}
+
+/// A write changes the word at its address and no other.
+pub fn writes()
+    ensures kept { WritesAreKept }
+    ensures apart { WritesAreApart }
+{}
+
+/// A rack of which blocks are lent has the words of the bays and of the rest.
+pub fn bays()
+    ensures lent { LentBlockIsItsBay }
+    ensures gone { LentBlockIsGone }
+    ensures rest { OtherBlockIsTheRest }
+    ensures set { SetIsOneWord }
+    ensures stay_whole { BaysStayWhole }
+{}
+
+/// Parted at the destinations of settings, a rack has a bay for each transfer. What workers leave in the
+/// bays of a setting is the store of their counts.
+pub fn setting_bays()
+    ensures parted { SettingsHaveBays }
+    ensures wide { BlocksAreWide }
+    ensures counts { BaysHoldTheCounts }
+    ensures stay_lent { BaysStayLent }
+{}
+
+/// Settings one after another are all of their transfers at once, and those of a schedule are the whole
+/// batch.
+pub fn settings()
+    ensures run { RunIsPlaced }
+    ensures stopped { StopIsMoved }
+    ensures after { OneAfterAnother }
+    ensures ready { OthersStayReady }
+    ensures all_moved { AllMovedIsPlaced }
+    ensures whole_batch { WholeBatchIsPlaced }
+    ensures one_store { OneStore }
+    ensures reached { CountsAreReached }
+{}

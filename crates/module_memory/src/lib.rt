@@ -1,0 +1,21 @@
+//! The memories of a rack's modules.
+//!
+//! A [`Rack`] holds the words of all blocks. For a run it is parted: the blocks that are to be written
+//! are lent as [`Bay`]s, each of which owns its words, while the [`Rest`] can be read by all. The laws
+//! of this crate say that the order in which the words of a setting move doesn't matter.
+#![tactic(auto)]
+
+mod address;
+mod block;
+mod fault;
+pub mod laws;
+mod lendable;
+mod lending;
+mod rack;
+#[cfg(test)]
+mod tests;
+
+pub use address::{WINDOW_START, WORD_BYTES};
+pub use fault::{LendFault, MemoryFault};
+pub use lending::{Bay, Parted, Rest};
+pub use rack::{BLOCK_MARK, MODULE_MARK, Rack};

@@ -1,0 +1,5 @@
+pub mod WholeText
+pub mod SoFar
+pub mod BlockLaws
+pub mod Delivery
+pub mod OneText

@@ -1,0 +1,5 @@
+pub mod Messages
+pub mod Housed
+pub mod Effects
+pub mod Windows
+pub mod Blocks

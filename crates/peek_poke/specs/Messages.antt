@@ -1,0 +1,37 @@
+-- The messages to an answering end and their bytes: INMOS IMS T414 data sheet, peek and poke over a link.
+use Rattle.std.specs.Prelude.{ℕ, ◌≡◌, ◌<◌, ◌+◌, ◌^◌, ◌⊎◌, List, [], ◌∷◌, ◌++◌, length, Bool, All}
+use Rattle.std.specs.Int.{to_le_bytes}
+use Rattle.std.specs.List.{flat_map}
+use mir.Syntax.{w32}
+use Rattle.peek_poke.specs.declared.message.TheConstants.{POKE, PEEK, POKE_BYTES, PEEK_BYTES}
+use Rattle.peek_poke.specs.declared.message.Message.{Message}
+use Rattle.peek_poke.specs.declared.message.Message.TheVariants.{Poke, Peek}
+
+-- the four bytes of a word or an address, the least significant first
+abbrev pub word_bytes : ℕ → List ℕ
+word_bytes n = to_le_bytes w32 n
+
+-- the bytes of a message: its control byte, the address, and the word that a poke writes
+abbrev pub spell : Message → List ℕ
+spell (Poke address word) = POKE ∷ word_bytes address ++ word_bytes word
+spell (Peek address) = PEEK ∷ word_bytes address
+
+-- what a message names are words of 32 bits
+abbrev pub IsMessage : Message → Type 0
+IsMessage (Poke address word) = (address < 2 ^ 32) × (word < 2 ^ 32)
+IsMessage (Peek address) = address < 2 ^ 32
+
+-- less than a whole message: nothing, or the control byte of one and fewer bytes behind it than the message has
+abbrev pub IsPartial : List ℕ → Type 0
+IsPartial [] = Unit {0}
+IsPartial (control ∷ bytes) = ((control ≡ POKE) × (length bytes + 1 < POKE_BYTES)) ⊎ ((control ≡ PEEK) × (length bytes + 1 < PEEK_BYTES))
+
+-- an answering end: whether it has failed, and what has come of the next message
+pub record Pending : Type 0 where
+  pub failed : Bool
+  pub bytes : List ℕ
+
+-- a text is that of one list of messages and one rest, at most
+abbrev pub OneReading : Type 0
+OneReading = (messages others : List Message) (rest left : List ℕ) → All IsMessage messages → All IsMessage others → IsPartial rest → IsPartial left
+    → flat_map spell messages ++ rest ≡ flat_map spell others ++ left → (messages ≡ others) × (rest ≡ left)

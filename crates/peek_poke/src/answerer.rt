@@ -1,0 +1,129 @@
+//! The end of a module's link 3, which answers peek and poke.
+
+ghost use Rattle.std.specs.Prelude.{◌≡◌, ℕ, ◌≤◌, ◌↔◌, List, [], ◌∷◌, ◌++◌, true, false, IsTrue, IfOk, MatchResult, option_to_list};
+ghost use Rattle.peek_poke.specs.Messages.{IsPartial};
+ghost use Rattle.peek_poke.specs.Effects.{Does, Feeds, HasAnswered, IsRefused};
+
+use crate::fault::{AnswerFault, StoreFault};
+use crate::message::{Message, PEEK, PEEK_BYTES, POKE, POKE_BYTES, REPLY_BYTES, message_in};
+use crate::store::WordStore;
+use std::marker::Model;
+
+/// The answering end of a module: it takes the bytes of pokes and peeks one by one, as an IMS T414 does
+/// while it waits to boot from a link (data sheet). Unlike one, it answers at all times, until it has
+/// failed: this is the project's choice. Contracts see whether it has failed, and what has come of the
+/// next message.
+#[derive(Drop)]
+pub struct Answerer {
+    bytes: [u8; POKE_BYTES],
+    len: usize,
+    failed: bool,
+}
+
+impl Model for Answerer {
+    ghost use Rattle.std.specs.Prelude.{take, ◌<◌};
+    ghost use Rattle.peek_poke.specs.declared.message.TheConstants.{POKE_BYTES};
+    ghost use Rattle.peek_poke.specs.Messages.{IsPartial, Pending};
+
+    ghost Value = { Pending };
+
+    ghost view = { λ a. record { failed = a.failed; bytes = take a.len a.bytes } };
+
+    ghost invariant = { λ a. IsPartial (take a.len a.bytes) × (a.len < POKE_BYTES) };
+}
+
+impl Message {
+    /// Takes effect on a store: a poke writes its word, a peek answers the bytes of the word.
+    fn act<S: WordStore>(self, store: &mut S) -> Result<Option<[u8; REPLY_BYTES]>, StoreFault>
+        ensures { MatchResult result
+            (λ answer. Does S.read_gives S.write_gives store.old self answer store.new)
+            (λ fault. IsRefused S.read_gives S.write_gives store.old self fault × (store.new ≡ store.old)) }
+    {
+        match self {
+            Message::Poke { address, word } => {
+                store.write_word(address, word)?;
+                Ok(None)
+            }
+            Message::Peek { address } => {
+                let word = store.read_word(address)?;
+                Ok(Some(word.to_le_bytes()))
+            }
+        }
+    }
+}
+
+impl Answerer {
+    /// An end to which nothing has come.
+    pub fn new() -> Answerer
+        ensures { result ≡ record { failed = false; bytes = [] } }
+    {
+        Answerer {
+            bytes: [0; POKE_BYTES],
+            len: 0,
+            failed: false,
+        }
+    }
+
+    /// Whether it hasn't failed and nothing has come of a message.
+    pub fn at_rest(&self) -> bool
+        ensures { IsTrue result ↔ (self.now ≡ record { failed = false; bytes = [] }) }
+    {
+        !self.failed && self.len == 0
+    }
+
+    /// Takes the next byte, and answers the bytes of the word at the end of a peek.
+    ///
+    /// A message takes effect at its last byte, and nothing changes before. At a fault the store is as
+    /// before, and from then on every byte is answered `Failed`. A control byte above [`PEEK`] is refused
+    /// at once, an address at the last byte of its message.
+    pub fn feed<S: WordStore>(
+        &mut self,
+        store: &mut S,
+        byte: u8,
+    ) -> Result<Option<[u8; REPLY_BYTES]>, AnswerFault>
+        // This byte, with what came before it of its message.
+        ensures step { Feeds S.read_gives S.write_gives self.old store.old byte result self.new store.new }
+        // This byte as the end of all that has come, from whatever store on.
+        ensures text { (first : S) (text : List ℕ) (answers : List (List ℕ)) → HasAnswered S.read_gives S.write_gives first text answers self.old store.old
+            → IfOk result (λ answer. HasAnswered S.read_gives S.write_gives first (text ++ byte ∷ []) (answers ++ option_to_list answer) self.new store.new) }
+        ensures partial { IsPartial self.old.bytes × IsPartial self.new.bytes }
+    {
+        self.take_byte(store, byte)
+    }
+
+    fn take_byte<S: WordStore>(
+        &mut self,
+        store: &mut S,
+        byte: u8,
+    ) -> Result<Option<[u8; REPLY_BYTES]>, AnswerFault>
+        ensures step { Feeds S.read_gives S.write_gives self.old store.old byte result self.new store.new }
+        ensures partial { IsPartial self.old.bytes × IsPartial self.new.bytes }
+    {
+        if self.failed {
+            return Err(AnswerFault::Failed);
+        }
+        if self.len == 0 && byte > PEEK {
+            self.failed = true;
+            return Err(AnswerFault::Boot(byte));
+        }
+        self.bytes[self.len] = byte;
+        self.len += 1;
+        let whole = if self.bytes[0] == POKE {
+            POKE_BYTES
+        } else {
+            PEEK_BYTES
+        };
+        if self.len < whole {
+            return Ok(None);
+        }
+        self.len = 0;
+        let message = message_in(&self.bytes);
+        match message.act(store) {
+            Ok(answer) => Ok(answer),
+            Err(fault) => {
+                self.failed = true;
+                Err(AnswerFault::from(fault))
+            }
+        }
+    }
+}

@@ -1,0 +1,37 @@
+//! Wires between two modules.
+
+ghost use Rattle.std.specs.Prelude.{◌≡◌, ℕ, ◌<◌, ◌≤◌, IfOk, OnErr, IsOk};
+
+use crate::fault::WireFault;
+
+/// A line to an answering end and back. It carries bytes either way, one at a time.
+pub trait Wire {
+    /// How many calls have failed. Contracts alone see it.
+    ghost failures: { Self → ℕ };
+
+    /// The wire states that it never fails.
+    ghost never_fails: { Self → Type 0 };
+
+    /// Carries a byte to the other end, and gives what arrived there, which is that byte.
+    fn carry(&mut self, byte: u8) -> Result<u8, WireFault>
+        ensures arrived { IfOk result (λ arrived. arrived ≡ byte) }
+        // A fault comes only from a failure in this call, and failures are never taken back.
+        ensures fault { OnErr result (failures self.old < failures self.new) }
+        ensures counted { failures self.old ≤ failures self.new }
+        ensures sure { never_fails self.old → IsOk result }
+        ensures stays_sure { never_fails self.old → never_fails self.new };
+}
+
+/// Makes a wire for each transfer of a batch.
+pub trait WireMaker {
+    /// The wires that it makes.
+    type Line: Wire + Drop;
+
+    /// The maker states that the wire of this transfer never fails.
+    ghost is_sure: { Self → ℕ → Type 0 };
+
+    /// A wire for the transfer of this number, which has not failed as yet.
+    fn line(&self, transfer: usize) -> Self::Line
+        ensures fresh { Self.Line.failures result ≡ 0 }
+        ensures sure { is_sure self.now transfer → Self.Line.never_fails result };
+}

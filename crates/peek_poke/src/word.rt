@@ -1,0 +1,117 @@
+//! Words moved over a wire, as messages to an answering end.
+
+ghost use Rattle.std.specs.Prelude.{◌≡◌, ◌<◌, ◌≤◌, [], Ok, false, IfOk, OnErr, OnOk, IsOk};
+ghost use Rattle.peek_poke.specs.Messages.{IsPartial};
+
+use crate::answerer::Answerer;
+use crate::fault::WireFault;
+use crate::message::{PEEK_BYTES, POKE_BYTES, REPLY_BYTES, peek_bytes, poke_bytes};
+use crate::store::WordStore;
+use crate::wire::Wire;
+
+/// Sends less than a whole message.
+fn send_front<W: Wire, S: WordStore>(
+    wire: &mut W,
+    answerer: &mut Answerer,
+    store: &mut S,
+    bytes: &[u8],
+) -> Result<(), WireFault>
+    requires rest { answerer.old ≡ record { failed = false; bytes = [] } }
+    requires partial { IsPartial bytes.now }
+    ensures sent { OnOk result (answerer.new ≡ record { failed = false; bytes = bytes.now }) }
+    ensures unchanged { store.new ≡ store.old }
+    ensures fault { OnErr result (W.failures wire.old < W.failures wire.new) }
+    ensures counted { W.failures wire.old ≤ W.failures wire.new }
+    ensures sure { W.never_fails wire.old → IsOk result }
+    ensures stays_sure { W.never_fails wire.old → W.never_fails wire.new }
+{
+    for byte in bytes {
+        let arrived = wire.carry(*byte)?;
+        match answerer.feed(store, arrived) {
+            Ok(_) => {}
+            Err(_) => unreachable!(),
+        }
+    }
+    Ok(())
+}
+
+/// Carries the bytes of a word back.
+fn carry_back<W: Wire>(
+    wire: &mut W,
+    bytes: [u8; REPLY_BYTES],
+) -> Result<[u8; REPLY_BYTES], WireFault>
+    ensures arrived { IfOk result (λ arrived. arrived ≡ bytes) }
+    ensures fault { OnErr result (W.failures wire.old < W.failures wire.new) }
+    ensures counted { W.failures wire.old ≤ W.failures wire.new }
+    ensures sure { W.never_fails wire.old → IsOk result }
+    ensures stays_sure { W.never_fails wire.old → W.never_fails wire.new }
+{
+    let [b0, b1, b2, b3] = bytes;
+    let c0 = wire.carry(b0)?;
+    let c1 = wire.carry(b1)?;
+    let c2 = wire.carry(b2)?;
+    let c3 = wire.carry(b3)?;
+    Ok([c0, c1, c2, c3])
+}
+
+/// Pokes a word over a wire: the bytes of the poke go forward, and the answering end writes the word.
+///
+/// The answering end has to be at rest, and the store has to take the write. At a fault the wire failed,
+/// the store is as before, and the answering end isn't to be used again.
+pub fn push_word<W: Wire, S: WordStore>(
+    wire: &mut W,
+    answerer: &mut Answerer,
+    store: &mut S,
+    address: u32,
+    word: u32,
+) -> Result<(), WireFault>
+    requires rest { answerer.old ≡ record { failed = false; bytes = [] } }
+    requires takes { IsOk (S.write_gives store.old address word) }
+    ensures written { OnOk result (S.write_gives store.old address word ≡ Ok store.new) }
+    ensures rest { OnOk result (answerer.new ≡ record { failed = false; bytes = [] }) }
+    ensures unchanged { OnErr result (store.new ≡ store.old) }
+    ensures fault { OnErr result (W.failures wire.old < W.failures wire.new) }
+    ensures counted { W.failures wire.old ≤ W.failures wire.new }
+    ensures sure { W.never_fails wire.old → IsOk result }
+    ensures stays_sure { W.never_fails wire.old → W.never_fails wire.new }
+{
+    let bytes = poke_bytes(address, word);
+    send_front(wire, answerer, store, &bytes[..POKE_BYTES - 1])?;
+    let last = wire.carry(bytes[POKE_BYTES - 1])?;
+    match answerer.feed(store, last) {
+        Ok(_) => Ok(()),
+        Err(_) => unreachable!(),
+    }
+}
+
+/// Peeks a word over a wire: the bytes of the peek go forward, and those of the word come back.
+///
+/// The answering end has to be at rest, and the store has to have the address. The store stays as it is.
+/// At a fault the wire failed, and the answering end isn't to be used again.
+pub fn pull_word<W: Wire, S: WordStore>(
+    wire: &mut W,
+    answerer: &mut Answerer,
+    store: &mut S,
+    address: u32,
+) -> Result<u32, WireFault>
+    requires rest { answerer.old ≡ record { failed = false; bytes = [] } }
+    requires has { IsOk (S.read_gives store.old address) }
+    ensures read { IfOk result (λ word. S.read_gives store.old address ≡ Ok word) }
+    ensures rest { OnOk result (answerer.new ≡ record { failed = false; bytes = [] }) }
+    ensures unchanged { store.new ≡ store.old }
+    ensures fault { OnErr result (W.failures wire.old < W.failures wire.new) }
+    ensures counted { W.failures wire.old ≤ W.failures wire.new }
+    ensures sure { W.never_fails wire.old → IsOk result }
+    ensures stays_sure { W.never_fails wire.old → W.never_fails wire.new }
+{
+    let bytes = peek_bytes(address);
+    send_front(wire, answerer, store, &bytes[..PEEK_BYTES - 1])?;
+    let last = wire.carry(bytes[PEEK_BYTES - 1])?;
+    match answerer.feed(store, last) {
+        Ok(Some(reply)) => {
+            let arrived = carry_back(wire, reply)?;
+            Ok(u32::from_le_bytes(arrived))
+        }
+        Ok(None) | Err(_) => unreachable!(),
+    }
+}
