@@ -1,4 +1,4 @@
--- Which transfers of a batch overlap: the order in which these move their words would show. This project's choice.
+-- Which transfers of a batch overlap: the order in which these move their words may show. This project's choice.
 use Rattle.std.specs.Prelude.{ℕ, ◌≡◌, ◌≢◌, ◌≤◌, ◌<◌, ◌⊎◌, List, length, slice_index_or}
 use Rattle.batch.specs.declared.transfer.Kind.TheVariants.{Push}
 use Rattle.batch.specs.declared.transfer.Place.{Place}

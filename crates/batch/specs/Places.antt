@@ -14,6 +14,7 @@ own_place t = record { «module» = t.initiator; block = t.own_block }
 abbrev pub far_place : Transfer → Place
 far_place t = record { «module» = t.responder; block = t.far_block }
 
+-- the one for a push, the other for a pull
 abbrev pub by_kind : Kind → Place → Place → Place
 by_kind Push of_push of_pull = of_push
 by_kind Pull of_push of_pull = of_pull

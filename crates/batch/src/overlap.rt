@@ -20,7 +20,7 @@ impl Batch {
     /// both write one block. The first number is as small as can be, and then the second. A transfer
     /// that writes the block that it reads overlaps itself: both numbers are its own.
     ///
-    /// Where no two overlap, the time grows with the number of transfers and of blocks; else it may grow
+    /// Where none overlap, the time grows with the number of transfers and of blocks; else it may grow
     /// with the square of the number of transfers. What overlaps is this project's choice.
     pub fn first_overlap(&self) -> Option<(usize, usize)>
         ensures none { IfNone result (IsApart self.now) }

@@ -3,7 +3,7 @@ ghost use Rattle.std.specs.Prelude.{◌≡◌, ◌+◌};
 use std::marker::Model;
 use std::snapshot::Snapshot;
 
-/// How often something has failed. Contracts see a number; the program sees nothing of it.
+/// How often something has failed. Contracts see a number; no call tells the program of it.
 #[derive(Drop)]
 pub struct FailureCount {
     // What the count was before it was last raised: a value that contracts alone see.

@@ -1,4 +1,4 @@
-//! The count is made and raised. Nothing can be seen of it.
+//! The count is made and raised. No call gives it out.
 
 ghost use Rattle.std.specs.Prelude.{◌≡◌};
 

@@ -8,7 +8,7 @@ use Rattle.module_memory.specs.Store.{Store, IsWhole, block_of, set_word}
 use Rattle.module_memory.specs.Core.{IsMoved, IsReady, setting_of}
 use Rattle.module_memory.specs.Lending.{Lent, place_in, bay_in, places_of, AreLendable, bays_of, without, joined, Rejoins}
 
--- a rest of a rack, and bays that were lent from it
+-- a rest with all blocks of its shape, and bays of different places of it
 pub record AreLent (rest : Store) (bays : List Lent) : Type 0 where
   pub lendable : AreLendable rest.shape (places_of bays)
   pub all_blocks : length rest.blocks ≡ rest.shape.modules * rest.shape.blocks

@@ -9,12 +9,12 @@ use Rattle.module_memory.specs.Core.{Core, at_start, run, times, IsStepList, IsC
 abbrev pub after_steps : Store → List Transfer → List ℕ → List ℕ → Core
 after_steps s batch numbers steps = run (setting_of batch numbers) (at_start s (setting_of batch numbers)) steps
 
--- the store goes through the settings, each with a complete step list of its own
+-- the store goes through the settings: in each of them every transfer moves all its words, in some order
 abbrev pub IsRun : Store → List Transfer → List (List ℕ) → Store → Type 0
 IsRun s batch [] t = t ≡ s
 IsRun s batch (numbers ∷ settings) t = (steps : List ℕ) × IsComplete (setting_of batch numbers) s.shape.words steps × IsRun (after_steps s batch numbers steps).store batch settings t
 
--- the store goes through the settings, and then stops in one more with any step list of it
+-- the store goes through the settings, and one more that is left off after some steps
 pub record IsStoppedRun (s : Store) (batch : List Transfer) (settings : List (List ℕ)) (numbers : List ℕ) (steps : List ℕ) (t : Store) : Type 0 where
   pub before : Store
   pub whole_settings : IsRun s batch settings before

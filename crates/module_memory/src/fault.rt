@@ -19,7 +19,8 @@ pub enum MemoryFault {
 
 /// Why blocks can't be lent. Positions in the list of places are counted from 0.
 ///
-/// `NoPlace` is tested first, over all places, and then `SamePlace`. This is the project's choice.
+/// A missing place is looked for in the whole list before any repeated one. This is the project's
+/// choice.
 #[derive(Clone, Copy, Debug, PartialEq, Eq, Error)]
 pub enum LendFault {
     /// The place at this position stands before it too. It is the first such position.

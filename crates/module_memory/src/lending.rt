@@ -138,7 +138,7 @@ impl Rest {
 
 impl Parted {
     /// The rack, with the words of each bay back in their place. Each block that was lent has to be there
-    /// as a bay, with all its words. Takes no memory.
+    /// as a bay, with all its words. Takes no memory, and time that grows with the number of bays.
     pub fn rejoin(self) -> Rack
         requires { Rejoins self.rest self.bays.items }
         ensures { result ≡ joined self.rest self.bays.items }

@@ -42,7 +42,8 @@ impl Model for Rack {
 }
 
 impl Rack {
-    /// A rack whose words are all 0. Takes memory for each block.
+    /// A rack whose words are all 0. Takes memory for each block, and time that grows with the number of
+    /// words.
     pub fn new(alloc: Global, shape: Shape) -> Result<Rack, AllocError>
         ensures { IfOk result (λ rack. rack ≡ zeros_of shape) }
     {
@@ -82,7 +83,7 @@ impl Rack {
         Some(block.as_slice())
     }
 
-    /// An equal rack. Takes memory for each block.
+    /// An equal rack. Takes memory for each block, and time that grows with the number of words.
     pub fn copy(&self) -> Result<Rack, AllocError>
         ensures { IfOk result (λ rack. rack ≡ self.now) }
     {
@@ -109,7 +110,7 @@ impl Rack {
         }
     }
 
-    /// The word at an address of a module, or the first cause why there is none.
+    /// The word at an address, in bytes, of a module, counted from 0; or the first cause why there is none.
     pub fn read(&self, module: usize, address: u32) -> Result<u32, MemoryFault>
         ensures { MatchResult result
             (λ word. (fault_of self.now.shape «module» address ≡ None) × (word ≡ word_at self.now «module» address))

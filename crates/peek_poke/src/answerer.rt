@@ -73,9 +73,10 @@ impl Answerer {
 
     /// Takes the next byte, and answers the bytes of the word at the end of a peek.
     ///
-    /// A message takes effect at its last byte, and nothing changes before. At a fault the store is as
-    /// before, and from then on every byte is answered `Failed`. A control byte above [`PEEK`] is refused
-    /// at once, an address at the last byte of its message.
+    /// A message takes effect at its last byte; until then its bytes do nothing. A control byte above
+    /// [`PEEK`] is answered `Boot` at once; an address that the store refuses is answered `Misaligned` or
+    /// `Outside` at the last byte of its message. A fault leaves the store as it is, and every byte
+    /// behind it is answered `Failed`.
     pub fn feed<S: WordStore>(
         &mut self,
         store: &mut S,
@@ -91,6 +92,7 @@ impl Answerer {
         self.take_byte(store, byte)
     }
 
+    /// The same, without what came before.
     fn take_byte<S: WordStore>(
         &mut self,
         store: &mut S,

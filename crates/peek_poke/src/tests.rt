@@ -366,6 +366,8 @@ fn words_are_pulled_into_a_bay(rt: HostRuntime) -> Result<(), Fail> {
 fn faults_are_printed(rt: HostRuntime) -> Result<(), Fail> {
     let boot = AnswerFault::Boot(2).to_string(rt.alloc())?;
     assert_eq!(rt; boot.as_str(), "no bootstrap is taken, of 2 bytes");
+    let failed = AnswerFault::Failed.to_string(rt.alloc())?;
+    assert_eq!(rt; failed.as_str(), "the answering end has failed");
     let outside = StoreFault::Outside.to_string(rt.alloc())?;
     assert_eq!(rt; outside.as_str(), "the address is outside the store");
     assert_eq!(rt;

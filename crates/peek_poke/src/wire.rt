@@ -1,6 +1,6 @@
 //! Wires between two modules.
 
-ghost use Rattle.std.specs.Prelude.{◌≡◌, ℕ, ◌<◌, ◌≤◌, IfOk, OnErr, IsOk};
+ghost use Rattle.std.specs.Prelude.{◌≡◌, ℕ, ◌<◌, ◌≤◌, IfOk, OnErr, OnOk, IsOk};
 
 use crate::fault::WireFault;
 
@@ -15,9 +15,10 @@ pub trait Wire {
     /// Carries a byte to the other end, and gives what arrived there, which is that byte.
     fn carry(&mut self, byte: u8) -> Result<u8, WireFault>
         ensures arrived { IfOk result (λ arrived. arrived ≡ byte) }
-        // A fault comes only from a failure in this call, and failures are never taken back.
+        // A fault is a failure in this call, and there are no others. They are never taken back.
         ensures fault { OnErr result (failures self.old < failures self.new) }
         ensures counted { failures self.old ≤ failures self.new }
+        ensures unfailed { OnOk result (failures self.new ≡ failures self.old) }
         ensures sure { never_fails self.old → IsOk result }
         ensures stays_sure { never_fails self.old → never_fails self.new };
 }

@@ -22,6 +22,7 @@ fn send_front<W: Wire, S: WordStore>(
     ensures unchanged { store.new ≡ store.old }
     ensures fault { OnErr result (W.failures wire.old < W.failures wire.new) }
     ensures counted { W.failures wire.old ≤ W.failures wire.new }
+    ensures unfailed { OnOk result (W.failures wire.new ≡ W.failures wire.old) }
     ensures sure { W.never_fails wire.old → IsOk result }
     ensures stays_sure { W.never_fails wire.old → W.never_fails wire.new }
 {
@@ -43,6 +44,7 @@ fn carry_back<W: Wire>(
     ensures arrived { IfOk result (λ arrived. arrived ≡ bytes) }
     ensures fault { OnErr result (W.failures wire.old < W.failures wire.new) }
     ensures counted { W.failures wire.old ≤ W.failures wire.new }
+    ensures unfailed { OnOk result (W.failures wire.new ≡ W.failures wire.old) }
     ensures sure { W.never_fails wire.old → IsOk result }
     ensures stays_sure { W.never_fails wire.old → W.never_fails wire.new }
 {
@@ -56,8 +58,8 @@ fn carry_back<W: Wire>(
 
 /// Pokes a word over a wire: the bytes of the poke go forward, and the answering end writes the word.
 ///
-/// The answering end has to be at rest, and the store has to take the write. At a fault the wire failed,
-/// the store is as before, and the answering end isn't to be used again.
+/// The answering end has to be at rest, and the store has to take the write. Nine bytes go over the
+/// wire. Where it breaks, nothing is written; a new answering end has to be made then.
 pub fn push_word<W: Wire, S: WordStore>(
     wire: &mut W,
     answerer: &mut Answerer,
@@ -72,6 +74,7 @@ pub fn push_word<W: Wire, S: WordStore>(
     ensures unchanged { OnErr result (store.new ≡ store.old) }
     ensures fault { OnErr result (W.failures wire.old < W.failures wire.new) }
     ensures counted { W.failures wire.old ≤ W.failures wire.new }
+    ensures unfailed { OnOk result (W.failures wire.new ≡ W.failures wire.old) }
     ensures sure { W.never_fails wire.old → IsOk result }
     ensures stays_sure { W.never_fails wire.old → W.never_fails wire.new }
 {
@@ -87,7 +90,7 @@ pub fn push_word<W: Wire, S: WordStore>(
 /// Peeks a word over a wire: the bytes of the peek go forward, and those of the word come back.
 ///
 /// The answering end has to be at rest, and the store has to have the address. The store stays as it is.
-/// At a fault the wire failed, and the answering end isn't to be used again.
+/// Five bytes go forward and four come back. Where the wire breaks, a new answering end has to be made.
 pub fn pull_word<W: Wire, S: WordStore>(
     wire: &mut W,
     answerer: &mut Answerer,
@@ -101,6 +104,7 @@ pub fn pull_word<W: Wire, S: WordStore>(
     ensures unchanged { store.new ≡ store.old }
     ensures fault { OnErr result (W.failures wire.old < W.failures wire.new) }
     ensures counted { W.failures wire.old ≤ W.failures wire.new }
+    ensures unfailed { OnOk result (W.failures wire.new ≡ W.failures wire.old) }
     ensures sure { W.never_fails wire.old → IsOk result }
     ensures stays_sure { W.never_fails wire.old → W.never_fails wire.new }
 {
