@@ -6,6 +6,7 @@ ghost use Rattle.batch.specs.declared.transfer.Transfer.{Transfer};
 ghost use Rattle.batch.specs.Extent.{Extent, IsShape, widest};
 ghost use Rattle.batch.specs.Text.{Denotes, IsNumeral, SpellsNumber};
 ghost use Rattle.batch.specs.Faults.{IsFirstFault};
+ghost use Rattle.batch.specs.ShapeText.{DenotesShape};
 
 use crate::shape::Shape;
 
@@ -14,6 +15,11 @@ pub fn one_reading()
     ensures batch { (shape : Extent) → IsShape shape → (text : List ℕ) (a b : List Transfer) → Denotes shape text a → Denotes shape text b → a ≡ b }
     ensures apart { (shape : Extent) → IsShape shape → (text : List ℕ) (a : List Transfer) (fault : BatchFault) → Denotes shape text a → IsFirstFault shape text fault → ⊥ }
     ensures fault { (shape : Extent) → IsShape shape → (text : List ℕ) (one other : BatchFault) → IsFirstFault shape text one → IsFirstFault shape text other → one ≡ other }
+{}
+
+/// A text denotes at most one shape.
+pub fn one_shape()
+    ensures { (text : List ℕ) (a b : Extent) → DenotesShape text a → DenotesShape text b → a ≡ b }
 {}
 
 /// The digits of a number are `0`, or a digit from 1 to 9 and at most eight digits behind it.

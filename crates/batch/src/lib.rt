@@ -12,6 +12,7 @@ mod limits;
 mod overlap;
 mod reading;
 mod shape;
+mod shape_reading;
 mod transfer;
 mod writing;
 

@@ -1,10 +1,10 @@
 //! The parts of a batch text, read from the left. Each reader gives what it has read and the rest.
 
-ghost use Rattle.std.specs.Prelude.{◌≡◌, ◌≢◌, ℕ, ◌+◌, ◌<◌, ◌≤◌, List, ◌++◌, IfSome, IfNone, IfOk, IfErr, length, ◌⊎◌, position, ◌==◌, ◌↔◌, IsTrue, slice_index};
+ghost use Rattle.std.specs.Prelude.{◌≡◌, ◌≢◌, ℕ, ◌+◌, ◌<◌, ◌≤◌, List, ◌++◌, IfSome, IfNone, IfOk, IfErr, length, position, ◌==◌, ◌↔◌, IsTrue, slice_index};
 ghost use Rattle.std.specs.Fmt.{decimal};
 ghost use Rattle.batch.specs.declared.transfer.Kind.{Kind};
 ghost use Rattle.batch.specs.declared.transfer.Transfer.{Transfer};
-ghost use Rattle.batch.specs.Text.{IsNumber, number, word, line, space, line_feed, IsWithin};
+ghost use Rattle.batch.specs.Text.{IsNumber, IsDigit, number, word, line, IsWithin};
 ghost use Rattle.batch.specs.declared.fault.BatchFault.TheVariants.{NoMemory};
 ghost use Rattle.batch.specs.Faults.{IsHeaded, BeginsWithLine, IsLineFault, AreTransfers, StopsAt, HasGrown};
 
@@ -47,9 +47,9 @@ fn first_place(bytes: &[u8], byte: u8) -> Option<usize>
     bytes.iter().position(|b| *b == byte)
 }
 
-/// A number and the byte that ends it.
-fn number_before(bytes: &[u8], end: u8) -> Option<(usize, &[u8])>
-    requires { (end ≡ space) ⊎ (end ≡ line_feed) }
+/// A number and the byte that ends it, which is no digit.
+pub(crate) fn number_before(bytes: &[u8], end: u8) -> Option<(usize, &[u8])>
+    requires { IsDigit end → ⊥ }
     ensures some { IfSome result (λ x. IsNumber x.0 × (bytes.now ≡ number x.0 end ++ x.1.now)) }
     ensures none { IfNone result ((n : ℕ) (rest : List ℕ) → IsNumber n → bytes.now ≢ number n end ++ rest) }
 {

@@ -134,6 +134,19 @@ fn shapes_have_limits(rt: HostRuntime) -> Result<(), Fail> {
 }
 
 #[test]
+fn shapes_are_read(rt: HostRuntime) {
+    assert_eq!(rt; Shape::read(b"3x2x2"), Shape::new(3, 2, 2));
+    assert_eq!(rt; Shape::read(b"16x64x256"), Ok(Shape::WIDEST));
+    for text in ["0x1x1", "17x1x1", "1x65x1", "1x1x257", "3x2", "03x2x2"] {
+        assert_eq!(rt;
+            Shape::read(text.as_bytes()),
+            Err(ShapeFault::BadShape),
+            "{text:?}"
+        );
+    }
+}
+
+#[test]
 fn faults_are_printed(rt: HostRuntime) -> Result<(), Fail> {
     let rows = [
         (BatchFault::Line(2), "line 2"),

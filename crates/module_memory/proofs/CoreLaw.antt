@@ -1,5 +1,5 @@
 use Rattle.std.proofs.Common.{zero, suc, Bool, eq-eqb, ne_eqb, ℕ, ◌≡◌, ◌≢◌, ◌≤◌, ◌<◌, ◌+◌, ◌==◌, cond, List, [], ◌∷◌, ◌++◌, length, map, take, drop, get_or, set, slice_index, refl, sym, ap, ap₂, ◌∙◌, subst, arith, length-set, get_or-set_same, get_or-set_other, ◌⊎◌, inl, inr, All, append_assoc, length-take-le, take_all}
-use Rattle.std.proofs.lemmas.List.{drop_more, take_more, set_at, ext_get_or, get_or-map, length-map, drop_all, append-nil}
+use Rattle.std.proofs.lemmas.List.{drop_more, take_more, set_at, get_or-map, length-map, drop_all, append-nil}
 use Rattle.std.proofs.lemmas.List.Sums.{sum_by-cons}
 use Rattle.std.proofs.lemmas.Bool.{cases_eq, cases_lt}
 use Rattle.batch.specs.Extent.{Extent}
@@ -8,9 +8,9 @@ use Rattle.batch.specs.declared.transfer.Transfer.{Transfer}
 use Rattle.batch.specs.Places.{HasPlace, place_index, source_of, destination_of}
 use Rattle.batch.specs.Overlap.{transfer_at, source_at, destination_at, IsApart, Collide}
 use Rattle.module_memory.specs.Store.{Store, IsWhole, block_of}
-use Rattle.module_memory.specs.Core.{Core, at_start, step, run, times, IsStepList, IsComplete, FitsIn, IsMoved, IsPlaced, setting_of, IsReady, OneEnd, EndIsPlaced, EachPrefix}
-use Rattle.batch.proofs.Places.{place_index_below, place_at, place_index-place_at, HasPlace-place_at}
-use Rattle.module_memory.proofs.Blocks.{same_or_not, block_of-set_same, block_of-set_other, block_at, store_from_parts, block_length}
+use Rattle.module_memory.specs.Core.{Core, at_start, step, run, times, IsStepList, IsComplete, FitsIn, IsUnwritten, IsMoved, IsPlaced, OnePlaced, setting_of, IsReady, OneEnd, EndIsPlaced, EachPrefix}
+use Rattle.batch.proofs.Places.{place_index_below}
+use Rattle.module_memory.proofs.Blocks.{same_or_not, block_of-set_same, block_of-set_other, same_store, block_length}
 
 -- the premises, of the setting's transfers alone
 pub record Premises (old : Store) (ts : List Transfer) : Type 0 where
@@ -174,20 +174,25 @@ find_destination (t ∷ ts) p =
       ]
     ]
 
+-- two stores are one where the destinations of transfers are the same in both, and all else is
+same_written : (old a b : Store) (ts : List Transfer) → IsWhole old → a.shape ≡ old.shape → b.shape ≡ old.shape → length a.blocks ≡ length old.blocks → length b.blocks ≡ length old.blocks
+    → ((i : ℕ) → i < length ts → block_of a (destination_at ts i) ≡ block_of b (destination_at ts i)) → ((p : Place) → HasPlace old.shape p → IsUnwritten ts p → block_of a p ≡ block_of b p) → a ≡ b
+same_written old a b ts whole ea eb la lb written others =
+    same_store old a b whole ea eb la lb (λ p hp. elim (find_destination ts p) [
+      | inl f ↦ subst (λ (q : Place). block_of a q ≡ block_of b q) f.2 (written f.0 f.1)
+      | inr none ↦ others p hp none
+    ])
+
 -- one end for equal counts
 pub same_end : (old : Store) (ts : List Transfer) → Premises old ts → (m : ℕ → ℕ) (a b : Store) → IsMoved old ts m a → IsMoved old ts m b → a ≡ b
 same_end old ts pr m a b ha hb =
-    store_from_parts a b (ha.same_shape ∙ sym hb.same_shape)
-    (ext_get_or [] a.blocks b.blocks (ha.same_length ∙ sym hb.same_length)
-    (λ k l.
-    let p = place_at old.shape k in
-    let hp : HasPlace old.shape p = HasPlace-place_at old.shape k pr.whole.within (omega (arith, ha.same_length, pr.whole.all_blocks)) in
-    let at = place_index-place_at old.shape k in
-    let same : block_of a p ≡ block_of b p = elim (find_destination ts p) [
-      | inl f ↦ subst (λ (q : Place). block_of a q ≡ block_of b q) f.2 (ha.destinations f.0 f.1 ∙ sym (hb.destinations f.0 f.1))
-      | inr none ↦ ha.others p hp none ∙ sym (hb.others p hp none)
-    ] in
-    sym (block_at a old.shape p k ha.same_shape at) ∙ same ∙ block_at b old.shape p k hb.same_shape at))
+    same_written old a b ts pr.whole ha.same_shape hb.same_shape ha.same_length hb.same_length
+    (λ i l. ha.destinations i l ∙ sym (hb.destinations i l)) (λ p hp none. ha.others p hp none ∙ sym (hb.others p hp none))
+
+pub one_placed : OnePlaced
+one_placed old a b ts whole ha hb =
+    same_written old a b ts whole ha.same_shape hb.same_shape ha.same_length hb.same_length
+    (λ i l. ha.destinations i l ∙ sym (hb.destinations i l)) (λ p hp none. ha.others p hp none ∙ sym (hb.others p hp none))
 
 -- a complete step list is a step list
 IsStepList-from_complete : (ts : List Transfer) (w : ℕ) (steps : List ℕ) → IsComplete ts w steps → IsStepList ts w steps

@@ -7,9 +7,9 @@ use Rattle.batch.specs.Places.{place_index}
 use Rattle.module_memory.specs.Store.{Store}
 use Rattle.batch.specs.declared.limits.TheConstants.{MAX_WORDS}
 use Rattle.module_memory.specs.declared.rack.TheConstants.{MODULE_MARK, BLOCK_MARK}
-use Rattle.module_memory.specs.Mark.{first_mark, IsMarked}
+use Rattle.module_memory.specs.Mark.{first_mark, IsMarked, OneMarked}
 use Rattle.batch.proofs.Places.{place_index_below}
-use Rattle.module_memory.proofs.Blocks.{block_at}
+use Rattle.module_memory.proofs.Blocks.{block_at, same_store}
 
 -- the first word of the block at an index
 abbrev pub mark_at : ℕ → ℕ → ℕ
@@ -38,3 +38,7 @@ marked_more f xs i ws l e h k m =
       | inl g ↦ subst (λ (x : ℕ). get_or (set xs i ws) x [] ≡ f x) (sym g) (get_or-set_same xs i ws [] l ∙ e)
       | inr n ↦ get_or-set_other xs i k ws [] n ∙ h k (omega arith)
     ]
+
+pub one_marked : OneMarked
+one_marked old a b whole ha hb =
+    same_store old a b whole ha.same_shape hb.same_shape ha.same_length hb.same_length (λ p hp. ha.words p hp ∙ sym (hb.words p hp))

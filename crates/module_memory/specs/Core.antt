@@ -68,6 +68,10 @@ pub record IsPlaced (old : Store) (ts : List Transfer) (new : Store) : Type 0 wh
   pub destinations : (i : ℕ) → i < length ts → block_of new (destination_at ts i) ≡ block_of old (source_at ts i)
   pub others : (p : Place) → HasPlace old.shape p → IsUnwritten ts p → block_of new p ≡ block_of old p
 
+-- there is one such store
+abbrev pub OnePlaced : Type 0
+OnePlaced = (old a b : Store) (ts : List Transfer) → IsWhole old → IsPlaced old ts a → IsPlaced old ts b → a ≡ b
+
 -- the transfers of a setting, by their numbers in the batch
 abbrev pub setting_of : List Transfer → List ℕ → List Transfer
 setting_of batch numbers = map (transfer_at batch) numbers

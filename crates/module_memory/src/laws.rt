@@ -2,7 +2,8 @@
 
 ghost use Rattle.module_memory.specs.Address.{AddressesAreKnown, WindowsAreWhole, WritesAreApart, WritesAreKept};
 ghost use Rattle.module_memory.specs.Bays.{BaysHoldTheCounts, BaysStayLent, BaysStayWhole, BlocksAreWide, LentBlockIsGone, LentBlockIsItsBay, OtherBlockIsTheRest, SetIsOneWord, SettingsHaveBays};
-ghost use Rattle.module_memory.specs.Core.{EachPrefix, EndIsPlaced, OneEnd};
+ghost use Rattle.module_memory.specs.Core.{EachPrefix, EndIsPlaced, OneEnd, OnePlaced};
+ghost use Rattle.module_memory.specs.Mark.{OneMarked};
 ghost use Rattle.module_memory.specs.Settings.{AllMovedIsPlaced, CountsAreReached, OneAfterAnother, OneStore, OthersStayReady, RunIsPlaced, StopIsMoved, WholeBatchIsPlaced};
 
 /// Where a batch doesn't overlap, the order in which the words of a setting move doesn't matter.
@@ -53,4 +54,10 @@ pub fn settings()
     ensures whole_batch { WholeBatchIsPlaced }
     ensures one_store { OneStore }
     ensures reached { CountsAreReached }
+{}
+
+/// There is one marked rack of a shape, and one store in which the blocks of transfers are placed.
+pub fn one_store()
+    ensures marked { OneMarked }
+    ensures placed { OnePlaced }
 {}

@@ -3,6 +3,7 @@
 ghost use Rattle.std.specs.Prelude.{◌≡◌, ℕ, ◌<◌, ◌≤◌, IfOk, OnErr, OnOk, IsOk};
 
 use crate::fault::WireFault;
+use std::marker::Send;
 
 /// A line to an answering end and back. It carries bytes either way, one at a time.
 pub trait Wire {
@@ -26,7 +27,7 @@ pub trait Wire {
 /// Makes a wire for each transfer of a batch.
 pub trait WireMaker {
     /// The wires that it makes.
-    type Line: Wire + Drop;
+    type Line: Wire + Drop + Send;
 
     /// The maker states that the wire of this transfer never fails.
     ghost is_sure: { Self → ℕ → Type 0 };
