@@ -6,3 +6,7 @@ pub mod Shown
 pub mod Held
 pub mod Step
 pub mod FirstSeen
+pub mod Joined
+pub mod Removed
+pub mod Smallest
+pub mod Singles

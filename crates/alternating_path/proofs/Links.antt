@@ -1,5 +1,5 @@
 -- The links of transfers, and their places in a row.
-use Rattle.std.proofs.Common.{◌≡◌, ℕ, ◌<◌, ◌⊎◌, inl, inr, List, length, slice_get, Option, Some, refl, sym, ap, ◌∙◌, subst, arith}
+use Rattle.std.proofs.Common.{◌≡◌, ℕ, ◌<◌, ◌≤◌, ◌⊎◌, inl, inr, List, length, slice_get, Option, Some, refl, sym, ap, ◌∙◌, subst, arith}
 use Rattle.std.specs.Prelude.{option_map}
 use Rattle.std.proofs.lemmas.List.{get_or_past}
 use Rattle.std.proofs.lemmas.Option.{slice_get-get_or, get_or_from_slice_get, slice_get_within, same_Some}
@@ -90,6 +90,15 @@ pub place_low : (g : List Transfer) (t : ℕ) (e : End) → IsBatch g → place_
 unfolding place_at link_at
 place_low g t Zero batch = let l = low g batch t in omega arith
 place_low g t Three batch = let l = low g batch t in omega arith
+
+-- the links 0 stand before the links 3
+pub start_low : (g : List Transfer) (t : ℕ) → IsBatch g → place_at g t Zero < MAX_MODULES
+unfolding place_at link_at
+start_low g t batch = (low g batch t).0
+
+pub answer_high : (g : List Transfer) (t : ℕ) → MAX_MODULES ≤ place_at g t Three
+unfolding place_at link_at
+answer_high g t = omega arith
 
 -- a common place of two transfers is at the same end of both
 pub same_end : (g : List Transfer) (t u : ℕ) (e o : End) → IsBatch g → place_at g t e ≡ place_at g u o → e ≡ o

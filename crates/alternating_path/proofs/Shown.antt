@@ -179,7 +179,7 @@ cells_after_take g k f h t c x at_t =
       ];
     }
 
-nothing_at : (n i : ℕ) → colour_at (replicate n None) i ≡ None
+pub nothing_at : (n i : ℕ) → colour_at (replicate n None) i ≡ None
 nothing_at n i = elim (cases_lt i n) [
   | inl within ↦ get_or-replicate n i None None within
   | inr past ↦ get_or_past _ i None (rw length-replicate past)

@@ -2,13 +2,14 @@
 use Rattle.std.specs.Prelude.{◌≡◌, ℕ, zero, suc, ◌+◌, ◌*◌, ◌<◌, List, length, map, Option, Some, None, Bool, false, ◌==◌, cond, slice_index_or}
 use Rattle.std.specs.List.{range_with_len}
 use Rattle.batch.specs.Batches.{IsBatch}
+use Rattle.batch.specs.declared.limits.TheConstants.{MAX_MODULES}
 use Rattle.batch.specs.declared.transfer.Transfer.{Transfer}
 use Rattle.link_graph.specs.declared.limits.TheConstants.{LINKS}
 use Rattle.link_graph.specs.declared.link.End.{End}
 use Rattle.link_graph.specs.declared.link.End.TheVariants.{Zero}
 use Rattle.link_graph.specs.Links.{index_of}
 use Rattle.alternating_path.specs.Ends.{link_at}
-use Rattle.alternating_path.specs.Colouring.{colour_at}
+use Rattle.alternating_path.specs.Colouring.{Colouring, colour_at}
 
 -- the place in a row of the link that transfer t uses at an end
 unfoldable pub place_at : List Transfer → ℕ → End → ℕ
@@ -47,3 +48,9 @@ pub record AreCellsOf (batch : List Transfer) (k : ℕ) (colour cells : List (Op
 -- the table's cells show the colouring that contracts see
 abbrev pub ShowColouring : List Transfer → ℕ → List (Option ℕ) → Type 0
 ShowColouring batch k cells = AreCellsOf batch k (shown_colours batch k cells) cells
+
+-- the transfers of colour c, each at the module whose link 0 it uses
+pub record AreStarts (s : Colouring) (c : ℕ) (row : List (Option ℕ)) : Type 0 where
+  pub sized : length row ≡ MAX_MODULES
+  pub held : (t : ℕ) → colour_at s.colour t ≡ Some c → slice_index_or row (place_at s.batch t Zero) None ≡ Some t
+  pub back : (m t : ℕ) → slice_index_or row m None ≡ Some t → (colour_at s.colour t ≡ Some c) × (place_at s.batch t Zero ≡ m)

@@ -1,7 +1,7 @@
 -- Partial edge colourings of the graph of a batch. Its nodes are the links, its edges the transfers; each edge joins a link 0 to a link 3, so the graph
 -- is a bipartite multigraph. D. König, "Über Graphen und ihre Anwendung auf Determinantentheorie und Mengenlehre", 1916: where d is the greatest number of
 -- edges at a node, d colours suffice for a proper edge colouring of all edges.
-use Rattle.std.specs.Prelude.{◌≡◌, ◌≢◌, ℕ, ◌<◌, ◌⊎◌, ◌↔◌, List, length, replicate, Option, Some, None, IsSome, slice_index_or}
+use Rattle.std.specs.Prelude.{◌≡◌, ◌≢◌, ℕ, ◌+◌, ◌<◌, ◌⊎◌, ◌↔◌, List, length, replicate, Option, Some, None, IsSome, slice_index_or}
 use Rattle.batch.specs.declared.transfer.Transfer.{Transfer}
 use Rattle.link_graph.specs.declared.link.Link.{Link}
 use Rattle.link_graph.specs.Uses.{Uses, AreApart}
@@ -42,3 +42,13 @@ pub record IsFree (batch : List Transfer) (colour : List (Option ℕ)) (link : L
 -- the transfers placed now are those placed before and t
 pub record PlacesJust (old new : List (Option ℕ)) (t : ℕ) : Type 0 where
   pub placed : (u : ℕ) → IsPlaced new u ↔ (IsPlaced old u ⊎ (u ≡ t))
+
+-- no transfer is placed in both
+abbrev pub ArePlacedApart : List (Option ℕ) → List (Option ℕ) → Type 0
+ArePlacedApart left right = (t : ℕ) → IsPlaced left t → IsPlaced right t → ⊥
+
+-- a transfer's colour where the colours of another table stand behind the k of this one
+abbrev pub joined_colour : ℕ → Option ℕ → Option ℕ → Option ℕ
+joined_colour k None None = None
+joined_colour k None (Some c) = Some (k + c)
+joined_colour k (Some c) other = Some c

@@ -13,6 +13,7 @@ mod coloured;
 mod fault;
 pub mod laws;
 mod limits;
+mod rows;
 mod table;
 
 pub use coloured::Coloured;

@@ -1,21 +1,22 @@
 //! Tables of edge colourings, and the insertion of an edge.
 
-ghost use Rattle.std.specs.Prelude.{◌≡◌, ℕ, ◌+◌, ◌<◌, ◌≤◌, ◌↔◌, min, length, set, Some, None, Err, IfOk, OnOk, OnErr, MatchOption, IfSome, IfNone, OnSome};
+ghost use Rattle.std.specs.Prelude.{◌≡◌, ℕ, ◌+◌, ◌<◌, ◌≤◌, ◌↔◌, min, length, set, All, Contains, Some, None, Err, IfOk, OnOk, OnErr, MatchOption, IfSome, IfNone, OnSome};
 ghost use Rattle.batch.specs.Batches.{IsBatch};
 ghost use Rattle.link_graph.specs.declared.link.End.TheVariants.{Zero, Three};
-ghost use Rattle.link_graph.specs.Uses.{Uses};
+ghost use Rattle.link_graph.specs.Uses.{Uses, IsMatching};
 ghost use Rattle.alternating_path.specs.Ends.{link_at, other_end};
-ghost use Rattle.alternating_path.specs.Colouring.{colour_at, IsPlaced, AllPlaced, nothing_placed, IsProper, IsFree, PlacesJust};
+ghost use Rattle.alternating_path.specs.Colouring.{colour_at, IsPlaced, AllPlaced, nothing_placed, IsProper, IsFree, PlacesJust, ArePlacedApart, joined_colour};
 ghost use Rattle.link_graph.specs.Schedules.{IsScheduleOf};
-ghost use Rattle.alternating_path.specs.Classes.{AreClassesOf};
+ghost use Rattle.alternating_path.specs.Classes.{AreClassesOf, class_size, IsSmallestClass, IsTakenBack};
 ghost use Rattle.alternating_path.specs.Counts.{placed_uses, HasFullLink};
-ghost use Rattle.alternating_path.specs.Cells.{place_at};
+ghost use Rattle.alternating_path.specs.Cells.{place_at, AreStarts};
 
 use crate::classes::classes;
 use crate::coloured::Coloured;
 use crate::fault::InsertFault;
 use crate::limits::MAX_COLOURS;
-use batch::MAX_TRANSFERS;
+use crate::rows::{class_of, class_size, remove_row};
+use batch::{MAX_MODULES, MAX_TRANSFERS};
 use link_graph::{End, LINKS, LinkGraph};
 use std::alloc::{AllocError, Global};
 use std::marker::Model;
@@ -29,7 +30,7 @@ pub struct Table<'a> {
     graph: &'a LinkGraph,
     colours: usize,
     /// A row for each colour, with a cell for each link: the transfer of that colour that uses the
-    /// link, where there is one.
+    /// link, where there is one. Tables of one graph are joined by putting their rows together.
     cells: Vec<Option<u16>>,
     inserted: usize,
 }
@@ -60,6 +61,60 @@ impl<'a> Table<'a> {
             colours,
             cells,
             inserted: 0,
+        })
+    }
+
+    /// A table with one colour, in which just the members are placed: distinct numbers of transfers of
+    /// which no two use a common link.
+    ///
+    /// Takes time that grows with the number of members.
+    pub fn one(
+        alloc: Global,
+        graph: &'a LinkGraph,
+        members: &[usize],
+    ) -> Result<Table<'a>, AllocError>
+        requires known { All (λ t. t < length graph.now) members.now }
+        requires matching { IsMatching graph.now members.now }
+        ensures batch { IfOk result (λ table. table.batch ≡ graph.now) }
+        ensures colours { IfOk result (λ table. table.colours ≡ 1) }
+        ensures placed { IfOk result (λ table. (t : ℕ) → IsPlaced table.colour t ↔ Contains members.now t) }
+        ensures inserted { IfOk result (λ table. table.inserted ≡ 0) }
+        ensures proper { IfOk result (λ table. IsProper table.batch table.colours table.colour) }
+    {
+        let mut table = Table::new(alloc, graph, 1)?;
+        for t in members {
+            table.put_in(*t, 0);
+        }
+        Ok(table)
+    }
+
+    /// The two tables in one: the colours of the left table, and behind them those of the right one.
+    /// Both are of one graph, and no transfer is placed in both. They are dropped also where there is
+    /// no memory.
+    ///
+    /// Takes time that grows with the number of colours.
+    pub fn join(left: Table<'a>, right: Table<'a>) -> Result<Table<'a>, AllocError>
+        requires one_graph { left.batch ≡ right.batch }
+        requires apart { ArePlacedApart left.colour right.colour }
+        requires few { left.colours + right.colours ≤ MAX_COLOURS }
+        ensures batch { IfOk result (λ table. table.batch ≡ left.entry.batch) }
+        ensures colours { IfOk result (λ table. table.colours ≡ left.entry.colours + right.entry.colours) }
+        ensures classes { IfOk result (λ table. (t : ℕ) → colour_at table.colour t ≡ joined_colour left.entry.colours (colour_at left.entry.colour t) (colour_at right.entry.colour t)) }
+        ensures inserted { IfOk result (λ table. table.inserted ≡ min (left.entry.inserted + right.entry.inserted) usize.MAX) }
+        ensures proper { IfOk result (λ table. IsProper table.batch table.colours table.colour) }
+    {
+        let Table {
+            graph,
+            colours,
+            mut cells,
+            inserted,
+        } = left;
+        cells.extend_from_slice(right.cells.as_slice())?;
+        Ok(Table {
+            graph,
+            colours: colours + right.colours,
+            cells,
+            inserted: inserted.saturating_add(right.inserted),
         })
     }
 
@@ -130,6 +185,61 @@ impl<'a> Table<'a> {
         self.place(t, first, second);
         self.inserted = self.inserted.saturating_add(1);
         Ok(())
+    }
+
+    /// Gives up a smallest class, the one of the least colour among equals: the table without it, and
+    /// its transfers. The colours above come one down. The table is dropped also where there is no
+    /// memory.
+    ///
+    /// Takes time that grows with the number of colours.
+    pub fn take_back(self) -> Result<(Table<'a>, Vec<usize>), AllocError>
+        requires { 0 < self.colours }
+        ensures taken { IfOk result (λ taken. IsTakenBack self.entry taken.0 taken.1.items) }
+        ensures proper { IfOk result (λ taken. IsProper taken.0.batch taken.0.colours taken.0.colour) }
+    {
+        let colour = self.smallest_class();
+        let class = class_of(*self.cells.allocator(), self.starts(colour))?;
+        let Table {
+            graph,
+            colours,
+            mut cells,
+            inserted,
+        } = self;
+        remove_row(&mut cells, colour);
+        let table = Table {
+            graph,
+            colours: colours - 1,
+            cells,
+            inserted,
+        };
+        Ok((table, class))
+    }
+
+    /// The least of the colours whose classes are smallest.
+    fn smallest_class(&self) -> usize
+        requires { 0 < self.now.colours }
+        ensures { IsSmallestClass self.now result }
+    {
+        let mut smallest = 0;
+        let mut least = class_size(self.starts(0));
+        for colour in 1..self.colours {
+            let size = class_size(self.starts(colour));
+            if size < least {
+                smallest = colour;
+                least = size;
+            }
+        }
+        smallest
+    }
+
+    /// The transfers of a colour, each at the module whose link 0 it uses.
+    fn starts(&self, colour: usize) -> &[Option<u16>]
+        requires { colour < self.now.colours }
+        ensures { AreStarts self.now colour result.now }
+    {
+        let cells = self.cells.as_slice();
+        let start = colour * LINKS;
+        &cells[start..start + MAX_MODULES]
     }
 
     /// The schedule of the colour classes that hold something, in the order of their least numbers;

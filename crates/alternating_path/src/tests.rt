@@ -1,7 +1,10 @@
+ghost use Rattle.std.specs.Prelude.{◌≡◌, ◌<◌, length, IsTrue, IfOk};
+ghost use Rattle.link_graph.specs.Uses.{AreApart};
+
 use crate::{Coloured, InsertFault, Table};
 use batch::{Batch, Shape};
 use link_graph::LinkGraph;
-use std::alloc::Global;
+use std::alloc::{AllocError, Global};
 use std::test::Fail;
 
 /// The graph of a batch text.
@@ -15,20 +18,48 @@ fn setting(coloured: &Coloured, k: usize) -> &[usize] {
     coloured.schedule().setting(k).unwrap_or(&[])
 }
 
-/// Whether these are the settings `0 2` and `1 3`, after four insertions.
+/// Whether these are the settings `0 2` and `1 3`.
 fn is_row_of_four(coloured: &Coloured) -> bool {
     coloured.schedule().settings() == 2
         && setting(coloured, 0) == [0, 2].as_slice()
         && setting(coloured, 1) == [1, 3].as_slice()
-        && coloured.inserted() == 4
 }
 
-/// Transfers 0 and 3 have a common link, and so have 3 and 2, and 2 and 1. So two colours leave no
-/// choice of the classes.
+/// The graph of four transfers of which 0 and 3 have a common link, and 3 and 2, and 2 and 1. So two
+/// colours leave no choice of the classes.
+fn graph_of_four(alloc: Global) -> Result<LinkGraph, Fail> {
+    graph(
+        alloc,
+        b"batch 4\npush 0 0 0 1\npush 1 0 1 1\npush 1 1 2 0\npush 0 2 2 1\n",
+    )
+}
+
+/// Whether the two transfers use no common link.
+fn apart(graph: &LinkGraph, t: usize, u: usize) -> bool
+    ensures { IsTrue result → AreApart graph.now t u }
+{
+    let (Some(one), Some(other)) = (graph.ends(t), graph.ends(u)) else {
+        return false;
+    };
+    one.0 != other.0 && one.0 != other.1 && one.1 != other.0 && one.1 != other.1
+}
+
+/// The table of `0 2`, and behind it that of `1 3`.
+fn joined(alloc: Global, graph: &LinkGraph) -> Result<Table, AllocError>
+    requires known { 3 < length graph.now }
+    requires left { AreApart graph.now 0 2 }
+    requires right { AreApart graph.now 1 3 }
+    ensures { IfOk result (λ table. table.colours ≡ 2) }
+{
+    let left = Table::one(alloc, graph, &[0, 2])?;
+    let right = Table::one(alloc, graph, &[1, 3])?;
+    let table = Table::join(left, right)?;
+    Ok(table)
+}
+
 #[test]
 fn table_of_four(rt: HostRuntime) -> Result<(), Fail> {
-    let text = b"batch 4\npush 0 0 0 1\npush 1 0 1 1\npush 1 1 2 0\npush 0 2 2 1\n";
-    let graph = graph(rt.alloc(), text)?;
+    let graph = graph_of_four(rt.alloc())?;
     assert_eq!(rt; graph.len(), 4);
     let mut table = Table::new(rt.alloc(), &graph, 2)?;
     table.insert(0)?;
@@ -39,8 +70,30 @@ fn table_of_four(rt: HostRuntime) -> Result<(), Fail> {
     assert_eq!(rt; table.insert(0), Err(InsertFault::Already));
     let coloured = table.into_schedule()?;
     assert!(rt; is_row_of_four(&coloured));
+    assert_eq!(rt; coloured.inserted(), 4);
     let copy = coloured.copy()?;
     assert!(rt; is_row_of_four(&copy));
+    assert_eq!(rt; copy.inserted(), 4);
+    Ok(())
+}
+
+#[test]
+fn table_of_four_by_halves(rt: HostRuntime) -> Result<(), Fail> {
+    let graph = graph_of_four(rt.alloc())?;
+    assert_eq!(rt; graph.len(), 4);
+    assert!(rt; apart(&graph, 0, 2));
+    assert!(rt; apart(&graph, 1, 3));
+    let table = joined(rt.alloc(), &graph)?;
+    assert_eq!(rt; table.colours(), 2);
+    let coloured = table.into_schedule()?;
+    assert!(rt; is_row_of_four(&coloured));
+    assert_eq!(rt; coloured.inserted(), 0);
+    let (table, class) = joined(rt.alloc(), &graph)?.take_back()?;
+    assert_eq!(rt; class.as_slice(), [0, 2].as_slice());
+    assert_eq!(rt; table.colours(), 1);
+    assert_eq!(rt; table.colour_of(1), Some(0));
+    assert_eq!(rt; table.colour_of(3), Some(0));
+    assert_eq!(rt; table.colour_of(0), None);
     Ok(())
 }
 

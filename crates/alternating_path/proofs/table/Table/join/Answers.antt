@@ -1,0 +1,28 @@
+use Rattle.std.proofs.Common.{◌≡◌, ◌++◌, ap, ◌∙◌}
+use Rattle.alternating_path.proofs.Joined.{joined_show, joined_classes}
+use Rattle.alternating_path.proofs.Shown.{cells_proper}
+use Rattle.alternating_path.proofs.table.Table.join.Goals as goal
+
+pub invariant_of-result : goal.invariant_of-result
+invariant_of-result c =
+    let l = c.left.inside in
+    let r = c.right.inside in
+    let requires = rw (← c.left.view_is, ← c.right.view_is) at c.requires in
+    let cells : c.extend_from_slice.new.self.items ≡ l.cells.items ++ r.cells.items = c.in_ok-extend_from_slice.ensures.items ∙ ap (λ more. l.cells.items ++ more) c.as_slice.ensures.value in
+    joined_show l.graph.now r.graph.now l.colours r.colours l.cells.items r.cells.items _ c.left.invariant c.right.invariant requires.one_graph requires.apart cells
+
+pub returns-clause-classes : goal.returns-clause-classes
+returns-clause-classes c = λ t.
+    let l = c.left.inside in
+    let r = c.right.inside in
+    let requires = rw (← c.left.view_is, ← c.right.view_is) at c.requires in
+    let cells : c.extend_from_slice.new.self.items ≡ l.cells.items ++ r.cells.items = c.in_ok-extend_from_slice.ensures.items ∙ ap (λ more. l.cells.items ++ more) c.as_slice.ensures.value in
+    rw (← c.left.view_is, ← c.right.view_is) (joined_classes l.graph.now r.graph.now l.colours r.colours l.cells.items r.cells.items _ c.left.invariant c.right.invariant requires.one_graph requires.apart cells t)
+
+pub returns-clause-proper : goal.returns-clause-proper
+returns-clause-proper c =
+    let l = c.left.inside in
+    let r = c.right.inside in
+    let requires = rw (← c.left.view_is, ← c.right.view_is) at c.requires in
+    let cells : c.extend_from_slice.new.self.items ≡ l.cells.items ++ r.cells.items = c.in_ok-extend_from_slice.ensures.items ∙ ap (λ more. l.cells.items ++ more) c.as_slice.ensures.value in
+    cells_proper _ _ _ _ (joined_show l.graph.now r.graph.now l.colours r.colours l.cells.items r.cells.items _ c.left.invariant c.right.invariant requires.one_graph requires.apart cells)

@@ -1,0 +1,27 @@
+use Rattle.std.proofs.Common.{ℕ, ◌-◌, List, Option, ap}
+use Rattle.alternating_path.specs.Colouring.{Colouring}
+use Rattle.alternating_path.proofs.Removed.{removed_show, removed_colours}
+use Rattle.alternating_path.proofs.Smallest.{taken_back}
+use Rattle.alternating_path.proofs.Shown.{cells_proper}
+use Rattle.alternating_path.proofs.table.Table.take_back.Goals as goal
+
+pub invariant_of-table : goal.invariant_of-table
+invariant_of-table c =
+    let s = c.self.inside in
+    let smallest = rw (← c.self.view_is) at c.smallest_class-colour.ensures in
+    removed_show s.graph.now s.colours c.smallest_class-colour.result s.cells.items _ c.self.invariant smallest.is_one c.remove_row.ensures.sized c.remove_row.ensures.before c.remove_row.ensures.behind
+
+pub returns-clause-proper : goal.returns-clause-proper
+returns-clause-proper c =
+    let s = c.self.inside in
+    let smallest = rw (← c.self.view_is) at c.smallest_class-colour.ensures in
+    cells_proper _ _ _ _ (removed_show s.graph.now s.colours c.smallest_class-colour.result s.cells.items _ c.self.invariant smallest.is_one c.remove_row.ensures.sized c.remove_row.ensures.before c.remove_row.ensures.behind)
+
+pub returns-clause-taken : goal.returns-clause-taken
+returns-clause-taken c =
+    let s = c.self.inside in
+    let smallest = rw (← c.self.view_is) at c.smallest_class-colour.ensures in
+    let starts = rw (← c.self.view_is) at c.starts.ensures in
+    let colours = removed_colours s.graph.now s.colours c.smallest_class-colour.result s.cells.items _ c.self.invariant smallest.is_one c.remove_row.ensures.sized c.remove_row.ensures.before c.remove_row.ensures.behind in
+    rw (← c.self.view_is) (taken_back _ _ c.smallest_class-colour.result c.starts.result.now c.in_ok-class.class.items smallest starts c.in_ok-class.ensures
+    (ap (λ (f : List (Option ℕ)). let v : Colouring = record { batch = s.graph.now; colours = s.colours - 1; colour = f; inserted = s.inserted } in v) colours))

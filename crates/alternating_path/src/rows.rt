@@ -1,0 +1,39 @@
+//! Rows of a table's cells.
+
+ghost use Rattle.std.specs.Prelude.{◌≡◌, ℕ, ◌+◌, ◌*◌, ◌<◌, ◌≤◌, length, is_some, count_by, slice_index_or, None, IfOk};
+ghost use Rattle.std.specs.List.{filter_map};
+
+use link_graph::LINKS;
+use std::alloc::{AllocError, Global};
+
+/// How many of the cells have a transfer.
+pub(crate) fn class_size(starts: &[Option<u16>]) -> usize
+    ensures { result ≡ count_by is_some starts.now }
+{
+    starts.iter().filter(|holder| holder.is_some()).count()
+}
+
+/// The transfers of the cells, in order.
+pub(crate) fn class_of(alloc: Global, starts: &[Option<u16>]) -> Result<Vec<usize>, AllocError>
+    ensures { IfOk result (λ class. class.items ≡ filter_map (λ holder. holder) starts.now) }
+{
+    let mut class = Vec::with_capacity(alloc, starts.len())?;
+    for holder in starts {
+        if let Some(t) = *holder {
+            class.push(usize::from(t))?;
+        }
+    }
+    Ok(class)
+}
+
+/// Takes a colour's row out. The rows behind it move up.
+pub(crate) fn remove_row(cells: &mut Vec<Option<u16>>, colour: usize)
+    requires { (colour + 1) * LINKS ≤ length cells.old.items }
+    ensures sized { length cells.new.items + LINKS ≡ length cells.old.items }
+    ensures before { (i : ℕ) → i < colour * LINKS → slice_index_or cells.new.items i None ≡ slice_index_or cells.old.items i None }
+    ensures behind { (i : ℕ) → colour * LINKS ≤ i → slice_index_or cells.new.items i None ≡ slice_index_or cells.old.items (i + LINKS) None }
+{
+    let start = colour * LINKS;
+    cells.copy_within(start + LINKS.., start);
+    cells.truncate(cells.len() - LINKS);
+}

@@ -1,0 +1,6 @@
+pub mod Modules
+pub mod Left
+pub mod Turns
+pub mod Partners
+pub mod Numbers
+pub mod Dealt

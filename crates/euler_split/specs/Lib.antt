@@ -1,0 +1,4 @@
+pub mod Split
+pub mod Pairs
+pub mod Walks
+pub mod Deals

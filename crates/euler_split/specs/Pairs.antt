@@ -1,0 +1,33 @@
+-- Places of a list of transfers, paired at each link of one end.
+use Rattle.std.specs.Prelude.{◌≡◌, ◌≢◌, ◌==◌, ℕ, zero, suc, ◌+◌, ◌≤◌, List, length, map, Option, Some, None, Bool, ◌&&◌, not, cond, slice_index, slice_index_or}
+use Rattle.batch.specs.declared.transfer.Transfer.{Transfer}
+use Rattle.link_graph.specs.declared.link.End.{End}
+use Rattle.link_graph.specs.Counts.{module_at}
+
+-- the module that transfer t has at an end
+unfoldable pub module_in : List Transfer → End → ℕ → ℕ
+module_in batch end t = slice_index (map (module_at end) batch) t
+
+-- how many numbers below n pass a test
+abbrev pub count_below : ℕ → (ℕ → Bool) → ℕ
+count_below zero test = 0
+count_below (suc n) test = cond (test n) 1 0 + count_below n test
+
+-- partners are each other's, and nobody is his own
+pub record ArePairs (partners : List (Option ℕ)) : Type 0 where
+  pub symmetric : (u v : ℕ) → slice_index_or partners u None ≡ Some v → slice_index_or partners v None ≡ Some u
+  pub apart : (u v : ℕ) → slice_index_or partners u None ≡ Some v → u ≢ v
+
+-- a test of places that tells partners apart
+abbrev pub Tells : List (Option ℕ) → (ℕ → Bool) → Type 0
+Tells partners test = (u v : ℕ) → slice_index_or partners u None ≡ Some v → test u ≡ not (test v)
+
+-- how many of the first n places have the module at that end and pass the test
+abbrev pub passing : List Transfer → List ℕ → End → ℕ → ℕ → (ℕ → Bool) → ℕ
+passing batch whole end m n test = count_below n (λ i. test i && module_in batch end (slice_index whole i) == m)
+
+-- whichever test tells partners apart, about half of the places at each link pass it
+pub record AreBalanced (batch : List Transfer) (whole : List ℕ) (end : End) (partners : List (Option ℕ)) : Type 0 where
+  pub sized : length partners ≡ length whole
+  pub pairs : ArePairs partners
+  pub even : (test : ℕ → Bool) → Tells partners test → (m : ℕ) → (passing batch whole end m (length whole) test ≤ passing batch whole end m (length whole) (λ i. not (test i)) + 1) × (passing batch whole end m (length whole) (λ i. not (test i)) ≤ passing batch whole end m (length whole) test + 1)
