@@ -6,6 +6,7 @@ ghost use Rattle.batch.specs.declared.transfer.Transfer.{Transfer};
 ghost use Rattle.batch.specs.Extent.{Extent, IsShape, widest};
 ghost use Rattle.batch.specs.Text.{Denotes, IsNumeral, SpellsNumber};
 ghost use Rattle.batch.specs.Faults.{IsFirstFault};
+ghost use Rattle.batch.specs.Overlap.{IsApart, IsFirstOverlap};
 ghost use Rattle.batch.specs.ShapeText.{DenotesShape};
 
 use crate::shape::Shape;
@@ -20,6 +21,12 @@ pub fn one_reading()
 /// A text denotes at most one shape.
 pub fn one_shape()
     ensures { (text : List ℕ) (a b : Extent) → DenotesShape text a → DenotesShape text b → a ≡ b }
+{}
+
+/// Where no two transfers are the first that overlap, none overlap; and there is one first pair.
+pub fn first_overlap()
+    ensures none { (ts : List Transfer) → ((i j : ℕ) → IsFirstOverlap ts i j → ⊥) → IsApart ts }
+    ensures one { (ts : List Transfer) (i j k l : ℕ) → IsFirstOverlap ts i j → IsFirstOverlap ts k l → (i ≡ k) × (j ≡ l) }
 {}
 
 /// The digits of a number are `0`, or a digit from 1 to 9 and at most eight digits behind it.

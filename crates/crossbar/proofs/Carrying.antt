@@ -39,7 +39,7 @@ pub record Carried (bytes reader : List ℕ) (start now : Switch) (replies : Lis
   pub told : take answered replies ≡ answers commands start
   pub count : answered ≡ enquiries commands
 
-nothing_come : IsRest []
+pub nothing_come : IsRest []
 nothing_come = record { command = Settle; ports = tt; next = 3; more = []; row_is = refl }
 
 pub carried_none : (start : Switch) (replies : List ℕ) → Carried [] [] start start replies 0

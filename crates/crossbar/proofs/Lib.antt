@@ -1,3 +1,4 @@
 pub mod Latches
 pub mod Carrying
 pub mod Changes
+pub mod Fronts

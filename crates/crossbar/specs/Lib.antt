@@ -3,3 +3,4 @@ pub mod Modules
 pub mod Latches
 pub mod Port
 pub mod Pairs
+pub mod Fuse

@@ -17,6 +17,11 @@ abbrev pub CarriesOut : List ℕ → Switch → Switch → List ℕ → Type 0
 CarriesOut bytes old new replies =
     (commands : List Command) → AreCommands commands → bytes ≡ text commands → (new ≡ after_all commands old) × (replies ≡ answers commands old)
 
+-- the commands that are whole within the bytes were carried out, in order
+abbrev pub CarriesOutWhole : List ℕ → Switch → Switch → Type 0
+CarriesOutWhole bytes old new =
+    (commands : List Command) (rest : List ℕ) → Spells bytes commands rest → new ≡ after_all commands old
+
 -- bytes that may stop within a command: at most so many of the commands that are whole are enquiries
 pub record IsFront (bytes : List ℕ) (replies : ℕ) : Type 0 where
   pub commands : List Command

@@ -6,10 +6,12 @@
 //! one that the output had, and which links the modules of a rack are on.
 #![tactic(auto)]
 
+mod fuse;
 pub mod laws;
 mod port;
 mod switch;
 
+pub use fuse::FusePort;
 pub use port::{ConfigPort, MemoryPort, PortFault};
 pub use switch::{Crossbar, JOINED_MODULES};
 

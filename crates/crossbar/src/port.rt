@@ -5,7 +5,7 @@ ghost use Rattle.std.specs.Option.{option_to_list};
 ghost use Rattle.c004_commands.specs.Commands.{Spells};
 ghost use Rattle.c004_commands.specs.declared.command.Command.{Command};
 ghost use Rattle.crossbar.specs.Switch.{Switch, idle, after_all, answers, enquiries};
-ghost use Rattle.crossbar.specs.Port.{IsExchange, CarriesOut, IsFront};
+ghost use Rattle.crossbar.specs.Port.{IsExchange, CarriesOut, CarriesOutWhole, IsFront};
 
 use crate::switch::Crossbar;
 use c004_commands::{Command, CommandReader};
@@ -32,9 +32,10 @@ pub trait ConfigPort {
         requires { IsExchange bytes.now (length replies.old) }
         ensures done { IsTrue (honest self.old) →
             OnOk result (CarriesOut bytes.now (switch self.old) (switch self.new) replies.new) }
-        // A fault comes only from a failure in this call, and failures are never taken back.
+        // A fault is a failure in this call, and there are no others. They are never taken back.
         ensures fault { OnErr result (failures self.old < failures self.new) }
         ensures counted { failures self.old ≤ failures self.new }
+        ensures unfailed { OnOk result (failures self.new ≡ failures self.old) }
         ensures honesty { honest self.new ≡ honest self.old };
 }
 
@@ -91,12 +92,11 @@ impl ConfigPort for MemoryPort {
     }
 }
 
-// Carries out the commands that are whole within the bytes, in order, and writes their answers to the
-// front of the replies.
-fn carry_out(crossbar: &mut Crossbar, bytes: &[u8], replies: &mut [u8])
+/// Carries out the commands that are whole within the bytes, in order, and writes their answers to the
+/// front of the replies.
+pub fn carry_out(crossbar: &mut Crossbar, bytes: &[u8], replies: &mut [u8])
     requires { IsFront bytes.now (length replies.old) }
-    ensures switch { (commands : List Command) (rest : List ℕ) → Spells bytes.now commands rest →
-        crossbar.new ≡ after_all commands crossbar.old }
+    ensures switch { CarriesOutWhole bytes.now crossbar.old crossbar.new }
     ensures replies { (commands : List Command) (rest : List ℕ) → Spells bytes.now commands rest →
         take (enquiries commands) replies.new ≡ answers commands crossbar.old }
 {
@@ -110,8 +110,8 @@ fn carry_out(crossbar: &mut Crossbar, bytes: &[u8], replies: &mut [u8])
     }
 }
 
-// Carries out a command, if there is one, writes its answer behind those that stand, and says how many
-// stand then.
+/// Carries out a command, if there is one, writes its answer behind those that stand, and says how many
+/// stand then.
 fn carry_given(
     crossbar: &mut Crossbar,
     given: Option<Command>,

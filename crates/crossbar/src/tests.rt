@@ -1,6 +1,6 @@
 ghost use Rattle.std.specs.Prelude.{◌≡◌, ◌<◌, ◌∷◌, [], IsTrue, IfOk, OnErr};
 
-use crate::{ConfigPort, Crossbar, JOINED_MODULES, MemoryPort, PortFault};
+use crate::{ConfigPort, Crossbar, FusePort, JOINED_MODULES, MemoryPort, PortFault};
 use c004_commands::{CommandFault, CommandReader, PortNo};
 use std::test::Fail;
 
@@ -80,6 +80,40 @@ fn any_port_answers(rt: HostRuntime) -> Result<(), Fail> {
     let mut port = MemoryPort::new();
     assert_eq!(rt; answers_of_a_join(&mut port)?, [0x80, 0x91]);
     Ok(())
+}
+
+// Joins module 0 to module 1 and module 1 to module 2, on a switch where nothing else is joined.
+fn join_two<P: ConfigPort>(port: &mut P) -> Result<(), PortFault> {
+    port.exchange(&[0x04, 0x01, 0x00, 0x11, 0x01, 0x01, 0x12, 0x03], &mut [])
+}
+
+// Sends no command.
+fn send_nothing<P: ConfigPort>(port: &mut P) -> Result<(), PortFault> {
+    port.exchange(&[], &mut [])
+}
+
+#[test]
+fn fuse_blows_before_the_last_byte(rt: HostRuntime) -> Result<(), Fail> {
+    let mut port = FusePort::new(7);
+    assert_eq!(rt; join_two(&mut port), Err(PortFault));
+    // Both joins are whole within seven bytes.
+    let output1 = PortNo::new(JOINED_MODULES + 1).ok_or("a port")?;
+    let output2 = PortNo::new(JOINED_MODULES + 2).ok_or("a port")?;
+    assert_eq!(rt; port.crossbar().source_of(output1), PortNo::new(0));
+    assert_eq!(rt; port.crossbar().source_of(output2), PortNo::new(1));
+    assert!(rt; !port.crossbar().is_ready());
+    assert_eq!(rt; send_nothing(&mut port), Err(PortFault));
+    Ok(())
+}
+
+#[test]
+fn fuse_holds_for_its_bytes(rt: HostRuntime) {
+    let mut port = FusePort::new(8);
+    assert_eq!(rt; join_two(&mut port), Ok(()));
+    assert_eq!(rt; send_nothing(&mut port), Ok(()));
+    assert_eq!(rt; join_two(&mut port), Err(PortFault));
+    assert!(rt; port.crossbar().joined(0, 1));
+    assert!(rt; port.crossbar().joined(1, 2));
 }
 
 #[test]

@@ -6,7 +6,7 @@ use Rattle.batch.specs.Places.{HasPlace, place_index}
 use Rattle.std.proofs.lemmas.Bool.{cases_eq}
 use Rattle.std.proofs.lemmas.List.{ext_get_or}
 use Rattle.batch.proofs.Places.{place_from_parts, same_place_from_index, place_index_below, place_at, place_index-place_at, HasPlace-place_at}
-use Rattle.module_memory.specs.Store.{Store, IsWhole, block_of, set_block}
+use Rattle.module_memory.specs.Store.{Store, HasAllBlocks, IsWhole, block_of, set_block}
 
 -- a block after a write
 pub block_of-set_same : (s : Store) (p : Place) (ws : List ℕ) → place_index s.shape p < length s.blocks → block_of (set_block s p ws) p ≡ ws
@@ -27,13 +27,13 @@ store_from_parts a b e f =
     let make : Extent → List (List ℕ) → Store = λ x y. record { shape = x; blocks = y } in ap₂ make e f
 
 -- two stores of one shape are one where all their blocks are
-pub same_store : (old a b : Store) → IsWhole old → a.shape ≡ old.shape → b.shape ≡ old.shape → length a.blocks ≡ length old.blocks → length b.blocks ≡ length old.blocks
+pub same_store : (old a b : Store) → HasAllBlocks old → a.shape ≡ old.shape → b.shape ≡ old.shape → length a.blocks ≡ length old.blocks → length b.blocks ≡ length old.blocks
     → ((p : Place) → HasPlace old.shape p → block_of a p ≡ block_of b p) → a ≡ b
-same_store old a b whole ea eb la lb same =
+same_store old a b all ea eb la lb same =
     store_from_parts a b (ea ∙ sym eb) (ext_get_or [] a.blocks b.blocks (la ∙ sym lb) (λ k l.
     let p = place_at old.shape k in
     let at = place_index-place_at old.shape k in
-    sym (block_at a old.shape p k ea at) ∙ same p (HasPlace-place_at old.shape k whole.within (omega (arith, la, whole.all_blocks))) ∙ block_at b old.shape p k eb at))
+    sym (block_at a old.shape p k ea at) ∙ same p (HasPlace-place_at old.shape k all.0 (omega (arith, la, all.1))) ∙ block_at b old.shape p k eb at))
 
 -- the words of a block of a whole store
 pub block_length : (s : Store) (p : Place) → IsWhole s → HasPlace s.shape p → length (block_of s p) ≡ s.shape.words

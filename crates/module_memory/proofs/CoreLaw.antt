@@ -7,7 +7,7 @@ use Rattle.batch.specs.declared.transfer.Place.{Place}
 use Rattle.batch.specs.declared.transfer.Transfer.{Transfer}
 use Rattle.batch.specs.Places.{HasPlace, place_index, source_of, destination_of}
 use Rattle.batch.specs.Overlap.{transfer_at, source_at, destination_at, IsApart, Collide}
-use Rattle.module_memory.specs.Store.{Store, IsWhole, block_of}
+use Rattle.module_memory.specs.Store.{Store, HasAllBlocks, IsWhole, block_of}
 use Rattle.module_memory.specs.Core.{Core, at_start, step, run, times, IsStepList, IsComplete, FitsIn, IsUnwritten, IsMoved, IsPlaced, OnePlaced, setting_of, IsReady, OneEnd, EndIsPlaced, EachPrefix}
 use Rattle.batch.proofs.Places.{place_index_below}
 use Rattle.module_memory.proofs.Blocks.{same_or_not, block_of-set_same, block_of-set_other, same_store, block_length}
@@ -175,10 +175,10 @@ find_destination (t ∷ ts) p =
     ]
 
 -- two stores are one where the destinations of transfers are the same in both, and all else is
-same_written : (old a b : Store) (ts : List Transfer) → IsWhole old → a.shape ≡ old.shape → b.shape ≡ old.shape → length a.blocks ≡ length old.blocks → length b.blocks ≡ length old.blocks
+same_written : (old a b : Store) (ts : List Transfer) → HasAllBlocks old → a.shape ≡ old.shape → b.shape ≡ old.shape → length a.blocks ≡ length old.blocks → length b.blocks ≡ length old.blocks
     → ((i : ℕ) → i < length ts → block_of a (destination_at ts i) ≡ block_of b (destination_at ts i)) → ((p : Place) → HasPlace old.shape p → IsUnwritten ts p → block_of a p ≡ block_of b p) → a ≡ b
-same_written old a b ts whole ea eb la lb written others =
-    same_store old a b whole ea eb la lb (λ p hp. elim (find_destination ts p) [
+same_written old a b ts all ea eb la lb written others =
+    same_store old a b all ea eb la lb (λ p hp. elim (find_destination ts p) [
       | inl f ↦ subst (λ (q : Place). block_of a q ≡ block_of b q) f.2 (written f.0 f.1)
       | inr none ↦ others p hp none
     ])
@@ -186,12 +186,12 @@ same_written old a b ts whole ea eb la lb written others =
 -- one end for equal counts
 pub same_end : (old : Store) (ts : List Transfer) → Premises old ts → (m : ℕ → ℕ) (a b : Store) → IsMoved old ts m a → IsMoved old ts m b → a ≡ b
 same_end old ts pr m a b ha hb =
-    same_written old a b ts pr.whole ha.same_shape hb.same_shape ha.same_length hb.same_length
+    same_written old a b ts (pr.whole.within, pr.whole.all_blocks) ha.same_shape hb.same_shape ha.same_length hb.same_length
     (λ i l. ha.destinations i l ∙ sym (hb.destinations i l)) (λ p hp none. ha.others p hp none ∙ sym (hb.others p hp none))
 
 pub one_placed : OnePlaced
-one_placed old a b ts whole ha hb =
-    same_written old a b ts whole ha.same_shape hb.same_shape ha.same_length hb.same_length
+one_placed old a b ts all ha hb =
+    same_written old a b ts all ha.same_shape hb.same_shape ha.same_length hb.same_length
     (λ i l. ha.destinations i l ∙ sym (hb.destinations i l)) (λ p hp none. ha.others p hp none ∙ sym (hb.others p hp none))
 
 -- a complete step list is a step list

@@ -40,5 +40,5 @@ marked_more f xs i ws l e h k m =
     ]
 
 pub one_marked : OneMarked
-one_marked old a b whole ha hb =
-    same_store old a b whole ha.same_shape hb.same_shape ha.same_length hb.same_length (λ p hp. ha.words p hp ∙ sym (hb.words p hp))
+one_marked old a b all ha hb =
+    same_store old a b all ha.same_shape hb.same_shape ha.same_length hb.same_length (λ p hp. ha.words p hp ∙ sym (hb.words p hp))

@@ -5,7 +5,7 @@ use Rattle.batch.specs.declared.transfer.Transfer.{Transfer}
 use Rattle.batch.specs.Places.{HasPlace, source_of, destination_of}
 use Rattle.batch.specs.Overlap.{transfer_at, source_at, destination_at, IsApart}
 use Rattle.batch.specs.Extent.{Extent}
-use Rattle.module_memory.specs.Store.{Store, IsWhole, block_of, word, set_word}
+use Rattle.module_memory.specs.Store.{Store, HasAllBlocks, IsWhole, block_of, word, set_word}
 
 -- a store, and how many words each transfer of a setting has moved
 pub record Core : Type 0 where
@@ -70,7 +70,7 @@ pub record IsPlaced (old : Store) (ts : List Transfer) (new : Store) : Type 0 wh
 
 -- there is one such store
 abbrev pub OnePlaced : Type 0
-OnePlaced = (old a b : Store) (ts : List Transfer) → IsWhole old → IsPlaced old ts a → IsPlaced old ts b → a ≡ b
+OnePlaced = (old a b : Store) (ts : List Transfer) → HasAllBlocks old → IsPlaced old ts a → IsPlaced old ts b → a ≡ b
 
 -- the transfers of a setting, by their numbers in the batch
 abbrev pub setting_of : List Transfer → List ℕ → List Transfer

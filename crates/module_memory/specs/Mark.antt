@@ -4,7 +4,7 @@ use Rattle.std.specs.List.{range_with_len}
 use Rattle.batch.specs.declared.transfer.Place.{Place}
 use Rattle.batch.specs.Places.{HasPlace}
 use Rattle.module_memory.specs.declared.rack.TheConstants.{MODULE_MARK, BLOCK_MARK}
-use Rattle.module_memory.specs.Store.{Store, IsWhole, block_of}
+use Rattle.module_memory.specs.Store.{Store, HasAllBlocks, block_of}
 
 -- the first word of a block
 abbrev pub first_mark : Place → ℕ
@@ -18,4 +18,4 @@ pub record IsMarked (old new : Store) : Type 0 where
 
 -- there is one such rack
 abbrev pub OneMarked : Type 0
-OneMarked = (old a b : Store) → IsWhole old → IsMarked old a → IsMarked old b → a ≡ b
+OneMarked = (old a b : Store) → HasAllBlocks old → IsMarked old a → IsMarked old b → a ≡ b

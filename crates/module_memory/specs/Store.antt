@@ -25,6 +25,10 @@ set_block s p words = record { shape = s.shape; blocks = slice_set s.blocks (pla
 abbrev pub set_word : Store → Place → ℕ → ℕ → Store
 set_word s p j w = set_block s p (slice_set (block_of s p) j w)
 
+-- each block of the shape is there
+abbrev pub HasAllBlocks : Store → Type 0
+HasAllBlocks s = IsShape s.shape × (length s.blocks ≡ s.shape.modules * s.shape.blocks)
+
 -- each block of the shape is there, with all its words
 pub record IsWhole (s : Store) : Type 0 where
   pub within : IsShape s.shape

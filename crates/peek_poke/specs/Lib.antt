@@ -3,3 +3,5 @@ pub mod Housed
 pub mod Effects
 pub mod Windows
 pub mod Blocks
+pub mod Fuse
+pub mod FuseLines

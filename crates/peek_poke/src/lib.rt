@@ -5,6 +5,7 @@
 mod answerer;
 mod block;
 mod fault;
+mod fuse;
 pub mod laws;
 mod message;
 mod plain;
@@ -18,6 +19,7 @@ mod word;
 pub use answerer::Answerer;
 pub use block::RestStore;
 pub use fault::{AnswerFault, StoreFault, WireFault};
+pub use fuse::{FuseLine, FuseWire, FuseWires};
 pub use message::{
     Message, PEEK, PEEK_BYTES, POKE, POKE_BYTES, REPLY_BYTES, peek_bytes, poke_bytes,
 };

@@ -1,14 +1,14 @@
 //! The worked rows, words moved over wires, and printed faults.
 
-ghost use Rattle.std.specs.Prelude.{◌≡◌, ◌≢◌, ◌<◌, ◌≤◌, length, None, IfOk, OnErr, IsOk};
+ghost use Rattle.std.specs.Prelude.{◌≡◌, ◌<◌, ◌≤◌, length, IfOk, OnErr, IsOk};
 ghost use Rattle.batch.specs.Extent.{extent};
 
 use crate::{
-    AnswerFault, Answerer, PlainWire, PlainWires, RestStore, StoreFault, Window, Wire, WireFault,
-    WireMaker, WordStore, laws, peek_bytes, poke_bytes, pull_word, push_word,
+    AnswerFault, Answerer, FuseWire, FuseWires, PlainWire, PlainWires, RestStore, StoreFault,
+    Window, Wire, WireFault, WireMaker, WordStore, laws, peek_bytes, poke_bytes, pull_word,
+    push_word,
 };
 use batch::{Place, Shape};
-use failure_count::FailureCount;
 use module_memory::{Bay, Parted, Rack, Rest, WINDOW_START, WORD_BYTES};
 use std::alloc::Global;
 use std::test::Fail;
@@ -96,59 +96,6 @@ fn answerer_faults(rt: HostRuntime) -> Result<(), Fail> {
     Ok(())
 }
 
-/// A line that carries each byte as bits. One that has a fuse carries so many bytes, and then fails
-/// every call.
-#[derive(Drop)]
-struct TestLine {
-    plain: PlainWire,
-    fuse: Option<usize>,
-    failed: FailureCount,
-}
-
-impl Wire for TestLine {
-    ghost failures = { λ w. w.failed };
-
-    ghost never_fails = { λ w. w.fuse ≡ None };
-
-    fn carry(&mut self, byte: u8) -> Result<u8, WireFault> {
-        match self.fuse {
-            None => {}
-            Some(0) => {
-                self.failed.raise();
-                return Err(WireFault);
-            }
-            Some(left) => self.fuse = Some(left - 1),
-        }
-        self.plain.carry(byte)
-    }
-}
-
-/// Gives one transfer a line with a fuse of so many bytes, and the others lines that never fail.
-#[derive(Clone, Copy)]
-struct TestLines {
-    transfer: usize,
-    bytes: usize,
-}
-
-impl WireMaker for TestLines {
-    type Line = TestLine;
-
-    ghost is_sure = { λ m t. t ≢ m.transfer };
-
-    fn line(&self, transfer: usize) -> TestLine {
-        let fuse = if transfer == self.transfer {
-            Some(self.bytes)
-        } else {
-            None
-        };
-        TestLine {
-            plain: PlainWire::new(),
-            fuse,
-            failed: FailureCount::zero(),
-        }
-    }
-}
-
 /// Pokes the second word of a module `1x1x2` over a wire.
 fn poked<W: Wire>(wire: &mut W, store: &mut Window, word: u32) -> Result<(), WireFault>
     requires shape { store.old.store.shape ≡ extent 1 1 2 }
@@ -184,9 +131,18 @@ fn words_are_moved_over_a_wire(rt: HostRuntime) -> Result<(), Fail> {
 }
 
 #[test]
+fn a_fuse_carries_so_many_bytes(rt: HostRuntime) {
+    let mut wire = FuseWire::new(2);
+    assert_eq!(rt; wire.carry(5), Ok(5));
+    assert_eq!(rt; wire.carry(6), Ok(6));
+    assert_eq!(rt; wire.carry(7), Err(WireFault));
+    assert_eq!(rt; wire.carry(7), Err(WireFault));
+}
+
+#[test]
 fn a_broken_wire_moves_nothing(rt: HostRuntime) -> Result<(), Fail> {
     let mut store = two_words(rt.alloc())?;
-    let lines = TestLines {
+    let lines = FuseWires {
         transfer: 3,
         bytes: 0,
     };
@@ -312,7 +268,7 @@ fn blocks_are_stores(rt: HostRuntime) -> Result<(), Fail> {
 fn words_are_pushed_into_a_bay(rt: HostRuntime) -> Result<(), Fail> {
     let mut parted = parted(rt.alloc())?;
     let shape = parted.rest.shape();
-    let stops = TestLines {
+    let stops = FuseWires {
         transfer: 0,
         bytes: 14,
     };
@@ -320,7 +276,7 @@ fn words_are_pushed_into_a_bay(rt: HostRuntime) -> Result<(), Fail> {
         assert_eq!(rt; push_all(&stops, shape, bay, &[5, 6]), 1);
         assert_eq!(rt; (bay.word(0), bay.word(1)), (Some(5), Some(0x0001_0101)));
         for (bytes, moved) in MOVED {
-            let lines = TestLines { transfer: 0, bytes };
+            let lines = FuseWires { transfer: 0, bytes };
             assert_eq!(rt; push_all(&lines, shape, bay, &[5, 6]), moved);
         }
         assert_eq!(rt; push_all(&PlainWires, shape, bay, &[7, 8]), 2);
@@ -335,11 +291,11 @@ fn words_are_pulled_into_a_bay(rt: HostRuntime) -> Result<(), Fail> {
     let Some(mut store) = rest_store(&rest, place(0, 1)) else {
         return Err(Fail::from("no block"));
     };
-    let stops = TestLines {
+    let stops = FuseWires {
         transfer: 0,
         bytes: 7,
     };
-    let goes_on = TestLines {
+    let goes_on = FuseWires {
         transfer: 1,
         bytes: 0,
     };
@@ -350,7 +306,7 @@ fn words_are_pulled_into_a_bay(rt: HostRuntime) -> Result<(), Fail> {
             (Some(0x0001_0100), Some(0x0001_0101))
         );
         for (bytes, moved) in MOVED {
-            let lines = TestLines { transfer: 0, bytes };
+            let lines = FuseWires { transfer: 0, bytes };
             assert_eq!(rt; pull_all(&lines, &mut store, &ADDRESSES, bay), moved);
         }
         assert_eq!(rt; pull_all(&goes_on, &mut store, &ADDRESSES, bay), 2);

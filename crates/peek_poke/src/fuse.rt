@@ -1,0 +1,119 @@
+//! Wires that fail after so many bytes.
+
+ghost use Rattle.std.specs.Prelude.{◌≡◌, ◌≢◌, ◌<◌, ◌≤◌, ◌+◌, ◌-◌, ◌↔◌, Some, IsOk, IfOk, OnOk, OnErr};
+ghost use Rattle.std.specs.Option.{option_map};
+ghost use Rattle.peek_poke.specs.FuseLines.{left_of, failures_of, IsWhole, HasByte};
+
+use crate::fault::WireFault;
+use crate::plain::PlainWire;
+use crate::wire::{Wire, WireMaker};
+use failure_count::FailureCount;
+use std::marker::Model;
+
+/// A wire that carries so many bytes as the bits of a link, and then fails every call. It takes no memory.
+#[derive(Drop)]
+pub struct FuseWire {
+    plain: PlainWire,
+    left: usize,
+    failed: FailureCount,
+}
+
+impl Model for FuseWire {
+    ghost use Rattle.peek_poke.specs.Fuse.{Fuse, fuse_code};
+
+    ghost Value = { Fuse };
+
+    ghost coded = { fuse_code };
+
+    ghost view = { λ wire. record { left = wire.left; failures = wire.failed } };
+}
+
+impl FuseWire {
+    /// A wire that carries so many bytes.
+    pub fn new(bytes: usize) -> FuseWire
+        ensures { result ≡ record { left = bytes; failures = 0 } }
+    {
+        FuseWire {
+            plain: PlainWire::new(),
+            left: bytes,
+            failed: FailureCount::zero(),
+        }
+    }
+}
+
+impl Wire for FuseWire {
+    ghost failures = { λ wire. wire.failures };
+
+    ghost never_fails = { λ _. ⊥ };
+
+    fn carry(&mut self, byte: u8) -> Result<u8, WireFault>
+        ensures arrived { IfOk result (λ arrived. arrived ≡ byte) }
+        // It carries bytes just as long as some are left.
+        ensures carried { IsOk result ↔ (0 < self.old.left) }
+        ensures left { self.new.left ≡ self.old.left - 1 }
+        ensures fault { OnErr result (self.new.failures ≡ self.old.failures + 1) }
+        ensures counted { self.old.failures ≤ self.new.failures }
+        ensures unfailed { OnOk result (self.new.failures ≡ self.old.failures) }
+    {
+        if self.left == 0 {
+            self.failed.raise();
+            return Err(WireFault);
+        }
+        self.left -= 1;
+        self.plain.carry(byte)
+    }
+}
+
+/// A line without a fuse, or with one.
+#[derive(Drop)]
+pub enum FuseLine {
+    Whole(PlainWire),
+    Fused(FuseWire),
+}
+
+impl Wire for FuseLine {
+    ghost failures = { failures_of };
+
+    ghost never_fails = { IsWhole };
+
+    fn carry(&mut self, byte: u8) -> Result<u8, WireFault>
+        ensures arrived { IfOk result (λ arrived. arrived ≡ byte) }
+        ensures carried { IsOk result ↔ HasByte self.old }
+        ensures left { left_of self.new ≡ option_map (λ left. left - 1) (left_of self.old) }
+        ensures fault { OnErr result (failures_of self.new ≡ failures_of self.old + 1) }
+        ensures counted { failures_of self.old ≤ failures_of self.new }
+        ensures unfailed { OnOk result (failures_of self.new ≡ failures_of self.old) }
+        ensures sure { IsWhole self.old → IsOk result }
+        ensures stays_sure { IsWhole self.old → IsWhole self.new }
+    {
+        match self {
+            FuseLine::Whole(wire) => wire.carry(byte),
+            FuseLine::Fused(wire) => wire.carry(byte),
+        }
+    }
+}
+
+/// Makes a wire with a fuse of so many bytes for one transfer, and for the others wires that never fail.
+#[derive(Clone, Copy, Debug, PartialEq, Eq)]
+pub struct FuseWires {
+    pub transfer: usize,
+    pub bytes: usize,
+}
+
+impl WireMaker for FuseWires {
+    type Line = FuseLine;
+
+    ghost is_sure = { λ wires transfer. transfer ≢ wires.transfer };
+
+    fn line(&self, transfer: usize) -> FuseLine
+        ensures fresh { failures_of result ≡ 0 }
+        ensures sure { transfer ≢ self.now.transfer → IsWhole result }
+        ensures fused { transfer ≡ self.now.transfer → left_of result ≡ Some self.now.bytes }
+    {
+        if transfer == self.transfer {
+            FuseLine::Fused(FuseWire::new(self.bytes))
+        } else {
+            FuseLine::Whole(PlainWire::new())
+        }
+    }
+}
