@@ -163,8 +163,5 @@ places_more batch t old new p (alone none is) =
     (rw (is, length_push) (omega (arith, p.count)))
     (rw is (fits_alone batch t old p none))
 
-pub nothing_placed : (batch : List Transfer) → Partial batch 0 []
-nothing_placed batch = record { matchings = λ k d lt. absurd (omega arith); once = λ u lt. absurd (omega arith); others = λ u le. refl; below = λ k d lt. absurd (omega arith); count = omega arith; fits = record { none_empty = λ k d lt. absurd (omega arith); ascending = λ k d lt. absurd (omega arith); first = λ j k x less lt stands. absurd (omega arith) } }
-
 pub all_placed : (batch : List Transfer) (t : ℕ) (settings : List (List ℕ)) → t ≡ length batch → Partial batch t settings → IsScheduleOf batch settings
 all_placed batch t settings e p = record { matchings = p.matchings; once = λ u lt. p.once u (omega arith); no_other = subst (λ (n : ℕ). All (All (λ u. u < n)) settings) e p.below }

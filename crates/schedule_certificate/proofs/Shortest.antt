@@ -1,5 +1,5 @@
 -- A schedule with no more settings than the busiest link has uses is shortest, as that link's transfers show (Koenig 1916).
-use Rattle.std.proofs.Common.{◌≡◌, ℕ, ◌≤◌, List, [], ◌∷◌, length, Option, Some, None, refl, arith}
+use Rattle.std.proofs.Common.{◌≡◌, ℕ, ◌≤◌, List, [], ◌∷◌, length, Option, Some, None, inl, inr, refl, subst, arith}
 use Rattle.batch.specs.declared.transfer.Transfer.{Transfer}
 use Rattle.batch.specs.Batches.{IsBatch}
 use Rattle.link_graph.specs.declared.link.Link.{Link}
@@ -8,11 +8,17 @@ use Rattle.link_graph.specs.Certificates.{Naming, AreDistinct, CertifiesBy}
 use Rattle.link_graph.proofs.Koenig.{at_least, certified}
 use Rattle.link_graph.proofs.Users.{counted, uses_few}
 use Rattle.alternating_path.specs.Classes.{ColouredSettings}
-use Rattle.schedule_certificate.specs.Plans.{NamesBusiest, IsPlan, IsColoured}
+use Rattle.schedule_certificate.specs.Reinsertions.{AreFew}
+use Rattle.schedule_certificate.specs.Parts.{IsDegree}
+use Rattle.schedule_certificate.specs.Plans.{NamesBusiest, IsPlan, IsColoured, uses_of, HasFewReinsertions}
 
 no_settings : (settings : List (List ℕ)) → length settings ≤ 0 → settings ≡ []
 no_settings [] few = refl
 no_settings (s ∷ settings) few = absurd (omega (arith, few))
+
+-- no more settings than any number that bounds the uses of each link
+at_most : (batch : List Transfer) (coloured : ColouredSettings) (n : ℕ) → IsColoured batch coloured → ((link : Link) → uses batch link ≤ n) → length coloured.settings ≤ n
+at_most batch coloured n c all = elim c.is_degree.reached [ inl none ↦ omega (arith, c.count, none) | inr at ↦ omega (arith, c.count, at.1, all at.0) ]
 
 unused : (batch : List Transfer) (link : Link) → batch ≡ [] → uses batch link ≤ 0
 unused batch link empty = rw empty (omega arith)
@@ -21,7 +27,7 @@ certifies : (batch : List Transfer) (coloured : ColouredSettings) (link : Option
 certifies batch coloured None named c names = record {
   batch_empty = names.0;
   none_named = names.1;
-  no_settings = no_settings coloured.settings (c.most 0 (λ link. unused batch link names.0));
+  no_settings = no_settings coloured.settings (at_most batch coloured 0 c (λ link. unused batch link names.0));
 }
 certifies batch coloured (Some link) named c names =
     let distinct : AreDistinct named = λ i j d less within same. omega (arith, names.1.ascending i j d less within, same) in
@@ -29,7 +35,7 @@ certifies batch coloured (Some link) named c names =
       some = omega (arith, counted batch link named names.1, names.0.used);
       all_use = names.1.each;
       distinct = distinct;
-      many = omega (arith, counted batch link named names.1, c.most (uses batch link) names.0.most, at_least batch link named coloured.settings names.1.each distinct c.schedule);
+      many = omega (arith, counted batch link named names.1, at_most batch coloured (uses batch link) c names.0.most, at_least batch link named coloured.settings names.1.each distinct c.schedule);
     }
 
 pub is_plan : (batch : List Transfer) (coloured : ColouredSettings) (named : Naming) → IsBatch batch → IsColoured batch coloured → NamesBusiest batch named.link named.transfers
@@ -44,5 +50,17 @@ is_plan batch coloured named fits c names =
       none_empty = c.none_empty;
       ascending = c.ascending;
       by_least = c.by_least;
-      few = c.most (length batch) (λ link. uses_few batch link);
+      few = at_most batch coloured (length batch) c (λ link. uses_few batch link);
     }
+
+-- the uses of the busiest link are the greatest degree
+busiest_degree : (batch : List Transfer) (link : Option Link) (named : List ℕ) (d : ℕ) → IsDegree batch d → NamesBusiest batch link named → d ≡ uses_of batch link
+busiest_degree batch None named d degree names = elim degree.reached [ inl none ↦ none | inr at ↦ omega (arith, at.1, unused batch at.0 names.0) ]
+busiest_degree batch (Some link) named d degree names = elim degree.reached [
+  | inl none ↦ omega (arith, none, degree.most link)
+  | inr at ↦ omega (arith, at.1, names.0.most at.0, degree.most link)
+]
+
+pub few_reinserted : (batch : List Transfer) (coloured : ColouredSettings) (named : Naming) → IsColoured batch coloured → NamesBusiest batch named.link named.transfers
+    → HasFewReinsertions record { batch = batch; settings = coloured.settings; named = named; reinserted = coloured.inserted }
+few_reinserted batch coloured named c names = subst (λ (d : ℕ). AreFew (length batch) d coloured.inserted) (busiest_degree batch named.link named.transfers c.degree c.is_degree names) c.few

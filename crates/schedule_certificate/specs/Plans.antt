@@ -8,6 +8,8 @@ use Rattle.link_graph.specs.Counts.{uses, AreUsers, IsBusiest}
 use Rattle.link_graph.specs.Schedules.{IsScheduleOf}
 use Rattle.alternating_path.specs.Classes.{ColouredSettings}
 use Rattle.link_graph.specs.Certificates.{Naming, IsShortest, IsCertificate}
+use Rattle.schedule_certificate.specs.Reinsertions.{AreFew}
+use Rattle.schedule_certificate.specs.Parts.{IsDegree}
 
 -- a batch, the settings of a schedule, what its certificate names, and how many transfers were put in one by one
 pub record Plan : Type 0 where
@@ -32,12 +34,24 @@ pub record IsPlan (plan : Plan) : Type 0 where
   pub by_least : AllPairs (λ a b. slice_index a 0 < slice_index b 0) plan.settings
   pub few : length plan.settings ≤ length plan.batch
 
+-- how many transfers use a link; none where there is no link
+abbrev pub uses_of : List Transfer → Option Link → ℕ
+uses_of batch None = 0
+uses_of batch (Some link) = uses batch link
+
+-- few of the transfers were put in one by one
+abbrev pub HasFewReinsertions : Plan → Type 0
+HasFewReinsertions plan = AreFew (length plan.batch) (uses_of plan.batch plan.named.link) plan.reinserted
+
 -- ---- what the colouring of all transfers gives
 
--- a schedule of the batch with at most as many settings as some link has uses, in the order of a plan
+-- a schedule of the batch, in the order of a plan, with at most as many settings as the busiest link has uses
 pub record IsColoured (batch : List Transfer) (coloured : ColouredSettings) : Type 0 where
+  pub degree : ℕ
+  pub is_degree : IsDegree batch degree
   pub schedule : IsScheduleOf batch coloured.settings
-  pub most : (degree : ℕ) → ((link : Link) → uses batch link ≤ degree) → length coloured.settings ≤ degree
+  pub count : length coloured.settings ≤ degree
   pub none_empty : All (λ setting. 0 < length setting) coloured.settings
   pub ascending : All (AllPairs (λ t u. t < u)) coloured.settings
   pub by_least : AllPairs (λ a b. slice_index a 0 < slice_index b 0) coloured.settings
+  pub few : AreFew (length batch) degree coloured.inserted

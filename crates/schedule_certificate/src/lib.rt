@@ -1,11 +1,14 @@
 //! Schedules of batches: shortest ones with their certificates, and first fit.
 #![tactic(auto)]
 
+mod colouring;
+mod degree;
 mod gate;
 mod greedy;
 mod limits;
 mod planned;
 mod planning;
+mod workers;
 
 pub use gate::{Gate, OpenGate};
 pub use greedy::first_fit;

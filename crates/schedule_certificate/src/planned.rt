@@ -1,5 +1,5 @@
 ghost use Rattle.std.specs.Prelude.{◌≡◌, IfOk, Some, None};
-ghost use Rattle.schedule_certificate.specs.Plans.{IsPlan};
+ghost use Rattle.schedule_certificate.specs.Plans.{IsPlan, HasFewReinsertions};
 
 use alternating_path::Coloured;
 use batch::Batch;
@@ -20,18 +20,19 @@ pub struct Planned {
 }
 
 impl Model for Planned {
-    ghost use Rattle.schedule_certificate.specs.Plans.{Plan, IsPlan};
+    ghost use Rattle.schedule_certificate.specs.Plans.{Plan, IsPlan, HasFewReinsertions};
 
     ghost Value = { Plan };
 
     ghost view = { λ p. record { batch = p.batch; settings = p.coloured.settings; named = p.certificate; reinserted = p.coloured.inserted } };
 
-    ghost invariant = { λ p. IsPlan (record { batch = p.batch; settings = p.coloured.settings; named = p.certificate; reinserted = p.coloured.inserted }) };
+    ghost invariant = { λ p. IsPlan (record { batch = p.batch; settings = p.coloured.settings; named = p.certificate; reinserted = p.coloured.inserted }) × HasFewReinsertions (record { batch = p.batch; settings = p.coloured.settings; named = p.certificate; reinserted = p.coloured.inserted }) };
 }
 
 impl Planned {
     pub(crate) fn of(batch: Batch, coloured: Coloured, certificate: Certificate) -> Planned
-        requires { IsPlan (record { batch = batch; settings = coloured.settings; named = certificate; reinserted = coloured.inserted }) }
+        requires plan { IsPlan (record { batch = batch; settings = coloured.settings; named = certificate; reinserted = coloured.inserted }) }
+        requires reinserted { HasFewReinsertions (record { batch = batch; settings = coloured.settings; named = certificate; reinserted = coloured.inserted }) }
         ensures { result ≡ record { batch = batch; settings = coloured.settings; named = certificate; reinserted = coloured.inserted } }
     {
         Planned {
@@ -65,9 +66,11 @@ impl Planned {
         &self.certificate
     }
 
-    /// How many transfers were put in one by one.
+    /// How many transfers were put in one by one: at most three quarters of all, and none where the
+    /// busiest link's uses are a power of two.
     pub fn reinserted(&self) -> usize
-        ensures { result ≡ self.now.reinserted }
+        ensures reinserted { result ≡ self.now.reinserted }
+        ensures few { HasFewReinsertions self.now }
     {
         self.coloured.inserted()
     }

@@ -1,60 +1,39 @@
 //! Shortest schedules.
 
-ghost use Rattle.std.specs.Prelude.{◌≡◌, ◌≤◌, ◌<◌, ◌↔◌, ℕ, IfOk, length};
-ghost use Rattle.link_graph.specs.declared.link.Link.{Link};
-ghost use Rattle.link_graph.specs.Counts.{uses};
-ghost use Rattle.link_graph.specs.Schedules.{IsScheduleOf};
-ghost use Rattle.alternating_path.specs.Colouring.{AllPlaced, IsPlaced, nothing_placed};
-ghost use Rattle.schedule_certificate.specs.Plans.{NamesBusiest, IsPlan, IsColoured};
+ghost use Rattle.std.specs.Prelude.{◌≡◌, ◌≤◌, ◌<◌, ℕ, IfOk, length};
+ghost use Rattle.std.specs.List.{range_with_len};
+ghost use Rattle.schedule_certificate.specs.Plans.{NamesBusiest, IsPlan, IsColoured, HasFewReinsertions};
 
+use crate::colouring::colour_part;
 use crate::gate::Gate;
 use crate::limits::MAX_WORKERS;
 use crate::planned::Planned;
-use alternating_path::{Coloured, InsertFault, Table};
-use batch::{Batch, MAX_TRANSFERS};
+use crate::workers::Workers;
+use alternating_path::Coloured;
+use batch::Batch;
 use link_graph::{Certificate, LinkGraph};
 use std::alloc::{AllocError, Global};
 use std::thread::Threads;
 
-/// How many transfers use the busiest link: the greatest degree of the graph.
-fn degree_of(graph: &LinkGraph) -> usize
-    ensures most { (link : Link) → uses graph.now link ≤ result }
-    ensures least { (degree : ℕ) → ((link : Link) → uses graph.now link ≤ degree) → result ≤ degree }
-    ensures few { result ≤ MAX_TRANSFERS }
+/// The numbers of all transfers.
+fn all_transfers(alloc: Global, graph: &LinkGraph) -> Result<Vec<usize>, AllocError>
+    ensures { IfOk result (λ all. all.items ≡ range_with_len 0 (length graph.now)) }
 {
-    prove!(graph.len() <= MAX_TRANSFERS);
-    match graph.busiest() {
-        Some(link) => graph.uses(link),
-        None => 0,
-    }
-}
-
-/// Places every transfer of the table's batch, one after the other.
-fn insert_all(table: &mut Table<'_>, count: usize)
-    requires count { count ≡ length table.old.batch }
-    requires empty { table.old ≡ nothing_placed table.old.batch table.old.colours }
-    requires colours { (link : Link) → uses table.old.batch link ≤ table.old.colours }
-    ensures batch { table.new.batch ≡ table.old.batch }
-    ensures colours { table.new.colours ≡ table.old.colours }
-    ensures placed { AllPlaced table.new }
-{
-    alternating_path::laws::room();
-    for t in 0..count {
-        match table.insert(t) {
-            Ok(()) => (),
-            Err(InsertFault::Already) => unreachable!(),
-            Err(InsertFault::NoRoom) => unreachable!(),
-        }
-    }
+    (0..graph.len()).collect(alloc)
 }
 
 /// The schedule of a colouring of all transfers with as many colours as the busiest link has uses.
-fn colour_all(alloc: Global, graph: &LinkGraph) -> Result<Coloured, AllocError>
+fn colour_all<R: Threads + Sync, G: Gate>(
+    rt: &R,
+    gate: &G,
+    workers: Workers,
+    alloc: Global,
+    graph: &LinkGraph,
+) -> Result<Coloured, AllocError>
     ensures { IfOk result (λ coloured. IsColoured graph.now coloured) }
 {
-    let count = graph.len();
-    let mut table = Table::new(alloc, graph, degree_of(graph))?;
-    insert_all(&mut table, count);
+    let all = all_transfers(alloc, graph)?;
+    let table = colour_part(rt, gate, workers, alloc, graph, &all)?;
     let coloured = table.into_schedule()?;
     Ok(coloured)
 }
@@ -72,25 +51,32 @@ fn certificate_of(graph: &LinkGraph) -> Result<Certificate, AllocError>
 
 /// Plans a batch: a schedule with as few settings as any, and its certificate.
 ///
-/// Each transfer is put into a colouring of the batch's graph with as many colours as the busiest
-/// link has uses, where need be along an alternating path of two colours (König 1916). Takes time
-/// that grows with the number of transfers times that number of colours. Planning may be given 1 to
-/// [`MAX_WORKERS`] workers and a gate at which they arrive; as yet it uses none of them. The batch is
-/// dropped where there is no memory.
+/// The transfers are coloured with as many colours as the busiest link has uses (König 1916), by
+/// halving them along Euler walks and colouring the halves, and so on; only where a number of uses is
+/// odd, some are put in one by one (Gabow 1976). Takes time that grows with the number of transfers
+/// times the logarithm of that number of uses, and with the transfers that are put in times the
+/// number of uses.
+///
+/// There may be 1 to [`MAX_WORKERS`] workers, numbered from 1. Two halves are coloured at once where
+/// two workers or more may do it, as far as threads can be had: the first half of their numbers,
+/// rounded up, goes to the one half and the others to the other. Each half first lets the least of
+/// its numbers arrive at the gate. One worker alone never does. The batch is dropped where there is
+/// no memory.
 pub fn schedule<R: Threads + Sync, G: Gate>(
-    _rt: &R,
+    rt: &R,
     alloc: Global,
     batch: Batch,
-    _workers: usize,
-    _gate: &G,
+    workers: usize,
+    gate: &G,
 ) -> Result<Planned, AllocError>
-    requires some { 1 ≤ _workers }
-    requires few { _workers ≤ MAX_WORKERS }
+    requires some { 1 ≤ workers }
+    requires few { workers ≤ MAX_WORKERS }
     ensures batch { IfOk result (λ planned. planned.batch ≡ batch) }
     ensures plan { IfOk result (λ planned. IsPlan planned) }
+    ensures reinserted { IfOk result (λ planned. HasFewReinsertions planned) }
 {
     let graph = LinkGraph::of(&batch)?;
-    let coloured = colour_all(alloc, &graph)?;
+    let coloured = colour_all(rt, gate, Workers::all(workers), alloc, &graph)?;
     let certificate = certificate_of(&graph)?;
     Ok(Planned::of(batch, coloured, certificate))
 }

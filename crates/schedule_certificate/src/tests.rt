@@ -1,9 +1,15 @@
-use crate::{MAX_WORKERS, OpenGate, Planned, first_fit, schedule};
+ghost use Rattle.std.specs.Prelude.{◌≤◌};
+ghost use Rattle.schedule_certificate.specs.declared.limits.TheConstants.{MAX_WORKERS};
+
+use crate::{Gate, MAX_WORKERS, OpenGate, Planned, first_fit, schedule};
 use batch::{Batch, Shape};
 use link_graph::{End, Link, Schedule};
 use std::alloc::Global;
 use std::fmt::Write;
+use std::sync::atomic::AtomicBool;
+use std::sync::atomic::Ordering::SeqCst;
 use std::test::Fail;
+use std::thread;
 use std::thread::Threads;
 
 /// Row first-fit-loses.
@@ -13,10 +19,45 @@ fn read(alloc: Global, text: &str) -> Result<Batch, Fail> {
     Ok(Batch::read(alloc, text.as_bytes(), Shape::WIDEST)?)
 }
 
-/// The plan of a batch text, by one worker.
-fn plan<R: AllocGlobal + Threads + Sync>(rt: &R, text: &str) -> Result<Planned, Fail> {
+/// The plan of a batch text, by so many workers.
+fn plan_by<R: AllocGlobal + Threads + Sync>(
+    rt: &R,
+    text: &str,
+    workers: usize,
+) -> Result<Planned, Fail>
+    requires some { 1 ≤ workers }
+    requires few { workers ≤ MAX_WORKERS }
+{
     let batch = read(rt.alloc(), text)?;
-    Ok(schedule(rt, rt.alloc(), batch, 1, &OpenGate)?)
+    Ok(schedule(rt, rt.alloc(), batch, workers, &OpenGate)?)
+}
+
+/// Whether so many workers give this plan.
+fn gives<R: AllocGlobal + Threads + Sync>(
+    rt: &R,
+    text: &str,
+    workers: usize,
+    planned: &Planned,
+) -> Result<bool, Fail>
+    requires some { 1 ≤ workers }
+    requires few { workers ≤ MAX_WORKERS }
+{
+    let other = plan_by(rt, text, workers)?;
+    Ok(are_alike(planned, &other))
+}
+
+/// Whether more workers give this plan too.
+fn all_give<R: AllocGlobal + Threads + Sync>(
+    rt: &R,
+    text: &str,
+    planned: &Planned,
+) -> Result<bool, Fail> {
+    Ok(
+        gives(rt, text, 2, planned)?
+            && gives(rt, text, 3, planned)?
+            && gives(rt, text, 16, planned)?
+            && gives(rt, text, MAX_WORKERS, planned)?,
+    )
 }
 
 /// Whether the schedule has just these settings.
@@ -67,35 +108,28 @@ fn are_alike(one: &Planned, other: &Planned) -> bool {
 
 #[test]
 fn three_transfers(rt: HostRuntime) -> Result<(), Fail> {
-    let planned = plan(&rt, "batch 3\npush 0 0 1 0\npush 0 1 2 0\npush 1 1 2 1\n")?;
+    let text = "batch 3\npush 0 0 1 0\npush 0 1 2 0\npush 1 1 2 1\n";
+    let planned = plan_by(&rt, text, 1)?;
     assert!(rt; has_settings(planned.schedule(), &[[0, 2].as_slice(), [1].as_slice()]));
     assert!(rt; names_the_first_link(&planned, &[0, 1]));
     assert_eq!(rt; planned.batch().len(), 3);
-    assert_eq!(rt; planned.reinserted(), 3);
+    assert_eq!(rt; planned.reinserted(), 0);
     let copy = planned.copy()?;
     assert!(rt; are_alike(&copy, &planned));
-    Ok(())
-}
-
-#[test]
-fn workers_plan_alike(rt: HostRuntime) -> Result<(), Fail> {
-    let alone = plan(&rt, FIRST_FIT_LOSES)?;
-    for workers in [2, 3, 16, MAX_WORKERS] {
-        let batch = read(rt.alloc(), FIRST_FIT_LOSES)?;
-        let planned = schedule(&rt, rt.alloc(), batch, workers, &OpenGate)?;
-        assert!(rt; are_alike(&planned, &alone));
-    }
+    assert!(rt; all_give(&rt, text, &planned)?);
     Ok(())
 }
 
 #[test]
 fn empty_batch(rt: HostRuntime) -> Result<(), Fail> {
-    let planned = plan(&rt, "batch 0\n")?;
+    let text = "batch 0\n";
+    let planned = plan_by(&rt, text, 1)?;
     assert_eq!(rt; planned.schedule().settings(), 0);
     assert_eq!(rt; planned.certificate().link(), None);
     assert_eq!(rt; planned.reinserted(), 0);
     let copy = planned.copy()?;
     assert!(rt; are_alike(&copy, &planned));
+    assert!(rt; all_give(&rt, text, &planned)?);
     Ok(())
 }
 
@@ -109,15 +143,17 @@ fn first_fit_loses(rt: HostRuntime) -> Result<(), Fail> {
             &[[0, 1].as_slice(), [2].as_slice(), [3].as_slice()]
         )
     );
-    let planned = plan(&rt, FIRST_FIT_LOSES)?;
+    let planned = plan_by(&rt, FIRST_FIT_LOSES, 1)?;
     assert!(rt; has_settings(planned.schedule(), &[[0, 2].as_slice(), [1, 3].as_slice()]));
     assert!(rt; names_the_first_link(&planned, &[0, 3]));
+    assert!(rt; all_give(&rt, FIRST_FIT_LOSES, &planned)?);
     Ok(())
 }
 
 #[test]
 fn thrice_the_same(rt: HostRuntime) -> Result<(), Fail> {
-    let planned = plan(&rt, "batch 3\npush 0 0 1 0\npush 0 0 1 0\npush 0 0 1 0\n")?;
+    let text = "batch 3\npush 0 0 1 0\npush 0 0 1 0\npush 0 0 1 0\n";
+    let planned = plan_by(&rt, text, 1)?;
     assert!(rt;
         has_settings(
             planned.schedule(),
@@ -125,6 +161,7 @@ fn thrice_the_same(rt: HostRuntime) -> Result<(), Fail> {
         )
     );
     assert!(rt; names_the_first_link(&planned, &[0, 1, 2]));
+    assert!(rt; all_give(&rt, text, &planned)?);
     Ok(())
 }
 
@@ -143,17 +180,23 @@ fn all_to_all(alloc: Global, modules: u8) -> Result<String, Fail> {
 
 #[test]
 fn four_by_four(rt: HostRuntime) -> Result<(), Fail> {
-    let planned = plan(&rt, all_to_all(rt.alloc(), 4)?.as_str())?;
+    let text = all_to_all(rt.alloc(), 4)?;
+    let planned = plan_by(&rt, text.as_str(), 1)?;
     assert!(rt; has_shape(planned.schedule(), 4, 4));
+    assert_eq!(rt; planned.reinserted(), 0);
     assert!(rt; names_the_first_link(&planned, &[0, 1, 2, 3]));
+    assert!(rt; all_give(&rt, text.as_str(), &planned)?);
     Ok(())
 }
 
 #[test]
 fn three_by_three(rt: HostRuntime) -> Result<(), Fail> {
-    let planned = plan(&rt, all_to_all(rt.alloc(), 3)?.as_str())?;
+    let text = all_to_all(rt.alloc(), 3)?;
+    let planned = plan_by(&rt, text.as_str(), 1)?;
     assert!(rt; has_shape(planned.schedule(), 3, 3));
+    assert!(rt; planned.reinserted() <= 2);
     assert!(rt; names_the_first_link(&planned, &[0, 1, 2]));
+    assert!(rt; all_give(&rt, text.as_str(), &planned)?);
     Ok(())
 }
 
@@ -163,8 +206,91 @@ fn largest_batch(rt: HostRuntime) -> Result<(), Fail> {
     for _ in 0..4096 {
         text.push_str("push 0 0 1 0\n")?;
     }
-    let planned = plan(&rt, text.as_str())?;
+    let planned = plan_by(&rt, text.as_str(), 1)?;
     assert!(rt; has_shape(planned.schedule(), 4096, 1));
+    assert_eq!(rt; planned.reinserted(), 0);
     assert_eq!(rt; planned.certificate().transfers().len(), 4096);
+    assert!(rt; all_give(&rt, text.as_str(), &planned)?);
+    Ok(())
+}
+
+#[test]
+fn sixty_three_settings(rt: HostRuntime) -> Result<(), Fail> {
+    let mut text = String::from_str(rt.alloc(), "batch 1000\n")?;
+    let mut named = Vec::new(rt.alloc());
+    for t in 0..1000usize {
+        let (a, b) = (t % 16, (7 * t + t / 16) % 16);
+        writeln!(text, "push {a} 0 {b} 0")?;
+        if a == 0 {
+            named.push(t)?;
+        }
+    }
+    let planned = plan_by(&rt, text.as_str(), 1)?;
+    assert_eq!(rt; planned.schedule().settings(), 63);
+    assert_eq!(rt; named.len(), 63);
+    assert!(rt; names_the_first_link(&planned, &named));
+    assert!(rt; all_give(&rt, text.as_str(), &planned)?);
+    Ok(())
+}
+
+/// How often a worker looks whether the other has come.
+const TURNS: usize = 10_000_000;
+
+/// A gate that holds each of two workers until the other has come.
+#[derive(Drop)]
+struct PairGate {
+    first: AtomicBool,
+    second: AtomicBool,
+    gave_up: AtomicBool,
+}
+
+impl PairGate {
+    fn new() -> PairGate {
+        PairGate {
+            first: AtomicBool::new(false),
+            second: AtomicBool::new(false),
+            gave_up: AtomicBool::new(false),
+        }
+    }
+}
+
+impl Gate for PairGate {
+    fn arrive(&self, place: usize) {
+        let (own, other) = if place == 1 {
+            (&self.first, &self.second)
+        } else {
+            (&self.second, &self.first)
+        };
+        own.store(true, SeqCst);
+        for _ in 0..TURNS {
+            if other.load(SeqCst) {
+                return;
+            }
+            thread::yield_now();
+        }
+        self.gave_up.store(true, SeqCst);
+    }
+}
+
+#[test]
+fn both_halves_at_once(rt: HostRuntime) -> Result<(), Fail> {
+    let batch = read(rt.alloc(), all_to_all(rt.alloc(), 4)?.as_str())?;
+    let gate = PairGate::new();
+    let planned = schedule(&rt, rt.alloc(), batch, 2, &gate)?;
+    assert!(rt; gate.first.load(SeqCst));
+    assert!(rt; gate.second.load(SeqCst));
+    assert!(rt; !gate.gave_up.load(SeqCst));
+    assert!(rt; has_shape(planned.schedule(), 4, 4));
+    Ok(())
+}
+
+#[test]
+fn one_worker_never_arrives(rt: HostRuntime) -> Result<(), Fail> {
+    let batch = read(rt.alloc(), all_to_all(rt.alloc(), 4)?.as_str())?;
+    let gate = PairGate::new();
+    let planned = schedule(&rt, rt.alloc(), batch, 1, &gate)?;
+    assert!(rt; !gate.first.load(SeqCst));
+    assert!(rt; !gate.second.load(SeqCst));
+    assert!(rt; has_shape(planned.schedule(), 4, 4));
     Ok(())
 }

@@ -1,0 +1,38 @@
+-- Parts of the transfers of a batch, and colourings of just these.
+use Rattle.std.specs.Prelude.{◌≡◌, ◌↔◌, ℕ, ◌<◌, ◌≤◌, ◌⊎◌, max, List, length, None, All, Contains}
+use Rattle.batch.specs.declared.transfer.Transfer.{Transfer}
+use Rattle.link_graph.specs.declared.link.Link.{Link}
+use Rattle.link_graph.specs.Certificates.{AreDistinct}
+use Rattle.link_graph.specs.Counts.{uses}
+use Rattle.link_graph.specs.Marks.{members}
+use Rattle.euler_split.specs.Split.{uses_among}
+use Rattle.alternating_path.specs.Colouring.{Colouring, colour_at, IsPlaced}
+use Rattle.schedule_certificate.specs.Reinsertions.{AreFew}
+
+-- distinct numbers of transfers of the batch
+pub record IsPart (batch : List Transfer) (part : List ℕ) : Type 0 where
+  pub known : All (λ t. t < length batch) part
+  pub distinct : AreDistinct part
+
+-- d is the uses of the link that most of the transfers use: the greatest degree of their graph
+pub record IsDegree (transfers : List Transfer) (d : ℕ) : Type 0 where
+  pub most : (link : Link) → uses transfers link ≤ d
+  pub reached : (d ≡ 0) ⊎ ((link : Link) × (uses transfers link ≡ d))
+
+-- just the transfers of the part are placed, in as many colours as its degree (one where that is 0), and few were put in one by one
+pub record IsColouredPart (batch : List Transfer) (part : List ℕ) (table : Colouring) : Type 0 where
+  pub degree : ℕ
+  pub is_degree : IsDegree (members batch part) degree
+  pub batch_is : table.batch ≡ batch
+  pub colours_is : table.colours ≡ max 1 degree
+  pub placed : (t : ℕ) → IsPlaced table.colour t ↔ Contains part t
+  pub few : AreFew (length part) degree table.inserted
+
+-- These transfers aren't placed, and each link has at least as many colours as it is used by them and the placed ones together.
+pub record HasRoomFor (table : Colouring) (class : List ℕ) : Type 0 where
+  pub whole : List ℕ
+  pub is_part : IsPart table.batch whole
+  pub room : (link : Link) → uses_among table.batch whole link ≤ table.colours
+  pub each : (t : ℕ) → Contains whole t ↔ (IsPlaced table.colour t ⊎ Contains class t)
+  pub out : (t : ℕ) → Contains class t → colour_at table.colour t ≡ None
+  pub distinct : AreDistinct class

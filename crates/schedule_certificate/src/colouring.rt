@@ -1,0 +1,107 @@
+//! Colouring a part of a graph by its halves.
+
+ghost use Rattle.std.specs.Prelude.{◌≡◌, ℕ, ◌+◌, ◌<◌, ◌≤◌, ◌↔◌, ◌⊎◌, length, Contains, IfOk};
+ghost use Rattle.std.specs.Thread.{IsSync};
+ghost use Rattle.alternating_path.specs.Colouring.{IsPlaced};
+ghost use Rattle.schedule_certificate.specs.Parts.{IsPart, IsColouredPart, HasRoomFor};
+
+use crate::degree::degree_of;
+use crate::gate::Gate;
+use crate::workers::Workers;
+use alternating_path::{InsertFault, Table};
+use euler_split::split;
+use link_graph::LinkGraph;
+use std::alloc::{AllocError, Global};
+use std::thread::{Threads, join};
+
+/// Puts the transfers of a class that was given up into the other colours.
+fn put_back(table: &mut Table<'_>, class: &[usize])
+    requires { HasRoomFor table.old class.now }
+    ensures batch { table.new.batch ≡ table.old.batch }
+    ensures colours { table.new.colours ≡ table.old.colours }
+    ensures placed { (t : ℕ) → IsPlaced table.new.colour t ↔ (IsPlaced table.old.colour t ⊎ Contains class.now t) }
+    ensures inserted { table.new.inserted ≤ table.old.inserted + length class.now }
+{
+    for t in class {
+        match table.insert(*t) {
+            Ok(()) => (),
+            Err(InsertFault::Already) => unreachable!(),
+            Err(InsertFault::NoRoom) => unreachable!(),
+        }
+    }
+}
+
+/// Colours the members with as many colours as their busiest link has uses among them, and with one
+/// where there are none.
+///
+/// The members are halved so that the uses of each link are, each half is coloured by itself, and
+/// the two tables are joined. Where the number of uses is odd, that may be one colour too many: then
+/// a smallest class is given up, and its transfers are put into the other colours (Gabow 1976).
+#[cycle(halves)]
+pub(crate) fn colour_part<'a, R: Threads + Sync, G: Gate>(
+    rt: &R,
+    gate: &G,
+    workers: Workers,
+    alloc: Global,
+    graph: &'a LinkGraph,
+    members: &[usize],
+) -> Result<Table<'a>, AllocError>
+    requires { IsPart graph.now members.now }
+    ensures { IfOk result (λ table. IsColouredPart graph.now members.now table) }
+{
+    let degree = degree_of(graph, members);
+    if degree <= 1 {
+        return Table::one(alloc, graph, members);
+    }
+    let (left, right) = split(alloc, graph, members)?;
+    let (left, right) = colour_halves(rt, gate, workers, alloc, graph, &left, &right)?;
+    let joined = Table::join(left, right)?;
+    if joined.colours() <= degree {
+        return Ok(joined);
+    }
+    let (mut table, class) = joined.take_back()?;
+    put_back(&mut table, &class);
+    Ok(table)
+}
+
+/// Colours two parts: both at once where there are two workers or more.
+#[cycle(halves)]
+fn colour_halves<'a, R: Threads + Sync, G: Gate>(
+    rt: &R,
+    gate: &G,
+    workers: Workers,
+    alloc: Global,
+    graph: &'a LinkGraph,
+    left: &[usize],
+    right: &[usize],
+) -> Result<(Table<'a>, Table<'a>), AllocError>
+    requires left { IsPart graph.now left.now }
+    requires right { IsPart graph.now right.now }
+    ensures left { IfOk result (λ tables. IsColouredPart graph.now left.now tables.0) }
+    ensures right { IfOk result (λ tables. IsColouredPart graph.now right.now tables.1) }
+{
+    if workers.count < 2 {
+        let left = colour_part(rt, gate, workers, alloc, graph, left)?;
+        let right = colour_part(rt, gate, workers, alloc, graph, right)?;
+        return Ok((left, right));
+    }
+    let (first, rest) = workers.halves();
+    let (left, right) = join(
+        rt,
+        || -> Result<Table, AllocError>
+            requires { IsSync R.row × IsSync G.row × IsPart graph.now left.now }
+            ensures { IfOk result (λ table. IsColouredPart graph.entry.now left.entry.now table) }
+        {
+            gate.arrive(first.least);
+            colour_part(rt, gate, first, alloc, graph, left)
+        },
+        || -> Result<Table, AllocError>
+            requires { IsSync R.row × IsSync G.row × IsPart graph.now right.now }
+            ensures { IfOk result (λ table. IsColouredPart graph.entry.now right.entry.now table) }
+        {
+            gate.arrive(rest.least);
+            colour_part(rt, gate, rest, alloc, graph, right)
+        },
+    );
+    Ok((left?, right?))
+}

@@ -1,0 +1,46 @@
+ghost use Rattle.std.specs.Prelude.{◌≡◌, ◌+◌, ◌<◌, ◌≤◌, max, All, length, slice_index, slice_set};
+ghost use Rattle.batch.specs.declared.limits.TheConstants.{MAX_MODULES};
+ghost use Rattle.link_graph.specs.Links.{index_of};
+ghost use Rattle.link_graph.specs.Marks.{members};
+ghost use Rattle.schedule_certificate.specs.Parts.{IsPart, IsDegree};
+
+use batch::MAX_TRANSFERS;
+use link_graph::{LINKS, Link, LinkGraph};
+
+/// Counts one more use of the link, and says how many there are now.
+fn count_use(uses: &mut [usize; LINKS], link: Link) -> usize
+    requires module { link.«module» < MAX_MODULES }
+    requires room { All (λ count. count < usize.MAX) uses.old }
+    ensures count { result ≡ slice_index uses.old (index_of link) + 1 }
+    ensures counted { uses.new ≡ slice_set uses.old (index_of link) result }
+{
+    let count = &mut uses[link.index()];
+    *count += 1;
+    *count
+}
+
+fn greater(a: usize, b: usize) -> usize
+    ensures { result ≡ max a b }
+{
+    if a < b { b } else { a }
+}
+
+/// How many transfers of a part use the link that most of them use.
+///
+/// Takes time that grows with the number of transfers in the part.
+pub(crate) fn degree_of(graph: &LinkGraph, part: &[usize]) -> usize
+    requires { IsPart graph.now part.now }
+    ensures degree { IsDegree (members graph.now part.now) result }
+    ensures few { result ≤ MAX_TRANSFERS }
+{
+    prove!(graph.len() <= MAX_TRANSFERS);
+    let mut uses = [0; LINKS];
+    let mut degree = 0;
+    for t in part {
+        let (start, answer) = graph.ends(*t).unwrap();
+        let starts = count_use(&mut uses, start);
+        let answers = count_use(&mut uses, answer);
+        degree = greater(greater(degree, starts), answers);
+    }
+    degree
+}

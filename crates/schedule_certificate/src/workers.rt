@@ -1,0 +1,43 @@
+ghost use Rattle.std.specs.Prelude.{◌≡◌, ◌+◌, ◌-◌, ◌/◌, ◌≤◌, ◌<◌};
+ghost use Rattle.schedule_certificate.specs.declared.limits.TheConstants.{MAX_WORKERS};
+
+use crate::limits::MAX_WORKERS;
+
+/// The workers who may take part in some work: a range of their numbers, which begin at 1.
+#[derive(Clone, Copy)]
+pub(crate) struct Workers {
+    pub least: usize,
+    pub count: usize,
+    ghost numbered: { least + count ≤ MAX_WORKERS + 1 },
+}
+
+impl Workers {
+    /// This many workers.
+    pub fn all(count: usize) -> Workers
+        requires { count ≤ MAX_WORKERS }
+        ensures least { result.least ≡ 1 }
+        ensures count { result.count ≡ count }
+    {
+        Workers { least: 1, count }
+    }
+
+    /// The first half of the range, rounded up, and the rest.
+    pub fn halves(self) -> (Workers, Workers)
+        ensures first_least { result.0.least ≡ self.least }
+        ensures first_count { result.0.count ≡ (self.count + 1) / 2 }
+        ensures rest_least { result.1.least ≡ self.least + (self.count + 1) / 2 }
+        ensures rest_count { result.1.count ≡ self.count / 2 }
+    {
+        let first = self.count.div_ceil(2);
+        (
+            Workers {
+                least: self.least,
+                count: first,
+            },
+            Workers {
+                least: self.least + first,
+                count: self.count - first,
+            },
+        )
+    }
+}
