@@ -1,9 +1,9 @@
-ghost use Rattle.std.specs.Prelude.{◌≡◌, ◌<◌, ◌≤◌, length, All, IfOk};
+ghost use Rattle.std.specs.Prelude.{◌≡◌, ℕ, ◌<◌, ◌≤◌, length, All, None, IfOk, slice_index_or};
 ghost use Rattle.batch.specs.Batches.{IsBatch};
 ghost use Rattle.link_graph.specs.Certificates.{AreDistinct};
+ghost use Rattle.euler_split.specs.declared.halving.TheConstants.{FEW};
 ghost use Rattle.euler_split.specs.Split.{IsSplit};
-ghost use Rattle.euler_split.specs.Pairs.{ArePairs, AreBalanced};
-ghost use Rattle.euler_split.specs.Walks.{IsHalved};
+ghost use Rattle.euler_split.specs.Walks.{half_at};
 ghost use Rattle.euler_split.specs.Deals.{IsDealt, in_left};
 
 use crate::pairing::pair_at;
@@ -12,38 +12,8 @@ use batch::{MAX_MODULES, MAX_TRANSFERS};
 use link_graph::{End, LinkGraph};
 use std::alloc::{AllocError, Global};
 
-/// The partner of each place of `members` at one end.
-fn partners_at(
-    alloc: Global,
-    graph: &LinkGraph,
-    members: &[usize],
-    end: End,
-) -> Result<Vec<Option<u16>>, AllocError>
-    requires batch { IsBatch graph.now }
-    requires known { All (λ t. t < length graph.now) members.now }
-    requires few { length members.now ≤ MAX_TRANSFERS }
-    ensures { IfOk result (λ partners. AreBalanced graph.now members.now end partners.items) }
-{
-    let mut partners = vec![in alloc; None; members.len()]?;
-    pair_at(graph, members, end, &mut partners);
-    Ok(partners)
-}
-
-/// The half of each place, so that no two partners are in one.
-fn halves_of(
-    alloc: Global,
-    zero: &[Option<u16>],
-    three: &[Option<u16>],
-) -> Result<Vec<Option<bool>>, AllocError>
-    requires sized { length three.now ≡ length zero.now }
-    requires zero_pairs { ArePairs zero.now }
-    requires three_pairs { ArePairs three.now }
-    ensures { IfOk result (λ halves. IsHalved zero.now three.now (length zero.now) halves.items) }
-{
-    let mut halves = vec![in alloc; None; zero.len()]?;
-    halve(zero, three, &mut halves);
-    Ok(halves)
-}
+/// Of how many members at most the places are kept on the stack.
+const FEW: usize = 64;
 
 /// The members in the left half, and the others.
 fn deal(
@@ -69,6 +39,76 @@ fn deal(
     Ok((left, right))
 }
 
+/// The two halves of some transfers. The slices have a cell for each place of `members`, and hold
+/// nothing yet.
+fn split_by(
+    alloc: Global,
+    graph: &LinkGraph,
+    members: &[usize],
+    zero: &mut [Option<u16>],
+    three: &mut [Option<u16>],
+    halves: &mut [Option<bool>],
+) -> Result<(Vec<usize>, Vec<usize>), AllocError>
+    requires batch { IsBatch graph.now }
+    requires known { All (λ t. t < length graph.now) members.now }
+    requires few { length members.now ≤ MAX_TRANSFERS }
+    requires zero_sized { length zero.old ≡ length members.now }
+    requires three_sized { length three.old ≡ length members.now }
+    requires halves_sized { length halves.old ≡ length members.now }
+    requires zero_empty { (place : ℕ) → slice_index_or zero.old place None ≡ None }
+    requires three_empty { (place : ℕ) → slice_index_or three.old place None ≡ None }
+    requires halves_empty { (place : ℕ) → half_at halves.old place ≡ None }
+    ensures { IfOk result (λ halves. IsSplit graph.now members.now halves.0.items halves.1.items) }
+{
+    pair_at(graph, members, End::Zero, zero);
+    pair_at(graph, members, End::Three, three);
+    halve(zero, three, halves);
+    deal(alloc, members, halves)
+}
+
+/// The two halves of some transfers, by cells on the stack.
+fn split_few(
+    alloc: Global,
+    graph: &LinkGraph,
+    members: &[usize],
+) -> Result<(Vec<usize>, Vec<usize>), AllocError>
+    requires batch { IsBatch graph.now }
+    requires known { All (λ t. t < length graph.now) members.now }
+    requires few { length members.now ≤ FEW }
+    ensures { IfOk result (λ halves. IsSplit graph.now members.now halves.0.items halves.1.items) }
+{
+    let count = members.len();
+    let mut zero = [None; FEW];
+    let mut three = [None; FEW];
+    let mut halves = [None; FEW];
+    split_by(
+        alloc,
+        graph,
+        members,
+        &mut zero[..count],
+        &mut three[..count],
+        &mut halves[..count],
+    )
+}
+
+/// The two halves of some transfers, by cells on the heap.
+fn split_many(
+    alloc: Global,
+    graph: &LinkGraph,
+    members: &[usize],
+) -> Result<(Vec<usize>, Vec<usize>), AllocError>
+    requires batch { IsBatch graph.now }
+    requires known { All (λ t. t < length graph.now) members.now }
+    requires few { length members.now ≤ MAX_TRANSFERS }
+    ensures { IfOk result (λ halves. IsSplit graph.now members.now halves.0.items halves.1.items) }
+{
+    let count = members.len();
+    let mut zero = vec![in alloc; None; count]?;
+    let mut three = vec![in alloc; None; count]?;
+    let mut halves = vec![in alloc; None; count]?;
+    split_by(alloc, graph, members, &mut zero, &mut three, &mut halves)
+}
+
 /// Two halves of some transfers, in which each link's uses are halved too, rounded up where they are
 /// odd. `members` are the numbers of the transfers, without repetition; each goes into one half.
 ///
@@ -83,8 +123,9 @@ pub fn split(
     ensures { IfOk result (λ halves. IsSplit graph.now members.now halves.0.items halves.1.items) }
 {
     prove!(members.len() <= graph.len());
-    let zero = partners_at(alloc, graph, members, End::Zero)?;
-    let three = partners_at(alloc, graph, members, End::Three)?;
-    let halves = halves_of(alloc, &zero, &three)?;
-    deal(alloc, members, &halves)
+    if members.len() <= FEW {
+        split_few(alloc, graph, members)
+    } else {
+        split_many(alloc, graph, members)
+    }
 }

@@ -12,15 +12,15 @@ use Rattle.link_graph.specs.ScheduleText.{Said, said, Says}
 use Rattle.link_graph.proofs.OneFault.{none_wrong, same_fault}
 use Rattle.link_graph.proofs.SaidLines.{one_said, says_or_faults, one_bad_line}
 use Rattle.exchange.specs.declared.refusal.Refusal.{Refusal}
-use Rattle.exchange.specs.declared.refusal.Refusal.TheVariants.{Batch, Schedule, NoCertificate, Check}
+use Rattle.exchange.specs.declared.refusal.Refusal.TheVariants.{Batch, Schedule, NoCertificate, Check, Shape, Run, NoMemory}
 use Rattle.exchange.specs.Answers.{Printed, IsRefusedBy, IsShown, IsFirstScheduleFault, IsFirstWrong, IsChecked, shortest, refused, shortest_line}
 
-printed_same : (p q : Printed) → p.text ≡ q.text → p.status ≡ q.status → p ≡ q
+pub printed_same : (p q : Printed) → p.text ≡ q.text → p.status ≡ q.status → p ≡ q
 printed_same p q text status =
     let made : List ℕ → ℕ → Printed = λ t s. record { text = t; status = s } in
     ap (λ (t : List ℕ). made t p.status) text ∙ ap (made q.text) status
 
-refused_same : (refusal : Refusal) (p q : Printed) → IsRefusedBy refusal p → IsRefusedBy refusal q → p ≡ q
+pub refused_same : (refusal : Refusal) (p q : Printed) → IsRefusedBy refusal p → IsRefusedBy refusal q → p ≡ q
 refused_same refusal p q a b = printed_same p q (a.line ∙ sym b.line) (a.status ∙ sym b.status)
 
 -- a schedule text that says something has no line at fault
@@ -61,6 +61,9 @@ shown_right shape valid batch schedule count NoCertificate shown wrong = one_cer
 shown_right shape valid batch schedule count (Check fault) shown wrong =
     none_wrong shown.transfers shown.settings shown.named fault shown.shortest.schedule shown.certificate
     (same_texts (λ ts xs m. IsFirstCheckFault ts xs m fault) shape valid batch schedule shown.transfers wrong.0 shown.settings wrong.1 shown.named wrong.2 shown.batch_read wrong.3 shown.schedule_read wrong.4 wrong.5)
+shown_right shape valid batch schedule count Shape shown wrong = wrong
+shown_right shape valid batch schedule count (Run why) shown wrong = wrong
+shown_right shape valid batch schedule count NoMemory shown wrong = wrong
 
 -- there is one first thing that is wrong
 one_wrong : (shape : Extent) → IsShape shape → (batch schedule : List ℕ) (f g : Refusal) → IsFirstWrong shape batch schedule f → IsFirstWrong shape batch schedule g → f ≡ g
@@ -82,6 +85,21 @@ one_wrong shape valid batch schedule (Check f) NoCertificate a b = absurd (one_c
 one_wrong shape valid batch schedule (Check f) (Check g) a b =
     ap Check (same_fault a.0 a.1 a.2 f g a.5
     (same_texts (λ ts xs m. IsFirstCheckFault ts xs m g) shape valid batch schedule a.0 b.0 a.1 b.1 a.2 b.2 a.3 b.3 a.4 b.4 b.5))
+one_wrong shape valid batch schedule (Batch f) Shape a b = absurd b
+one_wrong shape valid batch schedule (Batch f) (Run g) a b = absurd b
+one_wrong shape valid batch schedule (Batch f) NoMemory a b = absurd b
+one_wrong shape valid batch schedule (Schedule f) Shape a b = absurd b
+one_wrong shape valid batch schedule (Schedule f) (Run g) a b = absurd b
+one_wrong shape valid batch schedule (Schedule f) NoMemory a b = absurd b
+one_wrong shape valid batch schedule NoCertificate Shape a b = absurd b
+one_wrong shape valid batch schedule NoCertificate (Run g) a b = absurd b
+one_wrong shape valid batch schedule NoCertificate NoMemory a b = absurd b
+one_wrong shape valid batch schedule (Check f) Shape a b = absurd b
+one_wrong shape valid batch schedule (Check f) (Run g) a b = absurd b
+one_wrong shape valid batch schedule (Check f) NoMemory a b = absurd b
+one_wrong shape valid batch schedule Shape g a b = absurd a
+one_wrong shape valid batch schedule (Run f) g a b = absurd a
+one_wrong shape valid batch schedule NoMemory g a b = absurd a
 
 one_count : (shape : Extent) → IsShape shape → (batch schedule : List ℕ) (m n : ℕ) → IsShown shape batch schedule m → IsShown shape batch schedule n → m ≡ n
 one_count shape valid batch schedule m n a b =

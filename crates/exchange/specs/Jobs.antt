@@ -4,7 +4,7 @@ use Rattle.std.specs.Str.Parse.{digits_value, without_leading_plus}
 use Rattle.clap.specs.Words.{Row, Text, first_of, one_of, subcommand_of}
 use Rattle.schedule_certificate.specs.declared.limits.TheConstants.{MAX_WORKERS}
 use Rattle.exchange.specs.declared.words.Job.{Job}
-use Rattle.exchange.specs.declared.words.Job.TheVariants.{Plan, Check}
+use Rattle.exchange.specs.declared.words.Job.TheVariants.{Plan, Check, Run}
 use Rattle.exchange.specs.Program.{program}
 
 -- the number that the text of `--workers` reads as
@@ -15,6 +15,7 @@ HasWorkers rows n = (text : Text) × (one_of (codes "workers") rows ≡ Some tex
 abbrev pub IsJob : Text → List Row → Job → Type 0
 IsJob name rows (Plan file workers) = (name ≡ codes "plan") × (first_of (codes "FILE") rows ≡ Some file) × HasWorkers rows workers
 IsJob name rows (Check batch schedule) = (name ≡ codes "check") × (first_of (codes "BATCH") rows ≡ Some batch) × (first_of (codes "SCHEDULE") rows ≡ Some schedule)
+IsJob name rows (Run shape batch workers) = (name ≡ codes "run") × (first_of (codes "SHAPE") rows ≡ Some shape) × (first_of (codes "BATCH") rows ≡ Some batch) × HasWorkers rows workers
 
 -- the job that clap finds in these words
 abbrev pub Holds : List Text → Job → Type 0
@@ -24,3 +25,4 @@ Holds words job = MatchOption (subcommand_of program words) ⊥ (λ p. IsJob p.0
 abbrev pub IsWithinLimits : Job → Type 0
 IsWithinLimits (Plan file workers) = (1 ≤ workers) × (workers ≤ MAX_WORKERS)
 IsWithinLimits (Check batch schedule) = ⊤
+IsWithinLimits (Run shape batch workers) = (1 ≤ workers) × (workers ≤ MAX_WORKERS)

@@ -1,4 +1,5 @@
 pub mod Refusals
+pub mod Reports
 pub mod Answers
 pub mod Program
 pub mod Jobs

@@ -25,10 +25,18 @@ plan = with_rule (with_rule (new_app (codes "plan")) (word (codes "FILE"))) work
 abbrev pub check : App
 check = with_rule (with_rule (new_app (codes "check")) (word (codes "BATCH"))) (word (codes "SCHEDULE"))
 
+-- `run SHAPE BATCH [--workers N]`
+abbrev pub run : App
+run = with_rule (with_rule (with_rule (new_app (codes "run")) (word (codes "SHAPE"))) (word (codes "BATCH"))) workers
+
 -- the program's name, which a command has to follow
 abbrev pub top : App
 top = record (new_app (codes "exchange")) { top = record (new_app (codes "exchange")).top { subcommand_required = true } }
 
+-- the program with the commands that need no rack
+abbrev pub planner : App
+planner = with_subcommand (with_subcommand top plan.top) check.top
+
 -- the whole program
 abbrev pub program : App
-program = with_subcommand (with_subcommand top plan.top) check.top
+program = with_subcommand planner run.top

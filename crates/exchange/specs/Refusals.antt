@@ -8,8 +8,10 @@ use Rattle.link_graph.specs.declared.schedule_fault.ScheduleFault.TheVariants as
 use Rattle.link_graph.specs.declared.check_fault.CheckFault.{CheckFault}
 use Rattle.link_graph.specs.declared.check_fault.CheckFault.TheVariants as check_fault
 use Rattle.link_graph.specs.ScheduleText.{end_number}
+use Rattle.setting_runner.specs.declared.outcome.RunRefusal.{RunRefusal}
+use Rattle.setting_runner.specs.declared.outcome.RunRefusal.TheVariants as run_refusal
 use Rattle.exchange.specs.declared.refusal.Refusal.{Refusal}
-use Rattle.exchange.specs.declared.refusal.Refusal.TheVariants.{Batch, Schedule, NoCertificate, Check}
+use Rattle.exchange.specs.declared.refusal.Refusal.TheVariants as refusal
 
 -- what is said of a batch text's fault
 abbrev pub batch_words : BatchFault → List ℕ
@@ -36,20 +38,32 @@ check_words (check_fault.CertificateRepeats t) = codes "check certificate repeat
 check_words (check_fault.NotTight s u) = codes "check not tight " ++ decimal s ++ (codes " " ++ decimal u)
 check_words check_fault.NoMemory = codes "no memory"
 
+-- what is said of a run that was refused
+abbrev pub run_words : RunRefusal → List ℕ
+run_words (run_refusal.Overlap i j) = codes "overlap " ++ decimal i ++ (codes " " ++ decimal j)
+run_words run_refusal.Shape = codes "shape"
+run_words run_refusal.NoMemory = codes "no memory"
+
 -- what the line says behind `refused`
 abbrev pub refusal_words : Refusal → List ℕ
-refusal_words (Batch fault) = batch_words fault
-refusal_words (Schedule fault) = schedule_words fault
-refusal_words NoCertificate = codes "no certificate"
-refusal_words (Check fault) = check_words fault
+refusal_words (refusal.Batch fault) = batch_words fault
+refusal_words (refusal.Schedule fault) = schedule_words fault
+refusal_words refusal.NoCertificate = codes "no certificate"
+refusal_words (refusal.Check fault) = check_words fault
+refusal_words refusal.Shape = codes "shape"
+refusal_words (refusal.Run why) = run_words why
+refusal_words refusal.NoMemory = codes "no memory"
 
 -- the whole line
 abbrev pub refusal_line : Refusal → List ℕ
-refusal_line refusal = codes "refused " ++ refusal_words refusal ++ codes "\n"
+refusal_line refused = codes "refused " ++ refusal_words refused ++ codes "\n"
 
 -- the refusal has another cause than want of memory
 abbrev pub IsReal : Refusal → Type 0
-IsReal (Batch fault) = fault ≢ NoMemory
-IsReal (Schedule fault) = fault ≢ schedule_fault.NoMemory
-IsReal NoCertificate = ⊤
-IsReal (Check fault) = fault ≢ check_fault.NoMemory
+IsReal (refusal.Batch fault) = fault ≢ NoMemory
+IsReal (refusal.Schedule fault) = fault ≢ schedule_fault.NoMemory
+IsReal refusal.NoCertificate = ⊤
+IsReal (refusal.Check fault) = fault ≢ check_fault.NoMemory
+IsReal refusal.Shape = ⊤
+IsReal (refusal.Run why) = why ≢ run_refusal.NoMemory
+IsReal refusal.NoMemory = ⊥

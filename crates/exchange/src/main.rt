@@ -11,6 +11,8 @@ mod checking;
 mod limits;
 mod planning;
 mod refusal;
+mod report;
+mod running;
 mod text;
 mod words;
 
@@ -18,6 +20,7 @@ use crate::answer::Answer;
 use crate::checking::answer_check;
 use crate::limits::{DONE, MISUSED, REFUSED, UNWRITTEN};
 use crate::planning::answer_plan;
+use crate::running::answer_run;
 use crate::text::Text;
 use crate::words::{Job, WordsFault, read_words};
 use schedule_certificate::MAX_WORKERS;
@@ -35,7 +38,7 @@ const NO_MEMORY: &str = "no memory";
 const NO_FILE: &str = "file";
 
 fn main(rt: HostRuntime) -> ExitCode {
-    match run(&rt) {
+    match carry_out(&rt) {
         Ok(status) => status,
         Err(error) => {
             let _ = eprintln!(rt; "exchange: the answer can't be written: {error}");
@@ -45,7 +48,7 @@ fn main(rt: HostRuntime) -> ExitCode {
 }
 
 /// Does what the words ask for. The error is that of writing the answer.
-fn run<R: AllocGlobal + Env + Eprint + Files + Print + Threads + Sync>(
+fn carry_out<R: AllocGlobal + Env + Eprint + Files + Print + Threads + Sync>(
     rt: &R,
 ) -> io::Result<ExitCode> {
     let words = match command_line(rt) {
@@ -59,6 +62,13 @@ fn run<R: AllocGlobal + Env + Eprint + Files + Print + Threads + Sync>(
     match read_words(rt.alloc(), words.as_slice()) {
         Ok(Job::Plan { file, workers }) => plan(rt, &file, workers),
         Ok(Job::Check { batch, schedule }) => check(rt, &batch, &schedule),
+        Ok(
+            Job::Run {
+                shape,
+                batch,
+                workers,
+            },
+        ) => run(rt, &shape, &batch, workers),
         Err(WordsFault::Clap(error)) => {
             error.print(rt)?;
             let status = if error.use_stderr() { MISUSED } else { DONE };
@@ -101,6 +111,27 @@ fn check<R: AllocGlobal + Files + Print>(
     print(
         rt,
         answer_check(rt.alloc(), batch.as_slice(), schedule.as_slice()),
+    )
+}
+
+/// `exchange run SHAPE BATCH`.
+fn run<R: AllocGlobal + Files + Print + Threads + Sync>(
+    rt: &R,
+    shape: &Text,
+    batch: &Text,
+    workers: usize,
+) -> io::Result<ExitCode>
+    requires some { 1 ≤ workers }
+    requires few { workers ≤ MAX_WORKERS }
+{
+    let batch = match read_file(rt, batch) {
+        Ok(batch) => batch,
+        Err(refusal) => return refuse(rt, refusal),
+    };
+    let shape = shape.as_str().as_bytes();
+    print(
+        rt,
+        answer_run(rt, rt.alloc(), shape, batch.as_slice(), workers),
     )
 }
 

@@ -2,10 +2,12 @@ ghost use Rattle.std.specs.Prelude.{◌≡◌, ◌≢◌, IfOk, string_bytes};
 ghost use Rattle.batch.specs.declared.fault.BatchFault.TheVariants as batch_fault;
 ghost use Rattle.link_graph.specs.declared.check_fault.CheckFault.TheVariants as check_fault;
 ghost use Rattle.link_graph.specs.declared.schedule_fault.ScheduleFault.TheVariants as schedule_fault;
-ghost use Rattle.exchange.specs.Refusals.{batch_words, schedule_words, check_words, refusal_line, IsReal};
+ghost use Rattle.setting_runner.specs.declared.outcome.RunRefusal.TheVariants as run_refusal;
+ghost use Rattle.exchange.specs.Refusals.{batch_words, schedule_words, check_words, run_words, refusal_line, IsReal};
 
-use batch::BatchFault;
+use batch::{BatchFault, ShapeFault};
 use link_graph::{CheckFault, ScheduleFault};
+use setting_runner::RunRefusal;
 use std::alloc::{AllocError, Global};
 
 /// Why a command refuses: what is first wrong with its texts, or want of memory.
@@ -19,6 +21,12 @@ pub enum Refusal {
     NoCertificate,
     /// The checker found this.
     Check(CheckFault),
+    /// The shape text is that of no shape.
+    Shape,
+    /// The run was refused for this.
+    Run(RunRefusal),
+    /// There was no memory.
+    NoMemory,
 }
 
 impl From<BatchFault> for Refusal {
@@ -54,6 +62,39 @@ impl From<CheckFault> for Refusal {
     }
 }
 
+impl From<ShapeFault> for Refusal {
+    ghost use Rattle.std.specs.Prelude.{◌≡◌};
+    ghost use Rattle.exchange.specs.declared.refusal.Refusal.TheVariants.{Shape};
+
+    ghost from_gives = { λ _ refusal. refusal ≡ Shape };
+
+    fn from(_fault: ShapeFault) -> Refusal {
+        Refusal::Shape
+    }
+}
+
+impl From<RunRefusal> for Refusal {
+    ghost use Rattle.std.specs.Prelude.{◌≡◌};
+    ghost use Rattle.exchange.specs.declared.refusal.Refusal.TheVariants.{Run};
+
+    ghost from_gives = { λ fault refusal. refusal ≡ Run fault };
+
+    fn from(fault: RunRefusal) -> Refusal {
+        Refusal::Run(fault)
+    }
+}
+
+impl From<AllocError> for Refusal {
+    ghost use Rattle.std.specs.Prelude.{◌≡◌};
+    ghost use Rattle.exchange.specs.declared.refusal.Refusal.TheVariants.{NoMemory};
+
+    ghost from_gives = { λ _ refusal. refusal ≡ NoMemory };
+
+    fn from(_error: AllocError) -> Refusal {
+        Refusal::NoMemory
+    }
+}
+
 impl Refusal {
     /// The line that tells the refusal. Where that is want of memory, the error is the same.
     pub fn line(self, alloc: Global) -> Result<String, AllocError>
@@ -65,6 +106,9 @@ impl Refusal {
             Refusal::Schedule(fault) => schedule_words(alloc, fault)?,
             Refusal::NoCertificate => String::from_str(alloc, "no certificate")?,
             Refusal::Check(fault) => check_words(alloc, fault)?,
+            Refusal::Shape => String::from_str(alloc, "shape")?,
+            Refusal::Run(refusal) => run_words(alloc, refusal)?,
+            Refusal::NoMemory => return Err(AllocError),
         };
         format!(in alloc; "refused {words}\n")
     }
@@ -115,5 +159,17 @@ fn check_words(alloc: Global, fault: CheckFault) -> Result<String, AllocError>
             format!(in alloc; "check not tight {settings} {uses}")
         }
         CheckFault::NoMemory => Err(AllocError),
+    }
+}
+
+/// What is told of a run that was refused.
+fn run_words(alloc: Global, refusal: RunRefusal) -> Result<String, AllocError>
+    ensures real { IfOk result (λ _. refusal ≢ run_refusal.NoMemory) }
+    ensures text { IfOk result (λ words. string_bytes words ≡ run_words refusal) }
+{
+    match refusal {
+        RunRefusal::Overlap(i, j) => format!(in alloc; "overlap {i} {j}"),
+        RunRefusal::Shape => String::from_str(alloc, "shape"),
+        RunRefusal::NoMemory => Err(AllocError),
     }
 }

@@ -1,8 +1,11 @@
+ghost use Rattle.std.specs.Prelude.{◌≤◌};
+
 use crate::answer::Answer;
 use crate::check;
 use crate::checking::answer_check;
 use crate::limits::{DONE, REFUSED};
 use crate::planning::answer_plan;
+use crate::running::answer_run;
 use crate::text::Text;
 use crate::words::{Job, WordsFault, read_words};
 use schedule_certificate::MAX_WORKERS;
@@ -120,6 +123,113 @@ fn check_refusals(rt: HostRuntime) -> Result<(), Fail> {
     Ok(())
 }
 
+/// What `run` answers to texts.
+fn run<R: AllocGlobal + Threads + Sync>(
+    rt: &R,
+    shape: &str,
+    batch: &str,
+    workers: usize,
+) -> Result<Answer, AllocError>
+    requires some { 1 ≤ workers }
+    requires few { workers ≤ MAX_WORKERS }
+{
+    answer_run(rt, rt.alloc(), shape.as_bytes(), batch.as_bytes(), workers)
+}
+
+#[test]
+fn two_pushes(rt: HostRuntime) -> Result<(), Fail> {
+    let batch = "batch 2\npush 0 0 1 0\npush 1 1 2 0\n";
+    let report = "\
+ran settings 1 words 4 bits 468
+block 1 0 00000000 00000001
+block 2 0 00010100 00010101
+";
+    let answers = [
+        run(&rt, "3x2x2", batch, 1)?,
+        run(&rt, "3x2x2", batch, 2)?,
+        run(&rt, "3x2x2", batch, 16)?,
+    ];
+    for answer in &answers {
+        assert_eq!(rt; answer.text(), report.as_bytes());
+        assert_eq!(rt; answer.status(), 0);
+    }
+    Ok(())
+}
+
+#[test]
+fn three_by_three(rt: HostRuntime) -> Result<(), Fail> {
+    let batch = "\
+batch 9
+push 0 3 0 0
+push 0 3 1 0
+push 0 3 2 0
+push 1 3 0 1
+push 1 3 1 1
+push 1 3 2 1
+push 2 3 0 2
+push 2 3 1 2
+push 2 3 2 2
+";
+    let report = "\
+ran settings 3 words 9 bits 1053
+block 0 0 00000300
+block 0 1 00010300
+block 0 2 00020300
+block 1 0 00000300
+block 1 1 00010300
+block 1 2 00020300
+block 2 0 00000300
+block 2 1 00010300
+block 2 2 00020300
+";
+    let answer = run(&rt, "3x4x1", batch, 3)?;
+    assert_eq!(rt; answer.text(), report.as_bytes());
+    assert_eq!(rt; answer.status(), 0);
+    Ok(())
+}
+
+/// A pull writes the initiator's block, and of an empty batch there is nothing to report.
+#[test]
+fn runs_report(rt: HostRuntime) -> Result<(), Fail> {
+    let pulled = run(&rt, "2x1x2", "batch 1\npull 0 0 1 0\n", 1)?;
+    let report = "ran settings 1 words 2 bits 234\nblock 0 0 00010000 00010001\n";
+    assert_eq!(rt; pulled.text(), report.as_bytes());
+    let empty = run(&rt, "1x1x1", "batch 0\n", 1)?;
+    assert_eq!(rt; empty.text(), b"ran settings 0 words 0 bits 0\n".as_slice());
+    assert_eq!(rt; empty.status(), 0);
+    Ok(())
+}
+
+/// Rows thrice-the-same and overlaps-and-fuses, and what is refused before transfers are compared: first
+/// the shape, then the batch.
+#[test]
+fn run_refusals(rt: HostRuntime) -> Result<(), Fail> {
+    let rows = [
+        (
+            "2x1x1",
+            "batch 3\npush 0 0 1 0\npush 0 0 1 0\npush 0 0 1 0\n",
+            "refused overlap 0 1\n",
+        ),
+        (
+            "3x1x1",
+            "batch 2\npush 0 0 1 0\npush 1 0 2 0\n",
+            "refused overlap 0 1\n",
+        ),
+        ("6x1x1", "batch 1\npush 5 0 5 0\n", "refused overlap 0 0\n"),
+        ("0x1x1", "batch 1\n", "refused shape\n"),
+        ("3x2", "batch 0\n", "refused shape\n"),
+        ("3x2x2", "batch 1\npush 3 0 1 0\n", "refused no module 0\n"),
+        ("3x2x2", "batch 1\npush 0 0 1 2\n", "refused no block 0\n"),
+        ("3x2x2", "batch 1\n", "refused count\n"),
+    ];
+    for (shape, batch, line) in rows {
+        let answer = run(&rt, shape, batch, 2)?;
+        assert_eq!(rt; answer.text(), line.as_bytes(), "{shape} {batch:?}");
+        assert_eq!(rt; answer.status(), 1);
+    }
+    Ok(())
+}
+
 #[test]
 fn batch_refusals(rt: HostRuntime) -> Result<(), Fail> {
     let rows = [
@@ -161,6 +271,23 @@ fn check_reads_two_files(rt: HostRuntime) -> Result<(), Fail> {
     Ok(())
 }
 
+/// A batch file that isn't there is refused before the shape is looked at.
+#[test]
+fn run_reads_its_file(rt: HostRuntime) -> Result<(), Fail> {
+    let alloc = rt.alloc();
+    let name = Text::of(alloc, "run_reads_its_file.batch")?;
+    let shape = Text::of(alloc, "2x1x1")?;
+    fs::write(&rt, name.as_str(), b"batch 1\npush 0 0 1 0\n")?;
+    let right = crate::run(&rt, &shape, &name, 2)?;
+    let swapped = crate::run(&rt, &name, &shape, 2)?;
+    fs::remove_file(&rt, name.as_str())?;
+    let gone = crate::run(&rt, &shape, &name, 2)?;
+    assert_eq!(rt; right, ExitCode::from(DONE));
+    assert_eq!(rt; swapped, ExitCode::from(REFUSED));
+    assert_eq!(rt; gone, ExitCode::from(REFUSED));
+    Ok(())
+}
+
 /// The words of a line, which one space parts.
 fn words(alloc: Global, line: &str) -> Result<Vec<String>, AllocError> {
     let mut words = Vec::new(alloc);
@@ -193,6 +320,20 @@ fn is_check(job: Result<Job, WordsFault>, batch_name: &str, schedule_name: &str)
     }
 }
 
+/// Whether the words ask to run the batch of a file on a rack of the shape with so many workers.
+fn is_run(job: Result<Job, WordsFault>, wanted: &str, name: &str, count: usize) -> bool {
+    match job {
+        Ok(
+            Job::Run {
+                shape,
+                batch,
+                workers,
+            },
+        ) => shape.as_str() == wanted && batch.as_str() == name && workers == count,
+        _ => false,
+    }
+}
+
 /// Whether clap refuses the words with a text on standard error.
 fn is_misused(job: Result<Job, WordsFault>) -> bool {
     match job {
@@ -213,8 +354,15 @@ fn words_name_jobs(rt: HostRuntime) {
         )
     );
     assert!(rt; is_check(read(alloc, "exchange check B S"), "B", "S"));
+    assert!(rt; is_run(read(alloc, "exchange run S B"), "S", "B", 1));
+    assert!(rt; is_run(read(alloc, "exchange run --workers 3 S B"), "S", "B", 3));
     for line in [
         "exchange",
+        "exchange run",
+        "exchange run S",
+        "exchange run S B C",
+        "exchange run S B --workers 0",
+        "exchange run S B --workers 65",
         "exchange plan",
         "exchange plan F G",
         "exchange check",

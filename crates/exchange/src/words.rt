@@ -3,7 +3,7 @@
 ghost use Rattle.std.specs.Prelude.{◌≡◌, List, map, IfOk, false, Some, string_bytes};
 ghost use Rattle.clap.specs.Words.{app_of, rule_of, subcommand_rows_of, subcommand_of, first_of, rows_of, found_of};
 ghost use Rattle.clap.specs.declared.builder.Command.TheViews.{out-Command as fields_of};
-ghost use Rattle.exchange.specs.Program.{program, workers, word, plan as plan_app, check as check_app};
+ghost use Rattle.exchange.specs.Program.{planner, program, workers, word, plan as plan_app, check as check_app, run as run_app};
 ghost use Rattle.exchange.specs.Jobs.{Holds, HasWorkers, IsJob, IsWithinLimits};
 
 use crate::text::Text;
@@ -16,9 +16,21 @@ use std::alloc::{AllocError, Global};
 #[derive(Drop)]
 pub enum Job {
     /// Plan the batch of a file, with 1 to [`MAX_WORKERS`] workers.
-    Plan { file: Text, workers: usize },
+    Plan {
+        file: Text,
+        workers: usize,
+    },
     /// Judge the schedule of a file against the batch of another.
-    Check { batch: Text, schedule: Text },
+    Check {
+        batch: Text,
+        schedule: Text,
+    },
+    /// Run the batch of a file on a rack of the shape, with 1 to [`MAX_WORKERS`] workers.
+    Run {
+        shape: Text,
+        batch: Text,
+        workers: usize,
+    },
 }
 
 /// Why the words name no job.
@@ -84,6 +96,24 @@ line N`, `refused no certificate`, or of the schedule
 Status: 0 it is shortest, 1 it was refused or there was no memory, 2 the
 words fit no command, 3 the answer couldn't be written.";
 
+/// What `run --help` says below its options.
+const RUN_NOTES: &str = "\
+SHAPE is MxKxW: M modules, from 1 to 16, each of K blocks, from 1 to 64, each
+of W words, from 1 to 256. BATCH is a batch text, in the form that
+`exchange plan --help` shows, with modules below M and blocks below K.
+
+Word j of block b of module m is 65536 m + 256 b + j before the run. The
+answer is the line `ran settings S words X bits Y`: how often the switch was
+set, how many words were moved, and how many bits went over the links for
+them. Then comes each block that was written, by module and then by block:
+  block M B hex8 ..   its words, of eight hexadecimal digits each
+Where the order of the transfers might show, as one writes what another reads
+or both write one block, nothing is run: `refused overlap I J` names the two.
+Else it is `refused shape` or the first of the batch's faults.
+
+Status: 0 the batch was run, 1 it was refused or there was no memory, 2 the
+words fit no command, 3 the answer couldn't be written.";
+
 /// A word that has to be there.
 fn required<'a>(alloc: Global, id: &'a str, help: &'a str) -> Arg<'a>
     ensures rule { rule_of result ≡ word id.entry.now }
@@ -102,7 +132,7 @@ fn workers<'a>(alloc: Global) -> Arg<'a>
         .value_name("N")
         .value_parser(value_parser!(u8).range(1..=MAX_WORKERS as i64))
         .default_value("1")
-        .help("How many workers may plan, from 1 to 64")
+        .help("How many workers there may be, from 1 to 64")
 }
 
 /// `plan FILE [--workers N]`.
@@ -127,9 +157,21 @@ fn check<'a>(alloc: Global) -> Result<Command<'a>, AllocError>
         .arg(required(alloc, "SCHEDULE", "The file of the schedule"))
 }
 
-/// All commands.
-fn program<'a>(alloc: Global) -> Result<Command<'a>, AllocError>
-    ensures { IfOk result (λ c. app_of c ≡ program) }
+/// `run SHAPE BATCH [--workers N]`.
+fn run<'a>(alloc: Global) -> Result<Command<'a>, AllocError>
+    ensures { IfOk result (λ c. (app_of c ≡ run_app) × ((fields_of c).has_globals ≡ false)) }
+{
+    Command::new(alloc, "run")
+        .about("Runs a batch on a rack: sets the switch, moves the blocks and reports")
+        .after_help(RUN_NOTES)
+        .arg(required(alloc, "SHAPE", "The shape of the rack, as 3x2x2"))?
+        .arg(required(alloc, "BATCH", "The file of the batch"))?
+        .arg(workers(alloc))
+}
+
+/// The program with the commands that need no rack.
+fn planner<'a>(alloc: Global) -> Result<Command<'a>, AllocError>
+    ensures { IfOk result (λ c. (app_of c ≡ planner) × ((fields_of c).has_globals ≡ false)) }
 {
     Command::new(alloc, "exchange")
         .about("Plans block transfers between transputer modules that one C004 crossbar joins")
@@ -137,6 +179,13 @@ fn program<'a>(alloc: Global) -> Result<Command<'a>, AllocError>
         .subcommand_required(true)
         .subcommand(plan(alloc)?)?
         .subcommand(check(alloc)?)
+}
+
+/// All commands.
+fn program<'a>(alloc: Global) -> Result<Command<'a>, AllocError>
+    ensures { IfOk result (λ c. app_of c ≡ program) }
+{
+    planner(alloc)?.subcommand(run(alloc)?)
 }
 
 /// The matches of the words.
@@ -191,6 +240,16 @@ fn job_of(alloc: Global, name: &str, found: &ArgMatches<'_>) -> Result<Job, Word
         let batch = text_of(alloc, found, "BATCH")?;
         let schedule = text_of(alloc, found, "SCHEDULE")?;
         return Ok(Job::Check { batch, schedule });
+    }
+    if name == "run" {
+        let shape = text_of(alloc, found, "SHAPE")?;
+        let batch = text_of(alloc, found, "BATCH")?;
+        let workers = workers_of(alloc, found)?;
+        return Ok(Job::Run {
+            shape,
+            batch,
+            workers,
+        });
     }
     Err(missing(alloc))
 }

@@ -1,5 +1,5 @@
 -- Wires that carry so many bytes and then fail. They are this project's own, for tests of what a failing wire leaves.
-use Rattle.std.specs.Prelude.{◌<◌, ℕ, Option, Some, None, refl}
+use Rattle.std.specs.Prelude.{ℕ, refl}
 use Rattle.std.specs.Coded.{Coded, code_by, coded×, coded_ℕ}
 
 -- a wire with a fuse

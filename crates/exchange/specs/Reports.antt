@@ -1,0 +1,46 @@
+-- What `run` prints of a run that was completed. The texts are this project's choice.
+use Rattle.std.specs.Prelude.{ℕ, ◌+◌, ◌*◌, ◌-◌, ◌==◌, ◌&&◌, Bool, false, List, [], ◌++◌, if◌then◌else◌, codes, length, replicate}
+use Rattle.std.specs.Fmt.{decimal, digits}
+use Rattle.std.specs.List.{flat_map, list_any, range_with_len}
+use Rattle.batch.specs.declared.transfer.Place.{Place}
+use Rattle.batch.specs.declared.transfer.Transfer.{Transfer}
+use Rattle.batch.specs.Places.{destination_of}
+use Rattle.module_memory.specs.Store.{Store, block_of}
+use Rattle.peek_poke.specs.declared.message.TheConstants.{POKE_BYTES}
+
+-- the eight hexadecimal digits of a word, in lower case
+abbrev pub hex8 : ℕ → List ℕ
+hex8 word = replicate (8 - length (digits 16 false word)) 48 ++ digits 16 false word
+
+-- How many bits go over the links for so many words: a word takes the bytes of a poke, or of a peek and its reply, each of eleven
+-- bits, and each acknowledged by two.
+abbrev pub bits_of : ℕ → ℕ
+bits_of words = (11 + 2) * POKE_BYTES * words
+
+-- `ran settings S words X bits Y`
+abbrev pub ran_line : ℕ → ℕ → List ℕ
+ran_line settings words = codes "ran settings " ++ decimal settings ++ (codes " words " ++ (decimal words ++ (codes " bits " ++ (decimal (bits_of words) ++ codes "\n"))))
+
+-- words, with a space before each
+abbrev pub words_text : List ℕ → List ℕ
+words_text words = flat_map (λ word. codes " " ++ hex8 word) words
+
+-- `block M B`, and the words of the block
+abbrev pub block_line : Store → Place → List ℕ
+block_line s p = codes "block " ++ decimal p.«module» ++ (codes " " ++ decimal p.block) ++ words_text (block_of s p) ++ codes "\n"
+
+-- the batch writes the block
+abbrev pub is_written : List Transfer → Place → Bool
+is_written batch p = list_any (λ (t : Transfer). (destination_of t).«module» == p.«module» && (destination_of t).block == p.block) batch
+
+-- what is said of a block of a module: its line, where the batch writes it
+abbrev pub block_text : List Transfer → Store → ℕ → ℕ → List ℕ
+block_text batch s m b = let p : Place = record { «module» = m; block = b } in if is_written batch p then block_line s p else []
+
+-- what is said of the blocks of a module, in their order
+abbrev pub module_text : List Transfer → Store → ℕ → List ℕ
+module_text batch s m = flat_map (block_text batch s m) (range_with_len 0 s.shape.blocks)
+
+-- how much was done, and then the words of each block that was written, by module and then by block
+abbrev pub report_of : List Transfer → ℕ → Store → List ℕ
+report_of batch settings s = ran_line settings (length batch * s.shape.words) ++ flat_map (module_text batch s) (range_with_len 0 s.shape.modules)

@@ -1,0 +1,229 @@
+-- A run between two settings.
+use Rattle.std.proofs.Common.{◌≡◌, ◌<◌, ◌≤◌, ◌+◌, ◌-◌, ◌*◌, inl, inr, ℕ, zero, suc, List, [], ◌∷◌, ◌++◌, length, take, drop, get_or, refl, sym, ap, ◌∙◌, arith, subst, length-append}
+use Rattle.std.specs.Prelude.{slice_index, All}
+use Rattle.std.specs.List.{concat}
+use Rattle.std.proofs.lemmas.Bool.{cases_lt}
+use Rattle.std.proofs.lemmas.List.{take_more, take_all, get_or-map, length-map, length-take, length-drop}
+use Rattle.batch.specs.Extent.{Extent}
+use Rattle.batch.specs.Places.{HasPlace, source_of, destination_of}
+use Rattle.batch.specs.Overlap.{transfer_at, source_at, destination_at}
+use Rattle.batch.specs.declared.transfer.Transfer.{Transfer}
+use Rattle.batch.specs.declared.transfer.Place.{Place}
+use Rattle.module_memory.specs.Store.{Store, block_of}
+use Rattle.module_memory.specs.Core.{FitsIn, IsComplete, IsMoved, IsReady, IsStepList, setting_of}
+use Rattle.module_memory.specs.Lending.{Lent, bay_in, joined, Rejoins}
+use Rattle.module_memory.specs.Bays.{AreBaysOf, AreSamePlaces}
+use Rattle.module_memory.specs.Settings.{after_steps, IsRun, IsStoppedRun}
+use Rattle.module_memory.proofs.CoreLaw.{transfer_at-setting_of}
+use Rattle.module_memory.proofs.BayLaws.{shape-joined, hold_the_counts, stay_lent, stay_whole, blocks_are_wide}
+use Rattle.module_memory.proofs.SettingLaws.{run_is_placed, stop_is_moved, whole_batch_is_placed}
+use Rattle.module_memory.proofs.StepLists.{counts_are_reached}
+use Rattle.link_graph.specs.Schedules.{IsScheduleOf}
+use Rattle.link_graph.proofs.Once.{is_once}
+use Rattle.schedule_certificate.specs.Plans.{Plan}
+use Rattle.setting_runner.specs.Moves.{AreMovable, HaveMoved, none_sure, all_moved}
+use Rattle.setting_runner.specs.Runs.{IsCompleted, IsStopped, numbers_of, words_of}
+use Rattle.setting_runner.proofs.Causes.{names_moved, most_moved}
+use Rattle.setting_runner.proofs.Moves.{HaveMoved-length}
+use Rattle.setting_runner.proofs.Parts.{are_filled, length_part, movable_from, no_bay, part_at}
+use Rattle.setting_runner.proofs.Schedules.{are_settings, concat_more, numbers_are_counted}
+
+-- what a run begins with: a rest, and the bays of all settings
+pub record Begun (rest : Store) (bays : List Lent) (plan : Plan) : Type 0 where
+  pub schedule : IsScheduleOf plan.batch plan.settings
+  pub ready : IsReady (joined rest bays) plan.batch (concat plan.settings)
+  pub settings : (k : ℕ) → k < length plan.settings → AreBaysOf rest bays (length (concat (take k plan.settings))) (setting_of plan.batch (numbers_of plan k))
+  pub rejoins : Rejoins rest bays
+
+-- what it has after some settings
+pub record Going (rest : Store) (first bays : List Lent) (plan : Plan) (k : ℕ) : Type 0 where
+  pub places : AreSamePlaces first bays
+  pub rejoins : Rejoins rest bays
+  pub machine : IsRun (joined rest first) plan.batch (take k plan.settings) (joined rest bays)
+
+pub going_first : (rest : Store) (bays : List Lent) (plan : Plan) → Begun rest bays plan → Going rest bays bays plan 0
+going_first rest bays plan b = record { places = record { same_length = refl; same_places = λ k h. refl }; rejoins = b.rejoins; machine = refl }
+
+own_bays : (rest : Store) (first bays : List Lent) (plan : Plan) (k : ℕ) → Begun rest first plan → Going rest first bays plan k → k < length plan.settings → AreBaysOf rest bays (length (concat (take k plan.settings))) (setting_of plan.batch (numbers_of plan k))
+own_bays rest first bays plan k b g h = stay_lent rest first bays (length (concat (take k plan.settings))) (setting_of plan.batch (numbers_of plan k)) (b.settings k h) g.places
+
+-- the settings that are still to come are ready
+ready_now : (rest : Store) (first bays : List Lent) (plan : Plan) (k : ℕ) → Begun rest first plan → Going rest first bays plan k → k < length plan.settings → IsReady (joined rest bays) plan.batch (numbers_of plan k)
+ready_now rest first bays plan k b g h = record {
+  whole = g.rejoins.whole;
+  places = subst (λ (x : Extent). FitsIn x plan.batch) (shape-joined rest first ∙ sym (shape-joined rest bays)) b.ready.places;
+  apart = b.ready.apart;
+  setting = (are_settings plan.batch plan.settings k b.schedule h).own;
+}
+
+pub part_within : (rest : Store) (first bays : List Lent) (plan : Plan) (k a n : ℕ) → Begun rest first plan → Going rest first bays plan k → k < length plan.settings → a ≡ length (concat (take k plan.settings)) → n ≡ length (numbers_of plan k) → a + n ≤ length bays
+part_within rest first bays plan k a n b g h ea en =
+    let own = own_bays rest first bays plan k b g h in
+    omega (arith, own.within, length-map (numbers_of plan k) (transfer_at plan.batch))
+
+-- the transfers of the next setting can move their words into their part of the bays
+pub part_movable : (rest : Store) (first bays : List Lent) (plan : Plan) (k a n : ℕ) → Begun rest first plan → Going rest first bays plan k → k < length plan.settings → a ≡ length (concat (take k plan.settings)) → n ≡ length (numbers_of plan k)
+    → AreMovable rest plan.batch (numbers_of plan k) (take n (drop a bays))
+part_movable rest first bays plan k a n b g h ea en =
+    let numbers = numbers_of plan k in
+    let ts = setting_of plan.batch numbers in
+    let own = subst (λ (x : ℕ). AreBaysOf rest bays x ts) (sym ea) (own_bays rest first bays plan k b g h) in
+    let long = length-map numbers (transfer_at plan.batch) in
+    let setting = (are_settings plan.batch plan.settings k b.schedule h).own in
+    movable_from rest plan.batch numbers (take n (drop a bays)) (omega (arith, length_part bays a n (part_within rest first bays plan k a n b g h ea en)))
+    (λ i l.
+    let below : i < length ts = omega arith in
+    let wide = blocks_are_wide rest bays a ts i own g.rejoins below in
+    let source : source_at ts i ≡ source_at plan.batch (get_or numbers i 0) = ap source_of (transfer_at-setting_of plan.batch numbers i l) in
+    let destination : destination_at ts i ≡ destination_at plan.batch (get_or numbers i 0) = ap destination_of (transfer_at-setting_of plan.batch numbers i l) in
+    let bay = part_at bays a n i (omega arith) in
+    record {
+      known = setting.known i 0 l;
+      source_exists = subst (λ (p : Place). HasPlace rest.shape p) source (own.exist i below);
+      source_here = ap (λ (p : Place). length (block_of rest p)) (sym source) ∙ wide.0;
+      place = ap (λ (x : Lent). x.place) bay ∙ own.destinations i below ∙ destination;
+      bay_exists = subst (λ (x : Lent). HasPlace rest.shape x.place) (sym bay) (g.rejoins.exist (a + i) no_bay (omega (arith, own.within)));
+      bay_width = ap (λ (x : Lent). length x.words) bay ∙ wide.1;
+    })
+
+past_end : (xs : List ℕ) (i : ℕ) → length xs ≤ i → slice_index xs i ≡ 0
+past_end [] i h = refl
+past_end (x ∷ xs) zero h = absurd (omega arith)
+past_end (x ∷ xs) (suc i) h = past_end xs i (omega arith)
+
+-- no transfer has moved more words than a block has
+few_words : (rest : Store) (batch : List Transfer) (ts : List ℕ) (os ns : List Lent) (ms : List (ℕ × ℕ)) (i : ℕ) → HaveMoved none_sure rest batch ts os ns ms → slice_index (words_of ms) i ≤ rest.shape.words
+few_words rest batch ts os ns ms i moves = elim (cases_lt i (length ms)) [
+  | inl l ↦ let most = most_moved none_sure rest batch ts os ns ms moves i (0, 0) l in omega (arith, get_or-map (λ (m : ℕ × ℕ). m.1) ms i (0, 0) 0 l)
+  | inr l ↦ omega (arith, past_end (words_of ms) i (omega (arith, length-map ms (λ (m : ℕ × ℕ). m.1))))
+]
+
+all_at : (numbers : List ℕ) (words i : ℕ) → i < length numbers → slice_index (words_of (all_moved numbers words)) i ≡ words
+all_at [] words i h = absurd (omega arith)
+all_at (t ∷ ts) words zero h = refl
+all_at (t ∷ ts) words (suc i) h = all_at ts words i (omega arith)
+
+-- a setting that was worked on
+record Worked (rest : Store) (first bays new : List Lent) (plan : Plan) (k : ℕ) (ms : List (ℕ × ℕ)) : Type 0 where
+  places : AreSamePlaces first new
+  rejoins : Rejoins rest new
+  moved : IsMoved (joined rest bays) (setting_of plan.batch (numbers_of plan k)) (slice_index (words_of ms)) (joined rest new)
+
+same_places_twice : (a b c : List Lent) → AreSamePlaces a b → AreSamePlaces b c → AreSamePlaces a c
+same_places_twice a b c x y = record {
+  same_length = y.same_length ∙ x.same_length;
+  same_places = λ k h. y.same_places k (omega (arith, x.same_length)) ∙ x.same_places k h;
+}
+
+mixed_length : (c : ℕ) (from old : List ℕ) → length from ≡ length old → c ≤ length old → length (take c from ++ drop c old) ≡ length old
+mixed_length c from old e h = omega (arith, length-append (take c from) (drop c old), length-take {A = ℕ}, length-drop {A = ℕ})
+
+worked : (rest : Store) (first bays part : List Lent) (plan : Plan) (k a n : ℕ) (ms : List (ℕ × ℕ)) → Begun rest first plan → Going rest first bays plan k → k < length plan.settings → a ≡ length (concat (take k plan.settings)) → n ≡ length (numbers_of plan k)
+    → HaveMoved none_sure rest plan.batch (numbers_of plan k) (take n (drop a bays)) part ms → Worked rest first bays (take a bays ++ (part ++ drop n (drop a bays))) plan k ms
+worked rest first bays part plan k a n ms b g h ea en moves =
+    let numbers = numbers_of plan k in
+    let ts = setting_of plan.batch numbers in
+    let new = take a bays ++ (part ++ drop n (drop a bays)) in
+    let own = subst (λ (x : ℕ). AreBaysOf rest bays x ts) (sym ea) (own_bays rest first bays plan k b g h) in
+    let long = length-map numbers (transfer_at plan.batch) in
+    let filled = are_filled rest plan.batch bays part numbers ms a n en (part_within rest first bays plan k a n b g h ea en) moves in
+    record {
+      places = same_places_twice first bays new g.places filled.places;
+      rejoins = stay_whole rest bays new own.lent filled.places
+          (λ j l. elim (cases_lt j a) [
+            | inl low ↦ ap (length {A = ℕ}) (filled.others j l (inl low))
+            | inr high ↦ elim (cases_lt j (a + n)) [
+              | inl mid ↦
+                  let i = j - a in
+                  let below : i < length ts = omega arith in
+                  let wide = blocks_are_wide rest bays a ts i own g.rejoins below in
+                  let c : slice_index (words_of ms) i ≤ rest.shape.words = few_words rest plan.batch numbers (take n (drop a bays)) part ms i moves in
+                  subst (λ (x : ℕ). length (bay_in new x).words ≡ length (bay_in bays x).words) (omega arith)
+                  (ap (length {A = ℕ}) (filled.filled i below) ∙ mixed_length (slice_index (words_of ms) i) (block_of rest (source_at ts i)) (bay_in bays (a + i)).words (wide.0 ∙ sym wide.1) (omega (arith, wide.1)))
+              | inr past ↦ ap (length {A = ℕ}) (filled.others j l (inr (omega arith)))
+            ]
+          ])
+          g.rejoins;
+      moved = hold_the_counts rest bays new a ts (slice_index (words_of ms)) own filled;
+    }
+
+IsRun-push : (s t : Store) (batch : List Transfer) (ss : List (List ℕ)) (numbers steps : List ℕ) → IsRun s batch ss t → IsComplete (setting_of batch numbers) t.shape.words steps → IsRun s batch (ss ++ numbers ∷ []) (after_steps t batch numbers steps).store
+IsRun-push s t batch [] numbers steps r done =
+    (steps, subst (λ (u : Store). IsComplete (setting_of batch numbers) u.shape.words steps) r done, ap (λ (u : Store). (after_steps u batch numbers steps).store) r)
+IsRun-push s t batch (n ∷ ss) numbers steps r done = (r.0, r.1, IsRun-push (after_steps s batch n r.0).store t batch ss numbers steps r.2 done)
+
+-- one setting more
+pub going_next : (rest : Store) (first bays part : List Lent) (plan : Plan) (k a n : ℕ) → Begun rest first plan → Going rest first bays plan k → k < length plan.settings → a ≡ length (concat (take k plan.settings)) → n ≡ length (numbers_of plan k)
+    → HaveMoved none_sure rest plan.batch (numbers_of plan k) (take n (drop a bays)) part (all_moved (numbers_of plan k) rest.shape.words) → Going rest first (take a bays ++ (part ++ drop n (drop a bays))) plan (k + 1)
+going_next rest first bays part plan k a n b g h ea en moves =
+    let numbers = numbers_of plan k in
+    let ts = setting_of plan.batch numbers in
+    let mid = joined rest bays in
+    let ms = all_moved numbers rest.shape.words in
+    let new = take a bays ++ (part ++ drop n (drop a bays)) in
+    let w = worked rest first bays part plan k a n ms b g h ea en moves in
+    let shape = shape-joined rest bays in
+    let words : mid.shape.words ≡ rest.shape.words = ap (λ (x : Extent). x.words) shape in
+    let all = all_at numbers rest.shape.words in
+    let ready = ready_now rest first bays plan k b g h in
+    let reach = counts_are_reached mid (joined rest new) plan.batch numbers (slice_index (words_of ms)) ready (λ i l. omega (arith, all i l)) w.moved in
+    let long = length-map numbers (transfer_at plan.batch) in
+    let done : IsComplete ts mid.shape.words reach.0 = record { known = reach.1.known; complete = λ i l. omega (arith, reach.2 i (omega arith), all i (omega arith)) } in
+    record {
+      places = w.places;
+      rejoins = w.rejoins;
+      machine = subst (λ (x : List (List ℕ)). IsRun (joined rest first) plan.batch x (joined rest new)) (sym (take_more plan.settings k [] h))
+          (subst (λ (x : Store). IsRun (joined rest first) plan.batch (take k plan.settings ++ numbers ∷ []) x) (sym reach.3) (IsRun-push (joined rest first) mid plan.batch (take k plan.settings) numbers reach.0 g.machine done));
+    }
+
+-- a setting that stops
+pub going_stops : (rest : Store) (first bays part : List Lent) (plan : Plan) (k a n : ℕ) (ms : List (ℕ × ℕ)) → Begun rest first plan → Going rest first bays plan k → k < length plan.settings → a ≡ length (concat (take k plan.settings)) → n ≡ length (numbers_of plan k)
+    → HaveMoved none_sure rest plan.batch (numbers_of plan k) (take n (drop a bays)) part ms
+    → IsStopped (joined rest first) plan k ms (joined rest (take a bays ++ (part ++ drop n (drop a bays)))) × Rejoins rest (take a bays ++ (part ++ drop n (drop a bays)))
+going_stops rest first bays part plan k a n ms b g h ea en moves =
+    let s = joined rest first in
+    let numbers = numbers_of plan k in
+    let ts = setting_of plan.batch numbers in
+    let mid = joined rest bays in
+    let new = take a bays ++ (part ++ drop n (drop a bays)) in
+    let w = worked rest first bays part plan k a n ms b g h ea en moves in
+    let words : mid.shape.words ≡ rest.shape.words = ap (λ (x : Extent). x.words) (shape-joined rest bays) in
+    let same : s.shape.words ≡ rest.shape.words = ap (λ (x : Extent). x.words) (shape-joined rest first) in
+    let ready = ready_now rest first bays plan k b g h in
+    let reach = counts_are_reached mid (joined rest new) plan.batch numbers (slice_index (words_of ms)) ready (λ i l. omega (arith, few_words rest plan.batch numbers (take n (drop a bays)) part ms i moves)) w.moved in
+    let many = HaveMoved-length none_sure rest plan.batch numbers (take n (drop a bays)) part ms moves in
+    let stopped : IsStoppedRun s plan.batch (take k plan.settings) numbers reach.0 (joined rest new) =
+    record { before = mid; whole_settings = g.machine; step_list = subst (λ (x : ℕ). IsStepList ts x reach.0) (words ∙ sym same) reach.1; stopped = reach.3 } in
+    let upto : IsReady s plan.batch (concat (take k plan.settings) ++ numbers) =
+    record { whole = b.ready.whole; places = b.ready.places; apart = b.ready.apart; setting = (are_settings plan.batch plan.settings k b.schedule h).up_to } in (
+      record {
+        within = h;
+        named = names_moved none_sure rest plan.batch numbers (take n (drop a bays)) part ms moves;
+        at_most = subst (λ (x : ℕ). All (λ (m : ℕ × ℕ). m.1 ≤ x) ms) (sym same) (most_moved none_sure rest plan.batch numbers (take n (drop a bays)) part ms moves);
+        steps = reach.0;
+        counted = λ i l. reach.2 i (omega arith);
+        machine = stopped;
+        store = stop_is_moved s (joined rest new) plan.batch (take k plan.settings) numbers reach.0 (words_of ms) upto stopped (length-map ms (λ (m : ℕ × ℕ). m.1) ∙ many) (λ i l. sym (reach.2 i l));
+      },
+      w.rejoins,
+    )
+
+-- all settings are done
+pub going_completes : (rest : Store) (first bays : List Lent) (plan : Plan) (k : ℕ) → Begun rest first plan → Going rest first bays plan k → length plan.settings ≤ k → (words : ℕ) → words ≡ length (concat (take k plan.settings)) * rest.shape.words
+    → IsCompleted (joined rest first) plan (length plan.settings) words (joined rest bays)
+going_completes rest first bays plan k b g h words e =
+    let s = joined rest first in
+    let all = take_all k plan.settings h in
+    let run = subst (λ (x : List (List ℕ)). IsRun s plan.batch x (joined rest bays)) all g.machine in
+    let placed = run_is_placed s (joined rest bays) plan.batch plan.settings b.ready run in
+    let same : rest.shape.words ≡ s.shape.words = sym (ap (λ (x : Extent). x.words) (shape-joined rest first)) in
+    record {
+      all_settings = refl;
+      all_moved = e ∙ ap (λ (x : List (List ℕ)). length (concat x) * rest.shape.words) all ∙ ap (λ (x : ℕ). x * rest.shape.words) (numbers_are_counted plan.batch plan.settings b.schedule) ∙ ap (λ (x : ℕ). length plan.batch * x) same;
+      machine = run;
+      placed = whole_batch_is_placed s (joined rest bays) plan.batch (concat plan.settings) b.ready (is_once plan.batch plan.settings b.schedule).every placed;
+    }
+
+-- where the numbers of the next setting begin
+pub next_begins : (plan : Plan) (k a n : ℕ) → k < length plan.settings → a ≡ length (concat (take k plan.settings)) → n ≡ length (numbers_of plan k) → a + n ≡ length (concat (take (k + 1) plan.settings))
+next_begins plan k a n h ea en = omega (arith, ap (length {A = ℕ}) (concat_more plan.settings k h), length-append (concat (take k plan.settings)) (numbers_of plan k))

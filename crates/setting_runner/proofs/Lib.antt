@@ -1,0 +1,12 @@
+pub mod PairCommands
+pub mod Sources
+pub mod Replies
+pub mod Padding
+pub mod Addresses
+pub mod Moves
+pub mod Causes
+pub mod Parts
+pub mod Schedules
+pub mod Going
+pub mod Joined
+pub mod Starting

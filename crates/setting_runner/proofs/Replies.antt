@@ -1,0 +1,80 @@
+-- What an honest port replies to the enquiries.
+use Rattle.std.proofs.Common.{◌≡◌, ◌<◌, ◌≤◌, ◌+◌, ℕ, Bool, true, false, IsTrue, zero, suc, List, map, get_or, refl, sym, ap, ◌∙◌, arith, Option, Some, None}
+use Rattle.std.specs.List.{range_with_len}
+use Rattle.std.specs.Option.{IfSome, option_eq}
+use Rattle.std.specs.Prelude.{◌↔◌}
+use Rattle.std.proofs.Common.{eqb, not, is_some, eq-eqb}
+use Rattle.std.proofs.lemmas.Bool.{eqb-true, false≢true}
+use Rattle.c004_commands.specs.Answers.{IsAnswer}
+use Rattle.c004_commands.specs.declared.answer.Answer.TheVariants.{Connected}
+use Rattle.std.specs.FinMap as finmap
+use Rattle.c004_commands.specs.declared.command.Command.TheVariants.{Enquire}
+use Rattle.c004_commands.specs.Commands.{AreCommands, text}
+use Rattle.c004_commands.specs.Answers.{answer_byte}
+use Rattle.crossbar.specs.Switch.{Switch, after_all, answers}
+use Rattle.crossbar.specs.Port.{CarriesOut}
+use Rattle.setting_runner.specs.Pairs.{Turns, all_enquiries}
+use Rattle.setting_runner.specs.Answers.{Says, Agrees}
+use Rattle.c004_commands.specs.declared.port.TheConstants.{PORTS}
+
+some_enquiries : (a n : ℕ) → a + n ≤ PORTS → AreCommands (map Enquire (range_with_len a n))
+some_enquiries a zero h = tt
+some_enquiries a (suc n) h = ((omega arith, tt), some_enquiries (a + 1) n (omega arith))
+
+pub all_ports : AreCommands all_enquiries
+all_ports = some_enquiries 0 PORTS (omega arith)
+
+unmoved : (a n : ℕ) (s : Switch) → after_all (map Enquire (range_with_len a n)) s ≡ s
+unmoved a zero s = refl
+unmoved a (suc n) s = unmoved (a + 1) n s
+
+pub enquiries_leave : (s : Switch) → after_all all_enquiries s ≡ s
+enquiries_leave s = unmoved 0 PORTS s
+
+some_answers : (a n k : ℕ) (s : Switch) → k < n → get_or (answers (map Enquire (range_with_len a n)) s) k 0 ≡ answer_byte (finmap.get s.sources (a + k))
+some_answers a zero k s h = absurd (omega arith)
+some_answers a (suc n) zero s h = ap (λ i. answer_byte (finmap.get s.sources i)) (omega arith)
+some_answers a (suc n) (suc k) s h = some_answers (a + 1) n k s (omega arith) ∙ ap (λ i. answer_byte (finmap.get s.sources i)) (omega arith)
+
+says : (o : Option ℕ) (reply : ℕ) → reply ≡ answer_byte o → Says o reply
+says None reply e = omega arith
+says (Some input) reply e = e
+
+pub all_say : (s : Switch) (output : ℕ) (replies : List ℕ) → output < PORTS → replies ≡ answers all_enquiries s → Agrees s output (get_or replies output 0)
+all_say s output replies h e =
+    says (finmap.get s.sources output) (get_or replies output 0) (ap (λ (r : List ℕ). get_or r output 0) e ∙ some_answers 0 PORTS output s h ∙ ap (λ i. answer_byte (finmap.get s.sources i)) (omega arith))
+
+pub not_honest : (b : Bool) → (IsTrue b → ⊥) → b ≡ false
+not_honest true h = absurd (h refl)
+not_honest false h = refl
+
+pub some_too : {X : Type 0} (P Q : X → Type 0) (o : Option X) → ((x : X) → P x → Q x) → IfSome o P → IfSome o Q
+some_too P Q None f h = tt
+some_too P Q (Some x) f h = f x h
+
+-- a port that carried out the bytes that turn a switch, and then the enquiries
+pub carried : (bytes : List ℕ) (old mid new goal_switch : Switch) (none replies enquiries : List ℕ) → Turns bytes old goal_switch → CarriesOut bytes old mid none → enquiries ≡ text all_enquiries → CarriesOut enquiries mid new replies → (new ≡ goal_switch) × (replies ≡ answers all_enquiries goal_switch)
+carried bytes old mid new goal_switch none replies enquiries t first e second =
+    let a = first t.commands t.ports t.whole in
+    let is : mid ≡ goal_switch = a.0 ∙ t.turned in
+    let b = second all_enquiries all_ports e in
+    (b.0 ∙ enquiries_leave mid ∙ is, b.1 ∙ ap (answers all_enquiries) is)
+
+-- ---- a reply that was read
+
+-- a reply that names an input says it, and nothing else
+pub connected_says : (o : Option ℕ) (n input reply : ℕ) (b : Bool) → b ≡ option_eq eqb o (Some n) → n ≡ input → IsAnswer (Connected input) reply → IsTrue b ↔ Says o reply
+connected_says None n input reply b e same is = (λ t. absurd (false≢true (sym e ∙ t)), λ low. absurd (omega (arith, is.0)))
+connected_says (Some i) n input reply b e same is = (
+  λ t. let here : i ≡ n = eqb-true i n (sym e ∙ t) in omega (arith, is.0),
+  λ says. let here : i ≡ n = omega (arith, is.0) in e ∙ eq-eqb i n here,
+)
+
+unnot : (b : Bool) → false ≡ not b → IsTrue b
+unnot true e = refl
+unnot false e = absurd (false≢true e)
+
+-- a reply that names none says that there is none
+pub loose_says : (o : Option ℕ) (reply : ℕ) (b : Bool) → is_some o ≡ not b → reply < 128 → IsTrue b ↔ Says o reply
+loose_says None reply b e low = (λ t. low, λ says. unnot b e)
+loose_says (Some i) reply b e low = (λ t. absurd (false≢true (sym (ap not t) ∙ sym e)), λ says. absurd (omega arith))

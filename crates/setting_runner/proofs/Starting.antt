@@ -1,0 +1,72 @@
+-- Before a run begins.
+use Rattle.std.proofs.Common.{◌≡◌, ◌<◌, ◌+◌, inl, inr, ℕ, List, [], ◌++◌, length, take, drop, sym, ap₂, arith, subst, append-nil}
+use Rattle.std.specs.Prelude.{◌↔◌}
+use Rattle.std.specs.List.{concat}
+use Rattle.batch.specs.Extent.{Extent}
+use Rattle.batch.specs.declared.transfer.Place.{Place}
+use Rattle.batch.specs.declared.transfer.Transfer.{Transfer}
+use Rattle.batch.specs.Overlap.{IsApart, IsFirstOverlap}
+use Rattle.module_memory.specs.Store.{Store}
+use Rattle.module_memory.specs.Core.{IsReady, setting_of}
+use Rattle.module_memory.specs.Bays.{AreBaysOf, destinations_of}
+use Rattle.module_memory.specs.Lending.{AreLendable, IsLendFault, bays_of, without}
+use Rattle.module_memory.specs.declared.fault.LendFault.{LendFault}
+use Rattle.module_memory.specs.declared.fault.LendFault.TheVariants.{SamePlace, NoPlace, NoMemory as NoBays}
+use Rattle.module_memory.proofs.PartedSettings.{settings_have_bays}
+use Rattle.schedule_certificate.specs.Plans.{Plan}
+use Rattle.setting_runner.specs.declared.outcome.Outcome.{Outcome}
+use Rattle.setting_runner.specs.declared.outcome.Outcome.TheVariants.{Refused}
+use Rattle.setting_runner.specs.declared.outcome.RunRefusal.{RunRefusal}
+use Rattle.setting_runner.specs.declared.outcome.RunRefusal.TheVariants.{Overlap, Shape}
+use Rattle.setting_runner.specs.Runs.{numbers_of}
+use Rattle.setting_runner.proofs.Schedules.{split_concat}
+
+abbrev refused : RunRefusal → Outcome
+refused r = Refused r
+
+one_first : (ts : List Transfer) (a b i j : ℕ) → IsFirstOverlap ts a b → IsFirstOverlap ts i j → (a ≡ i) × (b ≡ j)
+one_first ts a b i j x y = elim (x.first i j y.overlap) [
+  | inl less ↦ elim (y.first a b x.overlap) [ inl more ↦ absurd (omega arith) | inr same ↦ absurd (omega (arith, same.0)) ]
+  | inr one ↦ elim (y.first a b x.overlap) [ inl more ↦ absurd (omega (arith, one.0)) | inr same ↦ (one.0, omega (arith, one.1, same.1)) ]
+]
+
+same_pair : (a b i j : ℕ) → refused (Overlap a b) ≡ refused (Overlap i j) → (a ≡ i) × (b ≡ j)
+same_pair a b i j e = (cc, cc)
+
+-- the overlap that is named is the first
+pub overlap_is : (ts : List Transfer) (a b : ℕ) → IsFirstOverlap ts a b → (i j : ℕ) → (refused (Overlap a b) ≡ refused (Overlap i j)) ↔ IsFirstOverlap ts i j
+overlap_is ts a b first i j = (
+  λ e. let same = same_pair a b i j e in subst (λ (x : ℕ). IsFirstOverlap ts x j) same.0 (subst (λ (x : ℕ). IsFirstOverlap ts a x) same.1 first),
+  λ other. let same = one_first ts a b i j first other in ap₂ (λ (x y : ℕ). refused (Overlap x y)) same.0 same.1,
+)
+
+pub no_overlap : (ts : List Transfer) (i j : ℕ) → IsApart ts → IsFirstOverlap ts i j → ⊥
+no_overlap ts i j apart first = apart i j first.overlap
+
+pub overlap_no_shape : (a b : ℕ) → refused (Overlap a b) ≡ refused Shape → ⊥
+overlap_no_shape a b e = absurd cc
+
+pub shape_no_overlap : (i j : ℕ) → refused Shape ≡ refused (Overlap i j) → ⊥
+shape_no_overlap i j e = absurd cc
+
+-- what can be lent isn't refused but for want of memory
+pub lend_fault_is : (shape : Extent) (places : List Place) (f : LendFault) → AreLendable shape places → IsLendFault shape places f → 0 < length places
+lend_fault_is shape places (SamePlace i) a f = absurd (a.distinct f.2.0 i f.2.1 f.1 f.2.2)
+lend_fault_is shape places (NoPlace i) a f = absurd (f.1 (a.exist i f.0))
+lend_fault_is shape places NoBays a f = f.1
+
+-- the destinations of a plan can be lent
+pub plan_lendable : (s : Store) (batch : List Transfer) (numbers : List ℕ) → IsReady s batch numbers → AreLendable s.shape (destinations_of batch numbers)
+plan_lendable s batch numbers r =
+    let e : numbers ≡ [] ++ numbers ++ [] = sym (append-nil numbers) in
+    subst (λ (xs : List ℕ). AreLendable s.shape (destinations_of batch xs)) (sym e) (settings_have_bays s batch [] numbers [] (subst (IsReady s batch) e r)).0
+
+-- and each setting has its bays then
+pub plan_bays : (s : Store) (plan : Plan) (k : ℕ) → IsReady s plan.batch (concat plan.settings) → k < length plan.settings
+    → AreBaysOf (without s (destinations_of plan.batch (concat plan.settings))) (bays_of s (destinations_of plan.batch (concat plan.settings))) (length (concat (take k plan.settings))) (setting_of plan.batch (numbers_of plan k))
+plan_bays s plan k r h =
+    let before = concat (take k plan.settings) in
+    let after = concat (drop (k + 1) plan.settings) in
+    let e = split_concat plan.settings k h in
+    subst (λ (xs : List ℕ). AreBaysOf (without s (destinations_of plan.batch xs)) (bays_of s (destinations_of plan.batch xs)) (length before) (setting_of plan.batch (numbers_of plan k))) (sym e)
+    (settings_have_bays s plan.batch before (numbers_of plan k) after (subst (IsReady s plan.batch) e r)).1

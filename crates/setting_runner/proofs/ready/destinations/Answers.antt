@@ -1,0 +1,37 @@
+use Rattle.std.proofs.Common.{◌≡◌, ◌<◌, ◌++◌, [], ℕ, List, Some, length, take, arith, sym, ap, ap₂, ◌∙◌, subst}
+use Rattle.std.specs.Prelude.{All}
+use Rattle.std.specs.List.{slice_get, concat}
+use Rattle.std.proofs.lemmas.List.{map-append}
+use Rattle.std.proofs.lemmas.Option.{get_or_from_slice_get}
+use Rattle.batch.specs.Overlap.{destination_at}
+use Rattle.batch.specs.declared.transfer.Place.{Place}
+use Rattle.batch.specs.declared.transfer.Transfer.{Transfer}
+use Rattle.module_memory.specs.Bays.{destinations_of}
+use Rattle.setting_runner.specs.Runs.{numbers_of}
+use Rattle.setting_runner.proofs.Schedules.{concat_more, are_settings}
+use Rattle.setting_runner.proofs.ready.destinations.Goals as goal
+
+pub push_destinations-requires : goal.push_destinations-requires
+push_destinations-requires c =
+    let k = c.loop-k.k in
+    let plan = c.args.planned.now in
+    let numbers = c.in-Some.numbers.now in
+    let h : slice_get plan.settings k ≡ Some numbers = ap (λ (s : List (List ℕ)). slice_get s k) (sym c.schedule-schedule.ensures.schedule) ∙ sym c.in-Some.ensures in
+    let e : numbers_of plan k ≡ numbers = get_or_from_slice_get plan.settings k numbers [] h in
+    let below : k < length plan.settings = omega (arith, c.settings-k-end.ensures, ap (length {A = List ℕ}) c.schedule-schedule.ensures.schedule) in
+    let known = (are_settings plan.batch plan.settings k c.batch-batch.ensures.plan.shortest.schedule below).own.known in
+    subst (λ (b : List Transfer). All (λ t. t < length b) numbers) (sym c.batch-batch.ensures.batch) (subst (λ (x : List ℕ). All (λ t. t < length plan.batch) x) e known)
+
+pub loop-k-preserved : goal.loop-k-preserved
+loop-k-preserved c =
+    let k = c.loop-k.k in
+    let plan = c.args.planned.now in
+    let numbers = c.in-Some.numbers.now in
+    let h : slice_get plan.settings k ≡ Some numbers = ap (λ (s : List (List ℕ)). slice_get s k) (sym c.schedule-schedule.ensures.schedule) ∙ sym c.in-Some.ensures in
+    let e : numbers_of plan k ≡ numbers = get_or_from_slice_get plan.settings k numbers [] h in
+    let below : k < length plan.settings = omega (arith, c.settings-k-end.ensures, ap (length {A = List ℕ}) c.schedule-schedule.ensures.schedule) in
+    c.in_ok-push_destinations.ensures.places
+    ∙ ap (λ (ps : List Place). ps ++ destinations_of c.batch-batch.result.now numbers) c.loop-k.invariant
+    ∙ ap₂ (λ (b : List Transfer) (x : List ℕ). destinations_of plan.batch (concat (take k plan.settings)) ++ destinations_of b x) c.batch-batch.ensures.batch (sym e)
+    ∙ sym (map-append (destination_at plan.batch) (concat (take k plan.settings)) (numbers_of plan k))
+    ∙ ap (destinations_of plan.batch) (sym (concat_more plan.settings k below))

@@ -1,0 +1,5 @@
+pub mod Pairs
+pub mod Answers
+pub mod Moves
+pub mod Tables
+pub mod Runs

@@ -1,0 +1,55 @@
+-- What a setting's transfers move into their bays, as a function of how many words each has moved.
+use Rattle.std.specs.Prelude.{◌≡◌, ℕ, ◌≤◌, ◌<◌, ◌⊎◌, List, [], ◌∷◌, ◌++◌, length, map, take, drop}
+use Rattle.std.specs.List.{AllByRecursion}
+use Rattle.batch.specs.declared.transfer.Transfer.{Transfer}
+use Rattle.batch.specs.Places.{HasPlace}
+use Rattle.batch.specs.Overlap.{source_at, destination_at}
+use Rattle.module_memory.specs.Store.{Store, block_of}
+use Rattle.module_memory.specs.Lending.{Lent}
+
+-- a transfer of the batch can move its words into a bay
+pub record IsMovable (rest : Store) (batch : List Transfer) (t : ℕ) (bay : Lent) : Type 0 where
+  pub known : t < length batch
+  pub source_exists : HasPlace rest.shape (source_at batch t)
+  pub source_here : length (block_of rest (source_at batch t)) ≡ rest.shape.words
+  pub place : bay.place ≡ destination_at batch t
+  pub bay_exists : HasPlace rest.shape bay.place
+  pub bay_width : length bay.words ≡ rest.shape.words
+
+-- each transfer can move its words into its bay
+abbrev pub AreMovable : Store → List Transfer → List ℕ → List Lent → Type 0
+AreMovable rest batch [] [] = Unit {0}
+AreMovable rest batch (t ∷ numbers) (bay ∷ bays) = IsMovable rest batch t bay × AreMovable rest batch numbers bays
+AreMovable rest batch _ _ = ⊥
+
+-- The transfer is named with its words, and its bay begins with as many words of its source. A transfer whose wire never fails has
+-- moved them all.
+pub record HasMoved (sure : ℕ → Type 0) (rest : Store) (batch : List Transfer) (t : ℕ) (old new : Lent) (moved : ℕ × ℕ) : Type 0 where
+  pub named : moved.0 ≡ t
+  pub at_most : moved.1 ≤ rest.shape.words
+  pub place : new.place ≡ old.place
+  pub words : new.words ≡ take moved.1 (block_of rest (source_at batch t)) ++ drop moved.1 old.words
+  pub all_words : sure t → moved.1 ≡ rest.shape.words
+
+-- the same of each transfer, in order
+abbrev pub HaveMoved : (ℕ → Type 0) → Store → List Transfer → List ℕ → List Lent → List Lent → List (ℕ × ℕ) → Type 0
+HaveMoved sure rest batch [] [] [] [] = Unit {0}
+HaveMoved sure rest batch (t ∷ numbers) (old ∷ olds) (new ∷ news) (m ∷ moved) = HasMoved sure rest batch t old new m × HaveMoved sure rest batch numbers olds news moved
+HaveMoved sure rest batch _ _ _ _ = ⊥
+
+-- no wire is known never to fail
+abbrev pub none_sure : ℕ → Type 0
+none_sure t = ⊥
+
+-- each transfer has moved so many words
+abbrev pub all_moved : List ℕ → ℕ → List (ℕ × ℕ)
+all_moved numbers words = map (λ t. (t, words)) numbers
+
+-- the first transfer that has moved fewer words than a block has
+abbrev pub IsFirstShort : ℕ → ℕ → List (ℕ × ℕ) → Type 0
+IsFirstShort words transfer [] = ⊥
+IsFirstShort words transfer (m ∷ moved) = ((m.0 ≡ transfer) × (m.1 < words)) ⊎ ((words ≤ m.1) × IsFirstShort words transfer moved)
+
+-- every transfer has moved as many words as a block has
+abbrev pub AllWhole : ℕ → List (ℕ × ℕ) → Type 0
+AllWhole words moved = AllByRecursion (λ m. words ≤ m.1) moved

@@ -1,0 +1,119 @@
+-- How a run ends, and what it leaves and tells. The outcomes and their causes are this project's choice.
+use Rattle.std.specs.Prelude.{◌≡◌, ℕ, ◌<◌, ◌≤◌, ◌+◌, ◌*◌, Bool, false, List, [], ◌++◌, zero, suc, length, map, take, slice_index, slice_index_or, All, Contains}
+use Rattle.std.specs.List.{concat}
+use Rattle.batch.specs.Extent.{Extent}
+use Rattle.batch.specs.declared.transfer.Transfer.{Transfer}
+use Rattle.batch.specs.Overlap.{IsApart}
+use Rattle.c004_commands.specs.declared.port.TheConstants.{PORTS}
+use Rattle.crossbar.specs.Switch.{Switch}
+use Rattle.crossbar.specs.Pairs.{Pair as JoinedPair, switch_of}
+use Rattle.module_memory.specs.Store.{Store}
+use Rattle.module_memory.specs.Core.{FitsIn, IsMoved, IsPlaced, setting_of, times}
+use Rattle.module_memory.specs.Settings.{IsRun, IsStoppedRun, all_words}
+use Rattle.schedule_certificate.specs.Plans.{Plan}
+use Rattle.setting_runner.specs.declared.outcome.Outcome.{Outcome}
+use Rattle.setting_runner.specs.declared.outcome.Outcome.TheVariants.{Completed, Refused, Stopped}
+use Rattle.setting_runner.specs.declared.outcome.StopCause.{StopCause}
+use Rattle.setting_runner.specs.declared.outcome.StopCause.TheVariants.{Port, SwitchDisagrees, Wire}
+
+-- the transfers of a plan's setting, by their numbers
+abbrev pub numbers_of : Plan → ℕ → List ℕ
+numbers_of plan k = slice_index_or plan.settings k []
+
+-- the modules that a transfer wants joined
+abbrev pub joined_pair : Transfer → JoinedPair
+joined_pair t = record { initiator = t.initiator; responder = t.responder }
+
+-- the pairs of a setting
+abbrev pub setting_pairs : List Transfer → List ℕ → List JoinedPair
+setting_pairs batch numbers = map joined_pair (setting_of batch numbers)
+
+-- the words of transfers with their words
+abbrev pub words_of : List (ℕ × ℕ) → List ℕ
+words_of moved = map (λ m. m.1) moved
+
+-- ---- the memories
+
+-- all settings were run, and all blocks are placed
+pub record IsCompleted (old : Store) (plan : Plan) (settings words : ℕ) (new : Store) : Type 0 where
+  pub all_settings : settings ≡ length plan.settings
+  pub all_moved : words ≡ length plan.batch * old.shape.words
+  pub machine : IsRun old plan.batch plan.settings new
+  pub placed : IsPlaced old plan.batch new
+
+-- The settings before one were run, and of that one each transfer has moved so many words: the machine has made these steps, and the
+-- store is that of the counts.
+pub record IsStopped (old : Store) (plan : Plan) (setting : ℕ) (moved : List (ℕ × ℕ)) (new : Store) : Type 0 where
+  pub within : setting < length plan.settings
+  pub named : map (λ m. m.0) moved ≡ numbers_of plan setting
+  pub at_most : All (λ m. m.1 ≤ old.shape.words) moved
+  pub steps : List ℕ
+  pub counted : (i : ℕ) → i < length moved → times i steps ≡ slice_index (words_of moved) i
+  pub machine : IsStoppedRun old plan.batch (take setting plan.settings) (numbers_of plan setting) steps new
+  pub store : IsMoved old (setting_of plan.batch (concat (take setting plan.settings) ++ numbers_of plan setting)) (slice_index (all_words old (take setting plan.settings) ++ words_of moved)) new
+
+abbrev pub LeavesMemories : Store → Plan → Outcome → Store → Type 0
+LeavesMemories old plan (Completed settings words) new = IsCompleted old plan settings words new
+LeavesMemories old plan (Refused refusal) new = new ≡ old
+LeavesMemories old plan (Stopped setting cause moved) new = IsStopped old plan setting moved new
+
+-- ---- the causes
+
+-- the transfer is the least of those that have moved fewer words than a block has
+pub record IsLeastShort (words transfer : ℕ) (moved : List (ℕ × ℕ)) : Type 0 where
+  pub count : ℕ
+  pub stands : Contains moved (transfer, count)
+  pub short : count < words
+  pub least : All (λ m. m.1 < words → transfer ≤ m.0) moved
+
+-- Why a setting stops. A port that fails or isn't honest stops it before a word has moved; where a wire fails, every transfer whose
+-- wire never fails has moved all words. The port has failed just where it is the cause.
+abbrev pub IsStopCause : (ℕ → Type 0) → ℕ → ℕ → ℕ → Bool → StopCause → List (ℕ × ℕ) → Type 0
+IsStopCause sure words before after honest Port moved = (before < after) × All (λ m. m.1 ≡ 0) moved
+IsStopCause sure words before after honest (SwitchDisagrees output) moved = (honest ≡ false) × (output < PORTS) × All (λ m. m.1 ≡ 0) moved × (after ≡ before)
+IsStopCause sure words before after honest (Wire transfer) moved = IsLeastShort words transfer moved × All (λ m. sure m.0 → m.1 ≡ words) moved × (after ≡ before)
+
+-- a run that stopped has a cause, and the port has failed in no other
+abbrev pub HasCause : (ℕ → Type 0) → ℕ → ℕ → ℕ → Bool → Outcome → Type 0
+HasCause sure words before after honest (Stopped setting cause moved) = IsStopCause sure words before after honest cause moved
+HasCause sure words before after honest (Completed settings words_moved) = after ≡ before
+HasCause sure words before after honest (Refused refusal) = after ≡ before
+
+-- ---- the refusals
+
+-- a transfer names a module or a block that the rack hasn't
+abbrev pub IsMisfit : Extent → List Transfer → Type 0
+IsMisfit shape batch = FitsIn shape batch → ⊥
+
+-- the run is refused
+abbrev pub IsRefused : Outcome → Type 0
+IsRefused (Refused refusal) = Unit {0}
+IsRefused (Completed settings words) = ⊥
+IsRefused (Stopped setting cause moved) = ⊥
+
+-- no cause to refuse the run, but there is something to move
+pub record NeedsMemory (shape : Extent) (batch : List Transfer) : Type 0 where
+  pub apart : IsApart batch
+  pub fits : FitsIn shape batch
+  pub some : 0 < length batch
+
+-- ---- the switch
+
+-- the switch is that of the last setting, or of the setting in which a wire failed
+abbrev pub LeavesSwitch : Plan → Outcome → Switch → Type 0
+LeavesSwitch plan (Completed settings words) switch = (k : ℕ) → k + 1 ≡ length plan.settings → switch ≡ switch_of (setting_pairs plan.batch (numbers_of plan k))
+LeavesSwitch plan (Refused refusal) switch = Unit {0}
+LeavesSwitch plan (Stopped setting cause moved) switch = (t : ℕ) → cause ≡ Wire t → switch ≡ switch_of (setting_pairs plan.batch (numbers_of plan setting))
+
+-- ---- what is told
+
+-- the notice was told 0, then 1, and so on to this number of settings
+abbrev pub Told : {N : Type 0} → (N → ℕ → N → Type 0) → N → ℕ → N → Type 0
+Told {N} hears a zero b = hears a 0 b
+Told {N} hears a (suc k) b = (m : N) × Told hears a k m × hears m (suc k) b
+
+-- the notice was told of each setting that was run, in order, and of none where the run was refused
+abbrev pub TellsOutcome : {N : Type 0} → (N → ℕ → N → Type 0) → N → Outcome → N → Type 0
+TellsOutcome hears a (Completed settings words) b = Told hears a settings b
+TellsOutcome hears a (Refused refusal) b = b ≡ a
+TellsOutcome hears a (Stopped setting cause moved) b = Told hears a setting b

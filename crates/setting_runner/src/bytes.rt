@@ -1,0 +1,175 @@
+//! The bytes that go to the switch, and the bits that go over a line.
+
+ghost use Rattle.std.specs.Prelude.{◌≡◌, ◌≤◌, ◌<◌, ◌+◌, ◌*◌, ◌++◌, length, take, map};
+ghost use Rattle.std.specs.List.{list_any};
+ghost use Rattle.c004_commands.specs.Commands.{row, text};
+ghost use Rattle.crossbar.specs.Switch.{Switch};
+ghost use Rattle.crossbar.specs.Pairs.{ArePairs, switch_of, setting, change, is_pair, without};
+ghost use Rattle.setting_runner.specs.Pairs.{pairs_of, pair_of, command_of, Turns, all_enquiries};
+
+use crate::pair::Pair;
+use batch::{MAX_TRANSFERS, MAX_WORDS};
+use c004_commands::{Command, LONGEST_COMMAND, PORTS, PortNo, write};
+use crossbar::{JOINED_MODULES, laws};
+use peek_poke::POKE_BYTES;
+
+/// How many bytes the longest change of a switch has, 97: three for each pair that goes, three for each pair
+/// that comes, and one for the end of the sequence.
+pub const CHANGE_BYTES: usize = 2 * LONGEST_COMMAND * (JOINED_MODULES as usize) + 1;
+
+/// How many bytes the enquiries of all outputs have, 64.
+pub const ENQUIRY_BYTES: usize = 2 * (PORTS as usize);
+
+/// How many bits a byte takes with its acknowledge (IMS T414 data sheet, link protocol).
+const BYTE_BITS: u64 = 13;
+
+/// The most words that a run can move.
+const MAX_MOVED: u64 = (MAX_TRANSFERS * MAX_WORDS) as u64;
+
+/// What becomes of a pair.
+#[derive(Clone, Copy)]
+enum Way {
+    Joined,
+    Parted,
+}
+
+/// Writes the bytes that set any switch to the pairs, and gives their number, at most 50: a reset, the joins
+/// of the pairs in their order, and the end of the sequence (INMOS IMS C004 data sheet, configuration
+/// messages). So `04`, then `01 I 16+R` for each pair, then `03`. What stands in `out` behind them isn't said.
+///
+/// The initiators have to ascend, the responders to be distinct, and all to be below 16. Takes time by the
+/// number of pairs.
+pub fn setting_bytes(pairs: &[Pair], out: &mut [u8; CHANGE_BYTES]) -> usize
+    requires { ArePairs (pairs_of pairs.now) }
+    ensures bytes { take result out.new ≡ text (setting (pairs_of pairs.now)) }
+    ensures sets { (switch : Switch) → Turns (take result out.new) switch (switch_of (pairs_of pairs.now)) }
+    ensures room { result ≤ CHANGE_BYTES }
+{
+    laws::setting();
+    let begun = put(out, 0, Command::Reset);
+    let joined = put_pairs(out, begun, Way::Joined, pairs, &[]);
+    put(out, joined, Command::Settle)
+}
+
+/// Writes the bytes that set the switch of the old pairs to the new ones, and gives their number, at most 97:
+/// the cuts of the pairs that go, the joins of those that come, each in their order, and the end of the
+/// sequence (INMOS IMS C004 data sheet, configuration messages). So `06 I 16+R` for each old pair that isn't
+/// new, `01 I 16+R` for each new pair that isn't old, then `03`. What stands in `out` behind them isn't said.
+///
+/// Of both, the initiators have to ascend, the responders to be distinct, and all to be below 16. The time
+/// grows with the product of the numbers of pairs.
+pub fn change_bytes(old: &[Pair], new: &[Pair], out: &mut [u8; CHANGE_BYTES]) -> usize
+    requires old { ArePairs (pairs_of old.now) }
+    requires new { ArePairs (pairs_of new.now) }
+    ensures bytes { take result out.new ≡ text (change (pairs_of old.now) (pairs_of new.now)) }
+    ensures sets { Turns (take result out.new) (switch_of (pairs_of old.now)) (switch_of (pairs_of new.now)) }
+    ensures room { result ≤ CHANGE_BYTES }
+{
+    laws::change();
+    let parted = put_pairs(out, 0, Way::Parted, old, new);
+    let joined = put_pairs(out, parted, Way::Joined, new, old);
+    put(out, joined, Command::Settle)
+}
+
+/// The bytes that enquire every output, in order: `02 n` for n from 0 to 31 (INMOS IMS C004 data sheet,
+/// configuration messages). The switch answers each by a byte.
+pub fn enquiry_bytes() -> [u8; ENQUIRY_BYTES]
+    ensures { result ≡ text all_enquiries }
+{
+    let mut bytes = [0; ENQUIRY_BYTES];
+    let mut stand = 0;
+    for number in 0..PORTS {
+        let output = port(number);
+        stand = put(&mut bytes, stand, Command::Enquire { output });
+    }
+    bytes
+}
+
+/// How many bits go over the lines, both ways, where so many words are moved, at most as many as a run can
+/// move, 1,048,576: 117 for each word.
+///
+/// A word takes the nine bytes of a poke, or the five of a peek and the four of its reply. A byte takes eleven
+/// bits, and two for its acknowledge (INMOS IMS T414 data sheet, link protocol).
+pub fn line_bits(words: u64) -> u64
+    requires { words ≤ MAX_MOVED }
+    // A byte is 11 bits, and its acknowledge 2.
+    ensures { result ≡ (11 + 2) * POKE_BYTES * words }
+{
+    BYTE_BITS * POKE_BYTES as u64 * words
+}
+
+/// Puts the commands of those pairs that aren't among others behind the bytes that stand, and says how many
+/// stand then.
+fn put_pairs(
+    out: &mut [u8; CHANGE_BYTES],
+    stand: usize,
+    way: Way,
+    pairs: &[Pair],
+    others: &[Pair],
+) -> usize
+    requires pairs { ArePairs (pairs_of pairs.now) }
+    requires room { stand + LONGEST_COMMAND * length pairs.now ≤ CHANGE_BYTES }
+    ensures bytes { take result out.new ≡ take stand out.old ++ text (map (command_of way) (without (pairs_of others.now) (pairs_of pairs.now))) }
+    ensures room { result ≤ stand + LONGEST_COMMAND * length pairs.now }
+{
+    let mut count = stand;
+    for pair in pairs {
+        if !is_among(*pair, others) {
+            count = put(out, count, to_command(way, *pair));
+        }
+    }
+    count
+}
+
+/// Whether a pair is one of others.
+fn is_among(pair: Pair, others: &[Pair]) -> bool
+    ensures { result ≡ list_any (is_pair (pair_of pair)) (pairs_of others.now) }
+{
+    for other in others {
+        if *other == pair {
+            return true;
+        }
+    }
+    false
+}
+
+/// The command that joins or parts a pair.
+fn to_command(way: Way, pair: Pair) -> Command
+    requires { (pair.initiator < JOINED_MODULES) × (pair.responder < JOINED_MODULES) }
+    ensures command { result ≡ command_of way (pair_of pair) }
+    ensures number { length (row result) ≡ LONGEST_COMMAND }
+{
+    let link1 = port(pair.initiator);
+    let link2 = port(JOINED_MODULES + pair.responder);
+    match way {
+        Way::Joined => Command::Join { link1, link2 },
+        Way::Parted => Command::CutPair { link1, link2 },
+    }
+}
+
+/// The port of a number.
+fn port(number: u8) -> PortNo
+    requires { number < PORTS }
+    ensures { result ≡ number }
+{
+    let Some(port) = PortNo::new(number) else {
+        unreachable!();
+    };
+    port
+}
+
+/// Puts the bytes of a command behind those that stand, and says how many stand then.
+fn put(out: &mut [u8], stand: usize, command: Command) -> usize
+    requires { stand + length (row command) ≤ length out.old }
+    ensures bytes { take result out.new ≡ take stand out.old ++ row command }
+    ensures number { result ≡ stand + length (row command) }
+{
+    let mut bytes = [0; LONGEST_COMMAND];
+    let number = write(command, &mut bytes);
+    let mut count = stand;
+    for byte in &bytes[..number] {
+        out[count] = *byte;
+        count += 1;
+    }
+    count
+}

@@ -1,0 +1,46 @@
+use crate::moved::Moved;
+
+/// Why a run was refused: the rack is as it was, and the port wasn't called. The causes are tested in this
+/// order, which is this project's choice.
+#[derive(Clone, Copy, Debug, PartialEq, Eq)]
+pub enum RunRefusal {
+    /// These two transfers overlap, and no pair before them. The first number is at most the second, and
+    /// both are one where a transfer writes the block that it reads.
+    Overlap(usize, usize),
+    /// A transfer names a module or a block that the rack hasn't.
+    Shape,
+    /// There was no memory for the run.
+    NoMemory,
+}
+
+/// Why a run stopped. Where the cause isn't a wire, no word of the stopped setting has moved.
+#[derive(Clone, Copy, Debug, PartialEq, Eq)]
+pub enum StopCause {
+    /// The port to the switch failed, as the setting was sent or as the outputs were asked.
+    Port,
+    /// This output, from 0 to 31, doesn't answer what the setting calls for, and all before it do. An answer
+    /// that the switch never gives is no such answer.
+    SwitchDisagrees(u8),
+    /// The wire of this transfer failed before all its words had moved, and of none before it in the
+    /// setting. All other transfers of the setting have moved as far as their wires went.
+    Wire(usize),
+}
+
+/// How a run ended.
+#[derive(Clone, Copy, Debug, PartialEq, Eq)]
+pub enum Outcome {
+    /// All settings were run. The words are those of all blocks that were moved, each of four bytes.
+    Completed {
+        settings: usize,
+        words: usize,
+    },
+    /// Nothing was done, for this cause.
+    Refused(RunRefusal),
+    /// This setting, counted from 0, was not run to its end: its transfers have moved so many words each. All
+    /// settings before it were run, and none behind it.
+    Stopped {
+        setting: usize,
+        cause: StopCause,
+        moved: Moved,
+    },
+}

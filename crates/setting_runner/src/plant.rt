@@ -1,0 +1,12 @@
+/// What a run works with. It may be used for one run after another.
+#[derive(Debug, Drop)]
+pub struct Plant<P, W, G> {
+    /// The port to the switch.
+    pub port: P,
+    /// The maker of a wire for each transfer.
+    pub wires: W,
+    /// The gate at which workers arrive.
+    pub gate: G,
+    /// How many workers there may be, from 1 to `MAX_WORKERS`.
+    pub workers: usize,
+}

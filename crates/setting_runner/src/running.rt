@@ -1,0 +1,152 @@
+//! Runs of planned batches.
+
+ghost use Rattle.std.specs.Prelude.{◌≡◌, ◌≤◌, ◌<◌, ◌↔◌, ℕ, [], length, take, IsTrue, IfSome};
+ghost use Rattle.std.specs.List.{concat};
+ghost use Rattle.batch.specs.Overlap.{IsApart, IsFirstOverlap};
+ghost use Rattle.crossbar.specs.Pairs.{ArePairs, switch_of};
+ghost use Rattle.module_memory.specs.Bays.{AreBaysOf};
+ghost use Rattle.module_memory.specs.Core.{IsReady, setting_of};
+ghost use Rattle.module_memory.specs.Lending.{joined, Rejoins};
+ghost use Rattle.schedule_certificate.specs.Plans.{IsPlan};
+ghost use Rattle.setting_runner.specs.declared.outcome.RunRefusal.TheVariants.{Overlap, Shape, NoMemory};
+ghost use Rattle.setting_runner.specs.declared.outcome.Outcome.TheVariants.{Refused};
+ghost use Rattle.setting_runner.specs.Runs.{numbers_of, LeavesMemories, HasCause, IsMisfit, IsRefused, NeedsMemory, LeavesSwitch, TellsOutcome};
+
+use crate::notice::Notice;
+use crate::outcome::{Outcome, RunRefusal};
+use crate::pair_list::PairList;
+use crate::plant::Plant;
+use crate::ready::{destinations, fits_in};
+use crate::setting::{Setting, run_setting};
+use crossbar::ConfigPort;
+use module_memory::{Bay, Parted, Rack, Rest};
+use peek_poke::WireMaker;
+use schedule_certificate::{Gate, MAX_WORKERS, Planned};
+use std::alloc::Global;
+use std::thread::Threads;
+
+/// Runs a plan on a rack, and gives the rack back.
+///
+/// First the plan is tested, and all memory is taken. Then, setting by setting, the switch is set, from any
+/// switch for the first setting and from the setting before for each later one. All its outputs are asked
+/// whether it stands so, and the words of the setting's transfers are moved over their wires, by as many
+/// workers as the plant may have, from 1 to 64. The notice is told 0 before the first setting, and after each
+/// setting how many are done.
+///
+/// A run is refused where two transfers overlap, where the rack hasn't a block that a transfer names, and
+/// where there is no memory, tested in this order: then the rack is as it was, and neither the port nor the
+/// notice was called. A port that fails, a switch that doesn't stand as set and a wire that fails stop the
+/// run. A wire that fails lets the other transfers of its setting go on. After a run the switch stays as it
+/// was set last.
+///
+/// Where a thread can't be had, its work is done by the caller. After the notice has been told 0 the run
+/// takes no memory, a thread's start apart. Takes time that grows with the words moved, and with the square
+/// of the number of transfers.
+pub fn run<R: Threads + Sync, P: ConfigPort, W: WireMaker + Sync, G: Gate + Sync, N: Notice>(
+    rt: &R,
+    alloc: Global,
+    rack: Rack,
+    plant: &mut Plant<P, W, G>,
+    planned: &Planned,
+    notice: &mut N,
+) -> (Rack, Outcome)
+    requires some { 1 ≤ plant.old.workers }
+    requires few { plant.old.workers ≤ MAX_WORKERS }
+
+    ensures memories { LeavesMemories rack planned.now result.1 result.0 }
+    ensures cause { HasCause (W.is_sure plant.old.wires) rack.shape.words (P.failures plant.old.port) (P.failures plant.new.port) (P.honest plant.old.port) result.1 }
+    ensures switch { IsTrue (P.honest plant.old.port) → LeavesSwitch planned.now result.1 (P.switch plant.new.port) }
+    ensures told { TellsOutcome N.hears notice.old result.1 notice.new }
+
+    // Each refusal comes just where its cause is there and none before it, want of memory aside.
+    ensures overlap { (i j : ℕ) → (result.1 ≡ Refused (Overlap i j)) ↔ IsFirstOverlap planned.now.batch i j }
+    ensures shape { (result.1 ≡ Refused Shape) ↔ (IsApart planned.now.batch × IsMisfit rack.shape planned.now.batch) }
+    ensures memory { result.1 ≡ Refused NoMemory → NeedsMemory rack.shape planned.now.batch }
+
+    // The port isn't called where the run is refused or there is nothing to do.
+    ensures refused { IsRefused result.1 → plant.new ≡ plant.old }
+    ensures uncalled { planned.now.settings ≡ [] → plant.new ≡ plant.old }
+    ensures plant { plant.new ≡ record plant.old { port = plant.new.port } }
+    ensures counted { P.failures plant.old.port ≤ P.failures plant.new.port }
+    ensures honesty { P.honest plant.new.port ≡ P.honest plant.old.port }
+{
+    let batch = planned.batch();
+    if let Some((i, j)) = batch.first_overlap() {
+        return (rack, Outcome::Refused(RunRefusal::Overlap(i, j)));
+    }
+    if !fits_in(rack.shape(), batch) {
+        return (rack, Outcome::Refused(RunRefusal::Shape));
+    }
+    let Ok(places) = destinations(alloc, planned) else {
+        return (rack, Outcome::Refused(RunRefusal::NoMemory));
+    };
+    match rack.part(places.as_slice()) {
+        Ok(parted) => {
+            let Parted { rest, mut bays } = parted;
+            let outcome = run_settings(rt, &rest, bays.as_mut_slice(), plant, planned, notice);
+            (Parted { rest, bays }.rejoin(), outcome)
+        }
+        // The blocks that transfers write can be lent where no two overlap: only memory can be wanting.
+        Err((rack, _fault)) => (rack, Outcome::Refused(RunRefusal::NoMemory)),
+    }
+}
+
+/// Runs the settings of a plan, whose destinations are lent in their order.
+fn run_settings<R: Threads + Sync, P: ConfigPort, W: WireMaker + Sync, G: Gate + Sync, N: Notice>(
+    rt: &R,
+    rest: &Rest,
+    bays: &mut [Bay],
+    plant: &mut Plant<P, W, G>,
+    planned: &Planned,
+    notice: &mut N,
+) -> Outcome
+    requires some { 1 ≤ plant.old.workers }
+    requires few { plant.old.workers ≤ MAX_WORKERS }
+    requires ready { IsReady (joined rest.now bays.old) planned.now.batch (concat planned.now.settings) }
+    requires bays { (k : ℕ) → k < length planned.now.settings → AreBaysOf rest.now bays.old (length (concat (take k planned.now.settings))) (setting_of planned.now.batch (numbers_of planned.now k)) }
+    requires rejoins { Rejoins rest.now bays.old }
+
+    ensures rejoins { Rejoins rest.now bays.new }
+    ensures memories { LeavesMemories (joined rest.now bays.old) planned.now result (joined rest.now bays.new) }
+    ensures cause { HasCause (W.is_sure plant.old.wires) rest.now.shape.words (P.failures plant.old.port) (P.failures plant.new.port) (P.honest plant.old.port) result }
+    ensures switch { IsTrue (P.honest plant.old.port) → LeavesSwitch planned.now result (P.switch plant.new.port) }
+    ensures told { TellsOutcome N.hears notice.old result notice.new }
+    ensures going { IsRefused result → ⊥ }
+    ensures uncalled { planned.now.settings ≡ [] → plant.new ≡ plant.old }
+    ensures plant { plant.new ≡ record plant.old { port = plant.new.port } }
+    ensures counted { P.failures plant.old.port ≤ P.failures plant.new.port }
+    ensures honesty { P.honest plant.new.port ≡ P.honest plant.old.port }
+{
+    let batch = planned.batch();
+    let schedule = planned.schedule();
+    notice.done(0);
+    let mut standing = None;
+    let mut from = 0;
+    for number in 0..schedule.settings() {
+        let Some(numbers) = schedule.setting(number) else {
+            unreachable!();
+        };
+        let pairs = PairList::of_setting(batch, numbers);
+        let setting = Setting {
+            batch,
+            numbers,
+            pairs,
+            standing,
+        };
+        let to = from + numbers.len();
+        if let Err(stop) = run_setting(rt, plant, &setting, rest, &mut bays[from..to]) {
+            return Outcome::Stopped {
+                setting: number,
+                cause: stop.cause,
+                moved: stop.moved,
+            };
+        }
+        standing = Some(pairs);
+        from = to;
+        notice.done(number + 1);
+    }
+    Outcome::Completed {
+        settings: schedule.settings(),
+        words: from * rest.shape().words(),
+    }
+}

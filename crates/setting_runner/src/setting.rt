@@ -1,0 +1,120 @@
+//! One setting of a run.
+
+ghost use Rattle.std.specs.Prelude.{◌≡◌, ◌≤◌, ◌<◌, ℕ, AllPairs, MatchOption, IsTrue, length, MatchResult, OnOk, IfErr, IfSome};
+ghost use Rattle.crossbar.specs.Pairs.{ArePairs, switch_of};
+ghost use Rattle.setting_runner.specs.declared.outcome.StopCause.TheVariants.{Wire};
+ghost use Rattle.setting_runner.specs.Moves.{AreMovable, HaveMoved, none_sure, all_moved, IsFirstShort, AllWhole};
+ghost use Rattle.setting_runner.specs.Pairs.{pairs_of};
+ghost use Rattle.setting_runner.specs.Runs.{IsStopCause};
+
+use crate::moved::Moved;
+use crate::outcome::StopCause;
+use crate::pair_list::PairList;
+use crate::plant::Plant;
+use crate::switching::set_switch;
+use crate::work::{Crew, Work, move_all};
+use batch::{Batch, MAX_MODULES};
+use crossbar::ConfigPort;
+use module_memory::{Bay, Rest};
+use peek_poke::WireMaker;
+use schedule_certificate::{Gate, MAX_WORKERS};
+use std::thread::Threads;
+
+/// Why a setting stopped, and how many words its transfers have moved.
+#[derive(Clone, Copy, Debug)]
+pub struct Stop {
+    pub cause: StopCause,
+    pub moved: Moved,
+}
+
+/// A setting of a batch: the numbers of its transfers, their pairs, and the pairs that stand on the switch
+/// before it, which are known but for the first setting of a run.
+#[derive(Clone, Copy)]
+pub struct Setting<'a> {
+    pub batch: &'a Batch,
+    pub numbers: &'a [usize],
+    pub pairs: PairList,
+    pub standing: Option<PairList>,
+}
+
+/// Sets the switch to the pairs of a setting, asks it whether it stands so, and moves the words of the
+/// transfers into their bays.
+pub fn run_setting<R: Threads + Sync, P: ConfigPort, W: WireMaker + Sync, G: Gate + Sync>(
+    rt: &R,
+    plant: &mut Plant<P, W, G>,
+    setting: &Setting<'_>,
+    rest: &Rest,
+    bays: &mut [Bay],
+) -> Result<(), Stop>
+    requires some { 1 ≤ plant.old.workers }
+    requires few { plant.old.workers ≤ MAX_WORKERS }
+    requires standing { IfSome setting.now.standing (λ old. ArePairs (pairs_of old) × (IsTrue (P.honest plant.old.port) → P.switch plant.old.port ≡ switch_of (pairs_of old))) }
+    requires pairs { ArePairs (pairs_of setting.now.pairs) }
+    requires numbers { length setting.now.numbers.now ≤ MAX_MODULES }
+    requires ascending { AllPairs (λ t u. t < u) setting.now.numbers.now }
+    requires movable { AreMovable rest.now setting.now.batch.now setting.now.numbers.now bays.old }
+
+    ensures moved { MatchResult result
+        (λ _. HaveMoved none_sure rest.now setting.now.batch.now setting.now.numbers.now bays.old bays.new (all_moved setting.now.numbers.now rest.now.shape.words))
+        (λ stop. HaveMoved none_sure rest.now setting.now.batch.now setting.now.numbers.now bays.old bays.new stop.moved) }
+    ensures cause { IfErr result (λ stop. IsStopCause (W.is_sure plant.old.wires) rest.now.shape.words (P.failures plant.old.port) (P.failures plant.new.port) (P.honest plant.old.port) stop.cause stop.moved) }
+    ensures set { OnOk result (IsTrue (P.honest plant.old.port) → P.switch plant.new.port ≡ switch_of (pairs_of setting.now.pairs)) }
+    ensures wire { IfErr result (λ stop. (t : ℕ) → stop.cause ≡ Wire t → IsTrue (P.honest plant.old.port) → P.switch plant.new.port ≡ switch_of (pairs_of setting.now.pairs)) }
+    ensures plant { plant.new ≡ record plant.old { port = plant.new.port } }
+    ensures counted { P.failures plant.old.port ≤ P.failures plant.new.port }
+    ensures unfailed { OnOk result (P.failures plant.new.port ≡ P.failures plant.old.port) }
+    ensures honesty { P.honest plant.new.port ≡ P.honest plant.old.port }
+{
+    if let Err(cause) = set_switch(&mut plant.port, setting.standing, setting.pairs.as_slice()) {
+        return Err(Stop {
+            cause,
+            moved: none_moved(setting.numbers),
+        });
+    }
+    let words = rest.shape().words();
+    let work = Work {
+        gate: &plant.gate,
+        wires: &plant.wires,
+        rest,
+        batch: setting.batch,
+    };
+    let crew = Crew {
+        first: 1,
+        workers: plant.workers,
+    };
+    let moved = move_all(rt, &work, crew, setting.numbers, bays);
+    match first_short(&moved, words) {
+        Some(transfer) => Err(Stop {
+            cause: StopCause::Wire(transfer),
+            moved,
+        }),
+        None => Ok(()),
+    }
+}
+
+/// The transfers of a setting of which no word has moved.
+fn none_moved(numbers: &[usize]) -> Moved
+    requires { length numbers.now ≤ MAX_MODULES }
+    ensures { result ≡ all_moved numbers.now 0 }
+{
+    let mut moved = Moved::none();
+    for t in numbers {
+        moved.push(*t, 0);
+    }
+    moved
+}
+
+/// The first transfer that has moved fewer words than a block has.
+fn first_short(moved: &Moved, words: usize) -> Option<usize>
+    ensures { MatchOption result (AllWhole words moved.now) (λ transfer. IsFirstShort words transfer moved.now) }
+{
+    for i in 0..moved.len() {
+        let Some((transfer, count)) = moved.get(i) else {
+            unreachable!();
+        };
+        if count < words {
+            return Some(transfer);
+        }
+    }
+    None
+}
