@@ -1,5 +1,7 @@
 //! The work of a run in plain Rust: 63 settings of 16 pushes of 256 words, where each byte of a poke goes as
 //! the bits of a data packet and its acknowledge comes back as bits. One worker, or as many as the word says.
+//! Built with `--cfg keep_bits`, the compiler can't see that a byte comes out as it went in, and so can't leave
+//! the bits out.
 
 use std::hint::black_box;
 use std::time::Instant;
@@ -101,6 +103,10 @@ struct Wire {
     opposite: BitReader,
 }
 
+fn on_the_line<T>(bits: T) -> T {
+    if cfg!(keep_bits) { black_box(bits) } else { bits }
+}
+
 fn deliver(reader: &mut BitReader, bits: &[bool]) -> Option<Packet> {
     for bit in bits {
         if let Some(packet) = reader.feed(*bit).ok()? {
@@ -121,11 +127,10 @@ impl Wire {
     }
 
     fn carry(&mut self, byte: u8) -> Option<u8> {
-        // Else the compiler sees that a byte comes out as it went in, and leaves the bits out.
-        let bits = black_box(self.sender.send(byte).ok()?);
+        let bits = on_the_line(self.sender.send(byte).ok()?);
         let packet = deliver(&mut self.line, &bits)?;
         let arrived = self.receiver.take(packet).ok()??;
-        let acknowledge = deliver(&mut self.opposite, &black_box([true, false]))?;
+        let acknowledge = deliver(&mut self.opposite, &on_the_line([true, false]))?;
         self.sender.take(acknowledge).ok()?;
         Some(arrived)
     }
@@ -214,5 +219,5 @@ fn main() {
         .flatten()
         .flat_map(|bay| &bay.words)
         .fold(0u32, |sum, word| sum.wrapping_mul(31).wrapping_add(*word));
-    println!("plain Rust, {workers} workers: {moved} words in {} microseconds (sum {sum:08x})", time / 1000);
+    println!("plain Rust{}, {workers} workers: {moved} words in {} microseconds (sum {sum:08x})", if cfg!(keep_bits) { " that keeps the bits" } else { "" }, time / 1000);
 }

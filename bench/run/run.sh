@@ -1,7 +1,8 @@
 #!/usr/bin/env bash
 # Measures what a run costs that moves 1008 blocks of 256 words in 63 settings, bit by bit, beside a plain Rust
-# program that does the same work: by the time that each takes with one, two and four workers, and, with
-# valgrind on the PATH, by the instructions with one worker. The program run_speed.rattle is no crate of the
+# program that does the same work, built so that the compiler may leave bits out and so that it may not: by the
+# time that each takes with one, two and four workers, and, with valgrind on the PATH, by the instructions with
+# one worker. The program run_speed.rattle is no crate of the
 # repository: as src/main.rt of one, it is proved and built in a copy of the crates that it stands on, which
 # takes some minutes.
 set -eu
@@ -21,11 +22,13 @@ cp "$here/run_speed.rattle" "$work/crates/run_speed/src/main.rt"
 touch "$work/crates/run_speed/specs/Lib.antt" "$work/crates/run_speed/proofs/Lib.antt"
 echo "run_speed: failure_count c004_commands crossbar batch module_memory peek_poke link_graph schedule_certificate setting_runner" >>"$work/crates.txt"
 
-rustc --edition 2021 -O -o "$work/plain_runner" "$here/plain_runner.rs"
+rustc --edition 2021 -O -o "$work/plain" "$here/plain_runner.rs"
+rustc --edition 2021 -O --cfg keep_bits -o "$work/keeps_bits" "$here/plain_runner.rs"
 cd "$work/crates/run_speed"
 rt run
 for workers in 1 2 4; do
-    "$work/plain_runner" $workers
+    "$work/plain" $workers
+    "$work/keeps_bits" $workers
 done
 
 instructions() {
@@ -34,9 +37,10 @@ instructions() {
 }
 
 if command -v valgrind >/dev/null; then
-    plain=$(instructions "$work/plain_runner")
     planned=$(instructions out/run_speed one plan)
     ran=$(instructions out/run_speed one)
-    awk -v p="$plain" -v a="$planned" -v b="$ran" \
-        'BEGIN { printf "instructions: %d of the run, %d of plain Rust, ratio %.2f\n", b - a, p, (b - a) / p }'
+    for plain in plain keeps_bits; do
+        awk -v n=$plain -v p="$(instructions "$work/$plain")" -v a="$planned" -v b="$ran" \
+            'BEGIN { printf "instructions: %d of the run, %d of %s, ratio %.2f\n", b - a, p, n, (b - a) / p }'
+    done
 fi

@@ -89,8 +89,8 @@ impl<'a> Table<'a> {
     }
 
     /// The two tables in one: the colours of the left table, and behind them those of the right one.
-    /// Both are of one graph, and no transfer is placed in both. They are dropped also where there is
-    /// no memory.
+    /// Both are of one graph, no transfer is placed in both, and together they have at most
+    /// [`MAX_COLOURS`] colours. They are dropped also where there is no memory.
     ///
     /// Takes time that grows with the number of colours.
     pub fn join(left: Table<'a>, right: Table<'a>) -> Result<Table<'a>, AllocError>
@@ -188,8 +188,8 @@ impl<'a> Table<'a> {
     }
 
     /// Gives up a smallest class, the one of the least colour among equals: the table without it, and
-    /// its transfers. The colours above come one down. The table is dropped also where there is no
-    /// memory.
+    /// its transfers. The colours above come one down. There has to be a colour, and the table is
+    /// dropped also where there is no memory.
     ///
     /// Takes time that grows with the number of colours.
     pub fn take_back(self) -> Result<(Table<'a>, Vec<usize>), AllocError>

@@ -1,5 +1,5 @@
 -- A plan has as many settings as the busiest link has uses.
-use Rattle.std.proofs.Common.{◌≡◌, ℕ, List, [], length, Option, Some, None, refl, sym, ◌∙◌, arith}
+use Rattle.std.proofs.Common.{inl, inr, ◌≡◌, ℕ, List, [], length, Option, Some, None, refl, sym, ◌∙◌, arith}
 use Rattle.std.proofs.lemmas.List.Elements.{All-get_or}
 use Rattle.batch.specs.declared.transfer.Transfer.{Transfer}
 use Rattle.batch.specs.Extent.{Extent}
@@ -16,19 +16,20 @@ use Rattle.link_graph.specs.Counts.{uses}
 use Rattle.link_graph.specs.Certificates.{CertifiesBy}
 use Rattle.link_graph.proofs.Users.{counted}
 use Rattle.schedule_certificate.specs.Plans.{Plan, NamesBusiest, IsPlan}
-use Rattle.exchange.specs.Answers.{AreMostUses, IsFirstRefusal}
+use Rattle.schedule_certificate.specs.Parts.{IsDegree}
+use Rattle.exchange.specs.Answers.{IsFirstRefusal}
 
-most_uses : (batch : List Transfer) (settings : List (List ℕ)) (link : Option Link) (named : List ℕ) → CertifiesBy batch settings link named → NamesBusiest batch link named → AreMostUses batch (length settings)
-most_uses batch settings None named certified names =
+degree_at : (batch : List Transfer) (settings : List (List ℕ)) (link : Option Link) (named : List ℕ) → CertifiesBy batch settings link named → NamesBusiest batch link named → IsDegree batch (length settings)
+degree_at batch settings None named certified names =
     let empty : batch ≡ [] = names.0 in
     let none : settings ≡ [] = certified.no_settings in
-    rw (empty, none) (record { most = λ link. omega arith; reached = λ some. absurd (omega arith) })
-most_uses batch settings (Some link) named certified names =
+    rw (empty, none) (record { most = λ link. omega arith; reached = inl refl })
+degree_at batch settings (Some link) named certified names =
     let count : uses batch link ≡ length settings = sym (counted batch link named names.1) ∙ certified.many in
-    record { most = λ other. omega (arith, names.0.most other, count); reached = λ some. (link, count) }
+    record { most = λ other. omega (arith, names.0.most other, count); reached = inr (link, count) }
 
-pub fewest_settings : (plan : Plan) → IsPlan plan → AreMostUses plan.batch (length plan.settings)
-fewest_settings plan is = most_uses plan.batch plan.settings plan.named.link plan.named.transfers is.certificate is.busiest
+pub fewest_settings : (plan : Plan) → IsPlan plan → IsDegree plan.batch (length plan.settings)
+fewest_settings plan is = degree_at plan.batch plan.settings plan.named.link plan.named.transfers is.certificate is.busiest
 
 -- the blocks of a batch that a text denotes are those of the shape
 pub fits_in : (shape : Extent) (text : List ℕ) (ts : List Transfer) → Denotes shape text ts → FitsIn shape ts

@@ -1,5 +1,5 @@
 -- Two texts have one answer of `run` at most.
-use Rattle.std.proofs.Common.{◌≡◌, ℕ, ◌<◌, ◌*◌, List, replicate, ap, ap₂, sym, refl, ◌∙◌, subst, arith}
+use Rattle.std.proofs.Common.{◌≡◌, ℕ, ◌≤◌, ◌*◌, List, replicate, inl, inr, ap, ap₂, sym, refl, ◌∙◌, subst, arith}
 use Rattle.std.proofs.lemmas.List.{length-replicate}
 use Rattle.batch.specs.declared.transfer.Transfer.{Transfer}
 use Rattle.batch.specs.Extent.{Extent, IsShape}
@@ -13,28 +13,31 @@ use Rattle.batch.proofs.FirstOverlap.{one_first}
 use Rattle.module_memory.specs.Store.{HasAllBlocks, zeros_of}
 use Rattle.module_memory.proofs.CoreLaw.{one_placed}
 use Rattle.module_memory.proofs.Marking.{one_marked}
+use Rattle.schedule_certificate.specs.Parts.{IsDegree}
 use Rattle.setting_runner.specs.declared.outcome.RunRefusal.{RunRefusal}
 use Rattle.setting_runner.specs.declared.outcome.RunRefusal.TheVariants as run_refusal
 use Rattle.exchange.specs.declared.refusal.Refusal.{Refusal}
 use Rattle.exchange.specs.declared.refusal.Refusal.TheVariants.{Batch, Schedule, NoCertificate, Check, Shape, Run, NoMemory}
-use Rattle.exchange.specs.Answers.{Printed, IsRefusedBy, AreMostUses, IsReport, IsFirstRefusal, IsFirstRunWrong, IsRun, ran, run_refused}
+use Rattle.exchange.specs.Answers.{Printed, IsRefusedBy, IsReport, IsFirstRefusal, IsFirstRunWrong, IsRun, ran, run_refused}
 use Rattle.exchange.proofs.OneVerdict.{printed_same, refused_same}
 
--- there are at most so many uses as there are
-no_more : (batch : List Transfer) (m n : ℕ) → AreMostUses batch m → AreMostUses batch n → m < n → ⊥
-no_more batch m n a b less =
-    let most = b.reached (omega arith) in
-    omega (arith, a.most most.0, most.1)
+-- a degree is reached, so none is greater
+at_most : (batch : List Transfer) (m n : ℕ) → IsDegree batch m → IsDegree batch n → m ≤ n
+at_most batch m n a b =
+    elim a.reached [
+      | inl none ↦ omega arith
+      | inr link ↦ omega (arith, link.1, b.most link.0)
+    ]
 
-one_count : (batch : List Transfer) (m n : ℕ) → AreMostUses batch m → AreMostUses batch n → m ≡ n
-one_count batch m n a b = omega (arith, no_more batch m n a b, no_more batch n m b a)
+one_degree : (batch : List Transfer) (m n : ℕ) → IsDegree batch m → IsDegree batch n → m ≡ n
+one_degree batch m n a b = omega (arith, at_most batch m n a b, at_most batch n m b a)
 
 -- what two texts denote, and what a run leaves, is one thing
 same_report : (shape batch p q : List ℕ) → IsReport shape batch p → IsReport shape batch q → p ≡ q
 same_report shape batch p q a b =
     let extents : a.extent ≡ b.extent = one_shape shape a.extent b.extent a.shape_read b.shape_read in
     let transfers : a.transfers ≡ b.transfers = one_batch a.extent a.shape_read.allowed batch a.transfers b.transfers a.batch_read (rw extents b.batch_read) in
-    let settings : a.settings ≡ b.settings = one_count a.transfers a.settings b.settings a.fewest (rw transfers b.fewest) in
+    let settings : a.settings ≡ b.settings = one_degree a.transfers a.settings b.settings a.fewest (rw transfers b.fewest) in
     let begun : HasAllBlocks (zeros_of a.extent) = (a.shape_read.allowed, length-replicate (a.extent.modules * a.extent.blocks) (replicate a.extent.words 0)) in
     let marked : a.marked ≡ b.marked = one_marked (zeros_of a.extent) a.marked b.marked begun a.is_marked (rw extents b.is_marked) in
     let filled : HasAllBlocks a.marked = (subst IsShape (sym a.is_marked.same_shape) begun.0, a.is_marked.same_length ∙ begun.1 ∙ ap (λ (x : Extent). x.modules * x.blocks) (sym a.is_marked.same_shape)) in

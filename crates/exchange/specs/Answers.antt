@@ -1,5 +1,5 @@
 -- What the commands answer.
-use Rattle.std.specs.Prelude.{◌≡◌, ◌≤◌, ◌<◌, ℕ, List, ◌++◌, length, Some, None, codes}
+use Rattle.std.specs.Prelude.{◌≡◌, ℕ, List, ◌++◌, length, Some, None, codes}
 use Rattle.std.specs.Fmt.{decimal}
 use Rattle.batch.specs.declared.fault.BatchFault.{BatchFault}
 use Rattle.batch.specs.declared.transfer.Transfer.{Transfer}
@@ -11,15 +11,14 @@ use Rattle.batch.specs.ShapeText.{DenotesShape, IsBadShape}
 use Rattle.module_memory.specs.Store.{Store, zeros_of}
 use Rattle.module_memory.specs.Mark.{IsMarked}
 use Rattle.module_memory.specs.Core.{IsPlaced}
-use Rattle.link_graph.specs.declared.link.Link.{Link}
-use Rattle.link_graph.specs.Counts.{uses}
 use Rattle.link_graph.specs.declared.schedule_fault.ScheduleFault.{ScheduleFault}
 use Rattle.link_graph.specs.declared.schedule_fault.ScheduleFault.TheVariants as schedule_fault
 use Rattle.link_graph.specs.Certificates.{Naming, IsShortest, IsCertificate}
 use Rattle.link_graph.specs.Checks.{IsFirstCheckFault}
 use Rattle.link_graph.specs.ScheduleText.{said, Says}
 use Rattle.link_graph.specs.ScheduleFaults.{IsFirstBadLine}
-use Rattle.schedule_certificate.specs.Plans.{Plan, IsPlan}
+use Rattle.schedule_certificate.specs.Plans.{Plan, IsPlan, HasFewReinsertions}
+use Rattle.schedule_certificate.specs.Parts.{IsDegree}
 use Rattle.setting_runner.specs.declared.outcome.RunRefusal.{RunRefusal}
 use Rattle.setting_runner.specs.declared.outcome.RunRefusal.TheVariants as run_refusal
 use Rattle.exchange.specs.declared.limits.TheConstants.{DONE, REFUSED}
@@ -46,7 +45,7 @@ SaysPlan text plan = Says text (said plan.settings (Some plan.named))
 
 -- a text that says a plan of the batch that the batch text denotes, or the refusal of that text's first fault, each under its status
 pub data IsPlanned (shape : Extent) (batch : List ℕ) (printed : Printed) : Type 0 where
-  planned : (plan : Plan) → Denotes shape batch plan.batch → IsPlan plan → SaysPlan printed.text plan → printed.status ≡ DONE → IsPlanned shape batch printed
+  planned : (plan : Plan) → Denotes shape batch plan.batch → IsPlan plan → HasFewReinsertions plan → SaysPlan printed.text plan → printed.status ≡ DONE → IsPlanned shape batch printed
   refused : (fault : BatchFault) → IsFirstFault shape batch fault → IsRefusedBy (Batch fault) printed → IsPlanned shape batch printed
 
 -- ---- `check`
@@ -89,11 +88,6 @@ pub data IsChecked (shape : Extent) (batch schedule : List ℕ) (printed : Print
 
 -- ---- `run`
 
--- how many of the transfers use the busiest link, 0 where there are none
-pub record AreMostUses (batch : List Transfer) (count : ℕ) : Type 0 where
-  pub most : (link : Link) → uses batch link ≤ count
-  pub reached : 0 < count → (link : Link) × (uses batch link ≡ count)
-
 -- The texts are those of a shape and of a batch of which no transfers overlap. Over a rack of the shape whose words told where they
 -- stood, the batch is placed, in as many settings as the busiest link has uses, and this is the report of it.
 pub record IsReport (shape batch text : List ℕ) : Type 0 where
@@ -107,7 +101,7 @@ pub record IsReport (shape batch text : List ℕ) : Type 0 where
   pub apart : IsApart transfers
   pub is_marked : IsMarked (zeros_of extent) marked
   pub is_placed : IsPlaced marked transfers placed
-  pub fewest : AreMostUses transfers settings
+  pub fewest : IsDegree transfers settings
   pub report : text ≡ report_of transfers settings placed
 
 -- what was refused of a run of a batch: the first two transfers that overlap

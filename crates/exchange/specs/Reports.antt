@@ -1,21 +1,16 @@
 -- What `run` prints of a run that was completed. The texts are this project's choice.
-use Rattle.std.specs.Prelude.{ℕ, ◌+◌, ◌*◌, ◌-◌, ◌==◌, ◌&&◌, Bool, false, List, [], ◌++◌, if◌then◌else◌, codes, length, replicate}
+use Rattle.std.specs.Prelude.{ℕ, ◌*◌, ◌-◌, ◌==◌, ◌&&◌, Bool, false, List, [], ◌++◌, if◌then◌else◌, codes, length, replicate}
 use Rattle.std.specs.Fmt.{decimal, digits}
 use Rattle.std.specs.List.{flat_map, list_any, range_with_len}
 use Rattle.batch.specs.declared.transfer.Place.{Place}
 use Rattle.batch.specs.declared.transfer.Transfer.{Transfer}
 use Rattle.batch.specs.Places.{destination_of}
 use Rattle.module_memory.specs.Store.{Store, block_of}
-use Rattle.peek_poke.specs.declared.message.TheConstants.{POKE_BYTES}
+use Rattle.setting_runner.specs.LineBits.{bits_of}
 
 -- the eight hexadecimal digits of a word, in lower case
 abbrev pub hex8 : ℕ → List ℕ
 hex8 word = replicate (8 - length (digits 16 false word)) 48 ++ digits 16 false word
-
--- How many bits go over the links for so many words: a word takes the bytes of a poke, or of a peek and its reply, each of eleven
--- bits, and each acknowledged by two.
-abbrev pub bits_of : ℕ → ℕ
-bits_of words = (11 + 2) * POKE_BYTES * words
 
 -- `ran settings S words X bits Y`
 abbrev pub ran_line : ℕ → ℕ → List ℕ

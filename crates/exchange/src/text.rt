@@ -26,6 +26,7 @@ impl Text {
         Ok(Text { text })
     }
 
+    /// The text.
     pub fn as_str(&self) -> &str
         ensures { result.now ≡ self.now }
     {

@@ -57,7 +57,7 @@ pub fn settings()
 {}
 
 /// There is one marked rack of a shape, and one store in which the blocks of transfers are placed.
-pub fn one_store()
-    ensures marked { OneMarked }
-    ensures placed { OnePlaced }
+pub fn placed()
+    ensures one_marked { OneMarked }
+    ensures one_placed { OnePlaced }
 {}

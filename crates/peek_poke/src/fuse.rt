@@ -67,7 +67,9 @@ impl Wire for FuseWire {
 /// A line without a fuse, or with one.
 #[derive(Drop)]
 pub enum FuseLine {
+    /// It never fails.
     Whole(PlainWire),
+    /// It fails after so many bytes.
     Fused(FuseWire),
 }
 
@@ -96,7 +98,9 @@ impl Wire for FuseLine {
 /// Makes a wire with a fuse of so many bytes for one transfer, and for the others wires that never fail.
 #[derive(Clone, Copy, Debug, PartialEq, Eq)]
 pub struct FuseWires {
+    /// The number of the transfer in its batch.
     pub transfer: usize,
+    /// How many bytes its wire carries, either way.
     pub bytes: usize,
 }
 

@@ -149,10 +149,10 @@ links_of x = let p : Link × Link = (start_link x, answer_link x) in p
 some_same : {X : Type 0} (x y : X) → Some x ≡ Some y → x ≡ y
 some_same x y e = cc
 
-pub degree_few : (batch : List Transfer) (part : List ℕ) (i d : ℕ) → IsPart batch part → IsBatch batch → IsDegree (members batch (take i part)) d → d ≤ MAX_TRANSFERS
-degree_few batch part i d is_part fits degree = elim degree.reached [
+pub degree_few : (batch : List Transfer) (part : List ℕ) (d : ℕ) → IsPart batch part → IsBatch batch → IsDegree (members batch part) d → d ≤ MAX_TRANSFERS
+degree_few batch part d is_part fits degree = elim degree.reached [
   | inl none ↦ omega (arith, none)
-  | inr at ↦ omega (arith, at.1, uses_few (members batch (take i part)) at.0, members_few batch (take i part), length-take i part, few (length batch) part is_part.known is_part.distinct, fits.few)
+  | inr at ↦ omega (arith, at.1, uses_few (members batch part) at.0, members_few batch part, few (length batch) part is_part.known is_part.distinct, fits.few)
 ]
 
 module _ (batch : List Transfer) (part : List ℕ) (i : ℕ) (is_part : IsPart batch part) (fits : IsBatch batch) (within : i < length part) where

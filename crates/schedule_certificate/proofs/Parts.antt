@@ -1,6 +1,6 @@
 -- The halves of a part, and how its colouring comes from theirs.
 use Rattle.std.proofs.Common.{◌≡◌, ◌==◌, ℕ, zero, suc, ◌+◌, ◌-◌, ◌*◌, ◌/◌, ◌<◌, ◌≤◌, ◌⊎◌, ◌↔◌, inl, inr, List, ◌++◌, length, map, All, Option, Some, None, IsSome, cond, refl, sym, ap, ◌∙◌, subst, arith}
-use Rattle.std.specs.Prelude.{Contains}
+use Rattle.std.specs.Prelude.{Contains, IfSome}
 use Rattle.std.proofs.lemmas.Bool.{false≢true, cases_lt}
 use Rattle.std.proofs.lemmas.Bool.Decides.{eqb_tells}
 use Rattle.std.proofs.lemmas.List.{length-append, get_or-map, get_or_past, length-map}
@@ -79,6 +79,23 @@ module _ (batch : List Transfer) (whole left right : List ℕ) (part : IsPart ba
         let in_right : 0 < uses_among batch right at.0 = omega (arith, at.1, both_uses at.0, s.left_uses at.0) in
         (omega (arith, in_right, uses_few (members batch right) at.0, members_few batch right, both_lengths), omega (arith, in_left, uses_few (members batch left) at.0, members_few batch left, both_lengths))
   ]
+
+  -- the halves of a part of even degree have half of it
+  half_degrees : (d h : ℕ) → IsDegree (members batch whole) d → h + h ≡ d → IsDegree (members batch left) h × IsDegree (members batch right) h
+  half_degrees d h degree is = (
+    record {
+      most = λ link. omega (arith, s.left_uses link, degree.most link);
+      reached = elim degree.reached [ inl none ↦ inl (omega (arith, none)) | inr at ↦ inr (at.0, omega (arith, at.1, both_uses at.0, s.left_uses at.0, s.right_uses at.0)) ];
+    },
+    record {
+      most = λ link. omega (arith, s.right_uses link, degree.most link);
+      reached = elim degree.reached [ inl none ↦ inl (omega (arith, none)) | inr at ↦ inr (at.0, omega (arith, at.1, both_uses at.0, s.left_uses at.0, s.right_uses at.0)) ];
+    },
+  )
+
+  pub known_halves : (d : ℕ) (half : Option ℕ) → IsDegree (members batch whole) d → IfSome half (λ h. h + h ≡ d) → IfSome half (IsDegree (members batch left)) × IfSome half (IsDegree (members batch right))
+  known_halves d None degree is = (is, is)
+  known_halves d (Some h) degree is = half_degrees d h degree is
 
   in_either : (t : ℕ) → Contains whole t → Contains left t ⊎ Contains right t
   in_either t stands = Contains-append_cases left right t (Contains-permutation whole (left ++ right) t s.parts stands)

@@ -1,11 +1,12 @@
 //! Colouring a part of a graph by its halves.
 
-ghost use Rattle.std.specs.Prelude.{◌≡◌, ℕ, ◌+◌, ◌<◌, ◌≤◌, ◌↔◌, ◌⊎◌, length, Contains, IfOk};
+ghost use Rattle.std.specs.Prelude.{◌≡◌, ℕ, ◌+◌, ◌<◌, ◌≤◌, ◌↔◌, ◌⊎◌, length, Contains, IfOk, IfSome};
 ghost use Rattle.std.specs.Thread.{IsSync};
 ghost use Rattle.alternating_path.specs.Colouring.{IsPlaced};
-ghost use Rattle.schedule_certificate.specs.Parts.{IsPart, IsColouredPart, HasRoomFor};
+ghost use Rattle.link_graph.specs.Marks.{members};
+ghost use Rattle.schedule_certificate.specs.Parts.{IsPart, IsDegree, IsColouredPart, HasRoomFor};
 
-use crate::degree::degree_of;
+use crate::degree::{degree_of, half_of};
 use crate::gate::Gate;
 use crate::workers::Workers;
 use alternating_path::{InsertFault, Table};
@@ -31,12 +32,12 @@ fn put_back(table: &mut Table<'_>, class: &[usize])
     }
 }
 
-/// Colours the members with as many colours as their busiest link has uses among them, and with one
-/// where there are none.
+/// Colours a part with as many colours as its busiest link has uses, its degree, and with one where
+/// that is 0. The degree may be known.
 ///
-/// The members are halved so that the uses of each link are, each half is coloured by itself, and
-/// the two tables are joined. Where the number of uses is odd, that may be one colour too many: then
-/// a smallest class is given up, and its transfers are put into the other colours (Gabow 1976).
+/// The part is halved so that the uses of each link are, each half is coloured by itself, and the two
+/// tables are joined. Where the degree is odd, that may be one colour too many: then a smallest class
+/// is given up, and its transfers are put into the other colours (Gabow 1976).
 #[cycle(halves)]
 pub(crate) fn colour_part<'a, R: Threads + Sync, G: Gate>(
     rt: &R,
@@ -44,17 +45,20 @@ pub(crate) fn colour_part<'a, R: Threads + Sync, G: Gate>(
     workers: Workers,
     alloc: Global,
     graph: &'a LinkGraph,
-    members: &[usize],
+    part: &[usize],
+    known: Option<usize>,
 ) -> Result<Table<'a>, AllocError>
-    requires { IsPart graph.now members.now }
-    ensures { IfOk result (λ table. IsColouredPart graph.now members.now table) }
+    requires part { IsPart graph.now part.now }
+    requires known { IfSome known (IsDegree (members graph.now part.now)) }
+    ensures { IfOk result (λ table. IsColouredPart graph.now part.now table) }
 {
-    let degree = degree_of(graph, members);
+    let degree = degree_of(graph, part, known);
     if degree <= 1 {
-        return Table::one(alloc, graph, members);
+        return Table::one(alloc, graph, part);
     }
-    let (left, right) = split(alloc, graph, members)?;
-    let (left, right) = colour_halves(rt, gate, workers, alloc, graph, &left, &right)?;
+    let (left, right) = split(alloc, graph, part)?;
+    let half = half_of(degree);
+    let (left, right) = colour_halves(rt, gate, workers, alloc, graph, &left, &right, half)?;
     let joined = Table::join(left, right)?;
     if joined.colours() <= degree {
         return Ok(joined);
@@ -64,7 +68,8 @@ pub(crate) fn colour_part<'a, R: Threads + Sync, G: Gate>(
     Ok(table)
 }
 
-/// Colours two parts: both at once where there are two workers or more.
+/// Colours two parts, of a degree that may be known: both at once where there are two workers or
+/// more.
 #[cycle(halves)]
 fn colour_halves<'a, R: Threads + Sync, G: Gate>(
     rt: &R,
@@ -74,33 +79,36 @@ fn colour_halves<'a, R: Threads + Sync, G: Gate>(
     graph: &'a LinkGraph,
     left: &[usize],
     right: &[usize],
+    known: Option<usize>,
 ) -> Result<(Table<'a>, Table<'a>), AllocError>
     requires left { IsPart graph.now left.now }
     requires right { IsPart graph.now right.now }
+    requires left_known { IfSome known (IsDegree (members graph.now left.now)) }
+    requires right_known { IfSome known (IsDegree (members graph.now right.now)) }
     ensures left { IfOk result (λ tables. IsColouredPart graph.now left.now tables.0) }
     ensures right { IfOk result (λ tables. IsColouredPart graph.now right.now tables.1) }
 {
     if workers.count < 2 {
-        let left = colour_part(rt, gate, workers, alloc, graph, left)?;
-        let right = colour_part(rt, gate, workers, alloc, graph, right)?;
+        let left = colour_part(rt, gate, workers, alloc, graph, left, known)?;
+        let right = colour_part(rt, gate, workers, alloc, graph, right, known)?;
         return Ok((left, right));
     }
     let (first, rest) = workers.halves();
     let (left, right) = join(
         rt,
         || -> Result<Table, AllocError>
-            requires { IsSync R.row × IsSync G.row × IsPart graph.now left.now }
+            requires { IsSync R.row × IsSync G.row × IsPart graph.now left.now × IfSome known (IsDegree (members graph.now left.now)) }
             ensures { IfOk result (λ table. IsColouredPart graph.entry.now left.entry.now table) }
         {
             gate.arrive(first.least);
-            colour_part(rt, gate, first, alloc, graph, left)
+            colour_part(rt, gate, first, alloc, graph, left, known)
         },
         || -> Result<Table, AllocError>
-            requires { IsSync R.row × IsSync G.row × IsPart graph.now right.now }
+            requires { IsSync R.row × IsSync G.row × IsPart graph.now right.now × IfSome known (IsDegree (members graph.now right.now)) }
             ensures { IfOk result (λ table. IsColouredPart graph.entry.now right.entry.now table) }
         {
             gate.arrive(rest.least);
-            colour_part(rt, gate, rest, alloc, graph, right)
+            colour_part(rt, gate, rest, alloc, graph, right, known)
         },
     );
     Ok((left?, right?))

@@ -1,4 +1,4 @@
-ghost use Rattle.std.specs.Prelude.{◌≡◌, ◌+◌, ◌<◌, ◌≤◌, max, All, length, slice_index, slice_set};
+ghost use Rattle.std.specs.Prelude.{◌≡◌, ◌+◌, ◌<◌, ◌≤◌, max, All, length, slice_index, slice_set, IfSome};
 ghost use Rattle.batch.specs.declared.limits.TheConstants.{MAX_MODULES};
 ghost use Rattle.link_graph.specs.Links.{index_of};
 ghost use Rattle.link_graph.specs.Marks.{members};
@@ -28,10 +28,9 @@ fn greater(a: usize, b: usize) -> usize
 /// How many transfers of a part use the link that most of them use.
 ///
 /// Takes time that grows with the number of transfers in the part.
-pub(crate) fn degree_of(graph: &LinkGraph, part: &[usize]) -> usize
+fn count_degree(graph: &LinkGraph, part: &[usize]) -> usize
     requires { IsPart graph.now part.now }
-    ensures degree { IsDegree (members graph.now part.now) result }
-    ensures few { result ≤ MAX_TRANSFERS }
+    ensures { IsDegree (members graph.now part.now) result }
 {
     prove!(graph.len() <= MAX_TRANSFERS);
     let mut uses = [0; LINKS];
@@ -43,4 +42,29 @@ pub(crate) fn degree_of(graph: &LinkGraph, part: &[usize]) -> usize
         degree = greater(greater(degree, starts), answers);
     }
     degree
+}
+
+/// How many transfers of a part use the link that most of them use, which may be known.
+pub(crate) fn degree_of(graph: &LinkGraph, part: &[usize], known: Option<usize>) -> usize
+    requires part { IsPart graph.now part.now }
+    requires known { IfSome known (IsDegree (members graph.now part.now)) }
+    ensures degree { IsDegree (members graph.now part.now) result }
+    ensures few { result ≤ MAX_TRANSFERS }
+{
+    prove!(graph.len() <= MAX_TRANSFERS);
+    match known {
+        Some(degree) => degree,
+        None => count_degree(graph, part),
+    }
+}
+
+/// Half of a degree, where it is even.
+pub(crate) fn half_of(degree: usize) -> Option<usize>
+    ensures { IfSome result (λ half. half + half ≡ degree) }
+{
+    if degree % 2 == 0 {
+        Some(degree / 2)
+    } else {
+        None
+    }
 }

@@ -252,15 +252,9 @@ impl PairGate {
             gave_up: AtomicBool::new(false),
         }
     }
-}
 
-impl Gate for PairGate {
-    fn arrive(&self, place: usize) {
-        let (own, other) = if place == 1 {
-            (&self.first, &self.second)
-        } else {
-            (&self.second, &self.first)
-        };
+    /// Raises one flag, and waits for the other.
+    fn meet(&self, own: &AtomicBool, other: &AtomicBool) {
         own.store(true, SeqCst);
         for _ in 0..TURNS {
             if other.load(SeqCst) {
@@ -269,6 +263,16 @@ impl Gate for PairGate {
             thread::yield_now();
         }
         self.gave_up.store(true, SeqCst);
+    }
+}
+
+impl Gate for PairGate {
+    fn arrive(&self, place: usize) {
+        match place {
+            1 => self.meet(&self.first, &self.second),
+            2 => self.meet(&self.second, &self.first),
+            _ => self.gave_up.store(true, SeqCst),
+        }
     }
 }
 

@@ -1,7 +1,8 @@
 -- What the outputs answer, and why a switch can't be set. Source of the answers: INMOS IMS C004 data sheet.
 use Rattle.std.specs.Prelude.{◌≡◌, ◌<◌, ℕ, Bool, false, Option, Some, None}
 use Rattle.std.specs.FinMap as map
-use Rattle.c004_commands.specs.Answers.{answer_byte}
+use Rattle.c004_commands.specs.Answers.{answer_byte, IsAnswer}
+use Rattle.c004_commands.specs.declared.answer.Answer.TheVariants.{Loose}
 use Rattle.c004_commands.specs.declared.port.TheConstants.{PORTS}
 use Rattle.crossbar.specs.Switch.{Switch}
 use Rattle.setting_runner.specs.declared.outcome.StopCause.{StopCause}
@@ -10,7 +11,7 @@ use Rattle.setting_runner.specs.declared.outcome.StopCause.TheVariants.{Port, Sw
 -- the reply says that the output has this input, or none: of a reply whose top bit is 0 nothing else is read
 abbrev pub Says : Option ℕ → ℕ → Type 0
 Says (Some input) reply = reply ≡ answer_byte (Some input)
-Says None reply = reply < 128
+Says None reply = IsAnswer Loose reply
 
 -- the reply is what the switch answers of the output
 abbrev pub Agrees : Switch → ℕ → ℕ → Type 0

@@ -3,3 +3,4 @@ pub mod Answers
 pub mod Moves
 pub mod Tables
 pub mod Runs
+pub mod LineBits

@@ -5,6 +5,7 @@ ghost use Rattle.std.specs.List.{list_any};
 ghost use Rattle.c004_commands.specs.Commands.{row, text};
 ghost use Rattle.crossbar.specs.Switch.{Switch};
 ghost use Rattle.crossbar.specs.Pairs.{ArePairs, switch_of, setting, change, is_pair, without};
+ghost use Rattle.setting_runner.specs.LineBits.{bits_of};
 ghost use Rattle.setting_runner.specs.Pairs.{pairs_of, pair_of, command_of, Turns, all_enquiries};
 
 use crate::pair::Pair;
@@ -92,8 +93,7 @@ pub fn enquiry_bytes() -> [u8; ENQUIRY_BYTES]
 /// bits, and two for its acknowledge (INMOS IMS T414 data sheet, link protocol).
 pub fn line_bits(words: u64) -> u64
     requires { words ≤ MAX_MOVED }
-    // A byte is 11 bits, and its acknowledge 2.
-    ensures { result ≡ (11 + 2) * POKE_BYTES * words }
+    ensures { result ≡ bits_of words }
 {
     BYTE_BITS * POKE_BYTES as u64 * words
 }

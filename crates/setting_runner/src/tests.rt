@@ -13,10 +13,9 @@ use module_memory::Rack;
 use peek_poke::{FuseWires, PlainWire, PlainWires, Wire, WireFault, WireMaker};
 use schedule_certificate::{Gate, OpenGate, Planned, schedule};
 use std::alloc::Global;
-use std::hint::spin_loop;
-use std::sync::atomic::{AtomicBool, Ordering};
+use std::sync::atomic::{AtomicBool, AtomicUsize, Ordering};
 use std::test::Fail;
-use std::thread::Threads;
+use std::thread::{Threads, yield_now};
 
 /// How long a worker waits for another.
 const TURNS: usize = 10_000_000;
@@ -200,10 +199,11 @@ fn outcome<R: AllocGlobal + Threads + Sync>(
 
 #[test]
 fn part_refusals(rt: HostRuntime) -> Result<(), Fail> {
-    assert_eq!(rt;
-        outcome(&rt, "2x1x1", "batch 1\npush 5 0 6 0\n")?,
-        Outcome::Refused(RunRefusal::Shape)
-    );
+    let mut plant = with_port(rt.alloc(), Manner::Rightly);
+    let ran = run_with(&rt, "2x1x1", "batch 1\npush 5 0 6 0\n", &mut plant)?;
+    assert_eq!(rt; ran.outcome, Outcome::Refused(RunRefusal::Shape));
+    assert_eq!(rt; ran.told.times, 0);
+    assert!(rt; plant.port.sent.is_empty());
     Ok(())
 }
 
@@ -233,10 +233,11 @@ fn stop_of(
 
 #[test]
 fn overlaps_and_fuses(rt: HostRuntime) -> Result<(), Fail> {
-    assert_eq!(rt;
-        outcome(&rt, "3x1x1", "batch 2\npush 0 0 1 0\npush 1 0 2 0\n")?,
-        Outcome::Refused(RunRefusal::Overlap(0, 1))
-    );
+    let text = "batch 2\npush 0 0 1 0\npush 1 0 2 0\n";
+    let ran = run_with(&rt, "3x1x1", text, &mut plain(1))?;
+    assert_eq!(rt; ran.outcome, Outcome::Refused(RunRefusal::Overlap(0, 1)));
+    assert!(rt; has_words(&ran.rack, 1, 0, &[0x0001_0000]));
+    assert!(rt; has_words(&ran.rack, 2, 0, &[0x0002_0000]));
     assert_eq!(rt;
         outcome(&rt, "6x1x1", "batch 1\npush 5 0 5 0\n")?,
         Outcome::Refused(RunRefusal::Overlap(0, 0))
@@ -283,12 +284,13 @@ enum Manner {
 }
 
 /// A port to a switch in memory, which does as it pleases. It keeps the bytes that it is sent but for
-/// enquiries.
+/// enquiries, and its replies to these.
 #[derive(Drop)]
 struct OtherPort {
     memory: MemoryPort,
     manner: Manner,
     sent: Vec<u8>,
+    replied: Vec<u8>,
     failed: FailureCount,
 }
 
@@ -298,6 +300,7 @@ impl OtherPort {
             memory: MemoryPort::new(),
             manner,
             sent: Vec::new(alloc),
+            replied: Vec::new(alloc),
             failed: FailureCount::zero(),
         }
     }
@@ -327,6 +330,10 @@ impl ConfigPort for OtherPort {
             Manner::Answers(output, reply) if output < replies.len() => replies[output] = reply,
             _ => {}
         }
+        if self.replied.extend_from_slice(replies).is_err() {
+            self.failed.raise();
+            return Err(PortFault);
+        }
         Ok(())
     }
 }
@@ -349,6 +356,29 @@ fn with_port_fuse(bytes: usize) -> Plant<FusePort, PlainWires, OpenGate> {
         gate: OpenGate,
         workers: 1,
     }
+}
+
+/// The bytes of row two-pushes's setting, and what the outputs answer then.
+#[test]
+fn a_setting_is_enquired(rt: HostRuntime) -> Result<(), Fail> {
+    let mut plant = with_port(rt.alloc(), Manner::Rightly);
+    run_with(&rt, "3x2x2", TWO_PUSHES, &mut plant)?;
+    assert_eq!(rt;
+        plant.port.sent.as_slice(),
+        [0x04, 0x01, 0x00, 0x11, 0x01, 0x01, 0x12, 0x03].as_slice()
+    );
+    assert_eq!(rt; plant.port.replied.len(), 32);
+    for output in 0..32 {
+        let answer = match output {
+            0 => 0x91,
+            1 => 0x92,
+            17 => 0x80,
+            18 => 0x81,
+            _ => 0x00,
+        };
+        assert_eq!(rt; plant.port.replied.get(output).copied(), Some(answer));
+    }
+    Ok(())
 }
 
 #[test]
@@ -477,7 +507,7 @@ impl Meeting {
             if other.load(Ordering::SeqCst) {
                 return;
             }
-            spin_loop();
+            yield_now();
         }
         self.gave_up.store(true, Ordering::SeqCst);
     }
@@ -492,7 +522,11 @@ impl Meeting {
 
 impl Gate for Meeting {
     fn arrive(&self, place: usize) {
-        self.meet(place == 1);
+        match place {
+            1 => self.meet(true),
+            2 => self.meet(false),
+            _ => self.gave_up.store(true, Ordering::SeqCst),
+        }
     }
 }
 
@@ -507,6 +541,81 @@ fn two_workers_meet_at_the_gate(rt: HostRuntime) -> Result<(), Fail> {
     let ran = run_with(&rt, "3x2x2", TWO_PUSHES, &mut plant)?;
     assert!(rt; is_moved(&ran.rack));
     assert!(rt; plant.gate.is_met());
+    Ok(())
+}
+
+#[test]
+fn one_worker_never_arrives(rt: HostRuntime) -> Result<(), Fail> {
+    let mut plant = Plant {
+        port: MemoryPort::new(),
+        wires: PlainWires,
+        gate: Counting::new(),
+        workers: 1,
+    };
+    let ran = run_with(&rt, "3x2x2", TWO_PUSHES, &mut plant)?;
+    assert!(rt; is_moved(&ran.rack));
+    for place in 0..5 {
+        assert_eq!(rt; plant.gate.arrivals(place), Some(0));
+    }
+    Ok(())
+}
+
+/// A gate that counts how often each worker up to 4 has arrived.
+#[derive(Drop)]
+struct Counting {
+    places: [AtomicUsize; 5],
+}
+
+impl Counting {
+    fn new() -> Counting {
+        Counting {
+            places: [
+                AtomicUsize::new(0),
+                AtomicUsize::new(0),
+                AtomicUsize::new(0),
+                AtomicUsize::new(0),
+                AtomicUsize::new(0),
+            ],
+        }
+    }
+
+    /// How often this worker has arrived.
+    fn arrivals(&self, place: usize) -> Option<usize> {
+        let count = self.places.get(place)?;
+        Some(count.load(Ordering::SeqCst))
+    }
+}
+
+impl Gate for Counting {
+    fn arrive(&self, place: usize) {
+        if let Some(count) = self.places.get(place) {
+            count.fetch_add(1, Ordering::SeqCst);
+        }
+    }
+}
+
+/// Four workers fork twice: 1 and 2 from 3 and 4, and then each from the other.
+#[test]
+fn four_workers_arrive(rt: HostRuntime) -> Result<(), Fail> {
+    let mut plant = Plant {
+        port: MemoryPort::new(),
+        wires: PlainWires,
+        gate: Counting::new(),
+        workers: 4,
+    };
+    let text = "batch 4\npush 0 0 1 1\npush 1 0 2 1\npush 2 0 3 1\npush 3 0 0 1\n";
+    let ran = run_with(&rt, "4x2x1", text, &mut plant)?;
+    assert_eq!(rt;
+        ran.outcome,
+        Outcome::Completed {
+            settings: 1,
+            words: 4
+        }
+    );
+    assert!(rt; has_words(&ran.rack, 1, 1, &[0]));
+    for (place, count) in [(0, 0), (1, 2), (2, 1), (3, 2), (4, 1)] {
+        assert_eq!(rt; plant.gate.arrivals(place), Some(count));
+    }
     Ok(())
 }
 

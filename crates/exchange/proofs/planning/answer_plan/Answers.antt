@@ -11,7 +11,7 @@ returns-in_ok-text-in-Ok g c =
     let plan = c.in_ok-planned-in-Ok.planned in
     let is = c.in_ok-planned-in-Ok.ensures.plan in
     let text = rw (c.schedule-in-Ok.ensures.schedule, c.certificate.ensures.certificate) at c.in_ok-text-in-Ok.ensures in
-    planned plan (rw c.in_ok-planned-in-Ok.ensures.batch c.in-Ok.ensures.batch) is (record { spelled = c.done.ensures.text ∙ text; can_say = can_say plan is }) c.done.ensures.status
+    planned plan (rw c.in_ok-planned-in-Ok.ensures.batch c.in-Ok.ensures.batch) is c.in_ok-planned-in-Ok.ensures.reinserted (record { spelled = c.done.ensures.text ∙ text; can_say = can_say plan is }) c.done.ensures.status
 
 pub returns-in_ok-line-in-Err : goal.returns-in_ok-line-in-Err
 returns-in_ok-line-in-Err g c =

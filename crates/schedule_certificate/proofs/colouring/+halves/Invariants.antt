@@ -5,7 +5,7 @@ abbrev pub decreases-colour_halves : goal.decreases-colour_halves
 decreases-colour_halves g l = 3 * max (length l.left.now) (length l.right.now) + 2
 
 abbrev pub decreases-colour_part : goal.decreases-colour_part
-decreases-colour_part g l = 3 * length l.members.now
+decreases-colour_part g l = 3 * length l.part.now
 
 abbrev pub decreases-colour_halves-join+arg2 : goal.decreases-colour_halves-join+arg2
 decreases-colour_halves-join+arg2 g l = 3 * length l.left.now + 1
