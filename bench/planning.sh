@@ -11,7 +11,7 @@
 # Needs valgrind. Build the program first: ./exchange --help
 set -eu
 here=$(cd "$(dirname "${BASH_SOURCE[0]}")" && pwd)
-program=${PROGRAM:-$here/../crates/exchange/out/exchange}
+program=$here/../crates/exchange/out/exchange
 work=$(mktemp -d)
 trap 'rm -rf "$work"' EXIT
 
@@ -44,7 +44,7 @@ odd() {
 # NAME PLAIN: counts for the batch in the file of that name
 measure() {
     local count
-    count=$(valgrind --tool=callgrind --callgrind-out-file="${OUT:-/dev/null}" \
+    count=$(valgrind --tool=callgrind --callgrind-out-file=/dev/null \
         "$program" plan "$work/$1" --workers 1 2>&1 >"$work/answer" \
         | sed -n 's/.*Collected : *\([0-9]*\).*/\1/p')
     awk -v name="$1" -v count="$count" -v plain="$2" -v head="$(head -1 "$work/answer")" \

@@ -14,10 +14,11 @@ use Rattle.link_graph.specs.declared.link.End.{End}
 use Rattle.link_graph.specs.declared.link.End.TheVariants.{Zero, Three}
 use Rattle.link_graph.specs.declared.link.Link.{Link}
 use Rattle.link_graph.specs.Uses.{Uses}
-use Rattle.alternating_path.specs.Ends.{link_at, link_of, transfer_at, no_transfer}
+use Rattle.batch.specs.Overlap.{transfer_at, no_transfer}
+use Rattle.alternating_path.specs.Ends.{link_at, link_of}
 use Rattle.alternating_path.specs.Colouring.{colour_at}
-use Rattle.link_graph.specs.Counts.{module_at, uses}
-use Rattle.alternating_path.specs.Counts.{count_below, uses_link, placed_uses}
+use Rattle.link_graph.specs.Counts.{count_below, module_at, uses}
+use Rattle.alternating_path.specs.Counts.{uses_link, placed_uses}
 use Rattle.alternating_path.specs.Cells.{place_at, holder_at, AreCellsOf}
 use Rattle.alternating_path.proofs.Links.{place_low, same_end, same_link, place-link, uses_at, uses_within}
 use Rattle.alternating_path.proofs.Writes.{some_within}

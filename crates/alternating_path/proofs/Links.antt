@@ -13,7 +13,9 @@ use Rattle.link_graph.specs.declared.link.End.TheVariants.{Zero, Three}
 use Rattle.link_graph.specs.declared.link.Link.{Link}
 use Rattle.link_graph.specs.Links.{index_of}
 use Rattle.link_graph.specs.Uses.{Uses, start_link, answer_link}
-use Rattle.alternating_path.specs.Ends.{no_transfer, transfer_at, link_of, link_at, other_end}
+use Rattle.link_graph.specs.Links.{other_end}
+use Rattle.batch.specs.Overlap.{no_transfer, transfer_at}
+use Rattle.alternating_path.specs.Ends.{link_of, link_at}
 use Rattle.alternating_path.specs.Colouring.{colour_at, IsProper, IsFree}
 use Rattle.alternating_path.specs.Cells.{place_at}
 use Rattle.alternating_path.proofs.Writes.{some_within}

@@ -14,7 +14,7 @@ use Rattle.link_graph.specs.declared.link.End.{End}
 use Rattle.link_graph.specs.declared.link.End.TheVariants.{Zero, Three}
 use Rattle.link_graph.specs.Certificates.{AreDistinct}
 use Rattle.alternating_path.specs.Colouring.{Colouring, colour_at}
-use Rattle.alternating_path.specs.Counts.{count_below}
+use Rattle.link_graph.specs.Counts.{count_below}
 use Rattle.alternating_path.specs.Classes.{is_colour, class_size, placed_count, without_colour, IsSmallestClass, IsTakenBack}
 use Rattle.alternating_path.specs.Cells.{place_at, holder_at, AreCellsOf, AreStarts}
 use Rattle.alternating_path.proofs.Links.{start_low, answer_high}

@@ -3,7 +3,8 @@ use Rattle.std.proofs.Common.{◌≡◌, ℕ, ◌<◌, List, set, Option, Some, 
 use Rattle.batch.specs.declared.transfer.Transfer.{Transfer}
 use Rattle.link_graph.specs.declared.link.End.{End}
 use Rattle.link_graph.specs.declared.link.End.TheVariants.{Zero, Three}
-use Rattle.alternating_path.specs.Ends.{link_at, other_end}
+use Rattle.link_graph.specs.Links.{other_end}
+use Rattle.alternating_path.specs.Ends.{link_at}
 use Rattle.alternating_path.specs.Colouring.{Colouring, colour_at, IsProper, IsFree}
 use Rattle.alternating_path.specs.Counts.{placed_uses, HasFullLink}
 use Rattle.alternating_path.proofs.Agreement.{agreeing}

@@ -1,7 +1,7 @@
 -- The colour classes of a colouring, as the settings of a schedule.
 use Rattle.std.specs.Prelude.{◌≡◌, ◌↔◌, ℕ, ◌-◌, ◌*◌, ◌<◌, ◌≤◌, List, length, map, Option, Some, None, is_some, Bool, false, ◌==◌, nat_lt, cond, All, AllPairs, Any, Contains, slice_index}
 use Rattle.link_graph.specs.Certificates.{AreDistinct}
-use Rattle.alternating_path.specs.Counts.{count_below}
+use Rattle.link_graph.specs.Counts.{count_below}
 use Rattle.alternating_path.specs.Colouring.{Colouring, colour_at}
 
 -- settings, and how many insertions the table that they come from counted

@@ -1,20 +1,15 @@
 -- How many placed transfers use a link.
-use Rattle.std.specs.Prelude.{◌≡◌, ℕ, zero, suc, ◌+◌, List, length, Option, is_some, Bool, ◌&&◌, ◌==◌, cond}
+use Rattle.std.specs.Prelude.{◌≡◌, ℕ, List, length, Option, is_some, Bool, ◌&&◌, ◌==◌}
 use Rattle.batch.specs.declared.transfer.Transfer.{Transfer}
 use Rattle.link_graph.specs.declared.link.Link.{Link}
 use Rattle.link_graph.specs.Uses.{Uses}
-use Rattle.link_graph.specs.Counts.{module_at}
-use Rattle.alternating_path.specs.Ends.{transfer_at}
+use Rattle.link_graph.specs.Counts.{count_below, module_at}
+use Rattle.batch.specs.Overlap.{transfer_at}
 use Rattle.alternating_path.specs.Colouring.{Colouring, colour_at}
 
 -- whether transfer t uses the link
 unfoldable pub uses_link : List Transfer → Link → ℕ → Bool
 uses_link batch link t = module_at link.end (transfer_at batch t) == link.«module»
-
--- how many numbers below n pass a test
-abbrev pub count_below : ℕ → (ℕ → Bool) → ℕ
-count_below zero test = 0
-count_below (suc n) test = cond (test n) 1 0 + count_below n test
 
 -- how many placed transfers use the link
 unfoldable pub placed_uses : List Transfer → List (Option ℕ) → Link → ℕ

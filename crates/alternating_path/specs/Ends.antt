@@ -1,24 +1,11 @@
 -- The two ends of a transfer.
-use Rattle.std.specs.Prelude.{ℕ, List, slice_index_or}
-use Rattle.batch.specs.declared.transfer.Kind.TheVariants.{Push}
+use Rattle.std.specs.Prelude.{ℕ, List}
 use Rattle.batch.specs.declared.transfer.Transfer.{Transfer}
+use Rattle.batch.specs.Overlap.{transfer_at}
 use Rattle.link_graph.specs.declared.link.End.{End}
 use Rattle.link_graph.specs.declared.link.End.TheVariants.{Zero, Three}
 use Rattle.link_graph.specs.declared.link.Link.{Link}
 use Rattle.link_graph.specs.Uses.{start_link, answer_link}
-
--- the end of an edge that isn't this one
-abbrev pub other_end : End → End
-other_end Zero = Three
-other_end Three = Zero
-
--- what stands at a number that no transfer has
-abbrev pub no_transfer : Transfer
-no_transfer = record { kind = Push; initiator = 0; own_block = 0; responder = 0; far_block = 0 }
-
--- transfer t of the batch
-abbrev pub transfer_at : List Transfer → ℕ → Transfer
-transfer_at batch t = slice_index_or batch t no_transfer
 
 -- the link of a transfer at an end
 abbrev pub link_of : Transfer → End → Link

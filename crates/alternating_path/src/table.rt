@@ -4,7 +4,7 @@ ghost use Rattle.std.specs.Prelude.{◌≡◌, ℕ, ◌+◌, ◌<◌, ◌≤◌,
 ghost use Rattle.batch.specs.Batches.{IsBatch};
 ghost use Rattle.link_graph.specs.declared.link.End.TheVariants.{Zero, Three};
 ghost use Rattle.link_graph.specs.Uses.{Uses, IsMatching};
-ghost use Rattle.alternating_path.specs.Ends.{link_at, other_end};
+ghost use Rattle.alternating_path.specs.Ends.{link_at};
 ghost use Rattle.alternating_path.specs.Colouring.{colour_at, IsPlaced, AllPlaced, nothing_placed, IsProper, IsFree, PlacesJust, ArePlacedApart, joined_colour};
 ghost use Rattle.link_graph.specs.Schedules.{IsScheduleOf};
 ghost use Rattle.alternating_path.specs.Classes.{AreClassesOf, class_size, IsSmallestClass, IsTakenBack};
@@ -361,7 +361,7 @@ impl<'a> Table<'a> {
             self.take_out(next, colour);
             self.put_in(hand, colour);
             hand = next;
-            end = other_end(end);
+            end = end.other();
             (colour, other) = (other, colour);
         }
         self.put_in(hand, colour);
@@ -379,14 +379,5 @@ fn place_at(graph: &LinkGraph, t: usize, end: End) -> usize
     match end {
         End::Zero => start.index(),
         End::Three => answer.index(),
-    }
-}
-
-fn other_end(end: End) -> End
-    ensures { result ≡ other_end end }
-{
-    match end {
-        End::Zero => End::Three,
-        End::Three => End::Zero,
     }
 }

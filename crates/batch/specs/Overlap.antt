@@ -5,9 +5,13 @@ use Rattle.batch.specs.declared.transfer.Place.{Place}
 use Rattle.batch.specs.declared.transfer.Transfer.{Transfer}
 use Rattle.batch.specs.Places.{source_of, destination_of}
 
--- the transfer of a number; past the end, one that no clause speaks of
+-- what stands at a number that no transfer has; no clause speaks of it
+abbrev pub no_transfer : Transfer
+no_transfer = record { kind = Push; initiator = 0; own_block = 0; responder = 0; far_block = 0 }
+
+-- the transfer of a number
 abbrev pub transfer_at : List Transfer → ℕ → Transfer
-transfer_at ts i = slice_index_or ts i (record { kind = Push; initiator = 0; own_block = 0; responder = 0; far_block = 0 })
+transfer_at ts i = slice_index_or ts i no_transfer
 
 -- the block that the transfer of a number reads
 abbrev pub source_at : List Transfer → ℕ → Place

@@ -9,8 +9,8 @@ ghost use Rattle.c004_commands.specs.declared.port.TheConstants.{PORTS};
 use crate::port::PortNo;
 use thiserror::Error;
 
-// The top bit of an answer is 1 where the output is connected.
-const CONNECTED: u8 = 128;
+/// The top bit of an answer: it is 1 where the output is connected (INMOS IMS C004 data sheet).
+pub const CONNECTED: u8 = 128;
 
 /// What an enquired output says of itself.
 #[derive(Clone, Copy, Debug, PartialEq, Eq)]
@@ -37,7 +37,7 @@ impl Answer {
     pub fn read(byte: u8) -> Result<Answer, AnswerFormat>
         ensures answer { (answer : Answer) → (result ≡ Ok answer) ↔ IsAnswer answer byte }
         // No answer has bit 5 or 6 beside its top bit.
-        ensures bad { IsErrOf result AnswerFormat.BadAnswer ↔ (128 + PORTS ≤ byte) }
+        ensures bad { IsErrOf result AnswerFormat.BadAnswer ↔ (CONNECTED + PORTS ≤ byte) }
     {
         if byte < CONNECTED {
             return Ok(Answer::Loose);

@@ -11,7 +11,7 @@ pub mod laws;
 mod port;
 mod reader;
 
-pub use answer::{Answer, AnswerFormat};
+pub use answer::{Answer, AnswerFormat, CONNECTED};
 pub use command::{Command, LONGEST_COMMAND, write};
 pub use port::{PORTS, PortNo};
 pub use reader::{CommandFault, CommandReader};

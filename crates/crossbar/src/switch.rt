@@ -6,7 +6,7 @@ ghost use Rattle.c004_commands.specs.Answers.{answer_byte};
 ghost use Rattle.crossbar.specs.Switch.{after, answer, idle};
 ghost use Rattle.crossbar.specs.Modules.{AreJoined};
 
-use c004_commands::{Command, PORTS, PortNo};
+use c004_commands::{CONNECTED, Command, PORTS, PortNo};
 use std::marker::Model;
 
 /// How many modules one switch joins: link 0 of module m is on switch link m, and its link 3 on
@@ -14,9 +14,6 @@ use std::marker::Model;
 pub const JOINED_MODULES: u8 = 16;
 
 const LATCHES: usize = PORTS as usize;
-
-// The top bit of the answer to an enquiry is 1 where the output is connected.
-const CONNECTED: u8 = 128;
 
 /// A switch. Contracts see the map from its outputs to the inputs that feed them, and whether it is
 /// ready to accept data.

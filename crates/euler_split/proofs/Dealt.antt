@@ -11,11 +11,11 @@ use Rattle.batch.specs.declared.transfer.Transfer.{Transfer}
 use Rattle.link_graph.specs.declared.link.End.{End}
 use Rattle.link_graph.specs.declared.link.End.TheVariants.{Zero, Three}
 use Rattle.link_graph.specs.declared.link.Link.{Link}
-use Rattle.link_graph.specs.Counts.{module_at, uses}
+use Rattle.link_graph.specs.Counts.{count_below, module_at, uses}
 use Rattle.link_graph.specs.Marks.{members}
 use Rattle.link_graph.proofs.Firsts.{all_left, all_right}
 use Rattle.euler_split.specs.Split.{uses_among, IsSplit}
-use Rattle.euler_split.specs.Pairs.{module_in, count_below, passing, AreBalanced}
+use Rattle.euler_split.specs.Pairs.{module_in, passing, AreBalanced}
 use Rattle.euler_split.specs.Walks.{partner_at, half_at, IsHalved}
 use Rattle.euler_split.specs.Deals.{in_left, IsDealt}
 use Rattle.euler_split.proofs.Modules.{known_transfer, module_is}

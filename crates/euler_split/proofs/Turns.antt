@@ -6,7 +6,8 @@ use Rattle.std.proofs.lemmas.Bool.{cases_eq, cases_lt, true≢false, false≢tru
 use Rattle.link_graph.specs.declared.link.End.{End}
 use Rattle.link_graph.specs.declared.link.End.TheVariants.{Zero, Three}
 use Rattle.euler_split.specs.Pairs.{ArePairs}
-use Rattle.euler_split.specs.Walks.{other_end, partner_at, half_at, is_three, IsWalk, IsClosed, IsHalved, Keeps}
+use Rattle.link_graph.specs.Links.{other_end}
+use Rattle.euler_split.specs.Walks.{partner_at, half_at, is_three, IsWalk, IsClosed, IsHalved, Keeps}
 
 not-not : (b : Bool) → not (not b) ≡ b
 not-not true = refl

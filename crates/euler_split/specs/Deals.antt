@@ -2,7 +2,7 @@
 use Rattle.std.specs.Prelude.{◌≡◌, ℕ, List, ◌++◌, take, Option, Bool, false, ◌&&◌, not, count_by, slice_index}
 use Rattle.std.specs.Option.{unwrap_or}
 use Rattle.std.specs.List.Sorted.{IsPermutation}
-use Rattle.euler_split.specs.Pairs.{count_below}
+use Rattle.link_graph.specs.Counts.{count_below}
 use Rattle.euler_split.specs.Walks.{half_at}
 
 -- whether a place is in the left half

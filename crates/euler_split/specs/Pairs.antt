@@ -1,17 +1,12 @@
 -- Places of a list of transfers, paired at each link of one end.
-use Rattle.std.specs.Prelude.{◌≡◌, ◌≢◌, ◌==◌, ℕ, zero, suc, ◌+◌, ◌≤◌, List, length, map, Option, Some, None, Bool, ◌&&◌, not, cond, slice_index, slice_index_or}
+use Rattle.std.specs.Prelude.{◌≡◌, ◌≢◌, ◌==◌, ℕ, ◌+◌, ◌≤◌, List, length, map, Option, Some, None, Bool, ◌&&◌, not, slice_index, slice_index_or}
 use Rattle.batch.specs.declared.transfer.Transfer.{Transfer}
 use Rattle.link_graph.specs.declared.link.End.{End}
-use Rattle.link_graph.specs.Counts.{module_at}
+use Rattle.link_graph.specs.Counts.{count_below, module_at}
 
 -- the module that transfer t has at an end
 unfoldable pub module_in : List Transfer → End → ℕ → ℕ
 module_in batch end t = slice_index (map (module_at end) batch) t
-
--- how many numbers below n pass a test
-abbrev pub count_below : ℕ → (ℕ → Bool) → ℕ
-count_below zero test = 0
-count_below (suc n) test = cond (test n) 1 0 + count_below n test
 
 -- partners are each other's, and nobody is his own
 pub record ArePairs (partners : List (Option ℕ)) : Type 0 where

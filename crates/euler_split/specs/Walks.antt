@@ -3,10 +3,7 @@ use Rattle.std.specs.Prelude.{◌≡◌, ℕ, ◌<◌, ◌⊎◌, List, length, 
 use Rattle.link_graph.specs.declared.link.End.{End}
 use Rattle.link_graph.specs.declared.link.End.TheVariants.{Zero, Three}
 
-abbrev pub other_end : End → End
-other_end Zero = Three
-other_end Three = Zero
-
+-- whether it is link 3
 abbrev pub is_three : End → Bool
 is_three Zero = false
 is_three Three = true

@@ -2,18 +2,9 @@
 
 ghost use Rattle.std.specs.Prelude.{◌≡◌, ℕ, ◌+◌, ◌<◌, length, None, IfSome};
 ghost use Rattle.euler_split.specs.Pairs.{ArePairs};
-ghost use Rattle.euler_split.specs.Walks.{other_end, partner_at, half_at, IsWalk, IsClosed, IsHalved, Keeps};
+ghost use Rattle.euler_split.specs.Walks.{partner_at, half_at, IsWalk, IsClosed, IsHalved, Keeps};
 
 use link_graph::End;
-
-fn other_end(end: End) -> End
-    ensures { result ≡ other_end end }
-{
-    match end {
-        End::Zero => End::Three,
-        End::Three => End::Zero,
-    }
-}
 
 /// The partner of a place at an end.
 fn partner_at(zero: &[Option<u16>], three: &[Option<u16>], end: End, place: usize) -> Option<usize>
@@ -58,7 +49,7 @@ fn walk(
         half = !half;
         halves[next] = Some(half);
         place = next;
-        end = other_end(end);
+        end = end.other();
     }
 }
 

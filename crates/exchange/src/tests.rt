@@ -37,6 +37,49 @@ fn empty_batch(rt: HostRuntime) -> Result<(), Fail> {
     Ok(())
 }
 
+/// The batch of row sixty-three-settings.
+fn thousand<R: AllocGlobal>(rt: &R) -> Result<String, AllocError> {
+    let mut text = String::from_str(rt.alloc(), "batch 1000\n")?;
+    for t in 0..1000usize {
+        let (a, b) = (t % 16, (7 * t + t / 16) % 16);
+        write!(text, "push {a} 0 {b} 0\n")?;
+    }
+    Ok(text)
+}
+
+/// Whether the plan's text is the same for several numbers of workers.
+fn is_one_plan<R: AllocGlobal + Threads + Sync>(rt: &R, batch: &str) -> Result<bool, AllocError> {
+    let alone = plan(rt, batch)?;
+    let others = [
+        answer_plan(rt, rt.alloc(), batch.as_bytes(), 2)?,
+        answer_plan(rt, rt.alloc(), batch.as_bytes(), 3)?,
+        answer_plan(rt, rt.alloc(), batch.as_bytes(), 16)?,
+        answer_plan(rt, rt.alloc(), batch.as_bytes(), 64)?,
+    ];
+    for other in &others {
+        if other.text() != alone.text() {
+            return Ok(false);
+        }
+    }
+    Ok(true)
+}
+
+#[test]
+fn plans_are_one_for_all_workers(rt: HostRuntime) -> Result<(), Fail> {
+    let rows = [
+        "batch 0\n",
+        "batch 3\npush 0 0 1 0\npush 0 1 2 0\npush 1 1 2 1\n",
+        "batch 3\npush 0 0 1 0\npush 0 0 1 0\npush 0 0 1 0\n",
+        "batch 4\npush 0 0 0 1\npush 1 0 1 1\npush 1 1 2 0\npush 0 2 2 1\n",
+        "batch 9\npush 0 3 0 0\npush 0 3 1 0\npush 0 3 2 0\npush 1 3 0 1\npush 1 3 1 1\npush 1 3 2 1\npush 2 3 0 2\npush 2 3 1 2\npush 2 3 2 2\n",
+    ];
+    for batch in rows {
+        assert!(rt; is_one_plan(&rt, batch)?, "{batch:?}");
+    }
+    assert!(rt; is_one_plan(&rt, thousand(&rt)?.as_str())?);
+    Ok(())
+}
+
 /// Row checker, and what `check` refuses before the checker is asked.
 #[test]
 fn checker(rt: HostRuntime) -> Result<(), Fail> {
@@ -354,6 +397,8 @@ fn words_name_jobs(rt: HostRuntime) {
         )
     );
     assert!(rt; is_check(read(alloc, "exchange check B S"), "B", "S"));
+    assert!(rt; is_plan(read(alloc, "exchange plan F --workers +5"), "F", 5));
+    assert!(rt; is_plan(read(alloc, "exchange plan F --workers 007"), "F", 7));
     assert!(rt; is_run(read(alloc, "exchange run S B"), "S", "B", 1));
     assert!(rt; is_run(read(alloc, "exchange run --workers 3 S B"), "S", "B", 3));
     for line in [

@@ -1,5 +1,5 @@
 -- How many transfers use a link: the degree of a node of the batch's bipartite multigraph.
-use Rattle.std.specs.Prelude.{◌≡◌, ℕ, ◌<◌, ◌≤◌, List, length, All, AllPairs, Contains, ◌==◌, count_by, slice_index}
+use Rattle.std.specs.Prelude.{◌≡◌, ℕ, zero, suc, ◌<◌, ◌≤◌, ◌+◌, Bool, cond, List, length, All, AllPairs, Contains, ◌==◌, count_by, slice_index}
 use Rattle.batch.specs.declared.limits.TheConstants.{MAX_MODULES}
 use Rattle.batch.specs.declared.transfer.Transfer.{Transfer}
 use Rattle.batch.specs.Batches.{IsBatch}
@@ -9,6 +9,11 @@ use Rattle.link_graph.specs.declared.link.End.TheVariants.{Zero, Three}
 use Rattle.link_graph.specs.declared.link.Link.{Link}
 use Rattle.link_graph.specs.Links.{StandsBefore, index_of}
 use Rattle.link_graph.specs.Uses.{Uses}
+
+-- how many numbers below n pass a test
+abbrev pub count_below : ℕ → (ℕ → Bool) → ℕ
+count_below zero test = 0
+count_below (suc n) test = cond (test n) 1 0 + count_below n test
 
 -- the transfer's module at that end: the initiator has link 0, the responder link 3
 abbrev pub module_at : End → Transfer → ℕ

@@ -5,6 +5,11 @@ use Rattle.link_graph.specs.declared.link.End.{End}
 use Rattle.link_graph.specs.declared.link.End.TheVariants.{Zero, Three}
 use Rattle.link_graph.specs.declared.link.Link.{Link}
 
+-- the end at the other side of a transfer
+abbrev pub other_end : End → End
+other_end Zero = Three
+other_end Three = Zero
+
 -- a link 0 stands before each link 3; otherwise the smaller module's link stands first
 abbrev pub StandsBefore : Link → Link → Type 0
 StandsBefore a b = ((a.end ≡ Zero) × (b.end ≡ Three)) ⊎ ((a.end ≡ b.end) × (a.«module» < b.«module»))

@@ -1,5 +1,5 @@
 ghost use Rattle.std.specs.Prelude.{◌≡◌, ◌<◌};
-ghost use Rattle.link_graph.specs.Links.{index_of};
+ghost use Rattle.link_graph.specs.Links.{index_of, other_end};
 ghost use Rattle.link_graph.specs.ScheduleText.{end_number};
 
 use crate::limits::LINKS;
@@ -23,6 +23,16 @@ impl End {
         match self {
             End::Zero => 0,
             End::Three => 3,
+        }
+    }
+
+    /// The end at the other side of a transfer.
+    pub fn other(self) -> End
+        ensures { result ≡ other_end self }
+    {
+        match self {
+            End::Zero => End::Three,
+            End::Three => End::Zero,
         }
     }
 }

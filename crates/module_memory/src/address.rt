@@ -23,14 +23,22 @@ pub struct Site {
     pub word: usize,
 }
 
+/// Where a block of the shape stands among all blocks.
+pub fn block_index(shape: Shape, place: Place) -> usize
+    requires { HasPlace shape place }
+    ensures value { result ≡ place_index shape place }
+    ensures below { result < shape.modules * shape.blocks }
+{
+    place.module * shape.blocks() + place.block
+}
+
 /// Where a block stands among all blocks, where the shape has it.
 pub fn index_of(shape: Shape, place: Place) -> Option<usize>
     ensures value { MatchOption result (HasPlace shape place → ⊥) (λ k. HasPlace shape place × (k ≡ place_index shape place) × (k < shape.modules * shape.blocks)) }
     ensures within { IsShape shape }
 {
-    let blocks = shape.blocks();
-    if place.module < shape.modules() && place.block < blocks {
-        Some(place.module * blocks + place.block)
+    if place.module < shape.modules() && place.block < shape.blocks() {
+        Some(block_index(shape, place))
     } else {
         None
     }

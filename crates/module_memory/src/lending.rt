@@ -6,7 +6,7 @@ ghost use Rattle.batch.specs.Places.{HasPlace};
 ghost use Rattle.module_memory.specs.Store.{block_of, set_block};
 ghost use Rattle.module_memory.specs.Lending.{Rejoins, joined};
 
-use crate::address::index_of;
+use crate::address::{block_index, index_of};
 use crate::block::Block;
 use crate::rack::Rack;
 use batch::{Place, Shape};
@@ -118,7 +118,7 @@ impl Rest {
         ensures bay { result ≡ record { place = place; words = block_of self.old place } }
         ensures rest { self.new ≡ set_block self.old place [] }
     {
-        let index = place.module * self.shape.blocks() + place.block;
+        let index = block_index(self.shape, place);
         let slot = &mut self.blocks[index];
         let empty = slot.empty();
         let block = std::mem::replace(slot, empty);
@@ -131,7 +131,7 @@ impl Rest {
         ensures { self.new ≡ set_block self.old bay.place bay.words }
     {
         let Bay { place, block } = bay;
-        let index = place.module * self.shape.blocks() + place.block;
+        let index = block_index(self.shape, place);
         self.blocks[index] = block;
     }
 }

@@ -8,7 +8,7 @@ ghost use Rattle.module_memory.specs.Mark.{IsMarked};
 ghost use Rattle.module_memory.specs.Lending.{AreLendable, IsLendFault, bays_of, without, joined, Rejoins};
 ghost use Rattle.module_memory.specs.Bays.{AreLent};
 
-use crate::address::{index_of, site_of};
+use crate::address::{block_index, index_of, site_of};
 use crate::block::Block;
 use crate::fault::{LendFault, MemoryFault};
 use crate::lendable::lend_fault;
@@ -117,7 +117,7 @@ impl Rack {
             (λ fault. fault_of self.now.shape «module» address ≡ Some fault) }
     {
         let site = site_of(self.shape, module, address)?;
-        let index = site.place.module * self.shape.blocks() + site.place.block;
+        let index = block_index(self.shape, site.place);
         let block = &self.blocks[index];
         Ok(block.at(site.word))
     }
@@ -130,7 +130,7 @@ impl Rack {
             (λ fault. (fault_of self.old.shape «module» address ≡ Some fault) × (self.new ≡ self.old)) }
     {
         let site = site_of(self.shape, module, address)?;
-        let index = site.place.module * self.shape.blocks() + site.place.block;
+        let index = block_index(self.shape, site.place);
         let block = &mut self.blocks[index];
         block.set(site.word, word);
         Ok(())

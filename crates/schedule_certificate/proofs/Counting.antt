@@ -9,13 +9,13 @@ use Rattle.std.proofs.lemmas.Option.{get_or_from_slice_get}
 use Rattle.batch.specs.declared.transfer.Transfer.{Transfer}
 use Rattle.link_graph.specs.declared.link.Link.{Link}
 use Rattle.link_graph.specs.Uses.{Uses}
-use Rattle.link_graph.specs.Counts.{module_at, uses}
+use Rattle.link_graph.specs.Counts.{count_below, module_at, uses}
 use Rattle.link_graph.specs.Marks.{members}
 use Rattle.euler_split.specs.Split.{uses_among}
 use Rattle.euler_split.proofs.Modules.{known_transfer}
-use Rattle.alternating_path.specs.Ends.{no_transfer, transfer_at}
+use Rattle.batch.specs.Overlap.{no_transfer, transfer_at}
 use Rattle.alternating_path.specs.Colouring.{colour_at, IsPlaced}
-use Rattle.alternating_path.specs.Counts.{count_below, uses_link, placed_uses}
+use Rattle.alternating_path.specs.Counts.{uses_link, placed_uses}
 use Rattle.alternating_path.specs.Classes.{placed_count}
 use Rattle.alternating_path.proofs.Held.{count_below_none, count_below_same, uses_yes}
 

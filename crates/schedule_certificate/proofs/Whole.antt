@@ -13,7 +13,7 @@ use Rattle.link_graph.specs.Schedules.{IsScheduleOf}
 use Rattle.link_graph.specs.Uses.{start_link}
 use Rattle.link_graph.proofs.Users.{use_of, use_yes}
 use Rattle.link_graph.proofs.Sharing.{some_more}
-use Rattle.alternating_path.specs.Ends.{no_transfer}
+use Rattle.batch.specs.Overlap.{no_transfer}
 use Rattle.alternating_path.specs.Colouring.{Colouring, AllPlaced}
 use Rattle.alternating_path.specs.Classes.{ColouredSettings, AreClassesOf}
 use Rattle.schedule_certificate.specs.Reinsertions.{AreFew}

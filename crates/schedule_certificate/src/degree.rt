@@ -1,4 +1,4 @@
-ghost use Rattle.std.specs.Prelude.{◌≡◌, ◌+◌, ◌<◌, ◌≤◌, max, All, length, slice_index, slice_set, IfSome};
+ghost use Rattle.std.specs.Prelude.{◌≡◌, ◌+◌, ◌%◌, ◌<◌, ◌≤◌, max, All, length, slice_index, slice_set, IfSome, IfNone};
 ghost use Rattle.batch.specs.declared.limits.TheConstants.{MAX_MODULES};
 ghost use Rattle.link_graph.specs.Links.{index_of};
 ghost use Rattle.link_graph.specs.Marks.{members};
@@ -60,7 +60,8 @@ pub(crate) fn degree_of(graph: &LinkGraph, part: &[usize], known: Option<usize>)
 
 /// Half of a degree, where it is even.
 pub(crate) fn half_of(degree: usize) -> Option<usize>
-    ensures { IfSome result (λ half. half + half ≡ degree) }
+    ensures some { IfSome result (λ half. half + half ≡ degree) }
+    ensures none { IfNone result (degree % 2 ≡ 1) }
 {
     if degree % 2 == 0 {
         Some(degree / 2)

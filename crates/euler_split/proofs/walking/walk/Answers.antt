@@ -28,6 +28,6 @@ places-preserved c =
       sized = length-set _ _ _ ∙ i.sized;
       place_in = rw length-set (omega (arith, c.in-Some.ensures.within));
       half_is = get_or-set_same c.places.halves c.in-Some.next _ None (omega (arith, c.in-Some.ensures.within));
-      walk = rw c.other_end-end.ensures on;
+      walk = rw c.other-end.ensures on;
       keeps = keeps_then _ _ _ i.keeps (walk_keeps c.args.zero.now c.args.three.now c.requires.zero_pairs c.requires.three_pairs c.args.start c.args.first c.places.halves c.in-Some.next _ out);
     }

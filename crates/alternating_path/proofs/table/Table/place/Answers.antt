@@ -1,5 +1,5 @@
 use Rattle.std.proofs.Common.{refl, ap}
-use Rattle.alternating_path.specs.Ends.{other_end}
+use Rattle.link_graph.specs.Links.{other_end}
 use Rattle.alternating_path.specs.Colouring.{Colouring}
 use Rattle.alternating_path.proofs.AlternatingPath.{path_begins, path_ends}
 use Rattle.link_graph.specs.declared.link.End.TheVariants.{Zero, Three}
@@ -15,12 +15,12 @@ put_in-requires-clause-three_free c = free_next c.args.self.now c.path.self c.ta
 pub path-smaller : goal.path-smaller
 path-smaller c =
     let i = c.path.invariant in
-    (step c.args.self.now c.path.self c.take_out.new.self c.put_in.new.self c.args.t c.path.hand c.in-Some.next c.path.colour c.path.other c.path.end c.other_end-end.result c.requires.proper c.requires.out i.on_path i.rest c.in-Some.ensures c.take_out.ensures.written c.put_in.ensures.written c.put_in.ensures.proper c.other_end-end.ensures).less
+    (step c.args.self.now c.path.self c.take_out.new.self c.put_in.new.self c.args.t c.path.hand c.in-Some.next c.path.colour c.path.other c.path.end c.other-end.result c.requires.proper c.requires.out i.on_path i.rest c.in-Some.ensures c.take_out.ensures.written c.put_in.ensures.written c.put_in.ensures.proper c.other-end.ensures).less
 
 pub path-preserved : goal.path-preserved
 path-preserved c =
     let i = c.path.invariant in
-    let k = step c.args.self.now c.path.self c.take_out.new.self c.put_in.new.self c.args.t c.path.hand c.in-Some.next c.path.colour c.path.other c.path.end c.other_end-end.result c.requires.proper c.requires.out i.on_path i.rest c.in-Some.ensures c.take_out.ensures.written c.put_in.ensures.written c.put_in.ensures.proper c.other_end-end.ensures in
+    let k = step c.args.self.now c.path.self c.take_out.new.self c.put_in.new.self c.args.t c.path.hand c.in-Some.next c.path.colour c.path.other c.path.end c.other-end.result c.requires.proper c.requires.out i.on_path i.rest c.in-Some.ensures c.take_out.ensures.written c.put_in.ensures.written c.put_in.ensures.proper c.other-end.ensures in
     record { on_path = k.on_path; rest = k.rest; colour_in = i.other_in; other_in = i.colour_in }
 
 pub path-init : goal.path-init

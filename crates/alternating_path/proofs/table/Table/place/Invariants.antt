@@ -1,5 +1,5 @@
 use Rattle.std.proofs.Common.{◌≡◌, ◌<◌}
-use Rattle.alternating_path.specs.Ends.{other_end}
+use Rattle.link_graph.specs.Links.{other_end}
 use Rattle.alternating_path.proofs.Agreement.{agreeing}
 use Rattle.alternating_path.proofs.AlternatingPath.{IsOnPath}
 use Rattle.alternating_path.proofs.table.Table.place.Given as goal
