@@ -15,6 +15,7 @@ pub use greedy::first_fit;
 pub use limits::MAX_WORKERS;
 pub use planned::Planned;
 pub use planning::schedule;
+pub use workers::Workers;
 
 #[cfg(test)]
 mod tests;

@@ -1,7 +1,7 @@
 ghost use Rattle.std.specs.Prelude.{◌≤◌};
 ghost use Rattle.schedule_certificate.specs.declared.limits.TheConstants.{MAX_WORKERS};
 
-use crate::{Gate, MAX_WORKERS, OpenGate, Planned, first_fit, schedule};
+use crate::{Gate, MAX_WORKERS, OpenGate, Planned, Workers, first_fit, schedule};
 use batch::{Batch, Shape};
 use link_graph::{End, Link, Schedule};
 use std::alloc::Global;
@@ -297,4 +297,22 @@ fn one_worker_never_arrives(rt: HostRuntime) -> Result<(), Fail> {
     assert!(rt; !gate.second.load(SeqCst));
     assert!(rt; has_shape(planned.schedule(), 4, 4));
     Ok(())
+}
+
+/// Whether the workers are so many, numbered on from the least.
+fn are_numbered(workers: Workers, least: usize, count: usize) -> bool {
+    workers.least == least && workers.count == count
+}
+
+#[test]
+fn halves_of_workers(rt: HostRuntime) {
+    let (first, rest) = Workers::all(5).halves();
+    assert!(rt; are_numbered(first, 1, 3));
+    assert!(rt; are_numbered(rest, 4, 2));
+    let (first, rest) = rest.halves();
+    assert!(rt; are_numbered(first, 4, 1));
+    assert!(rt; are_numbered(rest, 5, 1));
+    let (first, rest) = Workers::all(MAX_WORKERS).halves();
+    assert!(rt; are_numbered(first, 1, 32));
+    assert!(rt; are_numbered(rest, 33, 32));
 }

@@ -1,18 +1,22 @@
-ghost use Rattle.std.specs.Prelude.{◌≡◌, ◌+◌, ◌-◌, ◌/◌, ◌≤◌, ◌<◌};
+ghost use Rattle.std.specs.Prelude.{◌≡◌, ◌+◌, ◌/◌, ◌≤◌};
 ghost use Rattle.schedule_certificate.specs.declared.limits.TheConstants.{MAX_WORKERS};
 
 use crate::limits::MAX_WORKERS;
 
-/// The workers who may take part in some work: a range of their numbers, which begin at 1.
-#[derive(Clone, Copy)]
-pub(crate) struct Workers {
+/// The workers who may take part in some work: a range of their numbers, which begin at 1 and end at
+/// [`MAX_WORKERS`].
+#[derive(Clone, Copy, Debug)]
+pub struct Workers {
+    /// The least of the numbers.
     pub least: usize,
+    /// How many there are.
     pub count: usize,
-    ghost numbered: { least + count ≤ MAX_WORKERS + 1 },
+    pub ghost from_one: { 1 ≤ least },
+    pub ghost numbered: { least + count ≤ MAX_WORKERS + 1 },
 }
 
 impl Workers {
-    /// This many workers.
+    /// This many workers, at most [`MAX_WORKERS`], numbered from 1.
     pub fn all(count: usize) -> Workers
         requires { count ≤ MAX_WORKERS }
         ensures least { result.least ≡ 1 }
@@ -21,7 +25,8 @@ impl Workers {
         Workers { least: 1, count }
     }
 
-    /// The first half of the range, rounded up, and the rest.
+    /// The first half of the range, rounded up, and the rest, which begins where that half ends. Of one
+    /// worker the rest is none.
     pub fn halves(self) -> (Workers, Workers)
         ensures first_least { result.0.least ≡ self.least }
         ensures first_count { result.0.count ≡ (self.count + 1) / 2 }

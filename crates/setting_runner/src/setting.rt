@@ -12,12 +12,12 @@ use crate::outcome::StopCause;
 use crate::pair_list::PairList;
 use crate::plant::Plant;
 use crate::switching::set_switch;
-use crate::work::{Crew, Work, move_all};
+use crate::work::{Work, move_all};
 use batch::{Batch, MAX_MODULES};
 use crossbar::ConfigPort;
 use module_memory::{Bay, Rest};
 use peek_poke::WireMaker;
-use schedule_certificate::{Gate, MAX_WORKERS};
+use schedule_certificate::{Gate, MAX_WORKERS, Workers};
 use std::thread::Threads;
 
 /// Why a setting stopped, and how many words its transfers have moved.
@@ -78,11 +78,8 @@ pub fn run_setting<R: Threads + Sync, P: ConfigPort, W: WireMaker + Sync, G: Gat
         rest,
         batch: setting.batch,
     };
-    let crew = Crew {
-        first: 1,
-        workers: plant.workers,
-    };
-    let moved = move_all(rt, &work, crew, setting.numbers, bays);
+    let workers = Workers::all(plant.workers);
+    let moved = move_all(rt, &work, workers, setting.numbers, bays);
     match first_short(&moved, words) {
         Some(transfer) => Err(Stop {
             cause: StopCause::Wire(transfer),

@@ -1,4 +1,4 @@
-use Rattle.std.proofs.Common.{◌≡◌, ◌≤◌, ◌<◌, ◌+◌, ◌-◌, ◌/◌, ◌++◌, ℕ, List, length, take, drop, ◌∙◌, ap₂, rules, sym, subst, arith, take-append-drop}
+use Rattle.std.proofs.Common.{◌≡◌, ◌≤◌, ◌<◌, ◌/◌, ◌++◌, ℕ, List, length, take, drop, ◌∙◌, ap₂, rules, sym, subst, arith, take-append-drop}
 use Rattle.module_memory.specs.Lending.{Lent}
 use Rattle.setting_runner.specs.Moves.{AreMovable, HaveMoved}
 use Rattle.setting_runner.proofs.Moves.{HaveMoved-append, HaveMoved-length, AreMovable-length, AreMovable-take, AreMovable-drop}
@@ -20,9 +20,10 @@ join_mut-moved1-requires-after_bounds g t c =
     (subst (λ (x : List Lent). AreMovable rest batch (drop middle c.args.numbers.now) x) (sym c.split_at_mut-bays1.ensures.back) (AreMovable-drop rest batch c.args.numbers.now c.args.bays.now middle c.requires.movable)) in
     let f1 : length c.split_at.result.0.now ≤ 16 = omega arith in
     let f2 : length c.split_at.result.1.now ≤ 16 = omega arith in
-    let n1 : c.args.crew.workers - c.args.crew.workers / 2 < c.args.crew.workers = omega arith in
-    let n2 : c.args.crew.first + (c.args.crew.workers - c.args.crew.workers / 2) ≤ 65 = omega arith in
-    let n3 : 0 < c.args.crew.workers - c.args.crew.workers / 2 = omega arith in
+    let n1 : c.halves.result.0.count < c.args.workers.count = omega arith in
+    let n2 : c.halves.result.1.count < c.args.workers.count = omega arith in
+    let n3 : 0 < c.halves.result.0.count = omega arith in
+    let n4 : 0 < c.halves.result.1.count = omega arith in
     search rules
 
 pub and-requires : goal.and-requires
