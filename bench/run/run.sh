@@ -2,9 +2,8 @@
 # Measures what a run costs that moves 1008 blocks of 256 words in 63 settings, bit by bit, beside a plain Rust
 # program that does the same work, built so that the compiler may leave bits out and so that it may not: by the
 # time that each takes with one, two and four workers, and, with valgrind on the PATH, by the instructions with
-# one worker. The program run_speed.rattle is no crate of the
-# repository: as src/main.rt of one, it is proved and built in a copy of the crates that it stands on, which
-# takes some minutes.
+# one worker. The program run_speed.rattle is no crate of the repository: as src/main.rt of one, it is proved
+# and built in a copy of the crates that it stands on, which takes some minutes.
 set -eu
 here=$(cd "$(dirname "${BASH_SOURCE[0]}")" && pwd)
 top=$here/../..
