@@ -1,4 +1,5 @@
-ghost use Rattle.std.specs.Prelude.{◌≡◌, ◌≢◌, length, slice_get, IfOk, IfErr};
+ghost use Rattle.std.specs.Prelude.{◌≡◌, ◌≢◌, ◌↔◌, [], length, slice_get, IsTrue, IfOk, IfErr};
+ghost use Rattle.std.specs.Slice.Iter.{iter_rest};
 ghost use Rattle.batch.specs.declared.fault.BatchFault.TheVariants.{NoMemory};
 ghost use Rattle.batch.specs.Batches.{IsBatch};
 ghost use Rattle.batch.specs.Text.{Denotes, batch_text};
@@ -11,6 +12,7 @@ use crate::transfer::Transfer;
 use crate::{reading, writing};
 use std::alloc::{AllocError, Global};
 use std::marker::Model;
+use std::slice;
 
 /// A list of transfers, numbered from 0: at most [`MAX_TRANSFERS`] of them, all of them between
 /// blocks of the widest shape. Equal transfers are different members of the list.
@@ -71,19 +73,35 @@ impl Batch {
         self.transfers.len()
     }
 
+    /// Whether there is no transfer.
+    pub fn is_empty(&self) -> bool
+        ensures { IsTrue result ↔ (self.now ≡ []) }
+    {
+        self.transfers.is_empty()
+    }
+
+    /// All transfers, in order, one after the other.
+    pub fn iter(&self) -> slice::Iter<'_, Transfer>
+        ensures transfers { iter_rest result ≡ self.now }
+        ensures batch { IsBatch self.now }
+    {
+        self.transfers.iter()
+    }
+
+    /// All transfers, in order. A loop over them, and over their numbers with `enumerate`, knows which
+    /// transfer comes without a proof by hand.
+    pub fn as_slice(&self) -> &[Transfer]
+        ensures value { result.now ≡ self.now }
+        ensures batch { IsBatch self.now }
+    {
+        self.transfers.as_slice()
+    }
+
     /// Transfer `t`, where there is one.
     pub fn transfer(&self, t: usize) -> Option<Transfer>
         ensures { result ≡ slice_get self.now t }
     {
         self.transfers.get(t).copied()
-    }
-
-    // All transfers, in order.
-    pub(crate) fn transfers(&self) -> &[Transfer]
-        ensures value { result.now ≡ self.now }
-        ensures batch { IsBatch self.now }
-    {
-        self.transfers.as_slice()
     }
 
     /// The allocator that the batch was made with.

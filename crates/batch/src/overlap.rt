@@ -26,7 +26,7 @@ impl Batch {
         ensures none { IfNone result (IsApart self.now) }
         ensures first { IfSome result (λ pair. IsFirstOverlap self.now pair.0 pair.1) }
     {
-        let transfers = self.transfers();
+        let transfers = self.as_slice();
         if are_apart(transfers) {
             return None;
         }
