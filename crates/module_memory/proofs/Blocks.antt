@@ -27,6 +27,10 @@ store_from_parts a b e f =
     let make : Extent → List (List ℕ) → Store = λ x y. record { shape = x; blocks = y } in ap₂ make e f
 
 -- two stores of one shape are one where all their blocks are
+-- a whole store has all its blocks
+pub all_blocks : (s : Store) → IsWhole s → HasAllBlocks s
+all_blocks s whole = (whole.within, whole.all_blocks)
+
 pub same_store : (old a b : Store) → HasAllBlocks old → a.shape ≡ old.shape → b.shape ≡ old.shape → length a.blocks ≡ length old.blocks → length b.blocks ≡ length old.blocks
     → ((p : Place) → HasPlace old.shape p → block_of a p ≡ block_of b p) → a ≡ b
 same_store old a b all ea eb la lb same =

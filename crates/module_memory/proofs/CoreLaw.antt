@@ -8,9 +8,9 @@ use Rattle.batch.specs.declared.transfer.Transfer.{Transfer}
 use Rattle.batch.specs.Places.{HasPlace, place_index, source_of, destination_of}
 use Rattle.batch.specs.Overlap.{transfer_at, source_at, destination_at, IsApart, Collide}
 use Rattle.module_memory.specs.Store.{Store, HasAllBlocks, IsWhole, block_of}
-use Rattle.module_memory.specs.Core.{Core, at_start, step, run, times, IsStepList, IsComplete, FitsIn, IsUnwritten, IsMoved, IsPlaced, OnePlaced, setting_of, IsReady, OneEnd, EndIsPlaced, EachPrefix}
+use Rattle.module_memory.specs.Core.{Core, at_start, step, run, times, IsStepList, IsComplete, FitsIn, IsUnwritten, IsMoved, IsPlaced, OnePlaced, OneMoved, setting_of, IsReady, OneEnd, EndIsPlaced, EachPrefix}
 use Rattle.batch.proofs.Places.{place_index_below}
-use Rattle.module_memory.proofs.Blocks.{same_or_not, block_of-set_same, block_of-set_other, same_store, block_length}
+use Rattle.module_memory.proofs.Blocks.{same_or_not, block_of-set_same, block_of-set_other, same_store, block_length, all_blocks}
 
 -- the premises, of the setting's transfers alone
 pub record Premises (old : Store) (ts : List Transfer) : Type 0 where
@@ -183,10 +183,9 @@ same_written old a b ts all ea eb la lb written others =
       | inr none ↦ others p hp none
     ])
 
--- one end for equal counts
-pub same_end : (old : Store) (ts : List Transfer) → Premises old ts → (m : ℕ → ℕ) (a b : Store) → IsMoved old ts m a → IsMoved old ts m b → a ≡ b
-same_end old ts pr m a b ha hb =
-    same_written old a b ts (pr.whole.within, pr.whole.all_blocks) ha.same_shape hb.same_shape ha.same_length hb.same_length
+pub one_moved : OneMoved
+one_moved old a b ts moved all ha hb =
+    same_written old a b ts all ha.same_shape hb.same_shape ha.same_length hb.same_length
     (λ i l. ha.destinations i l ∙ sym (hb.destinations i l)) (λ p hp none. ha.others p hp none ∙ sym (hb.others p hp none))
 
 pub one_placed : OnePlaced
@@ -222,7 +221,7 @@ pub one_end : OneEnd
 one_end s batch numbers r a b ha hb =
     let pr = Premises-from_ready s batch numbers r in
     let ts = setting_of batch numbers in
-    same_end s ts pr _ (run ts (at_start s ts) a).store (run ts (at_start s ts) b).store (complete_moves s ts pr a ha) (complete_moves s ts pr b hb)
+    one_moved s (run ts (at_start s ts) a).store (run ts (at_start s ts) b).store ts _ (all_blocks s pr.whole) (complete_moves s ts pr a ha) (complete_moves s ts pr b hb)
 
 pub end_is_placed : EndIsPlaced
 end_is_placed s batch numbers r steps h =

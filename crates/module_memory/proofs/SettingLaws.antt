@@ -13,9 +13,9 @@ use Rattle.std.proofs.lemmas.List.{get_or_default, map-append, replicate-append-
 use Rattle.batch.proofs.Places.{place_at, place_index-place_at, HasPlace-place_at}
 use Rattle.module_memory.specs.Store.{IsWhole}
 use Rattle.module_memory.specs.Core.{FitsIn, IsMoved, IsStepList, IsReady, setting_of, times}
-use Rattle.module_memory.specs.Settings.{after_steps, IsRun, all_words, RunIsPlaced, StopIsMoved, OneAfterAnother, OthersStayReady, AllMovedIsPlaced, WholeBatchIsPlaced, OneStore}
+use Rattle.module_memory.specs.Settings.{after_steps, IsRun, all_words, RunIsPlaced, StopIsMoved, OneAfterAnother, OthersStayReady, AllMovedIsPlaced, WholeBatchIsPlaced}
 use Rattle.module_memory.proofs.Blocks.{block_at, block_length}
-use Rattle.module_memory.proofs.CoreLaw.{Premises, Premises-from_ready, IsMoved-same, IsPlaced-from_moved, transfer_at-setting_of, free_from_apart, find_destination, complete_moves, each_prefix, same_end}
+use Rattle.module_memory.proofs.CoreLaw.{Premises, Premises-from_ready, IsMoved-same, IsPlaced-from_moved, transfer_at-setting_of, free_from_apart, find_destination, complete_moves, each_prefix}
 
 -- no source and no destination of the later transfers is a destination of the earlier ones
 record IsLater (ts us : List Transfer) : Type 0 where
@@ -142,9 +142,6 @@ all_moved_is_placed old new batch numbers moved r all h =
     let ts = setting_of batch numbers in
     IsPlaced-from_moved old ts (Premises-from_ready old batch numbers r) new
     (IsMoved-same old ts moved (λ _. old.shape.words) new (λ i l. all i (omega (arith, length-map numbers (transfer_at batch)))) h)
-
-pub one_store : OneStore
-one_store old a b batch numbers moved r ha hb = same_end old (setting_of batch numbers) (Premises-from_ready old batch numbers r) moved a b ha hb
 
 -- the transfer of a number that stands in a setting
 standing : (batch : List Transfer) (numbers : List ℕ) (t : ℕ) → Contains numbers t → (i : ℕ) × (i < length (setting_of batch numbers)) × (transfer_at (setting_of batch numbers) i ≡ transfer_at batch t)

@@ -7,7 +7,8 @@ use Rattle.std.proofs.lemmas.List.Sums.{sum_by-append}
 use Rattle.batch.specs.Overlap.{transfer_at}
 use Rattle.module_memory.specs.Core.{times, at_start, run, IsStepList, setting_of}
 use Rattle.module_memory.specs.Settings.{CountsAreReached}
-use Rattle.module_memory.proofs.CoreLaw.{Premises-from_ready, IsMoved-same, each_prefix, same_end, times_same, times_other}
+use Rattle.module_memory.proofs.Blocks.{all_blocks}
+use Rattle.module_memory.proofs.CoreLaw.{IsMoved-same, each_prefix, one_moved, times_same, times_other}
 
 -- first all steps of the first transfer, then all of the next
 abbrev steps_of : (ℕ → ℕ) → ℕ → List ℕ
@@ -53,4 +54,4 @@ counts_are_reached s t batch numbers moved r few h =
     let steps = steps_of moved n in
     let list : IsStepList ts s.shape.words steps = record { known = known moved n; bounded = λ i l. omega (arith, times-steps_of moved n i l, few i (omega (arith, long))) } in
     let there = IsMoved-same s ts _ moved (run ts (at_start s ts) steps).store (λ i l. times-steps_of moved n i l) (each_prefix s batch numbers r steps list) in
-    (steps, list, (λ i l. times-steps_of moved n i (omega (arith, long))), same_end s ts (Premises-from_ready s batch numbers r) moved t (run ts (at_start s ts) steps).store h there)
+    (steps, list, (λ i l. times-steps_of moved n i (omega (arith, long))), one_moved s t (run ts (at_start s ts) steps).store ts moved (all_blocks s r.whole) h there)

@@ -72,6 +72,10 @@ pub record IsPlaced (old : Store) (ts : List Transfer) (new : Store) : Type 0 wh
 abbrev pub OnePlaced : Type 0
 OnePlaced = (old a b : Store) (ts : List Transfer) → HasAllBlocks old → IsPlaced old ts a → IsPlaced old ts b → a ≡ b
 
+-- one store has the counts
+abbrev pub OneMoved : Type 0
+OneMoved = (old a b : Store) (ts : List Transfer) (moved : ℕ → ℕ) → HasAllBlocks old → IsMoved old ts moved a → IsMoved old ts moved b → a ≡ b
+
 -- the transfers of a setting, by their numbers in the batch
 abbrev pub setting_of : List Transfer → List ℕ → List Transfer
 setting_of batch numbers = map (transfer_at batch) numbers

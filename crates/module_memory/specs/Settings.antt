@@ -60,11 +60,6 @@ abbrev pub WholeBatchIsPlaced : Type 0
 WholeBatchIsPlaced = (old new : Store) (batch : List Transfer) (numbers : List ℕ) → IsReady old batch numbers
     → ((t : ℕ) → t < length batch → Contains numbers t) → IsPlaced old (setting_of batch numbers) new → IsPlaced old batch new
 
--- one store has these counts
-abbrev pub OneStore : Type 0
-OneStore = (old a b : Store) (batch : List Transfer) (numbers : List ℕ) (moved : ℕ → ℕ) → IsReady old batch numbers
-    → IsMoved old (setting_of batch numbers) moved a → IsMoved old (setting_of batch numbers) moved b → a ≡ b
-
 -- the machine reaches the store of any counts of which none is above the words of a block
 abbrev pub CountsAreReached : Type 0
 CountsAreReached = (s t : Store) (batch : List Transfer) (numbers : List ℕ) (moved : ℕ → ℕ) → IsReady s batch numbers

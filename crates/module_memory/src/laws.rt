@@ -2,9 +2,9 @@
 
 ghost use Rattle.module_memory.specs.Address.{AddressesAreKnown, WindowsAreWhole, WritesAreApart, WritesAreKept};
 ghost use Rattle.module_memory.specs.Bays.{BaysHoldTheCounts, BaysStayLent, BaysStayWhole, BlocksAreWide, LentBlockIsGone, LentBlockIsItsBay, OtherBlockIsTheRest, SetIsOneWord, SettingsHaveBays};
-ghost use Rattle.module_memory.specs.Core.{EachPrefix, EndIsPlaced, OneEnd, OnePlaced};
+ghost use Rattle.module_memory.specs.Core.{EachPrefix, EndIsPlaced, OneEnd, OneMoved, OnePlaced};
 ghost use Rattle.module_memory.specs.Mark.{OneMarked};
-ghost use Rattle.module_memory.specs.Settings.{AllMovedIsPlaced, CountsAreReached, OneAfterAnother, OneStore, OthersStayReady, RunIsPlaced, StopIsMoved, WholeBatchIsPlaced};
+ghost use Rattle.module_memory.specs.Settings.{AllMovedIsPlaced, CountsAreReached, OneAfterAnother, OthersStayReady, RunIsPlaced, StopIsMoved, WholeBatchIsPlaced};
 
 /// Where a batch doesn't overlap, the order in which the words of a setting move doesn't matter.
 pub fn any_order()
@@ -52,12 +52,13 @@ pub fn settings()
     ensures ready { OthersStayReady }
     ensures all_moved { AllMovedIsPlaced }
     ensures whole_batch { WholeBatchIsPlaced }
-    ensures one_store { OneStore }
     ensures reached { CountsAreReached }
 {}
 
-/// There is one marked rack of a shape, and one store in which the blocks of transfers are placed.
+/// There is one marked rack of a shape, one store in which the blocks of transfers are placed, and one
+/// in which given counts of their words have moved.
 pub fn placed()
     ensures one_marked { OneMarked }
     ensures one_placed { OnePlaced }
+    ensures one_moved { OneMoved }
 {}

@@ -1,4 +1,4 @@
-use Rattle.module_memory.proofs.SettingLaws.{run_is_placed, stop_is_moved, one_after_another, ready_after, all_moved_is_placed, whole_batch_is_placed, one_store}
+use Rattle.module_memory.proofs.SettingLaws.{run_is_placed, stop_is_moved, one_after_another, ready_after, all_moved_is_placed, whole_batch_is_placed}
 use Rattle.module_memory.proofs.StepLists.{counts_are_reached}
 use Rattle.module_memory.proofs.laws.settings.Goals as goal
 
@@ -16,9 +16,6 @@ returns-clause-all_moved c = all_moved_is_placed
 
 pub returns-clause-whole_batch : goal.returns-clause-whole_batch
 returns-clause-whole_batch c = whole_batch_is_placed
-
-pub returns-clause-one_store : goal.returns-clause-one_store
-returns-clause-one_store c = one_store
 
 pub returns-clause-reached : goal.returns-clause-reached
 returns-clause-reached c = counts_are_reached
