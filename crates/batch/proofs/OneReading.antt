@@ -11,9 +11,9 @@ use Rattle.batch.specs.declared.fault.BatchFault.TheVariants.{Line, TooMany, NoM
 use Rattle.batch.specs.declared.transfer.Transfer.{Transfer}
 use Rattle.batch.specs.declared.limits.TheConstants.{MAX_TRANSFERS}
 use Rattle.batch.specs.Extent.{Extent, IsShape}
-use Rattle.batch.specs.Equal.{same_transfer_parts}
 use Rattle.batch.specs.Text.{IsNumber, number, head, word, line, space, line_feed, HasModules, HasBlocks, IsWithin, Denotes}
 use Rattle.batch.specs.Faults.{IsSpellable, BeginsWithLine, IsLineFault, IsHeadFault, IsGoodUpTo, IsFirstFault, at_head, at_line, at_end}
+use Rattle.batch.proofs.Equal.{same_transfer_parts}
 use Rattle.batch.proofs.Lines.{one_number, fields, line_parts, to_responder, ends_line}
 
 pub spellable : (shape : Extent) (valid : IsShape shape) (t : Transfer) → IsWithin shape t → IsSpellable t
@@ -65,13 +65,13 @@ refuted : (shape : Extent) (valid : IsShape shape) (k : ℕ) (v : Transfer) (x r
 refuted shape valid k v x rest Count w e fault = some_line v x (sym e ∙ fault)
 refuted shape valid k v x rest (Line n) w e fault = fault.2 v x (spellable shape valid v w, e)
 refuted shape valid k v x rest (NoModule n) w e fault =
-    let u = fault.1.0 in
-    let one = one_line u v fault.1.1 x fault.1.2.0 (spellable shape valid v w) (sym fault.1.2.1 ∙ e) in
-    fault.1.3 (subst (HasModules shape) (sym one.0) w.0)
+    let f = fault.1 in
+    let one = one_line f.transfer v f.after x f.begins.0 (spellable shape valid v w) (sym f.begins.1 ∙ e) in
+    f.missing (subst (HasModules shape) (sym one.0) w.0)
 refuted shape valid k v x rest (NoBlock n) w e fault =
-    let u = fault.1.0 in
-    let one = one_line u v fault.1.1 x fault.1.2.0 (spellable shape valid v w) (sym fault.1.2.1 ∙ e) in
-    fault.1.4 (subst (HasBlocks shape) (sym one.0) w.1)
+    let f = fault.1 in
+    let one = one_line f.transfer v f.after x f.begins.0 (spellable shape valid v w) (sym f.begins.1 ∙ e) in
+    f.missing (subst (HasBlocks shape) (sym one.0) w.1)
 refuted shape valid k v x rest TooMany w e fault = fault
 refuted shape valid k v x rest NoMemory w e fault = fault
 
@@ -117,8 +117,8 @@ one_batch shape valid text a b da db =
 head_refuted : (text : List ℕ) (n : ℕ) (x : List ℕ) (f : BatchFault) → n ≤ MAX_TRANSFERS → text ≡ head n ++ x → IsHeadFault text f → ⊥
 head_refuted text n x (Line k) le e fault = fault.1 n x (omega arith, e)
 head_refuted text n x TooMany le e fault =
-    let same = one_head n fault.0 x fault.1 (omega arith) fault.2.0 (sym e ∙ fault.2.1) in
-    omega (arith, same.0, fault.3)
+    let same = one_head n fault.n x fault.rest (omega arith) fault.headed.0 (sym e ∙ fault.headed.1) in
+    omega (arith, same.0, fault.too_many)
 head_refuted text n x (NoModule k) le e fault = fault
 head_refuted text n x (NoBlock k) le e fault = fault
 head_refuted text n x Count le e fault = fault
@@ -137,8 +137,8 @@ apart shape valid text a f d (at_end n rest good fault) =
 
 same_head : (text : List ℕ) (f g : BatchFault) → IsHeadFault text f → IsHeadFault text g → f ≡ g
 same_head text (Line m) (Line n) p q = ap Line (p.0 ∙ sym q.0)
-same_head text (Line m) TooMany p q = absurd (p.1 q.0 q.1 q.2)
-same_head text TooMany (Line m) p q = absurd (q.1 p.0 p.1 p.2)
+same_head text (Line m) TooMany p q = absurd (p.1 q.n q.rest q.headed)
+same_head text TooMany (Line m) p q = absurd (q.1 p.n p.rest p.headed)
 same_head text TooMany TooMany p q = refl
 same_head text (Line m) (NoModule n) p q = absurd q
 same_head text (Line m) (NoBlock n) p q = absurd q
@@ -160,19 +160,19 @@ begins_same rest u v x y p q = (one_line u v x y p.0 q.0 (sym p.1 ∙ q.1)).0
 same_line : (shape : Extent) (t : ℕ) (rest : List ℕ) (f g : BatchFault) → IsLineFault shape t rest f → IsLineFault shape t rest g → f ≡ g
 same_line shape t rest Count Count p q = refl
 same_line shape t rest Count (Line n) p q = absurd (q.1 p)
-same_line shape t rest Count (NoModule n) p q = absurd (some_line q.1.0 q.1.1 (sym q.1.2.1 ∙ p))
-same_line shape t rest Count (NoBlock n) p q = absurd (some_line q.1.0 q.1.1 (sym q.1.2.1 ∙ p))
+same_line shape t rest Count (NoModule n) p q = absurd (some_line q.1.transfer q.1.after (sym q.1.begins.1 ∙ p))
+same_line shape t rest Count (NoBlock n) p q = absurd (some_line q.1.transfer q.1.after (sym q.1.begins.1 ∙ p))
 same_line shape t rest (Line m) Count p q = absurd (p.1 q)
 same_line shape t rest (Line m) (Line n) p q = ap Line (p.0 ∙ sym q.0)
-same_line shape t rest (Line m) (NoModule n) p q = absurd (p.2 q.1.0 q.1.1 q.1.2)
-same_line shape t rest (Line m) (NoBlock n) p q = absurd (p.2 q.1.0 q.1.1 q.1.2)
-same_line shape t rest (NoModule m) Count p q = absurd (some_line p.1.0 p.1.1 (sym p.1.2.1 ∙ q))
-same_line shape t rest (NoModule m) (Line n) p q = absurd (q.2 p.1.0 p.1.1 p.1.2)
+same_line shape t rest (Line m) (NoModule n) p q = absurd (p.2 q.1.transfer q.1.after q.1.begins)
+same_line shape t rest (Line m) (NoBlock n) p q = absurd (p.2 q.1.transfer q.1.after q.1.begins)
+same_line shape t rest (NoModule m) Count p q = absurd (some_line p.1.transfer p.1.after (sym p.1.begins.1 ∙ q))
+same_line shape t rest (NoModule m) (Line n) p q = absurd (q.2 p.1.transfer p.1.after p.1.begins)
 same_line shape t rest (NoModule m) (NoModule n) p q = ap NoModule (p.0 ∙ sym q.0)
-same_line shape t rest (NoModule m) (NoBlock n) p q = absurd (p.1.3 (subst (HasModules shape) (begins_same rest q.1.0 p.1.0 q.1.1 p.1.1 q.1.2 p.1.2) q.1.3))
-same_line shape t rest (NoBlock m) Count p q = absurd (some_line p.1.0 p.1.1 (sym p.1.2.1 ∙ q))
-same_line shape t rest (NoBlock m) (Line n) p q = absurd (q.2 p.1.0 p.1.1 p.1.2)
-same_line shape t rest (NoBlock m) (NoModule n) p q = absurd (q.1.3 (subst (HasModules shape) (begins_same rest p.1.0 q.1.0 p.1.1 q.1.1 p.1.2 q.1.2) p.1.3))
+same_line shape t rest (NoModule m) (NoBlock n) p q = absurd (p.1.missing (subst (HasModules shape) (begins_same rest q.1.transfer p.1.transfer q.1.after p.1.after q.1.begins p.1.begins) q.1.modules))
+same_line shape t rest (NoBlock m) Count p q = absurd (some_line p.1.transfer p.1.after (sym p.1.begins.1 ∙ q))
+same_line shape t rest (NoBlock m) (Line n) p q = absurd (q.2 p.1.transfer p.1.after p.1.begins)
+same_line shape t rest (NoBlock m) (NoModule n) p q = absurd (q.1.missing (subst (HasModules shape) (begins_same rest p.1.transfer q.1.transfer p.1.after q.1.after p.1.begins q.1.begins) p.1.modules))
 same_line shape t rest (NoBlock m) (NoBlock n) p q = ap NoBlock (p.0 ∙ sym q.0)
 same_line shape t rest Count TooMany p q = absurd q
 same_line shape t rest Count NoMemory p q = absurd q

@@ -5,12 +5,23 @@ use Rattle.batch.specs.declared.limits.TheConstants.{MAX_TRANSFERS}
 use Rattle.batch.specs.declared.fault.BatchFault.{BatchFault}
 use Rattle.batch.specs.declared.fault.BatchFault.TheVariants.{Line, TooMany, NoModule, NoBlock, Count, NoMemory}
 use Rattle.batch.specs.declared.transfer.Transfer.{Transfer}
-use Rattle.batch.specs.Extent.{Extent}
-use Rattle.batch.specs.Text.{IsNumber, head, line, HasModules, HasBlocks, IsWithin}
+use Rattle.batch.specs.Extent.{Extent, IsShape}
+use Rattle.batch.specs.Text.{IsNumber, head, line, HasModules, HasBlocks, IsWithin, Denotes}
 
 -- the text begins with the line `batch N`
 abbrev pub IsHeaded : List ℕ → ℕ → List ℕ → Type 0
 IsHeaded text n rest = IsNumber n × (text ≡ head n ++ rest)
+
+-- the text begins with no such line
+abbrev pub HasNoHead : List ℕ → Type 0
+HasNoHead text = (n : ℕ) (rest : List ℕ) → IsHeaded text n rest → ⊥
+
+-- the text begins with the line `batch N` for an N that is too large
+pub record AnnouncesTooMany (text : List ℕ) : Type 0 where
+  pub n : ℕ
+  pub rest : List ℕ
+  pub headed : IsHeaded text n rest
+  pub too_many : MAX_TRANSFERS < n
 
 -- a line can spell the transfer's numbers
 pub record IsSpellable (t : Transfer) : Type 0 where
@@ -22,6 +33,25 @@ pub record IsSpellable (t : Transfer) : Type 0 where
 -- the text begins with the line of a transfer
 abbrev pub BeginsWithLine : List ℕ → Transfer → List ℕ → Type 0
 BeginsWithLine text t after = IsSpellable t × (text ≡ line t ++ after)
+
+-- the text begins with the line of no transfer
+abbrev pub BeginsWithNoLine : List ℕ → Type 0
+BeginsWithNoLine text = (t : Transfer) (after : List ℕ) → BeginsWithLine text t after → ⊥
+
+-- the text begins with the line of a transfer, a module of which the shape hasn't
+pub record NamesNoModule (shape : Extent) (text : List ℕ) : Type 0 where
+  pub transfer : Transfer
+  pub after : List ℕ
+  pub begins : BeginsWithLine text transfer after
+  pub missing : HasModules shape transfer → ⊥
+
+-- the text begins with the line of a transfer whose modules the shape has, and a block of which it hasn't
+pub record NamesNoBlock (shape : Extent) (text : List ℕ) : Type 0 where
+  pub transfer : Transfer
+  pub after : List ℕ
+  pub begins : BeginsWithLine text transfer after
+  pub modules : HasModules shape transfer
+  pub missing : HasBlocks shape transfer → ⊥
 
 -- the lines of as many transfers as counted, all of which the shape has, and then the rest
 pub record AreTransfers (shape : Extent) (text : List ℕ) (count : ℕ) (ts : List Transfer) (rest : List ℕ) : Type 0 where
@@ -40,8 +70,8 @@ pub record IsGoodUpTo (shape : Extent) (text : List ℕ) (n t : ℕ) (rest : Lis
 
 -- what is wrong with the first line
 abbrev pub IsHeadFault : List ℕ → BatchFault → Type 0
-IsHeadFault text (Line k) = (k ≡ 1) × ((n : ℕ) (rest : List ℕ) → IsHeaded text n rest → ⊥)
-IsHeadFault text TooMany = (n : ℕ) × (rest : List ℕ) × IsHeaded text n rest × (MAX_TRANSFERS < n)
+IsHeadFault text (Line k) = (k ≡ 1) × HasNoHead text
+IsHeadFault text TooMany = AnnouncesTooMany text
 IsHeadFault text (NoModule k) = ⊥
 IsHeadFault text (NoBlock k) = ⊥
 IsHeadFault text Count = ⊥
@@ -50,9 +80,9 @@ IsHeadFault text NoMemory = ⊥
 -- what is wrong where the line of transfer t should stand, which is line t + 2
 abbrev pub IsLineFault : Extent → ℕ → List ℕ → BatchFault → Type 0
 IsLineFault shape t rest Count = rest ≡ []
-IsLineFault shape t rest (Line k) = (k ≡ t + 2) × (rest ≢ []) × ((u : Transfer) (after : List ℕ) → BeginsWithLine rest u after → ⊥)
-IsLineFault shape t rest (NoModule k) = (k ≡ t) × ((u : Transfer) × (after : List ℕ) × BeginsWithLine rest u after × (HasModules shape u → ⊥))
-IsLineFault shape t rest (NoBlock k) = (k ≡ t) × ((u : Transfer) × (after : List ℕ) × BeginsWithLine rest u after × HasModules shape u × (HasBlocks shape u → ⊥))
+IsLineFault shape t rest (Line k) = (k ≡ t + 2) × (rest ≢ []) × BeginsWithNoLine rest
+IsLineFault shape t rest (NoModule k) = (k ≡ t) × NamesNoModule shape rest
+IsLineFault shape t rest (NoBlock k) = (k ≡ t) × NamesNoBlock shape rest
 IsLineFault shape t rest TooMany = ⊥
 IsLineFault shape t rest NoMemory = ⊥
 
@@ -73,6 +103,26 @@ pub record NeedsMemory (shape : Extent) (text : List ℕ) : Type 0 where
   pub rest : List ℕ
   pub some : 0 < t
   pub good : IsGoodUpTo shape text n t rest
+
+-- a fault other than want of memory is so
+abbrev pub ButForMemory : (BatchFault → Type 0) → BatchFault → Type 0
+ButForMemory IsFault fault = fault ≢ NoMemory → IsFault fault
+
+-- where the fault is want of memory, this is so
+abbrev pub ForMemory : Type 0 → BatchFault → Type 0
+ForMemory Needs fault = fault ≡ NoMemory → Needs
+
+-- a text denotes at most one batch
+abbrev pub OneBatch : Type 0
+OneBatch = (shape : Extent) → IsShape shape → (text : List ℕ) (a b : List Transfer) → Denotes shape text a → Denotes shape text b → a ≡ b
+
+-- a text that denotes a batch has no first fault
+abbrev pub BatchOrFault : Type 0
+BatchOrFault = (shape : Extent) → IsShape shape → (text : List ℕ) (a : List Transfer) (fault : BatchFault) → Denotes shape text a → IsFirstFault shape text fault → ⊥
+
+-- a text has at most one first fault
+abbrev pub OneFault : Type 0
+OneFault = (shape : Extent) → IsShape shape → (text : List ℕ) (one other : BatchFault) → IsFirstFault shape text one → IsFirstFault shape text other → one ≡ other
 
 -- ---- the same behind the first line
 

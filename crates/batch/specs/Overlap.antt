@@ -43,3 +43,11 @@ IsPairUpTo i j k l = (i < k) ⊎ ((i ≡ k) × (j ≤ l))
 pub record IsFirstOverlap (ts : List Transfer) (i j : ℕ) : Type 0 where
   pub overlap : Overlap ts i j
   pub first : (k l : ℕ) → Overlap ts k l → IsPairUpTo i j k l
+
+-- where no two transfers are the first that overlap, none overlap
+abbrev pub NoneOverlap : Type 0
+NoneOverlap = (ts : List Transfer) → ((i j : ℕ) → IsFirstOverlap ts i j → ⊥) → IsApart ts
+
+-- there is one first pair
+abbrev pub OneFirstOverlap : Type 0
+OneFirstOverlap = (ts : List Transfer) (i j k l : ℕ) → IsFirstOverlap ts i j → IsFirstOverlap ts k l → (i ≡ k) × (j ≡ l)

@@ -12,6 +12,10 @@ pub record DenotesShape (text : List ℕ) (shape : Extent) : Type 0 where
   pub spelled : text ≡ shape_text shape
   pub allowed : IsShape shape
 
+-- a text denotes at most one shape
+abbrev pub OneShape : Type 0
+OneShape = (text : List ℕ) (a b : Extent) → DenotesShape text a → DenotesShape text b → a ≡ b
+
 -- whatever denotes no shape is a bad one
 abbrev pub IsBadShape : List ℕ → Type 0
 IsBadShape text = (shape : Extent) → DenotesShape text shape → ⊥

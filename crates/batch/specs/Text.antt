@@ -1,5 +1,5 @@
 -- The text of a batch. The form is this project's choice.
-use Rattle.std.specs.Prelude.{◌≡◌, ℕ, ◌<◌, ◌≤◌, ◌+◌, ◌^◌, List, [], ◌∷◌, ◌++◌, length, All, ◌⊎◌, codes}
+use Rattle.std.specs.Prelude.{◌≡◌, ◌≢◌, ℕ, ◌<◌, ◌≤◌, ◌+◌, ◌^◌, List, [], ◌∷◌, ◌++◌, length, All, ◌⊎◌, codes}
 use Rattle.std.specs.List.{flat_map, AllByRecursion}
 use Rattle.std.specs.Fmt.{decimal}
 use Rattle.batch.specs.declared.limits.TheConstants.{MAX_TRANSFERS, MAX_DIGITS}
@@ -37,6 +37,14 @@ line t = word t.kind ++ number t.initiator space ++ number t.own_block space ++ 
 -- the one text of a list of transfers
 abbrev pub batch_text : List Transfer → List ℕ
 batch_text ts = head (length ts) ++ flat_map line ts
+
+-- the text begins with no number that this byte ends
+abbrev pub BeginsWithNoNumber : List ℕ → ℕ → Type 0
+BeginsWithNoNumber text end = (n : ℕ) (rest : List ℕ) → IsNumber n → text ≢ number n end ++ rest
+
+-- the text begins with neither word
+abbrev pub BeginsWithNoWord : List ℕ → Type 0
+BeginsWithNoWord text = (kind : Kind) (rest : List ℕ) → text ≢ word kind ++ rest
 
 -- the shape has the transfer's modules
 abbrev pub HasModules : Extent → Transfer → Type 0

@@ -19,6 +19,10 @@ pub record AreFlags (ts : List Transfer) (n : ℕ) (flags : List Bool) : Type 0 
   pub written : (p : Place) → HasPlace widest p → (flag_of flags p ≡ true) ↔ IsWrittenBelow ts n p
   pub distinct : (i j : ℕ) → i < j → j < n → destination_at ts i ≢ destination_at ts j
 
+-- all transfers write different blocks, and the flags of just these are up
+abbrev pub AreAllFlags : List Transfer → List Bool → Type 0
+AreAllFlags ts flags = AreFlags ts (length ts) flags
+
 -- two of the transfers write one block
 abbrev pub HasTwoWriters : List Transfer → Type 0
 HasTwoWriters ts = (i : ℕ) × (j : ℕ) × (i < j) × (j < length ts) × (destination_at ts i ≡ destination_at ts j)

@@ -1,9 +1,8 @@
-ghost use Rattle.std.specs.Prelude.{◌≡◌, ◌≢◌, ◌↔◌, [], length, slice_get, IsTrue, IfOk, IfErr};
+ghost use Rattle.std.specs.Prelude.{◌≡◌, ◌↔◌, [], length, slice_get, IsTrue, IfOk, IfErr};
 ghost use Rattle.std.specs.Slice.Iter.{iter_rest};
-ghost use Rattle.batch.specs.declared.fault.BatchFault.TheVariants.{NoMemory};
 ghost use Rattle.batch.specs.Batches.{IsBatch};
 ghost use Rattle.batch.specs.Text.{Denotes, batch_text};
-ghost use Rattle.batch.specs.Faults.{IsFirstFault, NeedsMemory};
+ghost use Rattle.batch.specs.Faults.{ButForMemory, ForMemory, IsFirstFault, NeedsMemory};
 
 use crate::fault::BatchFault;
 use crate::limits::MAX_TRANSFERS;
@@ -41,8 +40,8 @@ impl Batch {
     /// Takes time linear in the length of the text.
     pub fn read(alloc: Global, text: &[u8], shape: Shape) -> Result<Batch, BatchFault>
         ensures batch { IfOk result (λ batch. Denotes shape text.now batch) }
-        ensures fault { IfErr result (λ fault. fault ≢ NoMemory → IsFirstFault shape text.now fault) }
-        ensures memory { IfErr result (λ fault. fault ≡ NoMemory → NeedsMemory shape text.now) }
+        ensures fault { IfErr result (ButForMemory (IsFirstFault shape text.now)) }
+        ensures memory { IfErr result (ForMemory (NeedsMemory shape text.now)) }
     {
         let Some((count, lines)) = reading::first_line(text) else {
             return Err(BatchFault::Line(1));
@@ -104,7 +103,11 @@ impl Batch {
         self.transfers.get(t).copied()
     }
 
-    /// The allocator that the batch was made with.
+    /// The allocator that the batch was made with, for a list that is made beside the batch, such as one
+    /// of its numbers.
+    ///
+    /// A call that takes no memory leaves it alone. No contract can say that it does, since whoever holds
+    /// a batch holds this too: only a test that refuses memory shows it.
     pub fn allocator(&self) -> Global {
         *self.transfers.allocator()
     }
@@ -120,11 +123,13 @@ impl Batch {
 
 impl PartialEq for Batch {
     ghost use Rattle.std.specs.Prelude.{◌≡◌, ◌↔◌, IsTrue};
-    ghost use Rattle.batch.specs.Equal.{same_transfers, same_laws};
+    ghost use Rattle.std.specs.Cmp.Lexicographic.{lists_per};
+    ghost use Rattle.batch.specs.contracts.transfer.TransferPartialEq.TheImpl.Laws.{laws-law};
+    ghost use Rattle.batch.specs.Equal.{same_transfers};
 
     ghost eq = { same_transfers };
 
-    ghost laws = { same_laws };
+    ghost laws = { lists_per laws-law };
 
     fn eq(&self, other: &Batch) -> bool
         ensures value { result ≡ same_transfers self.now other.now }
@@ -135,7 +140,8 @@ impl PartialEq for Batch {
 }
 
 impl Eq for Batch {
-    ghost use Rattle.batch.specs.Equal.{same_equivalence};
+    ghost use Rattle.std.specs.Cmp.Lexicographic.{lists_equiv};
+    ghost use Rattle.batch.specs.contracts.transfer.TransferEq.TheImpl.Laws.{laws-law};
 
-    ghost laws = { same_equivalence };
+    ghost laws = { lists_equiv laws-law };
 }

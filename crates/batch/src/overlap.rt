@@ -6,7 +6,7 @@ ghost use Rattle.batch.specs.Extent.{widest};
 ghost use Rattle.batch.specs.Text.{IsWithin};
 ghost use Rattle.batch.specs.Places.{HasPlace, place_index};
 ghost use Rattle.batch.specs.Overlap.{Collide, Overlap, IsApart, IsFirstOverlap};
-ghost use Rattle.batch.specs.Written.{AreFlags, HasTwoWriters, HasReader};
+ghost use Rattle.batch.specs.Written.{AreAllFlags, HasTwoWriters, HasReader};
 
 use crate::batch::Batch;
 use crate::limits::{MAX_BLOCKS, MAX_MODULES};
@@ -35,7 +35,7 @@ impl Batch {
 }
 
 /// Where a block stands among those of the widest shape.
-fn index_of(place: Place) -> usize
+fn widest_index(place: Place) -> usize
     requires { HasPlace widest place }
     ensures value { result ≡ place_index widest place }
     ensures below { result < MAX_PLACES }
@@ -46,11 +46,11 @@ fn index_of(place: Place) -> usize
 /// A flag for each block that is written, or `None` where a block is written twice.
 fn written_once(transfers: &[Transfer]) -> Option<[bool; MAX_PLACES]>
     requires { All (IsWithin widest) transfers.now }
-    ensures { MatchOption result (HasTwoWriters transfers.now) (λ flags. AreFlags transfers.now (length transfers.now) flags) }
+    ensures { MatchOption result (HasTwoWriters transfers.now) (AreAllFlags transfers.now) }
 {
     let mut written = [false; MAX_PLACES];
     for transfer in transfers {
-        let index = index_of(transfer.destination());
+        let index = widest_index(transfer.destination());
         if written[index] {
             return None;
         }
@@ -62,12 +62,12 @@ fn written_once(transfers: &[Transfer]) -> Option<[bool; MAX_PLACES]>
 /// Whether no transfer reads a block that is written.
 fn are_unread(transfers: &[Transfer], written: &[bool; MAX_PLACES]) -> bool
     requires within { All (IsWithin widest) transfers.now }
-    requires flags { AreFlags transfers.now (length transfers.now) written.now }
+    requires flags { AreAllFlags transfers.now written.now }
     ensures yes { result ≡ true → HasReader transfers.now → ⊥ }
     ensures no { result ≡ false → HasReader transfers.now }
 {
     for transfer in transfers {
-        if written[index_of(transfer.source())] {
+        if written[widest_index(transfer.source())] {
             return false;
         }
     }

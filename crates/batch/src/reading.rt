@@ -1,12 +1,9 @@
 //! The parts of a batch text, read from the left. Each reader gives what it has read and the rest.
 
-ghost use Rattle.std.specs.Prelude.{◌≡◌, ◌≢◌, ℕ, ◌+◌, ◌<◌, ◌≤◌, List, ◌++◌, IfSome, IfNone, IfOk, IfErr, length, position, ◌==◌, ◌↔◌, IsTrue, slice_index};
+ghost use Rattle.std.specs.Prelude.{◌≡◌, ◌≢◌, ℕ, ◌<◌, ◌≤◌, ◌++◌, IfSome, IfNone, IfOk, IfErr, length, position, ◌==◌, ◌↔◌, IsTrue, slice_index};
 ghost use Rattle.std.specs.Fmt.{decimal};
-ghost use Rattle.batch.specs.declared.transfer.Kind.{Kind};
-ghost use Rattle.batch.specs.declared.transfer.Transfer.{Transfer};
-ghost use Rattle.batch.specs.Text.{IsNumber, IsDigit, number, word, line, IsWithin};
-ghost use Rattle.batch.specs.declared.fault.BatchFault.TheVariants.{NoMemory};
-ghost use Rattle.batch.specs.Faults.{IsHeaded, BeginsWithLine, IsLineFault, AreTransfers, StopsAt, HasGrown};
+ghost use Rattle.batch.specs.Text.{BeginsWithNoNumber, BeginsWithNoWord, IsNumber, IsDigit, number, word, line, IsWithin};
+ghost use Rattle.batch.specs.Faults.{AreTransfers, BeginsWithLine, BeginsWithNoLine, ButForMemory, ForMemory, HasGrown, HasNoHead, IsHeaded, IsLineFault, StopsAt};
 
 use crate::fault::BatchFault;
 use crate::limits::{MAX_DIGITS, MAX_TRANSFERS};
@@ -51,7 +48,7 @@ fn first_place(bytes: &[u8], byte: u8) -> Option<usize>
 pub(crate) fn number_before(bytes: &[u8], end: u8) -> Option<(usize, &[u8])>
     requires { IsDigit end → ⊥ }
     ensures some { IfSome result (λ x. IsNumber x.0 × (bytes.now ≡ number x.0 end ++ x.1.now)) }
-    ensures none { IfNone result ((n : ℕ) (rest : List ℕ) → IsNumber n → bytes.now ≢ number n end ++ rest) }
+    ensures none { IfNone result (BeginsWithNoNumber bytes.now end) }
 {
     let at = first_place(bytes, end)?;
     let n = number_from_digits(&bytes[..at])?;
@@ -61,7 +58,7 @@ pub(crate) fn number_before(bytes: &[u8], end: u8) -> Option<(usize, &[u8])>
 /// The first line of a batch text.
 pub(crate) fn first_line(text: &[u8]) -> Option<(usize, &[u8])>
     ensures some { IfSome result (λ x. IsHeaded text.now x.0 x.1.now) }
-    ensures none { IfNone result ((n : ℕ) (rest : List ℕ) → IsHeaded text.now n rest → ⊥) }
+    ensures none { IfNone result (HasNoHead text.now) }
 {
     number_before(text.strip_prefix(b"batch ")?, b'\n')
 }
@@ -69,7 +66,7 @@ pub(crate) fn first_line(text: &[u8]) -> Option<(usize, &[u8])>
 /// The word that a transfer's line begins with.
 fn kind_word(bytes: &[u8]) -> Option<(Kind, &[u8])>
     ensures some { IfSome result (λ x. bytes.now ≡ word x.0 ++ x.1.now) }
-    ensures none { IfNone result ((kind : Kind) (rest : List ℕ) → bytes.now ≢ word kind ++ rest) }
+    ensures none { IfNone result (BeginsWithNoWord bytes.now) }
 {
     if let Some(rest) = bytes.strip_prefix(b"push ") {
         return Some((Kind::Push, rest));
@@ -81,7 +78,7 @@ fn kind_word(bytes: &[u8]) -> Option<(Kind, &[u8])>
 /// The line of a transfer.
 fn transfer_line(bytes: &[u8]) -> Option<(Transfer, &[u8])>
     ensures some { IfSome result (λ x. BeginsWithLine bytes.now x.0 x.1.now) }
-    ensures none { IfNone result ((t : Transfer) (after : List ℕ) → BeginsWithLine bytes.now t after → ⊥) }
+    ensures none { IfNone result (BeginsWithNoLine bytes.now) }
 {
     let (kind, rest) = kind_word(bytes)?;
     let (initiator, rest) = number_before(rest, b' ')?;
@@ -128,8 +125,8 @@ pub(crate) fn transfers(
 ) -> Result<(Vec<Transfer>, &[u8]), BatchFault>
     requires { count ≤ MAX_TRANSFERS }
     ensures ok { IfOk result (λ x. AreTransfers shape lines.now count x.0.items x.1.now) }
-    ensures err { IfErr result (λ fault. fault ≢ NoMemory → StopsAt shape lines.now count fault) }
-    ensures memory { IfErr result (λ fault. fault ≡ NoMemory → HasGrown shape lines.now count) }
+    ensures err { IfErr result (ButForMemory (StopsAt shape lines.now count)) }
+    ensures memory { IfErr result (ForMemory (HasGrown shape lines.now count)) }
 {
     let mut transfers = Vec::new(alloc);
     let mut rest = lines;

@@ -3,7 +3,7 @@ ghost use Rattle.batch.specs.Text.{batch_text};
 ghost use Rattle.batch.specs.Extent.{extent, widest};
 ghost use Rattle.batch.specs.ShapeText.{shape_text};
 ghost use Rattle.batch.specs.Places.{source_of, destination_of};
-ghost use Rattle.batch.specs.Rows.{pull, three_transfers};
+ghost use Rattle.batch.specs.Rows.{pull, three_transfers, three_transfers_text};
 
 use crate::{Batch, BatchFault, MAX_TRANSFERS, Place, Shape, ShapeFault};
 use std::alloc::{AllocError, Global};
@@ -11,7 +11,7 @@ use std::test::Fail;
 
 /// The definitions give the texts of worked rows.
 fn the_definitions_spell_the_rows()
-    ensures three_transfers { batch_text three_transfers ≡ codes "batch 3\npush 0 0 1 0\npush 0 1 2 0\npush 1 1 2 1\n" }
+    ensures three_transfers { batch_text three_transfers ≡ three_transfers_text }
     ensures empty_batch { batch_text [] ≡ codes "batch 0\n" }
     ensures pull { batch_text (pull 13 63 0 10 ∷ []) ≡ codes "batch 1\npull 13 63 0 10\n" }
     ensures shape { shape_text (extent 3 2 2) ≡ codes "3x2x2" }

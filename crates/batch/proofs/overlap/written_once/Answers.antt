@@ -11,15 +11,15 @@ loop-transfer-init c = record { size = search rules; flags = flags_none c.args.t
 pub loop-transfer-preserved : goal.loop-transfer-preserved
 loop-transfer-preserved c =
     let now = c.loop-transfer in
-    let k = c.index_of-index.result in
+    let k = c.widest_index-index.result in
     let here : HasPlace widest c.destination.result = search rules in
     record {
       size = length-set now.written k true ∙ now.invariant.size;
-      flags = flags_more c.args.transfers.now now.transfer-index now.written k c.destination.result c.index_of-index.ensures.value c.destination.ensures here (omega arith) now.invariant.flags c.if-written-index.false;
+      flags = flags_more c.args.transfers.now now.transfer-index now.written k c.destination.result c.widest_index-index.ensures.value c.destination.ensures here (omega arith) now.invariant.flags c.if-written-index.false;
     }
 
 pub returns-then-written-index : goal.returns-then-written-index
 returns-then-written-index c =
     let now = c.loop-transfer in
     let here : HasPlace widest c.destination.result = search rules in
-    two_writers c.args.transfers.now now.transfer-index now.written c.index_of-index.result c.destination.result c.index_of-index.ensures.value c.destination.ensures here c.loop-transfer-test.true now.invariant.flags c.if-written-index.true
+    two_writers c.args.transfers.now now.transfer-index now.written c.widest_index-index.result c.destination.result c.widest_index-index.ensures.value c.destination.ensures here c.loop-transfer-test.true now.invariant.flags c.if-written-index.true

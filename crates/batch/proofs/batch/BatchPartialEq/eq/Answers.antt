@@ -1,5 +1,6 @@
 use Rattle.std.proofs.Common.{◌≡◌, rules}
-use Rattle.batch.specs.Equal.{same_transfers, same_transfers-Decides}
+use Rattle.batch.specs.Equal.{same_transfers}
+use Rattle.batch.proofs.Equal.{same_transfers-Decides}
 use Rattle.batch.proofs.batch.BatchPartialEq.eq.Goals as goal
 
 pub returns-clause-equal : goal.returns-clause-equal
