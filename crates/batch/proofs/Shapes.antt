@@ -6,6 +6,7 @@ use Rattle.std.proofs.lemmas.Fmt.{decimal_injective}
 use Rattle.std.proofs.lemmas.Bool.{false≢true}
 use Rattle.batch.specs.Extent.{Extent, extent, IsShape}
 use Rattle.batch.specs.Text.{IsNumber, number}
+use Rattle.batch.specs.declared.shape_reading.TheConstants.{SEPARATOR}
 use Rattle.batch.specs.ShapeText.{shape_text, DenotesShape, IsBadShape}
 use Rattle.batch.specs.declared.fault.ShapeFault.{ShapeFault}
 use Rattle.batch.proofs.Lines.{Ends, one_number}
@@ -16,14 +17,14 @@ pub record AreNumbers (e : Extent) : Type 0 where
   pub blocks : IsNumber e.blocks
   pub words : IsNumber e.words
 
-pub ends_separator : Ends 120
+pub ends_separator : Ends SEPARATOR
 ends_separator = λ digit. omega arith
 
 -- the text behind the first separator
 abbrev pub behind_modules : Extent → List ℕ
-behind_modules e = number e.blocks 120 ++ decimal e.words
+behind_modules e = number e.blocks SEPARATOR ++ decimal e.words
 
-pub shape_parts : (e : Extent) → shape_text e ≡ number e.modules 120 ++ behind_modules e
+pub shape_parts : (e : Extent) → shape_text e ≡ number e.modules SEPARATOR ++ behind_modules e
 shape_parts e = simp append_assoc
 
 pub of_shape : (e : Extent) → IsShape e → AreNumbers e
@@ -33,18 +34,18 @@ same_extent : (a b : Extent) → a.modules ≡ b.modules → a.blocks ≡ b.bloc
 same_extent a b m k w = ap (λ (x : ℕ). extent x a.blocks a.words) m ∙ ap (λ (x : ℕ). extent b.modules x a.words) k ∙ ap (λ (x : ℕ). extent b.modules b.blocks x) w
 
 -- the parts that were read are those of each shape that the text spells
-pub to_modules : (text : List ℕ) (m : ℕ) (rest : List ℕ) (b : Extent) → IsNumber m × (text ≡ number m 120 ++ rest) → AreNumbers b → text ≡ shape_text b → (m ≡ b.modules) × (rest ≡ behind_modules b)
-to_modules text m rest b read fits whole = one_number m b.modules 120 rest (behind_modules b) read.0 fits.modules ends_separator (sym read.1 ∙ whole ∙ shape_parts b)
+pub to_modules : (text : List ℕ) (m : ℕ) (rest : List ℕ) (b : Extent) → IsNumber m × (text ≡ number m SEPARATOR ++ rest) → AreNumbers b → text ≡ shape_text b → (m ≡ b.modules) × (rest ≡ behind_modules b)
+to_modules text m rest b read fits whole = one_number m b.modules SEPARATOR rest (behind_modules b) read.0 fits.modules ends_separator (sym read.1 ∙ whole ∙ shape_parts b)
 
-pub to_blocks : (text : List ℕ) (m k : ℕ) (rest more : List ℕ) (b : Extent) → IsNumber m × (text ≡ number m 120 ++ rest) → IsNumber k × (rest ≡ number k 120 ++ more) → AreNumbers b → text ≡ shape_text b → (m ≡ b.modules) × (k ≡ b.blocks) × (more ≡ decimal b.words)
+pub to_blocks : (text : List ℕ) (m k : ℕ) (rest more : List ℕ) (b : Extent) → IsNumber m × (text ≡ number m SEPARATOR ++ rest) → IsNumber k × (rest ≡ number k SEPARATOR ++ more) → AreNumbers b → text ≡ shape_text b → (m ≡ b.modules) × (k ≡ b.blocks) × (more ≡ decimal b.words)
 to_blocks text m k rest more b read next fits whole =
     let p = to_modules text m rest b read fits whole in
-    let q = one_number k b.blocks 120 more (decimal b.words) next.0 fits.blocks ends_separator (sym next.1 ∙ p.1) in
+    let q = one_number k b.blocks SEPARATOR more (decimal b.words) next.0 fits.blocks ends_separator (sym next.1 ∙ p.1) in
     (p.0, q.0, q.1)
 
-pub spelled : (text : List ℕ) (m k w : ℕ) (rest more : List ℕ) → text ≡ number m 120 ++ rest → rest ≡ number k 120 ++ more → more ≡ decimal w → text ≡ shape_text (extent m k w)
+pub spelled : (text : List ℕ) (m k w : ℕ) (rest more : List ℕ) → text ≡ number m SEPARATOR ++ rest → rest ≡ number k SEPARATOR ++ more → more ≡ decimal w → text ≡ shape_text (extent m k w)
 spelled text m k w rest more a b c =
-    a ∙ ap (λ (x : List ℕ). number m 120 ++ x) (b ∙ ap (λ (x : List ℕ). number k 120 ++ x) c) ∙ sym (shape_parts (extent m k w))
+    a ∙ ap (λ (x : List ℕ). number m SEPARATOR ++ x) (b ∙ ap (λ (x : List ℕ). number k SEPARATOR ++ x) c) ∙ sym (shape_parts (extent m k w))
 
 pub one_extent : (text : List ℕ) (a b : Extent) → AreNumbers a → AreNumbers b → text ≡ shape_text a → text ≡ shape_text b → a ≡ b
 one_extent text a b fa fb ta tb =

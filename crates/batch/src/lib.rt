@@ -19,7 +19,7 @@ mod writing;
 pub use batch::Batch;
 pub use fault::{BatchFault, ShapeFault};
 pub use limits::{MAX_BLOCKS, MAX_DIGITS, MAX_MODULES, MAX_TRANSFERS, MAX_WORDS};
-pub use reading::number_from_digits;
+pub use reading::{number_from_digits, position_of};
 pub use shape::Shape;
 pub use transfer::{Kind, Place, Transfer};
 

@@ -37,8 +37,9 @@ pub fn number_from_digits(digits: &[u8]) -> Option<usize>
     Some(n)
 }
 
-/// Where a byte stands first.
-fn first_place(bytes: &[u8], byte: u8) -> Option<usize>
+/// Where a byte stands first, counted from 0, or `None` where it doesn't stand. Takes time that grows
+/// with the number of bytes before it.
+pub fn position_of(bytes: &[u8], byte: u8) -> Option<usize>
     ensures { result ≡ position (λ b. b == byte) bytes.now }
 {
     bytes.iter().position(|b| *b == byte)
@@ -50,7 +51,7 @@ pub(crate) fn number_before(bytes: &[u8], end: u8) -> Option<(usize, &[u8])>
     ensures some { IfSome result (λ x. IsNumber x.0 × (bytes.now ≡ number x.0 end ++ x.1.now)) }
     ensures none { IfNone result (BeginsWithNoNumber bytes.now end) }
 {
-    let at = first_place(bytes, end)?;
+    let at = position_of(bytes, end)?;
     let n = number_from_digits(&bytes[..at])?;
     Some((n, &bytes[at + 1..]))
 }
