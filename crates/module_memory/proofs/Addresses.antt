@@ -9,7 +9,7 @@ use Rattle.module_memory.proofs.Blocks.{IsWhole-set, block_length, block_of-set_
 use Rattle.module_memory.specs.declared.fault.MemoryFault.{MemoryFault}
 use Rattle.module_memory.specs.declared.fault.MemoryFault.TheVariants.{NoModule, Misaligned, Outside}
 use Rattle.module_memory.specs.declared.address.TheConstants.{WINDOW_START, WORD_BYTES}
-use Rattle.module_memory.specs.Address.{address_of, word_number, place_of, index_of, fault_of, write_at, IsAddress, WindowsAreWhole, AddressesAreKnown, WritesAreKept, WritesAreApart}
+use Rattle.module_memory.specs.Address.{address_of, word_number, place_of, word_index, fault_of, write_at, IsAddress, WindowsAreWhole, AddressesAreKnown, WritesAreKept, WritesAreApart}
 use Rattle.batch.proofs.Places.{place_from_parts, place_index_below}
 
 -- a fault is there or isn't
@@ -72,7 +72,7 @@ block_there s m a p j h d = (omega (arith, place_index_below s.shape p d.place, 
 pub writes_are_kept : WritesAreKept
 writes_are_kept s m a w h e =
     let p = place_of s.shape m a in
-    let j = index_of s.shape a in
+    let j = word_index s.shape a in
     let d = windows_are_whole s.shape m a h.within e in
     let there = block_there s m a p j h d in
     let words = set (block_of s p) j w in (
@@ -81,7 +81,7 @@ writes_are_kept s m a w h e =
     )
 
 -- another word is at another place or at another position
-other_word : (s : Store) (m a n b : ℕ) → IsShape s.shape → fault_of s.shape m a ≡ None → fault_of s.shape n b ≡ None → (m ≢ n) ⊎ (a ≢ b) → place_of s.shape n b ≡ place_of s.shape m a → index_of s.shape b ≡ index_of s.shape a → ⊥
+other_word : (s : Store) (m a n b : ℕ) → IsShape s.shape → fault_of s.shape m a ≡ None → fault_of s.shape n b ≡ None → (m ≢ n) ⊎ (a ≢ b) → place_of s.shape n b ≡ place_of s.shape m a → word_index s.shape b ≡ word_index s.shape a → ⊥
 other_word s m a n b h e f (inl other) same index = other (sym (ap (λ (p : Place). p.«module») same))
 other_word s m a n b h e f (inr other) same index =
     let d = windows_are_whole s.shape m a h e in
@@ -92,8 +92,8 @@ pub writes_are_apart : WritesAreApart
 writes_are_apart s m a n b w h e f differ =
     let p = place_of s.shape m a in
     let q = place_of s.shape n b in
-    let i = index_of s.shape a in
-    let j = index_of s.shape b in
+    let i = word_index s.shape a in
+    let j = word_index s.shape b in
     let d = windows_are_whole s.shape m a h.within e in
     let g = windows_are_whole s.shape n b h.within f in
     let words = set (block_of s p) i w in

@@ -22,8 +22,8 @@ abbrev pub place_of : Extent → ℕ → ℕ → Place
 place_of shape m a = record { «module» = m; block = word_number a / shape.words }
 
 -- which word of its block an address is
-abbrev pub index_of : Extent → ℕ → ℕ
-index_of shape a = word_number a % shape.words
+abbrev pub word_index : Extent → ℕ → ℕ
+word_index shape a = word_number a % shape.words
 
 -- the address is in the window of a module
 abbrev pub is_inside : Extent → ℕ → Bool
@@ -38,11 +38,31 @@ fault_of shape m a =
 
 -- the word at an address of a module
 abbrev pub word_at : Store → ℕ → ℕ → ℕ
-word_at s m a = word s (place_of s.shape m a) (index_of s.shape a)
+word_at s m a = word s (place_of s.shape m a) (word_index s.shape a)
 
 -- the store with this word at an address of a module, and all else as it was
 abbrev pub write_at : Store → ℕ → ℕ → ℕ → Store
-write_at s m a w = set_word s (place_of s.shape m a) (index_of s.shape a) w
+write_at s m a w = set_word s (place_of s.shape m a) (word_index s.shape a) w
+
+-- why there is no word at an address of a module
+abbrev pub IsMemoryFault : Store → ℕ → ℕ → MemoryFault → Type 0
+IsMemoryFault s m a fault = fault_of s.shape m a ≡ Some fault
+
+-- there is a word at an address of a module, and it is this one
+abbrev pub IsWordAt : Store → ℕ → ℕ → ℕ → Type 0
+IsWordAt s m a w = (fault_of s.shape m a ≡ None) × (w ≡ word_at s m a)
+
+-- there is a word at an address of a module, and the new store has this one there
+abbrev pub IsWrittenAt : Store → ℕ → ℕ → ℕ → Store → Type 0
+IsWrittenAt old m a w new = (fault_of old.shape m a ≡ None) × (new ≡ write_at old m a w)
+
+-- the place of a block and the position in it are those of an address of a module
+pub record IsSiteOf (shape : Extent) (m a : ℕ) (place : Place) (position : ℕ) : Type 0 where
+  pub no_fault : fault_of shape m a ≡ None
+  pub place_is : place ≡ place_of shape m a
+  pub position_is : position ≡ word_index shape a
+  pub exists : HasPlace shape place
+  pub within : position < shape.words
 
 -- an address of module m is that of word j of a block of the module
 pub record IsAddress (shape : Extent) (m a : ℕ) (p : Place) (j : ℕ) : Type 0 where
@@ -53,11 +73,11 @@ pub record IsAddress (shape : Extent) (m a : ℕ) (p : Place) (j : ℕ) : Type 0
 
 -- an address without a fault is that of a word of a block
 abbrev pub WindowsAreWhole : Type 0
-WindowsAreWhole = (shape : Extent) (m a : ℕ) → IsShape shape → fault_of shape m a ≡ None → IsAddress shape m a (place_of shape m a) (index_of shape a)
+WindowsAreWhole = (shape : Extent) (m a : ℕ) → IsShape shape → fault_of shape m a ≡ None → IsAddress shape m a (place_of shape m a) (word_index shape a)
 
 -- the address of a word of a block has no fault, and is that of no other word
 abbrev pub AddressesAreKnown : Type 0
-AddressesAreKnown = (shape : Extent) (m a j : ℕ) (p : Place) → IsShape shape → IsAddress shape m a p j → (fault_of shape m a ≡ None) × (place_of shape m a ≡ p) × (index_of shape a ≡ j)
+AddressesAreKnown = (shape : Extent) (m a j : ℕ) (p : Place) → IsShape shape → IsAddress shape m a p j → (fault_of shape m a ≡ None) × (place_of shape m a ≡ p) × (word_index shape a ≡ j)
 
 -- a write changes the word at its address, and keeps the store whole
 abbrev pub WritesAreKept : Type 0

@@ -1,5 +1,5 @@
 -- A rack of which some blocks are lent: bays that own the words of their blocks, and the rest. This project's choice.
-use Rattle.std.specs.Prelude.{ℕ, ◌≡◌, ◌≢◌, ◌<◌, List, [], ◌∷◌, length, map, slice_index_or, All}
+use Rattle.std.specs.Prelude.{ℕ, ◌≡◌, ◌≢◌, ◌<◌, List, [], ◌∷◌, length, map, slice_index_or, slice_set, All}
 use Rattle.batch.specs.Extent.{Extent}
 use Rattle.batch.specs.declared.transfer.Place.{Place}
 use Rattle.batch.specs.Places.{HasPlace}
@@ -11,6 +11,10 @@ use Rattle.module_memory.specs.Store.{Store, IsWhole, block_of, set_block}
 pub record Lent : Type 0 where
   pub place : Place
   pub words : List ℕ
+
+-- the same with this word as word j
+abbrev pub with_word : Lent → ℕ → ℕ → Lent
+with_word b j w = record { place = b.place; words = slice_set b.words j w }
 
 -- the place at a position of a list; past the end, one that no clause speaks of
 abbrev pub place_in : List Place → ℕ → Place
@@ -36,6 +40,26 @@ DifferBefore places i = (j k : ℕ) → j < k → k < i → place_in places j �
 abbrev pub StandsBefore : List Place → ℕ → Type 0
 StandsBefore places i = (k : ℕ) × (k < i) × (place_in places k ≡ place_in places i)
 
+-- the place is one of these
+abbrev pub StandsIn : List Place → Place → Type 0
+StandsIn places place = (k : ℕ) × (k < length places) × (place_in places k ≡ place)
+
+-- the place is none of these
+abbrev pub IsNoneOf : List Place → Place → Type 0
+IsNoneOf places place = (k : ℕ) → k < length places → place_in places k ≢ place
+
+-- the first of the places that doesn't exist
+pub record IsFirstMissing (shape : Extent) (places : List Place) (i : ℕ) : Type 0 where
+  pub within : i < length places
+  pub missing : HasPlace shape (place_in places i) → ⊥
+  pub before : ExistBefore shape places i
+
+-- the first of the places that stands before too
+pub record IsFirstRepeated (places : List Place) (i : ℕ) : Type 0 where
+  pub within : i < length places
+  pub again : StandsBefore places i
+  pub before : DifferBefore places i
+
 -- the places exist, and no two are one
 pub record AreLendable (shape : Extent) (places : List Place) : Type 0 where
   pub exist : ExistBefore shape places (length places)
@@ -44,8 +68,8 @@ pub record AreLendable (shape : Extent) (places : List Place) : Type 0 where
 -- The first place at fault. That a place doesn't exist is looked at first, over all places, and memory is asked for last, where
 -- there is something to lend.
 abbrev pub IsLendFault : Extent → List Place → LendFault → Type 0
-IsLendFault shape places (NoPlace i) = (i < length places) × (HasPlace shape (place_in places i) → ⊥) × ExistBefore shape places i
-IsLendFault shape places (SamePlace i) = ExistBefore shape places (length places) × (i < length places) × StandsBefore places i × DifferBefore places i
+IsLendFault shape places (NoPlace i) = IsFirstMissing shape places i
+IsLendFault shape places (SamePlace i) = ExistBefore shape places (length places) × IsFirstRepeated places i
 IsLendFault shape places NoMemory = AreLendable shape places × (0 < length places)
 
 -- the bays of these places

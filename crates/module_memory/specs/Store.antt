@@ -1,13 +1,19 @@
 -- The words of a rack's modules. The blocks and their order are this project's choice.
-use Rattle.std.specs.Prelude.{ℕ, ◌≡◌, ◌<◌, ◌*◌, List, [], length, slice_index, slice_index_or, slice_set, replicate}
+use Rattle.std.specs.Prelude.{ℕ, ◌≡◌, ◌<◌, ◌*◌, List, [], length, slice_index, slice_index_or, slice_get, slice_set, replicate, Option}
 use Rattle.batch.specs.Extent.{Extent, IsShape}
 use Rattle.batch.specs.declared.transfer.Place.{Place}
-use Rattle.batch.specs.Places.{place_index}
+use Rattle.batch.specs.Places.{HasPlace, place_index}
 
 -- the words of each block of a rack, the blocks by module and then by block
 pub record Store : Type 0 where
   pub shape : Extent
   pub blocks : List (List ℕ)
+
+-- the block is one of the shape, and stands here among all its blocks
+pub record IsIndexOf (shape : Extent) (p : Place) (k : ℕ) : Type 0 where
+  pub exists : HasPlace shape p
+  pub index : k ≡ place_index shape p
+  pub below : k < shape.modules * shape.blocks
 
 -- the words of a block
 abbrev pub block_of : Store → Place → List ℕ
@@ -16,6 +22,10 @@ block_of s p = slice_index_or s.blocks (place_index s.shape p) []
 -- word j of a block
 abbrev pub word : Store → Place → ℕ → ℕ
 word s p j = slice_index (block_of s p) j
+
+-- word j of a block, where there is one
+abbrev pub find_word : Store → Place → ℕ → Option ℕ
+find_word s p j = slice_get (block_of s p) j
 
 -- the store with these words in a block, and all else as it was
 abbrev pub set_block : Store → Place → List ℕ → Store

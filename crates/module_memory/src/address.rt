@@ -3,7 +3,8 @@
 ghost use Rattle.std.specs.Prelude.{◌≡◌, ◌<◌, ◌*◌, Some, None, MatchOption, MatchResult};
 ghost use Rattle.batch.specs.Extent.{IsShape};
 ghost use Rattle.batch.specs.Places.{HasPlace, place_index};
-ghost use Rattle.module_memory.specs.Address.{fault_of, place_of, index_of as word_index};
+ghost use Rattle.module_memory.specs.Store.{IsIndexOf};
+ghost use Rattle.module_memory.specs.Address.{IsSiteOf, fault_of};
 
 use crate::fault::MemoryFault;
 use batch::{Place, Shape};
@@ -33,8 +34,8 @@ pub fn block_index(shape: Shape, place: Place) -> usize
 }
 
 /// Where a block stands among all blocks, where the shape has it.
-pub fn index_of(shape: Shape, place: Place) -> Option<usize>
-    ensures value { MatchOption result (HasPlace shape place → ⊥) (λ k. HasPlace shape place × (k ≡ place_index shape place) × (k < shape.modules * shape.blocks)) }
+pub fn find_block(shape: Shape, place: Place) -> Option<usize>
+    ensures value { MatchOption result (HasPlace shape place → ⊥) (IsIndexOf shape place) }
     ensures within { IsShape shape }
 {
     if place.module < shape.modules() && place.block < shape.blocks() {
@@ -47,8 +48,8 @@ pub fn index_of(shape: Shape, place: Place) -> Option<usize>
 /// The word that stands at an address of a module.
 pub fn site_of(shape: Shape, module: usize, address: u32) -> Result<Site, MemoryFault>
     ensures { MatchResult result
-        (λ s. (fault_of shape «module» address ≡ None) × (s.place ≡ place_of shape «module» address) × (s.word ≡ word_index shape address) × HasPlace shape s.place × (s.word < shape.words))
-        (λ e. fault_of shape «module» address ≡ Some e) }
+        (λ site. IsSiteOf shape «module» address site.place site.word)
+        (λ fault. fault_of shape «module» address ≡ Some fault) }
 {
     let words = shape.words();
     let all_words = shape.blocks() * words;

@@ -1,10 +1,9 @@
 //! Whether blocks can be lent.
 
-ghost use Rattle.std.specs.Prelude.{◌≡◌, ◌≢◌, ℕ, ◌<◌, true, false, length, MatchOption};
-ghost use Rattle.batch.specs.Places.{HasPlace};
-ghost use Rattle.module_memory.specs.Lending.{AreLendable, DifferBefore, ExistBefore, IsLendFault, StandsBefore, place_in};
+ghost use Rattle.std.specs.Prelude.{◌≡◌, true, false, length, MatchOption};
+ghost use Rattle.module_memory.specs.Lending.{AreLendable, DifferBefore, ExistBefore, IsFirstMissing, IsFirstRepeated, IsLendFault, IsNoneOf, StandsIn};
 
-use crate::address::index_of;
+use crate::address::find_block;
 use crate::fault::LendFault;
 use batch::{Place, Shape};
 
@@ -12,10 +11,10 @@ use batch::{Place, Shape};
 fn first_missing(shape: Shape, places: &[Place]) -> Option<usize>
     ensures { MatchOption result
         (ExistBefore shape places.now (length places.now))
-        (λ i. (i < length places.now) × (HasPlace shape (place_in places.now i) → ⊥) × ExistBefore shape places.now i) }
+        (IsFirstMissing shape places.now) }
 {
     for (i, place) in places.iter().enumerate() {
-        if index_of(shape, *place).is_none() {
+        if find_block(shape, *place).is_none() {
             return Some(i);
         }
     }
@@ -24,8 +23,8 @@ fn first_missing(shape: Shape, places: &[Place]) -> Option<usize>
 
 /// Whether a place is one of these.
 fn is_among(places: &[Place], place: Place) -> bool
-    ensures yes { result ≡ true → (k : ℕ) × (k < length places.now) × (place_in places.now k ≡ place) }
-    ensures no { result ≡ false → (k : ℕ) → k < length places.now → place_in places.now k ≢ place }
+    ensures yes { result ≡ true → StandsIn places.now place }
+    ensures no { result ≡ false → IsNoneOf places.now place }
 {
     for other in places {
         if *other == place {
@@ -39,7 +38,7 @@ fn is_among(places: &[Place], place: Place) -> bool
 fn first_repeated(places: &[Place]) -> Option<usize>
     ensures { MatchOption result
         (DifferBefore places.now (length places.now))
-        (λ i. (i < length places.now) × StandsBefore places.now i × DifferBefore places.now i) }
+        (IsFirstRepeated places.now) }
 {
     for i in 0..places.len() {
         if is_among(&places[..i], places[i]) {
@@ -51,7 +50,7 @@ fn first_repeated(places: &[Place]) -> Option<usize>
 
 /// Why these places can't be lent, memory aside.
 pub fn lend_fault(shape: Shape, places: &[Place]) -> Option<LendFault>
-    ensures { MatchOption result (AreLendable shape places.now) (λ e. IsLendFault shape places.now e) }
+    ensures { MatchOption result (AreLendable shape places.now) (IsLendFault shape places.now) }
 {
     if let Some(i) = first_missing(shape, places) {
         return Some(LendFault::NoPlace(i));

@@ -1,12 +1,12 @@
 //! A rack of which some blocks are lent.
 
-ghost use Rattle.std.specs.Prelude.{◌≡◌, ◌<◌, ◌*◌, [], length, slice_set, slice_get, None};
+ghost use Rattle.std.specs.Prelude.{◌≡◌, ◌<◌, ◌*◌, [], length, slice_get, None};
 ghost use Rattle.batch.specs.Extent.{IsShape};
 ghost use Rattle.batch.specs.Places.{HasPlace};
-ghost use Rattle.module_memory.specs.Store.{block_of, set_block};
-ghost use Rattle.module_memory.specs.Lending.{Rejoins, joined};
+ghost use Rattle.module_memory.specs.Store.{block_of, find_word, set_block};
+ghost use Rattle.module_memory.specs.Lending.{Rejoins, joined, with_word};
 
-use crate::address::{block_index, index_of};
+use crate::address::{block_index, find_block};
 use crate::block::Block;
 use crate::rack::Rack;
 use batch::{Place, Shape};
@@ -78,7 +78,7 @@ impl Bay {
     /// Writes word `j`, which there has to be.
     pub fn set(&mut self, j: usize, word: u32)
         requires { j < length self.old.words }
-        ensures { self.new ≡ record { place = self.old.place; words = slice_set self.old.words j word } }
+        ensures { self.new ≡ with_word self.old j word }
     {
         self.block.set(j, word);
     }
@@ -105,9 +105,9 @@ impl Rest {
     pub fn word(&self, place: Place, j: usize) -> Option<u32>
         ensures missing { (HasPlace self.now.shape place → ⊥) → result ≡ None }
         // A lent block has no words here.
-        ensures there { HasPlace self.now.shape place → result ≡ slice_get (block_of self.now place) j }
+        ensures there { HasPlace self.now.shape place → result ≡ find_word self.now place j }
     {
-        let index = index_of(self.shape, place)?;
+        let index = find_block(self.shape, place)?;
         let block = &self.blocks[index];
         block.word(j)
     }

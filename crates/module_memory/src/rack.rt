@@ -1,14 +1,14 @@
 //! The memories of all modules.
 
-ghost use Rattle.std.specs.Prelude.{◌≡◌, Some, None, IfOk, IfErr, MatchOption, MatchResult};
+ghost use Rattle.std.specs.Prelude.{◌≡◌, IfOk, IfErr, MatchOption, MatchResult};
 ghost use Rattle.batch.specs.Places.{HasPlace};
 ghost use Rattle.module_memory.specs.Store.{IsWhole, block_of, zeros_of};
-ghost use Rattle.module_memory.specs.Address.{fault_of, word_at, write_at};
+ghost use Rattle.module_memory.specs.Address.{IsMemoryFault, IsWordAt, IsWrittenAt};
 ghost use Rattle.module_memory.specs.Mark.{IsMarked};
 ghost use Rattle.module_memory.specs.Lending.{AreLendable, IsLendFault, bays_of, without, joined, Rejoins};
 ghost use Rattle.module_memory.specs.Bays.{AreLent};
 
-use crate::address::{block_index, index_of, site_of};
+use crate::address::{block_index, find_block, site_of};
 use crate::block::Block;
 use crate::fault::{LendFault, MemoryFault};
 use crate::lendable::lend_fault;
@@ -78,7 +78,7 @@ impl Rack {
             (HasPlace self.now.shape place → ⊥)
             (λ words. HasPlace self.now.shape place × (words.now ≡ block_of self.now place)) }
     {
-        let index = index_of(self.shape, place)?;
+        let index = find_block(self.shape, place)?;
         let block = &self.blocks[index];
         Some(block.as_slice())
     }
@@ -113,8 +113,8 @@ impl Rack {
     /// The word at an address, in bytes, of a module, counted from 0; or the first cause why there is none.
     pub fn read(&self, module: usize, address: u32) -> Result<u32, MemoryFault>
         ensures { MatchResult result
-            (λ word. (fault_of self.now.shape «module» address ≡ None) × (word ≡ word_at self.now «module» address))
-            (λ fault. fault_of self.now.shape «module» address ≡ Some fault) }
+            (IsWordAt self.now «module» address)
+            (IsMemoryFault self.now «module» address) }
     {
         let site = site_of(self.shape, module, address)?;
         let index = block_index(self.shape, site.place);
@@ -126,8 +126,8 @@ impl Rack {
     /// cause, and nothing is changed.
     pub fn write(&mut self, module: usize, address: u32, word: u32) -> Result<(), MemoryFault>
         ensures { MatchResult result
-            (λ _. (fault_of self.old.shape «module» address ≡ None) × (self.new ≡ write_at self.old «module» address word))
-            (λ fault. (fault_of self.old.shape «module» address ≡ Some fault) × (self.new ≡ self.old)) }
+            (λ _. IsWrittenAt self.old «module» address word self.new)
+            (λ fault. IsMemoryFault self.old «module» address fault × (self.new ≡ self.old)) }
     {
         let site = site_of(self.shape, module, address)?;
         let index = block_index(self.shape, site.place);
