@@ -5,7 +5,10 @@ ghost use Rattle.batch.specs.ShapeText.{shape_text};
 ghost use Rattle.batch.specs.Places.{source_of, destination_of};
 ghost use Rattle.batch.specs.Rows.{pull, three_transfers, three_transfers_text};
 
-use crate::{Batch, BatchFault, MAX_TRANSFERS, Place, Shape, ShapeFault};
+use crate::{
+    Batch, BatchFault, MAX_BLOCKS, MAX_DIGITS, MAX_MODULES, MAX_TRANSFERS, MAX_WORDS, Place, Shape,
+    ShapeFault, position_of,
+};
 use std::alloc::{AllocError, Global};
 use std::test::Fail;
 
@@ -51,6 +54,8 @@ fn batch_refusals(rt: HostRuntime) {
         ("batch 1\npush 0 0 1\n", BatchFault::Line(2)),
         ("batch 1\npush 0 0 1 0", BatchFault::Line(2)),
         ("batch 1\npush 16 0 0 0\n", BatchFault::NoModule(0)),
+        ("batch 1\npush 999999999 0 0 0\n", BatchFault::NoModule(0)),
+        ("batch 1\npush 1000000000 0 0 0\n", BatchFault::Line(2)),
         ("batch 1\npush 0 64 0 0\n", BatchFault::NoBlock(0)),
         ("batch 2\npush 0 0 1 0\n", BatchFault::Count),
         ("batch 0\nx", BatchFault::Count),
@@ -97,6 +102,36 @@ fn transfers_have_places(rt: HostRuntime) -> Result<(), Fail> {
     Ok(())
 }
 
+/// What a batch text has: how many transfers go from a module, by each way to go over them, and whether
+/// it has none.
+fn from_module(
+    alloc: Global,
+    text: &str,
+    module: usize,
+) -> Result<(usize, usize, bool), BatchFault> {
+    let batch = Batch::read(alloc, text.as_bytes(), Shape::WIDEST)?;
+    let by_iter = batch.iter().filter(|t| t.initiator == module).count();
+    let by_slice = batch
+        .as_slice()
+        .iter()
+        .filter(|t| t.initiator == module)
+        .count();
+    Ok((by_iter, by_slice, batch.is_empty()))
+}
+
+#[test]
+fn transfers_are_gone_over(rt: HostRuntime) {
+    let text = "batch 3\npush 0 0 1 0\npush 0 1 2 0\npush 1 1 2 1\n";
+    assert_eq!(rt; from_module(rt.alloc(), text, 0), Ok((2, 2, false)));
+    assert_eq!(rt; from_module(rt.alloc(), "batch 0\n", 0), Ok((0, 0, true)));
+}
+
+#[test]
+fn bytes_have_positions(rt: HostRuntime) {
+    assert_eq!(rt; position_of(b"3x2x2", b'x'), Some(1));
+    assert_eq!(rt; position_of(b"3x2x2", b'\n'), None);
+}
+
 /// The first two transfers of a batch text that overlap.
 fn overlap(alloc: Global, text: &str) -> Result<Option<(usize, usize)>, BatchFault> {
     let batch = Batch::read(alloc, text.as_bytes(), Shape::WIDEST)?;
@@ -131,6 +166,12 @@ fn shapes_have_limits(rt: HostRuntime) -> Result<(), Fail> {
         );
     }
     Ok(())
+}
+
+#[test]
+fn sizes_have_numbers(rt: HostRuntime) {
+    assert_eq!(rt; (MAX_MODULES, MAX_BLOCKS, MAX_WORDS), (16, 64, 256));
+    assert_eq!(rt; (MAX_TRANSFERS, MAX_DIGITS), (4096, 9));
 }
 
 #[test]

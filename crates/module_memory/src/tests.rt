@@ -1,6 +1,6 @@
 //! The worked rows, printed faults and each call that takes memory.
 
-use crate::{LendFault, MemoryFault, Rack, WINDOW_START};
+use crate::{BLOCK_MARK, LendFault, MODULE_MARK, MemoryFault, Rack, WINDOW_START, WORD_BYTES};
 use batch::{Place, Shape};
 use std::test::Fail;
 
@@ -21,6 +21,12 @@ fn racks_are_read_and_written(rt: HostRuntime) -> Result<(), Fail> {
     assert_eq!(rt; rack.block(place(1, 2)), None);
     assert_eq!(rt; rack.shape(), Shape::new(3, 2, 2)?);
     Ok(())
+}
+
+#[test]
+fn sizes_have_numbers(rt: HostRuntime) {
+    assert_eq!(rt; (WINDOW_START, WORD_BYTES), (0x8000_0800, 4));
+    assert_eq!(rt; (MODULE_MARK, BLOCK_MARK), (0x0001_0000, 0x0100));
 }
 
 #[test]
