@@ -9,7 +9,7 @@ use Rattle.batch.specs.Places.{HasPlace, place_index}
 use Rattle.batch.specs.Overlap.{source_at, destination_at}
 use Rattle.module_memory.specs.Store.{Store, block_of, set_block}
 use Rattle.module_memory.specs.Core.{IsMoved}
-use Rattle.module_memory.specs.Lending.{Lent, place_in, bay_in, places_of, AreLendable, joined}
+use Rattle.module_memory.specs.Lending.{BlockAt, place_in, bay_in, places_of, AreLendable, joined}
 use Rattle.module_memory.specs.Bays.{AreLent, AreSamePlaces, BaysHoldTheCounts, BaysStayLent, BaysStayWhole, BlocksAreWide, LentBlockIsGone, LentBlockIsItsBay, OtherBlockIsTheRest, SetIsOneWord}
 use Rattle.batch.specs.Extent.{IsShape}
 use Rattle.batch.proofs.Places.{place_at, place_index-place_at, HasPlace-place_at}
@@ -17,20 +17,20 @@ use Rattle.module_memory.proofs.Blocks.{block_at, block_length}
 use Rattle.batch.proofs.Places.{place_index_below, same_place_from_index}
 use Rattle.module_memory.proofs.PartLaws.{IsOnce, IsOff, IsOnce-from_lendable, block_of-without_lent, block_of-joined_off, block_of-joined_bay, joined-set_word}
 
-pub shape-joined : (s : Store) (bays : List Lent) → (joined s bays).shape ≡ s.shape
+pub shape-joined : (s : Store) (bays : List BlockAt) → (joined s bays).shape ≡ s.shape
 shape-joined s [] = refl
 shape-joined s (b ∷ bays) = shape-joined (set_block s b.place b.words) bays
 
-pub length-joined : (s : Store) (bays : List Lent) → length (joined s bays).blocks ≡ length s.blocks
+pub length-joined : (s : Store) (bays : List BlockAt) → length (joined s bays).blocks ≡ length s.blocks
 length-joined s [] = refl
 length-joined s (b ∷ bays) = length-joined (set_block s b.place b.words) bays ∙ length-set s.blocks _ _
 
-off_more : (s : Extent) (b : Lent) (bays : List Lent) (p : Place) → (place_index s b.place ≡ place_index s p → ⊥) → IsOff s (places_of bays) p → (k : ℕ) → k < length (b.place ∷ places_of bays) → place_index s (get_or (b.place ∷ places_of bays) k (record { «module» = 0; block = 0 })) ≢ place_index s p
+off_more : (s : Extent) (b : BlockAt) (bays : List BlockAt) (p : Place) → (place_index s b.place ≡ place_index s p → ⊥) → IsOff s (places_of bays) p → (k : ℕ) → k < length (b.place ∷ places_of bays) → place_index s (get_or (b.place ∷ places_of bays) k (record { «module» = 0; block = 0 })) ≢ place_index s p
 off_more s b bays p n o zero l = n
 off_more s b bays p n o (suc k) l = o k (omega arith)
 
 -- a bay at this index, or none
-find_bay : (s : Extent) (bays : List Lent) (p : Place) → ((k : ℕ) × (k < length bays) × (place_index s (bay_in bays k).place ≡ place_index s p)) ⊎ IsOff s (places_of bays) p
+find_bay : (s : Extent) (bays : List BlockAt) (p : Place) → ((k : ℕ) × (k < length bays) × (place_index s (bay_in bays k).place ≡ place_index s p)) ⊎ IsOff s (places_of bays) p
 find_bay s [] p = inr (λ k l. absurd (omega arith))
 find_bay s (b ∷ bays) p =
     elim (cases_eq (place_index s b.place) (place_index s p)) [
@@ -42,7 +42,7 @@ find_bay s (b ∷ bays) p =
     ]
 
 -- what is known of bays in which a setting's words have moved
-record Moves (rest : Store) (bays new : List Lent) (first : ℕ) (ts : List Transfer) (moved : ℕ → ℕ) : Type 0 where
+record Moves (rest : Store) (bays new : List BlockAt) (first : ℕ) (ts : List Transfer) (moved : ℕ → ℕ) : Type 0 where
   once : IsOnce rest.shape (places_of bays)
   exist : (k : ℕ) → k < length bays → HasPlace rest.shape (bay_in bays k).place
   all_blocks : length rest.blocks ≡ rest.shape.modules * rest.shape.blocks
@@ -55,19 +55,19 @@ record Moves (rest : Store) (bays new : List Lent) (first : ℕ) (ts : List Tran
   others : (k : ℕ) → k < length bays → (k < first) ⊎ (first + length ts ≤ k) → (bay_in new k).words ≡ (bay_in bays k).words
 
 -- bays that stand where they stood have the same places
-places_same : (bays new : List Lent) → length new ≡ length bays → ((k : ℕ) → k < length bays → (bay_in new k).place ≡ (bay_in bays k).place) → places_of new ≡ places_of bays
+places_same : (bays new : List BlockAt) → length new ≡ length bays → ((k : ℕ) → k < length bays → (bay_in new k).place ≡ (bay_in bays k).place) → places_of new ≡ places_of bays
 places_same bays new e h =
-    same_lists (places_of new) (places_of bays) (omega (arith, length-map new (λ (b : Lent). b.place), length-map bays (λ (b : Lent). b.place)))
+    same_lists (places_of new) (places_of bays) (omega (arith, length-map new (λ (b : BlockAt). b.place), length-map bays (λ (b : BlockAt). b.place)))
     (λ k d l.
-    let below : k < length bays = omega (arith, length-map new (λ (b : Lent). b.place)) in
-    get_or-map (λ (b : Lent). b.place) new k _ d (omega arith) ∙ h k below ∙ sym (get_or-map (λ (b : Lent). b.place) bays k _ d below))
+    let below : k < length bays = omega (arith, length-map new (λ (b : BlockAt). b.place)) in
+    get_or-map (λ (b : BlockAt). b.place) new k _ d (omega arith) ∙ h k below ∙ sym (get_or-map (λ (b : BlockAt). b.place) bays k _ d below))
 
 -- the block of a bay, in the store of the rest and the bays
-at_bay : (rest : Store) (bays : List Lent) (k : ℕ) → IsOnce rest.shape (places_of bays) → length rest.blocks ≡ rest.shape.modules * rest.shape.blocks → k < length bays → HasPlace rest.shape (bay_in bays k).place → block_of (joined rest bays) (bay_in bays k).place ≡ (bay_in bays k).words
+at_bay : (rest : Store) (bays : List BlockAt) (k : ℕ) → IsOnce rest.shape (places_of bays) → length rest.blocks ≡ rest.shape.modules * rest.shape.blocks → k < length bays → HasPlace rest.shape (bay_in bays k).place → block_of (joined rest bays) (bay_in bays k).place ≡ (bay_in bays k).words
 at_bay rest bays k once all l hp = block_of-joined_bay rest bays k once l (omega (arith, place_index_below rest.shape (bay_in bays k).place hp))
 
 -- a block that is no destination of the setting
-other_block : (rest : Store) (bays new : List Lent) (first : ℕ) (ts : List Transfer) (moved : ℕ → ℕ) → Moves rest bays new first ts moved → (p : Place) → HasPlace (joined rest bays).shape p → ((i : ℕ) → i < length ts → destination_at ts i ≢ p)
+other_block : (rest : Store) (bays new : List BlockAt) (first : ℕ) (ts : List Transfer) (moved : ℕ → ℕ) → Moves rest bays new first ts moved → (p : Place) → HasPlace (joined rest bays).shape p → ((i : ℕ) → i < length ts → destination_at ts i ≢ p)
     → ((k : ℕ) × (k < length bays) × (place_index rest.shape (bay_in bays k).place ≡ place_index rest.shape p)) ⊎ IsOff rest.shape (places_of bays) p
     → ((k : ℕ) → k < length bays → block_of (joined rest bays) (bay_in bays k).place ≡ (bay_in bays k).words)
     → ((k : ℕ) → k < length bays → block_of (joined rest new) (bay_in bays k).place ≡ (bay_in new k).words)
@@ -87,7 +87,7 @@ other_block rest bays new first ts moved h p hp none (inl f) old_bay new_bay pla
     ] in
     subst (λ (q : Place). block_of (joined rest new) q ≡ block_of (joined rest bays) q) at (new_bay k f.1 ∙ h.others k f.1 out ∙ sym (old_bay k f.1))
 
-setting_moved : (rest : Store) (bays new : List Lent) (first : ℕ) (ts : List Transfer) (moved : ℕ → ℕ) → Moves rest bays new first ts moved → IsMoved (joined rest bays) ts moved (joined rest new)
+setting_moved : (rest : Store) (bays new : List BlockAt) (first : ℕ) (ts : List Transfer) (moved : ℕ → ℕ) → Moves rest bays new first ts moved → IsMoved (joined rest bays) ts moved (joined rest new)
 setting_moved rest bays new first ts moved h =
     let places = places_same bays new h.same_length h.same_places in
     let once_new : IsOnce rest.shape (places_of new) = subst (IsOnce rest.shape) (sym places) h.once in
@@ -107,26 +107,26 @@ setting_moved rest bays new first ts moved h =
     }
 
 -- the place of a bay
-pub place_in-places_of : (bays : List Lent) (k : ℕ) → k < length bays → place_in (places_of bays) k ≡ (bay_in bays k).place
-place_in-places_of bays k l = get_or-map (λ (b : Lent). b.place) bays k _ _ l
+pub place_in-places_of : (bays : List BlockAt) (k : ℕ) → k < length bays → place_in (places_of bays) k ≡ (bay_in bays k).place
+place_in-places_of bays k l = get_or-map (λ (b : BlockAt). b.place) bays k _ _ l
 
-length-places_of : (bays : List Lent) → length (places_of bays) ≡ length bays
-length-places_of bays = length-map bays (λ (b : Lent). b.place)
+length-places_of : (bays : List BlockAt) → length (places_of bays) ≡ length bays
+length-places_of bays = length-map bays (λ (b : BlockAt). b.place)
 
 -- the places of bays that are lent
-once_of : (rest : Store) (bays : List Lent) → AreLent rest bays → IsOnce rest.shape (places_of bays)
+once_of : (rest : Store) (bays : List BlockAt) → AreLent rest bays → IsOnce rest.shape (places_of bays)
 once_of rest bays h = IsOnce-from_lendable rest.shape (places_of bays) h.lendable
 
-exist_of : (rest : Store) (bays : List Lent) → AreLent rest bays → (k : ℕ) → k < length bays → HasPlace rest.shape (bay_in bays k).place
+exist_of : (rest : Store) (bays : List BlockAt) → AreLent rest bays → (k : ℕ) → k < length bays → HasPlace rest.shape (bay_in bays k).place
 exist_of rest bays h k l = subst (HasPlace rest.shape) (place_in-places_of bays k l) (h.lendable.exist k (omega (arith, length-places_of bays)))
 
-off_of : (rest : Store) (bays : List Lent) (p : Place) → AreLent rest bays → HasPlace rest.shape p → ((k : ℕ) → k < length bays → (bay_in bays k).place ≢ p) → IsOff rest.shape (places_of bays) p
+off_of : (rest : Store) (bays : List BlockAt) (p : Place) → AreLent rest bays → HasPlace rest.shape p → ((k : ℕ) → k < length bays → (bay_in bays k).place ≢ p) → IsOff rest.shape (places_of bays) p
 off_of rest bays p h hp other = λ k l e.
     let below : k < length bays = omega (arith, length-places_of bays) in
     let at = place_in-places_of bays k below in
     other k below (same_place_from_index rest.shape (bay_in bays k).place p (exist_of rest bays h k below) hp (ap (place_index rest.shape) (sym at) ∙ e))
 
-room_of : (rest : Store) (bays : List Lent) → AreLent rest bays → (k : ℕ) → k < length bays → place_index rest.shape (bay_in bays k).place < length rest.blocks
+room_of : (rest : Store) (bays : List BlockAt) → AreLent rest bays → (k : ℕ) → k < length bays → place_index rest.shape (bay_in bays k).place < length rest.blocks
 room_of rest bays h k l = omega (arith, h.all_blocks, place_index_below rest.shape (bay_in bays k).place (exist_of rest bays h k l))
 
 pub lent_block : LentBlockIsItsBay
@@ -157,7 +157,7 @@ hold_the_counts rest old new first ts moved h f =
       others = f.others;
     })
 
-lent_still : (rest : Store) (old new : List Lent) → AreLent rest old → AreSamePlaces old new → AreLent rest new
+lent_still : (rest : Store) (old new : List BlockAt) → AreLent rest old → AreSamePlaces old new → AreLent rest new
 lent_still rest old new h s = record {
   lendable = subst (AreLendable rest.shape) (sym (places_same old new s.same_length s.same_places)) h.lendable;
   all_blocks = h.all_blocks;
@@ -175,7 +175,7 @@ stay_lent rest old new first ts h s = record {
 }
 
 -- the words of a block, in a store of bays and in another
-same_width : (rest : Store) (old new : List Lent) → AreLent rest old → AreSamePlaces old new → ((k : ℕ) → k < length old → length (bay_in new k).words ≡ length (bay_in old k).words) → (p : Place) → HasPlace rest.shape p → length (block_of (joined rest new) p) ≡ length (block_of (joined rest old) p)
+same_width : (rest : Store) (old new : List BlockAt) → AreLent rest old → AreSamePlaces old new → ((k : ℕ) → k < length old → length (bay_in new k).words ≡ length (bay_in old k).words) → (p : Place) → HasPlace rest.shape p → length (block_of (joined rest new) p) ≡ length (block_of (joined rest old) p)
 same_width rest old new h s w p hp =
     let places = places_same old new s.same_length s.same_places in
     elim (find_bay rest.shape old p) [
@@ -193,7 +193,7 @@ stay_whole rest old new h s w r = record {
   exist = λ k d l.
       let below : k < length old = omega (arith, s.same_length) in
       let found : get_or new k d ≡ bay_in new k = get_or_default new k d _ l in
-      subst (λ (b : Lent). HasPlace rest.shape b.place) (sym found) (subst (HasPlace rest.shape) (sym (s.same_places k below)) (exist_of rest old h k below));
+      subst (λ (b : BlockAt). HasPlace rest.shape b.place) (sym found) (subst (HasPlace rest.shape) (sym (s.same_places k below)) (exist_of rest old h k below));
   whole = record {
     within = subst IsShape (shape-joined rest old ∙ sym (shape-joined rest new)) r.whole.within;
     all_blocks = length-joined rest new ∙ (h.all_blocks ∙ ap (λ (x : Extent). x.modules * x.blocks) (sym (shape-joined rest new)));

@@ -5,7 +5,7 @@ use Rattle.batch.specs.Extent.{Extent}
 use Rattle.batch.specs.declared.transfer.Place.{Place}
 use Rattle.batch.specs.Places.{HasPlace, place_index}
 use Rattle.module_memory.specs.Store.{Store, IsWhole, block_of, set_block, set_word}
-use Rattle.module_memory.specs.Lending.{Lent, place_in, bay_in, places_of, AreLendable, bays_of, without, joined, Rejoins}
+use Rattle.module_memory.specs.Lending.{BlockAt, place_in, bay_in, places_of, AreLendable, bays_of, without, joined, Rejoins}
 use Rattle.batch.proofs.Places.{same_place_from_index}
 use Rattle.module_memory.specs.Bays.{AreLent}
 use Rattle.module_memory.proofs.Blocks.{store_from_parts}
@@ -91,7 +91,7 @@ off_earlier s ps i h l = λ k m e.
     h.distinct k i below l (same_place_from_index s (place_in ps k) (place_in ps i) (h.exist k (omega arith)) (h.exist i l) (ap (place_index s) (sym at) ∙ e))
 
 -- the bay of a place
-abbrev pub bay_at : Store → Place → Lent
+abbrev pub bay_at : Store → Place → BlockAt
 bay_at s p = record { place = p; words = block_of s p }
 
 pub Rejoins-parted : (s : Store) (ps : List Place) → IsWhole s → AreLendable s.shape ps → Rejoins (without s ps) (bays_of s ps)
@@ -99,26 +99,26 @@ Rejoins-parted s ps w h = record {
   exist = λ k d l.
       let below : k < length ps = omega (arith, length-map ps (λ (p : Place). bay_at s p)) in
       let at : get_or (bays_of s ps) k d ≡ bay_at s (place_in ps k) = get_or-map (λ (p : Place). bay_at s p) ps k _ d below in
-      subst₂ (λ (x : Extent) (b : Lent). HasPlace x b.place) (sym (shape-without s ps)) (sym at) (h.exist k below);
+      subst₂ (λ (x : Extent) (b : BlockAt). HasPlace x b.place) (sym (shape-without s ps)) (sym at) (h.exist k below);
   whole = subst IsWhole (sym (joined-without s ps h)) w;
 }
 
 -- a write off all bays
-pub set_block-joined : (s : Store) (bays : List Lent) (p : Place) (x : List ℕ) → IsOff s.shape (places_of bays) p → joined (set_block s p x) bays ≡ set_block (joined s bays) p x
+pub set_block-joined : (s : Store) (bays : List BlockAt) (p : Place) (x : List ℕ) → IsOff s.shape (places_of bays) p → joined (set_block s p x) bays ≡ set_block (joined s bays) p x
 set_block-joined s [] p x h = refl
 set_block-joined s (b ∷ bays) p x h =
     ap (λ (t : Store). joined t bays) (sym (set_block_comm s p b.place x b.words (h 0 (omega arith))))
     ∙ set_block-joined (set_block s b.place b.words) bays p x (IsOff-tail s.shape b.place (places_of bays) p h)
 
 -- a block off all bays is the rest's
-pub block_of-joined_off : (s : Store) (bays : List Lent) (p : Place) → IsOff s.shape (places_of bays) p → block_of (joined s bays) p ≡ block_of s p
+pub block_of-joined_off : (s : Store) (bays : List BlockAt) (p : Place) → IsOff s.shape (places_of bays) p → block_of (joined s bays) p ≡ block_of s p
 block_of-joined_off s [] p h = refl
 block_of-joined_off s (b ∷ bays) p h =
     block_of-joined_off (set_block s b.place b.words) bays p (IsOff-tail s.shape b.place (places_of bays) p h)
     ∙ get_or-set_other s.blocks (place_index s.shape b.place) (place_index s.shape p) b.words [] (λ e. h 0 (omega arith) (sym e))
 
 -- a bay's words stand at its place
-pub block_of-joined_bay : (s : Store) (bays : List Lent) (k : ℕ) → IsOnce s.shape (places_of bays) → k < length bays → place_index s.shape (bay_in bays k).place < length s.blocks → block_of (joined s bays) (bay_in bays k).place ≡ (bay_in bays k).words
+pub block_of-joined_bay : (s : Store) (bays : List BlockAt) (k : ℕ) → IsOnce s.shape (places_of bays) → k < length bays → place_index s.shape (bay_in bays k).place < length s.blocks → block_of (joined s bays) (bay_in bays k).place ≡ (bay_in bays k).words
 block_of-joined_bay s [] k once l room = absurd (omega arith)
 block_of-joined_bay s (b ∷ bays) zero once l room =
     block_of-joined_off (set_block s b.place b.words) bays b.place once.0
@@ -127,7 +127,7 @@ block_of-joined_bay s (b ∷ bays) (suc k) once l room =
     block_of-joined_bay (set_block s b.place b.words) bays k once.1 (omega arith) (omega (arith, room, length-set s.blocks (place_index s.shape b.place) b.words))
 
 -- other words in a bay are other words at its place
-pub joined-set : (s : Store) (bays : List Lent) (k : ℕ) (ws : List ℕ) → IsOnce s.shape (places_of bays) → k < length bays → joined s (set bays k (record { place = (bay_in bays k).place; words = ws })) ≡ set_block (joined s bays) (bay_in bays k).place ws
+pub joined-set : (s : Store) (bays : List BlockAt) (k : ℕ) (ws : List ℕ) → IsOnce s.shape (places_of bays) → k < length bays → joined s (set bays k (record { place = (bay_in bays k).place; words = ws })) ≡ set_block (joined s bays) (bay_in bays k).place ws
 joined-set s [] k ws once l = absurd (omega arith)
 joined-set s (b ∷ bays) zero ws once l =
     ap (λ (t : Store). joined t bays) (store_from_parts (set_block s b.place ws) (set_block (set_block s b.place b.words) b.place ws) refl (sym (set-set s.blocks (place_index s.shape b.place) b.words ws)))
@@ -135,7 +135,7 @@ joined-set s (b ∷ bays) zero ws once l =
 joined-set s (b ∷ bays) (suc k) ws once l = joined-set (set_block s b.place b.words) bays k ws once.1 (omega arith)
 
 -- one word set in a bay is that word set in the store
-pub joined-set_word : (s : Store) (bays : List Lent) (k j w : ℕ) → IsOnce s.shape (places_of bays) → k < length bays → place_index s.shape (bay_in bays k).place < length s.blocks → joined s (set bays k (record { place = (bay_in bays k).place; words = set (bay_in bays k).words j w })) ≡ set_word (joined s bays) (bay_in bays k).place j w
+pub joined-set_word : (s : Store) (bays : List BlockAt) (k j w : ℕ) → IsOnce s.shape (places_of bays) → k < length bays → place_index s.shape (bay_in bays k).place < length s.blocks → joined s (set bays k (record { place = (bay_in bays k).place; words = set (bay_in bays k).words j w })) ≡ set_word (joined s bays) (bay_in bays k).place j w
 joined-set_word s bays k j w once l room =
     joined-set s bays k (set (bay_in bays k).words j w) once l
     ∙ ap (λ (ws : List ℕ). set_block (joined s bays) (bay_in bays k).place (set ws j w)) (sym (block_of-joined_bay s bays k once l room))

@@ -6,15 +6,15 @@ use Rattle.batch.specs.Places.{HasPlace}
 use Rattle.batch.specs.Overlap.{source_at, destination_at}
 use Rattle.module_memory.specs.Store.{Store, IsWhole, block_of, set_word}
 use Rattle.module_memory.specs.Core.{IsMoved, IsReady, setting_of}
-use Rattle.module_memory.specs.Lending.{Lent, place_in, bay_in, places_of, AreLendable, bays_of, without, joined, Rejoins}
+use Rattle.module_memory.specs.Lending.{BlockAt, place_in, bay_in, places_of, AreLendable, bays_of, without, joined, Rejoins}
 
 -- a rest with all blocks of its shape, and bays of different places of it
-pub record AreLent (rest : Store) (bays : List Lent) : Type 0 where
+pub record AreLent (rest : Store) (bays : List BlockAt) : Type 0 where
   pub lendable : AreLendable rest.shape (places_of bays)
   pub all_blocks : length rest.blocks ≡ rest.shape.modules * rest.shape.blocks
 
 -- the bays from a position on are those of the transfers' destinations, in order, and their sources aren't lent
-pub record AreBaysOf (rest : Store) (bays : List Lent) (first : ℕ) (ts : List Transfer) : Type 0 where
+pub record AreBaysOf (rest : Store) (bays : List BlockAt) (first : ℕ) (ts : List Transfer) : Type 0 where
   pub lent : AreLent rest bays
   pub within : first + length ts ≤ length bays
   pub destinations : (i : ℕ) → i < length ts → (bay_in bays (first + i)).place ≡ destination_at ts i
@@ -22,12 +22,12 @@ pub record AreBaysOf (rest : Store) (bays : List Lent) (first : ℕ) (ts : List 
   pub sources : (i k : ℕ) → i < length ts → k < length bays → (bay_in bays k).place ≢ source_at ts i
 
 -- the bays stand where they stood
-pub record AreSamePlaces (old new : List Lent) : Type 0 where
+pub record AreSamePlaces (old new : List BlockAt) : Type 0 where
   pub same_length : length new ≡ length old
   pub same_places : (k : ℕ) → k < length old → (bay_in new k).place ≡ (bay_in old k).place
 
 -- each bay of the transfers begins with the words that its transfer has moved, and all else in the bays is old
-pub record AreFilled (rest : Store) (old new : List Lent) (first : ℕ) (ts : List Transfer) (moved : ℕ → ℕ) : Type 0 where
+pub record AreFilled (rest : Store) (old new : List BlockAt) (first : ℕ) (ts : List Transfer) (moved : ℕ → ℕ) : Type 0 where
   pub places : AreSamePlaces old new
   pub filled : (i : ℕ) → i < length ts → (bay_in new (first + i)).words ≡ take (moved i) (block_of rest (source_at ts i)) ++ drop (moved i) (bay_in old (first + i)).words
   pub others : (k : ℕ) → k < length old → (k < first) ⊎ (first + length ts ≤ k) → (bay_in new k).words ≡ (bay_in old k).words
@@ -44,27 +44,27 @@ SettingsHaveBays = (s : Store) (batch : List Transfer) (before numbers after : L
 
 -- each block that a setting reads, and each bay that it writes, has all words of a block
 abbrev pub BlocksAreWide : Type 0
-BlocksAreWide = (rest : Store) (bays : List Lent) (first : ℕ) (ts : List Transfer) (i : ℕ) → AreBaysOf rest bays first ts → Rejoins rest bays → i < length ts
+BlocksAreWide = (rest : Store) (bays : List BlockAt) (first : ℕ) (ts : List Transfer) (i : ℕ) → AreBaysOf rest bays first ts → Rejoins rest bays → i < length ts
     → (length (block_of rest (source_at ts i)) ≡ rest.shape.words) × (length (bay_in bays (first + i)).words ≡ rest.shape.words)
 
 -- what workers leave in the bays of a setting is, joined with the rest, the store of their counts
 abbrev pub BaysHoldTheCounts : Type 0
-BaysHoldTheCounts = (rest : Store) (old new : List Lent) (first : ℕ) (ts : List Transfer) (moved : ℕ → ℕ)
+BaysHoldTheCounts = (rest : Store) (old new : List BlockAt) (first : ℕ) (ts : List Transfer) (moved : ℕ → ℕ)
     → AreBaysOf rest old first ts → AreFilled rest old new first ts moved → IsMoved (joined rest old) ts moved (joined rest new)
 
 -- bays that stand where they stood are lent as before
 abbrev pub BaysStayLent : Type 0
-BaysStayLent = (rest : Store) (old new : List Lent) (first : ℕ) (ts : List Transfer) → AreBaysOf rest old first ts → AreSamePlaces old new → AreBaysOf rest new first ts
+BaysStayLent = (rest : Store) (old new : List BlockAt) (first : ℕ) (ts : List Transfer) → AreBaysOf rest old first ts → AreSamePlaces old new → AreBaysOf rest new first ts
 
 -- one word set in a bay is that word set in the store
 abbrev pub SetIsOneWord : Type 0
-SetIsOneWord = (rest : Store) (bays : List Lent) (k j w : ℕ) → AreLent rest bays → k < length bays
+SetIsOneWord = (rest : Store) (bays : List BlockAt) (k j w : ℕ) → AreLent rest bays → k < length bays
     → let bay = bay_in bays k in let new = slice_set bays k (record { place = bay.place; words = slice_set bay.words j w }) in
     joined rest new ≡ set_word (joined rest bays) bay.place j w
 
 -- a lent block has the words of its bay
 abbrev pub LentBlockIsItsBay : Type 0
-LentBlockIsItsBay = (rest : Store) (bays : List Lent) (k : ℕ) → AreLent rest bays → k < length bays → block_of (joined rest bays) (bay_in bays k).place ≡ (bay_in bays k).words
+LentBlockIsItsBay = (rest : Store) (bays : List BlockAt) (k : ℕ) → AreLent rest bays → k < length bays → block_of (joined rest bays) (bay_in bays k).place ≡ (bay_in bays k).words
 
 -- a lent block has no words in the rest
 abbrev pub LentBlockIsGone : Type 0
@@ -72,8 +72,8 @@ LentBlockIsGone = (s : Store) (places : List Place) (i : ℕ) → IsWhole s → 
 
 -- a block that isn't lent has the words that the rest has
 abbrev pub OtherBlockIsTheRest : Type 0
-OtherBlockIsTheRest = (rest : Store) (bays : List Lent) (p : Place) → AreLent rest bays → HasPlace rest.shape p → ((k : ℕ) → k < length bays → (bay_in bays k).place ≢ p) → block_of (joined rest bays) p ≡ block_of rest p
+OtherBlockIsTheRest = (rest : Store) (bays : List BlockAt) (p : Place) → AreLent rest bays → HasPlace rest.shape p → ((k : ℕ) → k < length bays → (bay_in bays k).place ≢ p) → block_of (joined rest bays) p ≡ block_of rest p
 
 -- bays that stand where they stood, with as many words as before, rejoin as before
 abbrev pub BaysStayWhole : Type 0
-BaysStayWhole = (rest : Store) (old new : List Lent) → AreLent rest old → AreSamePlaces old new → ((k : ℕ) → k < length old → length (bay_in new k).words ≡ length (bay_in old k).words) → Rejoins rest old → Rejoins rest new
+BaysStayWhole = (rest : Store) (old new : List BlockAt) → AreLent rest old → AreSamePlaces old new → ((k : ℕ) → k < length old → length (bay_in new k).words ≡ length (bay_in old k).words) → Rejoins rest old → Rejoins rest new

@@ -7,13 +7,13 @@ use Rattle.module_memory.specs.declared.fault.LendFault.{LendFault}
 use Rattle.module_memory.specs.declared.fault.LendFault.TheVariants.{SamePlace, NoPlace, NoMemory}
 use Rattle.module_memory.specs.Store.{Store, IsWhole, block_of, set_block}
 
--- a block that is lent: where it stands, and its words
-pub record Lent : Type 0 where
+-- a block: where it stands, and its words
+pub record BlockAt : Type 0 where
   pub place : Place
   pub words : List ℕ
 
 -- the same with this word as word j
-abbrev pub with_word : Lent → ℕ → ℕ → Lent
+abbrev pub with_word : BlockAt → ℕ → ℕ → BlockAt
 with_word b j w = record { place = b.place; words = slice_set b.words j w }
 
 -- the place at a position of a list; past the end, one that no clause speaks of
@@ -21,12 +21,12 @@ abbrev pub place_in : List Place → ℕ → Place
 place_in places i = slice_index_or places i (record { «module» = 0; block = 0 })
 
 -- the bay at a position of a list; past the end, one that no clause speaks of
-abbrev pub bay_in : List Lent → ℕ → Lent
+abbrev pub bay_in : List BlockAt → ℕ → BlockAt
 bay_in bays k = slice_index_or bays k (record { place = record { «module» = 0; block = 0 }; words = [] })
 
 -- the places of bays
-abbrev pub places_of : List Lent → List Place
-places_of bays = map (λ (b : Lent). b.place) bays
+abbrev pub places_of : List BlockAt → List Place
+places_of bays = map (λ (b : BlockAt). b.place) bays
 
 -- the places before the one at a position exist
 abbrev pub ExistBefore : Extent → List Place → ℕ → Type 0
@@ -73,7 +73,7 @@ IsLendFault shape places (SamePlace i) = ExistBefore shape places (length places
 IsLendFault shape places NoMemory = AreLendable shape places × (0 < length places)
 
 -- the bays of these places
-abbrev pub bays_of : Store → List Place → List Lent
+abbrev pub bays_of : Store → List Place → List BlockAt
 bays_of s places = map (λ p. record { place = p; words = block_of s p }) places
 
 -- what stays: no words at these places
@@ -82,11 +82,11 @@ without s [] = s
 without s (p ∷ places) = without (set_block s p []) places
 
 -- the store of the rest and the bays: the words of each bay in its place
-abbrev pub joined : Store → List Lent → Store
+abbrev pub joined : Store → List BlockAt → Store
 joined rest [] = rest
 joined rest (b ∷ bays) = joined (set_block rest b.place b.words) bays
 
 -- the bays have places of the rack, and nothing is missing
-pub record Rejoins (rest : Store) (bays : List Lent) : Type 0 where
-  pub exist : All (λ (b : Lent). HasPlace rest.shape b.place) bays
+pub record Rejoins (rest : Store) (bays : List BlockAt) : Type 0 where
+  pub exist : All (λ (b : BlockAt). HasPlace rest.shape b.place) bays
   pub whole : IsWhole (joined rest bays)

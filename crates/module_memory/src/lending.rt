@@ -20,9 +20,9 @@ pub struct Bay {
 }
 
 impl Model for Bay {
-    ghost use Rattle.module_memory.specs.Lending.{Lent};
+    ghost use Rattle.module_memory.specs.Lending.{BlockAt};
 
-    ghost Value = { Lent };
+    ghost Value = { BlockAt };
 
     ghost view = { λ b. record { place = b.place; words = b.block } };
 }

@@ -1,7 +1,7 @@
 use Rattle.std.proofs.Common.{◌≡◌, All}
 use Rattle.std.specs.Vec.Iter.{into_iter_items}
 use Rattle.batch.specs.Places.{HasPlace}
-use Rattle.module_memory.specs.Lending.{Lent, joined}
+use Rattle.module_memory.specs.Lending.{BlockAt, joined}
 use Rattle.module_memory.proofs.lending.Parted.rejoin.Given as goal
 
 abbrev pub invariant-loop-bay : goal.invariant-loop-bay
@@ -10,4 +10,4 @@ invariant-loop-bay l =
     (goal.iterator-loop-bay).is_finite l.bay-iterator ×
     (joined l.rest (into_iter_items l.bay-iterator) ≡ joined l.fn.self.rest l.fn.self.bays.items) ×
     (l.rest.shape ≡ l.fn.self.rest.shape) ×
-    All (λ (b : Lent). HasPlace l.fn.self.rest.shape b.place) (into_iter_items l.bay-iterator)
+    All (λ (b : BlockAt). HasPlace l.fn.self.rest.shape b.place) (into_iter_items l.bay-iterator)

@@ -5,7 +5,7 @@ use Rattle.batch.specs.declared.transfer.Place.{Place}
 use Rattle.batch.specs.Places.{HasPlace}
 use Rattle.module_memory.specs.Store.{IsWhole, Store, set_block, block_of}
 use Rattle.module_memory.specs.Bays.{AreLent}
-use Rattle.module_memory.specs.Lending.{Lent, AreLendable, place_in, bays_of, without, joined, Rejoins}
+use Rattle.module_memory.specs.Lending.{BlockAt, AreLendable, place_in, bays_of, without, joined, Rejoins}
 use Rattle.module_memory.proofs.PartLaws.{AreLent-parted, shape-without, without_push, block_of-without, off_earlier, joined-without, Rejoins-parted}
 use Rattle.module_memory.proofs.rack.Rack.part.Goals as goal
 
@@ -16,7 +16,7 @@ lend-requires c =
     let same : c.loop-place.rest.shape ≡ c.args.self.shape = ap (λ (s : Store). s.shape) c.loop-place.invariant.rest ∙ shape-without c.args.self (take i c.args.places.now) in
     subst (λ (s : Extent). HasPlace s (place_in c.args.places.now i)) (sym same) (h.exist i (omega arith))
 
-abbrev bay_with : Place → List ℕ → Lent
+abbrev bay_with : Place → List ℕ → BlockAt
 bay_with p ws = record { place = p; words = ws }
 
 pub loop-place-preserved : goal.loop-place-preserved
@@ -37,7 +37,7 @@ loop-place-preserved c =
     record {
       bays = c.push.ensures.items
           ∙ ap (λ (b : Bool). cond b (c.loop-place.bays.items ++ c.lend.result ∷ []) c.loop-place.bays.items) ok
-          ∙ ap₂ (λ (xs : List Lent) (x : Lent). xs ++ x ∷ []) inv.bays bay
+          ∙ ap₂ (λ (xs : List BlockAt) (x : BlockAt). xs ++ x ∷ []) inv.bays bay
           ∙ sym (map_push (λ (q : Place). bay_with q (block_of s q)) front p)
           ∙ ap (bays_of s) (sym next);
       rest = c.lend.ensures.rest
