@@ -3,7 +3,7 @@ use Rattle.std.proofs.Common.{ℕ, ◌≡◌, ◌≢◌, ◌<◌, ◌+◌, ◌-�
 use Rattle.std.proofs.lemmas.Nat.{div-mul-add, mod-mul-add}
 use Rattle.batch.specs.Extent.{Extent}
 use Rattle.module_memory.specs.declared.address.TheConstants.{WINDOW_START, WORD_BYTES}
-use Rattle.module_memory.specs.Lending.{Lent}
+use Rattle.module_memory.specs.Lending.{BlockAt}
 use Rattle.module_memory.specs.Address.{word_number, address_of}
 use Rattle.peek_poke.specs.Blocks.{word_in, then_do, with_word, WordsAreRead, WordsAreWritten, OthersAreOutside}
 use Rattle.peek_poke.specs.declared.fault.StoreFault.{StoreFault}
@@ -16,14 +16,14 @@ four_divides : (x : ℕ) → (WINDOW_START + WORD_BYTES * x) % WORD_BYTES ≡ 0
 four_divides x = omega arith
 
 -- what is known of the address of word j of any block of the module
-record Found (s : Extent) (b : Lent) (block j : ℕ) : Type 0 where
+record Found (s : Extent) (b : BlockAt) (block j : ℕ) : Type 0 where
   aligned : (address_of s block j % WORD_BYTES == 0) ≡ true
   from : nat_le WINDOW_START (address_of s block j) ≡ true
   some : nat_lt 0 (length b.words) ≡ true
   row : word_number (address_of s block j) / length b.words ≡ block
   column : word_number (address_of s block j) % length b.words ≡ j
 
-found : (s : Extent) (b : Lent) (block j : ℕ) → length b.words ≡ s.words → j < s.words → Found s b block j
+found : (s : Extent) (b : BlockAt) (block j : ℕ) → length b.words ≡ s.words → j < s.words → Found s b block j
 found s b block j e h =
     let n = block * s.words + j in
     let number : word_number (address_of s block j) ≡ n = by_four n in
@@ -36,14 +36,14 @@ found s b block j e h =
     }
 
 -- the address of a word of the block is that word
-word_in-address_of : (s : Extent) (b : Lent) (j : ℕ) → length b.words ≡ s.words → j < s.words → word_in b (address_of s b.place.block j) ≡ Ok j
+word_in-address_of : (s : Extent) (b : BlockAt) (j : ℕ) → length b.words ≡ s.words → j < s.words → word_in b (address_of s b.place.block j) ≡ Ok j
 word_in-address_of s b j e h =
     let f = found s b b.place.block j e h in
     let here : (word_number (address_of s b.place.block j) / length b.words == b.place.block) ≡ true = eq-eqb _ _ f.row in
     rw (f.aligned, f.from, f.some, here) (ap (λ x. Ok x) f.column)
 
 -- that of another block is no word
-word_in-other : (s : Extent) (b : Lent) (other j : ℕ) → length b.words ≡ s.words → j < s.words → other ≢ b.place.block → word_in b (address_of s other j) ≡ Err Outside
+word_in-other : (s : Extent) (b : BlockAt) (other j : ℕ) → length b.words ≡ s.words → j < s.words → other ≢ b.place.block → word_in b (address_of s other j) ≡ Err Outside
 word_in-other s b other j e h n =
     let f = found s b other j e h in
     let away : (word_number (address_of s other j) / length b.words == b.place.block) ≡ false = ne_eqb _ _ (λ r. n (sym f.row ∙ r)) in

@@ -3,17 +3,17 @@
 use Rattle.std.specs.Prelude.{ℕ, ◌≡◌, ◌≢◌, ◌<◌, ◌/◌, ◌%◌, ◌&&◌, ◌==◌, Bool, nat_lt, nat_le, length, slice_index, slice_set, Result, Ok, Err, if◌then◌else◌}
 use Rattle.batch.specs.Extent.{Extent}
 use Rattle.module_memory.specs.declared.address.TheConstants.{WINDOW_START, WORD_BYTES}
-use Rattle.module_memory.specs.Lending.{Lent}
+use Rattle.module_memory.specs.Lending.{BlockAt}
 use Rattle.module_memory.specs.Address.{address_of, word_number}
 use Rattle.peek_poke.specs.declared.fault.StoreFault.{StoreFault}
 use Rattle.peek_poke.specs.declared.fault.StoreFault.TheVariants.{Misaligned, Outside}
 
 -- the address is that of a word of the block
-abbrev pub is_in_block : Lent → ℕ → Bool
+abbrev pub is_in_block : BlockAt → ℕ → Bool
 is_in_block b a = nat_le WINDOW_START a && nat_lt 0 (length b.words) && (word_number a / length b.words == b.place.block)
 
 -- which word of a block an address is
-abbrev pub word_in : Lent → ℕ → Result ℕ StoreFault
+abbrev pub word_in : BlockAt → ℕ → Result ℕ StoreFault
 word_in b a = if a % WORD_BYTES == 0 then (if is_in_block b a then Ok (word_number a % length b.words) else Err Outside) else Err Misaligned
 
 -- something done with a word that is there
@@ -22,30 +22,30 @@ then_do (Ok x) f = Ok (f x)
 then_do (Err e) f = Err e
 
 -- the block with this word as word j
-abbrev pub with_word : Lent → ℕ → ℕ → Lent
+abbrev pub with_word : BlockAt → ℕ → ℕ → BlockAt
 with_word b j w = record { place = b.place; words = slice_set b.words j w }
 
 -- what reads of a block give
-abbrev pub block_read : Lent → ℕ → Result ℕ StoreFault
+abbrev pub block_read : BlockAt → ℕ → Result ℕ StoreFault
 block_read b a = then_do (word_in b a) (λ j. slice_index b.words j)
 
 -- what writes to a block leave
-abbrev pub block_write : Lent → ℕ → ℕ → Result Lent StoreFault
+abbrev pub block_write : BlockAt → ℕ → ℕ → Result BlockAt StoreFault
 block_write b a w = then_do (word_in b a) (λ j. with_word b j w)
 
 -- a block that can't be written: every write is outside
-abbrev pub no_write : Lent → ℕ → ℕ → Result Lent StoreFault
+abbrev pub no_write : BlockAt → ℕ → ℕ → Result BlockAt StoreFault
 no_write b a w = Err Outside
 
 -- at the address of word j of a block stands that word
 abbrev pub WordsAreRead : Type 0
-WordsAreRead = (shape : Extent) (b : Lent) (j : ℕ) → length b.words ≡ shape.words → j < shape.words → block_read b (address_of shape b.place.block j) ≡ Ok (slice_index b.words j)
+WordsAreRead = (shape : Extent) (b : BlockAt) (j : ℕ) → length b.words ≡ shape.words → j < shape.words → block_read b (address_of shape b.place.block j) ≡ Ok (slice_index b.words j)
 
 -- a write to the address of word j of a block changes that word alone
 abbrev pub WordsAreWritten : Type 0
-WordsAreWritten = (shape : Extent) (b : Lent) (j w : ℕ) → length b.words ≡ shape.words → j < shape.words → block_write b (address_of shape b.place.block j) w ≡ Ok (with_word b j w)
+WordsAreWritten = (shape : Extent) (b : BlockAt) (j w : ℕ) → length b.words ≡ shape.words → j < shape.words → block_write b (address_of shape b.place.block j) w ≡ Ok (with_word b j w)
 
 -- the address of a word of another block of the module is outside
 abbrev pub OthersAreOutside : Type 0
-OthersAreOutside = (shape : Extent) (b : Lent) (other j w : ℕ) → length b.words ≡ shape.words → j < shape.words → other ≢ b.place.block
+OthersAreOutside = (shape : Extent) (b : BlockAt) (other j w : ℕ) → length b.words ≡ shape.words → j < shape.words → other ≢ b.place.block
     → (block_read b (address_of shape other j) ≡ Err Outside) × (block_write b (address_of shape other j) w ≡ Err Outside)

@@ -60,9 +60,9 @@ impl<'a> Model for RestStore<'a> {
     ghost use Rattle.std.specs.Prelude.{◌≡◌, length};
     ghost use Rattle.batch.specs.Places.{HasPlace};
     ghost use Rattle.module_memory.specs.Store.{block_of};
-    ghost use Rattle.module_memory.specs.Lending.{Lent};
+    ghost use Rattle.module_memory.specs.Lending.{BlockAt};
 
-    ghost Value = { Lent };
+    ghost Value = { BlockAt };
 
     ghost view = { λ s. record { place = s.place; words = block_of s.rest.now s.place } };
 

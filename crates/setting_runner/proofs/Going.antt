@@ -11,7 +11,7 @@ use Rattle.batch.specs.declared.transfer.Transfer.{Transfer}
 use Rattle.batch.specs.declared.transfer.Place.{Place}
 use Rattle.module_memory.specs.Store.{Store, block_of}
 use Rattle.module_memory.specs.Core.{FitsIn, IsComplete, IsMoved, IsReady, IsStepList, setting_of}
-use Rattle.module_memory.specs.Lending.{Lent, bay_in, joined, Rejoins}
+use Rattle.module_memory.specs.Lending.{BlockAt, bay_in, joined, Rejoins}
 use Rattle.module_memory.specs.Bays.{AreBaysOf, AreSamePlaces}
 use Rattle.module_memory.specs.Settings.{after_steps, IsRun, IsStoppedRun}
 use Rattle.module_memory.proofs.CoreLaw.{transfer_at-setting_of}
@@ -29,26 +29,26 @@ use Rattle.setting_runner.proofs.Parts.{are_filled, length_part, movable_from, n
 use Rattle.setting_runner.proofs.Schedules.{are_settings, concat_more, numbers_are_counted}
 
 -- what a run begins with: a rest, and the bays of all settings
-pub record Begun (rest : Store) (bays : List Lent) (plan : Plan) : Type 0 where
+pub record Begun (rest : Store) (bays : List BlockAt) (plan : Plan) : Type 0 where
   pub schedule : IsScheduleOf plan.batch plan.settings
   pub ready : IsReady (joined rest bays) plan.batch (concat plan.settings)
   pub settings : (k : ℕ) → k < length plan.settings → AreBaysOf rest bays (length (concat (take k plan.settings))) (setting_of plan.batch (numbers_of plan k))
   pub rejoins : Rejoins rest bays
 
 -- what it has after some settings
-pub record Going (rest : Store) (first bays : List Lent) (plan : Plan) (k : ℕ) : Type 0 where
+pub record Going (rest : Store) (first bays : List BlockAt) (plan : Plan) (k : ℕ) : Type 0 where
   pub places : AreSamePlaces first bays
   pub rejoins : Rejoins rest bays
   pub machine : IsRun (joined rest first) plan.batch (take k plan.settings) (joined rest bays)
 
-pub going_first : (rest : Store) (bays : List Lent) (plan : Plan) → Begun rest bays plan → Going rest bays bays plan 0
+pub going_first : (rest : Store) (bays : List BlockAt) (plan : Plan) → Begun rest bays plan → Going rest bays bays plan 0
 going_first rest bays plan b = record { places = record { same_length = refl; same_places = λ k h. refl }; rejoins = b.rejoins; machine = refl }
 
-own_bays : (rest : Store) (first bays : List Lent) (plan : Plan) (k : ℕ) → Begun rest first plan → Going rest first bays plan k → k < length plan.settings → AreBaysOf rest bays (length (concat (take k plan.settings))) (setting_of plan.batch (numbers_of plan k))
+own_bays : (rest : Store) (first bays : List BlockAt) (plan : Plan) (k : ℕ) → Begun rest first plan → Going rest first bays plan k → k < length plan.settings → AreBaysOf rest bays (length (concat (take k plan.settings))) (setting_of plan.batch (numbers_of plan k))
 own_bays rest first bays plan k b g h = stay_lent rest first bays (length (concat (take k plan.settings))) (setting_of plan.batch (numbers_of plan k)) (b.settings k h) g.places
 
 -- the settings that are still to come are ready
-ready_now : (rest : Store) (first bays : List Lent) (plan : Plan) (k : ℕ) → Begun rest first plan → Going rest first bays plan k → k < length plan.settings → IsReady (joined rest bays) plan.batch (numbers_of plan k)
+ready_now : (rest : Store) (first bays : List BlockAt) (plan : Plan) (k : ℕ) → Begun rest first plan → Going rest first bays plan k → k < length plan.settings → IsReady (joined rest bays) plan.batch (numbers_of plan k)
 ready_now rest first bays plan k b g h = record {
   whole = g.rejoins.whole;
   places = subst (λ (x : Extent). FitsIn x plan.batch) (shape-joined rest first ∙ sym (shape-joined rest bays)) b.ready.places;
@@ -56,13 +56,13 @@ ready_now rest first bays plan k b g h = record {
   setting = (are_settings plan.batch plan.settings k b.schedule h).own;
 }
 
-pub part_within : (rest : Store) (first bays : List Lent) (plan : Plan) (k a n : ℕ) → Begun rest first plan → Going rest first bays plan k → k < length plan.settings → a ≡ length (concat (take k plan.settings)) → n ≡ length (numbers_of plan k) → a + n ≤ length bays
+pub part_within : (rest : Store) (first bays : List BlockAt) (plan : Plan) (k a n : ℕ) → Begun rest first plan → Going rest first bays plan k → k < length plan.settings → a ≡ length (concat (take k plan.settings)) → n ≡ length (numbers_of plan k) → a + n ≤ length bays
 part_within rest first bays plan k a n b g h ea en =
     let own = own_bays rest first bays plan k b g h in
     omega (arith, own.within, length-map (numbers_of plan k) (transfer_at plan.batch))
 
 -- the transfers of the next setting can move their words into their part of the bays
-pub part_movable : (rest : Store) (first bays : List Lent) (plan : Plan) (k a n : ℕ) → Begun rest first plan → Going rest first bays plan k → k < length plan.settings → a ≡ length (concat (take k plan.settings)) → n ≡ length (numbers_of plan k)
+pub part_movable : (rest : Store) (first bays : List BlockAt) (plan : Plan) (k a n : ℕ) → Begun rest first plan → Going rest first bays plan k → k < length plan.settings → a ≡ length (concat (take k plan.settings)) → n ≡ length (numbers_of plan k)
     → AreMovable rest plan.batch (numbers_of plan k) (take n (drop a bays))
 part_movable rest first bays plan k a n b g h ea en =
     let numbers = numbers_of plan k in
@@ -81,9 +81,9 @@ part_movable rest first bays plan k a n b g h ea en =
       known = setting.known i 0 l;
       source_exists = subst (λ (p : Place). HasPlace rest.shape p) source (own.exist i below);
       source_here = ap (λ (p : Place). length (block_of rest p)) (sym source) ∙ wide.0;
-      place = ap (λ (x : Lent). x.place) bay ∙ own.destinations i below ∙ destination;
-      bay_exists = subst (λ (x : Lent). HasPlace rest.shape x.place) (sym bay) (g.rejoins.exist (a + i) no_bay (omega (arith, own.within)));
-      bay_width = ap (λ (x : Lent). length x.words) bay ∙ wide.1;
+      place = ap (λ (x : BlockAt). x.place) bay ∙ own.destinations i below ∙ destination;
+      bay_exists = subst (λ (x : BlockAt). HasPlace rest.shape x.place) (sym bay) (g.rejoins.exist (a + i) no_bay (omega (arith, own.within)));
+      bay_width = ap (λ (x : BlockAt). length x.words) bay ∙ wide.1;
     })
 
 past_end : (xs : List ℕ) (i : ℕ) → length xs ≤ i → slice_index xs i ≡ 0
@@ -92,7 +92,7 @@ past_end (x ∷ xs) zero h = absurd (omega arith)
 past_end (x ∷ xs) (suc i) h = past_end xs i (omega arith)
 
 -- no transfer has moved more words than a block has
-few_words : (rest : Store) (batch : List Transfer) (ts : List ℕ) (os ns : List Lent) (ms : List (ℕ × ℕ)) (i : ℕ) → HaveMoved none_sure rest batch ts os ns ms → slice_index (words_of ms) i ≤ rest.shape.words
+few_words : (rest : Store) (batch : List Transfer) (ts : List ℕ) (os ns : List BlockAt) (ms : List (ℕ × ℕ)) (i : ℕ) → HaveMoved none_sure rest batch ts os ns ms → slice_index (words_of ms) i ≤ rest.shape.words
 few_words rest batch ts os ns ms i moves = elim (cases_lt i (length ms)) [
   | inl l ↦ let most = most_moved none_sure rest batch ts os ns ms moves i (0, 0) l in omega (arith, get_or-map (λ (m : ℕ × ℕ). m.1) ms i (0, 0) 0 l)
   | inr l ↦ omega (arith, past_end (words_of ms) i (omega (arith, length-map ms (λ (m : ℕ × ℕ). m.1))))
@@ -104,12 +104,12 @@ all_at (t ∷ ts) words zero h = refl
 all_at (t ∷ ts) words (suc i) h = all_at ts words i (omega arith)
 
 -- a setting that was worked on
-record Worked (rest : Store) (first bays new : List Lent) (plan : Plan) (k : ℕ) (ms : List (ℕ × ℕ)) : Type 0 where
+record Worked (rest : Store) (first bays new : List BlockAt) (plan : Plan) (k : ℕ) (ms : List (ℕ × ℕ)) : Type 0 where
   places : AreSamePlaces first new
   rejoins : Rejoins rest new
   moved : IsMoved (joined rest bays) (setting_of plan.batch (numbers_of plan k)) (slice_index (words_of ms)) (joined rest new)
 
-same_places_twice : (a b c : List Lent) → AreSamePlaces a b → AreSamePlaces b c → AreSamePlaces a c
+same_places_twice : (a b c : List BlockAt) → AreSamePlaces a b → AreSamePlaces b c → AreSamePlaces a c
 same_places_twice a b c x y = record {
   same_length = y.same_length ∙ x.same_length;
   same_places = λ k h. y.same_places k (omega (arith, x.same_length)) ∙ x.same_places k h;
@@ -118,7 +118,7 @@ same_places_twice a b c x y = record {
 mixed_length : (c : ℕ) (from old : List ℕ) → length from ≡ length old → c ≤ length old → length (take c from ++ drop c old) ≡ length old
 mixed_length c from old e h = omega (arith, length-append (take c from) (drop c old), length-take {A = ℕ}, length-drop {A = ℕ})
 
-worked : (rest : Store) (first bays part : List Lent) (plan : Plan) (k a n : ℕ) (ms : List (ℕ × ℕ)) → Begun rest first plan → Going rest first bays plan k → k < length plan.settings → a ≡ length (concat (take k plan.settings)) → n ≡ length (numbers_of plan k)
+worked : (rest : Store) (first bays part : List BlockAt) (plan : Plan) (k a n : ℕ) (ms : List (ℕ × ℕ)) → Begun rest first plan → Going rest first bays plan k → k < length plan.settings → a ≡ length (concat (take k plan.settings)) → n ≡ length (numbers_of plan k)
     → HaveMoved none_sure rest plan.batch (numbers_of plan k) (take n (drop a bays)) part ms → Worked rest first bays (take a bays ++ (part ++ drop n (drop a bays))) plan k ms
 worked rest first bays part plan k a n ms b g h ea en moves =
     let numbers = numbers_of plan k in
@@ -153,7 +153,7 @@ IsRun-push s t batch [] numbers steps r done =
 IsRun-push s t batch (n ∷ ss) numbers steps r done = (r.0, r.1, IsRun-push (after_steps s batch n r.0).store t batch ss numbers steps r.2 done)
 
 -- one setting more
-pub going_next : (rest : Store) (first bays part : List Lent) (plan : Plan) (k a n : ℕ) → Begun rest first plan → Going rest first bays plan k → k < length plan.settings → a ≡ length (concat (take k plan.settings)) → n ≡ length (numbers_of plan k)
+pub going_next : (rest : Store) (first bays part : List BlockAt) (plan : Plan) (k a n : ℕ) → Begun rest first plan → Going rest first bays plan k → k < length plan.settings → a ≡ length (concat (take k plan.settings)) → n ≡ length (numbers_of plan k)
     → HaveMoved none_sure rest plan.batch (numbers_of plan k) (take n (drop a bays)) part (all_moved (numbers_of plan k) rest.shape.words) → Going rest first (take a bays ++ (part ++ drop n (drop a bays))) plan (k + 1)
 going_next rest first bays part plan k a n b g h ea en moves =
     let numbers = numbers_of plan k in
@@ -177,7 +177,7 @@ going_next rest first bays part plan k a n b g h ea en moves =
     }
 
 -- a setting that stops
-pub going_stops : (rest : Store) (first bays part : List Lent) (plan : Plan) (k a n : ℕ) (ms : List (ℕ × ℕ)) → Begun rest first plan → Going rest first bays plan k → k < length plan.settings → a ≡ length (concat (take k plan.settings)) → n ≡ length (numbers_of plan k)
+pub going_stops : (rest : Store) (first bays part : List BlockAt) (plan : Plan) (k a n : ℕ) (ms : List (ℕ × ℕ)) → Begun rest first plan → Going rest first bays plan k → k < length plan.settings → a ≡ length (concat (take k plan.settings)) → n ≡ length (numbers_of plan k)
     → HaveMoved none_sure rest plan.batch (numbers_of plan k) (take n (drop a bays)) part ms
     → IsStopped (joined rest first) plan k ms (joined rest (take a bays ++ (part ++ drop n (drop a bays)))) × Rejoins rest (take a bays ++ (part ++ drop n (drop a bays)))
 going_stops rest first bays part plan k a n ms b g h ea en moves =
@@ -209,7 +209,7 @@ going_stops rest first bays part plan k a n ms b g h ea en moves =
     )
 
 -- all settings are done
-pub going_completes : (rest : Store) (first bays : List Lent) (plan : Plan) (k : ℕ) → Begun rest first plan → Going rest first bays plan k → length plan.settings ≤ k → (words : ℕ) → words ≡ length (concat (take k plan.settings)) * rest.shape.words
+pub going_completes : (rest : Store) (first bays : List BlockAt) (plan : Plan) (k : ℕ) → Begun rest first plan → Going rest first bays plan k → length plan.settings ≤ k → (words : ℕ) → words ≡ length (concat (take k plan.settings)) * rest.shape.words
     → IsCompleted (joined rest first) plan (length plan.settings) words (joined rest bays)
 going_completes rest first bays plan k b g h words e =
     let s = joined rest first in

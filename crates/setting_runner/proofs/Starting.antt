@@ -51,8 +51,8 @@ shape_no_overlap i j e = absurd cc
 
 -- what can be lent isn't refused but for want of memory
 pub lend_fault_is : (shape : Extent) (places : List Place) (f : LendFault) → AreLendable shape places → IsLendFault shape places f → 0 < length places
-lend_fault_is shape places (SamePlace i) a f = absurd (a.distinct f.2.0 i f.2.1 f.1 f.2.2)
-lend_fault_is shape places (NoPlace i) a f = absurd (f.1 (a.exist i f.0))
+lend_fault_is shape places (SamePlace i) a f = absurd (a.distinct f.1.again.0 i f.1.again.1 f.1.within f.1.again.2)
+lend_fault_is shape places (NoPlace i) a f = absurd (f.missing (a.exist i f.within))
 lend_fault_is shape places NoBays a f = f.1
 
 -- the destinations of a plan can be lent

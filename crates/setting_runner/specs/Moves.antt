@@ -5,10 +5,10 @@ use Rattle.batch.specs.declared.transfer.Transfer.{Transfer}
 use Rattle.batch.specs.Places.{HasPlace}
 use Rattle.batch.specs.Overlap.{source_at, destination_at}
 use Rattle.module_memory.specs.Store.{Store, block_of}
-use Rattle.module_memory.specs.Lending.{Lent}
+use Rattle.module_memory.specs.Lending.{BlockAt}
 
 -- a transfer of the batch can move its words into a bay
-pub record IsMovable (rest : Store) (batch : List Transfer) (t : ℕ) (bay : Lent) : Type 0 where
+pub record IsMovable (rest : Store) (batch : List Transfer) (t : ℕ) (bay : BlockAt) : Type 0 where
   pub known : t < length batch
   pub source_exists : HasPlace rest.shape (source_at batch t)
   pub source_here : length (block_of rest (source_at batch t)) ≡ rest.shape.words
@@ -17,14 +17,14 @@ pub record IsMovable (rest : Store) (batch : List Transfer) (t : ℕ) (bay : Len
   pub bay_width : length bay.words ≡ rest.shape.words
 
 -- each transfer can move its words into its bay
-abbrev pub AreMovable : Store → List Transfer → List ℕ → List Lent → Type 0
+abbrev pub AreMovable : Store → List Transfer → List ℕ → List BlockAt → Type 0
 AreMovable rest batch [] [] = Unit {0}
 AreMovable rest batch (t ∷ numbers) (bay ∷ bays) = IsMovable rest batch t bay × AreMovable rest batch numbers bays
 AreMovable rest batch _ _ = ⊥
 
 -- The transfer is named with its words, and its bay begins with as many words of its source. A transfer whose wire never fails has
 -- moved them all.
-pub record HasMoved (sure : ℕ → Type 0) (rest : Store) (batch : List Transfer) (t : ℕ) (old new : Lent) (moved : ℕ × ℕ) : Type 0 where
+pub record HasMoved (sure : ℕ → Type 0) (rest : Store) (batch : List Transfer) (t : ℕ) (old new : BlockAt) (moved : ℕ × ℕ) : Type 0 where
   pub named : moved.0 ≡ t
   pub at_most : moved.1 ≤ rest.shape.words
   pub place : new.place ≡ old.place
@@ -32,7 +32,7 @@ pub record HasMoved (sure : ℕ → Type 0) (rest : Store) (batch : List Transfe
   pub all_words : sure t → moved.1 ≡ rest.shape.words
 
 -- the same of each transfer, in order
-abbrev pub HaveMoved : (ℕ → Type 0) → Store → List Transfer → List ℕ → List Lent → List Lent → List (ℕ × ℕ) → Type 0
+abbrev pub HaveMoved : (ℕ → Type 0) → Store → List Transfer → List ℕ → List BlockAt → List BlockAt → List (ℕ × ℕ) → Type 0
 HaveMoved sure rest batch [] [] [] [] = Unit {0}
 HaveMoved sure rest batch (t ∷ numbers) (old ∷ olds) (new ∷ news) (m ∷ moved) = HasMoved sure rest batch t old new m × HaveMoved sure rest batch numbers olds news moved
 HaveMoved sure rest batch _ _ _ _ = ⊥

@@ -1,7 +1,7 @@
 use Rattle.std.proofs.Common.{rules, ◌≡◌, ℕ, ◌<◌, length, get_or, set, ap, ap₂, ◌∙◌, sym, arith, is_ok, List, length-set}
 use Rattle.batch.specs.Extent.{Extent}
 use Rattle.module_memory.specs.Store.{block_of}
-use Rattle.module_memory.specs.Lending.{Lent}
+use Rattle.module_memory.specs.Lending.{BlockAt}
 use Rattle.module_memory.proofs.CoreLaw.{prefix_step}
 use Rattle.module_memory.specs.Address.{address_of}
 use Rattle.setting_runner.proofs.Addresses.{read_lands, read_is}
@@ -12,9 +12,9 @@ pull_word-requires-clause-has g c =
     let inv = c.loop-j.invariant in
     let s = c.shape-shape.result in
     let b = c.loop-j.store in
-    let wide : length b.words ≡ s.words = ap (λ (x : Lent). length x.words) inv.store ∙ c.requires.source_here ∙ sym (ap (λ (x : Extent). x.words) inv.shape) in
+    let wide : length b.words ≡ s.words = ap (λ (x : BlockAt). length x.words) inv.store ∙ c.requires.source_here ∙ sym (ap (λ (x : Extent). x.words) inv.shape) in
     let below : c.loop-j.j < s.words = omega (arith, ap (λ (x : Extent). x.words) inv.shape) in
-    ap is_ok (read_lands c.blocks-2.ensures.read s b _ c.loop-j.j wide below (c.address_of_word-address.ensures ∙ ap (λ (x : Lent). address_of s x.place.block c.loop-j.j) (sym inv.store)))
+    ap is_ok (read_lands c.blocks-2.ensures.read s b _ c.loop-j.j wide below (c.address_of_word-address.ensures ∙ ap (λ (x : BlockAt). address_of s x.place.block c.loop-j.j) (sym inv.store)))
 
 pub loop-j-preserved : goal.loop-j-preserved
 loop-j-preserved g c =
@@ -24,16 +24,16 @@ loop-j-preserved g c =
     let a = block_of c.args.rest.now c.args.source in
     let old = c.args.bay.now.words in
     let b = c.loop-j.store in
-    let wide : length b.words ≡ s.words = ap (λ (x : Lent). length x.words) inv.store ∙ c.requires.source_here ∙ sym (ap (λ (x : Extent). x.words) inv.shape) in
+    let wide : length b.words ≡ s.words = ap (λ (x : BlockAt). length x.words) inv.store ∙ c.requires.source_here ∙ sym (ap (λ (x : Extent). x.words) inv.shape) in
     let below : j < s.words = omega (arith, ap (λ (x : Extent). x.words) inv.shape) in
-    let word = read_is c.blocks-2.ensures.read s b c.address_of_word-address.result j c.in-Ok.word wide below (c.address_of_word-address.ensures ∙ ap (λ (x : Lent). address_of s x.place.block j) (sym inv.store)) c.in-Ok.ensures.read
-    ∙ ap (λ (x : Lent). get_or x.words j 0) inv.store in
-    let words = ap (λ (x : Lent). x.words) c.set.ensures in
+    let word = read_is c.blocks-2.ensures.read s b c.address_of_word-address.result j c.in-Ok.word wide below (c.address_of_word-address.ensures ∙ ap (λ (x : BlockAt). address_of s x.place.block j) (sym inv.store)) c.in-Ok.ensures.read
+    ∙ ap (λ (x : BlockAt). get_or x.words j 0) inv.store in
+    let words = ap (λ (x : BlockAt). x.words) c.set.ensures in
     record {
       shape = inv.shape;
       end = inv.end;
       store = search rules;
-      place = ap (λ (x : Lent). x.place) c.set.ensures ∙ inv.place;
+      place = ap (λ (x : BlockAt). x.place) c.set.ensures ∙ inv.place;
       width = ap (λ (x : List ℕ). length x) words ∙ (length-set c.loop-j.bay.words j c.in-Ok.word ∙ inv.width);
       words = words ∙ ap₂ (λ (x : List ℕ) (y : ℕ). set x j y) inv.words word ∙ prefix_step a old j (c.requires.source_here ∙ sym c.requires.bay_width) (omega (arith, c.requires.source_here, ap (λ (x : Extent). x.words) inv.shape));
       rest = search rules;

@@ -3,7 +3,7 @@ use Rattle.std.proofs.lemmas.Option.{get_or_from_slice_get}
 use Rattle.batch.specs.Extent.{Extent}
 use Rattle.batch.specs.declared.transfer.Place.{Place}
 use Rattle.module_memory.specs.Store.{block_of}
-use Rattle.module_memory.specs.Lending.{Lent}
+use Rattle.module_memory.specs.Lending.{BlockAt}
 use Rattle.module_memory.proofs.CoreLaw.{prefix_step}
 use Rattle.peek_poke.specs.Blocks.{block_write}
 use Rattle.setting_runner.proofs.Addresses.{write_lands, written_is}
@@ -31,12 +31,12 @@ loop-j-preserved g c =
     let word : c.in-Some.word ≡ get_or a j 0 = sym (get_or_from_slice_get a j c.in-Some.word 0 (sym (c.in-Some.ensures.there c.requires.source_exists))) in
     let written : block_write c.loop-j.bay c.address_of_word-address.result c.in-Some.word ≡ Ok c.push_word.new.store = search rules in
     let new = written_is c.blocks-2.ensures.written s c.loop-j.bay c.push_word.new.store c.place-block.result.block _ j c.in-Some.word wide below n c.address_of_word-address.ensures written in
-    let words = ap (λ (x : Lent). x.words) new in
+    let words = ap (λ (x : BlockAt). x.words) new in
     record {
       shape = inv.shape;
       end = inv.end;
       block = inv.block;
-      place = ap (λ (x : Lent). x.place) new ∙ inv.place;
+      place = ap (λ (x : BlockAt). x.place) new ∙ inv.place;
       width = ap (λ (x : List ℕ). length x) words ∙ (length-set c.loop-j.bay.words j c.in-Some.word ∙ inv.width);
       words = words ∙ ap₂ (λ (x : List ℕ) (y : ℕ). set x j y) inv.words word ∙ prefix_step a b j (c.requires.source_here ∙ sym c.requires.bay_width) (omega (arith, c.requires.source_here, ap (λ (x : Extent). x.words) inv.shape));
       rest = search rules;

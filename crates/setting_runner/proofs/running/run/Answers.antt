@@ -8,7 +8,7 @@ use Rattle.batch.specs.declared.transfer.Place.{Place}
 use Rattle.batch.specs.declared.transfer.Transfer.{Transfer}
 use Rattle.module_memory.specs.Bays.{AreBaysOf, destinations_of}
 use Rattle.module_memory.specs.Core.{FitsIn, IsReady, setting_of}
-use Rattle.module_memory.specs.Lending.{AreLendable, Lent, bays_of, joined, without}
+use Rattle.module_memory.specs.Lending.{AreLendable, BlockAt, bays_of, joined, without}
 use Rattle.module_memory.specs.Store.{Store}
 use Rattle.module_memory.proofs.PartLaws.{shape-without}
 use Rattle.setting_runner.specs.Runs.{numbers_of, HasCause}
@@ -56,7 +56,7 @@ run_settings-outcome-requires-clause-bays g c κs within = λ k below.
     let bays : c.as_mut_slice.result.now ≡ bays_of c.args.rack (destinations_of plan.batch (concat plan.settings)) = c.as_mut_slice.ensures.value ∙ c.in-Ok-part.ensures.bays ∙ ap (bays_of c.args.rack) places in
     let own = plan_bays c.args.rack plan k ready below in
     subst (λ (r : Store). AreBaysOf r c.as_mut_slice.result.now (length (concat (take k plan.settings))) (setting_of plan.batch (numbers_of plan k))) (sym rest)
-    (subst (λ (b : List Lent). AreBaysOf (without c.args.rack (destinations_of plan.batch (concat plan.settings))) b (length (concat (take k plan.settings))) (setting_of plan.batch (numbers_of plan k))) (sym bays) own)
+    (subst (λ (b : List BlockAt). AreBaysOf (without c.args.rack (destinations_of plan.batch (concat plan.settings))) b (length (concat (take k plan.settings))) (setting_of plan.batch (numbers_of plan k))) (sym bays) own)
 
 pub returns-in-Ok-part-clause-cause : goal.returns-in-Ok-part-clause-cause
 returns-in-Ok-part-clause-cause g c =

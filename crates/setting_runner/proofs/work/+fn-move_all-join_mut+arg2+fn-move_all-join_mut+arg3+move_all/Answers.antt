@@ -1,5 +1,5 @@
 use Rattle.std.proofs.Common.{◌≡◌, ◌≤◌, ◌<◌, ◌/◌, ◌++◌, ℕ, List, length, take, drop, ◌∙◌, ap₂, rules, sym, subst, arith, take-append-drop}
-use Rattle.module_memory.specs.Lending.{Lent}
+use Rattle.module_memory.specs.Lending.{BlockAt}
 use Rattle.setting_runner.specs.Moves.{AreMovable, HaveMoved}
 use Rattle.setting_runner.proofs.Moves.{HaveMoved-append, HaveMoved-length, AreMovable-length, AreMovable-take, AreMovable-drop}
 use Rattle.setting_runner.proofs.work.+fn-move_all-join_mut+arg2+fn-move_all-join_mut+arg3+move_all.Goals as goal
@@ -14,10 +14,10 @@ join_mut-moved1-requires-after_bounds g t c =
     let batch = c.args.work.now.batch.now in
     let front : AreMovable c.args.work.now.rest.now c.args.work.now.batch.now c.split_at.result.0.now c.split_at_mut-bays1.result.0.now =
     subst (λ (x : List ℕ). AreMovable rest batch x c.split_at_mut-bays1.result.0.now) (sym c.split_at.ensures.front)
-    (subst (λ (x : List Lent). AreMovable rest batch (take middle c.args.numbers.now) x) (sym c.split_at_mut-bays1.ensures.front) (AreMovable-take rest batch c.args.numbers.now c.args.bays.now middle c.requires.movable)) in
+    (subst (λ (x : List BlockAt). AreMovable rest batch (take middle c.args.numbers.now) x) (sym c.split_at_mut-bays1.ensures.front) (AreMovable-take rest batch c.args.numbers.now c.args.bays.now middle c.requires.movable)) in
     let back : AreMovable c.args.work.now.rest.now c.args.work.now.batch.now c.split_at.result.1.now c.split_at_mut-bays1.result.1.now =
     subst (λ (x : List ℕ). AreMovable rest batch x c.split_at_mut-bays1.result.1.now) (sym c.split_at.ensures.back)
-    (subst (λ (x : List Lent). AreMovable rest batch (drop middle c.args.numbers.now) x) (sym c.split_at_mut-bays1.ensures.back) (AreMovable-drop rest batch c.args.numbers.now c.args.bays.now middle c.requires.movable)) in
+    (subst (λ (x : List BlockAt). AreMovable rest batch (drop middle c.args.numbers.now) x) (sym c.split_at_mut-bays1.ensures.back) (AreMovable-drop rest batch c.args.numbers.now c.args.bays.now middle c.requires.movable)) in
     let f1 : length c.split_at.result.0.now ≤ 16 = omega arith in
     let f2 : length c.split_at.result.1.now ≤ 16 = omega arith in
     let n1 : c.halves.result.0.count < c.args.workers.count = omega arith in
@@ -44,5 +44,5 @@ returns g t c =
     let olds : c.split_at_mut-bays1.result.0.now ++ c.split_at_mut-bays1.result.1.now ≡ c.args.bays.now = sym c.split_at_mut-bays1.ensures.value in
     let news = c.bays1-1.given.0 ++ c.bays2-1.given.0 in
     subst (λ (m : List (ℕ × ℕ)). HaveMoved sure rest batch c.args.numbers.now c.args.bays.now news m) (sym c.and.ensures)
-    (subst (λ (o : List Lent). HaveMoved sure rest batch c.args.numbers.now o news (c.join_mut-moved1.result.0 ++ c.join_mut-moved1.result.1)) olds
+    (subst (λ (o : List BlockAt). HaveMoved sure rest batch c.args.numbers.now o news (c.join_mut-moved1.result.0 ++ c.join_mut-moved1.result.1)) olds
     (subst (λ (j : List ℕ). HaveMoved sure rest batch j (c.split_at_mut-bays1.result.0.now ++ c.split_at_mut-bays1.result.1.now) news (c.join_mut-moved1.result.0 ++ c.join_mut-moved1.result.1)) numbers all))

@@ -5,7 +5,7 @@ use Rattle.batch.specs.declared.transfer.Transfer.{Transfer}
 use Rattle.batch.specs.Places.{HasPlace, source_of}
 use Rattle.batch.specs.Overlap.{transfer_at}
 use Rattle.module_memory.specs.Store.{block_of}
-use Rattle.module_memory.specs.Lending.{Lent}
+use Rattle.module_memory.specs.Lending.{BlockAt}
 use Rattle.setting_runner.specs.Moves.{HasMoved}
 use Rattle.setting_runner.proofs.Moves.{AreMovable-at, AreMovable-length, Completes-next, Completes-end, same_there, same_after, no_get}
 use Rattle.setting_runner.proofs.work.move_in_turn.Goals as goal
@@ -39,14 +39,14 @@ move_block-words-requires-clause-bay_exists g c =
     let i = c.loop-i.i in
     let d = c.index-bays-i.result in
     let m = AreMovable-at c.args.work.now.rest.now c.args.work.now.batch.now c.args.numbers.now c.args.bays.now i 0 d c.requires.movable c.loop-i-test.true in
-    subst (λ (b : Lent). HasPlace c.args.work.now.rest.now.shape b.place) (sym (same_there c.loop-i.bays c.args.bays.now i d c.loop-i.invariant.left)) m.bay_exists
+    subst (λ (b : BlockAt). HasPlace c.args.work.now.rest.now.shape b.place) (sym (same_there c.loop-i.bays c.args.bays.now i d c.loop-i.invariant.left)) m.bay_exists
 
 pub move_block-words-requires-clause-bay_width : goal.move_block-words-requires-clause-bay_width
 move_block-words-requires-clause-bay_width g c =
     let i = c.loop-i.i in
     let d = c.index-bays-i.result in
     let m = AreMovable-at c.args.work.now.rest.now c.args.work.now.batch.now c.args.numbers.now c.args.bays.now i 0 d c.requires.movable c.loop-i-test.true in
-    ap (λ (b : Lent). length b.words) (same_there c.loop-i.bays c.args.bays.now i d c.loop-i.invariant.left) ∙ m.bay_width
+    ap (λ (b : BlockAt). length b.words) (same_there c.loop-i.bays c.args.bays.now i d c.loop-i.invariant.left) ∙ m.bay_width
 
 pub loop-i-preserved : goal.loop-i-preserved
 loop-i-preserved g c =
@@ -55,18 +55,18 @@ loop-i-preserved g c =
     let t = get_or c.args.numbers.now i 0 in
     let x : Transfer = c.in-Some.transfer in
     let e : transfer_at c.args.work.now.batch.now t ≡ x = get_or_from_slice_get c.args.work.now.batch.now t x _ (sym c.in-Some.ensures) in
-    let old : Lent = c.index-bays-i.result in
-    let new : Lent = c.move_block-words.new.bay in
+    let old : BlockAt = c.index-bays-i.result in
+    let new : BlockAt = c.move_block-words.new.bay in
     let count = c.move_block-words.result in
     let long = AreMovable-length c.args.work.now.rest.now c.args.work.now.batch.now c.args.numbers.now c.args.bays.now c.requires.movable in
     let o : drop i c.args.bays.now ≡ old ∷ drop (i + 1) c.args.bays.now =
-    drop_more c.args.bays.now i old (omega arith) ∙ ap (λ (b : Lent). b ∷ drop (i + 1) c.args.bays.now) (sym (same_there c.loop-i.bays c.args.bays.now i old inv.left) ∙ sym c.index-bays-i.is) in
+    drop_more c.args.bays.now i old (omega arith) ∙ ap (λ (b : BlockAt). b ∷ drop (i + 1) c.args.bays.now) (sym (same_there c.loop-i.bays c.args.bays.now i old inv.left) ∙ sym c.index-bays-i.is) in
     let room : i < length c.loop-i.bays = omega arith in
     let one : HasMoved (g.W.WireMaker.is_sure c.args.work.now.wires.now) c.args.work.now.rest.now c.args.work.now.batch.now t old new (t, count) = record {
       named = refl;
       at_most = c.move_block-words.ensures.at_most;
-      place = c.move_block-words.ensures.place ∙ ap (λ (b : Lent). b.place) (sym c.index-bays-i.is);
-      words = c.move_block-words.ensures.words ∙ ap₂ (λ (y : Transfer) (b : Lent). take count (block_of c.args.work.now.rest.now (source_of y)) ++ drop count b.words) (sym e) (sym c.index-bays-i.is);
+      place = c.move_block-words.ensures.place ∙ ap (λ (b : BlockAt). b.place) (sym c.index-bays-i.is);
+      words = c.move_block-words.ensures.words ∙ ap₂ (λ (y : Transfer) (b : BlockAt). take count (block_of c.args.work.now.rest.now (source_of y)) ++ drop count b.words) (sym e) (sym c.index-bays-i.is);
       all_words = λ h. c.move_block-words.ensures.sure (c.line-wire.ensures.sure h);
     } in
     record {
