@@ -6,7 +6,8 @@ use Rattle.std.specs.List.{flat_map, list_any, AllByRecursion}
 use Rattle.std.specs.FinMap.{get, insert, remove, find, get-empty, get-from_entries}
 use Rattle.c004_commands.specs.declared.command.Command.TheVariants.{Settle}
 use Rattle.crossbar.specs.Switch.{Sources, Switch, after, after_all, idle}
-use Rattle.crossbar.specs.Pairs.{ArePairs, ends, Pair, switch_of, join, cut, is_pair, without, setting, change}
+use Rattle.crossbar.specs.Pairs.{ArePairs, ends, switch_of, join, cut, is_pair, without, setting, change}
+use Rattle.crossbar.specs.declared.pair.Pair.{Pair}
 use Rattle.crossbar.specs.declared.switch.TheConstants.{JOINED_MODULES}
 use Rattle.crossbar.proofs.Carrying.{after_all-append}
 use Rattle.crossbar.proofs.Latches.{get-put, get-cut, same_sources, eqb_yes}

@@ -7,14 +7,11 @@ use Rattle.c004_commands.specs.declared.command.Command.{Command}
 use Rattle.c004_commands.specs.declared.command.Command.TheVariants.{Join, Settle, Reset, CutPair}
 use Rattle.crossbar.specs.Switch.{Switch}
 use Rattle.crossbar.specs.Modules.{link0, link3}
+use Rattle.crossbar.specs.declared.pair.Pair.{Pair}
 use Rattle.crossbar.specs.declared.switch.TheConstants.{JOINED_MODULES}
 
--- the initiator's link 0 goes to the responder's link 3
-pub record Pair : Type 0 where
-  pub initiator : ℕ
-  pub responder : ℕ
-
--- pairs that a switch can have joined at once: initiators ascend, responders differ, and the switch joins them all
+-- pairs that a switch can have joined at once, in the order of a setting: initiators ascend, responders differ, and the
+-- switch has links for all of them
 abbrev pub ArePairs : List Pair → Type 0
 ArePairs [] = Unit {0}
 ArePairs (pair ∷ pairs) =

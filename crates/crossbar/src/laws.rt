@@ -3,7 +3,8 @@
 
 ghost use Rattle.std.specs.Prelude.{◌≡◌, List};
 ghost use Rattle.crossbar.specs.Switch.{Switch, after_all};
-ghost use Rattle.crossbar.specs.Pairs.{Pair, ArePairs, switch_of, setting, change};
+ghost use Rattle.crossbar.specs.declared.pair.Pair.{Pair};
+ghost use Rattle.crossbar.specs.Pairs.{ArePairs, switch_of, setting, change};
 
 /// A reset, the joins of the pairs and a settle turn any switch into the switch of the pairs.
 pub fn setting()

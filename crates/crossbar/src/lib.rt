@@ -8,10 +8,12 @@
 
 mod fuse;
 pub mod laws;
+mod pair;
 mod port;
 mod switch;
 
 pub use fuse::FusePort;
+pub use pair::Pair;
 pub use port::{ConfigPort, MemoryPort, PortFault};
 pub use switch::{Crossbar, JOINED_MODULES};
 
