@@ -5,9 +5,8 @@ use Rattle.std.proofs.lemmas.Bool.{cases_lt}
 use Rattle.std.proofs.lemmas.List.{take-append-drop, take-append-le}
 use Rattle.c004_commands.specs.Commands.{row, text, HasPorts, AreCommands, IsRest, Spells}
 use Rattle.c004_commands.specs.declared.command.Command.{Command}
-use Rattle.crossbar.specs.Switch.{enquiries}
 use Rattle.crossbar.specs.Port.{IsExchange, IsFront}
-use Rattle.crossbar.proofs.Carrying.{enquiries-append, nothing_come}
+use Rattle.crossbar.proofs.Carrying.{nothing_come}
 
 -- less than the bytes of a command are less than a whole one
 row_rest : (c : Command) (k : ℕ) → HasPorts c → k < length (row c) → IsRest (take k (row c))
@@ -19,23 +18,21 @@ row_rest c k p h = record {
   row_is = sym (take-append-drop k (row c)) ∙ ap (λ t. take k (row c) ++ t) (drop-cons (row c) k 0 h);
 }
 
--- the first bytes of a text are commands and less than a whole one, and no more of these are enquiries
+-- the first bytes of a text are commands and less than a whole one
 record Front (commands : List Command) (k : ℕ) : Type 0 where
   whole : List Command
   rest : List ℕ
   spells : Spells (take k (text commands)) whole rest
-  fewer : enquiries whole ≤ enquiries commands
 
 front_none : (k : ℕ) → Front [] k
-front_none zero = record { whole = []; rest = []; spells = record { whole = refl; ports = tt; partial = nothing_come }; fewer = omega arith }
-front_none (suc k) = record { whole = []; rest = []; spells = record { whole = refl; ports = tt; partial = nothing_come }; fewer = omega arith }
+front_none zero = record { whole = []; rest = []; spells = record { whole = refl; ports = tt; partial = nothing_come } }
+front_none (suc k) = record { whole = []; rest = []; spells = record { whole = refl; ports = tt; partial = nothing_come } }
 
 front_within : (c : Command) (cs : List Command) (k : ℕ) → HasPorts c → k < length (row c) → Front (c ∷ cs) k
 front_within c cs k p h = record {
   whole = [];
   rest = take k (row c);
   spells = record { whole = (let le : k ≤ length (row c) = omega arith in take-append-le k (row c) (text cs) le); ports = tt; partial = row_rest c k p h };
-  fewer = omega arith;
 }
 
 front_past : (c : Command) (cs : List Command) (k j : ℕ) → HasPorts c → k ≡ length (row c) + j → Front cs j → Front (c ∷ cs) k
@@ -47,7 +44,6 @@ front_past c cs k j p e f = record {
     ports = (p, f.spells.ports);
     partial = f.spells.partial;
   };
-  fewer = omega (arith, enquiries-append (c ∷ []) cs, enquiries-append (c ∷ []) f.whole, f.fewer);
 }
 
 front_of : (commands : List Command) (k : ℕ) → AreCommands commands → Front commands k
@@ -58,11 +54,10 @@ front_of (c ∷ cs) k a = elim (cases_lt k (length (row c))) [
 ]
 
 -- the first bytes of an exchange are the front of one
-pub front_of_exchange : (bytes : List ℕ) (replies k : ℕ) → IsExchange bytes replies → IsFront (take k bytes) replies
+pub front_of_exchange : (bytes : List ℕ) (replies k : ℕ) → IsExchange bytes replies → IsFront (take k bytes)
 front_of_exchange bytes replies k e =
     let f = front_of e.commands k e.ports in record {
       commands = f.whole;
       rest = f.rest;
       spells = subst (λ (b : List ℕ). Spells (take k b) f.whole f.rest) (sym e.whole) f.spells;
-      room = omega (arith, f.fewer, e.count);
     }

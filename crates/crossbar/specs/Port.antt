@@ -1,6 +1,6 @@
 -- What goes over the configuration link: command bytes to the switch, and a byte back for each enquiry.
 -- Source: INMOS IMS C004 data sheet. That a port takes whole commands at a time is this project's choice.
-use Rattle.std.specs.Prelude.{◌≡◌, ◌≤◌, ℕ, List}
+use Rattle.std.specs.Prelude.{◌≡◌, ℕ, List}
 use Rattle.c004_commands.specs.Commands.{text, AreCommands, Spells}
 use Rattle.c004_commands.specs.declared.command.Command.{Command}
 use Rattle.crossbar.specs.Switch.{Switch, after_all, answers, enquiries}
@@ -22,9 +22,8 @@ abbrev pub CarriesOutWhole : List ℕ → Switch → Switch → Type 0
 CarriesOutWhole bytes old new =
     (commands : List Command) (rest : List ℕ) → Spells bytes commands rest → new ≡ after_all commands old
 
--- bytes that may stop within a command: at most so many of the commands that are whole are enquiries
-pub record IsFront (bytes : List ℕ) (replies : ℕ) : Type 0 where
+-- the bytes are commands, of which the last may not be whole
+pub record IsFront (bytes : List ℕ) : Type 0 where
   pub commands : List Command
   pub rest : List ℕ
   pub spells : Spells bytes commands rest
-  pub room : enquiries commands ≤ replies

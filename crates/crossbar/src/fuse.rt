@@ -1,11 +1,12 @@
 //! A port that fails after so many bytes.
 
-ghost use Rattle.std.specs.Prelude.{◌≡◌, ◌≤◌, ◌+◌, ◌-◌, ◌↔◌, length, take, Some, None, MatchOption, IfSome, IfNone, IsOk, OnOk, OnErr};
-ghost use Rattle.crossbar.specs.Port.{IsExchange, CarriesOut, CarriesOutWhole};
+ghost use Rattle.std.specs.Prelude.{◌≡◌, ◌+◌, ◌↔◌, length, Some, None, IsOk, OnOk, OnErr};
+ghost use Rattle.crossbar.specs.Port.{IsExchange, IsFront, CarriesOutWhole};
 ghost use Rattle.crossbar.specs.Switch.{idle};
 
 use crate::port::{ConfigPort, PortFault, carry_out};
 use crate::switch::Crossbar;
+use c004_commands::CommandReader;
 use failure_count::FailureCount;
 use std::marker::Model;
 
@@ -51,6 +52,7 @@ impl FusePort {
 
 impl ConfigPort for FusePort {
     ghost use Rattle.std.specs.Prelude.{true};
+    ghost use Rattle.crossbar.specs.Fuse.{HasLeft, left_after, Carries, CarriesLeft};
 
     ghost switch = { λ port. port.switch };
 
@@ -59,17 +61,17 @@ impl ConfigPort for FusePort {
     ghost failures = { λ port. port.failures };
 
     /// Takes time by the number of bytes. Where the bytes are more than are left, the commands that are
-    /// whole within those that are left are carried out, and the port fails from then on.
-    #[tactic(auto, using(crate::proofs::Carrying::exchange_front, crate::proofs::Fronts::front_of_exchange))]
+    /// whole within those that are left are carried out, and the port fails from then on. A call that
+    /// fails leaves the replies as they were.
     fn exchange(&mut self, bytes: &[u8], replies: &mut [u8]) -> Result<(), PortFault>
         requires { IsExchange bytes.now (length replies.old) }
-        ensures done { OnOk result (CarriesOut bytes.now self.old.switch self.new.switch replies.new) }
+        ensures done { OnOk result (Carries bytes.now self.old self.new replies.new) }
         // It takes the bytes just where they are within those that are left.
-        ensures within { IsOk result ↔ MatchOption self.old.left ⊥ (λ left. length bytes.now ≤ left) }
-        ensures left { OnOk result (IfSome self.old.left (λ left. self.new.left ≡ Some (left - length bytes.now))) }
-        ensures whole { OnErr result (IfSome self.old.left (λ left. CarriesOutWhole (take left bytes.now) self.old.switch self.new.switch)) }
-        ensures blown { OnErr result (IfNone self.old.left (self.new.switch ≡ self.old.switch)) }
+        ensures within { IsOk result ↔ HasLeft self.old.left (length bytes.now) }
+        ensures left { OnOk result (self.new.left ≡ left_after self.old.left (length bytes.now)) }
+        ensures whole { OnErr result (CarriesLeft bytes.now self.old self.new) }
         ensures ends { OnErr result (self.new.left ≡ None) }
+        ensures replies { OnErr result (replies.new ≡ replies.old) }
         ensures fault { OnErr result (self.new.failures ≡ self.old.failures + 1) }
         ensures unfailed { OnOk result (self.new.failures ≡ self.old.failures) }
     {
@@ -82,9 +84,25 @@ impl ConfigPort for FusePort {
             self.left = Some(left - bytes.len());
             return Ok(());
         }
-        carry_out(&mut self.crossbar, &bytes[..left], replies);
+        carry_whole(&mut self.crossbar, &bytes[..left]);
         self.left = None;
         self.failed.raise();
         Err(PortFault)
+    }
+}
+
+/// Carries out the commands that are whole within the bytes, in order, and keeps no answer.
+fn carry_whole(crossbar: &mut Crossbar, bytes: &[u8])
+    requires { IsFront bytes.now }
+    ensures { CarriesOutWhole bytes.now crossbar.old crossbar.new }
+{
+    let mut reader = CommandReader::new();
+    for byte in bytes {
+        let Ok(given) = reader.feed(*byte) else {
+            unreachable!();
+        };
+        if let Some(command) = given {
+            let _answer = crossbar.apply(command);
+        }
     }
 }

@@ -1,11 +1,9 @@
 //! The port through which a switch is set and asked.
 
-ghost use Rattle.std.specs.Prelude.{◌≡◌, ◌<◌, ◌≤◌, ◌+◌, ◌++◌, Bool, true, ℕ, IsTrue, List, length, take, IsOk, OnOk, OnErr};
+ghost use Rattle.std.specs.Prelude.{◌≡◌, ◌<◌, ◌≤◌, ◌+◌, ◌++◌, Bool, true, ℕ, IsTrue, length, take, IsOk, OnOk, OnErr};
 ghost use Rattle.std.specs.Option.{option_to_list};
-ghost use Rattle.c004_commands.specs.Commands.{Spells};
-ghost use Rattle.c004_commands.specs.declared.command.Command.{Command};
 ghost use Rattle.crossbar.specs.Switch.{Switch, idle, after_all, answers, enquiries};
-ghost use Rattle.crossbar.specs.Port.{IsExchange, CarriesOut, CarriesOutWhole, IsFront};
+ghost use Rattle.crossbar.specs.Port.{IsExchange, CarriesOut};
 
 use crate::switch::Crossbar;
 use c004_commands::{Command, CommandReader};
@@ -81,7 +79,6 @@ impl ConfigPort for MemoryPort {
     ghost failures = { λ _. 0 };
 
     /// Takes time by the number of bytes, and never fails.
-    #[tactic(auto, using(crate::proofs::Carrying::exchange_front))]
     fn exchange(&mut self, bytes: &[u8], replies: &mut [u8]) -> Result<(), PortFault>
         requires { IsExchange bytes.now (length replies.old) }
         ensures done { CarriesOut bytes.now self.old self.new replies.new }
@@ -92,13 +89,10 @@ impl ConfigPort for MemoryPort {
     }
 }
 
-/// Carries out the commands that are whole within the bytes, in order, and writes their answers to the
-/// front of the replies.
-pub fn carry_out(crossbar: &mut Crossbar, bytes: &[u8], replies: &mut [u8])
-    requires { IsFront bytes.now (length replies.old) }
-    ensures switch { CarriesOutWhole bytes.now crossbar.old crossbar.new }
-    ensures replies { (commands : List Command) (rest : List ℕ) → Spells bytes.now commands rest →
-        take (enquiries commands) replies.new ≡ answers commands crossbar.old }
+/// Carries out whole commands, in order, and fills the replies with the answers to their enquiries.
+pub(crate) fn carry_out(crossbar: &mut Crossbar, bytes: &[u8], replies: &mut [u8])
+    requires { IsExchange bytes.now (length replies.old) }
+    ensures { CarriesOut bytes.now crossbar.old crossbar.new replies.new }
 {
     let mut reader = CommandReader::new();
     let mut answered = 0;

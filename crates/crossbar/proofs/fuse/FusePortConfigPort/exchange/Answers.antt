@@ -1,7 +1,21 @@
-use Rattle.crossbar.proofs.Carrying.{exchange_carried}
+use Rattle.std.proofs.Common.{rules}
+use Rattle.crossbar.proofs.Fronts.{front_of_exchange}
 use Rattle.crossbar.proofs.fuse.FusePortConfigPort.exchange.Goals as goal
 
-pub returns-then-bytes-left-clause-done : goal.returns-then-bytes-left-clause-done
-returns-then-bytes-left-clause-done c =
-    rw (← c.self.view_is)
-    (exchange_carried c.args.bytes.now c.carry_out.new.replies _ c.self.inside.crossbar c.carry_out.new.crossbar c.requires c.carry_out.auto.replies c.carry_out.ensures.switch c.carry_out.ensures.replies)
+pub carry_whole-requires : goal.carry_whole-requires
+carry_whole-requires c = front_of_exchange c.args.bytes.now _ _ c.requires
+
+pub returns-clause-within : goal.returns-clause-within
+returns-clause-within c = search rules
+
+pub returns-clause-whole : goal.returns-clause-whole
+returns-clause-whole c = search rules
+
+pub returns-clause-ends : goal.returns-clause-ends
+returns-clause-ends c = search rules
+
+pub returns-clause-replies : goal.returns-clause-replies
+returns-clause-replies c = search rules
+
+pub returns-in_default-clause-replies : goal.returns-in_default-clause-replies
+returns-in_default-clause-replies c = search rules
