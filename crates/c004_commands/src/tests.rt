@@ -1,6 +1,6 @@
 use crate::{
-    Answer, AnswerFormat, Command, CommandFault, CommandReader, LONGEST_COMMAND, PORTS, PortNo,
-    write,
+    Answer, AnswerFormat, CONNECTED, Command, CommandFault, CommandReader, LONGEST_COMMAND, PORTS,
+    PortNo, write,
 };
 use std::test::Fail;
 
@@ -30,18 +30,45 @@ fn half_command(rt: HostRuntime) -> Result<(), Fail> {
     Ok(())
 }
 
+// What a command is written as, and how many of these bytes are its own.
+fn written(command: Command) -> ([u8; LONGEST_COMMAND], usize) {
+    let mut out = [9; LONGEST_COMMAND];
+    let number = write(command, &mut out);
+    (out, number)
+}
+
 #[test]
 fn written_bytes(rt: HostRuntime) -> Result<(), Fail> {
-    let link1 = PortNo::new(0).ok_or("0 is a port")?;
-    let link2 = PortNo::new(17).ok_or("17 is a port")?;
-    let mut out = [9; LONGEST_COMMAND];
-    assert_eq!(rt; write(Command::Join { link1, link2 }, &mut out), 3);
-    assert_eq!(rt; out, [0x01, 0x00, 0x11]);
-    assert_eq!(rt; write(Command::Enquire { output: link2 }, &mut out), 2);
-    assert_eq!(rt; out, [0x02, 0x11, 0x00]);
-    assert_eq!(rt; write(Command::Settle, &mut out), 1);
-    assert_eq!(rt; out, [0x03, 0x00, 0x00]);
+    let link1 = PortNo::new(3).ok_or("3 is a port")?;
+    let link2 = PortNo::new(7).ok_or("7 is a port")?;
+    let (input, output) = (link1, link2);
+    assert_eq!(rt;
+        written(Command::Connect { input, output }),
+        ([0x00, 0x03, 0x07], 3)
+    );
+    assert_eq!(rt;
+        written(Command::Join { link1, link2 }),
+        ([0x01, 0x03, 0x07], 3)
+    );
+    assert_eq!(rt;
+        written(Command::Enquire { output }),
+        ([0x02, 0x07, 0x00], 2)
+    );
+    assert_eq!(rt; written(Command::Settle), ([0x03, 0x00, 0x00], 1));
+    assert_eq!(rt; written(Command::Reset), ([0x04, 0x00, 0x00], 1));
+    assert_eq!(rt; written(Command::Cut { output }), ([0x05, 0x07, 0x00], 2));
+    assert_eq!(rt;
+        written(Command::CutPair { link1, link2 }),
+        ([0x06, 0x03, 0x07], 3)
+    );
     Ok(())
+}
+
+#[test]
+fn named_sizes(rt: HostRuntime) {
+    assert_eq!(rt; PORTS, 32);
+    assert_eq!(rt; CONNECTED, 0x80);
+    assert_eq!(rt; LONGEST_COMMAND, 3);
 }
 
 #[test]

@@ -1,22 +1,34 @@
-ghost use Rattle.std.specs.Prelude.{◌≡◌, ◌<◌, ◌∷◌, [], IsTrue, IfOk, OnErr};
+ghost use Rattle.std.specs.Prelude.{◌≡◌, ◌<◌, ◌≤◌, ◌+◌, ◌∷◌, [], IsTrue, IfOk, OnOk, OnErr};
 
 use crate::{ConfigPort, Crossbar, FusePort, JOINED_MODULES, MemoryPort, PortFault};
 use c004_commands::{CommandFault, CommandReader, PortNo};
 use std::test::Fail;
 
-// Resets the switch, joins module 0 to module 1, and asks both ends. What is answered follows from the
-// port's contract alone, whatever the port and whatever its switch was.
+// Resets the switch and joins module 0 to module 1, and then asks both ends. What is answered follows from
+// the port's contract alone, whatever the port and whatever its switch was.
 fn answers_of_a_join<P: ConfigPort>(port: &mut P) -> Result<[u8; 2], PortFault>
     requires { IsTrue (P.honest port.old) }
     ensures answers { IfOk result (λ replies. replies ≡ 0x80 ∷ 0x91 ∷ []) }
+    ensures honesty { IsTrue (P.honest port.new) }
     ensures fault { OnErr result (P.failures port.old < P.failures port.new) }
+    ensures unfailed { OnOk result (P.failures port.new ≡ P.failures port.old) }
 {
+    port.exchange(&[0x04, 0x01, 0x00, 0x11, 0x03], &mut [])?;
     let mut replies = [0; 2];
-    port.exchange(
-        &[0x04, 0x01, 0x00, 0x11, 0x03, 0x02, 0x11, 0x02, 0x00],
-        &mut replies,
-    )?;
+    port.exchange(&[0x02, 0x11, 0x02, 0x00], &mut replies)?;
     Ok(replies)
+}
+
+// Resets the switch, and tries once more where the port fails.
+fn reset_at_last<P: ConfigPort>(port: &mut P) -> Result<(), PortFault>
+    ensures honesty { P.honest port.new ≡ P.honest port.old }
+    ensures counted { P.failures port.old ≤ P.failures port.new }
+    ensures twice { OnErr result (P.failures port.old + 2 ≤ P.failures port.new) }
+{
+    match port.exchange(&[0x04], &mut []) {
+        Ok(()) => Ok(()),
+        Err(PortFault) => port.exchange(&[0x04], &mut []),
+    }
 }
 
 // Feeds the bytes to a reader, carries out the commands that it gives, and says what came last.
@@ -75,11 +87,115 @@ fn bad_commands(rt: HostRuntime) -> Result<(), Fail> {
     Ok(())
 }
 
+// What the bytes make of a new switch: what their last command is answered, and whether it is ready then.
+fn state_after(bytes: &[u8]) -> Result<(Option<u8>, bool), CommandFault> {
+    let mut crossbar = Crossbar::new();
+    let answer = feed_all(&mut CommandReader::new(), &mut crossbar, bytes)?;
+    Ok((answer, crossbar.is_ready()))
+}
+
+#[test]
+fn an_input_feeds_an_output(rt: HostRuntime) {
+    assert_eq!(rt;
+        state_after(&[0x00, 0x03, 0x07, 0x02, 0x07]),
+        Ok((Some(0x83), false))
+    );
+    assert_eq!(rt;
+        state_after(&[0x00, 0x03, 0x07, 0x02, 0x03]),
+        Ok((Some(0x00), false))
+    );
+    // One input feeds two outputs, and the last input of an output is the one that feeds it.
+    assert_eq!(rt;
+        state_after(&[0x00, 0x03, 0x07, 0x00, 0x03, 0x08, 0x02, 0x07]),
+        Ok((Some(0x83), false))
+    );
+    assert_eq!(rt;
+        state_after(&[0x00, 0x03, 0x07, 0x00, 0x04, 0x07, 0x02, 0x07]),
+        Ok((Some(0x84), false))
+    );
+    assert_eq!(rt; state_after(&[0x00, 0x03, 0x07, 0x03]), Ok((None, true)));
+}
+
+#[test]
+fn an_output_is_cut(rt: HostRuntime) {
+    assert_eq!(rt;
+        state_after(&[0x00, 0x03, 0x07, 0x05, 0x07]),
+        Ok((None, false))
+    );
+    assert_eq!(rt;
+        state_after(&[0x00, 0x03, 0x07, 0x05, 0x07, 0x02, 0x07]),
+        Ok((Some(0x00), false))
+    );
+    // To cut output 3 isn't to cut what input 3 feeds.
+    assert_eq!(rt;
+        state_after(&[0x00, 0x03, 0x07, 0x05, 0x03, 0x02, 0x07]),
+        Ok((Some(0x83), false))
+    );
+    assert_eq!(rt; state_after(&[0x05, 0x07]), Ok((None, true)));
+}
+
+#[test]
+fn two_links_are_joined(rt: HostRuntime) {
+    assert_eq!(rt;
+        state_after(&[0x01, 0x03, 0x07, 0x02, 0x07]),
+        Ok((Some(0x83), false))
+    );
+    assert_eq!(rt;
+        state_after(&[0x01, 0x03, 0x07, 0x02, 0x03]),
+        Ok((Some(0x87), false))
+    );
+    assert_eq!(rt;
+        state_after(&[0x01, 0x05, 0x05, 0x02, 0x05]),
+        Ok((Some(0x85), false))
+    );
+}
+
+#[test]
+fn two_links_are_cut(rt: HostRuntime) {
+    assert_eq!(rt;
+        state_after(&[0x01, 0x03, 0x07, 0x06, 0x03, 0x07, 0x02, 0x03]),
+        Ok((Some(0x00), false))
+    );
+    assert_eq!(rt;
+        state_after(&[0x01, 0x03, 0x07, 0x06, 0x03, 0x07, 0x02, 0x07]),
+        Ok((Some(0x00), false))
+    );
+    // What the inputs of the two links feed elsewhere stays.
+    assert_eq!(rt;
+        state_after(&[0x00, 0x03, 0x07, 0x06, 0x03, 0x04, 0x02, 0x07]),
+        Ok((Some(0x83), false))
+    );
+    assert_eq!(rt; state_after(&[0x06, 0x03, 0x07]), Ok((None, true)));
+}
+
+#[test]
+fn a_reset_cuts_all(rt: HostRuntime) {
+    assert_eq!(rt; state_after(&[0x00, 0x03, 0x07, 0x04]), Ok((None, true)));
+    assert_eq!(rt;
+        state_after(&[0x00, 0x03, 0x07, 0x04, 0x02, 0x07]),
+        Ok((Some(0x00), true))
+    );
+}
+
+#[test]
+fn named_sizes(rt: HostRuntime) {
+    assert_eq!(rt; JOINED_MODULES, 16);
+}
+
 #[test]
 fn any_port_answers(rt: HostRuntime) -> Result<(), Fail> {
     let mut port = MemoryPort::new();
+    assert_eq!(rt; reset_at_last(&mut port), Ok(()));
     assert_eq!(rt; answers_of_a_join(&mut port)?, [0x80, 0x91]);
     Ok(())
+}
+
+#[test]
+fn a_fused_port_answers(rt: HostRuntime) {
+    let mut port = FusePort::new(9);
+    assert_eq!(rt; answers_of_a_join(&mut port), Ok([0x80, 0x91]));
+    assert_eq!(rt; reset_at_last(&mut port), Err(PortFault));
+    assert!(rt; port.crossbar().joined(0, 1));
 }
 
 // Joins module 0 to module 1 and module 1 to module 2, on a switch where nothing else is joined.

@@ -3,7 +3,7 @@
 ghost use Rattle.std.specs.Prelude.{◌≡◌};
 ghost use Rattle.link_bytes.specs.declared.packet.Packet.TheVariants.{Ack, Byte};
 
-use crate::{ACK, BitReader, FRAME_BITS, HalfLink, LinkFault, Packet, frame, laws};
+use crate::{ACK, BitReader, DATA_BITS, FRAME_BITS, HalfLink, LinkFault, Packet, frame, laws};
 use std::test::Fail;
 
 #[test]
@@ -25,6 +25,13 @@ fn frame_of_five(rt: HostRuntime) {
     }
     assert_eq!(rt; reader.feed(true), Err(LinkFault::Framing));
     assert_eq!(rt; reader.feed(false), Err(LinkFault::Framing));
+}
+
+#[test]
+fn named_sizes(rt: HostRuntime) {
+    assert_eq!(rt; DATA_BITS, 8);
+    assert_eq!(rt; FRAME_BITS, 11);
+    assert_eq!(rt; ACK, [true, false]);
 }
 
 #[test]
