@@ -45,3 +45,8 @@ pub record Spells (bytes : List ℕ) (commands : List Command) (rest : List ℕ)
   pub whole : bytes ≡ text commands ++ rest
   pub ports : AreCommands commands
   pub partial : IsRest rest
+
+-- however the bytes are read, they are the same commands and the same rest
+abbrev pub HasOneReading : List ℕ → Type 0
+HasOneReading bytes =
+    (commands others : List Command) (rest left : List ℕ) → Spells bytes commands rest → Spells bytes others left → (commands ≡ others) × (rest ≡ left)

@@ -1,7 +1,7 @@
 -- How contracts see a reader: the bytes of the command that was begun.
 use Rattle.std.specs.Prelude.{◌≡◌, ℕ, List, [], ◌∷◌, ◌++◌, drop, Option}
 use Rattle.std.specs.Option.{option_to_list}
-use Rattle.c004_commands.specs.Commands.{text, ArePorts, AreCommands}
+use Rattle.c004_commands.specs.Commands.{text, ArePorts, AreCommands, Spells}
 use Rattle.c004_commands.specs.declared.command.Command.{Command}
 use Rattle.c004_commands.specs.declared.reader.Begun.{Begun}
 use Rattle.c004_commands.specs.declared.reader.Begun.TheVariants.{Nothing, Connect, ConnectFrom, Join, JoinOf, Enquire, Cut, CutPair, CutPairOf}
@@ -26,3 +26,12 @@ HasBegunPorts begun = ArePorts (drop 1 (begun_bytes begun))
 pub record Reads (rest : List ℕ) (byte : ℕ) (given : Option Command) (left : List ℕ) : Type 0 where
   pub whole : rest ++ byte ∷ [] ≡ text (option_to_list given) ++ left
   pub ports : AreCommands (option_to_list given)
+
+-- the same, of what was begun and is begun now
+abbrev pub Becomes : Begun → ℕ → Option Command → Begun → Type 0
+Becomes begun byte given new = Reads (begun_bytes begun) byte given (begun_bytes new)
+
+-- whatever text has left the rest, with the byte it spells the command that is given as well, and then what is left
+abbrev pub GoesOn : List ℕ → ℕ → Option Command → List ℕ → Type 0
+GoesOn rest byte given left =
+    (bytes : List ℕ) (commands : List Command) → Spells bytes commands rest → Spells (bytes ++ byte ∷ []) (commands ++ option_to_list given) left

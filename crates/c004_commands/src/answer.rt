@@ -12,7 +12,7 @@ use thiserror::Error;
 /// The top bit of an answer: it is 1 where the output is connected (INMOS IMS C004 data sheet).
 pub const CONNECTED: u8 = 128;
 
-/// What an enquired output says of itself.
+/// What an enquired output says of itself (INMOS IMS C004 data sheet).
 #[derive(Clone, Copy, Debug, PartialEq, Eq)]
 pub enum Answer {
     /// This input feeds it.
@@ -21,7 +21,7 @@ pub enum Answer {
     Loose,
 }
 
-/// A byte that answers no enquiry.
+/// A byte that answers no enquiry. That it is refused is this project's choice.
 #[derive(Clone, Copy, Debug, PartialEq, Eq, Error)]
 pub enum AnswerFormat {
     /// The top bit is 1, so the output is connected, and bit 5 or 6 is 1, so no input has the number.

@@ -4,8 +4,8 @@ ghost use Rattle.std.specs.Prelude.{◌≡◌, ◌≢◌, ◌<◌, ◌≤◌, �
 ghost use Rattle.std.specs.Option.{option_to_list};
 ghost use Rattle.std.specs.Result.{IsErrOf};
 ghost use Rattle.c004_commands.specs.Commands.{Spells, IsRest};
-ghost use Rattle.c004_commands.specs.Faults.{IsFault};
-ghost use Rattle.c004_commands.specs.Reader.{begun_bytes, HasBegunPorts, Reads};
+ghost use Rattle.c004_commands.specs.Faults.{IsFault, TellsFaults};
+ghost use Rattle.c004_commands.specs.Reader.{begun_bytes, HasBegunPorts, Becomes, GoesOn};
 ghost use Rattle.c004_commands.specs.declared.command.Command.{Command};
 ghost use Rattle.c004_commands.specs.declared.reader.CommandFault.{CommandFault};
 ghost use Rattle.c004_commands.specs.declared.reader.Begun.TheVariants.{Nothing};
@@ -41,7 +41,8 @@ enum Begun {
     CutPairOf(PortNo),
 }
 
-/// Reads commands byte by byte. Contracts see the bytes of the command that isn't whole yet.
+/// Reads commands byte by byte (INMOS IMS C004 data sheet, configuration messages). Contracts see the
+/// bytes of the command that isn't whole yet.
 #[derive(Debug, Drop)]
 pub struct CommandReader {
     begun: Begun,
@@ -86,11 +87,10 @@ impl CommandReader {
     #[tactic(auto, using(crate::proofs::Rests::begun_is_rest, crate::proofs::Faults::not_fault))]
     pub fn feed(&mut self, byte: u8) -> Result<Option<Command>, CommandFault>
         // Whatever the text since the last fault is, with this byte it spells the command given as well.
-        ensures text { (bytes : List ℕ) (commands : List Command) → Spells bytes commands self.old →
-            IfOk result (λ given. Spells (bytes ++ byte ∷ []) (commands ++ option_to_list given) self.new) }
+        ensures text { IfOk result (λ given. GoesOn self.old byte given self.new) }
         ensures rest { IsRest self.new }
 
-        ensures fault { (fault : CommandFault) → IsErrOf result fault ↔ IsFault self.old byte fault }
+        ensures fault { TellsFaults result self.old byte }
         ensures dropped { OnErr result (self.new ≡ []) }
         // No byte is refused with which the text goes on to a text of commands.
         ensures taken { (bytes more left : List ℕ) (commands others : List Command) →
@@ -113,7 +113,7 @@ impl CommandReader {
 fn next(begun: Begun, byte: u8) -> Result<(Begun, Option<Command>), CommandFault>
     requires { HasBegunPorts begun }
     ensures ports { IfOk result (λ read. HasBegunPorts read.0) }
-    ensures read { IfOk result (λ read. Reads (begun_bytes begun) byte read.1 (begun_bytes read.0)) }
+    ensures read { IfOk result (λ read. Becomes begun byte read.1 read.0) }
     ensures fault { IfErr result (λ fault. IsFault (begun_bytes begun) byte fault) }
 {
     if let Begun::Nothing = begun {
@@ -128,7 +128,7 @@ fn next(begun: Begun, byte: u8) -> Result<(Begun, Option<Command>), CommandFault
 // The first byte of a command.
 fn begin(byte: u8) -> Result<(Begun, Option<Command>), CommandFault>
     ensures ports { IfOk result (λ read. HasBegunPorts read.0) }
-    ensures read { IfOk result (λ read. Reads [] byte read.1 (begun_bytes read.0)) }
+    ensures read { IfOk result (λ read. Becomes Nothing byte read.1 read.0) }
     ensures fault { IfErr result (λ fault. IsFault [] byte fault) }
 {
     match byte {
@@ -148,7 +148,7 @@ fn with_port(begun: Begun, port: PortNo) -> (Begun, Option<Command>)
     requires begun { begun ≢ Nothing }
     requires ports { HasBegunPorts begun }
     ensures ports { HasBegunPorts result.0 }
-    ensures read { Reads (begun_bytes begun) port result.1 (begun_bytes result.0) }
+    ensures read { Becomes begun port result.1 result.0 }
 {
     // The proof learns here that the number is a port's.
     let _number = port.get();

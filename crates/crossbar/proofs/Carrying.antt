@@ -14,7 +14,7 @@ pub after_all-append : (cs ds : List Command) (s : Switch) → after_all (cs ++ 
 after_all-append [] ds s = refl
 after_all-append (c ∷ cs) ds s = after_all-append cs ds (after c s)
 
-pub answers-append : (cs ds : List Command) (s : Switch) → answers (cs ++ ds) s ≡ answers cs s ++ answers ds (after_all cs s)
+answers-append : (cs ds : List Command) (s : Switch) → answers (cs ++ ds) s ≡ answers cs s ++ answers ds (after_all cs s)
 answers-append [] ds s = refl
 answers-append (c ∷ cs) ds s = ap (λ bytes. option_to_list (answer c s) ++ bytes) (answers-append cs ds (after c s)) ∙ sym (append_assoc (option_to_list (answer c s)) (answers cs (after c s)) (answers ds (after_all cs (after c s))))
 
@@ -81,7 +81,7 @@ fewer_enquiries bytes more commands others rest left s t =
 pub take_more : (bytes : List ℕ) (i : ℕ) → i < length bytes → take (i + 1) bytes ≡ take i bytes ++ get_or bytes i 0 ∷ []
 take_more bytes i h = rw add-one (take-suc bytes i 0 h)
 
-pub split_here : (bytes : List ℕ) (i : ℕ) → i < length bytes → bytes ≡ take i bytes ++ get_or bytes i 0 ∷ drop (i + 1) bytes
+split_here : (bytes : List ℕ) (i : ℕ) → i < length bytes → bytes ≡ take i bytes ++ get_or bytes i 0 ∷ drop (i + 1) bytes
 split_here bytes i h = sym (take-append-drop i bytes) ∙ ap (λ t. take i bytes ++ t) (let e : drop i bytes ≡ get_or bytes i 0 ∷ drop (i + 1) bytes = rw (add-one, drop-cons bytes i 0) refl in e)
 
 -- bytes that go on to others go on with their next byte

@@ -97,7 +97,7 @@ meets_cases o p e = elim (or_cases (o == p.initiator) (o == JOINED_MODULES + p.r
   | inr h ↦ inl (same_number o (JOINED_MODULES + p.responder) h)
 ]
 
--- pairs below 16 that meet in an output have one initiator or one responder
+-- pairs that the switch has links for, and that meet in an output, have one initiator or one responder
 shared : (o : ℕ) (p q : Pair) → p.initiator < JOINED_MODULES → q.initiator < JOINED_MODULES → meets o p ≡ true → meets o q ≡ true → (p.initiator ≡ q.initiator) ⊎ (p.responder ≡ q.responder)
 shared o p q a b m n = elim (meets_cases o p m) [
   | inl x ↦ elim (meets_cases o q n) [ inl y ↦ inr (omega arith) | inr y ↦ absurd (omega arith) ]
@@ -123,12 +123,6 @@ unique (x ∷ xs) p q o a i j m n = elim i [
     | inl f ↦ absurd (apart x p xs o a h (ap (meets o) f ∙ n) m)
     | inr k ↦ unique xs p q o a.4 h k m n
   ]
-]
-
-not_in_tail : (p : Pair) (ps : List Pair) (o : ℕ) → ArePairs (p ∷ ps) → meets o p ≡ true → any ps o ≡ false
-not_in_tail p ps o a m = elim (true_or_false (any ps o)) [
-  | inl t ↦ let w = witness ps o t in absurd (apart p w.0 ps o a w.1 m w.2)
-  | inr f ↦ f
 ]
 
 two : (a b : Bool) (x y : ℕ) (g : Option ℕ) → cond a (Some x) (cond b (Some y) g) ≡ cond (a || b) (Some (cond a x y)) g

@@ -36,7 +36,7 @@ from (Some v ∷ latches) k q zero h = find_here q k v _ (omega arith)
 from (None ∷ latches) k q (suc j) h = from latches (k + 1) q j (omega arith)
 from (Some v ∷ latches) k q (suc j) h = find_not q k v _ (omega arith) ∙ from latches (k + 1) q j (omega arith)
 
-pub get_sources : (latches : List (Option ℕ)) (q : ℕ) → get (sources_of latches) q ≡ get_or latches q None
+get_sources : (latches : List (Option ℕ)) (q : ℕ) → get (sources_of latches) q ≡ get_or latches q None
 get_sources latches q = get-from_entries nat_cmp_total (connections 0 latches) q ∙ from latches 0 q q (omega arith)
 
 pub same_sources : (m n : Sources) → ((q : ℕ) → get m q ≡ get n q) → m ≡ n

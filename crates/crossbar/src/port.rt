@@ -10,12 +10,15 @@ use c004_commands::{Command, CommandReader};
 use std::marker::Model;
 use thiserror::Error;
 
-/// The port failed. Which of the commands the switch has carried out isn't known.
+/// The port failed. Which of the commands the switch has carried out isn't known. That a port may fail
+/// is this project's choice.
 #[derive(Clone, Copy, Debug, PartialEq, Eq, Error)]
 #[error("the port to the switch failed")]
 pub struct PortFault;
 
-/// The controller's way to a switch: command bytes go out, and the answers to enquiries come back.
+/// The controller's way to a switch: command bytes go out, and the answers to enquiries come back
+/// (INMOS IMS C004 data sheet, configuration link). That a port takes whole commands at a time is this
+/// project's choice.
 pub trait ConfigPort {
     // The switch at the port's other end.
     ghost switch: { Self → Switch };

@@ -15,8 +15,8 @@ pub const JOINED_MODULES: u8 = 16;
 
 const LATCHES: usize = PORTS as usize;
 
-/// A switch. Contracts see the map from its outputs to the inputs that feed them, and whether it is
-/// ready to accept data.
+/// A switch (INMOS IMS C004 data sheet). Contracts see the map from its outputs to the inputs that feed
+/// them, and whether it is ready to accept data.
 #[derive(Debug, Drop)]
 pub struct Crossbar {
     // The input that feeds each output.
@@ -38,7 +38,8 @@ impl Model for Crossbar {
 }
 
 impl Crossbar {
-    /// A switch as after a reset: nothing is connected, and it is ready.
+    /// A switch as after a reset: nothing is connected, and it is ready. That a new switch is so is this
+    /// project's choice.
     pub fn new() -> Crossbar
         ensures { result ≡ idle }
     {
@@ -73,7 +74,8 @@ impl Crossbar {
         None
     }
 
-    /// The input that feeds an output, or `None` where the output is disconnected.
+    /// The input that feeds an output, or `None` where the output is disconnected (INMOS IMS C004 data
+    /// sheet: an output has at most one input).
     #[tactic(auto, using(crate::proofs::Latches::source_at))]
     pub fn source_of(&self, output: PortNo) -> Option<PortNo>
         ensures { result ≡ map.get self.now.sources output }
@@ -91,7 +93,7 @@ impl Crossbar {
     }
 
     /// Whether link 0 of module `m` and link 3 of module `n` feed each other, and the switch is ready.
-    /// Both modules are below [`JOINED_MODULES`].
+    /// Both modules are below [`JOINED_MODULES`]. Which links a module is on is this project's choice.
     pub fn joined(&self, m: u8, n: u8) -> bool
         requires initiator { m < JOINED_MODULES }
         requires responder { n < JOINED_MODULES }

@@ -8,7 +8,7 @@ use Rattle.std.proofs.lemmas.List.FromFn.{length-map-range_with_len, take-map-ra
 use Rattle.link_bytes.specs.declared.packet.TheConstants.{DATA_BITS}
 use Rattle.link_bytes.specs.Line.{low_bits, data_bits}
 
-pub length-low_bits : (n count : ℕ) → length (low_bits n count) ≡ count
+length-low_bits : (n count : ℕ) → length (low_bits n count) ≡ count
 length-low_bits n count = length-map-range_with_len (λ k. bit_at n k == 1) 0 count
 
 get_or-low_bits : (n count k : ℕ) → k < count → get_or (low_bits n count) k false ≡ (bit_at n k == 1)

@@ -185,7 +185,7 @@ HasRead-more bits packets failed bit (Err fault) new h a = subst (HasRead (bits 
 })
 
 -- no line goes on from a bit in place of a stop bit
-pub line-no_fault : (rest : List Bool) (bit : Bool) (more : List Bool) (packets : List Packet) (left : List Bool) → IsFramingFault (begun rest) bit → IsLine (rest ++ bit ∷ more) packets left → ⊥
+line-no_fault : (rest : List Bool) (bit : Bool) (more : List Bool) (packets : List Packet) (left : List Bool) → IsFramingFault (begun rest) bit → IsLine (rest ++ bit ∷ more) packets left → ⊥
 line-no_fault rest bit more packets left b l =
     let broken : IsBrokenLine (rest ++ bit ∷ more) [] = record {
       signs = [];

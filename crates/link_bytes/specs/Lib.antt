@@ -1,3 +1,4 @@
 pub mod Line
 pub mod Reading
 pub mod Stages
+pub mod HalfLink

@@ -1,11 +1,12 @@
 -- A line that is read bit by bit, after each bit. The rules are those of the line; that a reader which met a fault
 -- doesn't go on is this project's choice.
-use Rattle.std.specs.Prelude.{◌≡◌, ◌<◌, ◌^◌, ℕ, Bool, true, List, [], ◌∷◌, ◌++◌, Option, Result, Ok, Err}
+use Rattle.std.specs.Prelude.{◌≡◌, ◌<◌, ◌^◌, ℕ, Bool, true, List, [], ◌∷◌, ◌++◌, length, take, Option, Result, Ok, Err}
 use Rattle.std.specs.Option.{option_to_list}
 use Rattle.link_bytes.specs.declared.packet.TheConstants.{DATA_BITS}
 use Rattle.link_bytes.specs.declared.packet.Packet.{Packet}
 use Rattle.link_bytes.specs.declared.fault.LinkFault.{LinkFault}
-use Rattle.link_bytes.specs.Line.{data_bits, Sign, line_bits, packets_among, ArePackets, IsRest, IsLine}
+use Rattle.link_bytes.specs.declared.fault.LinkFault.TheVariants.{Framing}
+use Rattle.link_bytes.specs.Line.{packet_bits, data_bits, Sign, line_bits, packets_among, ArePackets, IsRest, IsLine}
 
 -- what is known of a line: the bits of the packet that isn't whole yet, or that a packet had no stop bit
 pub data Reading : Type 0 where
@@ -41,7 +42,29 @@ abbrev pub IsFramingFault : Reading → Bool → Type 0
 IsFramingFault (begun rest) bit = (b : ℕ) × (b < 2 ^ DATA_BITS) × (rest ++ bit ∷ [] ≡ unstopped_bits b)
 IsFramingFault failed bit = Unit {0}
 
+-- the fault of a line, after which nothing more is read
+abbrev pub EndsReading : LinkFault → Reading → Type 0
+EndsReading fault reading = (fault ≡ Framing) × (reading ≡ failed)
+
 -- the packet that an answer gives, if it gives one
 abbrev pub packets_given : Result (Option Packet) LinkFault → List Packet
 packets_given (Ok given) = option_to_list given
 packets_given (Err fault) = []
+
+-- the bits can be read
+abbrev pub HasReading : List Bool → Type 0
+HasReading bits = (packets : List Packet) × (reading : Reading) × HasRead bits packets reading
+
+-- however the bits are read, they have the same packets, and the same is known of what came after them
+abbrev pub HasOneReading : List Bool → Type 0
+HasOneReading bits =
+    (packets others : List Packet) (reading other : Reading) → HasRead bits packets reading → HasRead bits others other → (packets ≡ others) × (reading ≡ other)
+
+-- so many bits of a packet, and not all of them, have no packet: they are what has come of one
+abbrev pub IsBegunAt : Packet → ℕ → Type 0
+IsBegunAt packet count =
+    count < length (packet_bits packet) → HasRead (take count (packet_bits packet)) [] (begun (take count (packet_bits packet)))
+
+-- all bits of a packet have that packet, and nothing has come of another
+abbrev pub IsWhole : Packet → Type 0
+IsWhole packet = HasRead (packet_bits packet) (packet ∷ []) (begun [])

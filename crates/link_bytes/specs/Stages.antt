@@ -27,3 +27,7 @@ abbrev pub Reads : Reading → Bool → Option Packet → Reading → Type 0
 Reads (begun rest) bit given (begun left) = IsLine (rest ++ bit ∷ []) (option_to_list given) left
 Reads (begun rest) bit given failed = ⊥
 Reads failed bit given new = ⊥
+
+-- the same, of the stage that was and the stage that is
+abbrev pub Becomes : Stage → Bool → Option Packet → Stage → Type 0
+Becomes stage bit given new = Reads (reading_of stage) bit given (reading_of new)

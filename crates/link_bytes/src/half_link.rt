@@ -1,6 +1,7 @@
 //! The sending side of a link, which waits for each acknowledge.
 
 ghost use Rattle.std.specs.Prelude.{◌≡◌, ◌≤◌, ◌↔◌, ℕ, OnErr};
+ghost use Rattle.link_bytes.specs.HalfLink.{HandsOn, EndsWait};
 ghost use Rattle.link_bytes.specs.Line.{packet_bits};
 ghost use Rattle.link_bytes.specs.declared.packet.Packet.TheVariants.{Ack, Byte};
 ghost use Rattle.link_bytes.specs.declared.fault.LinkFault.TheVariants.{Busy, StrayAck};
@@ -52,8 +53,8 @@ impl HalfLink {
     /// byte waits for the acknowledge, and nothing is changed.
     pub fn take(&mut self, packet: Packet) -> Result<Option<u8>, LinkFault>
         ensures at_most_one { self.old ≤ 1 }
-        ensures byte { (b : ℕ) → packet ≡ Byte b → (result ≡ Ok (Some b)) × (self.new ≡ self.old) }
-        ensures ack { packet ≡ Ack → self.old ≡ 1 → (result ≡ Ok None) × (self.new ≡ 0) }
+        ensures byte { (b : ℕ) → packet ≡ Byte b → HandsOn b result self.old self.new }
+        ensures ack { packet ≡ Ack → self.old ≡ 1 → EndsWait result self.new }
         ensures stray { (result ≡ Err StrayAck) ↔ ((packet ≡ Ack) × (self.old ≡ 0)) }
         ensures err { OnErr result (self.new ≡ self.old) }
     {

@@ -1,4 +1,5 @@
-//! The bits of an INMOS link (IMS T414): data packets and acknowledges, read bit by bit, and the sender's wait for each acknowledge.
+//! The bits of an INMOS link (IMS T414 data sheet): data packets and acknowledges, read bit by bit, and the
+//! wait of the sender for each acknowledge.
 #![tactic(auto)]
 
 mod fault;

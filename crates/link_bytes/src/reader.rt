@@ -3,10 +3,9 @@
 ghost use Rattle.std.specs.Prelude.{◌≡◌, ◌≢◌, ◌<◌, ◌^◌, ◌+◌, ◌↔◌, ◌++◌, ◌∷◌, [], List, Bool, Option, IsOk, IsErr, IfOk, IfErr, OnOk, OnErr};
 ghost use Rattle.std.specs.Option.{option_to_list};
 ghost use Rattle.link_bytes.specs.declared.packet.Packet.{Packet};
-ghost use Rattle.link_bytes.specs.declared.fault.LinkFault.TheVariants.{Framing};
 ghost use Rattle.link_bytes.specs.Line.{ArePackets, IsLine, IsRest, Sign, line_bits, low_bits, packets_among};
-ghost use Rattle.link_bytes.specs.Reading.{begun, failed, HasRead, IsPartial, IsFramingFault, packets_given};
-ghost use Rattle.link_bytes.specs.Stages.{IsStage, Reads, reading_of};
+ghost use Rattle.link_bytes.specs.Reading.{begun, failed, HasRead, IsPartial, IsFramingFault, EndsReading, packets_given};
+ghost use Rattle.link_bytes.specs.Stages.{IsStage, Becomes, reading_of};
 
 use crate::fault::LinkFault;
 use crate::packet::{DATA_BITS, Packet};
@@ -71,7 +70,7 @@ impl BitReader {
             → ArePackets (packets_among signs) → IsRest left
             → rest ++ bit ∷ more ≡ line_bits signs ++ left → IsOk result }
         ensures fault { IsErr result ↔ IsFramingFault self.old bit }
-        ensures framing { IfErr result (λ fault. (fault ≡ Framing) × (self.new ≡ failed)) }
+        ensures framing { IfErr result (λ fault. EndsReading fault self.new) }
         ensures taken { OnOk result ((self.old ≢ failed) × (self.new ≢ failed)) }
     {
         let (stage, given) = next_stage(self.stage, bit);
@@ -84,9 +83,9 @@ impl BitReader {
 fn next_stage(stage: Stage, bit: bool) -> (Stage, Result<Option<Packet>, LinkFault>)
     requires { IsStage stage }
     ensures stage { IsStage result.0 }
-    ensures taken { IfOk result.1 (λ given. Reads (reading_of stage) bit given (reading_of result.0)) }
+    ensures taken { IfOk result.1 (λ given. Becomes stage bit given result.0) }
     ensures fault { OnErr result.1 (IsFramingFault (reading_of stage) bit) }
-    ensures framing { IfErr result.1 (λ fault. (fault ≡ Framing) × (reading_of result.0 ≡ failed)) }
+    ensures framing { IfErr result.1 (λ fault. EndsReading fault (reading_of result.0)) }
 {
     match (stage, bit) {
         (Stage::Idle, false) => (Stage::Idle, Ok(None)),
