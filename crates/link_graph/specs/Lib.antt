@@ -3,6 +3,7 @@ pub mod Uses
 pub mod Counts
 pub mod Schedules
 pub mod Certificates
+pub mod Equal
 pub mod Checks
 pub mod Marks
 pub mod ScheduleText

@@ -67,6 +67,7 @@ impl Certificate {
             Some((_, transfers)) => transfers.as_slice(),
         }
     }
+
     /// The transfers that are named, given back, where a link is named.
     pub fn into_transfers(self) -> Option<Vec<usize>>
         ensures none { IsNone result ↔ (self.link ≡ None) }
@@ -75,4 +76,29 @@ impl Certificate {
         let (_, transfers) = self.named?;
         Some(transfers)
     }
+}
+
+impl PartialEq for Certificate {
+    ghost use Rattle.std.specs.Prelude.{◌≡◌, ◌↔◌, IsTrue};
+    ghost use Rattle.std.proofs.Common.{rules};
+    ghost use Rattle.std.specs.Cmp.Rules.{comparing};
+    ghost use Rattle.link_graph.specs.Equal.{same_naming};
+
+    ghost eq = { same_naming };
+
+    ghost laws = { Prim.search (comparing, rules) };
+
+    fn eq(&self, other: &Certificate) -> bool
+        ensures value { result ≡ same_naming self.now other.now }
+        ensures equal { IsTrue result ↔ (self.now ≡ other.now) }
+    {
+        self.link() == other.link() && self.transfers() == other.transfers()
+    }
+}
+
+impl Eq for Certificate {
+    ghost use Rattle.std.proofs.Common.{rules};
+    ghost use Rattle.std.specs.Cmp.Rules.{comparing};
+
+    ghost laws = { Prim.search (comparing, rules) };
 }

@@ -16,6 +16,7 @@ mod link;
 mod reading;
 mod schedule;
 mod schedule_fault;
+mod settings;
 mod writing;
 
 pub use certificate::Certificate;
@@ -26,6 +27,7 @@ pub use limits::LINKS;
 pub use link::{End, Link};
 pub use schedule::Schedule;
 pub use schedule_fault::ScheduleFault;
+pub use settings::Settings;
 
 #[cfg(test)]
 mod tests;

@@ -1,4 +1,4 @@
-ghost use Rattle.std.specs.Prelude.{◌≡◌, length, IfOk, IfErr, slice_get, option_map};
+ghost use Rattle.std.specs.Prelude.{◌≡◌, ◌↔◌, [], length, IsTrue, IfOk, IfErr, slice_get, option_map};
 ghost use Rattle.std.specs.Option.{option_copied};
 ghost use Rattle.link_graph.specs.Schedules.{lists_of};
 ghost use Rattle.link_graph.specs.ScheduleText.{said, said_text, Says, CanSpell, CanName};
@@ -6,6 +6,7 @@ ghost use Rattle.link_graph.specs.ScheduleFaults.{IsFaultOf};
 
 use crate::certificate::Certificate;
 use crate::schedule_fault::ScheduleFault;
+use crate::settings::Settings;
 use crate::{reading, writing};
 use std::alloc::{AllocError, Global};
 use std::marker::Model;
@@ -38,6 +39,20 @@ impl Schedule {
         ensures { result ≡ length self.now }
     {
         self.lists.len()
+    }
+
+    /// Whether there is no setting.
+    pub fn is_empty(&self) -> bool
+        ensures { IsTrue result ↔ (self.now ≡ []) }
+    {
+        self.lists.is_empty()
+    }
+
+    /// The settings, in order.
+    pub fn iter(&self) -> Settings<'_>
+        ensures { result ≡ self.now }
+    {
+        Settings::of(self.lists.as_slice())
     }
 
     /// The transfer numbers of setting `k`, where there is one.
@@ -104,4 +119,29 @@ impl Schedule {
         let certificate = reading::certificate(alloc, rest, count + 1)?;
         Ok((Schedule { lists }, certificate))
     }
+}
+
+impl PartialEq for Schedule {
+    ghost use Rattle.std.specs.Prelude.{◌≡◌, ◌↔◌, IsTrue};
+    ghost use Rattle.std.proofs.Common.{rules};
+    ghost use Rattle.std.specs.Cmp.Rules.{comparing};
+    ghost use Rattle.link_graph.specs.Equal.{same_settings};
+
+    ghost eq = { same_settings };
+
+    ghost laws = { Prim.search (comparing, rules) };
+
+    fn eq(&self, other: &Schedule) -> bool
+        ensures value { result ≡ same_settings self.now other.now }
+        ensures equal { IsTrue result ↔ (self.now ≡ other.now) }
+    {
+        self.lists == other.lists
+    }
+}
+
+impl Eq for Schedule {
+    ghost use Rattle.std.proofs.Common.{rules};
+    ghost use Rattle.std.specs.Cmp.Rules.{comparing};
+
+    ghost laws = { Prim.search (comparing, rules) };
 }
