@@ -56,21 +56,50 @@ fn certificate_of(alloc: Global, named: &[usize]) -> Result<Certificate, AllocEr
     Ok(certificate.unwrap_or(Certificate::none()))
 }
 
+/// The graph of the batch of three transfers.
+fn graph_of_three(alloc: Global) -> Result<LinkGraph, BatchFault> {
+    let batch = three(alloc)?;
+    Ok(LinkGraph::of(&batch)?)
+}
+
+/// The transfers of that graph that use a link.
+fn users_of(alloc: Global, link: Link) -> Result<Vec<usize>, BatchFault> {
+    let graph = graph_of_three(alloc)?;
+    Ok(graph.transfers_of(link)?)
+}
+
 #[test]
 fn three_transfers(rt: HostRuntime) -> Result<(), Fail> {
-    let graph = LinkGraph::of(&three(rt.alloc())?)?;
+    let graph = graph_of_three(rt.alloc())?;
     assert_eq!(rt; graph.len(), 3);
     assert_eq!(rt; graph.busiest(), Some(FIRST));
     assert_eq!(rt; graph.uses(FIRST), 2);
-    assert_eq!(rt; graph.transfers_of(FIRST)?.as_slice(), [0, 1].as_slice());
     let answering = Link {
         end: End::Three,
         module: 2,
     };
     assert_eq!(rt; graph.ends(1), Some((FIRST, answering)));
+    Ok(())
+}
+
+#[test]
+fn transfers_of_a_link(rt: HostRuntime) -> Result<(), Fail> {
+    assert_eq!(rt; users_of(rt.alloc(), FIRST)?.as_slice(), [0, 1].as_slice());
+    Ok(())
+}
+
+#[test]
+fn a_schedule(rt: HostRuntime) -> Result<(), Fail> {
     let schedule = schedule_of(rt.alloc(), &[&[0, 2], &[1]])?;
     assert_eq!(rt; schedule.settings(), 2);
-    assert_eq!(rt; schedule.setting(1).ok_or("no setting 1")?, [1].as_slice());
+    assert_eq!(rt; schedule.setting(1), Some([1].as_slice()));
+    assert_eq!(rt; schedule.iter().count(), 2);
+    assert!(rt; !schedule.is_empty());
+    Ok(())
+}
+
+#[test]
+fn a_certificate(rt: HostRuntime) -> Result<(), Fail> {
     let certificate = certificate_of(rt.alloc(), &[0, 1])?;
     assert_eq!(rt; certificate.link(), Some(FIRST));
     Ok(())
