@@ -8,24 +8,12 @@ use Rattle.link_graph.specs.declared.schedule_fault.ScheduleFault.{ScheduleFault
 use Rattle.link_graph.specs.declared.schedule_fault.ScheduleFault.TheVariants.{Line, NoMemory}
 use Rattle.link_graph.specs.ScheduleText.{said, setting_line, certificate_lines, text_of}
 use Rattle.link_graph.specs.ScheduleFaults.{IsLine, Begins, IsFirstBad, AreCounted, AreCertified, HasToKeep, IsFaultBelow, IsLineFault}
-use Rattle.link_graph.proofs.Texts.{text_of-append}
-use Rattle.link_graph.proofs.LineBreaks.{first_of}
 use Rattle.link_graph.proofs.Parts.{bad_line, cut_short, behind, bad_behind, setting_lines_within}
 
 -- the lines of these settings stand at the front of the text, and then the rest
 pub record AreListed (text : List ℕ) (lists : List (List ℕ)) (rest : List ℕ) : Type 0 where
   pub fit : All (All IsNumber) lists
   pub spelled : text ≡ text_of (map setting_line lists) ++ rest
-
-pub list_more : (text : List ℕ) (lists : List (List ℕ)) (rest line after : List ℕ) (ts : List ℕ) → AreListed text lists rest → rest ≡ line ++ line_feed ∷ after → All IsNumber ts × (line ≡ setting_line ts) → AreListed text (lists ++ ts ∷ []) after
-list_more text lists rest line after ts so_far parts read = record {
-  fit = All-push (All IsNumber) lists ts so_far.fit read.0;
-  spelled =
-      so_far.spelled
-      ∙ ap (λ (x : List ℕ). text_of (map setting_line lists) ++ x) (parts ∙ ap (λ (x : List ℕ). x ++ line_feed ∷ after) read.1 ∙ sym (first_of (setting_line ts) [] after))
-      ∙ sym (append_assoc (text_of (map setting_line lists)) (text_of (setting_line ts ∷ [])) after)
-      ∙ ap (λ (x : List ℕ). x ++ after) (sym (text_of-append (map setting_line lists) (setting_line ts ∷ [])) ∙ ap text_of (sym (map_push setting_line lists ts)));
-}
 
 -- ---- what is wanted there
 

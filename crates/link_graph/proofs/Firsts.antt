@@ -1,12 +1,14 @@
 -- The first of a list, found place by place, setting by setting.
-use Rattle.std.proofs.Common.{◌≡◌, ◌≢◌, ℕ, ◌+◌, ◌<◌, ◌≤◌, List, [], ◌∷◌, ◌++◌, length, get_or, set, take, drop, Bool, true, false, All, refl, sym, ap, subst, ◌∙◌, append_assoc, arith, inl, inr}
+use Rattle.std.proofs.Common.{◌≡◌, ◌≢◌, ℕ, ◌+◌, ◌<◌, ◌≤◌, List, [], ◌∷◌, ◌++◌, length, get_or, set, take, drop, Bool, true, false, All, sym, ap, subst, ◌∙◌, append_assoc, arith, inl, inr}
 use Rattle.std.specs.Prelude.{Contains, replicate}
 use Rattle.std.specs.List.{concat}
 use Rattle.std.specs.Global.{Vec}
 use Rattle.std.proofs.lemmas.Bool.Decides.{eqb_tells}
-use Rattle.std.proofs.lemmas.List.{append-nil, take_all, take-append-drop, drop_more, take_more, get_or-map, get_or_append_left, get_or-append-add, get_or-set_same, get_or-set_other, get_or-replicate, length-map, length-append, length-set, length-replicate}
+use Rattle.std.proofs.lemmas.List.{take_all, take-append-drop, drop_more, take_more, get_or_append_left, get_or-append-add, get_or-set_same, get_or-set_other, get_or-replicate, length-map, length-append, length-set, length-replicate}
 use Rattle.std.proofs.lemmas.List.Elements.{All-append, Contains-append_left, Contains-push, Contains-push_cases, Contains-get_or}
+use Rattle.std.proofs.lemmas.List.Folds.{concat-append}
 use Rattle.std.proofs.lemmas.List.Quantifiers.{all_pairs_push}
+use Rattle.batch.proofs.Lists.{concat_more, list_at}
 use Rattle.link_graph.specs.Schedules.{lists_of}
 use Rattle.link_graph.specs.Certificates.{AreDistinct}
 use Rattle.link_graph.specs.Checks.{IsFirstWithout, IsFirstRepeated}
@@ -28,19 +30,9 @@ all_right P a b h k d lt = subst P (get_or-append-add a b k d) (h (length a + k)
 
 -- ---- settings, one after the other
 
-concat-append : (a b : List (List ℕ)) → concat (a ++ b) ≡ concat a ++ concat b
-concat-append [] b = refl
-concat-append (x ∷ xs) b = ap (λ (ys : List ℕ). x ++ ys) (concat-append xs b) ∙ sym (append_assoc x (concat xs) (concat b))
-
 pub concat_at : (settings : List (List ℕ)) (k : ℕ) → k < length settings → concat settings ≡ concat (take k settings) ++ (get_or settings k [] ++ concat (drop (k + 1) settings))
 concat_at settings k lt =
     ap concat (sym (take-append-drop k settings)) ∙ concat-append (take k settings) (drop k settings) ∙ ap (λ (ys : List (List ℕ)). concat (take k settings) ++ concat ys) (drop_more settings k [] lt)
-
-pub concat_more : (settings : List (List ℕ)) (k : ℕ) → k < length settings → concat (take (k + 1) settings) ≡ concat (take k settings) ++ get_or settings k []
-concat_more settings k lt = ap concat (take_more settings k [] lt) ∙ concat-append (take k settings) (get_or settings k [] ∷ []) ∙ ap (λ (ys : List ℕ). concat (take k settings) ++ ys) (append-nil (get_or settings k []))
-
-pub list_at : (lists : List (Vec ℕ)) (k : ℕ) (v : Vec ℕ) → k < length lists → v ≡ get_or lists k v → get_or (lists_of lists) k [] ≡ v.items
-list_at lists k v lt is = get_or-map (λ w. w.items) lists k v [] lt ∙ ap (λ (w : Vec ℕ). w.items) (sym is)
 
 -- ---- the first without
 
@@ -93,9 +85,6 @@ pub record Marking (old new : List Bool) (list : List ℕ) : Type 0 where
   pub size : length new ≡ length old
   pub marks : (before : List ℕ) → AreMarks old before → AreMarks new (before ++ list)
   pub distinct : (before : List ℕ) → AreMarks old before → AreDistinct before → AreDistinct (before ++ list)
-
-pub marking_none : (marks : List Bool) → Marking marks marks []
-marking_none marks = record { size = refl; marks = λ before m. subst (λ (ys : List ℕ). AreMarks marks ys) (sym (append-nil before)) m; distinct = λ before m d. subst (λ (ys : List ℕ). AreDistinct ys) (sym (append-nil before)) d }
 
 pub marking_more : (old new : List Bool) (list : List ℕ) (i d : ℕ) → i < length list → get_or list i d < length old → get_or new (get_or list i d) false ≡ false → Marking old new (take i list) → Marking old (set new (get_or list i d) true) (take (i + 1) list)
 marking_more old new list i d lt within unmarked m =

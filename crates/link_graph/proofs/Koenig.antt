@@ -1,16 +1,16 @@
--- Each setting holds at most one of the transfers that use a link, so a schedule has at least as many settings as these.
-use Rattle.std.proofs.Common.{◌≡◌, ◌≢◌, ℕ, ◌<◌, ◌≤◌, List, [], ◌∷◌, length, slice_get, Option, Some, None, refl, sym, subst, ◌∙◌, arith, inl, inr, ◌⊎◌}
+-- The easy half of König's theorem. Each setting holds at most one of the transfers that use a link, so a schedule has at least as many settings as these.
+use Rattle.std.proofs.Common.{◌≡◌, ◌≢◌, ℕ, ◌≤◌, List, [], ◌∷◌, length, Option, Some, None, refl, sym, subst, ◌∙◌, arith, inl, inr, ◌⊎◌}
 use Rattle.std.specs.Prelude.{sum_by, count_by, AllPairs, All, ◌==◌}
 use Rattle.std.specs.List.{AllByRecursion}
 use Rattle.std.proofs.lemmas.Bool.Decides.{eqb_tells}
 use Rattle.std.proofs.lemmas.List.Elements.{recursion_from_All}
 use Rattle.std.proofs.lemmas.List.Sums.{sum_by-cons}
-use Rattle.std.proofs.lemmas.Option.{slice_get_cases}
 use Rattle.batch.specs.declared.transfer.Transfer.{Transfer}
 use Rattle.link_graph.specs.declared.link.Link.{Link}
 use Rattle.link_graph.specs.Uses.{Uses, AreApart, IsMatching}
 use Rattle.link_graph.specs.Schedules.{times, IsScheduleOf}
 use Rattle.link_graph.specs.Certificates.{Naming, IsShortest, CertifiesBy, IsCertificate}
+use Rattle.link_graph.proofs.Users.{used_within}
 use Rattle.link_graph.proofs.Sums.{hit, hit_same, hit_other, swap, sum_same, sum_at_most, sum_ones, sum_zeros, later, first_with, each}
 
 -- how often u is among the named
@@ -56,17 +56,10 @@ one_in_setting batch link named (x ∷ xs) all distinct matching =
       | inr one ↦ omega (arith, sum_by-cons (among named) x xs, one.0, rest_zero batch link named x xs all distinct one.1 (recursion_from_All (AreApart batch x) xs (first_with (AreApart batch) x xs matching)))
     ]
 
-is_in_batch : (batch : List Transfer) (t : ℕ) (link : Link) → Uses batch t link → t < length batch
-is_in_batch batch t link uses =
-    elim (slice_get_cases batch t).1 [
-      | inl p ↦ p.1
-      | inr p ↦ let bad : slice_get batch t ≡ Some uses.0 = uses.1 in let none : slice_get batch t ≡ None = p.1 in absurd cc
-    ]
-
 -- the named stand once each
 total : (batch : List Transfer) (link : Link) (named : List ℕ) (settings : List (List ℕ)) → AllByRecursion (λ t. Uses batch t link) named → IsScheduleOf batch settings → sum_by (λ t. times t settings) named ≡ length named
 total batch link named settings all schedule =
-    sum_ones (λ t. times t settings) named (each (λ t. Uses batch t link) (λ t. times t settings ≡ 1) (λ t uses. schedule.once t (is_in_batch batch t link uses)) named all)
+    sum_ones (λ t. times t settings) named (each (λ t. Uses batch t link) (λ t. times t settings ≡ 1) (λ t uses. schedule.once t (used_within batch t link uses)) named all)
 
 -- counted by settings
 by_settings : (named : List ℕ) (settings : List (List ℕ)) → sum_by (λ t. times t settings) named ≡ sum_by (λ setting. sum_by (among named) setting) settings

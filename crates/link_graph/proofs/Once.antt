@@ -1,11 +1,12 @@
 -- Each transfer stands once: told by counts, and by what stands in the settings joined end to end.
-use Rattle.std.proofs.Common.{◌≡◌, ◌≢◌, ℕ, suc, zero, ◌+◌, ◌<◌, ◌≤◌, List, [], ◌∷◌, length, get_or, All, refl, sym, subst, ◌∙◌, arith, inl, inr, ◌⊎◌}
+use Rattle.std.proofs.Common.{◌≡◌, ◌≢◌, ℕ, suc, zero, ◌+◌, ◌<◌, ◌≤◌, List, [], ◌∷◌, length, get_or, All, refl, sym, subst, ◌∙◌, arith, inl, inr}
 use Rattle.std.specs.Prelude.{Contains, ◌==◌, count_by}
 use Rattle.std.specs.List.{concat}
 use Rattle.std.proofs.lemmas.Bool.Decides.{eqb_tells}
 use Rattle.std.proofs.lemmas.List.Elements.{All-append, All-contains, All-head, All-tail, All-nil, All-cons, Contains-get_or}
 use Rattle.std.proofs.lemmas.List.Sums.{sum_by-cons, sum_by-append}
 use Rattle.batch.specs.declared.transfer.Transfer.{Transfer}
+use Rattle.batch.proofs.Lists.{at_cons}
 use Rattle.link_graph.specs.Uses.{IsMatching}
 use Rattle.link_graph.specs.Schedules.{times, IsScheduleOf}
 use Rattle.link_graph.specs.Certificates.{AreDistinct}
@@ -36,10 +37,6 @@ none_stands t [] none = refl
 none_stands t (x ∷ xs) none =
     let other : x ≢ t = λ e. All-head (λ u. t ≢ u) x xs none (sym e) in
     omega (arith, standings-cons t x xs, hit_other t x other, none_stands t xs (All-tail (λ u. t ≢ u) x xs none))
-
-at_cons : (x t : ℕ) (xs : List ℕ) → Contains (x ∷ xs) t → (x ≡ t) ⊎ Contains xs t
-at_cons x t xs (zero, lt, at) = inl at
-at_cons x t xs (suc k, lt, at) = inr (k, omega arith, at)
 
 pub once_from_distinct : (t : ℕ) (xs : List ℕ) → AreDistinct xs → Contains xs t → standings t xs ≡ 1
 once_from_distinct t [] distinct stands = absurd (omega (arith, stands.1))

@@ -17,6 +17,7 @@ use Rattle.link_graph.specs.Uses.{Uses, IsMatching}
 use Rattle.link_graph.specs.Schedules.{times, IsScheduleOf}
 use Rattle.link_graph.specs.Certificates.{Naming, AreDistinct, CertifiesBy, IsCertificate}
 use Rattle.link_graph.specs.Checks.{IsFirstWithout, IsFirstRepeated, IsFirstMissing, IsShared, IsFirstClash, UsesNamed, IsFirstCheckFault}
+use Rattle.link_graph.proofs.Users.{some_same, made}
 use Rattle.link_graph.proofs.Once.{is_known, is_once}
 use Rattle.link_graph.proofs.Sharing.{shared_no_matching}
 
@@ -105,17 +106,11 @@ same_missing n xs t u p q =
       | inr le ↦ elim (cases_lt u t) [ inl less ↦ absurd (q.missing (p.lesser u less)) | inr ge ↦ omega arith ]
     ]
 
-abbrev made : End → ℕ → Link
-made e m = record { end = e; «module» = m }
-
 in_order : (d e : End) (m n : ℕ) → (made d m ≡ made e n) ⊎ (StandsBefore (made d m) (made e n) ⊎ StandsBefore (made e n) (made d m))
 in_order Zero Zero m n = elim (cases_lt m n) [ inl less ↦ inr (inl (inr (refl, less))) | inr le ↦ elim (cases_lt n m) [ inl less ↦ inr (inr (inr (refl, less))) | inr ge ↦ inl (ap (made Zero) (omega arith)) ] ]
 in_order Zero Three m n = inr (inl (inl (refl, refl)))
 in_order Three Zero m n = inr (inr (inl (refl, refl)))
 in_order Three Three m n = elim (cases_lt m n) [ inl less ↦ inr (inl (inr (refl, less))) | inr le ↦ elim (cases_lt n m) [ inl less ↦ inr (inr (inr (refl, less))) | inr ge ↦ inl (ap (made Three) (omega arith)) ] ]
-
-some_same : (x y : List ℕ) → Some x ≡ Some y → x ≡ y
-some_same x y e = cc
 
 same_link : (batch : List Transfer) (settings : List (List ℕ)) (k : ℕ) (a b : Link) → IsFirstClash batch settings k a → IsFirstClash batch settings k b → a ≡ b
 same_link batch settings k a b p q =

@@ -1,24 +1,21 @@
 -- When two transfers of a setting share a link, told by how often each link is used.
-use Rattle.std.proofs.Common.{◌≡◌, ℕ, suc, zero, ◌+◌, ◌<◌, ◌≤◌, List, [], ◌∷◌, ◌++◌, length, get_or, take, All, Option, Some, None, slice_get, refl, sym, ap, subst, ◌∙◌, arith, inl, inr, ◌⊎◌}
-use Rattle.std.specs.Prelude.{option_map}
-use Rattle.std.specs.Global.{Vec}
-use Rattle.std.proofs.lemmas.Bool.Decides.{eqb_tells}
+use Rattle.std.proofs.Common.{◌≡◌, ℕ, suc, zero, ◌+◌, ◌<◌, ◌≤◌, List, [], ◌∷◌, ◌++◌, length, get_or, take, All, Option, Some, None, slice_get, refl, sym, ap, subst, ◌∙◌, arith, inl, inr}
 use Rattle.std.proofs.lemmas.List.{take_more, get_or-take, length-take-le}
 use Rattle.std.proofs.lemmas.List.Elements.{filter_map-append}
 use Rattle.std.proofs.lemmas.List.Sums.{sum_by-cons}
-use Rattle.std.proofs.lemmas.Option.{slice_get_cases, slice_get_within, slice_get-get_or, slice_get-map, slice_get_read, get_or_from_slice_get}
+use Rattle.std.proofs.lemmas.Option.{slice_get_cases, slice_get_within, slice_get-get_or, get_or_from_slice_get}
 use Rattle.batch.specs.declared.limits.TheConstants.{MAX_MODULES}
 use Rattle.batch.specs.declared.transfer.Transfer.{Transfer}
 use Rattle.batch.specs.Batches.{IsBatch}
 use Rattle.link_graph.specs.declared.limits.TheConstants.{LINKS}
 use Rattle.link_graph.specs.declared.link.Link.{Link}
-use Rattle.link_graph.specs.Links.{StandsBefore, index_of}
+use Rattle.link_graph.specs.Links.{StandsBefore, link_index}
 use Rattle.link_graph.specs.Uses.{Uses, IsMatching}
-use Rattle.link_graph.specs.Schedules.{lists_of}
-use Rattle.link_graph.specs.Counts.{uses, module_at, AreCounts}
+use Rattle.link_graph.specs.Counts.{uses}
+use Rattle.link_graph.specs.Tables.{AreCounts}
 use Rattle.link_graph.specs.Checks.{IsShared}
 use Rattle.link_graph.specs.Marks.{members}
-use Rattle.link_graph.proofs.Users.{use_of, use_yes, use_no, uses_at, at_used}
+use Rattle.link_graph.proofs.Users.{some_same, uses_or_not, use_of, use_yes, use_no, uses_at, at_used}
 use Rattle.link_graph.proofs.Tables.{modules_of, module_fits, index_below, before_index}
 
 -- ---- the transfers of a setting, one after the other
@@ -58,9 +55,6 @@ members_few batch (t ∷ ts) = elim (slice_get_cases batch t).1 [
 abbrev InSetting : List Transfer → List ℕ → Link → ℕ → Type 0
 InSetting batch setting link i = (t : ℕ) × (slice_get setting i ≡ Some t) × Uses batch t link
 
-some_same : {X : Type 0} (x y : X) → Some x ≡ Some y → x ≡ y
-some_same x y e = cc
-
 uses-cons_yes : (batch : List Transfer) (t : ℕ) (ts : List ℕ) (link : Link) → Uses batch t link → uses (members batch (t ∷ ts)) link ≡ 1 + uses (members batch ts) link
 uses-cons_yes batch t ts link used =
     let x : Transfer = used.0 in
@@ -72,18 +66,9 @@ uses-cons_no batch t ts link not_used = elim (slice_get_cases batch t).1 [
   | inr p ↦ ap (λ (xs : List Transfer). uses xs link) (members-cons_none batch t ts p.1)
 ]
 
-use_or_not : (batch : List Transfer) (t : ℕ) (link : Link) → Uses batch t link ⊎ (Uses batch t link → ⊥)
-use_or_not batch t link = elim (slice_get_cases batch t).1 [
-  | inl p ↦ elim (eqb_tells (module_at link.end p.0) link.«module») [
-    | inl q ↦ inl (uses_at batch t link p.0 p.2 q.1)
-    | inr q ↦ inr (λ used. q.1 (at_used batch t link p.0 p.2 used))
-  ]
-  | inr p ↦ inr (λ used. let some : slice_get batch t ≡ Some used.0 = used.1 in let none : slice_get batch t ≡ None = p.1 in cc)
-]
-
 used_in : (batch : List Transfer) (setting : List ℕ) (link : Link) → 0 < uses (members batch setting) link → (i : ℕ) × InSetting batch setting link i
 used_in batch [] link some = absurd (omega arith)
-used_in batch (t ∷ ts) link some = elim (use_or_not batch t link) [
+used_in batch (t ∷ ts) link some = elim (uses_or_not batch link t) [
   | inl used ↦ (0, (t, refl, used))
   | inr not_used ↦ let r = used_in batch ts link (omega (arith, uses-cons_no batch t ts link not_used)) in (suc r.0, r.1)
 ]
@@ -95,11 +80,11 @@ in_used batch (t ∷ ts) link zero inside =
     omega (arith, uses-cons_yes batch t ts link (subst (λ (u : ℕ). Uses batch u link) (sym same) inside.2))
 in_used batch (t ∷ ts) link (suc i) inside =
     let rest = in_used batch ts link i inside in
-    elim (use_or_not batch t link) [ inl used ↦ omega (arith, uses-cons_yes batch t ts link used) | inr not_used ↦ omega (arith, rest, uses-cons_no batch t ts link not_used) ]
+    elim (uses_or_not batch link t) [ inl used ↦ omega (arith, uses-cons_yes batch t ts link used) | inr not_used ↦ omega (arith, rest, uses-cons_no batch t ts link not_used) ]
 
 pub shared_from_count : (batch : List Transfer) (setting : List ℕ) (link : Link) → 1 < uses (members batch setting) link → IsShared batch setting link
 shared_from_count batch [] link many = absurd (omega arith)
-shared_from_count batch (t ∷ ts) link many = elim (use_or_not batch t link) [
+shared_from_count batch (t ∷ ts) link many = elim (uses_or_not batch link t) [
   | inl used ↦
       let r = used_in batch ts link (omega (arith, uses-cons_yes batch t ts link used)) in
       record { i = 0; j = suc r.0; apart = omega arith; one = (t, refl, used); other = r.1 }
@@ -117,7 +102,7 @@ two_used batch (t ∷ ts) link zero (suc j) lt one other =
 two_used batch (t ∷ ts) link (suc i) zero lt one other = absurd (omega arith)
 two_used batch (t ∷ ts) link (suc i) (suc j) lt one other =
     let rest = two_used batch ts link i j (omega arith) one other in
-    elim (use_or_not batch t link) [ inl used ↦ omega (arith, rest, uses-cons_yes batch t ts link used) | inr not_used ↦ omega (arith, rest, uses-cons_no batch t ts link not_used) ]
+    elim (uses_or_not batch link t) [ inl used ↦ omega (arith, rest, uses-cons_yes batch t ts link used) | inr not_used ↦ omega (arith, rest, uses-cons_no batch t ts link not_used) ]
 
 pub count_from_shared : (batch : List Transfer) (setting : List ℕ) (link : Link) → IsShared batch setting link → 1 < uses (members batch setting) link
 count_from_shared batch setting link s = two_used batch setting link s.i s.j s.apart s.one s.other
@@ -142,26 +127,23 @@ in_rack : (batch : List Transfer) (t : ℕ) (link : Link) → IsBatch batch → 
 in_rack batch t link b used = subst (λ (m : ℕ). m < MAX_MODULES) (at_used batch t link used.0 used.1 used) (module_fits link.end used.0 (modules_of batch t used.0 used.1 b))
 
 -- where no count is above 1, below some place, no link before that place is shared
-pub none_shared : (batch : List Transfer) (setting : List ℕ) (counts : List ℕ) (place : ℕ) (link : Link) → IsBatch batch → AreCounts counts (members batch setting) → place ≤ LINKS → All (λ count. count ≤ 1) (take place counts) → index_of link < place → IsShared batch setting link → ⊥
+pub none_shared : (batch : List Transfer) (setting : List ℕ) (counts : List ℕ) (place : ℕ) (link : Link) → IsBatch batch → AreCounts counts (members batch setting) → place ≤ LINKS → All (λ count. count ≤ 1) (take place counts) → link_index link < place → IsShared batch setting link → ⊥
 none_shared batch setting counts place link b table le few lt shared =
     let rack = in_rack batch shared.one.0 link b shared.one.2 in
-    let at : get_or (take place counts) (index_of link) 0 ≡ get_or counts (index_of link) 0 = get_or-take place counts (index_of link) 0 lt in
-    let one : get_or (take place counts) (index_of link) 0 ≤ 1 = few (index_of link) 0 (omega (arith, length-take-le place counts (omega (arith, table.places)))) in
+    let at : get_or (take place counts) (link_index link) 0 ≡ get_or counts (link_index link) 0 = get_or-take place counts (link_index link) 0 lt in
+    let one : get_or (take place counts) (link_index link) 0 ≤ 1 = few (link_index link) 0 (omega (arith, length-take-le place counts (omega (arith, table.places)))) in
     omega (arith, at, one, table.at link rack, count_from_shared batch setting link shared)
 
-pub first_link : (batch : List Transfer) (setting : List ℕ) (counts : List ℕ) (place : ℕ) (link : Link) → IsBatch batch → AreCounts counts (members batch setting) → place < LINKS → 1 < get_or counts place 0 → index_of link ≡ place → link.«module» < MAX_MODULES → IsShared batch setting link
+pub first_link : (batch : List Transfer) (setting : List ℕ) (counts : List ℕ) (place : ℕ) (link : Link) → IsBatch batch → AreCounts counts (members batch setting) → place < LINKS → 1 < get_or counts place 0 → link_index link ≡ place → link.«module» < MAX_MODULES → IsShared batch setting link
 first_link batch setting counts place link b table lt many at rack =
     shared_from_count batch setting link (omega (arith, table.at link rack, ap (λ (i : ℕ). get_or counts i 0) at))
 
-pub none_before : (batch : List Transfer) (setting : List ℕ) (counts : List ℕ) (place : ℕ) (link other : Link) → IsBatch batch → AreCounts counts (members batch setting) → place < LINKS → All (λ count. count ≤ 1) (take place counts) → index_of link ≡ place → link.«module» < MAX_MODULES → StandsBefore other link → IsShared batch setting other → ⊥
+pub none_before : (batch : List Transfer) (setting : List ℕ) (counts : List ℕ) (place : ℕ) (link other : Link) → IsBatch batch → AreCounts counts (members batch setting) → place < LINKS → All (λ count. count ≤ 1) (take place counts) → link_index link ≡ place → link.«module» < MAX_MODULES → StandsBefore other link → IsShared batch setting other → ⊥
 none_before batch setting counts place link other b table lt few at rack before shared =
     none_shared batch setting counts place other b table (omega arith) few (omega (arith, before_index other link before (in_rack batch shared.one.0 other b shared.one.2) rack)) shared
 
 pub no_link : (batch : List Transfer) (setting : List ℕ) (counts : List ℕ) → IsBatch batch → AreCounts counts (members batch setting) → All (λ count. count ≤ 1) counts → IsMatching batch setting
 no_link batch setting counts b table few = matching_from_none_shared batch setting (λ link shared.
     let rack = in_rack batch shared.one.0 link b shared.one.2 in
-    let one : get_or counts (index_of link) 0 ≤ 1 = few (index_of link) 0 (omega (arith, table.places, index_below link rack)) in
+    let one : get_or counts (link_index link) 0 ≤ 1 = few (link_index link) 0 (omega (arith, table.places, index_below link rack)) in
     omega (arith, one, table.at link rack, count_from_shared batch setting link shared))
-
-pub setting_here : (lists : List (Vec ℕ)) (k : ℕ) (v : Vec ℕ) → k < length lists → v ≡ get_or lists k v → slice_get (lists_of lists) k ≡ Some v.items
-setting_here lists k v lt is = slice_get-map (λ w. w.items) lists k ∙ ap (option_map (λ (w : Vec ℕ). w.items)) (slice_get_read lists (length lists) k v refl lt is)

@@ -16,19 +16,17 @@ use Rattle.link_graph.specs.declared.limits.TheConstants.{LINKS}
 use Rattle.link_graph.specs.declared.link.End.{End}
 use Rattle.link_graph.specs.declared.link.End.TheVariants.{Zero, Three}
 use Rattle.link_graph.specs.declared.link.Link.{Link}
-use Rattle.link_graph.specs.Links.{StandsBefore, index_by, index_of}
+use Rattle.link_graph.specs.Links.{StandsBefore, index_by, link_index}
 use Rattle.link_graph.specs.Uses.{start_link}
-use Rattle.link_graph.specs.Counts.{module_at, uses, AreCounts, IsGraph, IsBusiest}
-use Rattle.link_graph.proofs.Users.{use_of, use_yes, use_no, uses_few}
-
-abbrev made : End → ℕ → Link
-made e m = record { end = e; «module» = m }
+use Rattle.link_graph.specs.Counts.{module_at, uses, IsBusiest}
+use Rattle.link_graph.specs.Tables.{AreCounts, IsGraph}
+use Rattle.link_graph.proofs.Users.{made, use_of, use_yes, use_no, uses_few}
 
 -- the link at a place
-pub link_at : (k : ℕ) → k < LINKS → (link : Link) × (link.«module» < MAX_MODULES) × (index_of link ≡ k)
+pub link_at : (k : ℕ) → k < LINKS → (link : Link) × (link.«module» < MAX_MODULES) × (link_index link ≡ k)
 link_at k lt = elim (cases_lt k MAX_MODULES) [ inl low ↦ (made Zero k, low, refl) | inr high ↦ (made Three (k - MAX_MODULES), omega arith, omega arith) ]
 
-pub index_below : (link : Link) → link.«module» < MAX_MODULES → index_of link < LINKS
+pub index_below : (link : Link) → link.«module» < MAX_MODULES → link_index link < LINKS
 index_below link lt = below_by link.end link.«module» lt
   where
     below_by : (e : End) (m : ℕ) → m < MAX_MODULES → index_by e m < LINKS
@@ -63,7 +61,7 @@ before_by Zero Three m n h lt lt' = omega arith
 before_by Three Zero m n h lt lt' = elim h [ inl p ↦ absurd (let bad : Three ≡ Zero = p.0 in cc) | inr p ↦ absurd (let bad : Three ≡ Zero = p.0 in cc) ]
 before_by Three Three m n h lt lt' = elim h [ inl p ↦ absurd (let bad : Three ≡ Zero = p.0 in cc) | inr p ↦ omega (arith, p.1) ]
 
-pub before_index : (a b : Link) → StandsBefore a b → a.«module» < MAX_MODULES → b.«module» < MAX_MODULES → index_of a < index_of b
+pub before_index : (a b : Link) → StandsBefore a b → a.«module» < MAX_MODULES → b.«module» < MAX_MODULES → link_index a < link_index b
 before_index a b h = before_by a.end b.end a.«module» b.«module» h
 
 most_at : (counts : List ℕ) (n m k : ℕ) → IsFirstBest (λ a b. nat_lt b a) counts n m → k < n → get_or counts k 0 ≤ get_or counts m 0
@@ -72,19 +70,19 @@ most_at counts n m k best lt = ltb-false _ _ (best.1 k 0 lt)
 less_at : (counts : List ℕ) (n m k : ℕ) → IsFirstBest (λ a b. nat_lt b a) counts n m → k < m → get_or counts k 0 < get_or counts m 0
 less_at counts n m k best lt = ltb-true _ _ (best.2 k 0 lt)
 
-pub busiest_is : (counts : List ℕ) (batch : List Transfer) (m : ℕ) (link : Link) → IsGraph counts batch → IsFirstBest (λ a b. nat_lt b a) counts LINKS m → get_or counts m 0 ≢ 0 → index_of link ≡ m → link.«module» < MAX_MODULES → IsBusiest batch link
+pub busiest_is : (counts : List ℕ) (batch : List Transfer) (m : ℕ) (link : Link) → IsGraph counts batch → IsFirstBest (λ a b. nat_lt b a) counts LINKS m → get_or counts m 0 ≢ 0 → link_index link ≡ m → link.«module» < MAX_MODULES → IsBusiest batch link
 busiest_is counts batch m link g best some at lt =
     let here : get_or counts m 0 ≡ uses batch link = sym (ap (λ (i : ℕ). get_or counts i 0) at) ∙ g.counted.at link lt in
     record {
       used = omega arith;
       most = λ other. elim (cases_lt other.«module» MAX_MODULES) [
-        | inl in_rack ↦ omega (arith, g.counted.at other in_rack, most_at counts LINKS m (index_of other) best (index_below other in_rack))
+        | inl in_rack ↦ omega (arith, g.counted.at other in_rack, most_at counts LINKS m (link_index other) best (index_below other in_rack))
         | inr outside ↦ omega (arith, uses_outside batch other g.batch_fits outside)
       ];
       first = λ other before. elim (cases_lt other.«module» MAX_MODULES) [
         | inl in_rack ↦
-            let earlier : index_of other < m = omega (arith, before_index other link before in_rack lt) in
-            omega (arith, g.counted.at other in_rack, less_at counts LINKS m (index_of other) best earlier)
+            let earlier : link_index other < m = omega (arith, before_index other link before in_rack lt) in
+            omega (arith, g.counted.at other in_rack, less_at counts LINKS m (link_index other) best earlier)
         | inr outside ↦ omega (arith, uses_outside batch other g.batch_fits outside)
       ];
     }
@@ -94,18 +92,12 @@ pub none_used : (counts : List ℕ) (batch : List Transfer) (m : ℕ) → IsGrap
 none_used counts [] m g best zero = refl
 none_used counts (x ∷ xs) m g best zero =
     let lt : x.initiator < MAX_MODULES = (All-head (IsWithin widest) x xs g.batch_fits.within).0.0 in
-    absurd (omega (arith, sum_by-cons (use_of (start_link x)) x xs, use_yes (start_link x) x refl, g.counted.at (start_link x) lt, most_at counts LINKS m (index_of (start_link x)) best (index_below (start_link x) lt)))
-
--- and where there is none, no link is used
-pub some_used : (counts : List ℕ) (batch : List Transfer) (m : ℕ) → IsGraph counts batch → IsFirstBest (λ a b. nat_lt b a) counts LINKS m → get_or counts m 0 ≢ 0 → batch ≢ []
-some_used counts batch m g best some empty =
-    let l = link_at m best.0 in
-    omega (arith, g.counted.at l.0 l.1, ap (λ (i : ℕ). get_or counts i 0) l.2, ap (λ (ts : List Transfer). uses ts l.0) empty, some)
+    absurd (omega (arith, sum_by-cons (use_of (start_link x)) x xs, use_yes (start_link x) x refl, g.counted.at (start_link x) lt, most_at counts LINKS m (link_index (start_link x)) best (index_below (start_link x) lt)))
 
 -- ---- counting one transfer after the other
 
 pub no_counts : AreCounts (replicate LINKS 0) []
-no_counts = record { places = length-replicate {A = ℕ} LINKS 0; at = λ link lt. get_or-replicate LINKS (index_of link) 0 0 (index_below link lt) }
+no_counts = record { places = length-replicate {A = ℕ} LINKS 0; at = λ link lt. get_or-replicate LINKS (link_index link) 0 0 (index_below link lt) }
 
 pub next_counts : (counts : List ℕ) (batch : List Transfer) (t : ℕ) (x : Transfer) → slice_get batch t ≡ Some x → AreCounts counts (take t batch ++ x ∷ []) → AreCounts counts (take (t + 1) batch)
 next_counts counts batch t x here table =

@@ -9,6 +9,7 @@ use Rattle.std.proofs.lemmas.List.Quantifiers.{all_pairs_push}
 use Rattle.std.proofs.lemmas.List.Sums.{sum_by_push, count_by-le-length}
 use Rattle.std.proofs.lemmas.Option.{slice_get_cases, slice_get_within, get_or_from_slice_get, slice_get-get_or}
 use Rattle.batch.specs.declared.transfer.Transfer.{Transfer}
+use Rattle.batch.proofs.Lists.{at_cons}
 use Rattle.link_graph.specs.declared.link.End.{End}
 use Rattle.link_graph.specs.declared.link.End.TheVariants.{Zero, Three}
 use Rattle.link_graph.specs.declared.link.Link.{Link}
@@ -16,12 +17,13 @@ use Rattle.link_graph.specs.Uses.{Uses, start_link, answer_link}
 use Rattle.link_graph.specs.Counts.{module_at, uses, AreUsers}
 use Rattle.link_graph.proofs.Sums.{later, first_with}
 
-some_same : {X : Type 0} (x y : X) → Some x ≡ Some y → x ≡ y
+pub some_same : {X : Type 0} (x y : X) → Some x ≡ Some y → x ≡ y
 some_same x y e = cc
 
 -- ---- one transfer at one link
 
-abbrev made : End → ℕ → Link
+-- a link
+abbrev pub made : End → ℕ → Link
 made e m = record { end = e; «module» = m }
 
 is_one_of : (e : End) (m : ℕ) (x : Transfer) → module_at e x ≡ m → (made e m ≡ start_link x) ⊎ (made e m ≡ answer_link x)
@@ -124,7 +126,7 @@ all_users batch link t users le b = (
 
 -- ---- the law of counting
 
-uses_or_not : (batch : List Transfer) (link : Link) (t : ℕ) → Uses batch t link ⊎ (Uses batch t link → ⊥)
+pub uses_or_not : (batch : List Transfer) (link : Link) (t : ℕ) → Uses batch t link ⊎ (Uses batch t link → ⊥)
 uses_or_not batch link t =
     elim (slice_get_cases batch t).1 [
       | inl p ↦
@@ -150,11 +152,6 @@ some_users batch link (suc t) le =
 abbrev Ascending : List ℕ → Type 0
 Ascending xs = AllPairs (λ a b. a < b) xs
 
--- what stands in the list is its first or stands behind that
-in_cons : (x t : ℕ) (xs : List ℕ) → Contains (x ∷ xs) t → (x ≡ t) ⊎ Contains xs t
-in_cons x t xs (zero, lt, at) = inl at
-in_cons x t xs (suc k, lt, at) = inr (k, omega arith, at)
-
 at_head : (x : ℕ) (xs : List ℕ) → Contains (x ∷ xs) x
 at_head x xs = (0, omega arith, refl)
 
@@ -165,11 +162,11 @@ above_head : (x t : ℕ) (xs : List ℕ) → Ascending (x ∷ xs) → Contains x
 above_head x t xs up inside = All-contains (λ u. x < u) xs t (first_with (λ a b. a < b) x xs up) inside
 
 not_below : (x y : ℕ) (xs ys : List ℕ) → Ascending (y ∷ ys) → Contains (y ∷ ys) x → y ≤ x
-not_below x y xs ys up inside = elim (in_cons y x ys inside) [ inl e ↦ omega arith | inr behind ↦ omega (arith, above_head y x ys up behind) ]
+not_below x y xs ys up inside = elim (at_cons y x ys inside) [ inl e ↦ omega arith | inr behind ↦ omega (arith, above_head y x ys up behind) ]
 
 within_tail : (x y : ℕ) (xs ys : List ℕ) → x ≡ y → Ascending (x ∷ xs) → ((t : ℕ) → Contains (x ∷ xs) t → Contains (y ∷ ys) t) → (t : ℕ) → Contains xs t → Contains ys t
 within_tail x y xs ys same up sub t inside =
-    elim (in_cons y t ys (sub t (in_tail x t xs inside))) [ inl e ↦ absurd (omega (arith, above_head x t xs up inside)) | inr behind ↦ behind ]
+    elim (at_cons y t ys (sub t (in_tail x t xs inside))) [ inl e ↦ absurd (omega (arith, above_head x t xs up inside)) | inr behind ↦ behind ]
 
 -- ascending lists of the same numbers are equally long
 same_members : (xs ys : List ℕ) → Ascending xs → Ascending ys → ((t : ℕ) → Contains xs t → Contains ys t) → ((t : ℕ) → Contains ys t → Contains xs t) → length xs ≡ length ys

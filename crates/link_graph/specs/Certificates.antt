@@ -1,4 +1,4 @@
--- Shortest schedules, and certificates that a schedule is shortest. Koenig 1916, the easy half: no edge colouring of a graph has
+-- Shortest schedules, and certificates that a schedule is shortest. König 1916, the easy half: no edge colouring of a graph has
 -- fewer colours than a node has edges.
 use Rattle.std.specs.Prelude.{◌≡◌, ◌≢◌, ℕ, ◌<◌, ◌≤◌, ◌↔◌, List, [], length, All, AllPairs, Option, Some, None, IsSome}
 use Rattle.batch.specs.declared.transfer.Transfer.{Transfer}

@@ -1,13 +1,10 @@
 -- How many transfers use a link: the degree of a node of the batch's bipartite multigraph.
-use Rattle.std.specs.Prelude.{◌≡◌, ℕ, zero, suc, ◌<◌, ◌≤◌, ◌+◌, Bool, cond, List, length, All, AllPairs, Contains, ◌==◌, count_by, slice_index}
-use Rattle.batch.specs.declared.limits.TheConstants.{MAX_MODULES}
+use Rattle.std.specs.Prelude.{ℕ, zero, suc, ◌<◌, ◌≤◌, ◌+◌, Bool, cond, List, All, AllPairs, Contains, ◌==◌, count_by}
 use Rattle.batch.specs.declared.transfer.Transfer.{Transfer}
-use Rattle.batch.specs.Batches.{IsBatch}
-use Rattle.link_graph.specs.declared.limits.TheConstants.{LINKS}
 use Rattle.link_graph.specs.declared.link.End.{End}
 use Rattle.link_graph.specs.declared.link.End.TheVariants.{Zero, Three}
 use Rattle.link_graph.specs.declared.link.Link.{Link}
-use Rattle.link_graph.specs.Links.{StandsBefore, index_of}
+use Rattle.link_graph.specs.Links.{StandsBefore}
 use Rattle.link_graph.specs.Uses.{Uses}
 
 -- how many numbers below n pass a test
@@ -35,13 +32,3 @@ pub record IsBusiest (batch : List Transfer) (link : Link) : Type 0 where
   pub used : 0 < uses batch link
   pub most : (other : Link) → uses batch other ≤ uses batch link
   pub first : (other : Link) → StandsBefore other link → uses batch other < uses batch link
-
--- at the place of each link, how many of the transfers use it
-pub record AreCounts (counts : List ℕ) (transfers : List Transfer) : Type 0 where
-  pub places : length counts ≡ LINKS
-  pub at : (link : Link) → link.«module» < MAX_MODULES → slice_index counts (index_of link) ≡ uses transfers link
-
--- what the graph of a batch keeps
-pub record IsGraph (counts : List ℕ) (batch : List Transfer) : Type 0 where
-  pub batch_fits : IsBatch batch
-  pub counted : AreCounts counts batch

@@ -1,6 +1,7 @@
 pub mod Links
 pub mod Uses
 pub mod Counts
+pub mod Tables
 pub mod Schedules
 pub mod Certificates
 pub mod Equal

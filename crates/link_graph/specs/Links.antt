@@ -20,5 +20,5 @@ index_by Zero m = m
 index_by Three m = MAX_MODULES + m
 
 -- the place of a link
-abbrev pub index_of : Link → ℕ
-index_of link = index_by link.end link.«module»
+abbrev pub link_index : Link → ℕ
+link_index link = index_by link.end link.«module»

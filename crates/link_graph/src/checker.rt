@@ -6,7 +6,7 @@ ghost use Rattle.link_graph.specs.declared.check_fault.CheckFault.TheVariants.{N
 ghost use Rattle.link_graph.specs.Uses.{Uses, IsMatching};
 ghost use Rattle.link_graph.specs.Schedules.{lists_of, IsScheduleOf};
 ghost use Rattle.link_graph.specs.Certificates.{Naming, naming, AreDistinct, IsShortest, IsCertificate};
-ghost use Rattle.link_graph.specs.Counts.{AreCounts};
+ghost use Rattle.link_graph.specs.Tables.{AreCounts};
 ghost use Rattle.link_graph.specs.Checks.{IsFirstWithout, IsFirstRepeated, IsFirstMissing, IsFirstClash, AreKnown, UsesNamed, IsFirstCheckFault};
 ghost use Rattle.link_graph.specs.Marks.{AreMarks};
 

@@ -4,11 +4,11 @@ ghost use Rattle.std.specs.Prelude.{◌≡◌, ◌≢◌, ◌<◌, ◌≤◌, �
 ghost use Rattle.std.specs.List.{concat};
 ghost use Rattle.batch.specs.Batches.{IsBatch};
 ghost use Rattle.link_graph.specs.declared.link.Link.{Link};
-ghost use Rattle.link_graph.specs.Links.{index_of, StandsBefore};
+ghost use Rattle.link_graph.specs.Links.{link_index, StandsBefore};
 ghost use Rattle.link_graph.specs.Uses.{Uses, IsMatching};
 ghost use Rattle.link_graph.specs.Schedules.{lists_of};
 ghost use Rattle.link_graph.specs.Certificates.{naming, AreDistinct};
-ghost use Rattle.link_graph.specs.Counts.{AreCounts};
+ghost use Rattle.link_graph.specs.Tables.{AreCounts};
 ghost use Rattle.link_graph.specs.Checks.{IsFirstWithout, IsFirstRepeated, IsFirstClash, IsShared, UsesNamed};
 ghost use Rattle.link_graph.specs.Marks.{AreMarks, members};
 

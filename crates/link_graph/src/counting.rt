@@ -5,7 +5,8 @@ ghost use Rattle.batch.specs.declared.transfer.Transfer.{Transfer};
 ghost use Rattle.batch.specs.Extent.{widest};
 ghost use Rattle.batch.specs.Text.{HasModules};
 ghost use Rattle.link_graph.specs.Uses.{Uses, start_link, answer_link};
-ghost use Rattle.link_graph.specs.Counts.{module_at, uses, AreCounts, AreUsers, IsGraph};
+ghost use Rattle.link_graph.specs.Counts.{module_at, uses, AreUsers};
+ghost use Rattle.link_graph.specs.Tables.{AreCounts, IsGraph};
 
 use crate::limits::LINKS;
 use crate::link::{End, Link};

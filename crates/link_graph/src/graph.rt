@@ -2,7 +2,8 @@ ghost use Rattle.std.specs.Prelude.{◌≡◌, ◌<◌, ◌↔◌, [], IfOk, IfS
 ghost use Rattle.std.specs.List.{IsFirstBest};
 ghost use Rattle.batch.specs.Batches.{IsBatch};
 ghost use Rattle.link_graph.specs.Uses.{start_link, answer_link};
-ghost use Rattle.link_graph.specs.Counts.{uses, AreUsers, IsBusiest, IsGraph};
+ghost use Rattle.link_graph.specs.Counts.{uses, AreUsers, IsBusiest};
+ghost use Rattle.link_graph.specs.Tables.{IsGraph};
 
 use crate::counting;
 use crate::limits::LINKS;
@@ -23,7 +24,7 @@ pub struct LinkGraph {
 impl Model for LinkGraph {
     ghost use Rattle.std.specs.Prelude.{List};
     ghost use Rattle.batch.specs.declared.transfer.Transfer.{Transfer};
-    ghost use Rattle.link_graph.specs.Counts.{IsGraph};
+    ghost use Rattle.link_graph.specs.Tables.{IsGraph};
 
     ghost Value = { List Transfer };
 

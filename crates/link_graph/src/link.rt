@@ -1,5 +1,5 @@
 ghost use Rattle.std.specs.Prelude.{◌≡◌, ◌<◌};
-ghost use Rattle.link_graph.specs.Links.{index_of, other_end};
+ghost use Rattle.link_graph.specs.Links.{link_index, other_end};
 ghost use Rattle.link_graph.specs.ScheduleText.{end_number};
 
 use crate::limits::LINKS;
@@ -51,7 +51,7 @@ impl Link {
     /// The link's place in the order of links, from 0: the index of what a table keeps of it.
     pub fn index(self) -> usize
         requires { self.«module» < MAX_MODULES }
-        ensures index { result ≡ index_of self }
+        ensures index { result ≡ link_index self }
         ensures below { result < LINKS }
     {
         match self.end {
@@ -63,7 +63,7 @@ impl Link {
     /// The link at this place in the order of links.
     pub(crate) fn at(index: usize) -> Link
         requires { index < LINKS }
-        ensures index { index_of result ≡ index }
+        ensures index { link_index result ≡ index }
         ensures module { result.«module» < MAX_MODULES }
     {
         if index < MAX_MODULES {

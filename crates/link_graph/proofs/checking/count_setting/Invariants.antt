@@ -1,5 +1,5 @@
 use Rattle.std.proofs.Common.{take}
-use Rattle.link_graph.specs.Counts.{AreCounts}
+use Rattle.link_graph.specs.Tables.{AreCounts}
 use Rattle.link_graph.specs.Marks.{members}
 use Rattle.link_graph.proofs.checking.count_setting.Given as goal
 

@@ -1,10 +1,9 @@
-use Rattle.std.proofs.Common.{◌≡◌, ℕ, ◌==◌, List, refl, sym, ◌∙◌, rules}
+use Rattle.std.proofs.Common.{ℕ, ◌==◌, refl, sym, ◌∙◌}
 use Rattle.std.specs.Global.{Vec}
 use Rattle.std.specs.Cmp.Derive.Mapped.{pointwise-map}
 use Rattle.std.specs.Cmp.Lexicographic.{pointwise}
 use Rattle.std.proofs.lemmas.Bool.Decides.{Decides-eqb}
 use Rattle.std.proofs.lemmas.Slice.Eq.{slice_eq-Decides}
-use Rattle.link_graph.specs.Equal.{same_settings}
 use Rattle.link_graph.proofs.schedule.SchedulePartialEq.eq.Goals as goal
 
 pub returns-clause-value : goal.returns-clause-value
