@@ -11,7 +11,7 @@ use Rattle.link_graph.specs.declared.limits.TheConstants.{LINKS}
 use Rattle.link_graph.specs.declared.link.End.{End}
 use Rattle.link_graph.specs.declared.link.End.TheVariants.{Zero, Three}
 use Rattle.link_graph.specs.declared.link.Link.{Link}
-use Rattle.link_graph.specs.Links.{index_of}
+use Rattle.link_graph.specs.Links.{link_index}
 use Rattle.link_graph.specs.Uses.{Uses, start_link, answer_link}
 use Rattle.link_graph.specs.Links.{other_end}
 use Rattle.batch.specs.Overlap.{no_transfer, transfer_at}
@@ -118,13 +118,13 @@ same_link g t u Three same = let m : (transfer_at g t).responder ≡ (transfer_a
 
 pub place-link : (g : List Transfer) (t u : ℕ) (e : End) → link_at g t e ≡ link_at g u e → place_at g t e ≡ place_at g u e
 unfolding place_at
-place-link g t u e same = ap index_of same
+place-link g t u e same = ap link_index same
 
 -- the places of the two links that a transfer uses
-pub ends_places : (g : List Transfer) (t : ℕ) (r : Link × Link) → t < length g → option_map (λ (x : Transfer). let p : Link × Link = (start_link x, answer_link x) in p) (slice_get g t) ≡ Some r → (index_of r.0 ≡ place_at g t Zero) × (index_of r.1 ≡ place_at g t Three)
+pub ends_places : (g : List Transfer) (t : ℕ) (r : Link × Link) → t < length g → option_map (λ (x : Transfer). let p : Link × Link = (start_link x, answer_link x) in p) (slice_get g t) ≡ Some r → (link_index r.0 ≡ place_at g t Zero) × (link_index r.1 ≡ place_at g t Three)
 unfolding place_at link_at
 ends_places g t r within is =
     let pair : Link × Link = (start_link (transfer_at g t), answer_link (transfer_at g t)) in
     let there : ◌≡◌ {A = Option (Link × Link)} (Some pair) (Some r) = sym (ap (option_map (λ (x : Transfer). let p : Link × Link = (start_link x, answer_link x) in p)) (slice_get-get_or g t no_transfer within)) ∙ is in
     let same : pair ≡ r = same_Some pair r there in
-    (ap (λ (p : Link × Link). index_of p.0) (sym same), ap (λ (p : Link × Link). index_of p.1) (sym same))
+    (ap (λ (p : Link × Link). link_index p.0) (sym same), ap (λ (p : Link × Link). link_index p.1) (sym same))

@@ -7,13 +7,13 @@ use Rattle.batch.specs.declared.transfer.Transfer.{Transfer}
 use Rattle.link_graph.specs.declared.limits.TheConstants.{LINKS}
 use Rattle.link_graph.specs.declared.link.End.{End}
 use Rattle.link_graph.specs.declared.link.End.TheVariants.{Zero}
-use Rattle.link_graph.specs.Links.{index_of}
+use Rattle.link_graph.specs.Links.{link_index}
 use Rattle.alternating_path.specs.Ends.{link_at}
 use Rattle.alternating_path.specs.Colouring.{Colouring, colour_at}
 
 -- the place in a row of the link that transfer t uses at an end
 unfoldable pub place_at : List Transfer → ℕ → End → ℕ
-place_at batch t end = index_of (link_at batch t end)
+place_at batch t end = link_index (link_at batch t end)
 
 -- what stands in the row of colour c at a place
 abbrev pub holder_at : List (Option ℕ) → ℕ → ℕ → Option ℕ

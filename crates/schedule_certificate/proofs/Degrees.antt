@@ -13,9 +13,10 @@ use Rattle.link_graph.specs.declared.limits.TheConstants.{LINKS}
 use Rattle.link_graph.specs.declared.link.End.{End}
 use Rattle.link_graph.specs.declared.link.End.TheVariants.{Zero, Three}
 use Rattle.link_graph.specs.declared.link.Link.{Link}
-use Rattle.link_graph.specs.Links.{index_by, index_of}
+use Rattle.link_graph.specs.Links.{index_by, link_index}
 use Rattle.link_graph.specs.Uses.{start_link, answer_link}
-use Rattle.link_graph.specs.Counts.{uses, AreCounts}
+use Rattle.link_graph.specs.Counts.{uses}
+use Rattle.link_graph.specs.Tables.{AreCounts}
 use Rattle.link_graph.specs.Marks.{members}
 use Rattle.link_graph.proofs.Users.{use_of, use_no, uses_push, uses_few}
 use Rattle.link_graph.proofs.Tables.{no_counts, modules_of, room_left}
@@ -37,27 +38,27 @@ none_counted = record { counts_are = no_counts; degree_is = record { most = λ l
 
 module _ (counts : List ℕ) (xs : List Transfer) (x : Transfer) (fits : HasModules widest x) (table : AreCounts counts xs) where
   abbrev n : ℕ
-  n = get_or counts (index_of (start_link x)) 0 + 1
+  n = get_or counts (link_index (start_link x)) 0 + 1
 
   abbrev first : List ℕ
-  first = set counts (index_of (start_link x)) n
+  first = set counts (link_index (start_link x)) n
 
   abbrev m : ℕ
-  m = get_or first (index_of (answer_link x)) 0 + 1
+  m = get_or first (link_index (answer_link x)) 0 + 1
 
   abbrev both : List ℕ
-  both = set first (index_of (answer_link x)) m
+  both = set first (link_index (answer_link x)) m
 
-  start_in : index_of (start_link x) < length counts
+  start_in : link_index (start_link x) < length counts
   start_in = omega (arith, table.places, fits.0)
 
-  answer_in : index_of (answer_link x) < length first
-  answer_in = omega (arith, table.places, fits.1, length-set counts (index_of (start_link x)) n)
+  answer_in : link_index (answer_link x) < length first
+  answer_in = omega (arith, table.places, fits.1, length-set counts (link_index (start_link x)) n)
 
   at_by : (e : End) (k : ℕ) → k < MAX_MODULES → get_or both (index_by e k) 0 ≡ get_or counts (index_by e k) 0 + use_of (made e k) x
   at_by Zero k low =
       let other : k ≢ MAX_MODULES + x.responder = λ e. omega arith in
-      let kept = get_or-set_other first (index_of (answer_link x)) k m 0 other in
+      let kept = get_or-set_other first (link_index (answer_link x)) k m 0 other in
       elim (eqb_tells x.initiator k) [
         | inl same ↦
             let here : get_or first k 0 ≡ n = ap (λ (i : ℕ). get_or first i 0) (sym same.1) ∙ get_or-set_same counts x.initiator n 0 start_in in
@@ -87,7 +88,7 @@ module _ (counts : List ℕ) (xs : List Transfer) (x : Transfer) (fits : HasModu
 
   counted_more : AreCounts both (xs ++ x ∷ [])
   counted_more = record {
-    places = omega (arith, table.places, length-set counts (index_of (start_link x)) n, length-set first (index_of (answer_link x)) m);
+    places = omega (arith, table.places, length-set counts (link_index (start_link x)) n, length-set first (link_index (answer_link x)) m);
     at = λ link low. omega (arith, at_by link.end link.«module» low, table.at link low, uses_push xs x link);
   }
 
@@ -98,7 +99,7 @@ module _ (counts : List ℕ) (xs : List Transfer) (x : Transfer) (fits : HasModu
 
   answer_count : uses (xs ++ x ∷ []) (answer_link x) ≡ m
   answer_count =
-      let at_end : get_or both (index_of (answer_link x)) 0 ≡ m = get_or-set_same first (MAX_MODULES + x.responder) m 0 answer_in in
+      let at_end : get_or both (link_index (answer_link x)) 0 ≡ m = get_or-set_same first (MAX_MODULES + x.responder) m 0 answer_in in
       omega (arith, counted_more.at (answer_link x) fits.1, at_end)
 
   most_by : (e : End) (k d : ℕ) → uses xs (made e k) ≤ d → uses (xs ++ x ∷ []) (made e k) ≤ max (max d n) m
@@ -131,11 +132,11 @@ module _ (counts : List ℕ) (xs : List Transfer) (x : Transfer) (fits : HasModu
       }
 
   -- one more transfer, in the words of the two counts
-  count_more : (d a b : ℕ) (one two : List ℕ) → IsDegree xs d → a ≡ n → one ≡ set counts (index_of (start_link x)) a → b ≡ get_or one (index_of (answer_link x)) 0 + 1 → two ≡ set one (index_of (answer_link x)) b → AreCounted (xs ++ x ∷ []) two (max (max d a) b)
+  count_more : (d a b : ℕ) (one two : List ℕ) → IsDegree xs d → a ≡ n → one ≡ set counts (link_index (start_link x)) a → b ≡ get_or one (link_index (answer_link x)) 0 + 1 → two ≡ set one (link_index (answer_link x)) b → AreCounted (xs ++ x ∷ []) two (max (max d a) b)
   count_more d a b one two degree a_is one_is b_is two_is =
-      let one' : one ≡ first = one_is ∙ ap (set counts (index_of (start_link x))) a_is in
-      let b' : b ≡ m = b_is ∙ ap (λ (l : List ℕ). get_or l (index_of (answer_link x)) 0 + 1) one' in
-      let two' : two ≡ both = two_is ∙ (ap (λ (l : List ℕ). set l (index_of (answer_link x)) b) one' ∙ ap (set first (index_of (answer_link x))) b') in
+      let one' : one ≡ first = one_is ∙ ap (set counts (link_index (start_link x))) a_is in
+      let b' : b ≡ m = b_is ∙ ap (λ (l : List ℕ). get_or l (link_index (answer_link x)) 0 + 1) one' in
+      let two' : two ≡ both = two_is ∙ (ap (λ (l : List ℕ). set l (link_index (answer_link x)) b) one' ∙ ap (set first (link_index (answer_link x))) b') in
       record {
         counts_are = subst (λ (l : List ℕ). AreCounts l (xs ++ x ∷ [])) (sym two') counted_more;
         degree_is = subst (IsDegree (xs ++ x ∷ [])) (ap (λ (i : ℕ). max (max d i) m) (sym a_is) ∙ ap (λ (i : ℕ). max (max d a) i) (sym b')) (degree_more d degree);
@@ -191,18 +192,18 @@ module _ (batch : List Transfer) (part : List ℕ) (i : ℕ) (is_part : IsPart b
       pub counts_low : (limit : ℕ) → MAX_TRANSFERS < limit → All (λ n. n < limit) counts
       counts_low limit low = room_left counts (members batch (take i part)) limit so.counts_are (omega (arith, so_far, low))
 
-      module _ (a : ℕ) (one : List ℕ) (a_is : a ≡ get_or counts (index_of r.0) 0 + 1) (one_is : one ≡ set counts (index_of r.0) a) where
+      module _ (a : ℕ) (one : List ℕ) (a_is : a ≡ get_or counts (link_index r.0) 0 + 1) (one_is : one ≡ set counts (link_index r.0) a) where
         pub next_low : (limit : ℕ) → MAX_TRANSFERS < limit → All (λ n. n < limit) one
         next_low limit low =
-            let inside : index_of r.0 < length counts = subst (λ (l : Link). index_of l < length counts) (sym start_is) (omega (arith, so.counts_are.places, modules.0)) in
-            let before : get_or counts (index_of r.0) 0 < MAX_TRANSFERS = All-get_or (λ n. n < MAX_TRANSFERS) counts (index_of r.0) 0 inside (room_left counts (members batch (take i part)) MAX_TRANSFERS so.counts_are so_far) in
-            subst (All (λ n. n < limit)) (sym one_is) (All-set (λ n. n < limit) counts (index_of r.0) a (omega (arith, a_is, before, low)) (counts_low limit low))
+            let inside : link_index r.0 < length counts = subst (λ (l : Link). link_index l < length counts) (sym start_is) (omega (arith, so.counts_are.places, modules.0)) in
+            let before : get_or counts (link_index r.0) 0 < MAX_TRANSFERS = All-get_or (λ n. n < MAX_TRANSFERS) counts (link_index r.0) 0 inside (room_left counts (members batch (take i part)) MAX_TRANSFERS so.counts_are so_far) in
+            subst (All (λ n. n < limit)) (sym one_is) (All-set (λ n. n < limit) counts (link_index r.0) a (omega (arith, a_is, before, low)) (counts_low limit low))
 
-        pub next_counted : (b middle top : ℕ) (two : List ℕ) → b ≡ get_or one (index_of r.1) 0 + 1 → two ≡ set one (index_of r.1) b → middle ≡ max d a → top ≡ max middle b → AreCounted (members batch (take (i + 1) part)) two top
+        pub next_counted : (b middle top : ℕ) (two : List ℕ) → b ≡ get_or one (link_index r.1) 0 + 1 → two ≡ set one (link_index r.1) b → middle ≡ max d a → top ≡ max middle b → AreCounted (members batch (take (i + 1) part)) two top
         next_counted b middle top two b_is two_is middle_is top_is =
             let more : members batch (take (i + 1) part) ≡ members batch (take i part) ++ known.0 ∷ [] = some_more batch part i 0 known.0 within known.1 in
-            let place : index_of r.0 ≡ index_of (start_link known.0) = ap index_of start_is in
-            let behind : index_of r.1 ≡ index_of (answer_link known.0) = ap index_of answer_is in
+            let place : link_index r.0 ≡ link_index (start_link known.0) = ap link_index start_is in
+            let behind : link_index r.1 ≡ link_index (answer_link known.0) = ap link_index answer_is in
             let result = count_more counts (members batch (take i part)) known.0 modules so.counts_are d a b one two so.degree_is
             (a_is ∙ ap (λ (k : ℕ). get_or counts k 0 + 1) place)
             (one_is ∙ ap (λ (k : ℕ). set counts k a) place)

@@ -1,6 +1,6 @@
 ghost use Rattle.std.specs.Prelude.{◌≡◌, ◌+◌, ◌%◌, ◌<◌, ◌≤◌, max, All, length, slice_index, slice_set, IfSome, IfNone};
 ghost use Rattle.batch.specs.declared.limits.TheConstants.{MAX_MODULES};
-ghost use Rattle.link_graph.specs.Links.{index_of};
+ghost use Rattle.link_graph.specs.Links.{link_index};
 ghost use Rattle.link_graph.specs.Marks.{members};
 ghost use Rattle.schedule_certificate.specs.Parts.{IsPart, IsDegree};
 
@@ -11,8 +11,8 @@ use link_graph::{LINKS, Link, LinkGraph};
 fn count_use(uses: &mut [usize; LINKS], link: Link) -> usize
     requires module { link.«module» < MAX_MODULES }
     requires room { All (λ count. count < usize.MAX) uses.old }
-    ensures count { result ≡ slice_index uses.old (index_of link) + 1 }
-    ensures counted { uses.new ≡ slice_set uses.old (index_of link) result }
+    ensures count { result ≡ slice_index uses.old (link_index link) + 1 }
+    ensures counted { uses.new ≡ slice_set uses.old (link_index link) result }
 {
     let count = &mut uses[link.index()];
     *count += 1;
