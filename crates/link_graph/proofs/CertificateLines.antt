@@ -10,7 +10,7 @@ use Rattle.link_graph.specs.declared.schedule_fault.ScheduleFault.{ScheduleFault
 use Rattle.link_graph.specs.declared.schedule_fault.ScheduleFault.TheVariants.{Line, NoMemory}
 use Rattle.link_graph.specs.Certificates.{Naming, naming, IsNaming}
 use Rattle.link_graph.specs.ScheduleText.{CanName, numbers, busiest_line, named_line, naming_lines, certificate_lines, text_of}
-use Rattle.link_graph.specs.ScheduleFaults.{IsLine, Begins, IsFirstBad, AreCertified, AreNamed, IsFaultBelow, IsLineFault}
+use Rattle.link_graph.specs.ScheduleFaults.{HasFirstLine, IsLine, Begins, IsFirstBad, AreCertified, AreNamed, IsFaultBelow, IsLineFault}
 use Rattle.link_graph.proofs.Parts.{bad_here, bad_line, cut_short, behind, bad_behind, fault_behind, one_read, busiest_line_within}
 use Rattle.link_graph.proofs.LinkLines.{numbers_injective}
 
@@ -38,7 +38,7 @@ at_next above P text n at bad = (1, at, bad)
 pub no_named_line : (above : ℕ) (text : List ℕ) → IsLine text → IsFaultBelow above AreNamed text (Line (above + 1))
 no_named_line above text within = at_next above AreNamed text (above + 1) refl (cut_short AreNamed text within begins_named (λ _. named_whole))
 
-pub bad_named_line : (above : ℕ) (text line rest : List ℕ) (fault : ScheduleFault) → IsLine line × (text ≡ line ++ line_feed ∷ rest) → IsLineFault (above + 1) (codes "named") line fault → IsFaultBelow above AreNamed text fault
+pub bad_named_line : (above : ℕ) (text line rest : List ℕ) (fault : ScheduleFault) → HasFirstLine text line rest → IsLineFault (above + 1) (codes "named") line fault → IsFaultBelow above AreNamed text fault
 bad_named_line above text line rest (Line n) read f =
     at_next above AreNamed text n f.0 (bad_line AreNamed text line rest read begins_named (λ more a. f.1 a.transfers a.fit (ap (λ (ls : List (List ℕ)). get_or ls 0 []) a.spelled)))
 bad_named_line above text line rest NoMemory read f = record {
@@ -51,7 +51,7 @@ bad_named_line above text line rest NoMemory read f = record {
 }
 
 -- at least one transfer is named
-pub none_named : (above : ℕ) (text line rest ts : List ℕ) → IsLine line × (text ≡ line ++ line_feed ∷ rest) → line ≡ named_line ts → ts ≡ [] → IsFaultBelow above AreNamed text (Line (above + 1))
+pub none_named : (above : ℕ) (text line rest ts : List ℕ) → HasFirstLine text line rest → line ≡ named_line ts → ts ≡ [] → IsFaultBelow above AreNamed text (Line (above + 1))
 none_named above text line rest ts read spelled empty =
     at_next above AreNamed text (above + 1) refl (bad_line AreNamed text line rest read begins_named (λ more a. bad more a))
   where
@@ -62,7 +62,7 @@ none_named above text line rest ts read spelled empty =
         omega (arith, a.some, ap length (numbers_injective [] a.transfers (All-nil IsNumber) a.fit same))
 
 -- nothing follows the named transfers
-pub behind_named : (above : ℕ) (text line rest ts : List ℕ) → IsLine line × (text ≡ line ++ line_feed ∷ rest) → All IsNumber ts → line ≡ named_line ts → 0 < length ts → 0 < length rest → IsFaultBelow above AreNamed text (Line (above + 2))
+pub behind_named : (above : ℕ) (text line rest ts : List ℕ) → HasFirstLine text line rest → All IsNumber ts → line ≡ named_line ts → 0 < length ts → 0 < length rest → IsFaultBelow above AreNamed text (Line (above + 2))
 behind_named above text line rest ts read fit spelled some more = (2, refl, bad_behind AreNamed (line ∷ []) text rest 1 (lines_within line read.0) (one_read text line rest read.1) bad)
   where
     bad : IsFirstBad (behind (line ∷ []) AreNamed) rest 1
@@ -95,7 +95,7 @@ first_certified line more (Some named) fits spelled none other = by_link named.l
     by_link None low e = none (first _ e)
     by_link (Some link) low e = other link low (first _ e)
 
-pub bad_certificate_line : (above : ℕ) (text line rest : List ℕ) → IsLine line × (text ≡ line ++ line_feed ∷ rest) → line ≢ none_line → ((link : Link) → link.«module» < MAX_MODULES → line ≢ busiest_line link) → IsFaultBelow above AreCertified text (Line (above + 1))
+pub bad_certificate_line : (above : ℕ) (text line rest : List ℕ) → HasFirstLine text line rest → line ≢ none_line → ((link : Link) → link.«module» < MAX_MODULES → line ≢ busiest_line link) → IsFaultBelow above AreCertified text (Line (above + 1))
 bad_certificate_line above text line rest read none other =
     at_next above AreCertified text (above + 1) refl (bad_line AreCertified text line rest read begins_certified (λ more a. first_certified line more a.certificate a.names_fit a.spelled none other))
 
@@ -114,7 +114,7 @@ behind_none other more (Some named) spelled = by_link named.link spelled
 pub no_naming : IsNaming (naming None [])
 no_naming = record { both = (λ h. absurd cc, λ less. absurd (omega (arith, less))) }
 
-pub behind_no_link : (above : ℕ) (text line rest : List ℕ) → IsLine line × (text ≡ line ++ line_feed ∷ rest) → line ≡ none_line → 0 < length rest → IsFaultBelow above AreCertified text (Line (above + 2))
+pub behind_no_link : (above : ℕ) (text line rest : List ℕ) → HasFirstLine text line rest → line ≡ none_line → 0 < length rest → IsFaultBelow above AreCertified text (Line (above + 2))
 behind_no_link above text line rest read spelled more = (2, refl, bad_behind AreCertified (line ∷ []) text rest 1 (lines_within line read.0) (one_read text line rest read.1) bad)
   where
     bad : IsFirstBad (behind (line ∷ []) AreCertified) rest 1
@@ -140,7 +140,7 @@ named_back link lines (Some named) fits is spelled = by_link named.link is.both.
     by_link (Some other) some e = record { transfers = named.transfers; some = some refl; fit = fits.transfers; spelled = ap (drop 1) e }
 
 -- a fault of the named transfers is one of the part
-pub named_fault : (above : ℕ) (text line rest : List ℕ) (link : Link) (fault : ScheduleFault) → IsLine line × (text ≡ line ++ line_feed ∷ rest) → (link.«module» < MAX_MODULES) × (line ≡ busiest_line link) → IsFaultBelow (above + 1) AreNamed rest fault → IsFaultBelow above AreCertified text fault
+pub named_fault : (above : ℕ) (text line rest : List ℕ) (link : Link) (fault : ScheduleFault) → HasFirstLine text line rest → (link.«module» < MAX_MODULES) × (line ≡ busiest_line link) → IsFaultBelow (above + 1) AreNamed rest fault → IsFaultBelow above AreCertified text fault
 named_fault above text line rest link fault read named f =
     fault_behind AreCertified AreNamed (busiest_line link ∷ []) above (above + 1) text rest fault (lines_within (busiest_line link) (busiest_line_within link named.0)) (one_read text (busiest_line link) rest (read.1 ∙ ap (λ (l : List ℕ). l ++ line_feed ∷ rest) named.1)) refl
     (λ lines a. named_there link lines named.0 a) (λ lines a. named_back link lines a.certificate a.names_fit a.link_named a.spelled) f

@@ -7,7 +7,7 @@ use Rattle.batch.specs.Text.{IsNumber, line_feed}
 use Rattle.link_graph.specs.declared.schedule_fault.ScheduleFault.{ScheduleFault}
 use Rattle.link_graph.specs.declared.schedule_fault.ScheduleFault.TheVariants.{Line, NoMemory}
 use Rattle.link_graph.specs.ScheduleText.{said, setting_line, certificate_lines, text_of}
-use Rattle.link_graph.specs.ScheduleFaults.{IsLine, Begins, IsFirstBad, AreCounted, AreCertified, HasToKeep, IsFaultBelow, IsLineFault}
+use Rattle.link_graph.specs.ScheduleFaults.{HasFirstLine, IsLine, Begins, IsFirstBad, AreCounted, AreCertified, HasToKeep, IsFaultBelow, IsLineFault}
 use Rattle.link_graph.proofs.Parts.{bad_line, cut_short, behind, bad_behind, setting_lines_within}
 
 -- the lines of these settings stand at the front of the text, and then the rest
@@ -93,7 +93,7 @@ keeps count text lists rest line after ts behind_them fits less so_far parts fit
   kept = (ts, inl refl);
 }
 
-pub bad_setting_line : (count : ℕ) (text : List ℕ) (lists : List (List ℕ)) (rest line after : List ℕ) (k : ℕ) (fault : ScheduleFault) → IsNumber count → k < count → AreListed text lists rest → length lists ≡ k → IsLine line × (rest ≡ line ++ line_feed ∷ after) → IsLineFault (k + 2) (codes "setting") line fault → IsFaultBelow 1 (AreCounted count) text fault
+pub bad_setting_line : (count : ℕ) (text : List ℕ) (lists : List (List ℕ)) (rest line after : List ℕ) (k : ℕ) (fault : ScheduleFault) → IsNumber count → k < count → AreListed text lists rest → length lists ≡ k → HasFirstLine rest line after → IsLineFault (k + 2) (codes "setting") line fault → IsFaultBelow 1 (AreCounted count) text fault
 bad_setting_line count text lists rest line after k (Line n) fits less so_far counted read f =
     fault_here count text lists rest k n so_far counted f.0 (bad_line (behind (map setting_line lists) (AreCounted count)) rest line after read (begins_next count lists fits so_far.fit (omega arith)) (λ more. next_is_setting count lists line more (omega arith) f.1))
 bad_setting_line count text lists rest line after k NoMemory fits less so_far counted read f = keeps count text lists rest line after f.transfers f.rest fits (omega arith) so_far read.1 f.fit f.spelled

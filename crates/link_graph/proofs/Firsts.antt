@@ -1,17 +1,19 @@
 -- The first of a list, found place by place, setting by setting.
-use Rattle.std.proofs.Common.{◌≡◌, ◌≢◌, ℕ, ◌+◌, ◌<◌, ◌≤◌, List, [], ◌∷◌, ◌++◌, length, get_or, set, take, drop, Bool, true, false, All, sym, ap, subst, ◌∙◌, append_assoc, arith, inl, inr}
-use Rattle.std.specs.Prelude.{Contains, replicate}
-use Rattle.std.specs.List.{concat}
+use Rattle.std.proofs.Common.{◌≡◌, ◌≢◌, ℕ, ◌+◌, ◌<◌, ◌≤◌, List, [], ◌∷◌, ◌++◌, length, get_or, set, take, drop, Bool, true, false, All, Some, None, refl, sym, ap, subst, ◌∙◌, append_assoc, arith, inl, inr}
+use Rattle.std.specs.Prelude.{Contains, replicate, position, not}
+use Rattle.std.specs.List.{concat, position_or_len}
 use Rattle.std.specs.Global.{Vec}
+use Rattle.std.proofs.lemmas.Bool.{cases_lt, lt-ltb}
 use Rattle.std.proofs.lemmas.Bool.Decides.{eqb_tells}
 use Rattle.std.proofs.lemmas.List.{take_all, take-append-drop, drop_more, take_more, get_or_append_left, get_or-append-add, get_or-set_same, get_or-set_other, get_or-replicate, length-map, length-append, length-set, length-replicate}
 use Rattle.std.proofs.lemmas.List.Elements.{All-append, Contains-append_left, Contains-push, Contains-push_cases, Contains-get_or}
 use Rattle.std.proofs.lemmas.List.Folds.{concat-append}
-use Rattle.std.proofs.lemmas.List.Quantifiers.{all_pairs_push}
+use Rattle.std.proofs.lemmas.List.Quantifiers.{all_pairs_push, position-Some}
+use Rattle.std.proofs.lemmas.List.Sums.{fails_before_first}
 use Rattle.batch.proofs.Lists.{concat_more, list_at}
 use Rattle.link_graph.specs.Schedules.{lists_of}
 use Rattle.link_graph.specs.Certificates.{AreDistinct}
-use Rattle.link_graph.specs.Checks.{IsFirstWithout, IsFirstRepeated}
+use Rattle.link_graph.specs.Checks.{IsFirstWithout, IsFirstRepeated, IsFirstMissing}
 use Rattle.link_graph.specs.Marks.{AreMarks}
 
 -- ---- parts of a list
@@ -52,6 +54,15 @@ pub in_all : (P : ℕ → Type 0) (settings : List (List ℕ)) (k : ℕ) → k <
 in_all P settings k lt all =
     all_left P (get_or settings k []) (concat (drop (k + 1) settings)) (all_right P (concat (take k settings)) (get_or settings k [] ++ concat (drop (k + 1) settings)) (subst (λ (ys : List ℕ). All P ys) (concat_at settings k lt) all))
 
+-- ---- the first that passes a test
+
+pub none_passes : {X : Type 0} (p : X → Bool) (xs : List X) (k : ℕ) (d : X) → position p xs ≡ None → k < length xs → p (get_or xs k d) ≡ false
+none_passes p xs k d none less =
+    elim (cases_lt (position_or_len p xs) (length xs)) [
+      | inl found ↦ let some : position p xs ≡ Some (position_or_len p xs) = rw (lt-ltb _ _ found) refl in absurd cc
+      | inr past ↦ fails_before_first p xs k d (omega arith)
+    ]
+
 -- ---- marks
 
 pub no_marks : (n : ℕ) → AreMarks (replicate n false) []
@@ -76,6 +87,26 @@ marks_more marks xs t lt m = record {
     ]
   ];
 }
+
+is_marked : (mark : Bool) → not mark ≡ false → mark ≡ true
+is_marked true e = refl
+is_marked false e = sym e
+
+is_unmarked : (mark : Bool) → not mark ≡ true → mark ≡ false
+is_unmarked true e = sym e
+is_unmarked false e = refl
+
+pub all_marked : (marks : List Bool) (xs : List ℕ) → AreMarks marks xs → position not marks ≡ None → (t : ℕ) → t < length marks → Contains xs t
+all_marked marks xs m none t lt = m.marked t lt (is_marked (get_or marks t false) (none_passes not marks t false none lt))
+
+pub missing_at : (marks : List Bool) (xs : List ℕ) (t : ℕ) → AreMarks marks xs → position not marks ≡ Some t → IsFirstMissing (length marks) xs t
+missing_at marks xs t m some =
+    let p = position-Some not marks t false some in
+    record {
+      below = p.0;
+      missing = m.unmarked t p.0 (is_unmarked (get_or marks t false) p.1);
+      lesser = λ u less. m.marked u (omega (arith, p.0)) (is_marked (get_or marks u false) (p.2 u less));
+    }
 
 pub distinct_more : (xs : List ℕ) (t : ℕ) → (Contains xs t → ⊥) → AreDistinct xs → AreDistinct (xs ++ t ∷ [])
 distinct_more xs t new distinct = all_pairs_push (λ a b. a ≢ b) xs t distinct (λ k d lt same. new (subst (λ (v : ℕ). Contains xs v) same (Contains-get_or xs k d lt)))

@@ -1,15 +1,14 @@
 -- Bytes cut at the first place of a byte, and a text cut into its lines.
 use Rattle.std.proofs.Common.{◌≡◌, ◌≢◌, ℕ, ◌+◌, ◌<◌, ◌≤◌, List, [], ◌∷◌, ◌++◌, length, get_or, take, drop, All, Option, Some, None, refl, sym, ap, ◌∙◌, append_assoc, arith, inl, inr}
 use Rattle.std.specs.Prelude.{position, ◌==◌, unwrap_or}
-use Rattle.std.specs.List.{position_or_len}
-use Rattle.std.proofs.lemmas.Bool.{cases_lt, eqb-true, eqb-false, lt-ltb}
+use Rattle.std.proofs.lemmas.Bool.{cases_lt, eqb-true, eqb-false}
 use Rattle.std.proofs.lemmas.List.{get_or-take, get_or_at, length-take, length-append, take_all, drop_all, drop_more, append-nil}
 use Rattle.std.proofs.lemmas.List.Elements.{All-head, All-tail}
 use Rattle.std.proofs.lemmas.List.Quantifiers.{position-Some}
-use Rattle.std.proofs.lemmas.List.Sums.{fails_before_first}
 use Rattle.batch.specs.Text.{line_feed}
 use Rattle.link_graph.specs.ScheduleText.{text_of}
 use Rattle.link_graph.specs.ScheduleFaults.{IsLine}
+use Rattle.link_graph.proofs.Firsts.{none_passes}
 
 -- this byte isn't among them
 abbrev pub Lacks : ℕ → List ℕ → Type 0
@@ -33,11 +32,7 @@ one_cut e (c ∷ a) (d ∷ b) x y la lb sx sy same =
 -- ---- where a byte stands first
 
 pub lacks_from_none : (bytes : List ℕ) (e : ℕ) → position (λ b. b == e) bytes ≡ None → Lacks e bytes
-lacks_from_none bytes e none = λ k d less same.
-    elim (cases_lt (position_or_len (λ b. b == e) bytes) (length bytes)) [
-      | inl found ↦ let some : position (λ b. b == e) bytes ≡ Some (position_or_len (λ b. b == e) bytes) = rw (lt-ltb _ _ found) refl in absurd cc
-      | inr past ↦ eqb-false _ _ (fails_before_first (λ b. b == e) bytes k d (omega arith)) same
-    ]
+lacks_from_none bytes e none = λ k d less same. eqb-false _ _ (none_passes (λ b. b == e) bytes k d none less) same
 
 pub lacks_before : (bytes : List ℕ) (e i : ℕ) → position (λ b. b == e) bytes ≡ Some i → Lacks e (take i bytes)
 lacks_before bytes e i some = λ k d less same.

@@ -12,7 +12,7 @@ use Rattle.link_graph.specs.declared.link.Link.{Link}
 use Rattle.link_graph.specs.declared.schedule_fault.ScheduleFault.{ScheduleFault}
 use Rattle.link_graph.specs.declared.schedule_fault.ScheduleFault.TheVariants.{Line, NoMemory}
 use Rattle.link_graph.specs.ScheduleText.{numbers, settings_line, setting_line, end_number, busiest_line, named_line, text_of}
-use Rattle.link_graph.specs.ScheduleFaults.{IsLine, Begins, IsFirstBad, HasToKeep, IsFaultBelow}
+use Rattle.link_graph.specs.ScheduleFaults.{HasFirstLine, IsLine, Begins, IsFirstBad, HasToKeep, IsFaultBelow}
 use Rattle.link_graph.proofs.Texts.{text_of-append}
 use Rattle.link_graph.proofs.LineBreaks.{no_break, one_line, first_of}
 use Rattle.link_graph.proofs.LinkLines.{word_lacks, digits_lack, numbers_lack}
@@ -33,7 +33,7 @@ bad_here P text good unwanted unfinished = record {
 }
 
 -- the line that stands at the front isn't wanted
-pub bad_line : (P : List (List ℕ) → Type 0) (text line rest : List ℕ) → IsLine line × (text ≡ line ++ line_feed ∷ rest) → Begins P [] → ((more : List (List ℕ)) → P (line ∷ more) → ⊥) → IsFirstBad P text 1
+pub bad_line : (P : List (List ℕ) → Type 0) (text line rest : List ℕ) → HasFirstLine text line rest → Begins P [] → ((more : List (List ℕ)) → P (line ∷ more) → ⊥) → IsFirstBad P text 1
 bad_line P text line rest read good unwanted = bad_here P text good
     (λ other after more within parts wanted. unwanted more (subst (λ (l : List ℕ). P (l ∷ more)) (one_line other line after rest within read.0 (sym parts ∙ read.1)).0 wanted))
     (λ empty. absurd (omega (arith, ap length (sym read.1 ∙ empty), length-append line (line_feed ∷ rest))))

@@ -14,7 +14,7 @@ use Rattle.link_graph.specs.declared.link.Link.{Link}
 use Rattle.batch.specs.declared.limits.TheConstants.{MAX_MODULES}
 use Rattle.link_graph.specs.Certificates.{Naming, naming, IsNaming}
 use Rattle.link_graph.specs.ScheduleText.{Said, said, CanName, CanSay, Says, settings_line, setting_line, busiest_line, named_line, naming_lines, certificate_lines, said_lines, text_of}
-use Rattle.link_graph.specs.ScheduleFaults.{IsLine, Begins, AreSaid, AreCounted, AreCertified, IsFirstBadLine, IsFaultOf, IsFaultBelow}
+use Rattle.link_graph.specs.ScheduleFaults.{HasFirstLine, IsLine, Begins, AreSaid, AreCounted, AreCertified, IsFirstBadLine, IsFaultOf, IsFaultBelow}
 use Rattle.link_graph.proofs.LineBreaks.{first_of, goes_on, one_list}
 use Rattle.link_graph.proofs.LinkLines.{All-behind, word_lacks, numbers_injective, link_parts, one_end, one_module}
 use Rattle.link_graph.proofs.Parts.{bad_line, cut_short, bad_behind, bad_same, behind, fault_behind, one_read, settings_line_within, setting_lines_within, busiest_line_within, named_line_within}
@@ -29,7 +29,7 @@ begins_said = record { more = said_lines (said [] None); wanted = record { says 
 pub no_first_line : (text : List ℕ) → IsLine text → IsFirstBadLine text 1
 no_first_line text within = cut_short AreSaid text within begins_said (λ _ a. absurd (omega (arith, ap length a.spelled)))
 
-pub bad_first_line : (text line rest : List ℕ) → IsLine line × (text ≡ line ++ line_feed ∷ rest) → ((n : ℕ) → IsNumber n → line ≢ settings_line n) → IsFirstBadLine text 1
+pub bad_first_line : (text line rest : List ℕ) → HasFirstLine text line rest → ((n : ℕ) → IsNumber n → line ≢ settings_line n) → IsFirstBadLine text 1
 bad_first_line text line rest read none =
     bad_line AreSaid text line rest read begins_said (λ more a. none (length a.says.settings) a.can_say.settings_fit.count (ap (λ (ls : List (List ℕ)). get_or ls 0 []) a.spelled))
 
@@ -52,7 +52,7 @@ said_back count lines fits a = record {
 }
 
 -- a fault behind the first line is one of the text
-pub counted_fault : (text line rest : List ℕ) (count : ℕ) (fault : ScheduleFault) → IsLine line × (text ≡ line ++ line_feed ∷ rest) → IsNumber count × (line ≡ settings_line count) → IsFaultBelow 1 (AreCounted count) rest fault → IsFaultOf text fault
+pub counted_fault : (text line rest : List ℕ) (count : ℕ) (fault : ScheduleFault) → HasFirstLine text line rest → IsNumber count × (line ≡ settings_line count) → IsFaultBelow 1 (AreCounted count) rest fault → IsFaultOf text fault
 counted_fault text line rest count (Line n) read counted f =
     rw f.1 (bad_behind AreSaid (settings_line count ∷ []) text rest f.0 (All-cons IsLine (settings_line count) [] (settings_line_within count counted.0) (All-nil IsLine)) (one_read text (settings_line count) rest (headed text line rest count read.1 counted.1))
     (bad_same (AreCounted count) (behind (settings_line count ∷ []) AreSaid) rest f.0 (said_there count) (λ lines a. said_back count lines counted.0 a) f.2))
@@ -68,7 +68,7 @@ counted_fault text line rest count NoMemory read counted f = record {
 }
 
 -- and so is a fault behind the settings
-pub certified_fault : (text line rest : List ℕ) (count : ℕ) (lists : List (List ℕ)) (after : List ℕ) (fault : ScheduleFault) → IsLine line × (text ≡ line ++ line_feed ∷ rest) → IsNumber count × (line ≡ settings_line count) → length lists ≡ count → All (All IsNumber) lists → rest ≡ text_of (map setting_line lists) ++ after → IsFaultBelow (count + 1) AreCertified after fault → IsFaultOf text fault
+pub certified_fault : (text line rest : List ℕ) (count : ℕ) (lists : List (List ℕ)) (after : List ℕ) (fault : ScheduleFault) → HasFirstLine text line rest → IsNumber count × (line ≡ settings_line count) → length lists ≡ count → All (All IsNumber) lists → rest ≡ text_of (map setting_line lists) ++ after → IsFaultBelow (count + 1) AreCertified after fault → IsFaultOf text fault
 certified_fault text line rest count lists after fault read counted long fit spelled f =
     counted_fault text line rest count fault read counted
     (fault_behind (AreCounted count) AreCertified (map setting_line lists) 1 (count + 1) rest after fault (setting_lines_within lists fit) spelled (omega (arith, length-map lists setting_line)) (λ lines a. certified_there count lists lines counted.0 long fit a) (λ lines a. certified_back count lists lines long a) f)

@@ -1,7 +1,10 @@
 -- When two transfers of a setting share a link, told by how often each link is used.
 use Rattle.std.proofs.Common.{◌≡◌, ℕ, suc, zero, ◌+◌, ◌<◌, ◌≤◌, List, [], ◌∷◌, ◌++◌, length, get_or, take, All, Option, Some, None, slice_get, refl, sym, ap, subst, ◌∙◌, arith, inl, inr}
+use Rattle.std.specs.Prelude.{nat_lt, position}
+use Rattle.std.proofs.lemmas.Bool.{ltb-true, ltb-false}
 use Rattle.std.proofs.lemmas.List.{take_more, get_or-take, length-take-le}
-use Rattle.std.proofs.lemmas.List.Elements.{filter_map-append}
+use Rattle.std.proofs.lemmas.List.Elements.{All-from_get_or, filter_map-append}
+use Rattle.std.proofs.lemmas.List.Quantifiers.{position-Some}
 use Rattle.std.proofs.lemmas.List.Sums.{sum_by-cons}
 use Rattle.std.proofs.lemmas.Option.{slice_get_cases, slice_get_within, slice_get-get_or, get_or_from_slice_get}
 use Rattle.batch.specs.declared.limits.TheConstants.{MAX_MODULES}
@@ -15,6 +18,7 @@ use Rattle.link_graph.specs.Counts.{uses}
 use Rattle.link_graph.specs.Tables.{AreCounts}
 use Rattle.link_graph.specs.Checks.{IsShared}
 use Rattle.link_graph.specs.Marks.{members}
+use Rattle.link_graph.proofs.Firsts.{none_passes}
 use Rattle.link_graph.proofs.Users.{some_same, uses_or_not, use_of, use_yes, use_no, uses_at, at_used}
 use Rattle.link_graph.proofs.Tables.{modules_of, module_fits, index_below, before_index}
 
@@ -125,6 +129,20 @@ shared_no_matching batch setting link matching s =
 
 in_rack : (batch : List Transfer) (t : ℕ) (link : Link) → IsBatch batch → Uses batch t link → link.«module» < MAX_MODULES
 in_rack batch t link b used = subst (λ (m : ℕ). m < MAX_MODULES) (at_used batch t link used.0 used.1 used) (module_fits link.end used.0 (modules_of batch t used.0 used.1 b))
+
+-- the first place with a count above 1
+pub place_of_two : (counts : List ℕ) (place : ℕ) → position (λ count. nat_lt 1 count) counts ≡ Some place → (place < length counts) × (1 < get_or counts place 0) × All (λ count. count ≤ 1) (take place counts)
+place_of_two counts place some =
+    let p = position-Some (λ count. nat_lt 1 count) counts place 0 some in (
+      p.0,
+      ltb-true _ _ p.1,
+      All-from_get_or (λ count. count ≤ 1) (take place counts) 0 (λ k lt.
+          let before : k < place = omega (arith, lt, length-take-le place counts (omega (arith, p.0))) in
+          omega (arith, get_or-take place counts k 0 before, ltb-false _ _ (p.2 k before))),
+    )
+
+pub none_above_one : (counts : List ℕ) → position (λ count. nat_lt 1 count) counts ≡ None → All (λ count. count ≤ 1) counts
+none_above_one counts none = All-from_get_or (λ count. count ≤ 1) counts 0 (λ k lt. ltb-false _ _ (none_passes (λ count. nat_lt 1 count) counts k 0 none lt))
 
 -- where no count is above 1, below some place, no link before that place is shared
 pub none_shared : (batch : List Transfer) (setting : List ℕ) (counts : List ℕ) (place : ℕ) (link : Link) → IsBatch batch → AreCounts counts (members batch setting) → place ≤ LINKS → All (λ count. count ≤ 1) (take place counts) → link_index link < place → IsShared batch setting link → ⊥

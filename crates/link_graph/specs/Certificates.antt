@@ -1,6 +1,8 @@
 -- Shortest schedules, and certificates that a schedule is shortest. König 1916, the easy half: no edge colouring of a graph has
 -- fewer colours than a node has edges.
-use Rattle.std.specs.Prelude.{◌≡◌, ◌≢◌, ℕ, ◌<◌, ◌≤◌, ◌↔◌, List, [], length, All, AllPairs, Option, Some, None, IsSome}
+use Rattle.std.specs.Prelude.{◌≡◌, ◌≢◌, ℕ, ◌<◌, ◌≤◌, ◌↔◌, List, [], length, All, AllPairs, Option, Some, None, IsSome, option_map}
+use Rattle.std.specs.Global.{Vec}
+use Rattle.std.specs.Option.{option_map_or}
 use Rattle.batch.specs.declared.transfer.Transfer.{Transfer}
 use Rattle.link_graph.specs.declared.link.Link.{Link}
 use Rattle.link_graph.specs.Uses.{Uses}
@@ -14,6 +16,10 @@ pub record Naming : Type 0 where
 -- what names these
 abbrev pub naming : Option Link → List ℕ → Naming
 naming link transfers = record { link = link; transfers = transfers }
+
+-- what a link with its transfers names, or nothing where there is none
+abbrev pub naming_of : Option (Link × Vec ℕ) → Naming
+naming_of named = naming (option_map (λ n. n.0) named) (option_map_or (λ n. n.1.items) named [])
 
 -- there is a link just where there are transfers
 pub record IsNaming (named : Naming) : Type 0 where
@@ -49,3 +55,8 @@ CertifiesBy batch settings (Some link) transfers = Certifies batch settings link
 -- the naming shows that no schedule of the batch has fewer settings
 abbrev pub IsCertificate : List Transfer → List (List ℕ) → Naming → Type 0
 IsCertificate batch settings named = CertifiesBy batch settings named.link named.transfers
+
+-- a schedule, with a naming that shows that none has fewer settings
+pub record IsCertified (batch : List Transfer) (settings : List (List ℕ)) (named : Naming) : Type 0 where
+  pub schedule : IsScheduleOf batch settings
+  pub certificate : IsCertificate batch settings named

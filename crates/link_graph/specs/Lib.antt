@@ -9,3 +9,5 @@ pub mod Checks
 pub mod Marks
 pub mod ScheduleText
 pub mod ScheduleFaults
+pub mod Laws
+pub mod Rows

@@ -10,6 +10,10 @@ abbrev pub other_end : End → End
 other_end Zero = Three
 other_end Three = Zero
 
+-- the module is one that a rack may have
+abbrev pub IsInRack : Link → Type 0
+IsInRack link = link.«module» < MAX_MODULES
+
 -- a link 0 stands before each link 3; otherwise the smaller module's link stands first
 abbrev pub StandsBefore : Link → Link → Type 0
 StandsBefore a b = ((a.end ≡ Zero) × (b.end ≡ Three)) ⊎ ((a.end ≡ b.end) × (a.«module» < b.«module»))

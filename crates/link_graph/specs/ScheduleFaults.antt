@@ -1,10 +1,14 @@
 -- The first line at fault of a text that says no schedule, and the texts that can't be read without memory. This project's choice.
-use Rattle.std.specs.Prelude.{◌≡◌, ◌≢◌, ℕ, ◌+◌, ◌<◌, ◌⊎◌, List, [], ◌∷◌, ◌++◌, length, map, All, Option, IfSome}
-use Rattle.batch.specs.Text.{IsNumber, line_feed}
+use Rattle.std.specs.Prelude.{◌≡◌, ◌≢◌, ℕ, ◌+◌, ◌<◌, ◌⊎◌, List, [], ◌∷◌, ◌++◌, length, map, All, Option, IfSome, codes, slice_index_or}
+use Rattle.std.specs.Fmt.{decimal}
+use Rattle.batch.specs.Text.{IsNumber, space, line_feed}
+use Rattle.link_graph.specs.declared.link.End.{End}
+use Rattle.link_graph.specs.declared.link.Link.{Link}
 use Rattle.link_graph.specs.declared.schedule_fault.ScheduleFault.{ScheduleFault}
 use Rattle.link_graph.specs.declared.schedule_fault.ScheduleFault.TheVariants.{Line, NoMemory}
+use Rattle.link_graph.specs.Links.{IsInRack}
 use Rattle.link_graph.specs.Certificates.{Naming, IsNaming}
-use Rattle.link_graph.specs.ScheduleText.{Said, CanSay, CanName, said_lines, text_of, numbers, settings_line, setting_line, named_line, certificate_lines}
+use Rattle.link_graph.specs.ScheduleText.{Said, CanSay, CanName, said_lines, text_of, numbers, settings_line, setting_line, end_number, busiest_line, named_line, certificate_lines}
 
 -- bytes within one line
 abbrev pub IsLine : List ℕ → Type 0
@@ -105,3 +109,29 @@ pub record BeginsWithNumbers (word line : List ℕ) : Type 0 where
 abbrev pub IsLineFault : ℕ → List ℕ → List ℕ → ScheduleFault → Type 0
 IsLineFault at word line (Line n) = (n ≡ at) × ((ts : List ℕ) → All IsNumber ts → line ≢ word ++ numbers ts)
 IsLineFault at word line NoMemory = BeginsWithNumbers word line
+
+-- ---- what the readers of the parts find
+
+-- the text's first line, without its line feed, and what stands behind it
+abbrev pub HasFirstLine : List ℕ → List ℕ → List ℕ → Type 0
+HasFirstLine text line rest = IsLine line × (text ≡ line ++ line_feed ∷ rest)
+
+-- the number that the words begin with, behind a space, and the rest, which is nothing or begins with a space
+abbrev pub HasFirstNumber : List ℕ → ℕ → List ℕ → Type 0
+HasFirstNumber words n rest = IsNumber n × (words ≡ codes " " ++ decimal n ++ rest) × (slice_index_or rest 0 space ≡ space)
+
+-- the words aren't numbers, one at least, each with a space before it
+abbrev pub AreNoNumbers : List ℕ → Type 0
+AreNoNumbers words = (t : ℕ) (ts : List ℕ) → IsNumber t → words ≢ numbers (t ∷ ts)
+
+-- the line is the word, and then these numbers with a space before each
+abbrev pub IsWordWithNumbers : List ℕ → List ℕ → List ℕ → Type 0
+IsWordWithNumbers word line ts = All IsNumber ts × (line ≡ word ++ numbers ts)
+
+-- the bytes don't begin with the number of an end
+abbrev pub HasNoFirstEnd : List ℕ → Type 0
+HasNoFirstEnd bytes = (end : End) (rest : List ℕ) → bytes ≢ decimal (end_number end) ++ rest
+
+-- the line names no link of a module that a rack may have
+abbrev pub NamesNoLink : List ℕ → Type 0
+NamesNoLink line = (link : Link) → IsInRack link → line ≢ busiest_line link

@@ -1,12 +1,13 @@
 -- The text of a schedule, and what a text says. The form is this project's choice.
-use Rattle.std.specs.Prelude.{◌≡◌, ℕ, ◌<◌, List, [], ◌∷◌, ◌++◌, length, map, All, Option, Some, None, IfSome, codes}
+use Rattle.std.specs.Prelude.{◌≡◌, ℕ, List, [], ◌∷◌, ◌++◌, length, map, All, Option, Some, None, IfSome, codes, String, string_bytes}
+use Rattle.std.specs.Global.{Global}
 use Rattle.std.specs.List.{flat_map}
 use Rattle.std.specs.Fmt.{decimal}
-use Rattle.batch.specs.declared.limits.TheConstants.{MAX_MODULES}
 use Rattle.batch.specs.Text.{IsNumber, line_feed}
 use Rattle.link_graph.specs.declared.link.End.{End}
 use Rattle.link_graph.specs.declared.link.End.TheVariants.{Zero, Three}
 use Rattle.link_graph.specs.declared.link.Link.{Link}
+use Rattle.link_graph.specs.Links.{IsInRack}
 use Rattle.link_graph.specs.Certificates.{Naming, IsNaming}
 
 -- ---- lines, without their line feeds
@@ -31,6 +32,10 @@ end_number Three = 3
 -- `busiest link E module M`
 abbrev pub busiest_line : Link → List ℕ
 busiest_line link = codes "busiest link " ++ decimal (end_number link.end) ++ codes " module " ++ decimal link.«module»
+
+-- ` module M`
+abbrev pub module_words : ℕ → List ℕ
+module_words m = codes " module " ++ decimal m
 
 -- `named t t ..`
 abbrev pub named_line : List ℕ → List ℕ
@@ -69,6 +74,10 @@ said_lines s = schedule_lines s.settings ++ certificate_lines s.certificate
 abbrev pub text_of : List (List ℕ) → List ℕ
 text_of lines = flat_map (λ line. line ++ line_feed ∷ []) lines
 
+-- the lines of the settings, below the line that counts them
+abbrev pub text_of_settings : List (List ℕ) → List ℕ
+text_of_settings settings = text_of (map setting_line settings)
+
 -- the one text of the settings alone
 abbrev pub schedule_text : List (List ℕ) → List ℕ
 schedule_text settings = text_of (schedule_lines settings)
@@ -76,6 +85,14 @@ schedule_text settings = text_of (schedule_lines settings)
 -- the one text of what is said
 abbrev pub said_text : Said → List ℕ
 said_text s = text_of (said_lines s)
+
+-- the one text of the settings, with what the certificate part names where there is that part
+abbrev pub text_with : List (List ℕ) → Option Naming → List ℕ
+text_with settings certificate = said_text (said settings certificate)
+
+-- the new text is the old with these lines at its end
+abbrev pub GrowsBy : String Global → String Global → List (List ℕ) → Type 0
+GrowsBy old new lines = string_bytes new ≡ string_bytes old ++ text_of lines
 
 -- ---- what a text can say
 
@@ -86,7 +103,7 @@ pub record CanSpell (settings : List (List ℕ)) : Type 0 where
 
 -- the link is one of a module that a rack may have, and the transfers are numbers of a text
 pub record CanSpellNaming (named : Naming) : Type 0 where
-  pub in_rack : IfSome named.link (λ link. link.«module» < MAX_MODULES)
+  pub in_rack : IfSome named.link IsInRack
   pub transfers : All IsNumber named.transfers
 
 -- the same where something may be named or not

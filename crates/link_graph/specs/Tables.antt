@@ -1,5 +1,5 @@
 -- What a graph keeps of its batch: the transfers, and how many of them use each link, in the order of links.
-use Rattle.std.specs.Prelude.{◌≡◌, ℕ, ◌<◌, List, length, slice_index}
+use Rattle.std.specs.Prelude.{◌≡◌, ℕ, ◌<◌, List, [], ◌∷◌, ◌++◌, length, slice_index}
 use Rattle.batch.specs.declared.limits.TheConstants.{MAX_MODULES}
 use Rattle.batch.specs.declared.transfer.Transfer.{Transfer}
 use Rattle.batch.specs.Batches.{IsBatch}
@@ -17,3 +17,7 @@ pub record AreCounts (counts : List ℕ) (transfers : List Transfer) : Type 0 wh
 pub record IsGraph (counts : List ℕ) (batch : List Transfer) : Type 0 where
   pub batch_fits : IsBatch batch
   pub counted : AreCounts counts batch
+
+-- the new table counts one more transfer than the old
+abbrev pub CountsOneMore : List ℕ → List ℕ → Transfer → Type 0
+CountsOneMore old new transfer = (before : List Transfer) → AreCounts old before → AreCounts new (before ++ transfer ∷ [])

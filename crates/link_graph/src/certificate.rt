@@ -14,15 +14,13 @@ pub struct Certificate {
 }
 
 impl Model for Certificate {
-    ghost use Rattle.std.specs.Prelude.{[], option_map};
-    ghost use Rattle.std.specs.Option.{option_map_or};
-    ghost use Rattle.link_graph.specs.Certificates.{Naming, naming, IsNaming};
+    ghost use Rattle.link_graph.specs.Certificates.{Naming, naming_of, IsNaming};
 
     ghost Value = { Naming };
 
-    ghost view = { λ c. naming (option_map (λ n. n.0) c.named) (option_map_or (λ n. n.1.items) c.named []) };
+    ghost view = { λ c. naming_of c.named };
 
-    ghost invariant = { λ c. IsNaming (naming (option_map (λ n. n.0) c.named) (option_map_or (λ n. n.1.items) c.named [])) };
+    ghost invariant = { λ c. IsNaming (naming_of c.named) };
 }
 
 impl Certificate {
@@ -36,7 +34,7 @@ impl Certificate {
     /// The certificate that names this link and these transfers, which must be some.
     pub fn of(link: Link, transfers: Vec<usize>) -> Option<Certificate>
         ensures none { IsNone result ↔ (transfers.items ≡ []) }
-        ensures some { IfSome result (λ certificate. certificate ≡ naming (Some link) transfers.items) }
+        ensures some { IfSome result (λ named. named ≡ naming (Some link) transfers.items) }
     {
         if transfers.is_empty() {
             return None;

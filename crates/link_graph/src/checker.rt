@@ -5,9 +5,9 @@ ghost use Rattle.batch.specs.Batches.{IsBatch};
 ghost use Rattle.link_graph.specs.declared.check_fault.CheckFault.TheVariants.{NoMemory};
 ghost use Rattle.link_graph.specs.Uses.{Uses, IsMatching};
 ghost use Rattle.link_graph.specs.Schedules.{lists_of, IsScheduleOf};
-ghost use Rattle.link_graph.specs.Certificates.{Naming, naming, AreDistinct, IsShortest, IsCertificate};
+ghost use Rattle.link_graph.specs.Certificates.{naming, AreDistinct, IsShortest, IsCertificate, IsCertified};
 ghost use Rattle.link_graph.specs.Tables.{AreCounts};
-ghost use Rattle.link_graph.specs.Checks.{IsFirstWithout, IsFirstRepeated, IsFirstMissing, IsFirstClash, AreKnown, UsesNamed, IsFirstCheckFault};
+ghost use Rattle.link_graph.specs.Checks.{IsFirstWithout, IsFirstRepeated, IsFirstMissing, IsFirstClash, AreKnown, UsesNamed, IsFirstUnlessMemory, IsSettingsFault, CertifiesCount, IsNamingFault};
 ghost use Rattle.link_graph.specs.Marks.{AreMarks};
 
 use crate::certificate::Certificate;
@@ -31,7 +31,7 @@ fn check_settings(batch: &Batch, lists: &[Vec<usize>], marks: &mut [bool]) -> Re
     requires marks { marks.old ≡ replicate (length batch.now) false }
     requires batch { IsBatch batch.now }
     ensures ok { OnOk result (IsScheduleOf batch.now (lists_of lists.now)) }
-    ensures err { IfErr result (λ fault. fault ≢ NoMemory × ((named : Naming) → IsFirstCheckFault batch.now (lists_of lists.now) named fault)) }
+    ensures err { IfErr result (IsSettingsFault batch.now (lists_of lists.now)) }
 {
     if let Some(t) = checking::first_repeated(marks, lists) {
         return Err(CheckFault::Repeated(t));
@@ -54,8 +54,9 @@ fn check_certificate(
     marks: &mut [bool],
 ) -> Result<Shortest, CheckFault>
     requires { length marks.old ≡ length batch.now }
-    ensures ok { IfOk result (λ shortest. (lists : List (List ℕ)) → IsScheduleOf batch.now lists → length lists ≡ settings → IsCertificate batch.now lists certificate.now × (shortest.settings ≡ settings)) }
-    ensures err { IfErr result (λ fault. fault ≢ NoMemory × ((lists : List (List ℕ)) → IsScheduleOf batch.now lists → length lists ≡ settings → IsFirstCheckFault batch.now lists certificate.now fault)) }
+    ensures ok { OnOk result (CertifiesCount batch.now settings certificate.now) }
+    ensures settings { IfOk result (λ shortest. shortest.settings ≡ settings) }
+    ensures err { IfErr result (IsNamingFault batch.now settings certificate.now) }
 {
     let transfers = certificate.transfers();
     if let Some(t) = checking::first_stray(batch, certificate.link(), transfers) {
@@ -87,8 +88,8 @@ pub fn check_schedule(
     ensures certificate { OnOk result (IsCertificate batch.now schedule.now certificate.now) }
     ensures shortest { OnOk result (IsShortest batch.now schedule.now) }
     ensures settings { IfOk result (λ shortest. shortest.settings ≡ length schedule.now) }
-    ensures fault { IfErr result (λ fault. fault ≢ NoMemory → IsFirstCheckFault batch.now schedule.now certificate.now fault) }
-    ensures accepted { IsScheduleOf batch.now schedule.now → IsCertificate batch.now schedule.now certificate.now → IfErr result (λ fault. fault ≡ NoMemory) }
+    ensures fault { IfErr result (IsFirstUnlessMemory batch.now schedule.now certificate.now) }
+    ensures accepted { IsCertified batch.now schedule.now certificate.now → IfErr result (λ fault. fault ≡ NoMemory) }
     ensures memory { IfErr result (λ fault. fault ≡ NoMemory → AreKnown batch.now schedule.now) }
 {
     let count = batch.len();

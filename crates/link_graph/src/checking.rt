@@ -1,16 +1,16 @@
 //! The tests of the checker, each over all of a schedule or of a certificate.
 
-ghost use Rattle.std.specs.Prelude.{◌≡◌, ◌≢◌, ◌<◌, ◌≤◌, ◌+◌, ◌↔◌, ℕ, List, [], ◌++◌, length, take, true, false, All, IsTrue, IfSome, IfNone, slice_index, slice_index_or};
+ghost use Rattle.std.specs.Prelude.{◌≡◌, ◌≢◌, ◌<◌, ◌≤◌, ◌+◌, ◌↔◌, ℕ, List, [], ◌++◌, length, take, true, false, All, IsTrue, IfSome, IfNone, position, not, nat_lt};
 ghost use Rattle.std.specs.List.{concat};
 ghost use Rattle.batch.specs.Batches.{IsBatch};
 ghost use Rattle.link_graph.specs.declared.link.Link.{Link};
 ghost use Rattle.link_graph.specs.Links.{link_index, StandsBefore};
 ghost use Rattle.link_graph.specs.Uses.{Uses, IsMatching};
 ghost use Rattle.link_graph.specs.Schedules.{lists_of};
-ghost use Rattle.link_graph.specs.Certificates.{naming, AreDistinct};
+ghost use Rattle.link_graph.specs.Certificates.{AreDistinct};
 ghost use Rattle.link_graph.specs.Tables.{AreCounts};
-ghost use Rattle.link_graph.specs.Checks.{IsFirstWithout, IsFirstRepeated, IsFirstClash, IsShared, UsesNamed};
-ghost use Rattle.link_graph.specs.Marks.{AreMarks, members};
+ghost use Rattle.link_graph.specs.Checks.{IsFirstWithout, IsFirstRepeated, IsFirstClash, IsShared, NoneSharedBefore, UsesNamed};
+ghost use Rattle.link_graph.specs.Marks.{AreMarks, RepeatsFirst, MarksAlso, RepeatsNone, members};
 
 use crate::counting;
 use crate::limits::LINKS;
@@ -46,9 +46,9 @@ pub(crate) fn first_unknown(lists: &[Vec<usize>], count: usize) -> Option<usize>
 /// Marks the numbers of a list, up to the first that is marked already.
 pub(crate) fn mark(marks: &mut [bool], list: &[usize]) -> Option<usize>
     requires { All (λ t. t < length marks.old) list.now }
-    ensures some { IfSome result (λ t. (before rest : List ℕ) → AreMarks marks.old before → AreDistinct before → IsFirstRepeated (before ++ (list.now ++ rest)) t) }
-    ensures marks { IfNone result ((before : List ℕ) → AreMarks marks.old before → AreMarks marks.new (before ++ list.now)) }
-    ensures none { IfNone result ((before : List ℕ) → AreMarks marks.old before → AreDistinct before → AreDistinct (before ++ list.now)) }
+    ensures some { IfSome result (RepeatsFirst marks.old list.now) }
+    ensures marks { IfNone result (MarksAlso marks.old marks.new list.now) }
+    ensures none { IfNone result (RepeatsNone marks.old list.now) }
 {
     for t in list {
         if marks[*t] {
@@ -77,15 +77,9 @@ pub(crate) fn first_repeated(marks: &mut [bool], lists: &[Vec<usize>]) -> Option
 
 /// The first place without a mark.
 pub(crate) fn first_unmarked(marks: &[bool]) -> Option<usize>
-    ensures some { IfSome result (λ t. (t < length marks.now) × (slice_index_or marks.now t true ≡ false) × ((u : ℕ) → u < t → slice_index_or marks.now u false ≡ true)) }
-    ensures none { IfNone result (All (λ mark. mark ≡ true) marks.now) }
+    ensures { result ≡ position not marks.now }
 {
-    for (t, mark) in marks.iter().enumerate() {
-        if !*mark {
-            return Some(t);
-        }
-    }
-    None
+    marks.iter().position(|mark| !*mark)
 }
 
 /// How many transfers of a setting use each link.
@@ -102,24 +96,18 @@ fn count_setting(batch: &Batch, setting: &[usize]) -> [usize; LINKS]
     counts
 }
 
-/// The first link, in the order of links, that is counted twice.
+/// The first place, in the order of links, with a count above 1.
 fn first_shared(counts: &[usize]) -> Option<usize>
-    ensures some { IfSome result (λ place. (place < length counts.now) × (1 < slice_index counts.now place) × All (λ count. count ≤ 1) (take place counts.now)) }
-    ensures none { IfNone result (All (λ count. count ≤ 1) counts.now) }
+    ensures { result ≡ position (λ count. nat_lt 1 count) counts.now }
 {
-    for (place, count) in counts.iter().enumerate() {
-        if *count > 1 {
-            return Some(place);
-        }
-    }
-    None
+    counts.iter().position(|count| *count > 1)
 }
 
 /// The first link, in the order of links, that two transfers of a setting use.
 fn clash_in(batch: &Batch, setting: &[usize]) -> Option<Link>
     requires { IsBatch batch.now }
     ensures some { IfSome result (IsShared batch.now setting.now) }
-    ensures first { IfSome result (λ link. (other : Link) → StandsBefore other link → IsShared batch.now setting.now other → ⊥) }
+    ensures first { IfSome result (NoneSharedBefore batch.now setting.now) }
     ensures none { IfNone result (IsMatching batch.now setting.now) }
 {
     let counts = count_setting(batch, setting);
@@ -130,7 +118,7 @@ fn clash_in(batch: &Batch, setting: &[usize]) -> Option<Link>
 /// The first setting in which transfers share a link, and the first such link.
 pub(crate) fn first_clash(batch: &Batch, lists: &[Vec<usize>]) -> Option<(usize, Link)>
     requires { IsBatch batch.now }
-    ensures some { IfSome result (λ clash. IsFirstClash batch.now (lists_of lists.now) clash.0 clash.1) }
+    ensures some { IfSome result (λ x. IsFirstClash batch.now (lists_of lists.now) x.0 x.1) }
     ensures none { IfNone result (All (IsMatching batch.now) (lists_of lists.now)) }
 {
     for (k, setting) in lists.iter().enumerate() {
@@ -143,7 +131,7 @@ pub(crate) fn first_clash(batch: &Batch, lists: &[Vec<usize>]) -> Option<(usize,
 
 /// Whether a link is named, and transfer `t` uses it.
 fn uses_named(batch: &Batch, link: Option<Link>, t: usize) -> bool
-    ensures { IsTrue result ↔ UsesNamed batch.now (naming link []) t }
+    ensures { IsTrue result ↔ UsesNamed batch.now link t }
 {
     match link {
         None => false,
@@ -153,8 +141,8 @@ fn uses_named(batch: &Batch, link: Option<Link>, t: usize) -> bool
 
 /// The first number of a list that is no transfer that uses the link.
 pub(crate) fn first_stray(batch: &Batch, link: Option<Link>, transfers: &[usize]) -> Option<usize>
-    ensures some { IfSome result (IsFirstWithout (UsesNamed batch.now (naming link transfers.now)) transfers.now) }
-    ensures none { IfNone result (All (UsesNamed batch.now (naming link transfers.now)) transfers.now) }
+    ensures some { IfSome result (IsFirstWithout (UsesNamed batch.now link) transfers.now) }
+    ensures none { IfNone result (All (UsesNamed batch.now link) transfers.now) }
 {
     for t in transfers {
         if !uses_named(batch, link, *t) {

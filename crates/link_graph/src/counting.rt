@@ -6,7 +6,7 @@ ghost use Rattle.batch.specs.Extent.{widest};
 ghost use Rattle.batch.specs.Text.{HasModules};
 ghost use Rattle.link_graph.specs.Uses.{Uses, start_link, answer_link};
 ghost use Rattle.link_graph.specs.Counts.{module_at, uses, AreUsers};
-ghost use Rattle.link_graph.specs.Tables.{AreCounts, IsGraph};
+ghost use Rattle.link_graph.specs.Tables.{IsGraph, CountsOneMore};
 
 use crate::limits::LINKS;
 use crate::link::{End, Link};
@@ -57,7 +57,7 @@ pub(crate) fn uses_link(batch: &Batch, t: usize, link: Link) -> bool
 pub(crate) fn count_transfer(counts: &mut [usize; LINKS], transfer: &Transfer)
     requires modules { HasModules widest transfer.now }
     requires room { All (λ count. count < usize.MAX) counts.old }
-    ensures { (before : List Transfer) → AreCounts counts.old before → AreCounts counts.new (before ++ transfer.now ∷ []) }
+    ensures { CountsOneMore counts.old counts.new transfer.now }
 {
     counts[start_of(transfer).index()] += 1;
     counts[answer_of(transfer).index()] += 1;
@@ -68,10 +68,8 @@ pub(crate) fn count_batch(batch: &Batch) -> [usize; LINKS]
     ensures { IsGraph result batch.now }
 {
     let mut counts = [0; LINKS];
-    for t in 0..batch.len() {
-        if let Some(transfer) = batch.transfer(t) {
-            count_transfer(&mut counts, &transfer);
-        }
+    for transfer in batch.as_slice() {
+        count_transfer(&mut counts, transfer);
     }
     counts
 }

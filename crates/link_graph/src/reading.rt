@@ -1,14 +1,13 @@
 //! The parts of a schedule text, read from the left.
 
-ghost use Rattle.std.specs.Prelude.{◌≡◌, ◌≢◌, ℕ, ◌<◌, ◌+◌, ◌^◌, List, [], ◌∷◌, ◌++◌, All, IfSome, IfNone, IfOk, IfErr, length, map, position, ◌==◌, codes, unwrap_or, slice_index_or, Some};
+ghost use Rattle.std.specs.Prelude.{◌≡◌, ◌≢◌, ℕ, ◌<◌, ◌+◌, ◌^◌, [], ◌∷◌, ◌++◌, All, IfSome, IfNone, IfOk, IfErr, length, position, ◌==◌, Some};
 ghost use Rattle.std.specs.Fmt.{decimal};
-ghost use Rattle.batch.specs.Text.{IsNumber, space, line_feed};
-ghost use Rattle.link_graph.specs.declared.link.End.{End};
-ghost use Rattle.link_graph.specs.declared.link.Link.{Link};
+ghost use Rattle.batch.specs.Text.{IsNumber};
+ghost use Rattle.link_graph.specs.Links.{IsInRack};
 ghost use Rattle.link_graph.specs.Schedules.{lists_of};
 ghost use Rattle.link_graph.specs.Certificates.{IsNaming};
-ghost use Rattle.link_graph.specs.ScheduleText.{numbers, text_of, settings_line, setting_line, end_number, busiest_line, named_line, certificate_lines, CanName};
-ghost use Rattle.link_graph.specs.ScheduleFaults.{IsLine, IsLineFault, IsFaultBelow, AreCounted, AreCertified, AreNamed};
+ghost use Rattle.link_graph.specs.ScheduleText.{text_of, text_of_settings, settings_line, end_number, module_words, busiest_line, named_line, certificate_lines, CanName};
+ghost use Rattle.link_graph.specs.ScheduleFaults.{IsLine, IsLineFault, IsFaultBelow, AreCounted, AreCertified, AreNamed, HasFirstLine, HasFirstNumber, AreNoNumbers, IsWordWithNumbers, HasNoFirstEnd, NamesNoLink};
 
 use crate::certificate::Certificate;
 use crate::link::{End, Link};
@@ -25,7 +24,7 @@ fn first_place(bytes: &[u8], byte: u8) -> Option<usize>
 
 /// The line that the text begins with, without its line feed, and what stands behind it.
 pub(crate) fn next_line(text: &[u8]) -> Option<(&[u8], &[u8])>
-    ensures some { IfSome result (λ x. IsLine x.0.now × (text.now ≡ x.0.now ++ line_feed ∷ x.1.now)) }
+    ensures some { IfSome result (λ x. HasFirstLine text.now x.0.now x.1.now) }
     ensures none { IfNone result (IsLine text.now) }
 {
     let at = first_place(text, b'\n')?;
@@ -34,8 +33,8 @@ pub(crate) fn next_line(text: &[u8]) -> Option<(&[u8], &[u8])>
 
 /// The number that the words begin with, behind a space, and the words behind it.
 fn next_number(words: &[u8]) -> Option<(usize, &[u8])>
-    ensures some { IfSome result (λ x. IsNumber x.0 × (words.now ≡ codes " " ++ decimal x.0 ++ x.1.now) × (slice_index_or x.1.now 0 space ≡ space)) }
-    ensures none { IfNone result ((t : ℕ) (ts : List ℕ) → IsNumber t → words.now ≢ numbers (t ∷ ts)) }
+    ensures some { IfSome result (λ x. HasFirstNumber words.now x.0 x.1.now) }
+    ensures none { IfNone result (AreNoNumbers words.now) }
 {
     let digits = words.strip_prefix(b" ")?;
     let end = first_place(digits, b' ').unwrap_or(digits.len());
@@ -45,7 +44,7 @@ fn next_number(words: &[u8]) -> Option<(usize, &[u8])>
 
 /// The numbers of line `at`, each with a space before it.
 fn numbers_of(alloc: Global, words: &[u8], at: usize) -> Result<Vec<usize>, ScheduleFault>
-    ensures ok { IfOk result (λ ts. All IsNumber ts.items × (words.now ≡ numbers ts.items)) }
+    ensures ok { IfOk result (λ ts. IsWordWithNumbers [] words.now ts.items) }
     ensures err { IfErr result (λ fault. IsLineFault at [] words.now fault) }
 {
     let mut numbers = Vec::new(alloc);
@@ -67,7 +66,7 @@ fn numbers_behind(
     line: &[u8],
     at: usize,
 ) -> Result<Vec<usize>, ScheduleFault>
-    ensures ok { IfOk result (λ ts. All IsNumber ts.items × (line.now ≡ word.now ++ numbers ts.items)) }
+    ensures ok { IfOk result (λ ts. IsWordWithNumbers word.now line.now ts.items) }
     ensures err { IfErr result (λ fault. IsLineFault at word.now line.now fault) }
 {
     let Some(words) = line.strip_prefix(word) else {
@@ -93,7 +92,7 @@ pub(crate) fn settings(
     requires { IsNumber count }
     ensures counted { IfOk result (λ x. length x.0.items ≡ count) }
     ensures numbers { IfOk result (λ x. All (All IsNumber) (lists_of x.0.items)) }
-    ensures text { IfOk result (λ x. text.now ≡ text_of (map setting_line (lists_of x.0.items)) ++ x.1.now) }
+    ensures text { IfOk result (λ x. text.now ≡ text_of_settings (lists_of x.0.items) ++ x.1.now) }
     ensures err { IfErr result (λ fault. IsFaultBelow 1 (AreCounted count) text.now fault) }
 {
     let mut lists = Vec::new(alloc);
@@ -111,7 +110,7 @@ pub(crate) fn settings(
 /// The end of a link that these bytes begin with, and what stands behind it.
 fn link_end(bytes: &[u8]) -> Option<(End, &[u8])>
     ensures some { IfSome result (λ x. bytes.now ≡ decimal (end_number x.0) ++ x.1.now) }
-    ensures none { IfNone result ((end : End) (rest : List ℕ) → bytes.now ≢ decimal (end_number end) ++ rest) }
+    ensures none { IfNone result (HasNoFirstEnd bytes.now) }
 {
     if let Some(rest) = bytes.strip_prefix(b"0") {
         return Some((End::Zero, rest));
@@ -122,8 +121,8 @@ fn link_end(bytes: &[u8]) -> Option<(End, &[u8])>
 
 /// The number of a module, behind its word.
 fn link_module(bytes: &[u8]) -> Option<usize>
-    ensures some { IfSome result (λ m. (m < MAX_MODULES) × (bytes.now ≡ codes " module " ++ decimal m)) }
-    ensures none { IfNone result ((m : ℕ) → m < MAX_MODULES → bytes.now ≢ codes " module " ++ decimal m) }
+    ensures some { IfSome result (λ m. (m < MAX_MODULES) × (bytes.now ≡ module_words m)) }
+    ensures none { IfNone result ((m : ℕ) → m < MAX_MODULES → bytes.now ≢ module_words m) }
 {
     let module = number_from_digits(bytes.strip_prefix(b" module ")?)?;
     if module >= MAX_MODULES {
@@ -134,8 +133,8 @@ fn link_module(bytes: &[u8]) -> Option<usize>
 
 /// The link that a certificate part names in its first line.
 fn busiest_link(line: &[u8]) -> Option<Link>
-    ensures some { IfSome result (λ link. (link.«module» < MAX_MODULES) × (line.now ≡ busiest_line link)) }
-    ensures none { IfNone result ((link : Link) → link.«module» < MAX_MODULES → line.now ≢ busiest_line link) }
+    ensures some { IfSome result (λ link. IsInRack link × (line.now ≡ busiest_line link)) }
+    ensures none { IfNone result (NamesNoLink line.now) }
 {
     let (end, rest) = link_end(line.strip_prefix(b"busiest link ")?)?;
     let module = link_module(rest)?;
@@ -154,7 +153,7 @@ fn link_certificate(
     ensures link { IfOk result (λ certificate. certificate.link ≡ Some link) }
     ensures naming { IfOk result (λ certificate. IsNaming certificate) }
     ensures numbers { IfOk result (λ certificate. All IsNumber certificate.transfers) }
-    ensures text { IfOk result (λ certificate. text.now ≡ text_of (named_line certificate.transfers ∷ [])) }
+    ensures text { IfOk result (λ named. text.now ≡ text_of (named_line named.transfers ∷ [])) }
     ensures err { IfErr result (λ fault. IsFaultBelow above AreNamed text.now fault) }
 {
     let Some((line, rest)) = next_line(text) else {

@@ -1,7 +1,7 @@
 ghost use Rattle.std.specs.Prelude.{◌≡◌, ◌↔◌, [], length, IsTrue, IfOk, IfErr, slice_get, option_map};
 ghost use Rattle.std.specs.Option.{option_copied};
 ghost use Rattle.link_graph.specs.Schedules.{lists_of};
-ghost use Rattle.link_graph.specs.ScheduleText.{said, said_text, Says, CanSpell, CanName};
+ghost use Rattle.link_graph.specs.ScheduleText.{said, text_with, Says, CanSpell, CanName};
 ghost use Rattle.link_graph.specs.ScheduleFaults.{IsFaultOf};
 
 use crate::certificate::Certificate;
@@ -82,12 +82,12 @@ impl Schedule {
     /// settings. The certificate part, where a certificate is handed in, stands behind them: the
     /// lines `busiest link E module M` and `named t t ..`, or the line `busiest none`.
     ///
-    /// S and each transfer number must have at most nine digits, and the link must be one of a module
-    /// that a rack may have. Takes time that grows with the length of the text.
+    /// S and each transfer number must have at most nine digits, and the link must be one of a
+    /// module that a rack may have. Takes time that grows with the length of the text.
     pub fn write(&self, certificate: Option<&Certificate>) -> Result<Vec<u8>, AllocError>
         requires settings { CanSpell self.now }
         requires named { CanName (option_copied certificate) }
-        ensures { IfOk result (λ text. text.items ≡ said_text (said self.now (option_copied certificate.entry))) }
+        ensures { IfOk result (λ text. text.items ≡ text_with self.now (option_copied certificate.entry)) }
     {
         let mut text = writing::settings_text(*self.lists.allocator(), self.lists.as_slice())?;
         if let Some(certificate) = certificate {
@@ -99,9 +99,9 @@ impl Schedule {
     /// Reads a schedule's text, as [`write`](Schedule::write) gives it: the schedule, and the
     /// certificate where the text has the certificate part.
     ///
-    /// Gives what the text says, or its first line at fault. Want of memory is answered only where a
-    /// setting or a number behind a good first line had to be kept. Takes time linear in the length
-    /// of the text.
+    /// Gives what the text says, or its first line at fault. Want of memory is answered only where
+    /// a setting or a number behind a good first line had to be kept. Takes time linear in the
+    /// length of the text.
     pub fn read(
         alloc: Global,
         text: &[u8],

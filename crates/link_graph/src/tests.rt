@@ -1,9 +1,9 @@
 ghost use Rattle.std.specs.Prelude.{◌≡◌, [], ◌∷◌, codes, Some, None, IfOk};
-ghost use Rattle.link_graph.specs.declared.link.End.TheVariants.{Zero};
 ghost use Rattle.batch.specs.Rows.{three_transfers};
 ghost use Rattle.link_graph.specs.Uses.{IsMatching};
 ghost use Rattle.link_graph.specs.Certificates.{naming};
-ghost use Rattle.link_graph.specs.ScheduleText.{schedule_text, said_text, said};
+ghost use Rattle.link_graph.specs.Rows.{two_settings, two_named, two_settings_text, certified_text};
+ghost use Rattle.link_graph.specs.ScheduleText.{schedule_text, text_with};
 
 use crate::laws::link_order;
 use crate::{
@@ -16,13 +16,14 @@ use std::test::Fail;
 
 /// The definition of the schedule text gives the texts of worked rows.
 fn the_definitions_spell_the_rows()
-    ensures three_transfers { schedule_text ((0 ∷ 2 ∷ []) ∷ (1 ∷ []) ∷ []) ≡ codes "settings 2\nsetting 0 2\nsetting 1\n" }
-    ensures certified { said_text (said ((0 ∷ 2 ∷ []) ∷ (1 ∷ []) ∷ []) (Some (naming (Some (record { end = Zero; «module» = 0 })) (0 ∷ 1 ∷ [])))) ≡ codes "settings 2\nsetting 0 2\nsetting 1\nbusiest link 0 module 0\nnamed 0 1\n" }
-    ensures empty_batch { said_text (said [] (Some (naming None []))) ≡ codes "settings 0\nbusiest none\n" }
+    ensures three_transfers { schedule_text two_settings ≡ two_settings_text }
+    ensures certified { text_with two_settings (Some two_named) ≡ certified_text }
+    ensures empty_batch { text_with [] (Some (naming None [])) ≡ codes "settings 0\nbusiest none\n" }
     ensures no_transfers { schedule_text ([] ∷ []) ≡ codes "settings 1\nsetting\n" }
 {}
 
-/// Transfers 0 and 1 of the row both use link 0 of module 0, transfers 1 and 2 both link 3 of module 2.
+/// Transfers 0 and 1 of the row both use link 0 of module 0, transfers 1 and 2 both link 3 of
+/// module 2.
 fn the_definitions_refuse_settings()
     ensures link_0 { IsMatching three_transfers (0 ∷ 1 ∷ []) → ⊥ }
     ensures link_3 { IsMatching three_transfers (1 ∷ 2 ∷ []) → ⊥ }

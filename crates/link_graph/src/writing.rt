@@ -2,14 +2,14 @@
 
 ghost use Rattle.std.specs.Prelude.{◌≡◌, ◌++◌, [], ◌∷◌, OnOk, IfOk, string_bytes};
 ghost use Rattle.link_graph.specs.Schedules.{lists_of};
-ghost use Rattle.link_graph.specs.ScheduleText.{numbers, text_of, schedule_text, busiest_line, naming_lines};
+ghost use Rattle.link_graph.specs.ScheduleText.{numbers, schedule_text, busiest_line, naming_lines, GrowsBy};
 
 use crate::link::Link;
 use std::alloc::{AllocError, Global};
 
 /// Puts a line at the end of the text: a word, and numbers with a space before each.
 fn push_line(text: &mut String, word: &str, transfers: &[usize]) -> Result<(), AllocError>
-    ensures { OnOk result (string_bytes text.new ≡ string_bytes text.old ++ text_of ((word.now ++ numbers transfers.now) ∷ [])) }
+    ensures { OnOk result (GrowsBy text.old text.new ((word.now ++ numbers transfers.now) ∷ [])) }
 {
     text.push_str(word)?;
     for t in transfers {
@@ -20,7 +20,7 @@ fn push_line(text: &mut String, word: &str, transfers: &[usize]) -> Result<(), A
 
 /// Puts the line that names the busiest link at the end of the text.
 fn push_link(text: &mut String, link: Link) -> Result<(), AllocError>
-    ensures { OnOk result (string_bytes text.new ≡ string_bytes text.old ++ text_of (busiest_line link ∷ [])) }
+    ensures { OnOk result (GrowsBy text.old text.new (busiest_line link ∷ [])) }
 {
     let (end, module) = (link.end.number(), link.module);
     write!(text, "busiest link {end} module {module}\n")
@@ -44,7 +44,7 @@ pub(crate) fn push_naming(
     link: Option<Link>,
     transfers: &[usize],
 ) -> Result<(), AllocError>
-    ensures { OnOk result (string_bytes text.new ≡ string_bytes text.old ++ text_of (naming_lines link transfers.now)) }
+    ensures { OnOk result (GrowsBy text.old text.new (naming_lines link transfers.now)) }
 {
     let Some(link) = link else {
         return text.push_str("busiest none\n");

@@ -2,5 +2,5 @@ use Rattle.std.proofs.Common.{take}
 use Rattle.link_graph.specs.Tables.{AreCounts}
 use Rattle.link_graph.proofs.counting.count_batch.Given as goal
 
-abbrev pub invariant-loop-t : goal.invariant-loop-t
-invariant-loop-t l = AreCounts l.counts (take l.t l.batch)
+abbrev pub invariant-loop-transfer : goal.invariant-loop-transfer
+invariant-loop-transfer l = AreCounts l.counts (take l.transfer-index l.transfer-items)
