@@ -3,3 +3,4 @@ pub mod SoFar
 pub mod BlockLaws
 pub mod Delivery
 pub mod OneText
+pub mod Breaking

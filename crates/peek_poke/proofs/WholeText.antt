@@ -5,12 +5,12 @@ use Rattle.peek_poke.specs.declared.message.Message.{Message}
 use Rattle.std.specs.Prelude.{Ok, Some, None, ◌^◌, drop}
 use Rattle.std.specs.Int.{from_le_bytes}
 use mir.Syntax.{w32}
+use Rattle.std.proofs.lemmas.Option.{same_Some}
 use Rattle.std.proofs.lemmas.Nat.{from_le_bytes-to_le_bytes_4}
 use Rattle.peek_poke.specs.declared.message.Message.TheVariants.{Poke, Peek}
 use Rattle.peek_poke.specs.declared.message.TheConstants.{POKE, PEEK, POKE_BYTES, PEEK_BYTES}
 use Rattle.peek_poke.specs.Messages.{word_bytes, spell, IsMessage, IsPartial, Pending}
-use Rattle.peek_poke.specs.Effects.{EndsRefused, IsCause, Feeds, Does}
-use Rattle.peek_poke.specs.Effects.{answer_fault}
+use Rattle.peek_poke.specs.Effects.{Reads, Writes, EndsRefused, IsCause, Feeds, Does, answer_fault}
 use Rattle.peek_poke.specs.declared.fault.StoreFault.{StoreFault}
 use Rattle.peek_poke.specs.declared.fault.StoreFault.TheVariants.{Misaligned, Outside}
 
@@ -42,24 +42,30 @@ some_not_none xs e = cc
 pub same_words : (a b : ℕ) → a < 2 ^ 32 → b < 2 ^ 32 → word_bytes a ≡ word_bytes b → a ≡ b
 same_words a b h k e = sym (from_le_bytes-to_le_bytes_4 a h) ∙ ap (from_le_bytes w32) e ∙ from_le_bytes-to_le_bytes_4 b k
 
-one_not_zero : ◌≡◌ {A = ℕ} 1 0 → ⊥
-one_not_zero e = omega arith
+same_ok : {A B : Type 0} (x y : A) → ◌≡◌ {A = Result A B} (Ok x) (Ok y) → x ≡ y
+same_ok x y e = cc
 
-some_same : (xs ys : List ℕ) → Some xs ≡ Some ys → xs ≡ ys
-some_same xs ys e = cc
-
-peeked_by : {S : Type 0} (read : S → ℕ → Result ℕ StoreFault) (write : S → ℕ → ℕ → Result S StoreFault) (s t : S) (a : ℕ) (reply : List ℕ) → a < 2 ^ 32 → (m : Message) → IsMessage m → 1 ∷ word_bytes a ≡ spell m → Does read write s m (Some reply) t → read s a ≡ Ok (from_le_bytes w32 reply)
-peeked_by read write s t a reply h (Poke x w) f e d = absurd (one_not_zero (ap (λ (xs : List ℕ). get_or xs 0 0) e))
-peeked_by read write s t a reply h (Peek x) f e d =
+-- what answers a peek: the bytes of the word that the store has there
+answered_by : {S : Type 0} (read : Reads S) (write : Writes S) (s t : S) (a : ℕ) (reply : List ℕ) → a < 2 ^ 32 → (m : Message) → IsMessage m → spell (Peek a) ≡ spell m → Does read write s m (Some reply) t → (w : ℕ) × (w < 2 ^ 32) × (read s a ≡ Ok w) × (reply ≡ word_bytes w)
+answered_by read write s t a reply h (Poke x w) f e d = absurd (some_not_none reply d.0)
+answered_by read write s t a reply h (Peek x) f e d =
     let same : word_bytes a ≡ word_bytes x = ap (λ (xs : List ℕ). drop 1 xs) e in
-    let w = d.1.0 in
-    let answer : reply ≡ word_bytes w = some_same reply (word_bytes w) d.1.3 in
-    ap (read s) (same_words a x h f same) ∙ d.1.2 ∙ ap (λ (n : ℕ). Ok n) (sym (ap (from_le_bytes w32) answer ∙ from_le_bytes-to_le_bytes_4 w d.1.1))
+    (d.1.0, d.1.1, ap (read s) (same_words a x h f same) ∙ d.1.2, same_Some reply (word_bytes d.1.0) d.1.3)
 
--- a whole peek that is answered
-pub peeked : {S : Type 0} (read : S → ℕ → Result ℕ StoreFault) (write : S → ℕ → ℕ → Result S StoreFault) (old new : Pending) (s t : S) (b a : ℕ) (reply : List ℕ) → a < 2 ^ 32 → Feeds read write old s b (Ok (Some reply)) new t → old.bytes ++ b ∷ [] ≡ 1 ∷ word_bytes a → read s a ≡ Ok (from_le_bytes w32 reply)
-peeked read write old new s t b a reply h f e =
-    elim f.2 [
-      | inl w ↦ absurd (some_not_none reply w.silent)
-      | inr d ↦ peeked_by read write s t a reply h d.message d.fits (sym e ∙ d.whole) d.does
-    ]
+module _ {S : Type 0} (read : Reads S) (write : Writes S) (old new : Pending) (s t : S) (b a : ℕ) (reply : List ℕ) (fits : a < 2 ^ 32) (fed : Feeds read write old s b (Ok (Some reply)) new t) (whole : old.bytes ++ b ∷ [] ≡ spell (Peek a)) where
+  answered : (w : ℕ) × (w < 2 ^ 32) × (read s a ≡ Ok w) × (reply ≡ word_bytes w)
+  answered =
+      elim fed.2 [
+        | inl w ↦ absurd (some_not_none reply w.silent)
+        | inr d ↦ answered_by read write s t a reply fits d.message d.fits (sym whole ∙ d.whole) d.does
+      ]
+
+  -- a whole peek that is answered: the word of these bytes stands there
+  pub peeked : read s a ≡ Ok (from_le_bytes w32 reply)
+  peeked =
+      let w = answered.0 in
+      answered.2 ∙ ap (λ (n : ℕ). Ok n) (sym (ap (from_le_bytes w32) answered.3 ∙ from_le_bytes-to_le_bytes_4 w answered.1))
+
+  -- and these bytes are those of the word that stands there
+  pub replied : (word : ℕ) → read s a ≡ Ok word → reply ≡ word_bytes word
+  replied word is = answered.3 ∙ ap word_bytes (same_ok _ _ (sym answered.2 ∙ is))

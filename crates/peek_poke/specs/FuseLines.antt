@@ -1,5 +1,5 @@
 -- A line that may have a fuse.
-use Rattle.std.specs.Prelude.{◌<◌, ℕ, Option, Some, None}
+use Rattle.std.specs.Prelude.{◌<◌, ℕ, List, Option, Some, None}
 use Rattle.peek_poke.specs.declared.fuse.FuseLine.{FuseLine}
 use Rattle.peek_poke.specs.declared.fuse.FuseLine.TheVariants.{Whole, Fused}
 
@@ -12,6 +12,11 @@ left_of (Fused wire) = Some wire.left
 abbrev pub failures_of : FuseLine → ℕ
 failures_of (Whole wire) = 0
 failures_of (Fused wire) = wire.failures
+
+-- the bytes that it has carried
+abbrev pub carried_by : FuseLine → List ℕ
+carried_by (Whole wire) = wire
+carried_by (Fused wire) = wire.carried
 
 -- it has no fuse
 abbrev pub IsWhole : FuseLine → Type 0

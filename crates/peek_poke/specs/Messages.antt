@@ -1,5 +1,5 @@
 -- The messages to an answering end and their bytes: INMOS IMS T414 data sheet, peek and poke over a link.
-use Rattle.std.specs.Prelude.{ℕ, ◌≡◌, ◌<◌, ◌+◌, ◌^◌, ◌⊎◌, List, [], ◌∷◌, ◌++◌, length, Bool, All}
+use Rattle.std.specs.Prelude.{ℕ, ◌≡◌, ◌<◌, ◌+◌, ◌^◌, ◌⊎◌, List, [], ◌∷◌, ◌++◌, length, Bool, false, All}
 use Rattle.std.specs.Int.{to_le_bytes}
 use Rattle.std.specs.List.{flat_map}
 use mir.Syntax.{w32}
@@ -26,10 +26,19 @@ abbrev pub IsPartial : List ℕ → Type 0
 IsPartial [] = Unit {0}
 IsPartial (control ∷ bytes) = ((control ≡ POKE) × (length bytes + 1 < POKE_BYTES)) ⊎ ((control ≡ PEEK) × (length bytes + 1 < PEEK_BYTES))
 
--- an answering end: whether it has failed, and what has come of the next message
+-- an answering end: whether it has failed, what has come of the next message, and all bytes that it was handed
 pub record Pending : Type 0 where
   pub failed : Bool
   pub bytes : List ℕ
+  pub taken : List ℕ
+
+-- it hasn't failed, and nothing has come of a next message
+abbrev pub IsAtRest : Pending → Type 0
+IsAtRest end = (end.failed ≡ false) × (end.bytes ≡ [])
+
+-- an answering end at rest which was handed these bytes in all
+abbrev pub rest_after : List ℕ → Pending
+rest_after bytes = record { failed = false; bytes = []; taken = bytes }
 
 -- a text is that of one list of messages and one rest, at most
 abbrev pub OneReading : Type 0

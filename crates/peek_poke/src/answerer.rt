@@ -1,35 +1,37 @@
 //! The end of a module's link 3, which answers peek and poke.
 
 ghost use Rattle.std.specs.Prelude.{◌≡◌, ℕ, ◌≤◌, ◌↔◌, List, [], ◌∷◌, ◌++◌, true, false, IsTrue, IfOk, MatchResult, option_to_list};
-ghost use Rattle.peek_poke.specs.Messages.{IsPartial};
+ghost use Rattle.peek_poke.specs.Messages.{IsAtRest, IsPartial, rest_after};
 ghost use Rattle.peek_poke.specs.Effects.{Does, Feeds, HasAnswered, IsRefused};
 
 use crate::fault::{AnswerFault, StoreFault};
 use crate::message::{Message, PEEK, PEEK_BYTES, POKE, POKE_BYTES, REPLY_BYTES, message_in};
 use crate::store::WordStore;
+use passed_bytes::PassedBytes;
 use std::marker::Model;
 
 /// The answering end of a module: it takes the bytes of pokes and peeks one by one, as an IMS T414 does
 /// while it waits to boot from a link (data sheet). Unlike one, it answers at all times, until it has
-/// failed: this is the project's choice. Contracts see whether it has failed, and what has come of the
-/// next message.
+/// failed: this is the project's choice. Contracts see whether it has failed, what has come of the next
+/// message, and all bytes that it was handed.
 #[derive(Drop)]
 pub struct Answerer {
     bytes: [u8; POKE_BYTES],
     len: usize,
     failed: bool,
+    taken: PassedBytes,
 }
 
 impl Model for Answerer {
-    ghost use Rattle.std.specs.Prelude.{take, ◌<◌};
+    ghost use Rattle.std.specs.Prelude.{take, length, ◌<◌, ◌≡◌};
     ghost use Rattle.peek_poke.specs.declared.message.TheConstants.{POKE_BYTES};
     ghost use Rattle.peek_poke.specs.Messages.{IsPartial, Pending};
 
     ghost Value = { Pending };
 
-    ghost view = { λ a. record { failed = a.failed; bytes = take a.len a.bytes } };
+    ghost view = { λ a. record { failed = a.failed; bytes = take a.len a.bytes; taken = a.taken } };
 
-    ghost invariant = { λ a. IsPartial (take a.len a.bytes) × (a.len < POKE_BYTES) };
+    ghost invariant = { λ a. IsPartial (take a.len a.bytes) × (a.len < POKE_BYTES) × (length a.bytes ≡ POKE_BYTES) };
 }
 
 impl Message {
@@ -55,18 +57,19 @@ impl Message {
 impl Answerer {
     /// An end to which nothing has come.
     pub fn new() -> Answerer
-        ensures { result ≡ record { failed = false; bytes = [] } }
+        ensures { result ≡ rest_after [] }
     {
         Answerer {
             bytes: [0; POKE_BYTES],
             len: 0,
             failed: false,
+            taken: PassedBytes::none(),
         }
     }
 
     /// Whether it hasn't failed and nothing has come of a message.
     pub fn at_rest(&self) -> bool
-        ensures { IsTrue result ↔ (self.now ≡ record { failed = false; bytes = [] }) }
+        ensures { IsTrue result ↔ IsAtRest self.now }
     {
         !self.failed && self.len == 0
     }
@@ -88,6 +91,7 @@ impl Answerer {
         ensures text { (first : S) (text : List ℕ) (answers : List (List ℕ)) → HasAnswered S.read_gives S.write_gives first text answers self.old store.old
             → IfOk result (λ answer. HasAnswered S.read_gives S.write_gives first (text ++ byte ∷ []) (answers ++ option_to_list answer) self.new store.new) }
         ensures partial { IsPartial self.old.bytes × IsPartial self.new.bytes }
+        ensures taken { self.new.taken ≡ self.old.taken ++ byte ∷ [] }
     {
         self.take_byte(store, byte)
     }
@@ -100,7 +104,9 @@ impl Answerer {
     ) -> Result<Option<[u8; REPLY_BYTES]>, AnswerFault>
         ensures step { Feeds S.read_gives S.write_gives self.old store.old byte result self.new store.new }
         ensures partial { IsPartial self.old.bytes × IsPartial self.new.bytes }
+        ensures taken { self.new.taken ≡ self.old.taken ++ byte ∷ [] }
     {
+        self.taken.add(byte);
         if self.failed {
             return Err(AnswerFault::Failed);
         }

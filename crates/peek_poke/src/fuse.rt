@@ -1,8 +1,8 @@
 //! Wires that fail after so many bytes.
 
-ghost use Rattle.std.specs.Prelude.{◌≡◌, ◌≢◌, ◌<◌, ◌≤◌, ◌+◌, ◌-◌, ◌↔◌, Some, IsOk, IfOk, OnOk, OnErr};
+ghost use Rattle.std.specs.Prelude.{◌≡◌, ◌≢◌, ◌<◌, ◌≤◌, ◌+◌, ◌-◌, ◌↔◌, [], ◌∷◌, ◌++◌, Some, IsOk, IfOk, OnOk, OnErr};
 ghost use Rattle.std.specs.Option.{option_map};
-ghost use Rattle.peek_poke.specs.FuseLines.{left_of, failures_of, IsWhole, HasByte};
+ghost use Rattle.peek_poke.specs.FuseLines.{left_of, failures_of, carried_by, IsWhole, HasByte};
 
 use crate::fault::WireFault;
 use crate::plain::PlainWire;
@@ -19,19 +19,17 @@ pub struct FuseWire {
 }
 
 impl Model for FuseWire {
-    ghost use Rattle.peek_poke.specs.Fuse.{Fuse, fuse_code};
+    ghost use Rattle.peek_poke.specs.Fuse.{Fuse};
 
     ghost Value = { Fuse };
 
-    ghost coded = { fuse_code };
-
-    ghost view = { λ wire. record { left = wire.left; failures = wire.failed } };
+    ghost view = { λ wire. record { left = wire.left; failures = wire.failed; carried = wire.plain } };
 }
 
 impl FuseWire {
     /// A wire that carries so many bytes.
     pub fn new(bytes: usize) -> FuseWire
-        ensures { result ≡ record { left = bytes; failures = 0 } }
+        ensures { result ≡ record { left = bytes; failures = 0; carried = [] } }
     {
         FuseWire {
             plain: PlainWire::new(),
@@ -44,12 +42,16 @@ impl FuseWire {
 impl Wire for FuseWire {
     ghost failures = { λ wire. wire.failures };
 
+    ghost carried = { λ wire. wire.carried };
+
     ghost never_fails = { λ _. ⊥ };
 
     fn carry(&mut self, byte: u8) -> Result<u8, WireFault>
         ensures arrived { IfOk result (λ arrived. arrived ≡ byte) }
+        ensures added { OnOk result (self.new.carried ≡ self.old.carried ++ byte ∷ []) }
+        ensures kept { OnErr result (self.new.carried ≡ self.old.carried) }
         // It carries bytes just as long as some are left.
-        ensures carried { IsOk result ↔ (0 < self.old.left) }
+        ensures carries { IsOk result ↔ (0 < self.old.left) }
         ensures left { self.new.left ≡ self.old.left - 1 }
         ensures fault { OnErr result (self.new.failures ≡ self.old.failures + 1) }
         ensures counted { self.old.failures ≤ self.new.failures }
@@ -76,11 +78,15 @@ pub enum FuseLine {
 impl Wire for FuseLine {
     ghost failures = { failures_of };
 
+    ghost carried = { carried_by };
+
     ghost never_fails = { IsWhole };
 
     fn carry(&mut self, byte: u8) -> Result<u8, WireFault>
         ensures arrived { IfOk result (λ arrived. arrived ≡ byte) }
-        ensures carried { IsOk result ↔ HasByte self.old }
+        ensures added { OnOk result (carried_by self.new ≡ carried_by self.old ++ byte ∷ []) }
+        ensures kept { OnErr result (carried_by self.new ≡ carried_by self.old) }
+        ensures carries { IsOk result ↔ HasByte self.old }
         ensures left { left_of self.new ≡ option_map (λ left. left - 1) (left_of self.old) }
         ensures fault { OnErr result (failures_of self.new ≡ failures_of self.old + 1) }
         ensures counted { failures_of self.old ≤ failures_of self.new }
@@ -111,6 +117,7 @@ impl WireMaker for FuseWires {
 
     fn line(&self, transfer: usize) -> FuseLine
         ensures fresh { failures_of result ≡ 0 }
+        ensures unused { carried_by result ≡ [] }
         ensures sure { transfer ≢ self.now.transfer → IsWhole result }
         ensures fused { transfer ≡ self.now.transfer → left_of result ≡ Some self.now.bytes }
     {

@@ -8,6 +8,7 @@ ghost use Rattle.link_bytes.specs.Reading.{begun};
 use crate::fault::WireFault;
 use crate::wire::{Wire, WireMaker};
 use link_bytes::{ACK, BitReader, HalfLink, Packet, laws};
+use passed_bytes::PassedBytes;
 use std::marker::Model;
 
 /// Brings the bits of a packet to a reader, one by one, and gives the packet that it read.
@@ -28,39 +29,45 @@ fn deliver(reader: &mut BitReader, bits: &[bool]) -> Option<Packet>
 
 /// A wire that never fails. Each byte goes as the bits of its data packet on one line, and its acknowledge
 /// comes back on the opposite line (IMS T414 data sheet, link protocol). It takes no memory.
-#[derive(Debug, Drop)]
+#[derive(Drop)]
 pub struct PlainWire {
     sender: HalfLink,
     receiver: HalfLink,
     line: BitReader,
     opposite_line: BitReader,
+    carried: PassedBytes,
 }
 
 impl Model for PlainWire {
-    ghost use Rattle.std.specs.Prelude.{◌≡◌, []};
+    ghost use Rattle.std.specs.Prelude.{◌≡◌, ℕ, List, []};
     ghost use Rattle.link_bytes.specs.Reading.{begun};
 
-    ghost Value = { Unit {0} };
+    ghost Value = { List ℕ };
 
-    ghost view = { λ _. tt };
+    ghost view = { λ w. w.carried };
 
     ghost invariant = { λ w. (w.sender ≡ 0) × (w.receiver ≡ 0) × (w.line ≡ begun []) × (w.opposite_line ≡ begun []) };
 }
 
 impl PlainWire {
     /// A wire that has carried nothing.
-    pub fn new() -> PlainWire {
+    pub fn new() -> PlainWire
+        ensures { result ≡ [] }
+    {
         PlainWire {
             sender: HalfLink::new(),
             receiver: HalfLink::new(),
             line: BitReader::new(),
             opposite_line: BitReader::new(),
+            carried: PassedBytes::none(),
         }
     }
 }
 
 impl Wire for PlainWire {
     ghost failures = { λ _. 0 };
+
+    ghost carried = { λ wire. wire };
 
     ghost never_fails = { λ _. Unit {0} };
 
@@ -81,6 +88,7 @@ impl Wire for PlainWire {
         let Ok(None) = self.sender.take(acknowledge) else {
             unreachable!()
         };
+        self.carried.add(byte);
         Ok(arrived)
     }
 }

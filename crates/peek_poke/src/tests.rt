@@ -1,6 +1,6 @@
 //! The worked rows, words moved over wires, and printed faults.
 
-ghost use Rattle.std.specs.Prelude.{◌≡◌, ◌<◌, ◌≤◌, length, IfOk, OnErr, IsOk};
+ghost use Rattle.std.specs.Prelude.{◌≡◌, ◌<◌, ◌≤◌, ◌∷◌, ◌++◌, [], length, IfOk, OnErr, OnOk, IsOk};
 ghost use Rattle.batch.specs.Extent.{extent};
 
 use crate::{
@@ -10,6 +10,7 @@ use crate::{
 };
 use batch::{Place, Shape};
 use module_memory::{Bay, Parted, Rack, Rest, WINDOW_START, WORD_BYTES};
+use passed_bytes::PassedBytes;
 use std::alloc::Global;
 use std::test::Fail;
 
@@ -127,6 +128,64 @@ fn words_are_moved_over_a_wire(rt: HostRuntime) -> Result<(), Fail> {
     );
     assert_eq!(rt; peeked(&mut wire, &mut store, 0x8000_0800), Some(0));
     assert_eq!(rt; PlainWire::new().carry(5), Ok(5));
+    Ok(())
+}
+
+/// A wire that keeps the first nine bytes that it carries, and their number.
+#[derive(Drop)]
+struct Recorder {
+    bytes: [u8; 9],
+    count: usize,
+    carried: PassedBytes,
+}
+
+impl Recorder {
+    fn new() -> Recorder {
+        Recorder {
+            bytes: [255; 9],
+            count: 0,
+            carried: PassedBytes::none(),
+        }
+    }
+}
+
+impl Wire for Recorder {
+    ghost failures = { λ _. 0 };
+
+    ghost carried = { λ wire. wire.carried };
+
+    ghost never_fails = { λ _. Unit {0} };
+
+    fn carry(&mut self, byte: u8) -> Result<u8, WireFault> {
+        if let Some(place) = self.bytes.get_mut(self.count) {
+            *place = byte;
+        }
+        self.count = self.count.saturating_add(1);
+        self.carried.add(byte);
+        Ok(byte)
+    }
+}
+
+/// What goes over a wire as 12345678 hex is poked into the second word of a module, and then peeked.
+fn recorded(store: &mut Window) -> ([u8; 9], [u8; 9], usize)
+    requires shape { store.old.store.shape ≡ extent 1 1 2 }
+    requires number { store.old.number ≡ 0 }
+{
+    let mut forward = Recorder::new();
+    let _ = poked(&mut forward, store, 0x1234_5678);
+    let mut back = Recorder::new();
+    let _ = peeked(&mut back, store, 0x8000_0804);
+    let count = forward.count.saturating_add(back.count);
+    (forward.bytes, back.bytes, count)
+}
+
+#[test]
+fn words_go_as_messages(rt: HostRuntime) -> Result<(), Fail> {
+    let mut store = two_words(rt.alloc())?;
+    let (push, pull, count) = recorded(&mut store);
+    assert_eq!(rt; push, [0, 4, 8, 0, 0x80, 0x78, 0x56, 0x34, 0x12]);
+    assert_eq!(rt; pull, [1, 4, 8, 0, 0x80, 0x78, 0x56, 0x34, 0x12]);
+    assert_eq!(rt; count, 18);
     Ok(())
 }
 

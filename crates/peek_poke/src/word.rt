@@ -1,7 +1,9 @@
 //! Words moved over a wire, as messages to an answering end.
 
-ghost use Rattle.std.specs.Prelude.{◌≡◌, ◌<◌, ◌≤◌, [], Ok, false, IfOk, OnErr, OnOk, IsOk};
-ghost use Rattle.peek_poke.specs.Messages.{IsPartial};
+ghost use Rattle.std.specs.Prelude.{◌≡◌, ◌<◌, ◌≤◌, ◌++◌, ℕ, [], Ok, false, take, length, IfOk, OnErr, OnOk, IsOk};
+ghost use Rattle.peek_poke.specs.declared.message.Message.TheVariants.{Peek, Poke};
+ghost use Rattle.peek_poke.specs.Messages.{IsAtRest, IsPartial, rest_after, spell, word_bytes};
+ghost use Rattle.peek_poke.specs.Sending.{IsBrokenOff, IsCut};
 
 use crate::answerer::Answerer;
 use crate::fault::WireFault;
@@ -16,9 +18,13 @@ fn send_front<W: Wire, S: WordStore>(
     store: &mut S,
     bytes: &[u8],
 ) -> Result<(), WireFault>
-    requires rest { answerer.old ≡ record { failed = false; bytes = [] } }
+    requires rest { IsAtRest answerer.old }
     requires partial { IsPartial bytes.now }
-    ensures sent { OnOk result (answerer.new ≡ record { failed = false; bytes = bytes.now }) }
+    ensures sent { OnOk result
+        (answerer.new ≡ record { failed = false; bytes = bytes.now; taken = answerer.old.taken ++ bytes.now }) }
+    ensures carried { OnOk result (W.carried wire.new ≡ W.carried wire.old ++ bytes.now) }
+    ensures broken { OnErr result
+        (IsBrokenOff W.carried bytes.now [] wire.old wire.new answerer.old answerer.new) }
     ensures unchanged { store.new ≡ store.old }
     ensures fault { OnErr result (W.failures wire.old < W.failures wire.new) }
     ensures counted { W.failures wire.old ≤ W.failures wire.new }
@@ -42,6 +48,8 @@ fn carry_back<W: Wire>(
     bytes: [u8; REPLY_BYTES],
 ) -> Result<[u8; REPLY_BYTES], WireFault>
     ensures arrived { IfOk result (λ arrived. arrived ≡ bytes) }
+    ensures carried { OnOk result (W.carried wire.new ≡ W.carried wire.old ++ bytes) }
+    ensures broken { OnErr result (IsCut bytes (W.carried wire.old) (W.carried wire.new)) }
     ensures fault { OnErr result (W.failures wire.old < W.failures wire.new) }
     ensures counted { W.failures wire.old ≤ W.failures wire.new }
     ensures unfailed { OnOk result (W.failures wire.new ≡ W.failures wire.old) }
@@ -67,10 +75,14 @@ pub fn push_word<W: Wire, S: WordStore>(
     address: u32,
     word: u32,
 ) -> Result<(), WireFault>
-    requires rest { answerer.old ≡ record { failed = false; bytes = [] } }
+    requires rest { IsAtRest answerer.old }
     requires takes { IsOk (S.write_gives store.old address word) }
     ensures written { OnOk result (S.write_gives store.old address word ≡ Ok store.new) }
-    ensures rest { OnOk result (answerer.new ≡ record { failed = false; bytes = [] }) }
+    ensures carried { OnOk result (W.carried wire.new ≡ W.carried wire.old ++ spell (Poke address word)) }
+    ensures taken { OnOk result
+        (answerer.new ≡ rest_after (answerer.old.taken ++ spell (Poke address word))) }
+    ensures broken { OnErr result
+        (IsBrokenOff W.carried (spell (Poke address word)) [] wire.old wire.new answerer.old answerer.new) }
     ensures unchanged { OnErr result (store.new ≡ store.old) }
     ensures fault { OnErr result (W.failures wire.old < W.failures wire.new) }
     ensures counted { W.failures wire.old ≤ W.failures wire.new }
@@ -97,10 +109,16 @@ pub fn pull_word<W: Wire, S: WordStore>(
     store: &mut S,
     address: u32,
 ) -> Result<u32, WireFault>
-    requires rest { answerer.old ≡ record { failed = false; bytes = [] } }
+    requires rest { IsAtRest answerer.old }
     requires has { IsOk (S.read_gives store.old address) }
     ensures read { IfOk result (λ word. S.read_gives store.old address ≡ Ok word) }
-    ensures rest { OnOk result (answerer.new ≡ record { failed = false; bytes = [] }) }
+    ensures carried { IfOk result
+        (λ word. W.carried wire.new ≡ W.carried wire.old ++ (spell (Peek address) ++ word_bytes word)) }
+    ensures taken { OnOk result
+        (answerer.new ≡ rest_after (answerer.old.taken ++ spell (Peek address))) }
+    ensures broken { OnErr result
+        ((word : ℕ) → S.read_gives store.old address ≡ Ok word
+        → IsBrokenOff W.carried (spell (Peek address)) (word_bytes word) wire.old wire.new answerer.old answerer.new) }
     ensures unchanged { store.new ≡ store.old }
     ensures fault { OnErr result (W.failures wire.old < W.failures wire.new) }
     ensures counted { W.failures wire.old ≤ W.failures wire.new }

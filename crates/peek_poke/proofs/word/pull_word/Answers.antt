@@ -1,8 +1,14 @@
-use Rattle.std.proofs.Common.{rules, ◌≡◌, ◌++◌, ◌∷◌, [], ap, ◌∙◌, sym, ℕ, Ok}
+use Rattle.std.proofs.Common.{rules, ◌≡◌, ◌++◌, ◌∷◌, ◌-◌, [], ap, ◌∙◌, sym, ℕ, Ok, arith, subst, List, append_assoc}
+use Rattle.std.proofs.lemmas.Result.{err_from_is_err_and}
+use Rattle.peek_poke.specs.declared.message.TheConstants.{PEEK_BYTES}
+use Rattle.peek_poke.specs.declared.message.Message.TheVariants.{Peek}
+use Rattle.peek_poke.specs.Messages.{Pending}
+use Rattle.peek_poke.specs.Sending.{IsCut}
+use Rattle.peek_poke.proofs.Breaking.{after_front, within_reply}
 use Rattle.std.specs.Int.{from_le_bytes}
 use mir.Syntax.{w32}
-use Rattle.peek_poke.specs.Messages.{word_bytes}
-use Rattle.peek_poke.proofs.WholeText.{peeked}
+use Rattle.peek_poke.specs.Messages.{spell, word_bytes}
+use Rattle.peek_poke.proofs.WholeText.{peeked, replied}
 use Rattle.peek_poke.proofs.word.pull_word.Goals as goal
 
 pub returns-clause-read : goal.returns-clause-read
@@ -10,8 +16,29 @@ returns-clause-read g c =
     let a = c.args.address in
     let read = g.S.WordStore.read_gives in
     let f = rw c.in-Ok-Some.field-0-is at c.in-Ok-Some.ensures.step in
-    let text : c.send_front.new.answerer.bytes ++ c.in_ok-last.last ∷ [] ≡ 1 ∷ word_bytes a = search rules in
+    let text : c.send_front.new.answerer.bytes ++ c.in_ok-last.last ∷ [] ≡ spell (Peek a) = search rules in
     let same : c.send_front.new.store ≡ c.args.store.now = search rules in
     let word : from_le_bytes w32 c.in-Ok-Some.reply ≡ c.from_le_bytes.result = search rules in
     let e = peeked read g.S.WordStore.write_gives c.send_front.new.answerer c.feed.new.self c.send_front.new.store c.feed.new.store c.in_ok-last.last a c.in-Ok-Some.reply c.ranges.address.fits f text in
     ap (λ (x : _). read x a) (sym same) ∙ e ∙ ap (λ (n : ℕ). Ok n) word
+
+pub returns-in_err-last-clause-broken : goal.returns-in_err-last-clause-broken
+returns-in_err-last-clause-broken g c =
+    let p = err_from_is_err_and c.from_residual-in_err-last.result c.from_residual-in_err-last.ensures.1 in
+    let front = c.in_ok-send_front.ensures in
+    rw (p.1) (λ word is. after_front g.W.Wire.carried _ _ _ _ (PEEK_BYTES - 1) c.peek_bytes-bytes.result _ (word_bytes word) c.peek_bytes-bytes.ensures (omega arith) (c.in_err-last.ensures.kept ∙ front.carried) (ap (λ (p : Pending). p.taken) front.sent))
+
+pub returns-in_err-arrived-in-Ok-Some-clause-broken : goal.returns-in_err-arrived-in-Ok-Some-clause-broken
+returns-in_err-arrived-in-Ok-Some-clause-broken g c =
+    let p = err_from_is_err_and c.from_residual-in_err-arrived-in-Ok-Some.result c.from_residual-in_err-arrived-in-Ok-Some.ensures.1 in
+    let a = c.args.address in
+    let read = g.S.WordStore.read_gives in
+    let f = rw c.in-Ok-Some.field-0-is at c.in-Ok-Some.ensures.step in
+    let text : c.send_front.new.answerer.bytes ++ c.in_ok-last.last ∷ [] ≡ spell (Peek a) = search rules in
+    let same : c.send_front.new.store ≡ c.args.store.now = search rules in
+    let carried : g.W.Wire.carried c.carry.new.self ≡ g.W.Wire.carried c.args.wire.now ++ spell (Peek a) = search (rules, append_assoc) in
+    let taken : c.feed.new.self.taken ≡ c.args.answerer.now.taken ++ spell (Peek a) = search (rules, append_assoc) in
+    let reply = replied read g.S.WordStore.write_gives c.send_front.new.answerer c.feed.new.self c.send_front.new.store c.feed.new.store c.in_ok-last.last a c.in-Ok-Some.reply c.ranges.address.fits f text in
+    rw (p.1) (λ word is.
+    let bytes = reply word (ap (λ (x : _). read x a) same ∙ is) in
+    within_reply g.W.Wire.carried _ _ _ _ (spell (Peek a)) (word_bytes word) (g.W.Wire.carried c.carry.new.self) carried (subst (λ (xs : List ℕ). IsCut xs (g.W.Wire.carried c.carry.new.self) (g.W.Wire.carried c.carry_back.new.wire)) bytes c.in_err-arrived-in-Ok-Some.ensures.broken) taken)
