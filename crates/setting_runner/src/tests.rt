@@ -631,6 +631,8 @@ struct HeldLine<'a> {
 impl<'a> Wire for HeldLine<'a> {
     ghost failures = { λ _. 0 };
 
+    ghost carried = { λ line. line.plain };
+
     ghost never_fails = { λ _. Unit {0} };
 
     fn carry(&mut self, byte: u8) -> Result<u8, WireFault> {
