@@ -10,7 +10,7 @@ work=$(mktemp -d)
 trap 'rm -rf "$work"' EXIT
 
 mkdir -p "$work/crates"
-crates="link_bytes failure_count batch module_memory peek_poke"
+crates="link_bytes failure_count passed_bytes batch module_memory peek_poke"
 for crate in $crates; do
     cp -a "$top/crates/$crate" "$work/crates/"
     grep "^$crate:" "$top/crates.txt" >>"$work/crates.txt"
@@ -18,7 +18,7 @@ done
 mkdir -p "$work/crates/wire_speed/src" "$work/crates/wire_speed/specs" "$work/crates/wire_speed/proofs"
 cp "$here/wire_speed.rattle" "$work/crates/wire_speed/src/main.rt"
 touch "$work/crates/wire_speed/specs/Lib.antt" "$work/crates/wire_speed/proofs/Lib.antt"
-echo "wire_speed: batch module_memory peek_poke" >>"$work/crates.txt"
+echo "wire_speed: passed_bytes batch module_memory peek_poke" >>"$work/crates.txt"
 
 cd "$work/crates/wire_speed"
 rt run
