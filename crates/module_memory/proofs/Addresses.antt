@@ -29,10 +29,10 @@ both true true e = (refl, refl)
 both true false e = absurd (cc)
 both false c e = absurd (cc)
 
-by_four : (x : ℕ) → (WINDOW_START + WORD_BYTES * x - WINDOW_START) / WORD_BYTES ≡ x
+pub by_four : (x : ℕ) → (WINDOW_START + WORD_BYTES * x - WINDOW_START) / WORD_BYTES ≡ x
 by_four x = omega arith
 
-four_divides : (x : ℕ) → (WINDOW_START + WORD_BYTES * x) % WORD_BYTES ≡ 0
+pub four_divides : (x : ℕ) → (WINDOW_START + WORD_BYTES * x) % WORD_BYTES ≡ 0
 four_divides x = omega arith
 
 back_by_four : (a : ℕ) → WINDOW_START ≤ a → a % WORD_BYTES ≡ 0 → a ≡ WINDOW_START + WORD_BYTES * word_number a
