@@ -5,15 +5,10 @@ use Rattle.batch.specs.Extent.{Extent}
 use Rattle.module_memory.specs.declared.address.TheConstants.{WINDOW_START, WORD_BYTES}
 use Rattle.module_memory.specs.Lending.{BlockAt}
 use Rattle.module_memory.specs.Address.{word_number, address_of}
+use Rattle.module_memory.proofs.Addresses.{by_four, four_divides}
 use Rattle.peek_poke.specs.Blocks.{word_in, then_do, with_word, WordsAreRead, WordsAreWritten, OthersAreOutside}
 use Rattle.peek_poke.specs.declared.fault.StoreFault.{StoreFault}
 use Rattle.peek_poke.specs.declared.fault.StoreFault.TheVariants.{Outside}
-
-by_four : (x : ℕ) → (WINDOW_START + WORD_BYTES * x - WINDOW_START) / WORD_BYTES ≡ x
-by_four x = omega arith
-
-four_divides : (x : ℕ) → (WINDOW_START + WORD_BYTES * x) % WORD_BYTES ≡ 0
-four_divides x = omega arith
 
 -- what is known of the address of word j of any block of the module
 record Found (s : Extent) (b : BlockAt) (block j : ℕ) : Type 0 where

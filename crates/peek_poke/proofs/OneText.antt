@@ -4,7 +4,7 @@ use Rattle.std.specs.List.{flat_map}
 use Rattle.std.proofs.lemmas.List.{append_cancel_left}
 use Rattle.std.proofs.lemmas.List.Elements.{All-head, All-tail}
 use Rattle.std.proofs.Math.Seq.{take-append_seam}
-use Rattle.peek_poke.specs.declared.message.TheConstants.{POKE, PEEK}
+use Rattle.peek_poke.specs.declared.message.TheConstants.{POKE, PEEK, REPLY_BYTES}
 use Rattle.peek_poke.specs.declared.message.Message.{Message}
 use Rattle.peek_poke.specs.declared.message.Message.TheVariants.{Poke, Peek}
 use Rattle.peek_poke.specs.Messages.{word_bytes, spell, IsMessage, IsPartial, OneReading}
@@ -13,7 +13,7 @@ use Rattle.peek_poke.proofs.WholeText.{same_words}
 -- the bytes of two words at the front of a list
 same_front : (a b : ℕ) (x y : List ℕ) → a < 2 ^ 32 → b < 2 ^ 32 → word_bytes a ++ x ≡ word_bytes b ++ y → (a ≡ b) × (x ≡ y)
 same_front a b x y h k e =
-    let bytes : word_bytes a ≡ word_bytes b = sym (take-append_seam (word_bytes a) x) ∙ ap (take 4) e ∙ take-append_seam (word_bytes b) y in
+    let bytes : word_bytes a ≡ word_bytes b = sym (take-append_seam (word_bytes a) x) ∙ ap (take REPLY_BYTES) e ∙ take-append_seam (word_bytes b) y in
     (same_words a b h k bytes, append_cancel_left (word_bytes b) x y (ap (λ (z : List ℕ). z ++ x) (sym bytes) ∙ e))
 
 two_words : (a v : ℕ) (x : List ℕ) → (word_bytes a ++ word_bytes v) ++ x ≡ word_bytes a ++ (word_bytes v ++ x)

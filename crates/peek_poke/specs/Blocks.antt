@@ -3,18 +3,29 @@
 use Rattle.std.specs.Prelude.{ℕ, ◌≡◌, ◌≢◌, ◌<◌, ◌/◌, ◌%◌, ◌&&◌, ◌==◌, Bool, nat_lt, nat_le, length, slice_index, slice_set, Result, Ok, Err, if◌then◌else◌}
 use Rattle.batch.specs.Extent.{Extent}
 use Rattle.module_memory.specs.declared.address.TheConstants.{WINDOW_START, WORD_BYTES}
+use Rattle.batch.specs.Places.{HasPlace}
+use Rattle.batch.specs.declared.transfer.Place.{Place}
+use Rattle.module_memory.specs.Store.{Store, block_of}
 use Rattle.module_memory.specs.Lending.{BlockAt}
 use Rattle.module_memory.specs.Address.{address_of, word_number}
 use Rattle.peek_poke.specs.declared.fault.StoreFault.{StoreFault}
 use Rattle.peek_poke.specs.declared.fault.StoreFault.TheVariants.{Misaligned, Outside}
 
--- the address is that of a word of the block
+-- the address lies in the block, whether it is aligned or not
 abbrev pub is_in_block : BlockAt → ℕ → Bool
 is_in_block b a = nat_le WINDOW_START a && nat_lt 0 (length b.words) && (word_number a / length b.words == b.place.block)
 
 -- which word of a block an address is
 abbrev pub word_in : BlockAt → ℕ → Result ℕ StoreFault
 word_in b a = if a % WORD_BYTES == 0 then (if is_in_block b a then Ok (word_number a % length b.words) else Err Outside) else Err Misaligned
+
+-- each block at this number of its module, with so many words, has this word at the address, or this fault
+abbrev pub IsWordOf : ℕ → ℕ → ℕ → Result ℕ StoreFault → Type 0
+IsWordOf block words address result = (b : BlockAt) → b.place.block ≡ block → length b.words ≡ words → result ≡ word_in b address
+
+-- the store has the place, and the block there isn't lent
+abbrev pub HasBlock : Store → Place → Type 0
+HasBlock s p = HasPlace s.shape p × (length (block_of s p) ≡ s.shape.words)
 
 -- something done with a word that is there
 abbrev pub then_do : {A B : Type 0} → Result A StoreFault → (A → B) → Result B StoreFault

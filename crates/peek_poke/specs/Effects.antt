@@ -1,6 +1,6 @@
 -- What messages do to a store, and how they are taken byte by byte: INMOS IMS T414 data sheet, peek and poke over a link. The refusals,
 -- and that an answering end which refused has failed, are this project's choice.
-use Rattle.std.specs.Prelude.{ℕ, ◌≡◌, ◌<◌, ◌^◌, ◌⊎◌, List, [], ◌∷◌, ◌++◌, true, false, Option, Some, None, Result, Ok, Err, MatchResult, All, option_to_list}
+use Rattle.std.specs.Prelude.{ℕ, ◌≡◌, ◌<◌, ◌^◌, ◌⊎◌, List, [], ◌∷◌, ◌++◌, true, false, Option, Some, None, Result, Ok, Err, IfOk, MatchResult, All, option_to_list}
 use Rattle.std.specs.List.{flat_map}
 use Rattle.peek_poke.specs.declared.message.TheConstants.{PEEK}
 use Rattle.peek_poke.specs.declared.message.Message.{Message}
@@ -42,6 +42,11 @@ pub record HasAnswered {S : Type 0} (read : Reads S) (write : Writes S) (s : S) 
   pub partial : IsPartial end.bytes
   pub alive : end.failed ≡ false
   pub did : DoAll read write s messages answers t
+
+-- whatever came before, from whatever store on, the byte is the next one of that text
+abbrev pub Continues : {S : Type 0} → Reads S → Writes S → Pending → S → ℕ → Result (Option (List ℕ)) AnswerFault → Pending → S → Type 0
+Continues {S} read write old s byte result new t = (first : S) (text : List ℕ) (answers : List (List ℕ)) → HasAnswered read write first text answers old s
+    → IfOk result (λ answer. HasAnswered read write first (text ++ byte ∷ []) (answers ++ option_to_list answer) new t)
 
 -- the byte leaves less than a whole message, and nothing happens
 pub record Waits {S : Type 0} (old : Pending) (s : S) (byte : ℕ) (answer : Option (List ℕ)) (new : Pending) (t : S) : Type 0 where

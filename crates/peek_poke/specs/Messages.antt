@@ -1,5 +1,5 @@
 -- The messages to an answering end and their bytes: INMOS IMS T414 data sheet, peek and poke over a link.
-use Rattle.std.specs.Prelude.{ℕ, ◌≡◌, ◌<◌, ◌+◌, ◌^◌, ◌⊎◌, List, [], ◌∷◌, ◌++◌, length, Bool, false, All}
+use Rattle.std.specs.Prelude.{ℕ, ◌≡◌, ◌<◌, ◌+◌, ◌^◌, ◌⊎◌, List, [], ◌∷◌, ◌++◌, length, take, Bool, false, All}
 use Rattle.std.specs.Int.{to_le_bytes}
 use Rattle.std.specs.List.{flat_map}
 use mir.Syntax.{w32}
@@ -25,6 +25,10 @@ IsMessage (Peek address) = address < 2 ^ 32
 abbrev pub IsPartial : List ℕ → Type 0
 IsPartial [] = Unit {0}
 IsPartial (control ∷ bytes) = ((control ≡ POKE) × (length bytes + 1 < POKE_BYTES)) ⊎ ((control ≡ PEEK) × (length bytes + 1 < PEEK_BYTES))
+
+-- the bytes at the front of a message's buffer, so many, are less than a whole message
+abbrev pub IsBegun : List ℕ → ℕ → Type 0
+IsBegun buffer count = IsPartial (take count buffer) × (count < POKE_BYTES) × (length buffer ≡ POKE_BYTES)
 
 -- an answering end: whether it has failed, what has come of the next message, and all bytes that it was handed
 pub record Pending : Type 0 where

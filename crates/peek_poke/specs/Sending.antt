@@ -4,9 +4,10 @@ use Rattle.peek_poke.specs.Messages.{Pending}
 
 -- only a proper front of the bytes has come behind those before
 abbrev pub IsCut : List ℕ → List ℕ → List ℕ → Type 0
-IsCut bytes before after = (count : ℕ) × (count < length bytes) × (after ≡ before ++ take count bytes)
+IsCut bytes old new = (count : ℕ) × (count < length bytes) × (new ≡ old ++ take count bytes)
 
--- a wire that failed: it carried a proper front of a message and its reply, and what this has of the message was handed to the answering end
+-- a wire that failed: it carried a proper front of a message and its reply, and what is of the message in
+-- this was handed to the answering end
 pub record IsBrokenOff {W : Type 0} (carried : W → List ℕ) (message reply : List ℕ) (wire wire_then : W) (end end_then : Pending) : Type 0 where
   pub count : ℕ
   pub proper : count < length (message ++ reply)

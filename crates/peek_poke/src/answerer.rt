@@ -2,7 +2,7 @@
 
 ghost use Rattle.std.specs.Prelude.{◌≡◌, ℕ, ◌≤◌, ◌↔◌, List, [], ◌∷◌, ◌++◌, true, false, IsTrue, IfOk, MatchResult, option_to_list};
 ghost use Rattle.peek_poke.specs.Messages.{IsAtRest, IsPartial, rest_after};
-ghost use Rattle.peek_poke.specs.Effects.{Does, Feeds, HasAnswered, IsRefused};
+ghost use Rattle.peek_poke.specs.Effects.{Continues, Does, Feeds, IsRefused};
 
 use crate::fault::{AnswerFault, StoreFault};
 use crate::message::{Message, PEEK, PEEK_BYTES, POKE, POKE_BYTES, REPLY_BYTES, message_in};
@@ -23,15 +23,14 @@ pub struct Answerer {
 }
 
 impl Model for Answerer {
-    ghost use Rattle.std.specs.Prelude.{take, length, ◌<◌, ◌≡◌};
-    ghost use Rattle.peek_poke.specs.declared.message.TheConstants.{POKE_BYTES};
-    ghost use Rattle.peek_poke.specs.Messages.{IsPartial, Pending};
+    ghost use Rattle.std.specs.Prelude.{take};
+    ghost use Rattle.peek_poke.specs.Messages.{IsBegun, Pending};
 
     ghost Value = { Pending };
 
     ghost view = { λ a. record { failed = a.failed; bytes = take a.len a.bytes; taken = a.taken } };
 
-    ghost invariant = { λ a. IsPartial (take a.len a.bytes) × (a.len < POKE_BYTES) × (length a.bytes ≡ POKE_BYTES) };
+    ghost invariant = { λ a. IsBegun a.bytes a.len };
 }
 
 impl Message {
@@ -39,7 +38,8 @@ impl Message {
     fn act<S: WordStore>(self, store: &mut S) -> Result<Option<[u8; REPLY_BYTES]>, StoreFault>
         ensures { MatchResult result
             (λ answer. Does S.read_gives S.write_gives store.old self answer store.new)
-            (λ fault. IsRefused S.read_gives S.write_gives store.old self fault × (store.new ≡ store.old)) }
+            (λ fault. IsRefused S.read_gives S.write_gives store.old self fault
+                × (store.new ≡ store.old)) }
     {
         match self {
             Message::Poke { address, word } => {
@@ -86,10 +86,11 @@ impl Answerer {
         byte: u8,
     ) -> Result<Option<[u8; REPLY_BYTES]>, AnswerFault>
         // This byte, with what came before it of its message.
-        ensures step { Feeds S.read_gives S.write_gives self.old store.old byte result self.new store.new }
+        ensures step { Feeds S.read_gives S.write_gives
+            self.old store.old byte result self.new store.new }
         // This byte as the end of all that has come, from whatever store on.
-        ensures text { (first : S) (text : List ℕ) (answers : List (List ℕ)) → HasAnswered S.read_gives S.write_gives first text answers self.old store.old
-            → IfOk result (λ answer. HasAnswered S.read_gives S.write_gives first (text ++ byte ∷ []) (answers ++ option_to_list answer) self.new store.new) }
+        ensures text { Continues S.read_gives S.write_gives
+            self.old store.old byte result self.new store.new }
         ensures partial { IsPartial self.old.bytes × IsPartial self.new.bytes }
         ensures taken { self.new.taken ≡ self.old.taken ++ byte ∷ [] }
     {
@@ -102,7 +103,8 @@ impl Answerer {
         store: &mut S,
         byte: u8,
     ) -> Result<Option<[u8; REPLY_BYTES]>, AnswerFault>
-        ensures step { Feeds S.read_gives S.write_gives self.old store.old byte result self.new store.new }
+        ensures step { Feeds S.read_gives S.write_gives
+            self.old store.old byte result self.new store.new }
         ensures partial { IsPartial self.old.bytes × IsPartial self.new.bytes }
         ensures taken { self.new.taken ≡ self.old.taken ++ byte ∷ [] }
     {

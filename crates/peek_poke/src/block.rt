@@ -1,10 +1,9 @@
 //! A block of a module as a store of its own.
 
-ghost use Rattle.std.specs.Prelude.{◌≡◌, ℕ, ◌<◌, List, length, Result, MatchResult};
-ghost use Rattle.batch.specs.declared.transfer.Place.{Place as PlaceValue};
+ghost use Rattle.std.specs.Prelude.{◌≡◌, ◌<◌, length, MatchResult};
 ghost use Rattle.batch.specs.Places.{HasPlace};
 ghost use Rattle.module_memory.specs.Store.{block_of};
-ghost use Rattle.peek_poke.specs.Blocks.{word_in, block_read, block_write, no_write};
+ghost use Rattle.peek_poke.specs.Blocks.{IsWordOf, block_read, block_write, no_write};
 
 use crate::fault::StoreFault;
 use crate::store::WordStore;
@@ -15,7 +14,7 @@ use std::marker::Model;
 /// Which word of a block an address is: the block stands at this number in its module, and each block of
 /// the module has so many words.
 fn word_in_block(block: usize, words: usize, address: u32) -> Result<usize, StoreFault>
-    ensures word { (p : PlaceValue) (ws : List ℕ) → p.block ≡ block → length ws ≡ words → result ≡ word_in (record { place = p; words = ws }) address }
+    ensures word { IsWordOf block words address result }
     ensures below { MatchResult result (λ j. j < words) (λ _. Unit {0}) }
 {
     if address % WORD_BYTES != 0 {
@@ -57,16 +56,15 @@ pub struct RestStore<'a> {
 }
 
 impl<'a> Model for RestStore<'a> {
-    ghost use Rattle.std.specs.Prelude.{◌≡◌, length};
-    ghost use Rattle.batch.specs.Places.{HasPlace};
     ghost use Rattle.module_memory.specs.Store.{block_of};
     ghost use Rattle.module_memory.specs.Lending.{BlockAt};
+    ghost use Rattle.peek_poke.specs.Blocks.{HasBlock};
 
     ghost Value = { BlockAt };
 
     ghost view = { λ s. record { place = s.place; words = block_of s.rest.now s.place } };
 
-    ghost invariant = { λ s. HasPlace s.rest.now.shape s.place × (length (block_of s.rest.now s.place) ≡ s.rest.now.shape.words) };
+    ghost invariant = { λ s. HasBlock s.rest.now s.place };
 }
 
 impl<'a> RestStore<'a> {

@@ -23,7 +23,8 @@ impl Model for FuseWire {
 
     ghost Value = { Fuse };
 
-    ghost view = { λ wire. record { left = wire.left; failures = wire.failed; carried = wire.plain } };
+    ghost view = { λ wire.
+        record { left = wire.left; failures = wire.failed; carried = wire.plain } };
 }
 
 impl FuseWire {

@@ -31,7 +31,8 @@ impl Window {
     /// The module of this number, where the rack has it; else the rack comes back as it was.
     pub fn of(rack: Rack, number: usize) -> Result<Window, Rack>
         ensures { MatchResult result
-            (λ window. (number < rack.shape.modules) × (window ≡ record { store = rack; number = number }))
+            (λ window. (number < rack.shape.modules)
+                × (window ≡ record { store = rack; number = number }))
             (λ back. (number < rack.shape.modules → ⊥) × (back ≡ rack)) }
     {
         if number < rack.shape().modules() {
