@@ -11,7 +11,8 @@ use failure_count::FailureCount;
 use std::marker::Model;
 
 /// An honest port to a switch in memory, which takes so many bytes over all its calls. A call with more
-/// bytes than are left fails, and so does each call after it. It takes no memory.
+/// bytes than are left fails, and so does each call after it. It takes no memory. Such a port is this
+/// project's own, and shows what a failing port leaves.
 #[derive(Drop)]
 pub struct FusePort {
     crossbar: Crossbar,

@@ -40,7 +40,8 @@ pub trait ConfigPort {
         ensures honesty { honest self.new ≡ honest self.old };
 }
 
-/// A port to a switch in memory. It is honest and never fails. Contracts see its switch.
+/// A port to a switch in memory (INMOS IMS C004 data sheet). It is honest and never fails. Contracts see
+/// its switch.
 #[derive(Debug, Drop)]
 pub struct MemoryPort {
     crossbar: Crossbar,
