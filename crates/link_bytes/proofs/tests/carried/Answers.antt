@@ -1,6 +1,7 @@
-use Rattle.std.proofs.Common.{◌≡◌, ◌<◌, ◌+◌, ℕ, Bool, true, false, true≢false, List, [], ◌∷◌, ◌++◌, get_or, length, take, sym, ap, ◌∙◌, subst, arith, Option, None, Some}
+use Rattle.std.proofs.Common.{◌≡◌, ◌<◌, ◌+◌, ◌-◌, ℕ, Bool, true, false, true≢false, List, [], ◌∷◌, ◌++◌, get_or, length, take, sym, ap, ◌∙◌, subst, arith, Option, None, Some}
 use Rattle.std.specs.Option.{is_some}
 use Rattle.std.proofs.lemmas.List.{take_more, take_all}
+use Rattle.link_bytes.specs.declared.packet.TheConstants.{FRAME_BITS}
 use Rattle.link_bytes.specs.declared.packet.Packet.{Packet}
 use Rattle.link_bytes.specs.declared.packet.Packet.TheVariants.{Byte}
 use Rattle.link_bytes.specs.Line.{packet_bits, IsLine}
@@ -25,24 +26,24 @@ last packet bits k e len line =
 
 pub returns-in_err-given : goal.returns-in_err-given
 returns-in_err-given c =
-    let line = before_last (Byte c.args.b) c.frame-bits.result c.loop-k.k 11 c.loop-k.invariant.bits (c.frame_size.ensures c.args.b) (omega arith) (c.one_packet.ensures.before (Byte c.args.b) (c.loop-k.k + 1) (search arith)) in
+    let line = before_last (Byte c.args.b) c.frame-bits.result c.loop-k.k FRAME_BITS c.loop-k.invariant.bits (c.frame_size.ensures c.args.b) (omega arith) (c.one_packet.ensures.before (Byte c.args.b) (c.loop-k.k + 1) (search arith)) in
     let quiet = (c.feed.ensures.step _ _ None c.loop-k.invariant.fed).0 line in
     absurd (cc (quiet.0, c.in_err-given.was))
 
 pub returns-then-is_some : goal.returns-then-is_some
 returns-then-is_some c =
-    let line = before_last (Byte c.args.b) c.frame-bits.result c.loop-k.k 11 c.loop-k.invariant.bits (c.frame_size.ensures c.args.b) (omega arith) (c.one_packet.ensures.before (Byte c.args.b) (c.loop-k.k + 1) (search arith)) in
+    let line = before_last (Byte c.args.b) c.frame-bits.result c.loop-k.k FRAME_BITS c.loop-k.invariant.bits (c.frame_size.ensures c.args.b) (omega arith) (c.one_packet.ensures.before (Byte c.args.b) (c.loop-k.k + 1) (search arith)) in
     let quiet = (c.feed.ensures.step _ _ None c.loop-k.invariant.fed).0 line in
     let none : c.in_ok-given.given ≡ None = cc (quiet.0, c.in_ok-given.was) in
     absurd (true≢false (subst (λ (given : Option Packet). true ≡ is_some given) none c.if-is_some.ensures))
 
 pub loop-k-preserved : goal.loop-k-preserved
 loop-k-preserved c =
-    let line = before_last (Byte c.args.b) c.frame-bits.result c.loop-k.k 11 c.loop-k.invariant.bits (c.frame_size.ensures c.args.b) (omega arith) (c.one_packet.ensures.before (Byte c.args.b) (c.loop-k.k + 1) (search arith)) in
+    let line = before_last (Byte c.args.b) c.frame-bits.result c.loop-k.k FRAME_BITS c.loop-k.invariant.bits (c.frame_size.ensures c.args.b) (omega arith) (c.one_packet.ensures.before (Byte c.args.b) (c.loop-k.k + 1) (search arith)) in
     record { bits = c.loop-k.invariant.bits; fed = ((c.feed.ensures.step _ _ None c.loop-k.invariant.fed).0 line).1 }
 
 pub returns : goal.returns
 returns c =
-    let k : c.loop-k.k ≡ 10 = omega arith in
+    let k : c.loop-k.k ≡ FRAME_BITS - 1 = omega arith in
     let line = last (Byte c.args.b) c.frame-bits.result c.loop-k.k c.loop-k.invariant.bits (let l = c.frame_size.ensures c.args.b in omega arith) (c.one_packet.ensures.whole (Byte c.args.b) (search arith)) in
     ((c.feed-2.ensures.step _ [] (Some (Byte c.args.b)) c.loop-k.invariant.fed).0 (subst (λ i. IsLine (take c.loop-k.k c.frame-bits.result ++ get_or c.frame-bits.result i false ∷ []) (Byte c.args.b ∷ []) []) k line)).0
