@@ -5,6 +5,9 @@ use Rattle.crossbar.proofs.fuse.FusePortConfigPort.exchange.Goals as goal
 pub carry_whole-requires : goal.carry_whole-requires
 carry_whole-requires c = front_of_exchange c.args.bytes.now _ _ c.requires
 
+pub returns-then-bytes-left-clause-left : goal.returns-then-bytes-left-clause-left
+returns-then-bytes-left-clause-left c = search rules
+
 pub returns-clause-within : goal.returns-clause-within
 returns-clause-within c = search rules
 
