@@ -79,6 +79,10 @@ IsFirstCheckFault batch settings named NoMemory = ⊥
 
 -- ---- what the checker answers
 
+-- no memory was to be had
+abbrev pub IsWantOfMemory : CheckFault → Type 0
+IsWantOfMemory fault = fault ≡ NoMemory
+
 -- a fault that isn't want of memory is the first
 abbrev pub IsFirstUnlessMemory : List Transfer → List (List ℕ) → Naming → CheckFault → Type 0
 IsFirstUnlessMemory batch settings named fault = fault ≢ NoMemory → IsFirstCheckFault batch settings named fault

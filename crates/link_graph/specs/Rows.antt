@@ -22,3 +22,6 @@ two_settings_text = codes "settings 2\nsetting 0 2\nsetting 1\n"
 
 abbrev pub certified_text : List ℕ
 certified_text = codes "settings 2\nsetting 0 2\nsetting 1\nbusiest link 0 module 0\nnamed 0 1\n"
+
+abbrev pub empty_text : List ℕ
+empty_text = codes "settings 0\nbusiest none\n"

@@ -1,7 +1,9 @@
 -- The text of a schedule, and what a text says. The form is this project's choice.
 use Rattle.std.specs.Prelude.{◌≡◌, ℕ, List, [], ◌∷◌, ◌++◌, length, map, All, Option, Some, None, IfSome, codes, String, string_bytes}
+use Rattle.std.specs.Borrow.{Bor}
 use Rattle.std.specs.Global.{Global}
 use Rattle.std.specs.List.{flat_map}
+use Rattle.std.specs.Option.{option_copied}
 use Rattle.std.specs.Fmt.{decimal}
 use Rattle.batch.specs.Text.{IsNumber, line_feed}
 use Rattle.link_graph.specs.declared.link.End.{End}
@@ -89,6 +91,10 @@ said_text s = text_of (said_lines s)
 -- the one text of the settings, with what the certificate part names where there is that part
 abbrev pub text_with : List (List ℕ) → Option Naming → List ℕ
 text_with settings certificate = said_text (said settings certificate)
+
+-- the same where the certificate is lent
+abbrev pub text_lent : List (List ℕ) → Option (Bor Naming) → List ℕ
+text_lent settings certificate = text_with settings (option_copied certificate)
 
 -- the new text is the old with these lines at its end
 abbrev pub GrowsBy : String Global → String Global → List (List ℕ) → Type 0

@@ -7,7 +7,7 @@ ghost use Rattle.link_graph.specs.Uses.{Uses, IsMatching};
 ghost use Rattle.link_graph.specs.Schedules.{lists_of, IsScheduleOf};
 ghost use Rattle.link_graph.specs.Certificates.{naming, AreDistinct, IsShortest, IsCertificate, IsCertified};
 ghost use Rattle.link_graph.specs.Tables.{AreCounts};
-ghost use Rattle.link_graph.specs.Checks.{IsFirstWithout, IsFirstRepeated, IsFirstMissing, IsFirstClash, AreKnown, UsesNamed, IsFirstUnlessMemory, IsSettingsFault, CertifiesCount, IsNamingFault};
+ghost use Rattle.link_graph.specs.Checks.{IsFirstWithout, IsFirstRepeated, IsFirstMissing, IsFirstClash, AreKnown, UsesNamed, IsWantOfMemory, IsFirstUnlessMemory, IsSettingsFault, CertifiesCount, IsNamingFault};
 ghost use Rattle.link_graph.specs.Marks.{AreMarks};
 
 use crate::certificate::Certificate;
@@ -75,9 +75,9 @@ fn check_certificate(
 /// Whether this is a schedule of the batch, and the certificate shows that none is shorter.
 ///
 /// Answers what is first wrong, in the order in which [`CheckFault`] lists the faults. Memory is
-/// asked for once, one mark for each transfer, and not before all numbers are known. Takes time that
-/// grows with the numbers of transfers, of settings and of all that stands in the settings and in
-/// the certificate.
+/// asked for once, one mark for each transfer, and not before all numbers are known. Takes time
+/// that grows with the numbers of transfers, of settings and of all that stands in the settings and
+/// in the certificate.
 pub fn check_schedule(
     alloc: Global,
     batch: &Batch,
@@ -89,7 +89,7 @@ pub fn check_schedule(
     ensures shortest { OnOk result (IsShortest batch.now schedule.now) }
     ensures settings { IfOk result (λ shortest. shortest.settings ≡ length schedule.now) }
     ensures fault { IfErr result (IsFirstUnlessMemory batch.now schedule.now certificate.now) }
-    ensures accepted { IsCertified batch.now schedule.now certificate.now → IfErr result (λ fault. fault ≡ NoMemory) }
+    ensures accepted { IsCertified batch.now schedule.now certificate.now → IfErr result IsWantOfMemory }
     ensures memory { IfErr result (λ fault. fault ≡ NoMemory → AreKnown batch.now schedule.now) }
 {
     let count = batch.len();

@@ -64,8 +64,8 @@ impl LinkGraph {
         self.batch.len()
     }
 
-    /// The links that transfer `t` uses, where there is such a transfer: first its initiator's link 0,
-    /// then its responder's link 3.
+    /// The links that transfer `t` uses, where there is such a transfer: first its initiator's
+    /// link 0, then its responder's link 3.
     pub fn ends(&self, t: usize) -> Option<(Link, Link)>
         ensures { result ≡ option_map (λ x. (start_link x, answer_link x)) (slice_get self.now t) }
     {
@@ -76,8 +76,8 @@ impl LinkGraph {
         ))
     }
 
-    /// How many transfers use the link, from a table. Equal transfers count apart; a link of a module
-    /// that no rack has is used by none.
+    /// How many transfers use the link, from a table. Equal transfers count apart; a link of a
+    /// module that no rack has is used by none.
     pub fn uses(&self, link: Link) -> usize
         ensures { result ≡ uses self.now link }
     {

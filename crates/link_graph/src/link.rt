@@ -39,7 +39,8 @@ impl End {
 
 /// A link of a module, which may also be a module that no rack has.
 ///
-/// In the order of links all links 0 stand before all links 3, and links of one kind by their modules.
+/// In the order of links all links 0 stand before all links 3, and links of one kind by their
+/// modules.
 #[derive(Clone, Copy, Debug, PartialEq, Eq, PartialOrd, Ord)]
 pub struct Link {
     pub end: End,

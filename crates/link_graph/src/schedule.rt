@@ -1,7 +1,7 @@
 ghost use Rattle.std.specs.Prelude.{◌≡◌, ◌↔◌, [], length, IsTrue, IfOk, IfErr, slice_get, option_map};
 ghost use Rattle.std.specs.Option.{option_copied};
 ghost use Rattle.link_graph.specs.Schedules.{lists_of};
-ghost use Rattle.link_graph.specs.ScheduleText.{said, text_with, Says, CanSpell, CanName};
+ghost use Rattle.link_graph.specs.ScheduleText.{said, text_lent, Says, CanSpell, CanName};
 ghost use Rattle.link_graph.specs.ScheduleFaults.{IsFaultOf};
 
 use crate::certificate::Certificate;
@@ -87,7 +87,7 @@ impl Schedule {
     pub fn write(&self, certificate: Option<&Certificate>) -> Result<Vec<u8>, AllocError>
         requires settings { CanSpell self.now }
         requires named { CanName (option_copied certificate) }
-        ensures { IfOk result (λ text. text.items ≡ text_with self.now (option_copied certificate.entry)) }
+        ensures { IfOk result (λ text. text.items ≡ text_lent self.now certificate.entry) }
     {
         let mut text = writing::settings_text(*self.lists.allocator(), self.lists.as_slice())?;
         if let Some(certificate) = certificate {

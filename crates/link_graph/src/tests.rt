@@ -2,7 +2,7 @@ ghost use Rattle.std.specs.Prelude.{◌≡◌, [], ◌∷◌, codes, Some, None,
 ghost use Rattle.batch.specs.Rows.{three_transfers};
 ghost use Rattle.link_graph.specs.Uses.{IsMatching};
 ghost use Rattle.link_graph.specs.Certificates.{naming};
-ghost use Rattle.link_graph.specs.Rows.{two_settings, two_named, two_settings_text, certified_text};
+ghost use Rattle.link_graph.specs.Rows.{two_settings, two_named, two_settings_text, certified_text, empty_text};
 ghost use Rattle.link_graph.specs.ScheduleText.{schedule_text, text_with};
 
 use crate::laws::link_order;
@@ -18,7 +18,7 @@ use std::test::Fail;
 fn the_definitions_spell_the_rows()
     ensures three_transfers { schedule_text two_settings ≡ two_settings_text }
     ensures certified { text_with two_settings (Some two_named) ≡ certified_text }
-    ensures empty_batch { text_with [] (Some (naming None [])) ≡ codes "settings 0\nbusiest none\n" }
+    ensures empty_batch { text_with [] (Some (naming None [])) ≡ empty_text }
     ensures no_transfers { schedule_text ([] ∷ []) ≡ codes "settings 1\nsetting\n" }
 {}
 
