@@ -1,6 +1,6 @@
 //! The parts of a schedule text, read from the left.
 
-ghost use Rattle.std.specs.Prelude.{◌≡◌, ◌≢◌, ℕ, ◌<◌, ◌+◌, ◌^◌, [], ◌∷◌, ◌++◌, All, IfSome, IfNone, IfOk, IfErr, length, position, ◌==◌, Some};
+ghost use Rattle.std.specs.Prelude.{◌≡◌, ◌≢◌, ℕ, ◌<◌, ◌+◌, ◌^◌, [], ◌∷◌, ◌++◌, All, IfSome, IfNone, IfOk, IfErr, length, Some};
 ghost use Rattle.std.specs.Fmt.{decimal};
 ghost use Rattle.batch.specs.Text.{IsNumber};
 ghost use Rattle.link_graph.specs.Links.{IsInRack};
@@ -12,22 +12,15 @@ ghost use Rattle.link_graph.specs.ScheduleFaults.{IsLine, IsLineFault, IsFaultBe
 use crate::certificate::Certificate;
 use crate::link::{End, Link};
 use crate::schedule_fault::ScheduleFault;
-use batch::{MAX_MODULES, number_from_digits};
+use batch::{MAX_MODULES, number_from_digits, position_of};
 use std::alloc::Global;
-
-/// Where a byte stands first.
-fn first_place(bytes: &[u8], byte: u8) -> Option<usize>
-    ensures { result ≡ position (λ b. b == byte) bytes.now }
-{
-    bytes.iter().position(|b| *b == byte)
-}
 
 /// The line that the text begins with, without its line feed, and what stands behind it.
 pub(crate) fn next_line(text: &[u8]) -> Option<(&[u8], &[u8])>
     ensures some { IfSome result (λ x. HasFirstLine text.now x.0.now x.1.now) }
     ensures none { IfNone result (IsLine text.now) }
 {
-    let at = first_place(text, b'\n')?;
+    let at = position_of(text, b'\n')?;
     Some((&text[..at], &text[at + 1..]))
 }
 
@@ -37,7 +30,7 @@ fn next_number(words: &[u8]) -> Option<(usize, &[u8])>
     ensures none { IfNone result (AreNoNumbers words.now) }
 {
     let digits = words.strip_prefix(b" ")?;
-    let end = first_place(digits, b' ').unwrap_or(digits.len());
+    let end = position_of(digits, b' ').unwrap_or(digits.len());
     let n = number_from_digits(&digits[..end])?;
     Some((n, &digits[end..]))
 }
