@@ -7,7 +7,7 @@ ghost use Rattle.link_graph.specs.ScheduleText.{schedule_text, text_with};
 
 use crate::laws::link_order;
 use crate::{
-    Certificate, CheckFault, End, Link, LinkGraph, Schedule, ScheduleFault, Shortest,
+    Certificate, CheckFault, End, LINKS, Link, LinkGraph, Schedule, ScheduleFault, Shortest,
     check_schedule,
 };
 use batch::{Batch, BatchFault, Shape};
@@ -96,6 +96,40 @@ fn a_schedule(rt: HostRuntime) -> Result<(), Fail> {
     assert_eq!(rt; schedule.setting(1), Some([1].as_slice()));
     assert_eq!(rt; schedule.iter().count(), 2);
     assert!(rt; !schedule.is_empty());
+    Ok(())
+}
+
+/// Whether the schedules of these settings are equal.
+fn are_equal(alloc: Global, one: &[&[usize]], other: &[&[usize]]) -> Result<bool, AllocError> {
+    let one = schedule_of(alloc, one)?;
+    let other = schedule_of(alloc, other)?;
+    Ok(one == other)
+}
+
+#[test]
+fn schedules_are_compared(rt: HostRuntime) -> Result<(), Fail> {
+    let alloc = rt.alloc();
+    assert!(rt; are_equal(alloc, &[&[0, 2], &[1]], &[&[0, 2], &[1]])?);
+    assert!(rt; !are_equal(alloc, &[&[0, 2], &[1]], &[&[0, 2]])?);
+    assert!(rt; !are_equal(alloc, &[&[0, 2], &[1]], &[&[2, 0], &[1]])?);
+    assert!(rt; !are_equal(alloc, &[&[0], &[1]], &[&[0, 1], &[]])?);
+    Ok(())
+}
+
+/// Whether the certificates that name the first link and these transfers, or none, are equal.
+fn name_the_same(alloc: Global, one: &[usize], other: &[usize]) -> Result<bool, AllocError> {
+    let one = certificate_of(alloc, one)?;
+    let other = certificate_of(alloc, other)?;
+    Ok(one == other)
+}
+
+#[test]
+fn certificates_are_compared(rt: HostRuntime) -> Result<(), Fail> {
+    let alloc = rt.alloc();
+    assert!(rt; name_the_same(alloc, &[0, 1], &[0, 1])?);
+    assert!(rt; name_the_same(alloc, &[], &[])?);
+    assert!(rt; !name_the_same(alloc, &[0, 1], &[0, 2])?);
+    assert!(rt; !name_the_same(alloc, &[0, 1], &[])?);
     Ok(())
 }
 
@@ -347,6 +381,19 @@ fn faults_are_printed(rt: HostRuntime) -> Result<(), Fail> {
         assert_eq!(rt; fault.to_string(rt.alloc())?.as_str(), text);
     }
     Ok(())
+}
+
+#[test]
+fn links_are_counted(rt: HostRuntime) {
+    let last = Link {
+        end: End::Three,
+        module: 15,
+    };
+    assert_eq!(rt; LINKS, 32);
+    assert_eq!(rt; FIRST.index(), 0);
+    assert_eq!(rt; last.index(), 31);
+    assert_eq!(rt; End::Zero.number(), 0);
+    assert_eq!(rt; End::Three.number(), 3);
 }
 
 #[test]
