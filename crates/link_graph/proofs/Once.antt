@@ -1,12 +1,13 @@
 -- Each transfer stands once: told by counts, and by what stands in the settings joined end to end.
 use Rattle.std.proofs.Common.{◌≡◌, ◌≢◌, ℕ, suc, zero, ◌+◌, ◌<◌, ◌≤◌, List, [], ◌∷◌, length, get_or, All, refl, sym, subst, ◌∙◌, arith, inl, inr}
-use Rattle.std.specs.Prelude.{Contains, ◌==◌, count_by}
+use Rattle.std.specs.Prelude.{Contains}
 use Rattle.std.specs.List.{concat}
 use Rattle.std.proofs.lemmas.Bool.Decides.{eqb_tells}
 use Rattle.std.proofs.lemmas.List.Elements.{All-append, All-contains, All-head, All-tail, All-nil, All-cons, Contains-get_or}
 use Rattle.std.proofs.lemmas.List.Sums.{sum_by-cons, sum_by-append}
 use Rattle.batch.specs.declared.transfer.Transfer.{Transfer}
 use Rattle.batch.proofs.Lists.{at_cons}
+pub use Rattle.batch.proofs.Lists.{count_of as standings}
 use Rattle.link_graph.specs.Uses.{IsMatching}
 use Rattle.link_graph.specs.Schedules.{times, IsScheduleOf}
 use Rattle.link_graph.specs.Certificates.{AreDistinct}
@@ -14,10 +15,7 @@ use Rattle.link_graph.specs.Checks.{AreKnown, StandOnce}
 use Rattle.link_graph.proofs.Sums.{hit, hit_same, hit_other, later, first_with}
 use Rattle.link_graph.proofs.Firsts.{all_left, all_right}
 
--- how often t stands in the list
-abbrev pub standings : ℕ → List ℕ → ℕ
-standings t xs = count_by (λ u. u == t) xs
-
+-- `standings t xs` is how often t stands in the list
 standings-cons : (t x : ℕ) (xs : List ℕ) → standings t (x ∷ xs) ≡ hit t x + standings t xs
 standings-cons t x xs = sum_by-cons (hit t) x xs
 

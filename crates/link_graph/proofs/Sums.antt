@@ -1,7 +1,8 @@
 -- Sums over two lists.
-use Rattle.std.proofs.Common.{◌≡◌, ◌≢◌, cond, inl, inr, ℕ, ◌+◌, ◌≤◌, suc, List, [], ◌∷◌, length, refl, sym, arith}
-use Rattle.std.specs.Prelude.{sum_by, AllPairs, All, ◌==◌}
-use Rattle.std.proofs.lemmas.Bool.Decides.{eqb_tells}
+use Rattle.std.proofs.Common.{◌≡◌, ◌≢◌, ℕ, ◌+◌, ◌≤◌, suc, List, [], ◌∷◌, length, refl, sym, arith}
+use Rattle.std.specs.Prelude.{sum_by, AllPairs, All}
+use Rattle.batch.proofs.Lists.{one_same, one_other}
+pub use Rattle.batch.proofs.Lists.{one as hit}
 use Rattle.std.specs.List.{AllByRecursion}
 use Rattle.std.proofs.lemmas.List.Sums.{sum_by-cons}
 
@@ -49,12 +50,9 @@ each P Q f (x ∷ xs) h = (f x h.0, each P Q f xs h.1)
 
 -- ---- a number in a list
 
--- 1 where the two numbers are one
-abbrev pub hit : ℕ → ℕ → ℕ
-hit t u = cond (u == t) 1 0
-
+-- `hit t u` is 1 where the two numbers are one, and else 0
 pub hit_same : (t u : ℕ) → u ≡ t → hit t u ≡ 1
-hit_same t u e = elim (eqb_tells u t) [ inl p ↦ rw p.0 refl | inr p ↦ absurd (p.1 e) ]
+hit_same t u e = one_same t u (sym e)
 
 pub hit_other : (t u : ℕ) → u ≢ t → hit t u ≡ 0
-hit_other t u ne = elim (eqb_tells u t) [ inl p ↦ absurd (ne p.1) | inr p ↦ rw p.0 refl ]
+hit_other t u ne = one_other t u (λ e. ne (sym e))
