@@ -12,13 +12,11 @@ mod classes;
 mod coloured;
 mod fault;
 pub mod laws;
-mod limits;
 mod rows;
 mod table;
 
 pub use coloured::Coloured;
 pub use fault::InsertFault;
-pub use limits::MAX_COLOURS;
 pub use table::Table;
 
 #[cfg(test)]

@@ -14,7 +14,6 @@ ghost use Rattle.alternating_path.specs.Cells.{place_at, AreStarts};
 use crate::classes::classes;
 use crate::coloured::Coloured;
 use crate::fault::InsertFault;
-use crate::limits::MAX_COLOURS;
 use crate::rows::{class_of, class_size, remove_row};
 use batch::{MAX_MODULES, MAX_TRANSFERS};
 use link_graph::{End, LINKS, LinkGraph};
@@ -47,15 +46,14 @@ impl<'a> Model for Table<'a> {
 }
 
 impl<'a> Table<'a> {
-    /// A table with this many colours, at most [`MAX_COLOURS`], in which nothing is placed.
+    /// A table with this many colours, in which nothing is placed.
     ///
     /// Takes time and room that grow with the number of colours.
     pub fn new(alloc: Global, graph: &'a LinkGraph, colours: usize) -> Result<Table<'a>, AllocError>
-        requires { colours ≤ MAX_COLOURS }
         ensures { IfOk result (λ table. table ≡ nothing_placed graph.now colours) }
     {
         prove!(graph.len() <= MAX_TRANSFERS);
-        let cells = vec![in alloc; None; colours * LINKS]?;
+        let cells = vec![in alloc; None; colours.saturating_mul(LINKS)]?;
         Ok(Table {
             graph,
             colours,
@@ -89,14 +87,13 @@ impl<'a> Table<'a> {
     }
 
     /// The two tables in one: the colours of the left table, and behind them those of the right one.
-    /// Both are of one graph, no transfer is placed in both, and together they have at most
-    /// [`MAX_COLOURS`] colours. They are dropped also where there is no memory.
+    /// Both are of one graph, and no transfer is placed in both. They are dropped also where there is
+    /// no memory.
     ///
     /// Takes time that grows with the number of colours.
     pub fn join(left: Table<'a>, right: Table<'a>) -> Result<Table<'a>, AllocError>
         requires one_graph { left.batch ≡ right.batch }
         requires apart { ArePlacedApart left.colour right.colour }
-        requires few { left.colours + right.colours ≤ MAX_COLOURS }
         ensures batch { IfOk result (λ table. table.batch ≡ left.entry.batch) }
         ensures colours { IfOk result (λ table. table.colours ≡ left.entry.colours + right.entry.colours) }
         ensures classes { IfOk result (λ table. (t : ℕ) → colour_at table.colour t ≡ joined_colour left.entry.colours (colour_at left.entry.colour t) (colour_at right.entry.colour t)) }

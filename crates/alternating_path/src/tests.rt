@@ -3,7 +3,7 @@ ghost use Rattle.link_graph.specs.Uses.{AreApart};
 
 use crate::{Coloured, InsertFault, Table};
 use batch::{Batch, Shape};
-use link_graph::LinkGraph;
+use link_graph::{LINKS, LinkGraph};
 use std::alloc::{AllocError, Global};
 use std::test::Fail;
 
@@ -107,6 +107,14 @@ fn three_transfers_in_one_colour(rt: HostRuntime) -> Result<(), Fail> {
     assert_eq!(rt; table.insert(1), Err(InsertFault::NoRoom));
     assert_eq!(rt; table.colour_of(1), None);
     assert_eq!(rt; table.colours(), 1);
+    Ok(())
+}
+
+#[test]
+fn more_colours_than_memory(rt: HostRuntime) -> Result<(), Fail> {
+    let graph = graph(rt.alloc(), b"batch 1\npush 0 0 1 0\n")?;
+    assert!(rt; Table::new(rt.alloc(), &graph, usize::MAX).is_err());
+    assert!(rt; Table::new(rt.alloc(), &graph, usize::MAX / LINKS).is_err());
     Ok(())
 }
 

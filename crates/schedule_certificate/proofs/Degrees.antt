@@ -18,7 +18,7 @@ use Rattle.link_graph.specs.Uses.{start_link, answer_link}
 use Rattle.link_graph.specs.Counts.{uses}
 use Rattle.link_graph.specs.Tables.{AreCounts}
 use Rattle.link_graph.specs.Marks.{members}
-use Rattle.link_graph.proofs.Users.{use_of, use_no, uses_push, uses_few}
+use Rattle.link_graph.proofs.Users.{use_of, use_no, uses_push}
 use Rattle.link_graph.proofs.Tables.{no_counts, modules_of, room_left}
 use Rattle.link_graph.proofs.Sharing.{members_few, some_more}
 use Rattle.euler_split.proofs.Modules.{known_transfer}
@@ -149,12 +149,6 @@ links_of x = let p : Link × Link = (start_link x, answer_link x) in p
 
 some_same : {X : Type 0} (x y : X) → Some x ≡ Some y → x ≡ y
 some_same x y e = cc
-
-pub degree_few : (batch : List Transfer) (part : List ℕ) (d : ℕ) → IsPart batch part → IsBatch batch → IsDegree (members batch part) d → d ≤ MAX_TRANSFERS
-degree_few batch part d is_part fits degree = elim degree.reached [
-  | inl none ↦ omega (arith, none)
-  | inr at ↦ omega (arith, at.1, uses_few (members batch part) at.0, members_few batch part, few (length batch) part is_part.known is_part.distinct, fits.few)
-]
 
 module _ (batch : List Transfer) (part : List ℕ) (i : ℕ) (is_part : IsPart batch part) (fits : IsBatch batch) (within : i < length part) where
   abbrev t : ℕ

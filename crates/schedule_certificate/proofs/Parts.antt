@@ -181,7 +181,7 @@ module _ (batch : List Transfer) (whole left right : List ℕ) (d : ℕ) (t₁ t
     | inr at ↦ omega (arith, at.1, both_uses batch whole left right part s at.0, c₁.is_degree.most at.0, c₂.is_degree.most at.0)
   ]
 
-  pub colours_few : t₁.colours + t₂.colours ≤ d + 1
+  colours_few : t₁.colours + t₂.colours ≤ d + 1
   colours_few = omega (arith, c₁.colours_is, c₂.colours_is, left_degree, right_degree)
 
   few_with : (x r : ℕ) → (d + 1) * x ≤ length whole → (c₁.degree + c₂.degree ≤ d → x ≡ 0) → r ≤ t₁.inserted + t₂.inserted + x → AreFew (length whole) d r

@@ -48,10 +48,8 @@ fn count_degree(graph: &LinkGraph, part: &[usize]) -> usize
 pub(crate) fn degree_of(graph: &LinkGraph, part: &[usize], known: Option<usize>) -> usize
     requires part { IsPart graph.now part.now }
     requires known { IfSome known (IsDegree (members graph.now part.now)) }
-    ensures degree { IsDegree (members graph.now part.now) result }
-    ensures few { result ≤ MAX_TRANSFERS }
+    ensures { IsDegree (members graph.now part.now) result }
 {
-    prove!(graph.len() <= MAX_TRANSFERS);
     match known {
         Some(degree) => degree,
         None => count_degree(graph, part),
