@@ -1,15 +1,15 @@
 -- The classes of a colouring, each where its first number is seen.
 use Rattle.std.proofs.Common.{◌≡◌, ◌≢◌, ℕ, ◌+◌, ◌<◌, ◌≤◌, ◌↔◌, cond, List, [], ◌∷◌, ◌++◌, length, get_or, set, take, replicate, slice_get, All, Option, Some, None, IsSome, is_some, ◌⊎◌, refl, sym, ap, subst, ◌∙◌, arith, inl, inr}
-use Rattle.std.specs.Prelude.{count_by, ◌==◌, AllPairs, Contains}
+use Rattle.std.specs.Prelude.{count_by, AllPairs, Contains}
 use Rattle.std.specs.Global.{Vec}
 use Rattle.std.proofs.lemmas.Bool.{cases_lt, cases_eq, false≢true}
-use Rattle.std.proofs.lemmas.Bool.Decides.{eqb_tells}
 use Rattle.std.proofs.lemmas.Option.{same_Some, none-some, slice_get_within, get_or_from_slice_get}
-use Rattle.std.proofs.lemmas.List.{map-set, map_push, get_or-map, length-set, length_push, length-replicate, get_or_default, get_or_append_left, get_or_push, get_or-set_same, get_or-set_other, get_or-replicate, get_or_past, take_more}
+use Rattle.std.proofs.lemmas.List.{map_push, length-set, length_push, length-replicate, get_or_default, get_or_append_left, get_or_push, get_or-set_same, get_or-set_other, get_or-replicate, get_or_past, take_more}
 use Rattle.std.proofs.lemmas.List.Elements.{All-set, All-push, All-get_or, All-weaker, All-from_get_or, Contains-append_left, Contains-push, Contains-push_cases, Contains-get_or}
 use Rattle.std.proofs.lemmas.List.Quantifiers.{all_pairs_push}
-use Rattle.std.proofs.lemmas.List.Sums.{sum_by-set, sum_by_push}
+use Rattle.std.proofs.lemmas.List.Sums.{sum_by-set}
 use Rattle.batch.specs.declared.transfer.Transfer.{Transfer}
+use Rattle.batch.proofs.Lists.{one, one_same, one_other, times_into, times_alone}
 use Rattle.link_graph.specs.Uses.{IsMatching}
 use Rattle.link_graph.specs.Schedules.{lists_of, times, IsScheduleOf}
 use Rattle.alternating_path.specs.Colouring.{colour_at, IsPlaced, IsProper}
@@ -20,51 +20,13 @@ pub some_is : (o : Option ℕ) → IsSome o → (c : ℕ) × (o ≡ Some c)
 some_is None h = absurd (false≢true h)
 some_is (Some c) h = (c, refl)
 
--- ---- what lies in memory, as lists
-
-pub list_at : (lists : List (Vec ℕ)) (k : ℕ) (v : Vec ℕ) → k < length lists → v ≡ get_or lists k v → get_or (lists_of lists) k [] ≡ v.items
-list_at lists k v lt is = get_or-map (λ w. w.items) lists k v [] lt ∙ ap (λ (w : Vec ℕ). w.items) (sym is)
-
-pub pushed_into : (lists : List (Vec ℕ)) (k t : ℕ) (v w : Vec ℕ) → k < length lists → v ≡ get_or lists k v → w.items ≡ v.items ++ t ∷ [] → lists_of (set lists k w) ≡ set (lists_of lists) k (get_or (lists_of lists) k [] ++ t ∷ [])
-pushed_into lists k t v w lt is pushed =
-    map-set (λ x. x.items) lists k w ∙ ap (λ (x : List ℕ). set (lists_of lists) k x) (pushed ∙ ap (λ (x : List ℕ). x ++ t ∷ []) (sym (list_at lists k v lt is)))
-
-pub pushed_alone : (lists all : List (Vec ℕ)) (t : ℕ) (v : Vec ℕ) → all ≡ lists ++ v ∷ [] → v.items ≡ t ∷ [] → lists_of all ≡ lists_of lists ++ (t ∷ []) ∷ []
-pushed_alone lists all t v pushed is = ap lists_of pushed ∙ map_push (λ x. x.items) lists v ∙ ap (λ (x : List ℕ). lists_of lists ++ x ∷ []) is
+-- ---- settings that are copied one after the other
 
 pub more_copied : (lists all : List (Vec ℕ)) (v : Vec ℕ) (settings : List (List ℕ)) (k : ℕ) → lists_of lists ≡ take k settings → all ≡ lists ++ v ∷ [] → slice_get settings k ≡ Some v.items → lists_of all ≡ take (k + 1) settings
 more_copied lists all v settings k so_far pushed is =
     let lt : k < length settings = slice_get_within settings k v.items is in
     let at : get_or settings k [] ≡ v.items = get_or_from_slice_get settings k v.items [] is in
     ap lists_of pushed ∙ map_push (λ x. x.items) lists v ∙ ap (λ (x : List (List ℕ)). x ++ v.items ∷ []) so_far ∙ ap (λ (x : List ℕ). take k settings ++ x ∷ []) (sym at) ∙ sym (take_more settings k [] lt)
-
--- ---- how often a number stands, after one was put at an end
-
-one : ℕ → ℕ → ℕ
-one u t = cond (t == u) 1 0
-
-one_same : (u t : ℕ) → u ≡ t → one u t ≡ 1
-unfolding one
-one_same u t e = elim (eqb_tells t u) [ inl p ↦ rw p.0 refl | inr p ↦ absurd (p.1 (sym e)) ]
-
-one_other : (u t : ℕ) → u ≢ t → one u t ≡ 0
-unfolding one
-one_other u t ne = elim (eqb_tells t u) [ inl p ↦ absurd (ne (sym p.1)) | inr p ↦ rw p.0 refl ]
-
-count_push : (u t : ℕ) (setting : List ℕ) → count_by (λ x. x == u) (setting ++ t ∷ []) ≡ count_by (λ x. x == u) setting + one u t
-unfolding one
-count_push u t setting = sum_by_push (λ x. cond (x == u) 1 0) setting t
-
-times_into : (u t k : ℕ) (settings : List (List ℕ)) → k < length settings → times u (set settings k (get_or settings k [] ++ t ∷ [])) ≡ times u settings + one u t
-times_into u t k settings lt =
-    let changed = sum_by-set (λ s. count_by (λ x. x == u) s) settings k (get_or settings k [] ++ t ∷ []) [] lt in
-    omega (arith, changed, count_push u t (get_or settings k []))
-
-times_alone : (u t : ℕ) (settings : List (List ℕ)) → times u (settings ++ (t ∷ []) ∷ []) ≡ times u settings + one u t
-times_alone u t settings =
-    let pushed : times u (settings ++ (t ∷ []) ∷ []) ≡ times u settings + count_by (λ x. x == u) (t ∷ []) = sum_by_push (λ s. count_by (λ x. x == u) s) settings (t ∷ []) in
-    let single : count_by (λ x. x == u) (t ∷ []) ≡ count_by (λ x. x == u) [] + one u t = count_push u t [] in
-    omega arith
 
 -- ---- the numbers below n stand in their classes
 

@@ -5,7 +5,7 @@ use Rattle.std.specs.List.Sorted.{IsPermutation}
 use Rattle.std.specs.Option.{unwrap_or}
 use Rattle.std.proofs.lemmas.List.{take_more}
 use Rattle.std.proofs.lemmas.List.Elements.{All-head, All-tail}
-use Rattle.std.proofs.lemmas.List.Sorted.{IsPermutation-refl, IsPermutation-sym, IsPermutation-middle, IsPermutation-to_front, IsPermutation-push_more, All-permutation, sum_by-IsPermutation}
+use Rattle.std.proofs.lemmas.List.Sorted.{IsPermutation-sym, IsPermutation-middle, IsPermutation-to_front, IsPermutation-push_more, All-permutation, sum_by-IsPermutation}
 use Rattle.std.proofs.lemmas.List.Sums.{sum_by-cons, sum_by-append, sum_by_push}
 use Rattle.batch.specs.declared.transfer.Transfer.{Transfer}
 use Rattle.link_graph.specs.declared.link.End.{End}
@@ -55,9 +55,6 @@ uses_passing : (g : List Transfer) (whole ts : List ℕ) (n : ℕ) (link : Link)
 uses_passing g whole ts n link p known dealt = uses_counted g link ts known ∙ dealt (uses_link g link)
 
 -- ---- one more place is dealt
-
-pub none_dealt : (whole : List ℕ) (test : ℕ → Bool) → IsDealt whole 0 test [] []
-none_dealt whole test = record { left_is = λ q. refl; right_is = λ q. refl; parts = IsPermutation-refl [] }
 
 abbrev one : Bool → ℕ
 one b = cond b 1 0

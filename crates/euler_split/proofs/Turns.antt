@@ -1,5 +1,5 @@
 -- A walk from partner to partner, by the two ends in turn, that puts them into the two halves in turn.
-use Rattle.std.proofs.Common.{◌≡◌, ◌≢◌, ℕ, ◌+◌, ◌<◌, ◌⊎◌, inl, inr, List, length, get_or, set, Option, Some, None, IsSome, is_some, IfSome, Bool, true, false, not, refl, sym, ap, ◌∙◌, subst, get_or-set_same, get_or-set_other, below_more}
+use Rattle.std.proofs.Common.{◌≡◌, ◌≢◌, ℕ, ◌+◌, ◌<◌, ◌⊎◌, inl, inr, List, length, get_or, set, Option, Some, None, IsSome, is_some, Bool, true, false, not, refl, sym, ap, ◌∙◌, subst, get_or-set_same, get_or-set_other, below_more}
 use Rattle.std.proofs.lemmas.List.{get_or_past}
 use Rattle.std.proofs.lemmas.Option.{same_Some, none-some}
 use Rattle.std.proofs.lemmas.Bool.{cases_eq, cases_lt, true≢false, false≢true}
@@ -122,9 +122,6 @@ module _ (zs ts : List (Option ℕ)) (pz : ArePairs zs) (pt : ArePairs ts) (s : 
   pub walk_keeps : (h : List (Option Bool)) (v : ℕ) (x : Bool) → half_at h v ≡ None → Keeps h (set h v (Some x))
   walk_keeps h v x out = record { kept = λ u y old. get_or-set_other h v u (Some x) None (differs h u v y old out) ∙ old }
 
-keeps_all : (h : List (Option Bool)) → Keeps h h
-keeps_all h = record { kept = λ u x at. at }
-
 pub keeps_then : (h i j : List (Option Bool)) → Keeps h i → Keeps i j → Keeps h j
 keeps_then h i j a b = record { kept = λ u x at. b.kept u x (a.kept u x at) }
 
@@ -172,10 +169,6 @@ pair_in ps u v pairs at = elim (cases_lt v (length ps)) [
   | inl within ↦ within
   | inr past ↦ absurd (none-some u (sym (get_or_past ps v None past) ∙ pairs.symmetric u v at))
 ]
-
-pub partner_in : (ps : List (Option ℕ)) (u : ℕ) (r : Option ℕ) → ArePairs ps → r ≡ get_or ps u None → IfSome r (λ v. v < length ps)
-partner_in ps u None pairs is = tt
-partner_in ps u (Some v) pairs is = pair_in ps u v pairs (sym is)
 
 pub none_of : {A : Type 0} (o : Option A) → is_some o ≡ false → o ≡ None
 none_of None h = refl

@@ -1,5 +1,5 @@
 -- Counts over the numbers of a part, and how many of the placed transfers use a link.
-use Rattle.std.proofs.Common.{◌≡◌, ◌==◌, ℕ, zero, suc, ◌+◌, ◌<◌, ◌≤◌, ◌⊎◌, inl, inr, List, [], ◌∷◌, length, All, count_by, Option, None, is_some, Bool, true, false, not, ◌&&◌, cond, refl, sym, ap, ◌∙◌, arith}
+use Rattle.std.proofs.Common.{◌≡◌, ◌==◌, ℕ, zero, suc, ◌+◌, ◌<◌, ◌≤◌, inl, inr, List, [], ◌∷◌, length, All, count_by, Option, None, is_some, Bool, true, false, not, ◌&&◌, cond, refl, sym, ap, ◌∙◌, arith}
 use Rattle.std.specs.Prelude.{Contains}
 use Rattle.std.proofs.lemmas.Bool.{false≢true}
 use Rattle.std.proofs.lemmas.Bool.Decides.{eqb_tells}
@@ -7,6 +7,7 @@ use Rattle.std.proofs.lemmas.List.Elements.{All-head, All-tail}
 use Rattle.std.proofs.lemmas.List.Sums.{sum_by-cons, count_by-le-length}
 use Rattle.std.proofs.lemmas.Option.{get_or_from_slice_get}
 use Rattle.batch.specs.declared.transfer.Transfer.{Transfer}
+use Rattle.batch.proofs.Lists.{at_cons}
 use Rattle.link_graph.specs.declared.link.Link.{Link}
 use Rattle.link_graph.specs.Uses.{Uses}
 use Rattle.link_graph.specs.Counts.{count_below, module_at, uses}
@@ -21,10 +22,6 @@ use Rattle.alternating_path.proofs.Held.{count_below_none, count_below_same, use
 
 count_cons : (p : ℕ → Bool) (x : ℕ) (xs : List ℕ) → count_by p (x ∷ xs) ≡ cond (p x) 1 0 + count_by p xs
 count_cons p x xs = sum_by-cons (λ y. cond (p y) 1 0) x xs
-
-pub at_cons : (x t : ℕ) (xs : List ℕ) → Contains (x ∷ xs) t → (x ≡ t) ⊎ Contains xs t
-at_cons x t xs (zero, lt, at) = inl at
-at_cons x t xs (suc k, lt, at) = inr (k, omega arith, at)
 
 and_true : (a b : Bool) → (a && b) ≡ true → (a ≡ true) × (b ≡ true)
 and_true true true h = (refl, refl)

@@ -2,6 +2,7 @@
 use Rattle.std.proofs.Common.{◌≡◌, ◌≢◌, ℕ, ◌+◌, ◌<◌, ◌≤◌, inl, inr, max, List, [], ◌∷◌, ◌++◌, length, get_or, set, take, replicate, slice_get, All, Option, Some, IsSome, option_map, refl, sym, ap, ◌∙◌, subst, arith}
 use Rattle.std.proofs.lemmas.Bool.{cases_eq}
 use Rattle.std.proofs.lemmas.Bool.Decides.{eqb_tells}
+use Rattle.std.proofs.lemmas.Option.{same_Some}
 use Rattle.std.proofs.lemmas.List.{length-set, length-take, get_or-set_same, get_or-set_other}
 use Rattle.std.proofs.lemmas.List.Elements.{All-get_or, All-set}
 use Rattle.batch.specs.declared.limits.TheConstants.{MAX_MODULES, MAX_TRANSFERS}
@@ -147,9 +148,6 @@ module _ (counts : List ℕ) (xs : List Transfer) (x : Transfer) (fits : HasModu
 abbrev links_of : Transfer → Link × Link
 links_of x = let p : Link × Link = (start_link x, answer_link x) in p
 
-some_same : {X : Type 0} (x y : X) → Some x ≡ Some y → x ≡ y
-some_same x y e = cc
-
 module _ (batch : List Transfer) (part : List ℕ) (i : ℕ) (is_part : IsPart batch part) (fits : IsBatch batch) (within : i < length part) where
   abbrev t : ℕ
   t = get_or part i 0
@@ -168,7 +166,7 @@ module _ (batch : List Transfer) (part : List ℕ) (i : ℕ) (is_part : IsPart b
 
   module _ (o : Option (Link × Link)) (r : Link × Link) (is : o ≡ option_map links_of (slice_get batch t)) (some : o ≡ Some r) where
     both_ends : r ≡ links_of known.0
-    both_ends = some_same r (links_of known.0) (sym some ∙ (is ∙ ap (option_map links_of) known.1))
+    both_ends = same_Some r (links_of known.0) (sym some ∙ (is ∙ ap (option_map links_of) known.1))
 
     start_is : r.0 ≡ start_link known.0
     start_is = ap (λ (p : Link × Link). p.0) both_ends

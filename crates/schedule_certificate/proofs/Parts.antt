@@ -3,6 +3,7 @@ use Rattle.std.proofs.Common.{◌≡◌, ◌==◌, ℕ, zero, suc, ◌+◌, ◌-
 use Rattle.std.specs.Prelude.{Contains, IfSome}
 use Rattle.std.proofs.lemmas.Bool.{false≢true, cases_lt}
 use Rattle.std.proofs.lemmas.Bool.Decides.{eqb_tells}
+use Rattle.std.proofs.lemmas.Option.{same_Some}
 use Rattle.std.proofs.lemmas.List.{length-append, get_or-map, get_or_past, length-map}
 use Rattle.std.proofs.lemmas.List.Elements.{Contains-append_left, Contains-append_right, Contains-append_cases}
 use Rattle.std.proofs.lemmas.List.Sorted.{IsPermutation-sym, All-permutation, Contains-permutation, sum_by-IsPermutation, length_permutation}
@@ -141,9 +142,6 @@ without-at c f t = elim (cases_lt t (length f)) [
       get_or_past _ t None (rw length-map past) ∙ sym (ap (without_colour c) none)
 ]
 
-some_same : (x y : ℕ) → let a : Option ℕ = Some x in let b : Option ℕ = Some y in a ≡ b → x ≡ y
-some_same x y e = cc
-
 -- it stays placed, or had the colour
 stays_or_had : (c : ℕ) (o : Option ℕ) → IsSome o → IsSome (without_colour c o) ⊎ (o ≡ Some c)
 stays_or_had c None h = absurd (false≢true h)
@@ -160,7 +158,7 @@ had_colour : (c : ℕ) (o : Option ℕ) → o ≡ Some c → without_colour c o 
 had_colour c None h = refl
 had_colour c (Some d) h = elim (eqb_tells d c) [
   | inl same ↦ rw same.0 refl
-  | inr other ↦ absurd (other.1 (some_same d c h))
+  | inr other ↦ absurd (other.1 (same_Some d c h))
 ]
 
 -- ---- from the tables of the halves to that of the whole

@@ -1,29 +1,16 @@
 -- Placing one transfer after the other.
-use Rattle.std.proofs.Common.{◌≡◌, ◌≢◌, ℕ, ◌+◌, ◌<◌, ◌≤◌, cond, List, [], ◌∷◌, ◌++◌, length, get_or, set, take, All, ◌⊎◌, refl, sym, ap, subst, ◌∙◌, arith, inl, inr}
-use Rattle.std.specs.Prelude.{count_by, ◌==◌, AllPairs, Contains}
+use Rattle.std.proofs.Common.{◌≡◌, ℕ, ◌+◌, ◌<◌, ◌≤◌, List, [], ◌∷◌, ◌++◌, length, get_or, set, take, All, ◌⊎◌, sym, ap, subst, ◌∙◌, arith, inl, inr}
+use Rattle.std.specs.Prelude.{AllPairs, Contains}
 use Rattle.std.proofs.lemmas.Bool.{cases_lt}
-use Rattle.std.specs.Global.{Vec}
 use Rattle.std.proofs.lemmas.Bool.Decides.{eqb_tells}
-use Rattle.std.proofs.lemmas.List.{map-set, map_push, get_or-map, length-set, length_push, length-append, length-take, get_or_default, get_or_append_left, get_or_push, get_or-set_same, get_or-set_other, get_or-take}
+use Rattle.std.proofs.lemmas.List.{length-set, length_push, length-append, length-take, get_or_default, get_or_append_left, get_or_push, get_or-set_same, get_or-set_other, get_or-take}
 use Rattle.std.proofs.lemmas.List.Elements.{All-set, All-push, All-get_or, All-weaker, All-contains}
 use Rattle.std.proofs.lemmas.List.Quantifiers.{all_pairs_push}
-use Rattle.std.proofs.lemmas.List.Sums.{sum_by-set, sum_by_push}
 use Rattle.batch.specs.declared.transfer.Transfer.{Transfer}
+use Rattle.batch.proofs.Lists.{one, one_same, one_other, times_into, times_alone}
 use Rattle.link_graph.specs.Uses.{AreApart, IsMatching}
-use Rattle.link_graph.specs.Schedules.{lists_of, times, IsScheduleOf}
+use Rattle.link_graph.specs.Schedules.{times, IsScheduleOf}
 use Rattle.schedule_certificate.specs.FirstFit.{Places, into, alone, IsBlocked, AllBlocked, IsTaken, IsFirstFit}
-
--- ---- what lies in memory, as lists
-
-pub list_at : (lists : List (Vec ℕ)) (k : ℕ) (v : Vec ℕ) → k < length lists → v ≡ get_or lists k v → get_or (lists_of lists) k [] ≡ v.items
-list_at lists k v lt is = get_or-map (λ w. w.items) lists k v [] lt ∙ ap (λ (w : Vec ℕ). w.items) (sym is)
-
-pub placed : (lists : List (Vec ℕ)) (k t : ℕ) (v w : Vec ℕ) → k < length lists → v ≡ get_or lists k v → w.items ≡ v.items ++ t ∷ [] → lists_of (set lists k w) ≡ set (lists_of lists) k (get_or (lists_of lists) k [] ++ t ∷ [])
-placed lists k t v w lt is pushed =
-    map-set (λ x. x.items) lists k w ∙ ap (λ (x : List ℕ). set (lists_of lists) k x) (pushed ∙ ap (λ (x : List ℕ). x ++ t ∷ []) (sym (list_at lists k v lt is)))
-
-pub added : (lists all : List (Vec ℕ)) (t : ℕ) (v : Vec ℕ) → all ≡ lists ++ v ∷ [] → v.items ≡ t ∷ [] → lists_of all ≡ lists_of lists ++ (t ∷ []) ∷ []
-added lists all t v pushed is = ap lists_of pushed ∙ map_push (λ x. x.items) lists v ∙ ap (λ (x : List ℕ). lists_of lists ++ x ∷ []) is
 
 pub contains_at : (xs : List ℕ) (i : ℕ) → i < length xs → Contains xs (get_or xs i 0)
 contains_at xs i lt = (i, lt, get_or_default xs i (get_or xs i 0) 0 lt)
@@ -37,33 +24,6 @@ pub record Partial (batch : List Transfer) (t : ℕ) (settings : List (List ℕ)
   pub below : All (All (λ u. u < t)) settings
   pub count : length settings ≤ t
   pub fits : IsFirstFit batch settings
-
--- how often u stands in t alone
-one : ℕ → ℕ → ℕ
-one u t = cond (t == u) 1 0
-
-one_same : (u t : ℕ) → u ≡ t → one u t ≡ 1
-unfolding one
-one_same u t e = elim (eqb_tells t u) [ inl p ↦ rw p.0 refl | inr p ↦ absurd (p.1 (sym e)) ]
-
-one_other : (u t : ℕ) → u ≢ t → one u t ≡ 0
-unfolding one
-one_other u t ne = elim (eqb_tells t u) [ inl p ↦ absurd (ne (sym p.1)) | inr p ↦ rw p.0 refl ]
-
-count_push : (u t : ℕ) (setting : List ℕ) → count_by (λ x. x == u) (setting ++ t ∷ []) ≡ count_by (λ x. x == u) setting + one u t
-unfolding one
-count_push u t setting = sum_by_push (λ x. cond (x == u) 1 0) setting t
-
-times_into : (u t k : ℕ) (settings : List (List ℕ)) → k < length settings → times u (set settings k (get_or settings k [] ++ t ∷ [])) ≡ times u settings + one u t
-times_into u t k settings lt =
-    let changed = sum_by-set (λ s. count_by (λ x. x == u) s) settings k (get_or settings k [] ++ t ∷ []) [] lt in
-    omega (arith, changed, count_push u t (get_or settings k []))
-
-times_alone : (u t : ℕ) (settings : List (List ℕ)) → times u (settings ++ (t ∷ []) ∷ []) ≡ times u settings + one u t
-times_alone u t settings =
-    let pushed : times u (settings ++ (t ∷ []) ∷ []) ≡ times u settings + count_by (λ x. x == u) (t ∷ []) = sum_by_push (λ s. count_by (λ x. x == u) s) settings (t ∷ []) in
-    let single : count_by (λ x. x == u) (t ∷ []) ≡ count_by (λ x. x == u) [] + one u t = count_push u t [] in
-    omega arith
 
 counts_more : (batch : List Transfer) (t : ℕ) (old new : List (List ℕ)) → Partial batch t old → ((u : ℕ) → times u new ≡ times u old + one u t) → All (IsMatching batch) new → All (All (λ u. u < t + 1)) new → length new ≤ t + 1 → IsFirstFit batch new → Partial batch (t + 1) new
 counts_more batch t old new p counts matchings below count fits = record {

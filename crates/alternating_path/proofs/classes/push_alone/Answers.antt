@@ -1,5 +1,5 @@
 use Rattle.std.proofs.Common.{refl}
-use Rattle.alternating_path.proofs.FirstSeen.{pushed_alone}
+use Rattle.batch.proofs.Lists.{pushed_alone}
 use Rattle.alternating_path.proofs.classes.push_alone.Goals as goal
 
 pub returns : goal.returns

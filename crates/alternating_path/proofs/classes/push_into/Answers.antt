@@ -1,5 +1,5 @@
 use Rattle.std.proofs.lemmas.List.{length-map}
-use Rattle.alternating_path.proofs.FirstSeen.{pushed_into}
+use Rattle.batch.proofs.Lists.{pushed_into}
 use Rattle.alternating_path.proofs.classes.push_into.Goals as goal
 
 pub returns : goal.returns
