@@ -31,7 +31,7 @@ more_copied lists all v settings k so_far pushed is =
 -- ---- the numbers below n stand in their classes
 
 -- the setting holds just the numbers below n of one colour
-pub record IsPart (f : List (Option ℕ)) (n c : ℕ) (setting : List ℕ) : Type 0 where
+pub record IsClassBelow (f : List (Option ℕ)) (n c : ℕ) (setting : List ℕ) : Type 0 where
   pub just : (u : ℕ) → Contains setting u ↔ ((u < n) × (colour_at f u ≡ Some c))
 
 -- the least number of a setting
@@ -40,7 +40,7 @@ least settings k = get_or (get_or settings k []) 0 0
 
 pub record Partial (f : List (Option ℕ)) (n : ℕ) (setting_of : List (Option ℕ)) (settings : List (List ℕ)) : Type 0 where
   pub known : (c k : ℕ) → get_or setting_of c None ≡ Some k → k < length settings
-  pub part : (c k : ℕ) → get_or setting_of c None ≡ Some k → IsPart f n c (get_or settings k [])
+  pub part : (c k : ℕ) → get_or setting_of c None ≡ Some k → IsClassBelow f n c (get_or settings k [])
   pub owner : (k : ℕ) → k < length settings → (c : ℕ) × (get_or setting_of c None ≡ Some k)
   pub seen : (u c : ℕ) → u < n → colour_at f u ≡ Some c → IsSome (get_or setting_of c None)
   pub count : length settings ≡ count_by (λ o. is_some o) setting_of
@@ -57,7 +57,7 @@ none_at n i = elim (cases_lt i n) [
   | inr past ↦ get_or_past _ i None (rw length-replicate past)
 ]
 
-rise_all : (n : ℕ) (settings : List (List ℕ)) → All (All (λ u. u < n)) settings → All (All (λ u. u < n + 1)) settings
+pub rise_all : (n : ℕ) (settings : List (List ℕ)) → All (All (λ u. u < n)) settings → All (All (λ u. u < n + 1)) settings
 rise_all n settings = All-weaker (All (λ u. u < n)) (All (λ u. u < n + 1)) (λ s. All-weaker (λ u. u < n) (λ u. u < n + 1) (λ u lt. omega arith) s) settings
 
 -- a number that isn't placed changes nothing
@@ -95,7 +95,7 @@ module _ (f : List (Option ℕ)) (n c : ℕ) (setting_of : List (Option ℕ)) (s
   not_yet_more new more u le = let other : u ≢ n = λ e. omega arith in omega (arith, more u, one_other u n other, p.not_yet u (omega arith))
 
   -- a class gets its next number
-  next_part : (setting : List ℕ) → IsPart f n c setting → IsPart f (n + 1) c (setting ++ n ∷ [])
+  next_part : (setting : List ℕ) → IsClassBelow f n c setting → IsClassBelow f (n + 1) c (setting ++ n ∷ [])
   next_part setting part = record {
     just = λ u. (
       λ inside. elim (Contains-push_cases setting n u inside) [
@@ -110,7 +110,7 @@ module _ (f : List (Option ℕ)) (n c : ℕ) (setting_of : List (Option ℕ)) (s
   }
 
   -- another class stays
-  other_part : (d : ℕ) (setting : List ℕ) → d ≢ c → IsPart f n d setting → IsPart f (n + 1) d setting
+  other_part : (d : ℕ) (setting : List ℕ) → d ≢ c → IsClassBelow f n d setting → IsClassBelow f (n + 1) d setting
   other_part d setting other part = record {
     just = λ u. (
       λ inside. let both = (part.just u).0 inside in (omega (arith, both.0), both.1),
@@ -154,7 +154,7 @@ module _ (f : List (Option ℕ)) (n c : ℕ) (setting_of : List (Option ℕ)) (s
           part = λ d j at_j. elim (cases_eq j k) [
             | inl same ↦
                 let dc : d ≡ c = one_colour d (at_j ∙ ap Some same) in
-                subst (λ x. IsPart f (n + 1) d (get_or (set settings k (get_or settings k [] ++ n ∷ [])) x [])) (sym same) (rw (get_or-set_same settings k (get_or settings k [] ++ n ∷ []) [] k_in) (rw dc (next_part (get_or settings k []) (p.part c k at))))
+                subst (λ x. IsClassBelow f (n + 1) d (get_or (set settings k (get_or settings k [] ++ n ∷ [])) x [])) (sym same) (rw (get_or-set_same settings k (get_or settings k [] ++ n ∷ []) [] k_in) (rw dc (next_part (get_or settings k []) (p.part c k at))))
             | inr other ↦
                 let away : d ≢ c = λ dc. other (same_Some j k (sym at_j ∙ (ap (λ x. get_or setting_of x None) dc ∙ at))) in
                 rw (get_or-set_other settings k j (get_or settings k [] ++ n ∷ []) [] other) (other_part d (get_or settings j []) away (p.part d j at_j))
@@ -191,7 +191,7 @@ module _ (f : List (Option ℕ)) (n c : ℕ) (setting_of : List (Option ℕ)) (s
     ]
 
     -- the colour had no number yet
-    alone_part : IsPart f (n + 1) c (n ∷ [])
+    alone_part : IsClassBelow f (n + 1) c (n ∷ [])
     alone_part = record {
       just = λ u. (
         λ inside. elim (Contains-push_cases [] n u inside) [
@@ -224,7 +224,7 @@ module _ (f : List (Option ℕ)) (n c : ℕ) (setting_of : List (Option ℕ)) (s
           ];
           part = λ d k at_d. elim (at_new d k at_d) [
             | inl new ↦
-                subst (λ x. IsPart f (n + 1) d (get_or (settings ++ (n ∷ []) ∷ []) x [])) (sym new.1) (rw (get_or_push settings (n ∷ []) [] (length settings) refl) (rw new.0 alone_part))
+                subst (λ x. IsClassBelow f (n + 1) d (get_or (settings ++ (n ∷ []) ∷ []) x [])) (sym new.1) (rw (get_or_push settings (n ∷ []) [] (length settings) refl) (rw new.0 alone_part))
             | inr old ↦ rw (get_or_append_left settings ((n ∷ []) ∷ []) [] k (p.known d k old.1)) (other_part d (get_or settings k []) old.0 (p.part d k old.1))
           ];
           owner = λ k lt. elim (cases_lt k (length settings)) [

@@ -1,6 +1,6 @@
 -- A link has as many placed transfers as colours that are taken there.
 use Rattle.std.proofs.Common.{◌≡◌, ◌≢◌, ℕ, zero, suc, ◌+◌, ◌*◌, ◌<◌, ◌≤◌, inl, inr, List, length, Option, Some, None, Bool, true, false, is_some, IsSome, ◌&&◌, ltb, cond, refl, sym, ap, ◌∙◌, subst, arith, eq-eqb}
-use Rattle.std.proofs.lemmas.Bool.{cases_eq, cases_Bool, eqb-true}
+use Rattle.std.proofs.lemmas.Bool.{cases_eq, cases_Bool, eqb-true, false≢true}
 use Rattle.std.specs.Prelude.{count_by}
 use Rattle.std.proofs.Common.{add-one, take}
 use Rattle.std.proofs.lemmas.List.{take_all}
@@ -90,11 +90,11 @@ fewer (suc n) m p q m_in weaker on off = elim (cases_eq n m) [
       go (p n) (q n) (weaker n)
 ]
 
-both_first : (a b : Bool) → (a && b) ≡ true → a ≡ true
-both_first true b h = refl
-both_first false b h = h
+pub and_true : (a b : Bool) → (a && b) ≡ true → (a ≡ true) × (b ≡ true)
+and_true true b h = (refl, h)
+and_true false b h = absurd (false≢true h)
 
-and_false : (a : Bool) → (a && false) ≡ false
+pub and_false : (a : Bool) → (a && false) ≡ false
 and_false true = refl
 and_false false = refl
 
@@ -218,5 +218,5 @@ uses-counted g link =
 pub room : (g : List Transfer) (f : List (Option ℕ)) (t : ℕ) (link : Link) → Uses g t link → colour_at f t ≡ None → placed_uses g f link < uses g link
 unfolding placed_uses
 room g f t link used out =
-    let less = fewer (length g) t (λ u. uses_link g link u && is_some (colour_at f u)) (uses_link g link) (uses_within g t link used) (λ u both. both_first (uses_link g link u) _ both) (uses_yes g t link used) (rw out (and_false (uses_link g link t))) in
+    let less = fewer (length g) t (λ u. uses_link g link u && is_some (colour_at f u)) (uses_link g link) (uses_within g t link used) (λ u both. (and_true (uses_link g link u) _ both).0) (uses_yes g t link used) (rw out (and_false (uses_link g link t))) in
     omega (arith, less, uses-counted g link)

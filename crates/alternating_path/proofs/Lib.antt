@@ -4,6 +4,7 @@ pub mod Agreement
 pub mod AlternatingPath
 pub mod Shown
 pub mod Held
+pub mod Placed
 pub mod Step
 pub mod FirstSeen
 pub mod Joined

@@ -1,5 +1,5 @@
 -- How the cells of a table show a colouring: each colour has a row, with a cell for each link, which has the transfer of that colour that uses the link.
-use Rattle.std.specs.Prelude.{◌≡◌, ℕ, zero, suc, ◌+◌, ◌*◌, ◌<◌, List, length, map, Option, Some, None, Bool, false, ◌==◌, cond, slice_index_or}
+use Rattle.std.specs.Prelude.{◌≡◌, ℕ, zero, suc, ◌+◌, ◌*◌, ◌<◌, ◌≤◌, List, length, map, Option, Some, None, Bool, false, ◌==◌, cond, slice_index_or}
 use Rattle.std.specs.List.{range_with_len}
 use Rattle.batch.specs.Batches.{IsBatch}
 use Rattle.batch.specs.declared.limits.TheConstants.{MAX_MODULES}
@@ -37,6 +37,10 @@ shown_colour batch k cells t = last_below k (λ c. is_transfer t (holder_at cell
 unfoldable pub shown_colours : List Transfer → ℕ → List (Option ℕ) → List (Option ℕ)
 shown_colours batch k cells = map (shown_colour batch k cells) (range_with_len 0 (length batch))
 
+-- the colouring that k rows of cells show
+abbrev pub shown_colouring : List Transfer → ℕ → List (Option ℕ) → ℕ → Colouring
+shown_colouring batch k cells inserted = record { batch = batch; colours = k; colour = shown_colours batch k cells; inserted = inserted }
+
 -- the cells of k rows have just the placed transfers, each at both of its links in the row of its colour
 pub record AreCellsOf (batch : List Transfer) (k : ℕ) (colour cells : List (Option ℕ)) : Type 0 where
   pub is_batch : IsBatch batch
@@ -48,6 +52,14 @@ pub record AreCellsOf (batch : List Transfer) (k : ℕ) (colour cells : List (Op
 -- the table's cells show the colouring that contracts see
 abbrev pub ShowColouring : List Transfer → ℕ → List (Option ℕ) → Type 0
 ShowColouring batch k cells = AreCellsOf batch k (shown_colours batch k cells) cells
+
+-- the rows of the colours below c are as they were
+abbrev pub KeepsRowsBelow : ℕ → List (Option ℕ) → List (Option ℕ) → Type 0
+KeepsRowsBelow c old new = (i : ℕ) → i < c * LINKS → slice_index_or new i None ≡ slice_index_or old i None
+
+-- the row of colour c is out, and those of the colours above it came one row up
+abbrev pub MovesRowsUp : ℕ → List (Option ℕ) → List (Option ℕ) → Type 0
+MovesRowsUp c old new = (i : ℕ) → c * LINKS ≤ i → slice_index_or new i None ≡ slice_index_or old (i + LINKS) None
 
 -- the transfers of colour c, each at the module whose link 0 it uses
 pub record AreStarts (s : Colouring) (c : ℕ) (row : List (Option ℕ)) : Type 0 where

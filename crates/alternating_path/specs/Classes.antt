@@ -1,8 +1,9 @@
 -- The colour classes of a colouring, as the settings of a schedule.
-use Rattle.std.specs.Prelude.{◌≡◌, ◌↔◌, ℕ, ◌-◌, ◌*◌, ◌<◌, ◌≤◌, List, length, map, Option, Some, None, is_some, Bool, false, ◌==◌, nat_lt, cond, All, AllPairs, Any, Contains, slice_index}
+use Rattle.std.specs.Prelude.{◌≡◌, ◌↔◌, ℕ, ◌-◌, ◌*◌, ◌<◌, ◌≤◌, List, [], ◌∷◌, ◌++◌, length, map, Option, Some, None, is_some, Bool, false, ◌==◌, nat_lt, cond, All, AllPairs, Any, Contains, slice_index, slice_index_or, slice_set}
 use Rattle.link_graph.specs.Certificates.{AreDistinct}
 use Rattle.link_graph.specs.Counts.{count_below}
-use Rattle.alternating_path.specs.Colouring.{Colouring, colour_at}
+use Rattle.link_graph.specs.Schedules.{times, IsScheduleOf}
+use Rattle.alternating_path.specs.Colouring.{Colouring, colour_at, IsPlaced, AllPlaced}
 
 -- settings, and how many insertions the table that they come from counted
 pub record ColouredSettings : Type 0 where
@@ -21,6 +22,18 @@ pub record AreClassesOf (colour : List (Option ℕ)) (settings : List (List ℕ)
   pub every : (t c : ℕ) → colour_at colour t ≡ Some c → Any (λ setting. Contains setting t) settings
   pub ascending : All (AllPairs (λ t u. t < u)) settings
   pub by_least : AllPairs (λ a b. slice_index a 0 < slice_index b 0) settings
+
+-- each placed transfer stands once in the settings
+abbrev pub EachStandsOnce : List (Option ℕ) → List (List ℕ) → Type 0
+EachStandsOnce colour settings = (t : ℕ) → IsPlaced colour t → times t settings ≡ 1
+
+-- where all transfers are placed, the settings are a schedule of the batch
+abbrev pub ScheduleIfAll : Colouring → List (List ℕ) → Type 0
+ScheduleIfAll s settings = AllPlaced s → IsScheduleOf s.batch settings
+
+-- the lists, with t at the end of list k
+abbrev pub with_pushed : List (List ℕ) → ℕ → ℕ → List (List ℕ)
+with_pushed lists k t = slice_set lists k (slice_index_or lists k [] ++ t ∷ [])
 
 -- whether a transfer has the colour c
 abbrev pub is_colour : ℕ → Option ℕ → Bool

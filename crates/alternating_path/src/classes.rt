@@ -1,16 +1,16 @@
 //! The colour classes of a colouring.
 
-ghost use Rattle.std.specs.Prelude.{◌≡◌, ℕ, ◌+◌, ◌<◌, ◌≤◌, ◌++◌, ◌∷◌, [], length, slice_set, slice_index_or, Some, IfOk, OnOk};
-ghost use Rattle.link_graph.specs.Schedules.{lists_of, times};
-ghost use Rattle.alternating_path.specs.Colouring.{colour_at, IsPlaced};
-ghost use Rattle.alternating_path.specs.Classes.{AreClassesOf};
+ghost use Rattle.std.specs.Prelude.{◌≡◌, ℕ, ◌+◌, ◌<◌, ◌≤◌, ◌++◌, ◌∷◌, [], length, Some, IfOk, OnOk};
+ghost use Rattle.link_graph.specs.Schedules.{lists_of};
+ghost use Rattle.alternating_path.specs.Colouring.{colour_at};
+ghost use Rattle.alternating_path.specs.Classes.{AreClassesOf, EachStandsOnce, with_pushed};
 
 use std::alloc::{AllocError, Global};
 
 /// Puts a transfer at the end of list `k`.
 fn push_into(lists: &mut Vec<Vec<usize>>, k: usize, t: usize) -> Result<(), AllocError>
     requires { k < length (lists_of lists.old.items) }
-    ensures { OnOk result (lists_of lists.new.items ≡ slice_set (lists_of lists.old.items) k (slice_index_or (lists_of lists.old.items) k [] ++ t ∷ [])) }
+    ensures { OnOk result (lists_of lists.new.items ≡ with_pushed (lists_of lists.old.items) k t) }
 {
     lists[k].push(t)?;
     Ok(())
@@ -34,7 +34,7 @@ pub(crate) fn classes(
 ) -> Result<Vec<Vec<usize>>, AllocError>
     requires { (t c : ℕ) → colour_at colour.now t ≡ Some c → c < colours }
     ensures classes { IfOk result (λ lists. AreClassesOf colour.now (lists_of lists.items)) }
-    ensures once { IfOk result (λ lists. (t : ℕ) → IsPlaced colour.now t → times t (lists_of lists.items) ≡ 1) }
+    ensures once { IfOk result (λ lists. EachStandsOnce colour.now (lists_of lists.items)) }
     ensures count { IfOk result (λ lists. length (lists_of lists.items) ≤ colours) }
 {
     let mut lists = Vec::new(alloc);

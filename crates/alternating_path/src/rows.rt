@@ -1,7 +1,8 @@
 //! Rows of a table's cells.
 
-ghost use Rattle.std.specs.Prelude.{◌≡◌, ℕ, ◌+◌, ◌*◌, ◌<◌, ◌≤◌, length, is_some, count_by, slice_index_or, None, IfOk};
+ghost use Rattle.std.specs.Prelude.{◌≡◌, ◌+◌, ◌*◌, ◌≤◌, length, is_some, count_by, IfOk};
 ghost use Rattle.std.specs.List.{filter_map};
+ghost use Rattle.alternating_path.specs.Cells.{KeepsRowsBelow, MovesRowsUp};
 
 use link_graph::LINKS;
 use std::alloc::{AllocError, Global};
@@ -30,8 +31,8 @@ pub(crate) fn class_of(alloc: Global, starts: &[Option<u16>]) -> Result<Vec<usiz
 pub(crate) fn remove_row(cells: &mut Vec<Option<u16>>, colour: usize)
     requires { (colour + 1) * LINKS ≤ length cells.old.items }
     ensures sized { length cells.new.items + LINKS ≡ length cells.old.items }
-    ensures before { (i : ℕ) → i < colour * LINKS → slice_index_or cells.new.items i None ≡ slice_index_or cells.old.items i None }
-    ensures behind { (i : ℕ) → colour * LINKS ≤ i → slice_index_or cells.new.items i None ≡ slice_index_or cells.old.items (i + LINKS) None }
+    ensures before { KeepsRowsBelow colour cells.old.items cells.new.items }
+    ensures behind { MovesRowsUp colour cells.old.items cells.new.items }
 {
     let start = colour * LINKS;
     cells.copy_within(start + LINKS.., start);

@@ -4,11 +4,9 @@ ghost use Rattle.std.specs.Prelude.{◌≡◌, ℕ, ◌+◌, ◌<◌, ◌≤◌,
 ghost use Rattle.batch.specs.Batches.{IsBatch};
 ghost use Rattle.link_graph.specs.declared.link.End.TheVariants.{Zero, Three};
 ghost use Rattle.link_graph.specs.Uses.{Uses, IsMatching};
-ghost use Rattle.alternating_path.specs.Ends.{link_at};
-ghost use Rattle.alternating_path.specs.Colouring.{colour_at, IsPlaced, AllPlaced, nothing_placed, IsProper, IsFree, PlacesJust, ArePlacedApart, joined_colour};
-ghost use Rattle.link_graph.specs.Schedules.{IsScheduleOf};
-ghost use Rattle.alternating_path.specs.Classes.{AreClassesOf, class_size, IsSmallestClass, IsTakenBack};
-ghost use Rattle.alternating_path.specs.Counts.{placed_uses, HasFullLink};
+ghost use Rattle.alternating_path.specs.Colouring.{colour_at, IsPlaced, nothing_placed, IsProperTable, IsFreeAt, TakesAt, with_colour, PlacesOnly, PlacesJust, ArePlacedApart, counted, IsJoined};
+ghost use Rattle.alternating_path.specs.Classes.{AreClassesOf, ScheduleIfAll, class_size, IsSmallestClass, IsTakenBack};
+ghost use Rattle.alternating_path.specs.Counts.{placed_uses_at, IsShutOut};
 ghost use Rattle.alternating_path.specs.Cells.{place_at, AreStarts};
 
 use crate::classes::classes;
@@ -36,11 +34,11 @@ pub struct Table<'a> {
 
 impl<'a> Model for Table<'a> {
     ghost use Rattle.alternating_path.specs.Colouring.{Colouring};
-    ghost use Rattle.alternating_path.specs.Cells.{shown_colours, ShowColouring};
+    ghost use Rattle.alternating_path.specs.Cells.{shown_colouring, ShowColouring};
 
     ghost Value = { Colouring };
 
-    ghost view = { λ t. record { batch = t.graph.now; colours = t.colours; colour = shown_colours t.graph.now t.colours t.cells.items; inserted = t.inserted } };
+    ghost view = { λ t. shown_colouring t.graph.now t.colours t.cells.items t.inserted };
 
     ghost invariant = { λ t. ShowColouring t.graph.now t.colours t.cells.items };
 }
@@ -75,9 +73,9 @@ impl<'a> Table<'a> {
         requires matching { IsMatching graph.now members.now }
         ensures batch { IfOk result (λ table. table.batch ≡ graph.now) }
         ensures colours { IfOk result (λ table. table.colours ≡ 1) }
-        ensures placed { IfOk result (λ table. (t : ℕ) → IsPlaced table.colour t ↔ Contains members.now t) }
+        ensures placed { IfOk result (λ table. PlacesOnly table.colour members.now) }
         ensures inserted { IfOk result (λ table. table.inserted ≡ 0) }
-        ensures proper { IfOk result (λ table. IsProper table.batch table.colours table.colour) }
+        ensures proper { IfOk result IsProperTable }
     {
         let mut table = Table::new(alloc, graph, 1)?;
         for t in members {
@@ -94,11 +92,8 @@ impl<'a> Table<'a> {
     pub fn join(left: Table<'a>, right: Table<'a>) -> Result<Table<'a>, AllocError>
         requires one_graph { left.batch ≡ right.batch }
         requires apart { ArePlacedApart left.colour right.colour }
-        ensures batch { IfOk result (λ table. table.batch ≡ left.entry.batch) }
-        ensures colours { IfOk result (λ table. table.colours ≡ left.entry.colours + right.entry.colours) }
-        ensures classes { IfOk result (λ table. (t : ℕ) → colour_at table.colour t ≡ joined_colour left.entry.colours (colour_at left.entry.colour t) (colour_at right.entry.colour t)) }
-        ensures inserted { IfOk result (λ table. table.inserted ≡ min (left.entry.inserted + right.entry.inserted) usize.MAX) }
-        ensures proper { IfOk result (λ table. IsProper table.batch table.colours table.colour) }
+        ensures joined { IfOk result (IsJoined left.entry right.entry) }
+        ensures proper { IfOk result IsProperTable }
     {
         let Table {
             graph,
@@ -118,7 +113,7 @@ impl<'a> Table<'a> {
     /// How many colours there are.
     pub fn colours(&self) -> usize
         ensures colours { result ≡ self.now.colours }
-        ensures proper { IsProper self.now.batch self.now.colours self.now.colour }
+        ensures proper { IsProperTable self.now }
     {
         self.colours
     }
@@ -134,7 +129,7 @@ impl<'a> Table<'a> {
     /// with the number of colours.
     pub fn colour_of(&self, t: usize) -> Option<usize>
         ensures colour { result ≡ colour_at self.now.colour t }
-        ensures proper { IsProper self.now.batch self.now.colours self.now.colour }
+        ensures proper { IsProperTable self.now }
     {
         if t >= self.graph.len() {
             return None;
@@ -160,15 +155,15 @@ impl<'a> Table<'a> {
     pub fn insert(&mut self, t: usize) -> Result<(), InsertFault>
         requires { t < length self.old.batch }
         ensures already { (result ≡ Err InsertFault.Already) ↔ IsPlaced self.old.colour t }
-        ensures no_room { (result ≡ Err InsertFault.NoRoom) ↔ ((colour_at self.old.colour t ≡ None) × HasFullLink self.old t) }
+        ensures no_room { (result ≡ Err InsertFault.NoRoom) ↔ IsShutOut self.old t }
 
         ensures placed { OnOk result (PlacesJust self.old.colour self.new.colour t) }
-        ensures counted { OnOk result (self.new.inserted ≡ min (self.old.inserted + 1) usize.MAX) }
+        ensures counted { OnOk result (self.new.inserted ≡ counted (self.old.inserted + 1)) }
         ensures unchanged { OnErr result (self.new ≡ self.old) }
 
         ensures batch { self.new.batch ≡ self.old.batch }
         ensures colours { self.new.colours ≡ self.old.colours }
-        ensures proper { IsProper self.new.batch self.new.colours self.new.colour }
+        ensures proper { IsProperTable self.new }
     {
         if self.colour_of(t).is_some() {
             return Err(InsertFault::Already);
@@ -192,7 +187,7 @@ impl<'a> Table<'a> {
     pub fn take_back(self) -> Result<(Table<'a>, Vec<usize>), AllocError>
         requires { 0 < self.colours }
         ensures taken { IfOk result (λ taken. IsTakenBack self.entry taken.0 taken.1.items) }
-        ensures proper { IfOk result (λ taken. IsProper taken.0.batch taken.0.colours taken.0.colour) }
+        ensures proper { IfOk result (λ taken. IsProperTable taken.0) }
     {
         let colour = self.smallest_class();
         let class = class_of(*self.cells.allocator(), self.starts(colour))?;
@@ -244,12 +239,12 @@ impl<'a> Table<'a> {
     ///
     /// Takes time that grows with the number of colours and the number of transfers.
     pub fn into_schedule(self) -> Result<Coloured, AllocError>
-        ensures classes { IfOk result (λ coloured. AreClassesOf self.entry.colour coloured.settings) }
-        ensures inserted { IfOk result (λ coloured. coloured.inserted ≡ self.entry.inserted) }
-        ensures count { IfOk result (λ coloured. length coloured.settings ≤ self.entry.colours) }
+        ensures classes { IfOk result (λ made. AreClassesOf self.entry.colour made.settings) }
+        ensures inserted { IfOk result (λ made. made.inserted ≡ self.entry.inserted) }
+        ensures count { IfOk result (λ made. length made.settings ≤ self.entry.colours) }
 
         // Where all transfers are placed, that is a schedule of the batch.
-        ensures schedule { IfOk result (λ coloured. AllPlaced self.entry → IsScheduleOf self.entry.batch coloured.settings) }
+        ensures schedule { IfOk result (λ made. ScheduleIfAll self.entry made.settings) }
     {
         let alloc = *self.cells.allocator();
         let colour = self.colour_list(alloc)?;
@@ -275,9 +270,9 @@ impl<'a> Table<'a> {
     /// A colour that is free at the link that `t` uses at an end, where one is.
     fn free_colour(&self, t: usize, end: End) -> Option<usize>
         requires { t < length self.now.batch }
-        ensures some { IfSome result (λ c. (c < self.now.colours) × IsFree self.now.batch self.now.colour (link_at self.now.batch t end) c) }
-        ensures room { OnSome result (placed_uses self.now.batch self.now.colour (link_at self.now.batch t end) < self.now.colours) }
-        ensures none { IfNone result (placed_uses self.now.batch self.now.colour (link_at self.now.batch t end) ≡ self.now.colours) }
+        ensures some { IfSome result (λ c. (c < self.now.colours) × IsFreeAt self.now t end c) }
+        ensures room { OnSome result (placed_uses_at self.now t end < self.now.colours) }
+        ensures none { IfNone result (placed_uses_at self.now t end ≡ self.now.colours) }
     {
         let place = place_at(self.graph, t, end);
         for colour in 0..self.colours {
@@ -293,8 +288,8 @@ impl<'a> Table<'a> {
         requires known { t < length self.now.batch }
         requires in_range { colour < self.now.colours }
         ensures { MatchOption result
-            (IsFree self.now.batch self.now.colour (link_at self.now.batch t end) colour)
-            (λ u. (colour_at self.now.colour u ≡ Some colour) × (link_at self.now.batch u end ≡ link_at self.now.batch t end)) }
+            (IsFreeAt self.now t end colour)
+            (TakesAt self.now t end colour) }
     {
         let place = place_at(self.graph, t, end);
         let holder = self.cells[colour * LINKS + place]?;
@@ -306,10 +301,10 @@ impl<'a> Table<'a> {
         requires known { t < length self.old.batch }
         requires in_range { colour < self.old.colours }
         requires out { colour_at self.old.colour t ≡ None }
-        requires zero_free { IsFree self.old.batch self.old.colour (link_at self.old.batch t Zero) colour }
-        requires three_free { IsFree self.old.batch self.old.colour (link_at self.old.batch t Three) colour }
-        ensures written { self.new ≡ record self.old { colour = set self.old.colour t (Some colour) } }
-        ensures proper { IsProper self.new.batch self.new.colours self.new.colour }
+        requires zero_free { IsFreeAt self.old t Zero colour }
+        requires three_free { IsFreeAt self.old t Three colour }
+        ensures written { self.new ≡ with_colour self.old t (Some colour) }
+        ensures proper { IsProperTable self.new }
     {
         let zero = place_at(self.graph, t, End::Zero);
         let three = place_at(self.graph, t, End::Three);
@@ -323,8 +318,8 @@ impl<'a> Table<'a> {
         requires known { t < length self.old.batch }
         requires in_range { colour < self.old.colours }
         requires placed { colour_at self.old.colour t ≡ Some colour }
-        ensures written { self.new ≡ record self.old { colour = set self.old.colour t None } }
-        ensures proper { IsProper self.new.batch self.new.colours self.new.colour }
+        ensures written { self.new ≡ with_colour self.old t None }
+        ensures proper { IsProperTable self.new }
     {
         let zero = place_at(self.graph, t, End::Zero);
         let three = place_at(self.graph, t, End::Three);
@@ -340,15 +335,15 @@ impl<'a> Table<'a> {
     /// so on along a path on which the two colours alternate.
     fn place(&mut self, t: usize, first: usize, second: usize)
         requires known { t < length self.old.batch }
-        requires proper { IsProper self.old.batch self.old.colours self.old.colour }
+        requires proper { IsProperTable self.old }
         requires out { colour_at self.old.colour t ≡ None }
         requires first_in { first < self.old.colours }
         requires second_in { second < self.old.colours }
-        requires first_free { IsFree self.old.batch self.old.colour (link_at self.old.batch t Zero) first }
-        requires second_free { IsFree self.old.batch self.old.colour (link_at self.old.batch t Three) second }
+        requires first_free { IsFreeAt self.old t Zero first }
+        requires second_free { IsFreeAt self.old t Three second }
         ensures placed { PlacesJust self.old.colour self.new.colour t }
         ensures rest { self.new ≡ record self.old { colour = self.new.colour } }
-        ensures proper { IsProper self.new.batch self.new.colours self.new.colour }
+        ensures proper { IsProperTable self.new }
     {
         let mut hand = t;
         let mut end = End::Three;

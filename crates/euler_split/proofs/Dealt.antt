@@ -19,11 +19,7 @@ use Rattle.euler_split.specs.Pairs.{module_in, passing, AreBalanced}
 use Rattle.euler_split.specs.Walks.{partner_at, half_at, IsHalved}
 use Rattle.euler_split.specs.Deals.{in_left, IsDealt}
 use Rattle.euler_split.proofs.Modules.{known_transfer, module_is}
-use Rattle.euler_split.proofs.Turns.{some_of, pair_in}
-
-not-not : (b : Bool) → b ≡ not (not b)
-not-not true = refl
-not-not false = refl
+use Rattle.euler_split.proofs.Turns.{not-not, some_of, pair_in}
 
 -- the left half tells partners apart
 pub left_tells : (zs ts : List (Option ℕ)) (h : List (Option Bool)) (e : End) → IsHalved zs ts (length zs) h → (u v : ℕ) → partner_at zs ts e u ≡ Some v → u < length zs → in_left h u ≡ not (in_left h v)
@@ -31,7 +27,7 @@ left_tells zs ts h e all u v at u_in =
     let x = some_of (half_at h u) (all.done u u_in) in
     let m = (all.met u v e at (all.done u u_in)).opposed x.0 x.1 in
     let left : Option Bool → Bool = λ o. unwrap_or o false in
-    ap left x.1 ∙ (not-not x.0 ∙ sym (ap (λ o. not (left o)) m))
+    ap left x.1 ∙ (sym (not-not x.0) ∙ sym (ap (λ o. not (left o)) m))
 
 -- ---- the uses of a link among transfers
 

@@ -9,7 +9,7 @@ use Rattle.euler_split.specs.Pairs.{ArePairs}
 use Rattle.link_graph.specs.Links.{other_end}
 use Rattle.euler_split.specs.Walks.{partner_at, half_at, is_three, IsWalk, IsClosed, IsHalved, Keeps}
 
-not-not : (b : Bool) → not (not b) ≡ b
+pub not-not : (b : Bool) → not (not b) ≡ b
 not-not true = refl
 not-not false = refl
 

@@ -4,7 +4,7 @@ ghost use Rattle.link_graph.specs.Certificates.{AreDistinct};
 ghost use Rattle.euler_split.specs.declared.halving.TheConstants.{FEW};
 ghost use Rattle.euler_split.specs.Split.{IsSplit};
 ghost use Rattle.euler_split.specs.Walks.{half_at};
-ghost use Rattle.euler_split.specs.Deals.{IsDealt, in_left};
+ghost use Rattle.euler_split.specs.Deals.{AreDealt};
 
 use crate::pairing::pair_at;
 use crate::walking::halve;
@@ -23,7 +23,7 @@ fn deal(
 ) -> Result<(Vec<usize>, Vec<usize>), AllocError>
     requires few { length members.now ≤ MAX_TRANSFERS }
     requires sized { length halves.now ≡ length members.now }
-    ensures { IfOk result (λ dealt. IsDealt members.now (length members.now) (in_left halves.now) dealt.0.items dealt.1.items) }
+    ensures { IfOk result (λ dealt. AreDealt members.now halves.now dealt.0.items dealt.1.items) }
 {
     // One of each pair, and those without a partner, of which no end of a link has two.
     let room = members.len() / 2 + MAX_MODULES;

@@ -18,19 +18,10 @@ use Rattle.batch.specs.Overlap.{no_transfer, transfer_at}
 use Rattle.alternating_path.specs.Colouring.{colour_at, IsPlaced}
 use Rattle.alternating_path.specs.Counts.{uses_link, placed_uses}
 use Rattle.alternating_path.specs.Classes.{placed_count}
-use Rattle.alternating_path.proofs.Held.{count_below_none, count_below_same, uses_yes}
+use Rattle.alternating_path.proofs.Held.{and_true, and_false, count_below_none, count_below_same, uses_yes}
 
 count_cons : (p : ℕ → Bool) (x : ℕ) (xs : List ℕ) → count_by p (x ∷ xs) ≡ cond (p x) 1 0 + count_by p xs
 count_cons p x xs = sum_by-cons (λ y. cond (p y) 1 0) x xs
-
-and_true : (a b : Bool) → (a && b) ≡ true → (a ≡ true) × (b ≡ true)
-and_true true true h = (refl, refl)
-and_true true false h = absurd (false≢true h)
-and_true false b h = absurd (false≢true h)
-
-and_false : (a : Bool) → (a && false) ≡ false
-and_false true = refl
-and_false false = refl
 
 -- ---- counts over a list, and counts of numbers that all stand in it
 

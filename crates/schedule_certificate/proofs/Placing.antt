@@ -1,19 +1,17 @@
 -- Placing one transfer after the other.
-use Rattle.std.proofs.Common.{◌≡◌, ℕ, ◌+◌, ◌<◌, ◌≤◌, List, [], ◌∷◌, ◌++◌, length, get_or, set, take, All, ◌⊎◌, sym, ap, subst, ◌∙◌, arith, inl, inr}
+use Rattle.std.proofs.Common.{◌≡◌, ℕ, ◌+◌, ◌<◌, ◌≤◌, List, [], ◌∷◌, ◌++◌, length, get_or, set, take, All, sym, ap, subst, ◌∙◌, arith, inl, inr}
 use Rattle.std.specs.Prelude.{AllPairs, Contains}
 use Rattle.std.proofs.lemmas.Bool.{cases_lt}
 use Rattle.std.proofs.lemmas.Bool.Decides.{eqb_tells}
-use Rattle.std.proofs.lemmas.List.{length-set, length_push, length-append, length-take, get_or_default, get_or_append_left, get_or_push, get_or-set_same, get_or-set_other, get_or-take}
-use Rattle.std.proofs.lemmas.List.Elements.{All-set, All-push, All-get_or, All-weaker, All-contains}
+use Rattle.std.proofs.lemmas.List.{length-set, length_push, length-take, get_or_append_left, get_or_push, get_or-set_same, get_or-set_other, get_or-take}
+use Rattle.std.proofs.lemmas.List.Elements.{All-set, All-push, All-get_or, All-weaker, All-contains, Contains-append_left, Contains-push_cases}
 use Rattle.std.proofs.lemmas.List.Quantifiers.{all_pairs_push}
 use Rattle.batch.specs.declared.transfer.Transfer.{Transfer}
 use Rattle.batch.proofs.Lists.{one, one_same, one_other, times_into, times_alone}
 use Rattle.link_graph.specs.Uses.{AreApart, IsMatching}
 use Rattle.link_graph.specs.Schedules.{times, IsScheduleOf}
+use Rattle.alternating_path.proofs.FirstSeen.{rise_all}
 use Rattle.schedule_certificate.specs.FirstFit.{Places, into, alone, IsBlocked, AllBlocked, IsTaken, IsFirstFit}
-
-pub contains_at : (xs : List ℕ) (i : ℕ) → i < length xs → Contains xs (get_or xs i 0)
-contains_at xs i lt = (i, lt, get_or_default xs i (get_or xs i 0) 0 lt)
 
 -- ---- the transfers below t are placed
 
@@ -41,26 +39,13 @@ counts_more batch t old new p counts matchings below count fits = record {
 rise : (t : ℕ) (setting : List ℕ) → All (λ u. u < t) setting → All (λ u. u < t + 1) setting
 rise t setting = All-weaker (λ u. u < t) (λ u. u < t + 1) (λ u lt. omega arith) setting
 
-rise_all : (t : ℕ) (settings : List (List ℕ)) → All (All (λ u. u < t)) settings → All (All (λ u. u < t + 1)) settings
-rise_all t settings = All-weaker (All (λ u. u < t)) (All (λ u. u < t + 1)) (rise t) settings
-
 -- ---- the first setting that was free
-
-in_front : (xs ys : List ℕ) (x : ℕ) → Contains xs x → Contains (xs ++ ys) x
-in_front xs ys x c = (c.0, omega (arith, c.1, length-append xs ys), get_or_append_left xs ys x c.0 c.1 ∙ c.2)
-
-in_pushed : (xs : List ℕ) (y x : ℕ) → Contains (xs ++ y ∷ []) x → Contains xs x ⊎ (x ≡ y)
-in_pushed xs y x c =
-    elim (cases_lt c.0 (length xs)) [
-      | inl less ↦ inl (c.0, less, sym (get_or_append_left xs (y ∷ []) x c.0 less) ∙ c.2)
-      | inr more ↦ inr (sym c.2 ∙ get_or_push xs y x c.0 (omega (arith, c.1, length_push xs y)))
-    ]
 
 not_in_nothing : (x : ℕ) → Contains [] x → ⊥
 not_in_nothing x c = omega (arith, c.1)
 
 grows : (batch : List Transfer) (setting more : List ℕ) (x : ℕ) → IsTaken batch setting x → IsTaken batch (setting ++ more) x
-grows batch setting more x taken = record { u = taken.u; stands = in_front setting more taken.u taken.stands; smaller = taken.smaller; share = taken.share }
+grows batch setting more x taken = record { u = taken.u; stands = Contains-append_left setting more taken.u taken.stands; smaller = taken.smaller; share = taken.share }
 
 was_blocked : (batch : List Transfer) (setting : List ℕ) (t : ℕ) → All (λ u. u < t) setting → IsBlocked batch setting t → IsTaken batch setting t
 was_blocked batch setting t below blocked = record { u = blocked.u; stands = blocked.stands; smaller = All-contains (λ u. u < t) setting blocked.u below blocked.stands; share = blocked.share }
@@ -81,11 +66,11 @@ fits_into batch t k old p lt blocked = record {
     | inl e ↦
         let at : Contains (get_or old k [] ++ t ∷ []) x = subst (λ (s : List ℕ). Contains s x) (ap (λ (n : ℕ). get_or (set old k (get_or old k [] ++ t ∷ [])) n []) e.1 ∙ get_or-set_same old k (get_or old k [] ++ t ∷ []) [] lt) stands in
         let before : j < k = omega (arith, e.1, less) in
-        elim (in_pushed (get_or old k []) t x at) [
+        elim (Contains-push_cases (get_or old k []) t x at) [
           | inl inside ↦ p.fits.first j k x before lt inside
           | inr is ↦
               let there : IsBlocked batch (get_or old j []) t = subst (λ (s : List ℕ). IsBlocked batch s t) (get_or-take k old j [] before) (All-get_or (λ s. IsBlocked batch s t) (take k old) j [] (omega (arith, length-take k old)) blocked) in
-              subst (λ (n : ℕ). IsTaken batch (get_or old j []) n) (sym is) (was_blocked batch (get_or old j []) t (All-get_or (All (λ u. u < t)) old j [] (omega arith) p.below) there)
+              subst (λ (n : ℕ). IsTaken batch (get_or old j []) n) is (was_blocked batch (get_or old j []) t (All-get_or (All (λ u. u < t)) old j [] (omega arith) p.below) there)
         ]
     | inr e ↦ p.fits.first j i x less (omega (arith, within, length-set old k (get_or old k [] ++ t ∷ []))) (subst (λ (s : List ℕ). Contains s x) (get_or-set_other old k i (get_or old k [] ++ t ∷ []) [] e.1) stands)
   ]);
@@ -102,20 +87,20 @@ fits_alone batch t old p blocked = record {
         | inl inside ↦ p.fits.first j i x less inside (subst (λ (s : List ℕ). Contains s x) (get_or_append_left old ((t ∷ []) ∷ []) [] i inside) stands)
         | inr last ↦
             let at : Contains (t ∷ []) x = subst (λ (s : List ℕ). Contains s x) (get_or_push old (t ∷ []) [] i (omega arith)) stands in
-            elim (in_pushed [] t x at) [
+            elim (Contains-push_cases [] t x at) [
               | inl none ↦ absurd (not_in_nothing x none)
-              | inr is ↦ subst (λ (n : ℕ). IsTaken batch (get_or old j []) n) (sym is) (was_blocked batch (get_or old j []) t (All-get_or (All (λ u. u < t)) old j [] early p.below) (All-get_or (λ s. IsBlocked batch s t) old j [] early blocked))
+              | inr is ↦ subst (λ (n : ℕ). IsTaken batch (get_or old j []) n) is (was_blocked batch (get_or old j []) t (All-get_or (All (λ u. u < t)) old j [] early p.below) (All-get_or (λ s. IsBlocked batch s t) old j [] early blocked))
             ]
       ]);
 }
 
 pub places_more : (batch : List Transfer) (t : ℕ) (old new : List (List ℕ)) → Partial batch t old → Places batch t old new → Partial batch (t + 1) new
-places_more batch t old new p (into k lt free none is) =
+places_more batch t old new p (into k lt first is) =
     counts_more batch t old new p (λ u. rw is (times_into u t k old lt))
-    (rw is (All-set (IsMatching batch) old k (get_or old k [] ++ t ∷ []) (all_pairs_push (AreApart batch) (get_or old k []) t (All-get_or (IsMatching batch) old k [] lt p.matchings) free.apart) p.matchings))
+    (rw is (All-set (IsMatching batch) old k (get_or old k [] ++ t ∷ []) (all_pairs_push (AreApart batch) (get_or old k []) t (All-get_or (IsMatching batch) old k [] lt p.matchings) first.0.apart) p.matchings))
     (rw is (All-set (All (λ u. u < t + 1)) old k (get_or old k [] ++ t ∷ []) (All-push (λ u. u < t + 1) (get_or old k []) t (rise t (get_or old k []) (All-get_or (All (λ u. u < t)) old k [] lt p.below)) (omega arith)) (rise_all t old p.below)))
     (rw (is, length-set) (omega (arith, p.count)))
-    (rw is (fits_into batch t k old p lt none))
+    (rw is (fits_into batch t k old p lt first.1))
 places_more batch t old new p (alone none is) =
     counts_more batch t old new p (λ u. rw is (times_alone u t old))
     (rw is (All-push (IsMatching batch) old (t ∷ []) p.matchings (λ i j d lt inside. absurd (omega arith))))

@@ -10,7 +10,7 @@ use Rattle.link_graph.proofs.Users.{counted, uses_few}
 use Rattle.alternating_path.specs.Classes.{ColouredSettings}
 use Rattle.schedule_certificate.specs.Reinsertions.{AreFew}
 use Rattle.schedule_certificate.specs.Parts.{IsDegree}
-use Rattle.schedule_certificate.specs.Plans.{NamesBusiest, IsPlan, IsColoured, uses_of, HasFewReinsertions}
+use Rattle.schedule_certificate.specs.Plans.{plan_of, NamesBusiest, IsPlan, IsColoured, uses_of, HasFewReinsertions}
 
 no_settings : (settings : List (List ℕ)) → length settings ≤ 0 → settings ≡ []
 no_settings [] few = refl
@@ -39,7 +39,7 @@ certifies batch coloured (Some link) named c names =
     }
 
 pub is_plan : (batch : List Transfer) (coloured : ColouredSettings) (named : Naming) → IsBatch batch → IsColoured batch coloured → NamesBusiest batch named.link named.transfers
-    → IsPlan record { batch = batch; settings = coloured.settings; named = named; reinserted = coloured.inserted }
+    → IsPlan (plan_of batch coloured named)
 is_plan batch coloured named fits c names =
     let certificate = certifies batch coloured named.link named.transfers c names in
     record {
@@ -62,5 +62,5 @@ busiest_degree batch (Some link) named d degree names = elim degree.reached [
 ]
 
 pub few_reinserted : (batch : List Transfer) (coloured : ColouredSettings) (named : Naming) → IsColoured batch coloured → NamesBusiest batch named.link named.transfers
-    → HasFewReinsertions record { batch = batch; settings = coloured.settings; named = named; reinserted = coloured.inserted }
+    → HasFewReinsertions (plan_of batch coloured named)
 few_reinserted batch coloured named c names = subst (λ (d : ℕ). AreFew (length batch) d coloured.inserted) (busiest_degree batch named.link named.transfers c.degree c.is_degree names) c.few

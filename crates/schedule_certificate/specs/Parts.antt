@@ -1,12 +1,12 @@
 -- Parts of the transfers of a batch, and colourings of just these.
-use Rattle.std.specs.Prelude.{◌≡◌, ◌↔◌, ℕ, ◌<◌, ◌≤◌, ◌⊎◌, max, List, length, None, All, Contains}
+use Rattle.std.specs.Prelude.{◌≡◌, ◌↔◌, ℕ, ◌<◌, ◌≤◌, ◌⊎◌, max, List, length, Option, None, All, Contains, IfSome}
 use Rattle.batch.specs.declared.transfer.Transfer.{Transfer}
 use Rattle.link_graph.specs.declared.link.Link.{Link}
 use Rattle.link_graph.specs.Certificates.{AreDistinct}
 use Rattle.link_graph.specs.Counts.{uses}
 use Rattle.link_graph.specs.Marks.{members}
 use Rattle.euler_split.specs.Split.{uses_among}
-use Rattle.alternating_path.specs.Colouring.{Colouring, colour_at, IsPlaced}
+use Rattle.alternating_path.specs.Colouring.{Colouring, colour_at, IsPlaced, PlacesOnly}
 use Rattle.schedule_certificate.specs.Reinsertions.{AreFew}
 
 -- distinct numbers of transfers of the batch
@@ -19,14 +19,22 @@ pub record IsDegree (transfers : List Transfer) (d : ℕ) : Type 0 where
   pub most : (link : Link) → uses transfers link ≤ d
   pub reached : (d ≡ 0) ⊎ ((link : Link) × (uses transfers link ≡ d))
 
+-- distinct transfers, whose degree may be known
+abbrev pub IsPartBy : List Transfer → List ℕ → Option ℕ → Type 0
+IsPartBy batch part known = IsPart batch part × IfSome known (IsDegree (members batch part))
+
 -- just the transfers of the part are placed, in as many colours as its degree (one where that is 0), and few were put in one by one
 pub record IsColouredPart (batch : List Transfer) (part : List ℕ) (table : Colouring) : Type 0 where
   pub degree : ℕ
   pub is_degree : IsDegree (members batch part) degree
   pub batch_is : table.batch ≡ batch
   pub colours_is : table.colours ≡ max 1 degree
-  pub placed : (t : ℕ) → IsPlaced table.colour t ↔ Contains part t
+  pub placed : PlacesOnly table.colour part
   pub few : AreFew (length part) degree table.inserted
+
+-- the transfers placed now are those placed before and those of the class
+abbrev pub PlacesClass : List (Option ℕ) → List (Option ℕ) → List ℕ → Type 0
+PlacesClass old new class = (t : ℕ) → IsPlaced new t ↔ (IsPlaced old t ⊎ Contains class t)
 
 -- These transfers aren't placed, and each link has at least as many colours as it is used by them and the placed ones together.
 pub record HasRoomFor (table : Colouring) (class : List ℕ) : Type 0 where

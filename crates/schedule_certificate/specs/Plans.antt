@@ -18,6 +18,10 @@ pub record Plan : Type 0 where
   pub named : Naming
   pub reinserted : ℕ
 
+-- the plan of a batch by the settings of its colouring, and what its certificate names
+abbrev pub plan_of : List Transfer → ColouredSettings → Naming → Plan
+plan_of batch coloured named = record { batch = batch; settings = coloured.settings; named = named; reinserted = coloured.inserted }
+
 -- the busiest link and all transfers that use it, ascending; of an empty batch neither
 abbrev pub NamesBusiest : List Transfer → Option Link → List ℕ → Type 0
 NamesBusiest batch None transfers = (batch ≡ []) × (transfers ≡ [])
@@ -42,6 +46,10 @@ uses_of batch (Some link) = uses batch link
 -- few of the transfers were put in one by one
 abbrev pub HasFewReinsertions : Plan → Type 0
 HasFewReinsertions plan = AreFew (length plan.batch) (uses_of plan.batch plan.named.link) plan.reinserted
+
+-- what each plan that is made keeps
+abbrev pub IsMadePlan : Plan → Type 0
+IsMadePlan plan = IsPlan plan × HasFewReinsertions plan
 
 -- ---- what the colouring of all transfers gives
 

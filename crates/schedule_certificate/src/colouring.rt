@@ -1,10 +1,8 @@
 //! Colouring a part of a graph by its halves.
 
-ghost use Rattle.std.specs.Prelude.{◌≡◌, ℕ, ◌+◌, ◌<◌, ◌≤◌, ◌↔◌, ◌⊎◌, length, Contains, IfOk, IfSome};
+ghost use Rattle.std.specs.Prelude.{◌≡◌, ◌+◌, ◌≤◌, length, IfOk};
 ghost use Rattle.std.specs.Thread.{IsSync};
-ghost use Rattle.alternating_path.specs.Colouring.{IsPlaced};
-ghost use Rattle.link_graph.specs.Marks.{members};
-ghost use Rattle.schedule_certificate.specs.Parts.{IsPart, IsDegree, IsColouredPart, HasRoomFor};
+ghost use Rattle.schedule_certificate.specs.Parts.{IsPartBy, IsColouredPart, HasRoomFor, PlacesClass};
 
 use crate::degree::{degree_of, half_of};
 use crate::gate::Gate;
@@ -20,7 +18,7 @@ fn put_back(table: &mut Table<'_>, class: &[usize])
     requires { HasRoomFor table.old class.now }
     ensures batch { table.new.batch ≡ table.old.batch }
     ensures colours { table.new.colours ≡ table.old.colours }
-    ensures placed { (t : ℕ) → IsPlaced table.new.colour t ↔ (IsPlaced table.old.colour t ⊎ Contains class.now t) }
+    ensures placed { PlacesClass table.old.colour table.new.colour class.now }
     ensures inserted { table.new.inserted ≤ table.old.inserted + length class.now }
 {
     for t in class {
@@ -48,9 +46,8 @@ pub(crate) fn colour_part<'a, R: Threads + Sync, G: Gate>(
     part: &[usize],
     known: Option<usize>,
 ) -> Result<Table<'a>, AllocError>
-    requires part { IsPart graph.now part.now }
-    requires known { IfSome known (IsDegree (members graph.now part.now)) }
-    ensures { IfOk result (λ table. IsColouredPart graph.now part.now table) }
+    requires { IsPartBy graph.now part.now known }
+    ensures { IfOk result (IsColouredPart graph.now part.now) }
 {
     let degree = degree_of(graph, part, known);
     if degree <= 1 {
@@ -81,10 +78,8 @@ fn colour_halves<'a, R: Threads + Sync, G: Gate>(
     right: &[usize],
     known: Option<usize>,
 ) -> Result<(Table<'a>, Table<'a>), AllocError>
-    requires left { IsPart graph.now left.now }
-    requires right { IsPart graph.now right.now }
-    requires left_known { IfSome known (IsDegree (members graph.now left.now)) }
-    requires right_known { IfSome known (IsDegree (members graph.now right.now)) }
+    requires left { IsPartBy graph.now left.now known }
+    requires right { IsPartBy graph.now right.now known }
     ensures left { IfOk result (λ tables. IsColouredPart graph.now left.now tables.0) }
     ensures right { IfOk result (λ tables. IsColouredPart graph.now right.now tables.1) }
 {
@@ -97,15 +92,15 @@ fn colour_halves<'a, R: Threads + Sync, G: Gate>(
     let (left, right) = join(
         rt,
         || -> Result<Table, AllocError>
-            requires { IsSync R.row × IsSync G.row × IsPart graph.now left.now × IfSome known (IsDegree (members graph.now left.now)) }
-            ensures { IfOk result (λ table. IsColouredPart graph.entry.now left.entry.now table) }
+            requires { IsSync R.row × IsSync G.row × IsPartBy graph.now left.now known }
+            ensures { IfOk result (IsColouredPart graph.entry.now left.entry.now) }
         {
             gate.arrive(first.least);
             colour_part(rt, gate, first, alloc, graph, left, known)
         },
         || -> Result<Table, AllocError>
-            requires { IsSync R.row × IsSync G.row × IsPart graph.now right.now × IfSome known (IsDegree (members graph.now right.now)) }
-            ensures { IfOk result (λ table. IsColouredPart graph.entry.now right.entry.now table) }
+            requires { IsSync R.row × IsSync G.row × IsPartBy graph.now right.now known }
+            ensures { IfOk result (IsColouredPart graph.entry.now right.entry.now) }
         {
             gate.arrive(rest.least);
             colour_part(rt, gate, rest, alloc, graph, right, known)

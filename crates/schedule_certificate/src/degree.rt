@@ -2,7 +2,7 @@ ghost use Rattle.std.specs.Prelude.{◌≡◌, ◌+◌, ◌%◌, ◌<◌, ◌≤
 ghost use Rattle.batch.specs.declared.limits.TheConstants.{MAX_MODULES};
 ghost use Rattle.link_graph.specs.Links.{link_index};
 ghost use Rattle.link_graph.specs.Marks.{members};
-ghost use Rattle.schedule_certificate.specs.Parts.{IsPart, IsDegree};
+ghost use Rattle.schedule_certificate.specs.Parts.{IsPart, IsPartBy, IsDegree};
 
 use batch::MAX_TRANSFERS;
 use link_graph::{LINKS, Link, LinkGraph};
@@ -46,8 +46,7 @@ fn count_degree(graph: &LinkGraph, part: &[usize]) -> usize
 
 /// How many transfers of a part use the link that most of them use, which may be known.
 pub(crate) fn degree_of(graph: &LinkGraph, part: &[usize], known: Option<usize>) -> usize
-    requires part { IsPart graph.now part.now }
-    requires known { IfSome known (IsDegree (members graph.now part.now)) }
+    requires { IsPartBy graph.now part.now known }
     ensures { IsDegree (members graph.now part.now) result }
 {
     match known {

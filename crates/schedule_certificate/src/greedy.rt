@@ -1,9 +1,9 @@
 //! First fit: a schedule that is quickly found, though it may be longer than needed.
 
-ghost use Rattle.std.specs.Prelude.{◌≡◌, ◌<◌, ◌≤◌, ℕ, MatchBool, IfOk, OnOk, IfSome, IfNone, [], take, slice_index_or, length};
+ghost use Rattle.std.specs.Prelude.{◌≡◌, ◌<◌, ◌≤◌, ℕ, MatchBool, IfOk, OnOk, IfSome, IfNone, length};
 ghost use Rattle.link_graph.specs.Uses.{AreApart};
 ghost use Rattle.link_graph.specs.Schedules.{IsScheduleOf, lists_of};
-ghost use Rattle.schedule_certificate.specs.FirstFit.{Places, IsFree, IsBlocked, AllBlocked, Share, IsFirstFit};
+ghost use Rattle.schedule_certificate.specs.FirstFit.{Places, IsOpenTo, IsFirstOpen, IsBlocked, AllBlocked, Share, IsFirstFit};
 
 use batch::Batch;
 use link_graph::Schedule;
@@ -20,8 +20,10 @@ fn share_link(batch: &Batch, u: usize, t: usize) -> bool
 }
 
 /// Whether a setting has neither link of a transfer.
-fn is_free(batch: &Batch, setting: &[usize], t: usize) -> bool
-    ensures { MatchBool result (IsFree batch.now setting.now t) (IsBlocked batch.now setting.now t) }
+fn is_open(batch: &Batch, setting: &[usize], t: usize) -> bool
+    ensures { MatchBool result
+        (IsOpenTo batch.now setting.now t)
+        (IsBlocked batch.now setting.now t) }
 {
     for u in setting {
         if share_link(batch, *u, t) {
@@ -32,28 +34,30 @@ fn is_free(batch: &Batch, setting: &[usize], t: usize) -> bool
 }
 
 /// The first setting that has neither link of a transfer.
-fn first_free(batch: &Batch, lists: &[Vec<usize>], t: usize) -> Option<usize>
-    ensures some { IfSome result (λ k. (k < length lists.now) × IsFree batch.now (slice_index_or (lists_of lists.now) k []) t × AllBlocked batch.now (take k (lists_of lists.now)) t) }
+fn first_open(batch: &Batch, lists: &[Vec<usize>], t: usize) -> Option<usize>
+    ensures within { IfSome result (λ k. k < length lists.now) }
+    ensures some { IfSome result (IsFirstOpen batch.now (lists_of lists.now) t) }
     ensures none { IfNone result (AllBlocked batch.now (lists_of lists.now) t) }
 {
     for (k, setting) in lists.iter().enumerate() {
-        if is_free(batch, setting.as_slice(), t) {
+        if is_open(batch, setting.as_slice(), t) {
             return Some(k);
         }
     }
     None
 }
 
-/// Puts a transfer into the first setting that is free for it.
+/// Puts a transfer into the first setting that has neither of its links.
 fn place(
     alloc: Global,
     batch: &Batch,
     t: usize,
     lists: &mut Vec<Vec<usize>>,
 ) -> Result<(), AllocError>
-    ensures { OnOk result (Places batch.now t (lists_of lists.old.items) (lists_of lists.new.items)) }
+    ensures { OnOk result
+        (Places batch.now t (lists_of lists.old.items) (lists_of lists.new.items)) }
 {
-    if let Some(k) = first_free(batch, lists.as_slice(), t) {
+    if let Some(k) = first_open(batch, lists.as_slice(), t) {
         lists[k].push(t)?;
         return Ok(());
     }

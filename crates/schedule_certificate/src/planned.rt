@@ -1,5 +1,5 @@
 ghost use Rattle.std.specs.Prelude.{◌≡◌, IfOk, Some, None};
-ghost use Rattle.schedule_certificate.specs.Plans.{IsPlan, HasFewReinsertions};
+ghost use Rattle.schedule_certificate.specs.Plans.{plan_of, IsPlan, HasFewReinsertions, IsMadePlan};
 
 use alternating_path::Coloured;
 use batch::Batch;
@@ -20,20 +20,19 @@ pub struct Planned {
 }
 
 impl Model for Planned {
-    ghost use Rattle.schedule_certificate.specs.Plans.{Plan, IsPlan, HasFewReinsertions};
+    ghost use Rattle.schedule_certificate.specs.Plans.{Plan, plan_of, IsMadePlan};
 
     ghost Value = { Plan };
 
-    ghost view = { λ p. record { batch = p.batch; settings = p.coloured.settings; named = p.certificate; reinserted = p.coloured.inserted } };
+    ghost view = { λ p. plan_of p.batch p.coloured p.certificate };
 
-    ghost invariant = { λ p. IsPlan (record { batch = p.batch; settings = p.coloured.settings; named = p.certificate; reinserted = p.coloured.inserted }) × HasFewReinsertions (record { batch = p.batch; settings = p.coloured.settings; named = p.certificate; reinserted = p.coloured.inserted }) };
+    ghost invariant = { λ p. IsMadePlan (plan_of p.batch p.coloured p.certificate) };
 }
 
 impl Planned {
     pub(crate) fn of(batch: Batch, coloured: Coloured, certificate: Certificate) -> Planned
-        requires plan { IsPlan (record { batch = batch; settings = coloured.settings; named = certificate; reinserted = coloured.inserted }) }
-        requires reinserted { HasFewReinsertions (record { batch = batch; settings = coloured.settings; named = certificate; reinserted = coloured.inserted }) }
-        ensures { result ≡ record { batch = batch; settings = coloured.settings; named = certificate; reinserted = coloured.inserted } }
+        requires { IsMadePlan (plan_of batch coloured certificate) }
+        ensures { result ≡ plan_of batch coloured certificate }
     {
         Planned {
             batch,

@@ -1,4 +1,4 @@
-use Rattle.std.proofs.Common.{◌≡◌, ◌++◌, ap, ◌∙◌}
+use Rattle.std.proofs.Common.{◌≡◌, ◌++◌, refl, ap, ◌∙◌, rules}
 use Rattle.alternating_path.proofs.Joined.{joined_show, joined_classes}
 use Rattle.alternating_path.proofs.Shown.{cells_proper}
 use Rattle.alternating_path.proofs.table.Table.join.Goals as goal
@@ -11,13 +11,14 @@ invariant_of-result c =
     let cells : c.extend_from_slice.new.self.items ≡ l.cells.items ++ r.cells.items = c.in_ok-extend_from_slice.ensures.items ∙ ap (λ more. l.cells.items ++ more) c.as_slice.ensures.value in
     joined_show l.graph.now r.graph.now l.colours r.colours l.cells.items r.cells.items _ c.left.invariant c.right.invariant requires.one_graph requires.apart cells
 
-pub returns-clause-classes : goal.returns-clause-classes
-returns-clause-classes c = λ t.
+pub returns-clause-joined : goal.returns-clause-joined
+returns-clause-joined c =
     let l = c.left.inside in
     let r = c.right.inside in
     let requires = rw (← c.left.view_is, ← c.right.view_is) at c.requires in
     let cells : c.extend_from_slice.new.self.items ≡ l.cells.items ++ r.cells.items = c.in_ok-extend_from_slice.ensures.items ∙ ap (λ more. l.cells.items ++ more) c.as_slice.ensures.value in
-    rw (← c.left.view_is, ← c.right.view_is) (joined_classes l.graph.now r.graph.now l.colours r.colours l.cells.items r.cells.items _ c.left.invariant c.right.invariant requires.one_graph requires.apart cells t)
+    let classes = joined_classes l.graph.now r.graph.now l.colours r.colours l.cells.items r.cells.items _ c.left.invariant c.right.invariant requires.one_graph requires.apart cells in
+    rw (← c.left.view_is, ← c.right.view_is) (record { batch = refl; colours = refl; classes = classes; inserted = search rules })
 
 pub returns-clause-proper : goal.returns-clause-proper
 returns-clause-proper c =
