@@ -3,3 +3,4 @@ pub mod Colouring
 pub mod Counts
 pub mod Classes
 pub mod Cells
+pub mod Equal

@@ -57,6 +57,35 @@ impl Coloured {
     }
 }
 
+impl PartialEq for Coloured {
+    ghost use Rattle.std.specs.Prelude.{◌≡◌, ◌↔◌, IsTrue};
+    ghost use Rattle.std.specs.Cmp.{and_per, on_per, nat_eq_equiv, partial_equiv_from_equiv};
+    ghost use Rattle.link_graph.specs.contracts.schedule.SchedulePartialEq.TheImpl.Laws as schedules;
+    ghost use Rattle.alternating_path.specs.Equal.{same_coloured};
+
+    ghost eq = { same_coloured };
+
+    ghost laws = { and_per
+        (on_per (λ s. s.settings) schedules.laws-law)
+        (on_per (λ s. s.inserted) (partial_equiv_from_equiv nat_eq_equiv)) };
+
+    fn eq(&self, other: &Coloured) -> bool
+        ensures value { result ≡ same_coloured self.now other.now }
+        ensures equal { IsTrue result ↔ (self.now ≡ other.now) }
+    {
+        self.schedule == other.schedule && self.inserted == other.inserted
+    }
+}
+
+impl Eq for Coloured {
+    ghost use Rattle.std.specs.Cmp.{and_equiv, on_equiv, nat_eq_equiv};
+    ghost use Rattle.link_graph.specs.contracts.schedule.ScheduleEq.TheImpl.Laws as schedules;
+
+    ghost laws = { and_equiv
+        (on_equiv (λ s. s.settings) schedules.laws-law)
+        (on_equiv (λ s. s.inserted) nat_eq_equiv) };
+}
+
 /// The settings of a schedule.
 fn copied(alloc: Global, schedule: &Schedule) -> Result<Vec<Vec<usize>>, AllocError>
     ensures { IfOk result (λ lists. lists_of lists.items ≡ schedule.now) }

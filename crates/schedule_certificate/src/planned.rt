@@ -85,6 +85,42 @@ impl Planned {
     }
 }
 
+impl PartialEq for Planned {
+    ghost use Rattle.std.specs.Prelude.{◌≡◌, ◌↔◌, IsTrue};
+    ghost use Rattle.std.specs.Cmp.{and_per, on_per};
+    ghost use Rattle.batch.specs.contracts.batch.BatchPartialEq.TheImpl.Laws as batch;
+    ghost use Rattle.alternating_path.specs.contracts.coloured.ColouredPartialEq.TheImpl.Laws as coloured;
+    ghost use Rattle.link_graph.specs.contracts.certificate.CertificatePartialEq.TheImpl.Laws as named;
+    ghost use Rattle.schedule_certificate.specs.Equal.{coloured_of, same_plan};
+
+    ghost eq = { same_plan };
+
+    ghost laws = { and_per
+        (on_per (λ p. p.batch) batch.laws-law)
+        (and_per (on_per coloured_of coloured.laws-law) (on_per (λ p. p.named) named.laws-law)) };
+
+    fn eq(&self, other: &Planned) -> bool
+        ensures value { result ≡ same_plan self.now other.now }
+        ensures equal { IsTrue result ↔ (self.now ≡ other.now) }
+    {
+        self.batch == other.batch
+            && self.coloured == other.coloured
+            && self.certificate == other.certificate
+    }
+}
+
+impl Eq for Planned {
+    ghost use Rattle.std.specs.Cmp.{and_equiv, on_equiv};
+    ghost use Rattle.batch.specs.contracts.batch.BatchEq.TheImpl.Laws as batch;
+    ghost use Rattle.alternating_path.specs.contracts.coloured.ColouredEq.TheImpl.Laws as coloured;
+    ghost use Rattle.link_graph.specs.contracts.certificate.CertificateEq.TheImpl.Laws as named;
+    ghost use Rattle.schedule_certificate.specs.Equal.{coloured_of};
+
+    ghost laws = { and_equiv
+        (on_equiv (λ p. p.batch) batch.laws-law)
+        (and_equiv (on_equiv coloured_of coloured.laws-law) (on_equiv (λ p. p.named) named.laws-law)) };
+}
+
 /// An equal certificate, on the batch's allocator.
 fn copied(batch: &Batch, certificate: &Certificate) -> Result<Certificate, AllocError>
     ensures { IfOk result (λ copy. copy ≡ certificate.now) }
