@@ -43,7 +43,7 @@ fn gives<R: AllocGlobal + Threads + Sync>(
     requires few { workers ≤ MAX_WORKERS }
 {
     let other = plan_by(rt, text, workers)?;
-    Ok(are_alike(planned, &other))
+    Ok(*planned == other)
 }
 
 /// Whether more workers give this plan too.
@@ -93,19 +93,6 @@ fn names_the_first_link(planned: &Planned, transfers: &[usize]) -> bool {
     certificate.link() == Some(link) && certificate.transfers() == transfers
 }
 
-/// Whether two plans have the same settings and name the same.
-fn are_alike(one: &Planned, other: &Planned) -> bool {
-    let mut alike = one.schedule().settings() == other.schedule().settings();
-    for k in 0..one.schedule().settings() {
-        alike = alike && one.schedule().setting(k) == other.schedule().setting(k);
-    }
-    alike
-        && one.batch() == other.batch()
-        && one.certificate().link() == other.certificate().link()
-        && one.certificate().transfers() == other.certificate().transfers()
-        && one.reinserted() == other.reinserted()
-}
-
 #[test]
 fn three_transfers(rt: HostRuntime) -> Result<(), Fail> {
     let text = "batch 3\npush 0 0 1 0\npush 0 1 2 0\npush 1 1 2 1\n";
@@ -115,7 +102,7 @@ fn three_transfers(rt: HostRuntime) -> Result<(), Fail> {
     assert_eq!(rt; planned.batch().len(), 3);
     assert_eq!(rt; planned.reinserted(), 0);
     let copy = planned.copy()?;
-    assert!(rt; are_alike(&copy, &planned));
+    assert!(rt; copy == planned);
     assert!(rt; all_give(&rt, text, &planned)?);
     Ok(())
 }
@@ -128,7 +115,7 @@ fn empty_batch(rt: HostRuntime) -> Result<(), Fail> {
     assert_eq!(rt; planned.certificate().link(), None);
     assert_eq!(rt; planned.reinserted(), 0);
     let copy = planned.copy()?;
-    assert!(rt; are_alike(&copy, &planned));
+    assert!(rt; copy == planned);
     assert!(rt; all_give(&rt, text, &planned)?);
     Ok(())
 }
@@ -288,6 +275,82 @@ fn both_halves_at_once(rt: HostRuntime) -> Result<(), Fail> {
     Ok(())
 }
 
+/// How often the first worker looks whether the second has come before it.
+const LOOKS: usize = 100_000;
+
+/// A gate for four workers, of whom the second begins when the first has come, and the fourth when
+/// the third has. The second and the fourth wait for each other: each half is halved by its own.
+#[derive(Drop)]
+struct QuarterGate {
+    pair: PairGate,
+    first: AtomicBool,
+    third: AtomicBool,
+    out_of_order: AtomicBool,
+}
+
+impl QuarterGate {
+    fn new() -> QuarterGate {
+        QuarterGate {
+            pair: PairGate::new(),
+            first: AtomicBool::new(false),
+            third: AtomicBool::new(false),
+            out_of_order: AtomicBool::new(false),
+        }
+    }
+
+    /// Takes its time, in which the second mustn't come.
+    fn begin(&self) {
+        if self.first.load(SeqCst) {
+            return;
+        }
+        for _ in 0..LOOKS {
+            if self.pair.first.load(SeqCst) {
+                return;
+            }
+            thread::yield_now();
+        }
+        self.first.store(true, SeqCst);
+    }
+
+    /// Notes where this worker hasn't come before.
+    fn comes_after(&self, earlier: &AtomicBool) {
+        if !earlier.load(SeqCst) {
+            self.out_of_order.store(true, SeqCst);
+        }
+    }
+}
+
+impl Gate for QuarterGate {
+    fn arrive(&self, place: usize) {
+        match place {
+            1 => self.begin(),
+            2 => {
+                self.comes_after(&self.first);
+                self.pair.meet(&self.pair.first, &self.pair.second);
+            }
+            3 => self.third.store(true, SeqCst),
+            4 => {
+                self.comes_after(&self.third);
+                self.pair.meet(&self.pair.second, &self.pair.first);
+            }
+            _ => self.out_of_order.store(true, SeqCst),
+        }
+    }
+}
+
+#[test]
+fn quarters_at_once(rt: HostRuntime) -> Result<(), Fail> {
+    let batch = read(rt.alloc(), all_to_all(rt.alloc(), 4)?.as_str())?;
+    let gate = QuarterGate::new();
+    let planned = schedule(&rt, rt.alloc(), batch, 4, &gate)?;
+    assert!(rt; gate.pair.first.load(SeqCst));
+    assert!(rt; gate.pair.second.load(SeqCst));
+    assert!(rt; !gate.pair.gave_up.load(SeqCst));
+    assert!(rt; !gate.out_of_order.load(SeqCst));
+    assert!(rt; has_shape(planned.schedule(), 4, 4));
+    Ok(())
+}
+
 #[test]
 fn one_worker_never_arrives(rt: HostRuntime) -> Result<(), Fail> {
     let batch = read(rt.alloc(), all_to_all(rt.alloc(), 4)?.as_str())?;
@@ -302,6 +365,11 @@ fn one_worker_never_arrives(rt: HostRuntime) -> Result<(), Fail> {
 /// Whether the workers are so many, numbered on from the least.
 fn are_numbered(workers: Workers, least: usize, count: usize) -> bool {
     workers.least == least && workers.count == count
+}
+
+#[test]
+fn sizes(rt: HostRuntime) {
+    assert_eq!(rt; MAX_WORKERS, 64);
 }
 
 #[test]
