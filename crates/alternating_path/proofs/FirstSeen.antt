@@ -1,17 +1,16 @@
 -- The classes of a colouring, each where its first number is seen.
-use Rattle.std.proofs.Common.{◌≡◌, ◌≢◌, ℕ, ◌+◌, ◌<◌, ◌≤◌, ◌↔◌, cond, List, [], ◌∷◌, ◌++◌, length, get_or, set, take, replicate, slice_get, All, Option, Some, None, IsSome, is_some, ◌⊎◌, refl, sym, ap, subst, ◌∙◌, arith, inl, inr}
+use Rattle.std.proofs.Common.{◌≡◌, ◌≢◌, ℕ, ◌+◌, ◌<◌, ◌≤◌, ◌↔◌, cond, List, [], ◌∷◌, ◌++◌, length, get_or, set, replicate, All, Option, Some, None, IsSome, is_some, ◌⊎◌, refl, sym, ap, subst, ◌∙◌, arith, inl, inr}
 use Rattle.std.specs.Prelude.{count_by, AllPairs, Contains}
-use Rattle.std.specs.Global.{Vec}
 use Rattle.std.proofs.lemmas.Bool.{cases_lt, cases_eq, false≢true}
-use Rattle.std.proofs.lemmas.Option.{same_Some, none-some, slice_get_within, get_or_from_slice_get}
-use Rattle.std.proofs.lemmas.List.{map_push, length-set, length_push, length-replicate, get_or_default, get_or_append_left, get_or_push, get_or-set_same, get_or-set_other, get_or-replicate, get_or_past, take_more}
+use Rattle.std.proofs.lemmas.Option.{same_Some, none-some}
+use Rattle.std.proofs.lemmas.List.{length-set, length_push, length-replicate, get_or_default, get_or_append_left, get_or_push, get_or-set_same, get_or-set_other, get_or-replicate, get_or_past}
 use Rattle.std.proofs.lemmas.List.Elements.{All-set, All-push, All-get_or, All-weaker, All-from_get_or, Contains-append_left, Contains-push, Contains-push_cases, Contains-get_or}
 use Rattle.std.proofs.lemmas.List.Quantifiers.{all_pairs_push}
 use Rattle.std.proofs.lemmas.List.Sums.{sum_by-set}
 use Rattle.batch.specs.declared.transfer.Transfer.{Transfer}
 use Rattle.batch.proofs.Lists.{one, one_same, one_other, times_into, times_alone}
 use Rattle.link_graph.specs.Uses.{IsMatching}
-use Rattle.link_graph.specs.Schedules.{lists_of, times, IsScheduleOf}
+use Rattle.link_graph.specs.Schedules.{times, IsScheduleOf}
 use Rattle.alternating_path.specs.Colouring.{colour_at, IsPlaced, IsProper}
 use Rattle.alternating_path.specs.Classes.{IsClassOf, AreClassesOf}
 use Rattle.alternating_path.proofs.Writes.{some_within}
@@ -19,14 +18,6 @@ use Rattle.alternating_path.proofs.Writes.{some_within}
 pub some_is : (o : Option ℕ) → IsSome o → (c : ℕ) × (o ≡ Some c)
 some_is None h = absurd (false≢true h)
 some_is (Some c) h = (c, refl)
-
--- ---- settings that are copied one after the other
-
-pub more_copied : (lists all : List (Vec ℕ)) (v : Vec ℕ) (settings : List (List ℕ)) (k : ℕ) → lists_of lists ≡ take k settings → all ≡ lists ++ v ∷ [] → slice_get settings k ≡ Some v.items → lists_of all ≡ take (k + 1) settings
-more_copied lists all v settings k so_far pushed is =
-    let lt : k < length settings = slice_get_within settings k v.items is in
-    let at : get_or settings k [] ≡ v.items = get_or_from_slice_get settings k v.items [] is in
-    ap lists_of pushed ∙ map_push (λ x. x.items) lists v ∙ ap (λ (x : List (List ℕ)). x ++ v.items ∷ []) so_far ∙ ap (λ (x : List ℕ). take k settings ++ x ∷ []) (sym at) ∙ sym (take_more settings k [] lt)
 
 -- ---- the numbers below n stand in their classes
 

@@ -91,8 +91,7 @@ fn copied(alloc: Global, schedule: &Schedule) -> Result<Vec<Vec<usize>>, AllocEr
     ensures { IfOk result (λ lists. lists_of lists.items ≡ schedule.now) }
 {
     let mut lists = Vec::with_capacity(alloc, schedule.settings())?;
-    for k in 0..schedule.settings() {
-        let setting = schedule.setting(k).unwrap();
+    for setting in schedule.iter() {
         lists.push(setting.to_vec(alloc)?)?;
     }
     Ok(lists)
