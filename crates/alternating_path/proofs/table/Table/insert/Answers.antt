@@ -1,4 +1,4 @@
-use Rattle.std.proofs.Common.{◌≡◌, None, is_some, sym, ap, ◌∙◌, refl}
+use Rattle.std.proofs.Common.{◌≡◌, None, is_some, sym, ap, ◌∙◌, refl, rules}
 use Rattle.link_graph.specs.declared.link.End.TheVariants.{Zero, Three}
 use Rattle.alternating_path.specs.Ends.{link_at}
 use Rattle.alternating_path.specs.Colouring.{colour_at}
@@ -20,3 +20,12 @@ returns-in_default-free_colour-clause-no_room c =
 pub returns-clause-no_room : goal.returns-clause-no_room
 returns-clause-no_room c =
     (λ bad. absurd cc, λ both. absurd (no_full_link c.args.self.now c.args.t c.in-Some.ensures.room c.in-Some-free_colour.ensures.room both.1))
+
+pub returns-clause-counted : goal.returns-clause-counted
+returns-clause-counted c = search rules
+
+pub returns-clause-placed : goal.returns-clause-placed
+returns-clause-placed c = search rules
+
+pub returns-then-is_some-clause-already : goal.returns-then-is_some-clause-already
+returns-then-is_some-clause-already c = search rules

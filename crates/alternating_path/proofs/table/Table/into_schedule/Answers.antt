@@ -1,4 +1,4 @@
-use Rattle.std.proofs.Common.{◌≡◌, ap, ◌∙◌}
+use Rattle.std.proofs.Common.{◌≡◌, ap, ◌∙◌, rules}
 use Rattle.link_graph.specs.Schedules.{lists_of}
 use Rattle.alternating_path.specs.Colouring.{AllPlaced, IsProper, Colouring}
 use Rattle.alternating_path.specs.Classes.{ColouredSettings}
@@ -19,3 +19,6 @@ returns-clause-schedule c = λ (all : AllPlaced c.args.self).
     let colour : c.as_slice.result.now ≡ c.args.self.colour = c.as_slice.ensures.value ∙ c.in_ok-colour.ensures in
     let settings : c.of.result.settings ≡ lists_of c.in_ok-lists.lists.items = ap (λ (s : ColouredSettings). s.settings) c.of.ensures in
     rw settings (is_schedule c.args.self.batch c.args.self.colours c.args.self.colour (lists_of c.in_ok-lists.lists.items) proper (rw colour at c.in_ok-lists.ensures.classes) (rw colour at c.in_ok-lists.ensures.once) all)
+
+pub returns-clause-inserted : goal.returns-clause-inserted
+returns-clause-inserted c = search rules
