@@ -1,4 +1,5 @@
 pub mod Messages
+pub mod Bringing
 pub mod Housed
 pub mod Effects
 pub mod Sending

@@ -39,7 +39,7 @@ impl Message {
         ensures { MatchResult result
             (λ answer. Does S.read_gives S.write_gives store.old self answer store.new)
             (λ fault. IsRefused S.read_gives S.write_gives store.old self fault
-                × (store.new ≡ store.old)) }
+            × (store.new ≡ store.old)) }
     {
         match self {
             Message::Poke { address, word } => {
@@ -80,6 +80,7 @@ impl Answerer {
     /// [`PEEK`] is answered `Boot` at once; an address that the store refuses is answered `Misaligned` or
     /// `Outside` at the last byte of its message. A fault leaves the store as it is, and every byte
     /// behind it is answered `Failed`.
+    #[inline]
     pub fn feed<S: WordStore>(
         &mut self,
         store: &mut S,

@@ -3,6 +3,7 @@
 #![tactic(auto)]
 
 mod answerer;
+mod bit_line;
 mod block;
 mod fault;
 mod fuse;

@@ -1,31 +1,12 @@
 //! Wires that carry each byte as the bits of a link.
 
-ghost use Rattle.std.specs.Prelude.{◌≡◌, List, Bool, [], Some, IsOk, IfOk};
-ghost use Rattle.link_bytes.specs.declared.packet.Packet.{Packet as PacketValue};
-ghost use Rattle.link_bytes.specs.Line.{IsPacket, packet_bits};
-ghost use Rattle.link_bytes.specs.Reading.{begun};
+ghost use Rattle.std.specs.Prelude.{◌≡◌, [], IsOk, IfOk};
 
+use crate::bit_line::BitLine;
 use crate::fault::WireFault;
 use crate::wire::{Wire, WireMaker};
-use link_bytes::{ACK, BitReader, HalfLink, Packet, laws};
-use passed_bytes::PassedBytes;
+use link_bytes::{ACK, HalfLink, laws};
 use std::marker::Model;
-
-/// Brings the bits of a packet to a reader, one by one, and gives the packet that it read.
-fn deliver(reader: &mut BitReader, bits: &[bool]) -> Option<Packet>
-    requires { reader.old ≡ begun [] }
-    ensures { (packet : PacketValue) → IsPacket packet → bits.now ≡ packet_bits packet → (result ≡ Some packet) × (reader.new ≡ begun []) }
-{
-    laws::one_packet();
-    for bit in bits {
-        match reader.feed(*bit) {
-            Ok(None) => {}
-            Ok(Some(packet)) => return Some(packet),
-            Err(_) => return None,
-        }
-    }
-    None
-}
 
 /// A wire that never fails. Each byte goes as the bits of its data packet on one line, and its acknowledge
 /// comes back on the opposite line (IMS T414 data sheet, link protocol). It takes no memory.
@@ -33,20 +14,19 @@ fn deliver(reader: &mut BitReader, bits: &[bool]) -> Option<Packet>
 pub struct PlainWire {
     sender: HalfLink,
     receiver: HalfLink,
-    line: BitReader,
-    opposite_line: BitReader,
-    carried: PassedBytes,
+    line: BitLine,
+    opposite_line: BitLine,
 }
 
 impl Model for PlainWire {
-    ghost use Rattle.std.specs.Prelude.{◌≡◌, ℕ, List, []};
-    ghost use Rattle.link_bytes.specs.Reading.{begun};
+    ghost use Rattle.std.specs.Prelude.{ℕ, List};
+    ghost use Rattle.peek_poke.specs.Bringing.{AreIdle};
 
     ghost Value = { List ℕ };
 
-    ghost view = { λ w. w.carried };
+    ghost view = { λ w. w.line.bytes };
 
-    ghost invariant = { λ w. (w.sender ≡ 0) × (w.receiver ≡ 0) × (w.line ≡ begun []) × (w.opposite_line ≡ begun []) };
+    ghost invariant = { λ w. AreIdle w.sender w.receiver w.line w.opposite_line };
 }
 
 impl PlainWire {
@@ -57,9 +37,8 @@ impl PlainWire {
         PlainWire {
             sender: HalfLink::new(),
             receiver: HalfLink::new(),
-            line: BitReader::new(),
-            opposite_line: BitReader::new(),
-            carried: PassedBytes::none(),
+            line: BitLine::new(),
+            opposite_line: BitLine::new(),
         }
     }
 }
@@ -76,19 +55,18 @@ impl Wire for PlainWire {
         let Ok(bits) = self.sender.send(byte) else {
             unreachable!()
         };
-        let Some(packet) = deliver(&mut self.line, &bits) else {
+        let Some(packet) = self.line.bring(&bits) else {
             unreachable!()
         };
         let Ok(Some(arrived)) = self.receiver.take(packet) else {
             unreachable!()
         };
-        let Some(acknowledge) = deliver(&mut self.opposite_line, &ACK) else {
+        let Some(acknowledge) = self.opposite_line.bring(&ACK) else {
             unreachable!()
         };
         let Ok(None) = self.sender.take(acknowledge) else {
             unreachable!()
         };
-        self.carried.add(byte);
         Ok(arrived)
     }
 }

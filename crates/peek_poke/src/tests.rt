@@ -4,9 +4,9 @@ ghost use Rattle.std.specs.Prelude.{◌≡◌, ◌<◌, ◌≤◌, ◌∷◌, �
 ghost use Rattle.batch.specs.Extent.{extent};
 
 use crate::{
-    AnswerFault, Answerer, FuseWire, FuseWires, PlainWire, PlainWires, RestStore, StoreFault,
-    Window, Wire, WireFault, WireMaker, WordStore, laws, peek_bytes, poke_bytes, pull_word,
-    push_word,
+    AnswerFault, Answerer, FuseWire, FuseWires, PEEK, PEEK_BYTES, POKE, POKE_BYTES, PlainWire,
+    PlainWires, REPLY_BYTES, RestStore, StoreFault, Window, Wire, WireFault, WireMaker, WordStore,
+    laws, peek_bytes, poke_bytes, pull_word, push_word,
 };
 use batch::{Place, Shape};
 use module_memory::{Bay, Parted, Rack, Rest, WINDOW_START, WORD_BYTES};
@@ -375,6 +375,12 @@ fn words_are_pulled_into_a_bay(rt: HostRuntime) -> Result<(), Fail> {
         );
     }
     Ok(())
+}
+
+#[test]
+fn messages_have_their_sizes(rt: HostRuntime) {
+    assert_eq!(rt; (POKE, PEEK), (0, 1));
+    assert_eq!(rt; (POKE_BYTES, PEEK_BYTES, REPLY_BYTES), (9, 5, 4));
 }
 
 #[test]

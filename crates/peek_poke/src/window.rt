@@ -32,7 +32,7 @@ impl Window {
     pub fn of(rack: Rack, number: usize) -> Result<Window, Rack>
         ensures { MatchResult result
             (λ window. (number < rack.shape.modules)
-                × (window ≡ record { store = rack; number = number }))
+            × (window ≡ record { store = rack; number = number }))
             (λ back. (number < rack.shape.modules → ⊥) × (back ≡ rack)) }
     {
         if number < rack.shape().modules() {

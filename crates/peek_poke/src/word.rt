@@ -21,8 +21,11 @@ fn send_front<W: Wire, S: WordStore>(
     requires rest { IsAtRest answerer.old }
     requires partial { IsPartial bytes.now }
     ensures sent { OnOk result
-        (answerer.new ≡ record { failed = false; bytes = bytes.now;
-            taken = answerer.old.taken ++ bytes.now }) }
+        (answerer.new ≡ record {
+          failed = false;
+          bytes = bytes.now;
+          taken = answerer.old.taken ++ bytes.now;
+        }) }
     ensures carried { OnOk result (W.carried wire.new ≡ W.carried wire.old ++ bytes.now) }
     ensures broken { OnErr result
         (IsBrokenOff W.carried bytes.now [] wire.old wire.new answerer.old answerer.new) }
@@ -85,7 +88,7 @@ pub fn push_word<W: Wire, S: WordStore>(
         (answerer.new ≡ rest_after (answerer.old.taken ++ spell (Poke address word))) }
     ensures broken { OnErr result
         (IsBrokenOff W.carried (spell (Poke address word)) []
-            wire.old wire.new answerer.old answerer.new) }
+        wire.old wire.new answerer.old answerer.new) }
     ensures unchanged { OnErr result (store.new ≡ store.old) }
     ensures fault { OnErr result (W.failures wire.old < W.failures wire.new) }
     ensures counted { W.failures wire.old ≤ W.failures wire.new }
@@ -117,13 +120,13 @@ pub fn pull_word<W: Wire, S: WordStore>(
     ensures read { IfOk result (λ word. S.read_gives store.old address ≡ Ok word) }
     ensures carried { IfOk result
         (λ word. W.carried wire.new
-            ≡ W.carried wire.old ++ (spell (Peek address) ++ word_bytes word)) }
+        ≡ W.carried wire.old ++ (spell (Peek address) ++ word_bytes word)) }
     ensures taken { OnOk result
         (answerer.new ≡ rest_after (answerer.old.taken ++ spell (Peek address))) }
     ensures broken { OnErr result
         ((word : ℕ) → S.read_gives store.old address ≡ Ok word
-            → IsBrokenOff W.carried (spell (Peek address)) (word_bytes word)
-                wire.old wire.new answerer.old answerer.new) }
+        → IsBrokenOff W.carried (spell (Peek address)) (word_bytes word)
+        wire.old wire.new answerer.old answerer.new) }
     ensures unchanged { store.new ≡ store.old }
     ensures fault { OnErr result (W.failures wire.old < W.failures wire.new) }
     ensures counted { W.failures wire.old ≤ W.failures wire.new }
@@ -133,8 +136,8 @@ pub fn pull_word<W: Wire, S: WordStore>(
 {
     let bytes = peek_bytes(address);
     send_front(wire, answerer, store, &bytes[..PEEK_BYTES - 1])?;
-    let last = wire.carry(bytes[PEEK_BYTES - 1])?;
-    match answerer.feed(store, last) {
+    let tail = wire.carry(bytes[PEEK_BYTES - 1])?;
+    match answerer.feed(store, tail) {
         Ok(Some(reply)) => {
             let arrived = carry_back(wire, reply)?;
             Ok(u32::from_le_bytes(arrived))

@@ -16,17 +16,17 @@ returns-clause-read g c =
     let a = c.args.address in
     let read = g.S.WordStore.read_gives in
     let f = rw c.in-Ok-Some.field-0-is at c.in-Ok-Some.ensures.step in
-    let text : c.send_front.new.answerer.bytes ++ c.in_ok-last.last ∷ [] ≡ spell (Peek a) = search rules in
+    let text : c.send_front.new.answerer.bytes ++ c.in_ok-tail.tail ∷ [] ≡ spell (Peek a) = search rules in
     let same : c.send_front.new.store ≡ c.args.store.now = search rules in
     let word : from_le_bytes w32 c.in-Ok-Some.reply ≡ c.from_le_bytes.result = search rules in
-    let e = peeked read g.S.WordStore.write_gives c.send_front.new.answerer c.feed.new.self c.send_front.new.store c.feed.new.store c.in_ok-last.last a c.in-Ok-Some.reply c.ranges.address.fits f text in
+    let e = peeked read g.S.WordStore.write_gives c.send_front.new.answerer c.feed.new.self c.send_front.new.store c.feed.new.store c.in_ok-tail.tail a c.in-Ok-Some.reply c.ranges.address.fits f text in
     ap (λ (x : _). read x a) (sym same) ∙ e ∙ ap (λ (n : ℕ). Ok n) word
 
-pub returns-in_err-last-clause-broken : goal.returns-in_err-last-clause-broken
-returns-in_err-last-clause-broken g c =
-    let p = err_from_is_err_and c.from_residual-in_err-last.result c.from_residual-in_err-last.ensures.1 in
+pub returns-in_err-tail-clause-broken : goal.returns-in_err-tail-clause-broken
+returns-in_err-tail-clause-broken g c =
+    let p = err_from_is_err_and c.from_residual-in_err-tail.result c.from_residual-in_err-tail.ensures.1 in
     let front = c.in_ok-send_front.ensures in
-    rw (p.1) (λ word is. after_front g.W.Wire.carried _ _ _ _ (PEEK_BYTES - 1) c.peek_bytes-bytes.result _ (word_bytes word) c.peek_bytes-bytes.ensures (omega arith) (c.in_err-last.ensures.kept ∙ front.carried) (ap (λ (p : Pending). p.taken) front.sent))
+    rw (p.1) (λ word is. after_front g.W.Wire.carried _ _ _ _ (PEEK_BYTES - 1) c.peek_bytes-bytes.result _ (word_bytes word) c.peek_bytes-bytes.ensures (omega arith) (c.in_err-tail.ensures.kept ∙ front.carried) (ap (λ (p : Pending). p.taken) front.sent))
 
 pub returns-in_err-arrived-in-Ok-Some-clause-broken : goal.returns-in_err-arrived-in-Ok-Some-clause-broken
 returns-in_err-arrived-in-Ok-Some-clause-broken g c =
@@ -34,11 +34,11 @@ returns-in_err-arrived-in-Ok-Some-clause-broken g c =
     let a = c.args.address in
     let read = g.S.WordStore.read_gives in
     let f = rw c.in-Ok-Some.field-0-is at c.in-Ok-Some.ensures.step in
-    let text : c.send_front.new.answerer.bytes ++ c.in_ok-last.last ∷ [] ≡ spell (Peek a) = search rules in
+    let text : c.send_front.new.answerer.bytes ++ c.in_ok-tail.tail ∷ [] ≡ spell (Peek a) = search rules in
     let same : c.send_front.new.store ≡ c.args.store.now = search rules in
     let carried : g.W.Wire.carried c.carry.new.self ≡ g.W.Wire.carried c.args.wire.now ++ spell (Peek a) = search (rules, append_assoc) in
     let taken : c.feed.new.self.taken ≡ c.args.answerer.now.taken ++ spell (Peek a) = search (rules, append_assoc) in
-    let reply = replied read g.S.WordStore.write_gives c.send_front.new.answerer c.feed.new.self c.send_front.new.store c.feed.new.store c.in_ok-last.last a c.in-Ok-Some.reply c.ranges.address.fits f text in
+    let reply = replied read g.S.WordStore.write_gives c.send_front.new.answerer c.feed.new.self c.send_front.new.store c.feed.new.store c.in_ok-tail.tail a c.in-Ok-Some.reply c.ranges.address.fits f text in
     rw (p.1) (λ word is.
     let bytes = reply word (ap (λ (x : _). read x a) same ∙ is) in
     within_reply g.W.Wire.carried _ _ _ _ (spell (Peek a)) (word_bytes word) (g.W.Wire.carried c.carry.new.self) carried (subst (λ (xs : List ℕ). IsCut xs (g.W.Wire.carried c.carry.new.self) (g.W.Wire.carried c.carry_back.new.wire)) bytes c.in_err-arrived-in-Ok-Some.ensures.broken) taken)

@@ -1,6 +1,6 @@
 use Rattle.std.proofs.Common.{arith, inl, inr}
 use Rattle.peek_poke.proofs.Delivery.{OnePacket, answer_of}
-use Rattle.peek_poke.proofs.plain.deliver.Goals as goal
+use Rattle.peek_poke.proofs.bit_line.read.Goals as goal
 
 pub returns-in-Ok-Some : goal.returns-in-Ok-Some
 returns-in-Ok-Some c = λ packet is e.
