@@ -9,7 +9,7 @@ use Rattle.peek_poke.specs.declared.fault.StoreFault.{StoreFault}
 abbrev lands : BlockAt → Result BlockAt StoreFault
 lands t = Ok t
 
-abbrev reads : ℕ → Result ℕ StoreFault
+abbrev pub reads : ℕ → Result ℕ StoreFault
 reads n = Ok n
 
 ok_same : (t u : BlockAt) → lands t ≡ lands u → t ≡ u

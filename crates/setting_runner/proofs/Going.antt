@@ -18,22 +18,15 @@ use Rattle.module_memory.proofs.CoreLaw.{transfer_at-setting_of}
 use Rattle.module_memory.proofs.BayLaws.{shape-joined, hold_the_counts, stay_lent, stay_whole, blocks_are_wide}
 use Rattle.module_memory.proofs.SettingLaws.{run_is_placed, stop_is_moved, whole_batch_is_placed}
 use Rattle.module_memory.proofs.StepLists.{counts_are_reached}
-use Rattle.link_graph.specs.Schedules.{IsScheduleOf}
 use Rattle.link_graph.proofs.Once.{is_once}
 use Rattle.schedule_certificate.specs.Plans.{Plan}
 use Rattle.setting_runner.specs.Moves.{AreMovable, HaveMoved, none_sure, all_moved}
-use Rattle.setting_runner.specs.Runs.{IsCompleted, IsStopped, numbers_of, words_of}
+use Rattle.setting_runner.specs.Runs.{IsPrepared, IsCompleted, IsStopped, HasOwnBays, numbers_of, words_of}
 use Rattle.setting_runner.proofs.Causes.{names_moved, most_moved}
 use Rattle.setting_runner.proofs.Moves.{HaveMoved-length}
 use Rattle.setting_runner.proofs.Parts.{are_filled, length_part, movable_from, no_bay, part_at}
-use Rattle.setting_runner.proofs.Schedules.{are_settings, concat_more, numbers_are_counted}
-
--- what a run begins with: a rest, and the bays of all settings
-pub record Begun (rest : Store) (bays : List BlockAt) (plan : Plan) : Type 0 where
-  pub schedule : IsScheduleOf plan.batch plan.settings
-  pub ready : IsReady (joined rest bays) plan.batch (concat plan.settings)
-  pub settings : (k : ℕ) → k < length plan.settings → AreBaysOf rest bays (length (concat (take k plan.settings))) (setting_of plan.batch (numbers_of plan k))
-  pub rejoins : Rejoins rest bays
+use Rattle.batch.proofs.Lists.{concat_more}
+use Rattle.setting_runner.proofs.Schedules.{are_settings, numbers_are_counted}
 
 -- what it has after some settings
 pub record Going (rest : Store) (first bays : List BlockAt) (plan : Plan) (k : ℕ) : Type 0 where
@@ -41,14 +34,11 @@ pub record Going (rest : Store) (first bays : List BlockAt) (plan : Plan) (k : �
   pub rejoins : Rejoins rest bays
   pub machine : IsRun (joined rest first) plan.batch (take k plan.settings) (joined rest bays)
 
-pub going_first : (rest : Store) (bays : List BlockAt) (plan : Plan) → Begun rest bays plan → Going rest bays bays plan 0
-going_first rest bays plan b = record { places = record { same_length = refl; same_places = λ k h. refl }; rejoins = b.rejoins; machine = refl }
-
-own_bays : (rest : Store) (first bays : List BlockAt) (plan : Plan) (k : ℕ) → Begun rest first plan → Going rest first bays plan k → k < length plan.settings → AreBaysOf rest bays (length (concat (take k plan.settings))) (setting_of plan.batch (numbers_of plan k))
+own_bays : (rest : Store) (first bays : List BlockAt) (plan : Plan) (k : ℕ) → IsPrepared rest first plan → Going rest first bays plan k → k < length plan.settings → HasOwnBays rest bays plan k
 own_bays rest first bays plan k b g h = stay_lent rest first bays (length (concat (take k plan.settings))) (setting_of plan.batch (numbers_of plan k)) (b.settings k h) g.places
 
 -- the settings that are still to come are ready
-ready_now : (rest : Store) (first bays : List BlockAt) (plan : Plan) (k : ℕ) → Begun rest first plan → Going rest first bays plan k → k < length plan.settings → IsReady (joined rest bays) plan.batch (numbers_of plan k)
+ready_now : (rest : Store) (first bays : List BlockAt) (plan : Plan) (k : ℕ) → IsPrepared rest first plan → Going rest first bays plan k → k < length plan.settings → IsReady (joined rest bays) plan.batch (numbers_of plan k)
 ready_now rest first bays plan k b g h = record {
   whole = g.rejoins.whole;
   places = subst (λ (x : Extent). FitsIn x plan.batch) (shape-joined rest first ∙ sym (shape-joined rest bays)) b.ready.places;
@@ -56,13 +46,13 @@ ready_now rest first bays plan k b g h = record {
   setting = (are_settings plan.batch plan.settings k b.schedule h).own;
 }
 
-pub part_within : (rest : Store) (first bays : List BlockAt) (plan : Plan) (k a n : ℕ) → Begun rest first plan → Going rest first bays plan k → k < length plan.settings → a ≡ length (concat (take k plan.settings)) → n ≡ length (numbers_of plan k) → a + n ≤ length bays
+pub part_within : (rest : Store) (first bays : List BlockAt) (plan : Plan) (k a n : ℕ) → IsPrepared rest first plan → Going rest first bays plan k → k < length plan.settings → a ≡ length (concat (take k plan.settings)) → n ≡ length (numbers_of plan k) → a + n ≤ length bays
 part_within rest first bays plan k a n b g h ea en =
     let own = own_bays rest first bays plan k b g h in
     omega (arith, own.within, length-map (numbers_of plan k) (transfer_at plan.batch))
 
 -- the transfers of the next setting can move their words into their part of the bays
-pub part_movable : (rest : Store) (first bays : List BlockAt) (plan : Plan) (k a n : ℕ) → Begun rest first plan → Going rest first bays plan k → k < length plan.settings → a ≡ length (concat (take k plan.settings)) → n ≡ length (numbers_of plan k)
+pub part_movable : (rest : Store) (first bays : List BlockAt) (plan : Plan) (k a n : ℕ) → IsPrepared rest first plan → Going rest first bays plan k → k < length plan.settings → a ≡ length (concat (take k plan.settings)) → n ≡ length (numbers_of plan k)
     → AreMovable rest plan.batch (numbers_of plan k) (take n (drop a bays))
 part_movable rest first bays plan k a n b g h ea en =
     let numbers = numbers_of plan k in
@@ -118,7 +108,7 @@ same_places_twice a b c x y = record {
 mixed_length : (c : ℕ) (from old : List ℕ) → length from ≡ length old → c ≤ length old → length (take c from ++ drop c old) ≡ length old
 mixed_length c from old e h = omega (arith, length-append (take c from) (drop c old), length-take {A = ℕ}, length-drop {A = ℕ})
 
-worked : (rest : Store) (first bays part : List BlockAt) (plan : Plan) (k a n : ℕ) (ms : List (ℕ × ℕ)) → Begun rest first plan → Going rest first bays plan k → k < length plan.settings → a ≡ length (concat (take k plan.settings)) → n ≡ length (numbers_of plan k)
+worked : (rest : Store) (first bays part : List BlockAt) (plan : Plan) (k a n : ℕ) (ms : List (ℕ × ℕ)) → IsPrepared rest first plan → Going rest first bays plan k → k < length plan.settings → a ≡ length (concat (take k plan.settings)) → n ≡ length (numbers_of plan k)
     → HaveMoved none_sure rest plan.batch (numbers_of plan k) (take n (drop a bays)) part ms → Worked rest first bays (take a bays ++ (part ++ drop n (drop a bays))) plan k ms
 worked rest first bays part plan k a n ms b g h ea en moves =
     let numbers = numbers_of plan k in
@@ -153,7 +143,7 @@ IsRun-push s t batch [] numbers steps r done =
 IsRun-push s t batch (n ∷ ss) numbers steps r done = (r.0, r.1, IsRun-push (after_steps s batch n r.0).store t batch ss numbers steps r.2 done)
 
 -- one setting more
-pub going_next : (rest : Store) (first bays part : List BlockAt) (plan : Plan) (k a n : ℕ) → Begun rest first plan → Going rest first bays plan k → k < length plan.settings → a ≡ length (concat (take k plan.settings)) → n ≡ length (numbers_of plan k)
+pub going_next : (rest : Store) (first bays part : List BlockAt) (plan : Plan) (k a n : ℕ) → IsPrepared rest first plan → Going rest first bays plan k → k < length plan.settings → a ≡ length (concat (take k plan.settings)) → n ≡ length (numbers_of plan k)
     → HaveMoved none_sure rest plan.batch (numbers_of plan k) (take n (drop a bays)) part (all_moved (numbers_of plan k) rest.shape.words) → Going rest first (take a bays ++ (part ++ drop n (drop a bays))) plan (k + 1)
 going_next rest first bays part plan k a n b g h ea en moves =
     let numbers = numbers_of plan k in
@@ -177,7 +167,7 @@ going_next rest first bays part plan k a n b g h ea en moves =
     }
 
 -- a setting that stops
-pub going_stops : (rest : Store) (first bays part : List BlockAt) (plan : Plan) (k a n : ℕ) (ms : List (ℕ × ℕ)) → Begun rest first plan → Going rest first bays plan k → k < length plan.settings → a ≡ length (concat (take k plan.settings)) → n ≡ length (numbers_of plan k)
+pub going_stops : (rest : Store) (first bays part : List BlockAt) (plan : Plan) (k a n : ℕ) (ms : List (ℕ × ℕ)) → IsPrepared rest first plan → Going rest first bays plan k → k < length plan.settings → a ≡ length (concat (take k plan.settings)) → n ≡ length (numbers_of plan k)
     → HaveMoved none_sure rest plan.batch (numbers_of plan k) (take n (drop a bays)) part ms
     → IsStopped (joined rest first) plan k ms (joined rest (take a bays ++ (part ++ drop n (drop a bays)))) × Rejoins rest (take a bays ++ (part ++ drop n (drop a bays)))
 going_stops rest first bays part plan k a n ms b g h ea en moves =
@@ -209,7 +199,7 @@ going_stops rest first bays part plan k a n ms b g h ea en moves =
     )
 
 -- all settings are done
-pub going_completes : (rest : Store) (first bays : List BlockAt) (plan : Plan) (k : ℕ) → Begun rest first plan → Going rest first bays plan k → length plan.settings ≤ k → (words : ℕ) → words ≡ length (concat (take k plan.settings)) * rest.shape.words
+pub going_completes : (rest : Store) (first bays : List BlockAt) (plan : Plan) (k : ℕ) → IsPrepared rest first plan → Going rest first bays plan k → length plan.settings ≤ k → (words : ℕ) → words ≡ length (concat (take k plan.settings)) * rest.shape.words
     → IsCompleted (joined rest first) plan (length plan.settings) words (joined rest bays)
 going_completes rest first bays plan k b g h words e =
     let s = joined rest first in

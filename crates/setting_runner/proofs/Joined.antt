@@ -22,49 +22,50 @@ use Rattle.batch.specs.Batches.{IsBatch}
 use Rattle.batch.specs.Text.{IsWithin}
 use Rattle.crossbar.specs.declared.switch.TheConstants.{JOINED_MODULES}
 use Rattle.crossbar.specs.Switch.{Sources}
-use Rattle.crossbar.specs.Pairs.{Pair as JoinedPair, ArePairs, ends, switch_of}
+use Rattle.crossbar.specs.Pairs.{ArePairs, ends, switch_of}
+use Rattle.crossbar.specs.declared.pair.Pair.{Pair}
 use Rattle.crossbar.proofs.Latches.{same_sources, eqb_yes, eqb_no}
 use Rattle.link_graph.specs.Uses.{AreApart, IsMatching, start_link, answer_link}
 use Rattle.link_graph.proofs.Sums.{later, first_with, hit, swap, sum_ones, sum_at_most}
 use Rattle.setting_runner.specs.Runs.{joined_pair, setting_pairs}
 use Rattle.setting_runner.specs.Tables.{table_pairs}
 
-abbrev pub joined : ℕ → ℕ → JoinedPair
+abbrev pub joined : ℕ → ℕ → Pair
 joined i r = record { initiator = i; responder = r }
 
 -- a pair is one of these
-abbrev pub In : JoinedPair → List JoinedPair → Type 0
+abbrev pub In : Pair → List Pair → Type 0
 In p [] = ⊥
 In p (q ∷ qs) = (q ≡ p) ⊎ In p qs
 
 -- a pair gives an output its input
-abbrev Gives : JoinedPair → ℕ → ℕ → Type 0
+abbrev Gives : Pair → ℕ → ℕ → Type 0
 Gives p o v = ((o ≡ p.initiator) × (v ≡ JOINED_MODULES + p.responder)) ⊎ ((o ≡ JOINED_MODULES + p.responder) × (v ≡ p.initiator))
 
 -- ---- what is found among the ends of pairs
 
-found : List JoinedPair → ℕ → Option ℕ
+found : List Pair → ℕ → Option ℕ
 found ps o = find nat_cmp o (flat_map ends ps)
 
-found_more : (p : JoinedPair) (ps : List JoinedPair) (o : ℕ) → found (p ∷ ps) o ≡ cond (eqb o p.initiator) (Some (JOINED_MODULES + p.responder)) (cond (eqb o (JOINED_MODULES + p.responder)) (Some p.initiator) (found ps o))
+found_more : (p : Pair) (ps : List Pair) (o : ℕ) → found (p ∷ ps) o ≡ cond (eqb o p.initiator) (Some (JOINED_MODULES + p.responder)) (cond (eqb o (JOINED_MODULES + p.responder)) (Some p.initiator) (found ps o))
 unfolding found
 found_more p ps o = ap₂ (λ a b. cond a (Some (JOINED_MODULES + p.responder)) (cond b (Some p.initiator) (find nat_cmp o (flat_map ends ps)))) (unsigned_tied o p.initiator) (unsigned_tied o (JOINED_MODULES + p.responder))
 
-found_first : (p : JoinedPair) (ps : List JoinedPair) (o : ℕ) → o ≡ p.initiator → found (p ∷ ps) o ≡ Some (JOINED_MODULES + p.responder)
+found_first : (p : Pair) (ps : List Pair) (o : ℕ) → o ≡ p.initiator → found (p ∷ ps) o ≡ Some (JOINED_MODULES + p.responder)
 found_first p ps o e = found_more p ps o ∙ ap (λ b. cond b (Some (JOINED_MODULES + p.responder)) (cond (eqb o (JOINED_MODULES + p.responder)) (Some p.initiator) (found ps o))) (eqb_yes o p.initiator e)
 
-found_second : (p : JoinedPair) (ps : List JoinedPair) (o : ℕ) → o ≢ p.initiator → o ≡ JOINED_MODULES + p.responder → found (p ∷ ps) o ≡ Some p.initiator
+found_second : (p : Pair) (ps : List Pair) (o : ℕ) → o ≢ p.initiator → o ≡ JOINED_MODULES + p.responder → found (p ∷ ps) o ≡ Some p.initiator
 found_second p ps o n e =
     found_more p ps o ∙ ap₂ (λ a b. cond a (Some (JOINED_MODULES + p.responder)) (cond b (Some p.initiator) (found ps o))) (eqb_no o p.initiator n) (eqb_yes o (JOINED_MODULES + p.responder) e)
 
-found_past : (p : JoinedPair) (ps : List JoinedPair) (o : ℕ) → o ≢ p.initiator → o ≢ JOINED_MODULES + p.responder → found (p ∷ ps) o ≡ found ps o
+found_past : (p : Pair) (ps : List Pair) (o : ℕ) → o ≢ p.initiator → o ≢ JOINED_MODULES + p.responder → found (p ∷ ps) o ≡ found ps o
 found_past p ps o n m =
     found_more p ps o ∙ ap₂ (λ a b. cond a (Some (JOINED_MODULES + p.responder)) (cond b (Some p.initiator) (found ps o))) (eqb_no o p.initiator n) (eqb_no o (JOINED_MODULES + p.responder) m)
 
 some_inj : (x y : ℕ) → Some x ≡ Some y → x ≡ y
 some_inj x y e = cc
 
-found_in : (ps : List JoinedPair) (o v : ℕ) → found ps o ≡ Some v → (p : JoinedPair) × In p ps × Gives p o v
+found_in : (ps : List Pair) (o v : ℕ) → found ps o ≡ Some v → (p : Pair) × In p ps × Gives p o v
 unfolding found
 found_in [] o v e = absurd cc
 found_in (p ∷ ps) o v e = elim (cases_eq o p.initiator) [
@@ -76,26 +77,26 @@ found_in (p ∷ ps) o v e = elim (cases_eq o p.initiator) [
 ]
 
 -- pairs that agree on an output give it what one of them does
-in_found : (ps : List JoinedPair) (o v : ℕ) (p : JoinedPair) → In p ps → Gives p o v → ((q : JoinedPair) (w : ℕ) → In q ps → Gives q o w → w ≡ v) → found ps o ≡ Some v
+in_found : (ps : List Pair) (o v : ℕ) (p : Pair) → In p ps → Gives p o v → ((q : Pair) (w : ℕ) → In q ps → Gives q o w → w ≡ v) → found ps o ≡ Some v
 in_found [] o v p i h one = absurd i
 in_found (q ∷ qs) o v p i h one = elim (cases_eq o q.initiator) [
   | inl a ↦ found_first q qs o a ∙ ap (λ (x : ℕ). Some x) (one q (JOINED_MODULES + q.responder) (inl refl) (inl (a, refl)))
   | inr a ↦ elim (cases_eq o (JOINED_MODULES + q.responder)) [
     | inl b ↦ found_second q qs o a b ∙ ap (λ (x : ℕ). Some x) (one q q.initiator (inl refl) (inr (b, refl)))
     | inr b ↦ elim i [
-      | inl e ↦ absurd (elim (subst (λ (x : JoinedPair). Gives x o v) (sym e) h) [ inl c ↦ a c.0 | inr c ↦ b c.0 ])
+      | inl e ↦ absurd (elim (subst (λ (x : Pair). Gives x o v) (sym e) h) [ inl c ↦ a c.0 | inr c ↦ b c.0 ])
       | inr k ↦ found_past q qs o a b ∙ in_found qs o v p k h (λ x w y. one x w (inr y))
     ]
   ]
 ]
 
 -- pairs that a switch can have joined at once, in any order
-pub record AreJoinable (ps : List JoinedPair) : Type 0 where
-  pub low : (p : JoinedPair) → In p ps → (p.initiator < JOINED_MODULES) × (p.responder < JOINED_MODULES)
-  pub one_responder : (p q : JoinedPair) → In p ps → In q ps → p.initiator ≡ q.initiator → p.responder ≡ q.responder
-  pub one_initiator : (p q : JoinedPair) → In p ps → In q ps → p.responder ≡ q.responder → p.initiator ≡ q.initiator
+pub record AreJoinable (ps : List Pair) : Type 0 where
+  pub low : (p : Pair) → In p ps → (p.initiator < JOINED_MODULES) × (p.responder < JOINED_MODULES)
+  pub one_responder : (p q : Pair) → In p ps → In q ps → p.initiator ≡ q.initiator → p.responder ≡ q.responder
+  pub one_initiator : (p q : Pair) → In p ps → In q ps → p.responder ≡ q.responder → p.initiator ≡ q.initiator
 
-one_given : (ps : List JoinedPair) (o v w : ℕ) (p q : JoinedPair) → AreJoinable ps → In p ps → In q ps → Gives p o v → Gives q o w → w ≡ v
+one_given : (ps : List Pair) (o v w : ℕ) (p q : Pair) → AreJoinable ps → In p ps → In q ps → Gives p o v → Gives q o w → w ≡ v
 one_given ps o v w p q a i j g h = elim g [
   | inl x ↦ elim h [
     | inl y ↦ omega (arith, x.0, x.1, y.0, y.1, a.one_responder p q i j (sym x.0 ∙ y.0))
@@ -107,7 +108,7 @@ one_given ps o v w p q a i j g h = elim g [
   ]
 ]
 
-same_found : (ps qs : List JoinedPair) (o : ℕ) → AreJoinable ps → AreJoinable qs → ((p : JoinedPair) → In p ps → In p qs) → ((p : JoinedPair) → In p qs → In p ps) → found ps o ≡ found qs o
+same_found : (ps qs : List Pair) (o : ℕ) → AreJoinable ps → AreJoinable qs → ((p : Pair) → In p ps → In p qs) → ((p : Pair) → In p qs → In p ps) → found ps o ≡ found qs o
 same_found ps qs o a b to from = elim (found ps o) as (λ r. found ps o ≡ r → r ≡ found qs o) [
   | None ↦ λ e. elim (found qs o) as (λ r. found qs o ≡ r → None ≡ r) [
     | None ↦ λ f. refl
@@ -117,7 +118,7 @@ same_found ps qs o a b to from = elim (found ps o) as (λ r. found ps o ≡ r �
 ] refl
 
 -- pairs in another order join the same
-pub same_switch : (ps qs : List JoinedPair) → AreJoinable ps → AreJoinable qs → ((p : JoinedPair) → In p ps → In p qs) → ((p : JoinedPair) → In p qs → In p ps) → switch_of ps ≡ switch_of qs
+pub same_switch : (ps qs : List Pair) → AreJoinable ps → AreJoinable qs → ((p : Pair) → In p ps → In p qs) → ((p : Pair) → In p qs → In p ps) → switch_of ps ≡ switch_of qs
 unfolding found
 same_switch ps qs a b to from =
     ap (λ (m : Sources). record { sources = m; ready = true }) (same_sources _ _ (λ o. get-from_entries nat_cmp_total (flat_map ends ps) o ∙ same_found ps qs o a b to from ∙ sym (get-from_entries nat_cmp_total (flat_map ends qs) o)))
@@ -136,24 +137,24 @@ same_answer : (x y : Transfer) → x.responder ≡ y.responder → answer_link x
 same_answer x y e = ap (λ (m : ℕ). answer_link (record { kind = x.kind; initiator = 0; own_block = 0; responder = m; far_block = 0 })) e
 
 -- a transfer shares no module's link with those of a matching
-no_initiator : (batch : List Transfer) (t : ℕ) (us : List ℕ) (q : JoinedPair) → t < length batch → All (λ u. u < length batch) us → All (AreApart batch t) us → In q (setting_pairs batch us) → (transfer_at batch t).initiator ≡ q.initiator → ⊥
+no_initiator : (batch : List Transfer) (t : ℕ) (us : List ℕ) (q : Pair) → t < length batch → All (λ u. u < length batch) us → All (AreApart batch t) us → In q (setting_pairs batch us) → (transfer_at batch t).initiator ≡ q.initiator → ⊥
 no_initiator batch t [] q h k a i e = absurd i
 no_initiator batch t (u ∷ us) q h k a i e = elim i [
   | inl here ↦
       let x = transfer_at batch t in
       let y = transfer_at batch u in
-      let same : x.initiator ≡ y.initiator = e ∙ sym (ap (λ (p : JoinedPair). p.initiator) here) in
+      let same : x.initiator ≡ y.initiator = e ∙ sym (ap (λ (p : Pair). p.initiator) here) in
       (All-head (AreApart batch t) u us a).none_common (start_link x) (x, got_there batch t h, inl refl) (y, got_there batch u (All-head (λ v. v < length batch) u us k), inl (same_start x y same))
   | inr more ↦ no_initiator batch t us q h (All-tail (λ v. v < length batch) u us k) (All-tail (AreApart batch t) u us a) more e
 ]
 
-no_responder : (batch : List Transfer) (t : ℕ) (us : List ℕ) (q : JoinedPair) → t < length batch → All (λ u. u < length batch) us → All (AreApart batch t) us → In q (setting_pairs batch us) → (transfer_at batch t).responder ≡ q.responder → ⊥
+no_responder : (batch : List Transfer) (t : ℕ) (us : List ℕ) (q : Pair) → t < length batch → All (λ u. u < length batch) us → All (AreApart batch t) us → In q (setting_pairs batch us) → (transfer_at batch t).responder ≡ q.responder → ⊥
 no_responder batch t [] q h k a i e = absurd i
 no_responder batch t (u ∷ us) q h k a i e = elim i [
   | inl here ↦
       let x = transfer_at batch t in
       let y = transfer_at batch u in
-      let same : x.responder ≡ y.responder = e ∙ sym (ap (λ (p : JoinedPair). p.responder) here) in
+      let same : x.responder ≡ y.responder = e ∙ sym (ap (λ (p : Pair). p.responder) here) in
       (All-head (AreApart batch t) u us a).none_common (answer_link x) (x, got_there batch t h, inr refl) (y, got_there batch u (All-head (λ v. v < length batch) u us k), inr (same_answer x y same))
   | inr more ↦ no_responder batch t us q h (All-tail (λ v. v < length batch) u us k) (All-tail (AreApart batch t) u us a) more e
 ]
@@ -161,7 +162,7 @@ no_responder batch t (u ∷ us) q h k a i e = elim i [
 within_at : (batch : List Transfer) (t : ℕ) → IsBatch batch → t < length batch → IsWithin widest (transfer_at batch t)
 within_at batch t b h = b.within t _ h
 
-one_responder : (batch : List Transfer) (ts : List ℕ) (p q : JoinedPair) → All (λ u. u < length batch) ts → IsMatching batch ts → In p (setting_pairs batch ts) → In q (setting_pairs batch ts) → p.initiator ≡ q.initiator → p.responder ≡ q.responder
+one_responder : (batch : List Transfer) (ts : List ℕ) (p q : Pair) → All (λ u. u < length batch) ts → IsMatching batch ts → In p (setting_pairs batch ts) → In q (setting_pairs batch ts) → p.initiator ≡ q.initiator → p.responder ≡ q.responder
 one_responder batch [] p q k m i j e = absurd i
 one_responder batch (t ∷ ts) p q k m i j e =
     let known = All-head (λ u. u < length batch) t ts k in
@@ -169,16 +170,16 @@ one_responder batch (t ∷ ts) p q k m i j e =
     let apart = first_with (AreApart batch) t ts m in
     elim i [
       | inl a ↦ elim j [
-        | inl b ↦ ap (λ (x : JoinedPair). x.responder) (sym a ∙ b)
-        | inr b ↦ absurd (no_initiator batch t ts q known rest apart b (ap (λ (x : JoinedPair). x.initiator) a ∙ e))
+        | inl b ↦ ap (λ (x : Pair). x.responder) (sym a ∙ b)
+        | inr b ↦ absurd (no_initiator batch t ts q known rest apart b (ap (λ (x : Pair). x.initiator) a ∙ e))
       ]
       | inr a ↦ elim j [
-        | inl b ↦ absurd (no_initiator batch t ts p known rest apart a (ap (λ (x : JoinedPair). x.initiator) b ∙ sym e))
+        | inl b ↦ absurd (no_initiator batch t ts p known rest apart a (ap (λ (x : Pair). x.initiator) b ∙ sym e))
         | inr b ↦ one_responder batch ts p q rest (later (AreApart batch) t ts m) a b e
       ]
     ]
 
-one_initiator : (batch : List Transfer) (ts : List ℕ) (p q : JoinedPair) → All (λ u. u < length batch) ts → IsMatching batch ts → In p (setting_pairs batch ts) → In q (setting_pairs batch ts) → p.responder ≡ q.responder → p.initiator ≡ q.initiator
+one_initiator : (batch : List Transfer) (ts : List ℕ) (p q : Pair) → All (λ u. u < length batch) ts → IsMatching batch ts → In p (setting_pairs batch ts) → In q (setting_pairs batch ts) → p.responder ≡ q.responder → p.initiator ≡ q.initiator
 one_initiator batch [] p q k m i j e = absurd i
 one_initiator batch (t ∷ ts) p q k m i j e =
     let known = All-head (λ u. u < length batch) t ts k in
@@ -186,19 +187,19 @@ one_initiator batch (t ∷ ts) p q k m i j e =
     let apart = first_with (AreApart batch) t ts m in
     elim i [
       | inl a ↦ elim j [
-        | inl b ↦ ap (λ (x : JoinedPair). x.initiator) (sym a ∙ b)
-        | inr b ↦ absurd (no_responder batch t ts q known rest apart b (ap (λ (x : JoinedPair). x.responder) a ∙ e))
+        | inl b ↦ ap (λ (x : Pair). x.initiator) (sym a ∙ b)
+        | inr b ↦ absurd (no_responder batch t ts q known rest apart b (ap (λ (x : Pair). x.responder) a ∙ e))
       ]
       | inr a ↦ elim j [
-        | inl b ↦ absurd (no_responder batch t ts p known rest apart a (ap (λ (x : JoinedPair). x.responder) b ∙ sym e))
+        | inl b ↦ absurd (no_responder batch t ts p known rest apart a (ap (λ (x : Pair). x.responder) b ∙ sym e))
         | inr b ↦ one_initiator batch ts p q rest (later (AreApart batch) t ts m) a b e
       ]
     ]
 
-low_pairs : (batch : List Transfer) (ts : List ℕ) (p : JoinedPair) → IsBatch batch → All (λ u. u < length batch) ts → In p (setting_pairs batch ts) → (p.initiator < JOINED_MODULES) × (p.responder < JOINED_MODULES)
+low_pairs : (batch : List Transfer) (ts : List ℕ) (p : Pair) → IsBatch batch → All (λ u. u < length batch) ts → In p (setting_pairs batch ts) → (p.initiator < JOINED_MODULES) × (p.responder < JOINED_MODULES)
 low_pairs batch [] p b k i = absurd i
 low_pairs batch (t ∷ ts) p b k i = elim i [
-  | inl e ↦ subst (λ (x : JoinedPair). (x.initiator < JOINED_MODULES) × (x.responder < JOINED_MODULES)) e (within_at batch t b (All-head (λ u. u < length batch) t ts k)).0
+  | inl e ↦ subst (λ (x : Pair). (x.initiator < JOINED_MODULES) × (x.responder < JOINED_MODULES)) e (within_at batch t b (All-head (λ u. u < length batch) t ts k)).0
   | inr more ↦ low_pairs batch ts p b (All-tail (λ u. u < length batch) t ts k) more
 ]
 
@@ -217,11 +218,11 @@ pub record IsTableOf (batch : List Transfer) (ts : List ℕ) (table : List (Opti
   pub sound : (i r : ℕ) → get_or table i None ≡ Some r → In (joined i r) (setting_pairs batch ts)
   pub whole : (i r : ℕ) → In (joined i r) (setting_pairs batch ts) → get_or table i None ≡ Some r
 
-in_push : (ps : List JoinedPair) (p q : JoinedPair) → In p (ps ++ q ∷ []) → In p ps ⊎ (q ≡ p)
+in_push : (ps : List Pair) (p q : Pair) → In p (ps ++ q ∷ []) → In p ps ⊎ (q ≡ p)
 in_push [] p q i = elim i [ inl e ↦ inr e | inr none ↦ absurd none ]
 in_push (x ∷ xs) p q i = elim i [ inl e ↦ inl (inl e) | inr more ↦ elim (in_push xs p q more) [ inl a ↦ inl (inr a) | inr b ↦ inr b ] ]
 
-push_in : (ps : List JoinedPair) (p q : JoinedPair) → In p ps ⊎ (q ≡ p) → In p (ps ++ q ∷ [])
+push_in : (ps : List Pair) (p q : Pair) → In p ps ⊎ (q ≡ p) → In p (ps ++ q ∷ [])
 push_in [] p q i = elim i [ inl none ↦ absurd none | inr e ↦ inl e ]
 push_in (x ∷ xs) p q i = elim i [
   | inl a ↦ elim a [ inl e ↦ inl e | inr more ↦ inr (push_in xs p q (inl more)) ]
@@ -230,9 +231,9 @@ push_in (x ∷ xs) p q i = elim i [
 
 pairs_push : (batch : List Transfer) (ts : List ℕ) (t : ℕ) → setting_pairs batch (ts ++ t ∷ []) ≡ setting_pairs batch ts ++ joined_pair (transfer_at batch t) ∷ []
 pairs_push batch [] t = refl
-pairs_push batch (u ∷ ts) t = ap (λ (x : List JoinedPair). joined_pair (transfer_at batch u) ∷ x) (pairs_push batch ts t)
+pairs_push batch (u ∷ ts) t = ap (λ (x : List Pair). joined_pair (transfer_at batch u) ∷ x) (pairs_push batch ts t)
 
-in_front : (batch : List Transfer) (ts : List ℕ) (k : ℕ) (p : JoinedPair) → In p (setting_pairs batch (take k ts)) → In p (setting_pairs batch ts)
+in_front : (batch : List Transfer) (ts : List ℕ) (k : ℕ) (p : Pair) → In p (setting_pairs batch (take k ts)) → In p (setting_pairs batch ts)
 in_front batch [] zero p i = absurd i
 in_front batch [] (suc k) p i = absurd i
 in_front batch (t ∷ ts) zero p i = absurd i
@@ -267,17 +268,17 @@ table_more batch ts k t table x b known matching h et ex is =
             let at : get_or (set table x.initiator (Some x.responder)) i None ≡ get_or table i None = rw get_or-set_other in
             at ∙ elim (in_push (setting_pairs batch (take k ts)) (joined i r) p (subst (In (joined i r)) now a)) [
               | inl before ↦ is.whole i r before
-              | inr e ↦ absurd (other (sym (ap (λ (q : JoinedPair). q.initiator) e)))
+              | inr e ↦ absurd (other (sym (ap (λ (q : Pair). q.initiator) e)))
             ]
       ];
     }
 
 -- a pair of the table, by its position
-table_in : (m : ℕ) (table : List (Option ℕ)) (p : JoinedPair) → In p (table_pairs m table) → (j : ℕ) × (p.initiator ≡ m + j) × (get_or table j None ≡ Some p.responder)
+table_in : (m : ℕ) (table : List (Option ℕ)) (p : Pair) → In p (table_pairs m table) → (j : ℕ) × (p.initiator ≡ m + j) × (get_or table j None ≡ Some p.responder)
 table_in m [] p i = absurd i
 table_in m (None ∷ table) p i = let r = table_in (m + 1) table p i in (suc r.0, omega (arith, r.1), r.2)
 table_in m (Some v ∷ table) p i = elim i [
-  | inl e ↦ (0, omega (arith, ap (λ (q : JoinedPair). q.initiator) e), ap (λ (q : JoinedPair). Some q.responder) e)
+  | inl e ↦ (0, omega (arith, ap (λ (q : Pair). q.initiator) e), ap (λ (q : Pair). Some q.responder) e)
   | inr more ↦ let r = table_in (m + 1) table p more in (suc r.0, omega (arith, r.1), r.2)
 ]
 
@@ -294,7 +295,7 @@ all_above n m [] h = tt
 all_above n m (None ∷ table) h = all_above n (m + 1) table (omega arith)
 all_above n m (Some v ∷ table) h = (h, all_above n (m + 1) table (omega arith))
 
-all_in : (P : JoinedPair → Type 0) (ps : List JoinedPair) → ((p : JoinedPair) → In p ps → P p) → AllByRecursion P ps
+all_in : (P : Pair → Type 0) (ps : List Pair) → ((p : Pair) → In p ps → P p) → AllByRecursion P ps
 all_in P [] f = tt
 all_in P (p ∷ ps) f = (f p (inl refl), all_in P ps (λ q i. f q (inr i)))
 
@@ -317,13 +318,13 @@ ascending m (Some v ∷ table) a =
       }),
     )
 
-table_members : (batch : List Transfer) (ts : List ℕ) (table : List (Option ℕ)) (p : JoinedPair) → IsTableOf batch ts table → In p (table_pairs 0 table) → In p (setting_pairs batch ts)
+table_members : (batch : List Transfer) (ts : List ℕ) (table : List (Option ℕ)) (p : Pair) → IsTableOf batch ts table → In p (table_pairs 0 table) → In p (setting_pairs batch ts)
 table_members batch ts table p is i =
     let r = table_in 0 table p i in
     let e : r.0 ≡ p.initiator = omega (arith, r.1) in
     subst (λ (x : ℕ). In (joined x p.responder) (setting_pairs batch ts)) e (is.sound r.0 p.responder r.2)
 
-setting_members : (batch : List Transfer) (ts : List ℕ) (table : List (Option ℕ)) (p : JoinedPair) → IsTableOf batch ts table → In p (setting_pairs batch ts) → In p (table_pairs 0 table)
+setting_members : (batch : List Transfer) (ts : List ℕ) (table : List (Option ℕ)) (p : Pair) → IsTableOf batch ts table → In p (setting_pairs batch ts) → In p (table_pairs 0 table)
 setting_members batch ts table p is i = in_table 0 table p.initiator p.initiator p.responder (omega arith) (is.whole p.initiator p.responder i)
 
 table_joinable : (batch : List Transfer) (ts : List ℕ) (table : List (Option ℕ)) → IsTableOf batch ts table → AreJoinable (setting_pairs batch ts) → AreJoinable (table_pairs 0 table)
@@ -350,7 +351,7 @@ table_none batch (suc n) (suc i) r e = table_none batch n i r e
 pub table_push : (m : ℕ) (table : List (Option ℕ)) (o : Option ℕ) (n : ℕ) → n ≡ m + length table → table_pairs m (table ++ o ∷ []) ≡ table_pairs m table ++ table_pairs n (o ∷ [])
 table_push m [] o n e = let same : m ≡ n = omega arith in ap (λ (x : ℕ). table_pairs x (o ∷ [])) same
 table_push m (None ∷ table) o n e = table_push (m + 1) table o n (omega arith)
-table_push m (Some v ∷ table) o n e = ap (λ (x : List JoinedPair). joined m v ∷ x) (table_push (m + 1) table o n (omega arith))
+table_push m (Some v ∷ table) o n e = ap (λ (x : List Pair). joined m v ∷ x) (table_push (m + 1) table o n (omega arith))
 
 -- ---- how many transfers a setting has
 

@@ -2,11 +2,14 @@ pub mod PairCommands
 pub mod Sources
 pub mod Replies
 pub mod Padding
+pub mod Equal
 pub mod Addresses
 pub mod Moves
+pub mod Carried
 pub mod Causes
 pub mod Parts
 pub mod Schedules
+pub mod Tellings
 pub mod Going
 pub mod Joined
 pub mod Starting

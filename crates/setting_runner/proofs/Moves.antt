@@ -154,17 +154,3 @@ whole_moves sure rest batch [] (o ∷ os) ns ms a h = absurd a
 whole_moves sure rest batch (t ∷ ts) [] ns ms a h = absurd a
 whole_moves sure rest batch (t ∷ ts) (o ∷ os) [] ms a h = absurd a
 whole_moves sure rest batch (t ∷ ts) (o ∷ os) (n ∷ ns) [] a h = absurd a
-
-there : {X : Type 0} (xs : List X) (i : ℕ) (x : X) → slice_get xs i ≡ Some x → drop i xs ≡ x ∷ drop (suc i) xs
-there [] i x e = absurd cc
-there (y ∷ ys) zero x e = ap (λ t. t ∷ ys) cc
-there (y ∷ ys) (suc i) x e = there ys i x e
-
-pub got : {X : Type 0} (xs : List X) (i : ℕ) (x : X) → slice_get xs i ≡ Some x → drop i xs ≡ x ∷ drop (i + 1) xs
-got xs i x e = there xs i x e ∙ ap (λ k. x ∷ drop k xs) (sym (add-one i))
-
--- where there is something, something is got
-pub no_get : {X : Type 0} (xs : List X) (i : ℕ) → i < length xs → slice_get xs i ≡ None → ⊥
-no_get [] i h e = absurd (omega arith)
-no_get (x ∷ xs) zero h e = absurd cc
-no_get (x ∷ xs) (suc i) h e = no_get xs i (omega arith) e

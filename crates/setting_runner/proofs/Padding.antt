@@ -5,10 +5,6 @@ tail_of : {X : Type 0} → List X → List X
 tail_of [] = []
 tail_of (x ∷ xs) = xs
 
-head_or : {X : Type 0} → X → List X → X
-head_or d [] = d
-head_or d (x ∷ xs) = x
-
 padded : {X : Type 0} (es : List X) (n m : ℕ) (v z : X) → es ≡ take n es ++ replicate (suc m) z → set es n v ≡ take (suc n) (set es n v) ++ replicate m z
 unfolding tail_of
 padded [] zero m v z e = absurd cc

@@ -14,7 +14,7 @@ use Rattle.c004_commands.specs.Answers.{answer_byte}
 use Rattle.crossbar.specs.Switch.{Switch, after_all, answers}
 use Rattle.crossbar.specs.Port.{CarriesOut}
 use Rattle.setting_runner.specs.Pairs.{Turns, all_enquiries}
-use Rattle.setting_runner.specs.Answers.{Says, Agrees}
+use Rattle.setting_runner.specs.Answers.{Reports, Agrees}
 use Rattle.c004_commands.specs.declared.port.TheConstants.{PORTS}
 
 some_enquiries : (a n : ℕ) → a + n ≤ PORTS → AreCommands (map Enquire (range_with_len a n))
@@ -36,13 +36,13 @@ some_answers a zero k s h = absurd (omega arith)
 some_answers a (suc n) zero s h = ap (λ i. answer_byte (finmap.get s.sources i)) (omega arith)
 some_answers a (suc n) (suc k) s h = some_answers (a + 1) n k s (omega arith) ∙ ap (λ i. answer_byte (finmap.get s.sources i)) (omega arith)
 
-says : (o : Option ℕ) (reply : ℕ) → reply ≡ answer_byte o → Says o reply
-says None reply e = omega arith
-says (Some input) reply e = e
+reports : (o : Option ℕ) (reply : ℕ) → reply ≡ answer_byte o → Reports o reply
+reports None reply e = omega arith
+reports (Some input) reply e = e
 
-pub all_say : (s : Switch) (output : ℕ) (replies : List ℕ) → output < PORTS → replies ≡ answers all_enquiries s → Agrees s output (get_or replies output 0)
-all_say s output replies h e =
-    says (finmap.get s.sources output) (get_or replies output 0) (ap (λ (r : List ℕ). get_or r output 0) e ∙ some_answers 0 PORTS output s h ∙ ap (λ i. answer_byte (finmap.get s.sources i)) (omega arith))
+pub all_report : (s : Switch) (output : ℕ) (replies : List ℕ) → output < PORTS → replies ≡ answers all_enquiries s → Agrees s output (get_or replies output 0)
+all_report s output replies h e =
+    reports (finmap.get s.sources output) (get_or replies output 0) (ap (λ (r : List ℕ). get_or r output 0) e ∙ some_answers 0 PORTS output s h ∙ ap (λ i. answer_byte (finmap.get s.sources i)) (omega arith))
 
 pub not_honest : (b : Bool) → (IsTrue b → ⊥) → b ≡ false
 not_honest true h = absurd (h refl)
@@ -63,9 +63,9 @@ carried bytes old mid new goal_switch none replies enquiries t first e second =
 -- ---- a reply that was read
 
 -- a reply that names an input says it, and nothing else
-pub connected_says : (o : Option ℕ) (n input reply : ℕ) (b : Bool) → b ≡ option_eq eqb o (Some n) → n ≡ input → IsAnswer (Connected input) reply → IsTrue b ↔ Says o reply
-connected_says None n input reply b e same is = (λ t. absurd (false≢true (sym e ∙ t)), λ low. absurd (omega (arith, is.0)))
-connected_says (Some i) n input reply b e same is = (
+pub connected_reports : (o : Option ℕ) (n input reply : ℕ) (b : Bool) → b ≡ option_eq eqb o (Some n) → n ≡ input → IsAnswer (Connected input) reply → IsTrue b ↔ Reports o reply
+connected_reports None n input reply b e same is = (λ t. absurd (false≢true (sym e ∙ t)), λ low. absurd (omega (arith, is.0)))
+connected_reports (Some i) n input reply b e same is = (
   λ t. let here : i ≡ n = eqb-true i n (sym e ∙ t) in omega (arith, is.0),
   λ says. let here : i ≡ n = omega (arith, is.0) in e ∙ eq-eqb i n here,
 )
@@ -75,6 +75,6 @@ unnot true e = refl
 unnot false e = absurd (false≢true e)
 
 -- a reply that names none says that there is none
-pub loose_says : (o : Option ℕ) (reply : ℕ) (b : Bool) → is_some o ≡ not b → reply < 128 → IsTrue b ↔ Says o reply
-loose_says None reply b e low = (λ t. low, λ says. unnot b e)
-loose_says (Some i) reply b e low = (λ t. absurd (false≢true (sym (ap not t) ∙ sym e)), λ says. absurd (omega arith))
+pub loose_reports : (o : Option ℕ) (reply : ℕ) (b : Bool) → is_some o ≡ not b → reply < 128 → IsTrue b ↔ Reports o reply
+loose_reports None reply b e low = (λ t. low, λ says. unnot b e)
+loose_reports (Some i) reply b e low = (λ t. absurd (false≢true (sym (ap not t) ∙ sym e)), λ says. absurd (omega arith))

@@ -25,18 +25,6 @@ split_concat (s ∷ ss) (suc k) h =
     ∙ ap (λ (x : List ℕ). x ++ concat (drop (k + 1) ss)) (sym (append_assoc s (concat (take k ss)) (get_or ss k [])))
     ∙ ap (λ (x : ℕ). ((s ++ concat (take k ss)) ++ get_or ss k []) ++ concat (drop x (s ∷ ss))) (sym e)
 
-append-empty : (xs : List ℕ) → xs ++ [] ≡ xs
-append-empty [] = refl
-append-empty (x ∷ xs) = ap (λ (t : List ℕ). x ∷ t) (append-empty xs)
-
-pub concat_more : (settings : List (List ℕ)) (k : ℕ) → k < length settings → concat (take (k + 1) settings) ≡ concat (take k settings) ++ get_or settings k []
-concat_more [] k h = absurd (omega arith)
-concat_more (s ∷ ss) zero h = append-empty s
-concat_more (s ∷ ss) (suc k) h =
-    let e : suc k + 1 ≡ suc (k + 1) = omega arith in
-    ap (λ (x : ℕ). concat (take x (s ∷ ss))) e
-    ∙ ap (λ (x : List ℕ). s ++ x) (concat_more ss k (omega arith)) ∙ sym (append_assoc s (concat (take k ss)) (get_or ss k []))
-
 distinct_left : (xs ys : List ℕ) → AreDistinct (xs ++ ys) → AreDistinct xs
 distinct_left xs ys h i j d l m e =
     h i j d l (omega (arith, length-append xs ys)) (get_or_append_left xs ys d i (omega arith) ∙ e ∙ sym (get_or_append_left xs ys d j m))

@@ -18,7 +18,7 @@ use Rattle.setting_runner.specs.declared.outcome.Outcome.{Outcome}
 use Rattle.setting_runner.specs.declared.outcome.Outcome.TheVariants.{Refused}
 use Rattle.setting_runner.specs.declared.outcome.RunRefusal.{RunRefusal}
 use Rattle.setting_runner.specs.declared.outcome.RunRefusal.TheVariants.{Overlap, Shape}
-use Rattle.setting_runner.specs.Runs.{numbers_of}
+use Rattle.setting_runner.specs.Runs.{HasOwnBays, numbers_of, plan_destinations}
 use Rattle.setting_runner.proofs.Schedules.{split_concat}
 
 abbrev refused : RunRefusal → Outcome
@@ -63,7 +63,7 @@ plan_lendable s batch numbers r =
 
 -- and each setting has its bays then
 pub plan_bays : (s : Store) (plan : Plan) (k : ℕ) → IsReady s plan.batch (concat plan.settings) → k < length plan.settings
-    → AreBaysOf (without s (destinations_of plan.batch (concat plan.settings))) (bays_of s (destinations_of plan.batch (concat plan.settings))) (length (concat (take k plan.settings))) (setting_of plan.batch (numbers_of plan k))
+    → HasOwnBays (without s (plan_destinations plan)) (bays_of s (plan_destinations plan)) plan k
 plan_bays s plan k r h =
     let before = concat (take k plan.settings) in
     let after = concat (drop (k + 1) plan.settings) in

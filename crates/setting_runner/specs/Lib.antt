@@ -1,6 +1,9 @@
+pub mod ShortLists
+pub mod Equal
 pub mod Pairs
 pub mod Answers
 pub mod Moves
+pub mod Carried
 pub mod Tables
 pub mod Runs
 pub mod LineBits

@@ -1,5 +1,5 @@
 -- What a setting's transfers move into their bays, as a function of how many words each has moved.
-use Rattle.std.specs.Prelude.{◌≡◌, ℕ, ◌≤◌, ◌<◌, ◌⊎◌, List, [], ◌∷◌, ◌++◌, length, map, take, drop}
+use Rattle.std.specs.Prelude.{◌≡◌, ℕ, ◌≤◌, ◌<◌, List, [], ◌∷◌, ◌++◌, length, map, take, drop}
 use Rattle.std.specs.List.{AllByRecursion}
 use Rattle.batch.specs.declared.transfer.Transfer.{Transfer}
 use Rattle.batch.specs.Places.{HasPlace}
@@ -22,13 +22,17 @@ AreMovable rest batch [] [] = Unit {0}
 AreMovable rest batch (t ∷ numbers) (bay ∷ bays) = IsMovable rest batch t bay × AreMovable rest batch numbers bays
 AreMovable rest batch _ _ = ⊥
 
+-- a block into which so many words have moved: they stand in front, and behind them its own
+abbrev pub moved_into : ℕ → List ℕ → List ℕ → List ℕ
+moved_into count words old = take count words ++ drop count old
+
 -- The transfer is named with its words, and its bay begins with as many words of its source. A transfer whose wire never fails has
 -- moved them all.
 pub record HasMoved (sure : ℕ → Type 0) (rest : Store) (batch : List Transfer) (t : ℕ) (old new : BlockAt) (moved : ℕ × ℕ) : Type 0 where
   pub named : moved.0 ≡ t
   pub at_most : moved.1 ≤ rest.shape.words
   pub place : new.place ≡ old.place
-  pub words : new.words ≡ take moved.1 (block_of rest (source_at batch t)) ++ drop moved.1 old.words
+  pub words : new.words ≡ moved_into moved.1 (block_of rest (source_at batch t)) old.words
   pub all_words : sure t → moved.1 ≡ rest.shape.words
 
 -- the same of each transfer, in order
@@ -44,11 +48,6 @@ none_sure t = ⊥
 -- each transfer has moved so many words
 abbrev pub all_moved : List ℕ → ℕ → List (ℕ × ℕ)
 all_moved numbers words = map (λ t. (t, words)) numbers
-
--- the first transfer that has moved fewer words than a block has
-abbrev pub IsFirstShort : ℕ → ℕ → List (ℕ × ℕ) → Type 0
-IsFirstShort words transfer [] = ⊥
-IsFirstShort words transfer (m ∷ moved) = ((m.0 ≡ transfer) × (m.1 < words)) ⊎ ((words ≤ m.1) × IsFirstShort words transfer moved)
 
 -- every transfer has moved as many words as a block has
 abbrev pub AllWhole : ℕ → List (ℕ × ℕ) → Type 0

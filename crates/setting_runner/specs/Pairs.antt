@@ -6,22 +6,19 @@ use Rattle.c004_commands.specs.declared.command.Command.TheVariants.{Enquire}
 use Rattle.c004_commands.specs.declared.port.TheConstants.{PORTS}
 use Rattle.c004_commands.specs.Commands.{text, AreCommands}
 use Rattle.crossbar.specs.Switch.{Switch, after_all, enquiries}
-use Rattle.crossbar.specs.Pairs.{Pair as JoinedPair, join, cut}
-use Rattle.setting_runner.specs.declared.pair.Pair.{Pair}
+use Rattle.crossbar.specs.Pairs.{join, cut, without}
+use Rattle.crossbar.specs.declared.pair.Pair.{Pair}
 use Rattle.setting_runner.specs.declared.bytes.Way.{Way}
-use Rattle.setting_runner.specs.declared.bytes.Way.TheVariants.{Joined, Parted}
-
--- the pair, as the switch knows it
-abbrev pub pair_of : Pair → JoinedPair
-pair_of pair = record { initiator = pair.initiator; responder = pair.responder }
-
-abbrev pub pairs_of : List Pair → List JoinedPair
-pairs_of pairs = map pair_of pairs
+use Rattle.setting_runner.specs.declared.bytes.Way.TheVariants.{Join, Cut}
 
 -- the command that joins or parts a pair
-abbrev pub command_of : Way → JoinedPair → Command
-command_of Joined pair = join pair
-command_of Parted pair = cut pair
+abbrev pub command_of : Way → Pair → Command
+command_of Join pair = join pair
+command_of Cut pair = cut pair
+
+-- the commands that join or cut those pairs that aren't among others
+abbrev pub commands_of : Way → List Pair → List Pair → List Command
+commands_of way others pairs = map (command_of way) (without others pairs)
 
 -- the bytes are commands without an enquiry, which turn the one switch into the other
 pub record Turns (bytes : List ℕ) (old new : Switch) : Type 0 where

@@ -3,12 +3,17 @@ use Rattle.std.specs.Prelude.{◌≡◌, ℕ, ◌<◌, ◌≤◌, ◌+◌, ◌*�
 use Rattle.std.specs.List.{concat}
 use Rattle.batch.specs.Extent.{Extent}
 use Rattle.batch.specs.declared.transfer.Transfer.{Transfer}
+use Rattle.batch.specs.declared.transfer.Place.{Place}
 use Rattle.batch.specs.Overlap.{IsApart}
 use Rattle.c004_commands.specs.declared.port.TheConstants.{PORTS}
 use Rattle.crossbar.specs.Switch.{Switch}
-use Rattle.crossbar.specs.Pairs.{Pair as JoinedPair, switch_of}
+use Rattle.crossbar.specs.Pairs.{switch_of}
+use Rattle.crossbar.specs.declared.pair.Pair.{Pair}
 use Rattle.module_memory.specs.Store.{Store}
-use Rattle.module_memory.specs.Core.{FitsIn, IsMoved, IsPlaced, setting_of, times}
+use Rattle.module_memory.specs.Bays.{AreBaysOf, destinations_of}
+use Rattle.module_memory.specs.Core.{FitsIn, IsMoved, IsPlaced, IsReady, setting_of, times}
+use Rattle.module_memory.specs.Lending.{BlockAt, Rejoins, joined}
+use Rattle.link_graph.specs.Schedules.{IsScheduleOf}
 use Rattle.module_memory.specs.Settings.{IsRun, IsStoppedRun, all_words}
 use Rattle.schedule_certificate.specs.Plans.{Plan}
 use Rattle.setting_runner.specs.declared.outcome.Outcome.{Outcome}
@@ -20,17 +25,42 @@ use Rattle.setting_runner.specs.declared.outcome.StopCause.TheVariants.{Port, Sw
 abbrev pub numbers_of : Plan → ℕ → List ℕ
 numbers_of plan k = slice_index_or plan.settings k []
 
+-- the bays of a setting stand behind those of the settings before it
+abbrev pub HasOwnBays : Store → List BlockAt → Plan → ℕ → Type 0
+HasOwnBays rest bays plan k = AreBaysOf rest bays (length (concat (take k plan.settings))) (setting_of plan.batch (numbers_of plan k))
+
 -- the modules that a transfer wants joined
-abbrev pub joined_pair : Transfer → JoinedPair
+abbrev pub joined_pair : Transfer → Pair
 joined_pair t = record { initiator = t.initiator; responder = t.responder }
 
 -- the pairs of a setting
-abbrev pub setting_pairs : List Transfer → List ℕ → List JoinedPair
+abbrev pub setting_pairs : List Transfer → List ℕ → List Pair
 setting_pairs batch numbers = map joined_pair (setting_of batch numbers)
+
+-- the switch of a setting
+abbrev pub setting_switch : List Transfer → List ℕ → Switch
+setting_switch batch numbers = switch_of (setting_pairs batch numbers)
+
+-- the numbers of transfers with their words
+abbrev pub names_of : List (ℕ × ℕ) → List ℕ
+names_of moved = map (λ m. m.0) moved
 
 -- the words of transfers with their words
 abbrev pub words_of : List (ℕ × ℕ) → List ℕ
 words_of moved = map (λ m. m.1) moved
+
+-- ---- before the first setting
+
+-- the blocks that a plan writes, setting by setting
+abbrev pub plan_destinations : Plan → List Place
+plan_destinations plan = destinations_of plan.batch (concat plan.settings)
+
+-- the bays of all settings are lent, setting by setting, from a rack that is ready for the plan
+pub record IsPrepared (rest : Store) (bays : List BlockAt) (plan : Plan) : Type 0 where
+  pub schedule : IsScheduleOf plan.batch plan.settings
+  pub ready : IsReady (joined rest bays) plan.batch (concat plan.settings)
+  pub settings : (k : ℕ) → k < length plan.settings → HasOwnBays rest bays plan k
+  pub rejoins : Rejoins rest bays
 
 -- ---- the memories
 
@@ -41,16 +71,20 @@ pub record IsCompleted (old : Store) (plan : Plan) (settings words : ℕ) (new :
   pub machine : IsRun old plan.batch plan.settings new
   pub placed : IsPlaced old plan.batch new
 
+-- the transfers of the settings before one, and its own
+abbrev pub up_to : Plan → ℕ → List Transfer
+up_to plan k = setting_of plan.batch (concat (take k plan.settings) ++ numbers_of plan k)
+
 -- The settings before one were run, and of that one each transfer has moved so many words: the machine has made these steps, and the
 -- store is that of the counts.
 pub record IsStopped (old : Store) (plan : Plan) (setting : ℕ) (moved : List (ℕ × ℕ)) (new : Store) : Type 0 where
   pub within : setting < length plan.settings
-  pub named : map (λ m. m.0) moved ≡ numbers_of plan setting
+  pub named : names_of moved ≡ numbers_of plan setting
   pub at_most : All (λ m. m.1 ≤ old.shape.words) moved
   pub steps : List ℕ
   pub counted : (i : ℕ) → i < length moved → times i steps ≡ slice_index (words_of moved) i
   pub machine : IsStoppedRun old plan.batch (take setting plan.settings) (numbers_of plan setting) steps new
-  pub store : IsMoved old (setting_of plan.batch (concat (take setting plan.settings) ++ numbers_of plan setting)) (slice_index (all_words old (take setting plan.settings) ++ words_of moved)) new
+  pub store : IsMoved old (up_to plan setting) (slice_index (all_words old (take setting plan.settings) ++ words_of moved)) new
 
 abbrev pub LeavesMemories : Store → Plan → Outcome → Store → Type 0
 LeavesMemories old plan (Completed settings words) new = IsCompleted old plan settings words new
@@ -66,18 +100,47 @@ pub record IsLeastShort (words transfer : ℕ) (moved : List (ℕ × ℕ)) : Typ
   pub short : count < words
   pub least : All (λ m. m.1 < words → transfer ≤ m.0) moved
 
--- Why a setting stops. A port that fails or isn't honest stops it before a word has moved; where a wire fails, every transfer whose
--- wire never fails has moved all words. The port has failed just where it is the cause.
-abbrev pub IsStopCause : (ℕ → Type 0) → ℕ → ℕ → ℕ → Bool → StopCause → List (ℕ × ℕ) → Type 0
-IsStopCause sure words before after honest Port moved = (before < after) × All (λ m. m.1 ≡ 0) moved
-IsStopCause sure words before after honest (SwitchDisagrees output) moved = (honest ≡ false) × (output < PORTS) × All (λ m. m.1 ≡ 0) moved × (after ≡ before)
-IsStopCause sure words before after honest (Wire transfer) moved = IsLeastShort words transfer moved × All (λ m. sure m.0 → m.1 ≡ words) moved × (after ≡ before)
+-- what the causes of a run are judged by
+pub record Given : Type 1 where
+  -- the transfers whose wires never fail
+  pub sure : ℕ → Type 0
+  -- the words of a block
+  pub words : ℕ
+  -- how often the port had failed before the run, and how often it has after it
+  pub before : ℕ
+  pub after : ℕ
+  -- whether the port carries out what it answers Ok to
+  pub honest : Bool
+
+-- the port failed, and no word has moved
+pub record IsPortCause (given : Given) (moved : List (ℕ × ℕ)) : Type 0 where
+  pub failed : given.before < given.after
+  pub unmoved : All (λ m. m.1 ≡ 0) moved
+
+-- an output disagreed, at a port that isn't honest and hasn't failed, and no word has moved
+pub record IsSwitchCause (given : Given) (output : ℕ) (moved : List (ℕ × ℕ)) : Type 0 where
+  pub dishonest : given.honest ≡ false
+  pub known : output < PORTS
+  pub unmoved : All (λ m. m.1 ≡ 0) moved
+  pub unfailed : given.after ≡ given.before
+
+-- a wire failed: every transfer whose wire never fails has moved all words
+pub record IsWireCause (given : Given) (transfer : ℕ) (moved : List (ℕ × ℕ)) : Type 0 where
+  pub least : IsLeastShort given.words transfer moved
+  pub others : All (λ m. given.sure m.0 → m.1 ≡ given.words) moved
+  pub unfailed : given.after ≡ given.before
+
+-- why a setting stops: the port has failed just where it is the cause
+abbrev pub IsStopCause : Given → StopCause → List (ℕ × ℕ) → Type 0
+IsStopCause given Port moved = IsPortCause given moved
+IsStopCause given (SwitchDisagrees output) moved = IsSwitchCause given output moved
+IsStopCause given (Wire transfer) moved = IsWireCause given transfer moved
 
 -- a run that stopped has a cause, and the port has failed in no other
-abbrev pub HasCause : (ℕ → Type 0) → ℕ → ℕ → ℕ → Bool → Outcome → Type 0
-HasCause sure words before after honest (Stopped setting cause moved) = IsStopCause sure words before after honest cause moved
-HasCause sure words before after honest (Completed settings words_moved) = after ≡ before
-HasCause sure words before after honest (Refused refusal) = after ≡ before
+abbrev pub HasCause : Given → Outcome → Type 0
+HasCause given (Stopped setting cause moved) = IsStopCause given cause moved
+HasCause given (Completed settings words) = given.after ≡ given.before
+HasCause given (Refused refusal) = given.after ≡ given.before
 
 -- ---- the refusals
 
@@ -91,6 +154,11 @@ IsRefused (Refused refusal) = Unit {0}
 IsRefused (Completed settings words) = ⊥
 IsRefused (Stopped setting cause moved) = ⊥
 
+-- the transfers can be moved on a rack of this shape: no two overlap, and the rack has their blocks
+pub record CanMove (shape : Extent) (batch : List Transfer) : Type 0 where
+  pub apart : IsApart batch
+  pub fits : FitsIn shape batch
+
 -- no cause to refuse the run, but there is something to move
 pub record NeedsMemory (shape : Extent) (batch : List Transfer) : Type 0 where
   pub apart : IsApart batch
@@ -101,9 +169,9 @@ pub record NeedsMemory (shape : Extent) (batch : List Transfer) : Type 0 where
 
 -- the switch is that of the last setting, or of the setting in which a wire failed
 abbrev pub LeavesSwitch : Plan → Outcome → Switch → Type 0
-LeavesSwitch plan (Completed settings words) switch = (k : ℕ) → k + 1 ≡ length plan.settings → switch ≡ switch_of (setting_pairs plan.batch (numbers_of plan k))
+LeavesSwitch plan (Completed settings words) switch = (k : ℕ) → k + 1 ≡ length plan.settings → switch ≡ setting_switch plan.batch (numbers_of plan k)
 LeavesSwitch plan (Refused refusal) switch = Unit {0}
-LeavesSwitch plan (Stopped setting cause moved) switch = (t : ℕ) → cause ≡ Wire t → switch ≡ switch_of (setting_pairs plan.batch (numbers_of plan setting))
+LeavesSwitch plan (Stopped setting cause moved) switch = (t : ℕ) → cause ≡ Wire t → switch ≡ setting_switch plan.batch (numbers_of plan setting)
 
 -- ---- what is told
 

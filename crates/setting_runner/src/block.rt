@@ -1,9 +1,11 @@
 //! The words of one transfer.
 
-ghost use Rattle.std.specs.Prelude.{◌≡◌, ◌≤◌, ◌<◌, ◌++◌, length, take, drop};
+ghost use Rattle.std.specs.Prelude.{◌≡◌, ◌≤◌, ◌<◌, ◌↔◌, length};
 ghost use Rattle.batch.specs.Places.{HasPlace, source_of};
 ghost use Rattle.module_memory.specs.Store.{block_of};
 ghost use Rattle.module_memory.specs.Address.{address_of};
+ghost use Rattle.setting_runner.specs.Carried.{HasCarried, pulled, pushed, sent};
+ghost use Rattle.setting_runner.specs.Moves.{moved_into};
 
 use batch::{Kind, Place, Shape, Transfer};
 use module_memory::{Bay, Rest, WINDOW_START, WORD_BYTES};
@@ -16,9 +18,17 @@ pub fn move_block<W: Wire>(wire: &mut W, rest: &Rest, transfer: Transfer, bay: &
     requires bay_exists { HasPlace rest.now.shape bay.old.place }
     requires bay_width { length bay.old.words ≡ rest.now.shape.words }
     ensures place { bay.new.place ≡ bay.old.place }
-    ensures words { bay.new.words ≡ take result (block_of rest.now (source_of transfer)) ++ drop result bay.old.words }
+    ensures words { bay.new.words ≡ moved_into result (block_of rest.now (source_of transfer)) bay.old.words }
     ensures at_most { result ≤ rest.now.shape.words }
     ensures sure { W.never_fails wire.old → result ≡ rest.now.shape.words }
+    // What went over the wire is the words' messages, one after the other.
+    ensures carried { HasCarried
+        (sent transfer.kind rest.now.shape bay.old.place.block (source_of transfer).block
+        (block_of rest.now (source_of transfer)))
+        rest.now.shape.words result (W.carried wire.old) (W.carried wire.new) }
+    // All words have moved just where the wire hasn't failed, and fewer just where it has.
+    ensures whole { (result ≡ rest.now.shape.words) ↔ (W.failures wire.new ≡ W.failures wire.old) }
+    ensures short { (result < rest.now.shape.words) ↔ (W.failures wire.old < W.failures wire.new) }
 {
     match transfer.kind {
         Kind::Push => push_block(wire, rest, transfer.source(), bay),
@@ -43,9 +53,16 @@ fn push_block<W: Wire>(wire: &mut W, rest: &Rest, source: Place, bay: &mut Bay) 
     requires bay_exists { HasPlace rest.now.shape bay.old.place }
     requires bay_width { length bay.old.words ≡ rest.now.shape.words }
     ensures place { bay.new.place ≡ bay.old.place }
-    ensures words { bay.new.words ≡ take result (block_of rest.now source) ++ drop result bay.old.words }
+    ensures words { bay.new.words ≡ moved_into result (block_of rest.now source) bay.old.words }
     ensures at_most { result ≤ rest.now.shape.words }
     ensures sure { W.never_fails wire.old → result ≡ rest.now.shape.words }
+    // What went over the wire is the words' messages, one after the other.
+    ensures carried { HasCarried
+        (pushed rest.now.shape bay.old.place.block (block_of rest.now source))
+        rest.now.shape.words result (W.carried wire.old) (W.carried wire.new) }
+    // All words have moved just where the wire hasn't failed, and fewer just where it has.
+    ensures whole { (result ≡ rest.now.shape.words) ↔ (W.failures wire.new ≡ W.failures wire.old) }
+    ensures short { (result < rest.now.shape.words) ↔ (W.failures wire.old < W.failures wire.new) }
 {
     laws::blocks();
     let shape = rest.shape();
@@ -70,9 +87,16 @@ fn pull_block<W: Wire>(wire: &mut W, rest: &Rest, source: Place, bay: &mut Bay) 
     requires bay_exists { HasPlace rest.now.shape bay.old.place }
     requires bay_width { length bay.old.words ≡ rest.now.shape.words }
     ensures place { bay.new.place ≡ bay.old.place }
-    ensures words { bay.new.words ≡ take result (block_of rest.now source) ++ drop result bay.old.words }
+    ensures words { bay.new.words ≡ moved_into result (block_of rest.now source) bay.old.words }
     ensures at_most { result ≤ rest.now.shape.words }
     ensures sure { W.never_fails wire.old → result ≡ rest.now.shape.words }
+    // What went over the wire is the words' messages, one after the other.
+    ensures carried { HasCarried
+        (pulled rest.now.shape source.block (block_of rest.now source))
+        rest.now.shape.words result (W.carried wire.old) (W.carried wire.new) }
+    // All words have moved just where the wire hasn't failed, and fewer just where it has.
+    ensures whole { (result ≡ rest.now.shape.words) ↔ (W.failures wire.new ≡ W.failures wire.old) }
+    ensures short { (result < rest.now.shape.words) ↔ (W.failures wire.old < W.failures wire.new) }
 {
     laws::blocks();
     let shape = rest.shape();

@@ -6,12 +6,11 @@ ghost use Rattle.c004_commands.specs.Commands.{row, text};
 ghost use Rattle.crossbar.specs.Switch.{Switch};
 ghost use Rattle.crossbar.specs.Pairs.{ArePairs, switch_of, setting, change, is_pair, without};
 ghost use Rattle.setting_runner.specs.LineBits.{bits_of};
-ghost use Rattle.setting_runner.specs.Pairs.{pairs_of, pair_of, command_of, Turns, all_enquiries};
+ghost use Rattle.setting_runner.specs.Pairs.{command_of, commands_of, Turns, all_enquiries};
 
-use crate::pair::Pair;
 use batch::{MAX_TRANSFERS, MAX_WORDS};
 use c004_commands::{Command, LONGEST_COMMAND, PORTS, PortNo, write};
-use crossbar::{JOINED_MODULES, laws};
+use crossbar::{JOINED_MODULES, Pair, laws};
 use peek_poke::POKE_BYTES;
 
 /// How many bytes the longest change of a switch has, 97: three for each pair that goes, three for each pair
@@ -30,8 +29,8 @@ const MAX_MOVED: u64 = (MAX_TRANSFERS * MAX_WORDS) as u64;
 /// What becomes of a pair.
 #[derive(Clone, Copy)]
 enum Way {
-    Joined,
-    Parted,
+    Join,
+    Cut,
 }
 
 /// Writes the bytes that set any switch to the pairs, and gives their number, at most 50: a reset, the joins
@@ -41,14 +40,14 @@ enum Way {
 /// The initiators have to ascend, the responders to be distinct, and all to be below 16. Takes time by the
 /// number of pairs.
 pub fn setting_bytes(pairs: &[Pair], out: &mut [u8; CHANGE_BYTES]) -> usize
-    requires { ArePairs (pairs_of pairs.now) }
-    ensures bytes { take result out.new ≡ text (setting (pairs_of pairs.now)) }
-    ensures sets { (switch : Switch) → Turns (take result out.new) switch (switch_of (pairs_of pairs.now)) }
+    requires { ArePairs pairs.now }
+    ensures bytes { take result out.new ≡ text (setting pairs.now) }
+    ensures sets { (switch : Switch) → Turns (take result out.new) switch (switch_of pairs.now) }
     ensures room { result ≤ CHANGE_BYTES }
 {
     laws::setting();
     let begun = put(out, 0, Command::Reset);
-    let joined = put_pairs(out, begun, Way::Joined, pairs, &[]);
+    let joined = put_pairs(out, begun, Way::Join, pairs, &[]);
     put(out, joined, Command::Settle)
 }
 
@@ -60,16 +59,16 @@ pub fn setting_bytes(pairs: &[Pair], out: &mut [u8; CHANGE_BYTES]) -> usize
 /// Of both, the initiators have to ascend, the responders to be distinct, and all to be below 16. The time
 /// grows with the product of the numbers of pairs.
 pub fn change_bytes(old: &[Pair], new: &[Pair], out: &mut [u8; CHANGE_BYTES]) -> usize
-    requires old { ArePairs (pairs_of old.now) }
-    requires new { ArePairs (pairs_of new.now) }
-    ensures bytes { take result out.new ≡ text (change (pairs_of old.now) (pairs_of new.now)) }
-    ensures sets { Turns (take result out.new) (switch_of (pairs_of old.now)) (switch_of (pairs_of new.now)) }
+    requires old { ArePairs old.now }
+    requires new { ArePairs new.now }
+    ensures bytes { take result out.new ≡ text (change old.now new.now) }
+    ensures sets { Turns (take result out.new) (switch_of old.now) (switch_of new.now) }
     ensures room { result ≤ CHANGE_BYTES }
 {
     laws::change();
-    let parted = put_pairs(out, 0, Way::Parted, old, new);
-    let joined = put_pairs(out, parted, Way::Joined, new, old);
-    put(out, joined, Command::Settle)
+    let cut = put_pairs(out, 0, Way::Cut, old, new);
+    let changed = put_pairs(out, cut, Way::Join, new, old);
+    put(out, changed, Command::Settle)
 }
 
 /// The bytes that enquire every output, in order: `02 n` for n from 0 to 31 (INMOS IMS C004 data sheet,
@@ -107,9 +106,9 @@ fn put_pairs(
     pairs: &[Pair],
     others: &[Pair],
 ) -> usize
-    requires pairs { ArePairs (pairs_of pairs.now) }
+    requires pairs { ArePairs pairs.now }
     requires room { stand + LONGEST_COMMAND * length pairs.now ≤ CHANGE_BYTES }
-    ensures bytes { take result out.new ≡ take stand out.old ++ text (map (command_of way) (without (pairs_of others.now) (pairs_of pairs.now))) }
+    ensures bytes { take result out.new ≡ take stand out.old ++ text (commands_of way others.now pairs.now) }
     ensures room { result ≤ stand + LONGEST_COMMAND * length pairs.now }
 {
     let mut count = stand;
@@ -123,7 +122,7 @@ fn put_pairs(
 
 /// Whether a pair is one of others.
 fn is_among(pair: Pair, others: &[Pair]) -> bool
-    ensures { result ≡ list_any (is_pair (pair_of pair)) (pairs_of others.now) }
+    ensures { result ≡ list_any (is_pair pair) others.now }
 {
     for other in others {
         if *other == pair {
@@ -136,14 +135,14 @@ fn is_among(pair: Pair, others: &[Pair]) -> bool
 /// The command that joins or parts a pair.
 fn to_command(way: Way, pair: Pair) -> Command
     requires { (pair.initiator < JOINED_MODULES) × (pair.responder < JOINED_MODULES) }
-    ensures command { result ≡ command_of way (pair_of pair) }
+    ensures command { result ≡ command_of way pair }
     ensures number { length (row result) ≡ LONGEST_COMMAND }
 {
     let link1 = port(pair.initiator);
     let link2 = port(JOINED_MODULES + pair.responder);
     match way {
-        Way::Joined => Command::Join { link1, link2 },
-        Way::Parted => Command::CutPair { link1, link2 },
+        Way::Join => Command::Join { link1, link2 },
+        Way::Cut => Command::CutPair { link1, link2 },
     }
 }
 

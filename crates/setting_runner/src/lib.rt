@@ -4,25 +4,28 @@
 
 mod block;
 mod bytes;
+pub mod laws;
 mod moved;
 mod notice;
+mod numbers;
 mod outcome;
-mod pair;
 mod pair_list;
 mod plant;
 mod ready;
 mod running;
 mod setting;
+mod short_list;
 mod switching;
 mod work;
 
 pub use bytes::{
     CHANGE_BYTES, ENQUIRY_BYTES, change_bytes, enquiry_bytes, line_bits, setting_bytes,
 };
+pub use crossbar::Pair;
 pub use moved::Moved;
 pub use notice::Notice;
 pub use outcome::{Outcome, RunRefusal, StopCause};
-pub use pair::Pair;
+pub use pair_list::PairList;
 pub use plant::Plant;
 pub use running::run;
 

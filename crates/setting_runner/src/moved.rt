@@ -1,29 +1,37 @@
 //! How many words the transfers of a setting have moved.
 
-ghost use Rattle.std.specs.Prelude.{◌≡◌, ◌≤◌, ◌<◌, ◌+◌, ◌++◌, ◌∷◌, [], length, slice_get};
+ghost use Rattle.std.specs.Prelude.{◌≡◌, ◌≤◌, ◌<◌, ◌+◌, ◌++◌, ◌∷◌, ◌↔◌, [], IsTrue, length, slice_get};
+ghost use Rattle.std.specs.Slice.Iter.{iter_rest};
+ghost use Rattle.setting_runner.specs.Equal.{same_moved};
 
+use crate::short_list::{Blank, ShortList};
 use batch::MAX_MODULES;
 use std::marker::Model;
+use std::slice;
+
+impl Blank for (usize, usize) {
+    ghost blank = { (0, 0) };
+
+    fn blank() -> (usize, usize) {
+        (0, 0)
+    }
+}
 
 /// The transfers of a setting by ascending number, at most one of each module, each with the number of words
 /// that it has moved, from none to those of a block. Contracts see the list.
-#[derive(Clone, Copy, Debug, PartialEq, Eq)]
+#[derive(Clone, Copy, Debug)]
 pub struct Moved {
-    entries: [(usize, usize); MAX_MODULES],
-    count: usize,
+    entries: ShortList<(usize, usize)>,
 }
 
 impl Model for Moved {
-    ghost use Rattle.std.specs.Prelude.{◌≡◌, ◌≤◌, ◌-◌, ◌++◌, List, ℕ, length, take, replicate};
-    ghost use Rattle.batch.specs.declared.limits.TheConstants.{MAX_MODULES};
+    ghost use Rattle.std.specs.Prelude.{List, ℕ};
 
     ghost Value = { List (ℕ × ℕ) };
 
-    ghost view = { λ m. take m.count m.entries };
+    ghost view = { λ m. m.entries };
 
-    ghost invariant = { λ m. (m.count ≤ MAX_MODULES) × (m.entries ≡ take m.count m.entries ++ replicate (MAX_MODULES - m.count) (0, 0)) × (length m.entries ≡ MAX_MODULES) };
-
-    ghost inverse = { λ xs. record { entries = xs ++ replicate (MAX_MODULES - length xs) (0, 0); count = length xs } };
+    ghost inverse = { λ xs. record { entries = xs } };
 }
 
 impl Moved {
@@ -32,8 +40,7 @@ impl Moved {
         ensures { result ≡ [] }
     {
         Moved {
-            entries: [(0, 0); MAX_MODULES],
-            count: 0,
+            entries: ShortList::new(),
         }
     }
 
@@ -42,7 +49,14 @@ impl Moved {
         ensures number { result ≡ length self.now }
         ensures few { result ≤ MAX_MODULES }
     {
-        self.count
+        self.as_slice().len()
+    }
+
+    /// Whether there is no transfer.
+    pub fn is_empty(&self) -> bool
+        ensures { IsTrue result ↔ (self.now ≡ []) }
+    {
+        self.as_slice().is_empty()
     }
 
     /// The transfer at a position, and how many words it has moved. Nothing where the position isn't below the
@@ -50,11 +64,22 @@ impl Moved {
     pub fn get(&self, i: usize) -> Option<(usize, usize)>
         ensures { result ≡ slice_get self.now i }
     {
-        if i < self.count {
-            Some(self.entries[i])
-        } else {
-            None
-        }
+        self.as_slice().get(i).copied()
+    }
+
+    /// The transfers in order, each with the number of words that it has moved.
+    pub fn iter(&self) -> slice::Iter<'_, (usize, usize)>
+        ensures { iter_rest result ≡ self.now }
+    {
+        self.as_slice().iter()
+    }
+
+    /// The transfers in order, each with the number of words that it has moved.
+    pub fn as_slice(&self) -> &[(usize, usize)]
+        ensures entries { result.now ≡ self.now }
+        ensures few { length self.now ≤ MAX_MODULES }
+    {
+        self.entries.as_slice()
     }
 
     /// Puts a transfer behind the others.
@@ -62,8 +87,7 @@ impl Moved {
         requires { length self.old < MAX_MODULES }
         ensures { self.new ≡ self.old ++ (transfer, words) ∷ [] }
     {
-        self.entries[self.count] = (transfer, words);
-        self.count += 1;
+        self.entries.push((transfer, words));
     }
 
     /// These transfers, and behind them the others.
@@ -72,10 +96,33 @@ impl Moved {
         ensures { result ≡ self ++ others }
     {
         let mut all = self;
-        for i in 0..others.count {
-            let (transfer, words) = others.entries[i];
-            all.push(transfer, words);
+        for entry in others.as_slice() {
+            all.push(entry.0, entry.1);
         }
         all
     }
+}
+
+impl PartialEq for Moved {
+    ghost use Rattle.std.proofs.Common.{rules};
+    ghost use Rattle.std.specs.Cmp.Rules.{comparing};
+    ghost use Rattle.setting_runner.specs.Equal.{same_moved};
+
+    ghost eq = { same_moved };
+
+    ghost laws = { Prim.search (comparing, rules) };
+
+    fn eq(&self, other: &Moved) -> bool
+        ensures value { result ≡ same_moved self.now other.now }
+        ensures equal { IsTrue result ↔ (self.now ≡ other.now) }
+    {
+        self.as_slice() == other.as_slice()
+    }
+}
+
+impl Eq for Moved {
+    ghost use Rattle.std.proofs.Common.{rules};
+    ghost use Rattle.std.specs.Cmp.Rules.{comparing};
+
+    ghost laws = { Prim.search (comparing, rules) };
 }

@@ -1,15 +1,19 @@
 use crate::moved::Moved;
+use thiserror::Error;
 
 /// Why a run was refused: the rack is as it was, and the port wasn't called. The causes are tested in this
 /// order, which is this project's choice.
-#[derive(Clone, Copy, Debug, PartialEq, Eq)]
+#[derive(Clone, Copy, Debug, PartialEq, Eq, Error)]
 pub enum RunRefusal {
     /// These two transfers overlap, and no pair before them. The first number is at most the second, and
     /// both are one where a transfer writes the block that it reads.
+    #[error("overlap {0} {1}")]
     Overlap(usize, usize),
     /// A transfer names a module or a block that the rack hasn't.
+    #[error("shape")]
     Shape,
     /// There was no memory for the run.
+    #[error("no memory")]
     NoMemory,
 }
 

@@ -1,42 +1,46 @@
 //! The pairs of a setting, by their initiators.
 
-ghost use Rattle.std.specs.Prelude.{◌≡◌, ◌≤◌, ◌<◌, ◌+◌, ◌++◌, ◌∷◌, [], length, All};
+ghost use Rattle.std.specs.Prelude.{◌≡◌, ◌≤◌, ◌<◌, ◌+◌, ◌++◌, ◌∷◌, ◌↔◌, [], IsTrue, length, All};
+ghost use Rattle.std.specs.Slice.Iter.{iter_rest};
 ghost use Rattle.batch.specs.Batches.{IsBatch};
 ghost use Rattle.crossbar.specs.Pairs.{ArePairs, switch_of};
 ghost use Rattle.link_graph.specs.Uses.{IsMatching};
-ghost use Rattle.setting_runner.specs.Pairs.{pairs_of};
-ghost use Rattle.setting_runner.specs.Runs.{setting_pairs};
+ghost use Rattle.setting_runner.specs.Runs.{setting_switch};
 ghost use Rattle.setting_runner.specs.Tables.{table_pairs};
 
-use crate::pair::Pair;
+use crate::numbers::transfer_of;
+use crate::short_list::{Blank, ShortList};
 use batch::{Batch, MAX_MODULES};
+use crossbar::Pair;
 use std::marker::Model;
+use std::slice;
 
-/// At most as many pairs as there may be modules. Contracts see the list.
-#[derive(Clone, Copy, Debug)]
-pub struct PairList {
-    entries: [Pair; MAX_MODULES],
-    count: usize,
+impl Blank for Pair {
+    ghost blank = { record { initiator = 0; responder = 0 } };
+
+    fn blank() -> Pair {
+        Pair {
+            initiator: 0,
+            responder: 0,
+        }
+    }
 }
 
-/// What stands where there is no pair.
-const NO_PAIR: Pair = Pair {
-    initiator: 0,
-    responder: 0,
-};
+/// The pairs of a setting by ascending initiators, at most one of each module. Contracts see the list.
+#[derive(Clone, Copy, Debug)]
+pub struct PairList {
+    pairs: ShortList<Pair>,
+}
 
 impl Model for PairList {
-    ghost use Rattle.std.specs.Prelude.{◌≡◌, ◌≤◌, ◌-◌, ◌++◌, List, length, take, replicate};
-    ghost use Rattle.batch.specs.declared.limits.TheConstants.{MAX_MODULES};
-    ghost use Rattle.setting_runner.specs.declared.pair.Pair.{Pair};
+    ghost use Rattle.std.specs.Prelude.{List};
+    ghost use Rattle.crossbar.specs.declared.pair.Pair.{Pair};
 
     ghost Value = { List Pair };
 
-    ghost view = { λ m. take m.count m.entries };
+    ghost view = { λ list. list.pairs };
 
-    ghost invariant = { λ m. (m.count ≤ MAX_MODULES) × (m.entries ≡ take m.count m.entries ++ replicate (MAX_MODULES - m.count) (record { initiator = 0; responder = 0 })) × (length m.entries ≡ MAX_MODULES) };
-
-    ghost inverse = { λ xs. record { entries = xs ++ replicate (MAX_MODULES - length xs) (record { initiator = 0; responder = 0 }); count = length xs } };
+    ghost inverse = { λ pairs. record { pairs = pairs } };
 }
 
 impl PairList {
@@ -45,50 +49,67 @@ impl PairList {
         ensures { result ≡ [] }
     {
         PairList {
-            entries: [NO_PAIR; MAX_MODULES],
-            count: 0,
+            pairs: ShortList::new(),
         }
+    }
+
+    /// How many pairs there are, at most 16.
+    pub fn len(&self) -> usize
+        ensures number { result ≡ length self.now }
+        ensures few { result ≤ MAX_MODULES }
+    {
+        self.as_slice().len()
+    }
+
+    /// Whether there is no pair.
+    pub fn is_empty(&self) -> bool
+        ensures { IsTrue result ↔ (self.now ≡ []) }
+    {
+        self.as_slice().is_empty()
+    }
+
+    /// The pairs, in order.
+    pub fn iter(&self) -> slice::Iter<'_, Pair>
+        ensures { iter_rest result ≡ self.now }
+    {
+        self.as_slice().iter()
     }
 
     /// The pairs, in order.
     pub fn as_slice(&self) -> &[Pair]
-        ensures { result.now ≡ self.now }
+        ensures pairs { result.now ≡ self.now }
+        ensures few { length self.now ≤ MAX_MODULES }
     {
-        &self.entries[..self.count]
-    }
-
-    /// Puts a pair behind the others.
-    fn push(&mut self, pair: Pair)
-        requires { length self.old < MAX_MODULES }
-        ensures { self.new ≡ self.old ++ pair ∷ [] }
-    {
-        self.entries[self.count] = pair;
-        self.count += 1;
+        self.pairs.as_slice()
     }
 
     /// Puts the pair of an initiator behind the others, if it has a responder.
     fn put(&mut self, initiator: usize, responder: Option<u8>)
         requires room { length self.old < MAX_MODULES }
         requires initiator { initiator < MAX_MODULES }
-        ensures pairs { pairs_of self.new ≡ pairs_of self.old ++ table_pairs initiator (responder ∷ []) }
+        ensures pairs { self.new ≡ self.old ++ table_pairs initiator (responder ∷ []) }
         ensures count { length self.new ≤ length self.old + 1 }
     {
         if let Some(responder) = responder {
             let initiator = initiator as u8;
-            self.push(Pair {
+            self.pairs.push(Pair {
                 initiator,
                 responder,
             });
         }
     }
 
-    /// The pairs of the transfers of a setting, by their initiators.
+    /// The pairs of the transfers of a setting, by their initiators: what [`crate::setting_bytes`] and
+    /// [`crate::change_bytes`] take.
+    ///
+    /// The numbers have to be those of transfers of the batch, of which no two want one end of a module's
+    /// link, as those of each setting of a schedule. Takes time by their number.
     pub fn of_setting(batch: &Batch, numbers: &[usize]) -> PairList
         requires batch { IsBatch batch.now }
         requires known { All (λ t. t < length batch.now) numbers.now }
         requires matching { IsMatching batch.now numbers.now }
-        ensures pairs { ArePairs (pairs_of result) }
-        ensures switch { switch_of (pairs_of result) ≡ switch_of (setting_pairs batch.now numbers.now) }
+        ensures pairs { ArePairs result }
+        ensures switch { switch_of result ≡ setting_switch batch.now numbers.now }
     {
         let responders = responders_of(batch, numbers);
         let mut pairs = PairList::none();
@@ -105,13 +126,11 @@ fn responders_of(batch: &Batch, numbers: &[usize]) -> [Option<u8>; MAX_MODULES]
     requires known { All (λ t. t < length batch.now) numbers.now }
     requires matching { IsMatching batch.now numbers.now }
     ensures pairs { ArePairs (table_pairs 0 result) }
-    ensures switch { switch_of (table_pairs 0 result) ≡ switch_of (setting_pairs batch.now numbers.now) }
+    ensures switch { switch_of (table_pairs 0 result) ≡ setting_switch batch.now numbers.now }
 {
     let mut responders = [None; MAX_MODULES];
     for t in numbers {
-        let Some(transfer) = batch.transfer(*t) else {
-            unreachable!();
-        };
+        let transfer = transfer_of(batch, *t);
         responders[transfer.initiator] = Some(transfer.responder as u8);
     }
     responders

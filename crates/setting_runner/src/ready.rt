@@ -1,11 +1,12 @@
 //! What is tested and taken before a run begins.
 
 ghost use Rattle.std.specs.Prelude.{◌≡◌, ◌<◌, ◌++◌, ◌↔◌, All, length, IsTrue, OnOk, OnErr, IfOk, IfErr};
-ghost use Rattle.std.specs.List.{concat};
 ghost use Rattle.batch.specs.Places.{HasPlace, source_of, destination_of};
 ghost use Rattle.module_memory.specs.Bays.{destinations_of};
 ghost use Rattle.module_memory.specs.Core.{FitsIn};
+ghost use Rattle.setting_runner.specs.Runs.{plan_destinations};
 
+use crate::numbers::{setting_numbers, transfer_of};
 use batch::{Batch, Place, Shape, Transfer};
 use schedule_certificate::Planned;
 use std::alloc::{AllocError, Global};
@@ -19,7 +20,8 @@ fn has_place(shape: Shape, place: Place) -> bool
 
 /// Whether the shape has the blocks that a transfer reads and writes.
 fn has_blocks(shape: Shape, transfer: Transfer) -> bool
-    ensures { IsTrue result ↔ (HasPlace shape (source_of transfer) × HasPlace shape (destination_of transfer)) }
+    ensures { IsTrue result ↔
+        (HasPlace shape (source_of transfer) × HasPlace shape (destination_of transfer)) }
 {
     has_place(shape, transfer.source()) && has_place(shape, transfer.destination())
 }
@@ -28,11 +30,8 @@ fn has_blocks(shape: Shape, transfer: Transfer) -> bool
 pub fn fits_in(shape: Shape, batch: &Batch) -> bool
     ensures { IsTrue result ↔ FitsIn shape batch.now }
 {
-    for t in 0..batch.len() {
-        let Some(transfer) = batch.transfer(t) else {
-            unreachable!();
-        };
-        if !has_blocks(shape, transfer) {
+    for transfer in batch.as_slice() {
+        if !has_blocks(shape, *transfer) {
             return false;
         }
     }
@@ -41,17 +40,13 @@ pub fn fits_in(shape: Shape, batch: &Batch) -> bool
 
 /// The blocks that the transfers of a plan write, in the order of its settings.
 pub fn destinations(alloc: Global, planned: &Planned) -> Result<Vec<Place>, AllocError>
-    ensures places { IfOk result (λ places. places.items ≡ destinations_of planned.now.batch (concat planned.now.settings)) }
+    ensures places { IfOk result (λ places. places.items ≡ plan_destinations planned.now) }
     ensures memory { IfErr result (λ _. 0 < length planned.now.batch) }
 {
     let batch = planned.batch();
-    let schedule = planned.schedule();
     let mut places = Vec::new(alloc);
-    for k in 0..schedule.settings() {
-        let Some(numbers) = schedule.setting(k) else {
-            unreachable!();
-        };
-        push_destinations(&mut places, batch, numbers)?;
+    for k in 0..planned.schedule().settings() {
+        push_destinations(&mut places, batch, setting_numbers(planned, k))?;
     }
     Ok(places)
 }
@@ -63,14 +58,12 @@ fn push_destinations(
     numbers: &[usize],
 ) -> Result<(), AllocError>
     requires { All (λ t. t < length batch.now) numbers.now }
-    ensures places { OnOk result (places.new.items ≡ places.old.items ++ destinations_of batch.now numbers.now) }
+    ensures places { OnOk result
+        (places.new.items ≡ places.old.items ++ destinations_of batch.now numbers.now) }
     ensures memory { OnErr result (0 < length batch.now) }
 {
     for t in numbers {
-        let Some(transfer) = batch.transfer(*t) else {
-            unreachable!();
-        };
-        places.push(transfer.destination())?;
+        places.push(transfer_of(batch, *t).destination())?;
     }
     Ok(())
 }

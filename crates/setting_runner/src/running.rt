@@ -1,18 +1,14 @@
 //! Runs of planned batches.
 
-ghost use Rattle.std.specs.Prelude.{◌≡◌, ◌≤◌, ◌<◌, ◌↔◌, ℕ, [], length, take, IsTrue, IfSome};
-ghost use Rattle.std.specs.List.{concat};
+ghost use Rattle.std.specs.Prelude.{◌≡◌, ◌≤◌, ◌↔◌, ℕ, [], IsTrue};
 ghost use Rattle.batch.specs.Overlap.{IsApart, IsFirstOverlap};
-ghost use Rattle.crossbar.specs.Pairs.{ArePairs, switch_of};
-ghost use Rattle.module_memory.specs.Bays.{AreBaysOf};
-ghost use Rattle.module_memory.specs.Core.{IsReady, setting_of};
 ghost use Rattle.module_memory.specs.Lending.{joined, Rejoins};
-ghost use Rattle.schedule_certificate.specs.Plans.{IsPlan};
 ghost use Rattle.setting_runner.specs.declared.outcome.RunRefusal.TheVariants.{Overlap, Shape, NoMemory};
 ghost use Rattle.setting_runner.specs.declared.outcome.Outcome.TheVariants.{Refused};
-ghost use Rattle.setting_runner.specs.Runs.{numbers_of, LeavesMemories, HasCause, IsMisfit, IsRefused, NeedsMemory, LeavesSwitch, TellsOutcome};
+ghost use Rattle.setting_runner.specs.Runs.{IsPrepared, LeavesMemories, HasCause, IsMisfit, IsRefused, CanMove, NeedsMemory, LeavesSwitch, TellsOutcome};
 
 use crate::notice::Notice;
+use crate::numbers::setting_numbers;
 use crate::outcome::{Outcome, RunRefusal};
 use crate::pair_list::PairList;
 use crate::plant::Plant;
@@ -54,14 +50,26 @@ pub fn run<R: Threads + Sync, P: ConfigPort, W: WireMaker + Sync, G: Gate + Sync
     requires few { plant.old.workers ≤ MAX_WORKERS }
 
     ensures memories { LeavesMemories rack planned.now result.1 result.0 }
-    ensures cause { HasCause (W.is_sure plant.old.wires) rack.shape.words (P.failures plant.old.port) (P.failures plant.new.port) (P.honest plant.old.port) result.1 }
-    ensures switch { IsTrue (P.honest plant.old.port) → LeavesSwitch planned.now result.1 (P.switch plant.new.port) }
+    ensures cause { HasCause (record {
+      sure = W.is_sure plant.old.wires;
+      words = rack.shape.words;
+      before = P.failures plant.old.port;
+      after = P.failures plant.new.port;
+      honest = P.honest plant.old.port;
+    }) result.1 }
+    ensures switch { IsTrue (P.honest plant.old.port) →
+        LeavesSwitch planned.now result.1 (P.switch plant.new.port) }
     ensures told { TellsOutcome N.hears notice.old result.1 notice.new }
 
     // Each refusal comes just where its cause is there and none before it, want of memory aside.
-    ensures overlap { (i j : ℕ) → (result.1 ≡ Refused (Overlap i j)) ↔ IsFirstOverlap planned.now.batch i j }
-    ensures shape { (result.1 ≡ Refused Shape) ↔ (IsApart planned.now.batch × IsMisfit rack.shape planned.now.batch) }
+    ensures overlap { (i j : ℕ) →
+        (result.1 ≡ Refused (Overlap i j)) ↔ IsFirstOverlap planned.now.batch i j }
+    ensures shape { (result.1 ≡ Refused Shape) ↔
+        (IsApart planned.now.batch × IsMisfit rack.shape planned.now.batch) }
     ensures memory { result.1 ≡ Refused NoMemory → NeedsMemory rack.shape planned.now.batch }
+
+    // A run that isn't refused is of transfers that don't overlap and that the rack has.
+    ensures free { (IsRefused result.1 → ⊥) → CanMove rack.shape planned.now.batch }
 
     // The port isn't called where the run is refused or there is nothing to do.
     ensures refused { IsRefused result.1 → plant.new ≡ plant.old }
@@ -102,14 +110,19 @@ fn run_settings<R: Threads + Sync, P: ConfigPort, W: WireMaker + Sync, G: Gate +
 ) -> Outcome
     requires some { 1 ≤ plant.old.workers }
     requires few { plant.old.workers ≤ MAX_WORKERS }
-    requires ready { IsReady (joined rest.now bays.old) planned.now.batch (concat planned.now.settings) }
-    requires bays { (k : ℕ) → k < length planned.now.settings → AreBaysOf rest.now bays.old (length (concat (take k planned.now.settings))) (setting_of planned.now.batch (numbers_of planned.now k)) }
-    requires rejoins { Rejoins rest.now bays.old }
+    requires prepared { IsPrepared rest.now bays.old planned.now }
 
     ensures rejoins { Rejoins rest.now bays.new }
     ensures memories { LeavesMemories (joined rest.now bays.old) planned.now result (joined rest.now bays.new) }
-    ensures cause { HasCause (W.is_sure plant.old.wires) rest.now.shape.words (P.failures plant.old.port) (P.failures plant.new.port) (P.honest plant.old.port) result }
-    ensures switch { IsTrue (P.honest plant.old.port) → LeavesSwitch planned.now result (P.switch plant.new.port) }
+    ensures cause { HasCause (record {
+      sure = W.is_sure plant.old.wires;
+      words = rest.now.shape.words;
+      before = P.failures plant.old.port;
+      after = P.failures plant.new.port;
+      honest = P.honest plant.old.port;
+    }) result }
+    ensures switch { IsTrue (P.honest plant.old.port) →
+        LeavesSwitch planned.now result (P.switch plant.new.port) }
     ensures told { TellsOutcome N.hears notice.old result notice.new }
     ensures going { IsRefused result → ⊥ }
     ensures uncalled { planned.now.settings ≡ [] → plant.new ≡ plant.old }
@@ -123,9 +136,7 @@ fn run_settings<R: Threads + Sync, P: ConfigPort, W: WireMaker + Sync, G: Gate +
     let mut standing = None;
     let mut from = 0;
     for number in 0..schedule.settings() {
-        let Some(numbers) = schedule.setting(number) else {
-            unreachable!();
-        };
+        let numbers = setting_numbers(planned, number);
         let pairs = PairList::of_setting(batch, numbers);
         let setting = Setting {
             batch,

@@ -1,11 +1,11 @@
 //! One setting of a run.
 
-ghost use Rattle.std.specs.Prelude.{◌≡◌, ◌≤◌, ◌<◌, ℕ, AllPairs, MatchOption, IsTrue, length, MatchResult, OnOk, IfErr, IfSome};
-ghost use Rattle.crossbar.specs.Pairs.{ArePairs, switch_of};
+ghost use Rattle.std.specs.Prelude.{◌≡◌, ◌≤◌, ◌<◌, ℕ, AllPairs, MatchOption, length, MatchResult, OnOk, IfErr, IfSome};
+ghost use Rattle.crossbar.specs.Pairs.{ArePairs};
 ghost use Rattle.setting_runner.specs.declared.outcome.StopCause.TheVariants.{Wire};
-ghost use Rattle.setting_runner.specs.Moves.{AreMovable, HaveMoved, none_sure, all_moved, IsFirstShort, AllWhole};
-ghost use Rattle.setting_runner.specs.Pairs.{pairs_of};
-ghost use Rattle.setting_runner.specs.Runs.{IsStopCause};
+ghost use Rattle.setting_runner.specs.Moves.{AreMovable, HaveMoved, none_sure, all_moved, AllWhole};
+ghost use Rattle.setting_runner.specs.Answers.{IsSetTo, AreStanding};
+ghost use Rattle.setting_runner.specs.Runs.{IsStopCause, IsLeastShort, names_of};
 
 use crate::moved::Moved;
 use crate::outcome::StopCause;
@@ -48,8 +48,8 @@ pub fn run_setting<R: Threads + Sync, P: ConfigPort, W: WireMaker + Sync, G: Gat
 ) -> Result<(), Stop>
     requires some { 1 ≤ plant.old.workers }
     requires few { plant.old.workers ≤ MAX_WORKERS }
-    requires standing { IfSome setting.now.standing (λ old. ArePairs (pairs_of old) × (IsTrue (P.honest plant.old.port) → P.switch plant.old.port ≡ switch_of (pairs_of old))) }
-    requires pairs { ArePairs (pairs_of setting.now.pairs) }
+    requires standing { AreStanding (P.honest plant.old.port) (P.switch plant.old.port) setting.now.standing }
+    requires pairs { ArePairs setting.now.pairs }
     requires numbers { length setting.now.numbers.now ≤ MAX_MODULES }
     requires ascending { AllPairs (λ t u. t < u) setting.now.numbers.now }
     requires movable { AreMovable rest.now setting.now.batch.now setting.now.numbers.now bays.old }
@@ -57,9 +57,17 @@ pub fn run_setting<R: Threads + Sync, P: ConfigPort, W: WireMaker + Sync, G: Gat
     ensures moved { MatchResult result
         (λ _. HaveMoved none_sure rest.now setting.now.batch.now setting.now.numbers.now bays.old bays.new (all_moved setting.now.numbers.now rest.now.shape.words))
         (λ stop. HaveMoved none_sure rest.now setting.now.batch.now setting.now.numbers.now bays.old bays.new stop.moved) }
-    ensures cause { IfErr result (λ stop. IsStopCause (W.is_sure plant.old.wires) rest.now.shape.words (P.failures plant.old.port) (P.failures plant.new.port) (P.honest plant.old.port) stop.cause stop.moved) }
-    ensures set { OnOk result (IsTrue (P.honest plant.old.port) → P.switch plant.new.port ≡ switch_of (pairs_of setting.now.pairs)) }
-    ensures wire { IfErr result (λ stop. (t : ℕ) → stop.cause ≡ Wire t → IsTrue (P.honest plant.old.port) → P.switch plant.new.port ≡ switch_of (pairs_of setting.now.pairs)) }
+    ensures cause { IfErr result (λ stop. IsStopCause (record {
+      sure = W.is_sure plant.old.wires;
+      words = rest.now.shape.words;
+      before = P.failures plant.old.port;
+      after = P.failures plant.new.port;
+      honest = P.honest plant.old.port;
+    }) stop.cause stop.moved) }
+    ensures set { OnOk result
+        (IsSetTo (P.honest plant.old.port) (P.switch plant.new.port) setting.now.pairs) }
+    ensures wire { IfErr result (λ stop. (t : ℕ) → stop.cause ≡ Wire t →
+        IsSetTo (P.honest plant.old.port) (P.switch plant.new.port) setting.now.pairs) }
     ensures plant { plant.new ≡ record plant.old { port = plant.new.port } }
     ensures counted { P.failures plant.old.port ≤ P.failures plant.new.port }
     ensures unfailed { OnOk result (P.failures plant.new.port ≡ P.failures plant.old.port) }
@@ -80,7 +88,7 @@ pub fn run_setting<R: Threads + Sync, P: ConfigPort, W: WireMaker + Sync, G: Gat
     };
     let workers = Workers::all(plant.workers);
     let moved = move_all(rt, &work, workers, setting.numbers, bays);
-    match first_short(&moved, words) {
+    match least_short(&moved, words) {
         Some(transfer) => Err(Stop {
             cause: StopCause::Wire(transfer),
             moved,
@@ -101,16 +109,16 @@ fn none_moved(numbers: &[usize]) -> Moved
     moved
 }
 
-/// The first transfer that has moved fewer words than a block has.
-fn first_short(moved: &Moved, words: usize) -> Option<usize>
-    ensures { MatchOption result (AllWhole words moved.now) (λ transfer. IsFirstShort words transfer moved.now) }
+/// The least transfer that has moved fewer words than a block has.
+fn least_short(moved: &Moved, words: usize) -> Option<usize>
+    requires { AllPairs (λ t u. t < u) (names_of moved.now) }
+    ensures { MatchOption result
+        (AllWhole words moved.now)
+        (λ transfer. IsLeastShort words transfer moved.now) }
 {
-    for i in 0..moved.len() {
-        let Some((transfer, count)) = moved.get(i) else {
-            unreachable!();
-        };
-        if count < words {
-            return Some(transfer);
+    for entry in moved.as_slice() {
+        if entry.1 < words {
+            return Some(entry.0);
         }
     }
     None

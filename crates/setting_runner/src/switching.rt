@@ -1,19 +1,16 @@
 //! A setting is put on the switch, and the switch is asked whether it stands so.
 
-ghost use Rattle.std.specs.Prelude.{◌≡◌, ◌≤◌, ◌<◌, ◌↔◌, ℕ, IsTrue, take, slice_index, OnOk, IfErr, IfSome, MatchOption};
+ghost use Rattle.std.specs.Prelude.{◌≡◌, ◌≤◌, ◌<◌, ◌↔◌, IsTrue, take, OnOk, IfErr, IfSome, MatchOption};
 ghost use Rattle.std.specs.FinMap as map;
 ghost use Rattle.crossbar.specs.Port.{IsExchange};
-ghost use Rattle.crossbar.specs.Switch.{Switch};
 ghost use Rattle.crossbar.specs.Pairs.{ArePairs, switch_of};
-ghost use Rattle.setting_runner.specs.Pairs.{pairs_of, Turns};
-ghost use Rattle.setting_runner.specs.Answers.{Agrees, IsSetFault};
+ghost use Rattle.setting_runner.specs.Answers.{Agrees, AllAgree, IsFirstDisagreement, IsSetTo, IsSetFault, AreStanding, TurnFrom};
 
 use crate::bytes::{CHANGE_BYTES, change_bytes, enquiry_bytes, setting_bytes};
 use crate::outcome::StopCause;
-use crate::pair::Pair;
 use crate::pair_list::PairList;
 use c004_commands::{Answer, PORTS};
-use crossbar::{ConfigPort, JOINED_MODULES};
+use crossbar::{ConfigPort, JOINED_MODULES, Pair};
 
 /// How many outputs there are to ask.
 const OUTPUTS: usize = PORTS as usize;
@@ -25,10 +22,11 @@ pub fn set_switch<P: ConfigPort>(
     standing: Option<PairList>,
     pairs: &[Pair],
 ) -> Result<(), StopCause>
-    requires pairs { ArePairs (pairs_of pairs.now) }
-    requires standing { IfSome standing (λ old. ArePairs (pairs_of old) × (IsTrue (P.honest port.old) → P.switch port.old ≡ switch_of (pairs_of old))) }
-    ensures set { OnOk result (IsTrue (P.honest port.old) → P.switch port.new ≡ switch_of (pairs_of pairs.now)) }
-    ensures fault { IfErr result (λ cause. IsSetFault (P.failures port.old) (P.failures port.new) (P.honest port.old) cause) }
+    requires pairs { ArePairs pairs.now }
+    requires standing { AreStanding (P.honest port.old) (P.switch port.old) standing }
+    ensures set { OnOk result (IsSetTo (P.honest port.old) (P.switch port.new) pairs.now) }
+    ensures fault { IfErr result
+        (λ cause. IsSetFault (P.failures port.old) (P.failures port.new) (P.honest port.old) cause) }
     ensures counted { P.failures port.old ≤ P.failures port.new }
     ensures unfailed { OnOk result (P.failures port.new ≡ P.failures port.old) }
     ensures honesty { P.honest port.new ≡ P.honest port.old }
@@ -52,10 +50,10 @@ pub fn set_switch<P: ConfigPort>(
 /// The bytes that set the switch to the pairs: from the pairs that stand if they are known, else from any
 /// switch.
 fn bytes_for(standing: Option<PairList>, pairs: &[Pair], out: &mut [u8; CHANGE_BYTES]) -> usize
-    requires pairs { ArePairs (pairs_of pairs.now) }
-    requires standing { IfSome standing (λ old. ArePairs (pairs_of old)) }
+    requires pairs { ArePairs pairs.now }
+    requires standing { IfSome standing (λ old. ArePairs old) }
     ensures quiet { IsExchange (take result out.new) 0 }
-    ensures sets { (switch : Switch) → IfSome standing (λ old. switch ≡ switch_of (pairs_of old)) → Turns (take result out.new) switch (switch_of (pairs_of pairs.now)) }
+    ensures sets { TurnFrom standing (take result out.new) pairs.now }
     ensures room { result ≤ CHANGE_BYTES }
 {
     match standing {
@@ -66,11 +64,10 @@ fn bytes_for(standing: Option<PairList>, pairs: &[Pair], out: &mut [u8; CHANGE_B
 
 /// The first output whose reply isn't what the pairs call for.
 fn first_disagreement(pairs: &[Pair], replies: &[u8; OUTPUTS]) -> Option<u8>
-    requires { ArePairs (pairs_of pairs.now) }
+    requires { ArePairs pairs.now }
     ensures { MatchOption result
-        ((output : ℕ) → output < PORTS → Agrees (switch_of (pairs_of pairs.now)) output (slice_index replies.now output))
-        (λ output. (output < PORTS) × (Agrees (switch_of (pairs_of pairs.now)) output (slice_index replies.now output) → ⊥)
-        × ((before : ℕ) → before < output → Agrees (switch_of (pairs_of pairs.now)) before (slice_index replies.now before))) }
+        (AllAgree (switch_of pairs.now) replies.now)
+        (λ output. IsFirstDisagreement (switch_of pairs.now) replies.now output) }
 {
     for output in 0..PORTS {
         if !agrees(pairs, output, replies[output as usize]) {
@@ -82,8 +79,8 @@ fn first_disagreement(pairs: &[Pair], replies: &[u8; OUTPUTS]) -> Option<u8>
 
 /// Whether an output's reply is what the pairs call for.
 fn agrees(pairs: &[Pair], output: u8, reply: u8) -> bool
-    requires { ArePairs (pairs_of pairs.now) }
-    ensures { IsTrue result ↔ Agrees (switch_of (pairs_of pairs.now)) output reply }
+    requires { ArePairs pairs.now }
+    ensures { IsTrue result ↔ Agrees (switch_of pairs.now) output reply }
 {
     let source = source_for(pairs, output);
     let Ok(answer) = Answer::read(reply) else {
@@ -97,8 +94,8 @@ fn agrees(pairs: &[Pair], output: u8, reply: u8) -> bool
 
 /// The input that the pairs call for at an output.
 fn source_for(pairs: &[Pair], output: u8) -> Option<u8>
-    requires { ArePairs (pairs_of pairs.now) }
-    ensures source { result ≡ map.get (switch_of (pairs_of pairs.now)).sources output }
+    requires { ArePairs pairs.now }
+    ensures source { result ≡ map.get (switch_of pairs.now).sources output }
     ensures range { IfSome result (λ input. input < PORTS) }
 {
     for pair in pairs {

@@ -7,6 +7,7 @@ ghost use Rattle.setting_runner.specs.Moves.{AreMovable, HaveMoved};
 
 use crate::block::move_block;
 use crate::moved::Moved;
+use crate::numbers::transfer_of;
 use batch::{Batch, MAX_MODULES};
 use module_memory::{Bay, Rest};
 use peek_poke::WireMaker;
@@ -36,7 +37,8 @@ pub fn move_all<R: Threads + Sync, W: WireMaker + Sync, G: Gate + Sync>(
     requires some { 0 < workers.count }
     requires few { length numbers.now ≤ MAX_MODULES }
     requires movable { AreMovable work.now.rest.now work.now.batch.now numbers.now bays.old }
-    ensures { HaveMoved (W.is_sure work.now.wires.now) work.now.rest.now work.now.batch.now numbers.now bays.old bays.new result }
+    ensures { HaveMoved (W.is_sure work.now.wires.now) work.now.rest.now work.now.batch.now
+        numbers.now bays.old bays.new result }
 {
     if workers.count < 2 || numbers.len() < 2 {
         return move_in_turn(work, numbers, bays);
@@ -48,15 +50,23 @@ pub fn move_all<R: Threads + Sync, W: WireMaker + Sync, G: Gate + Sync>(
     let (moved1, moved2) = join_mut(
         rt,
         &mut || -> Moved
-            requires { IsSync R.row × IsSync W.row × IsSync G.row × (0 < workers1.count) × (length numbers1.now ≤ MAX_MODULES) × AreMovable work.now.rest.now work.now.batch.now numbers1.now bays1.now }
-            ensures { HaveMoved (W.is_sure work.entry.now.wires.now) work.entry.now.rest.now work.entry.now.batch.now numbers1.entry.now bays1.entry.now bays1.exit.now result }
+            requires { IsSync R.row × IsSync W.row × IsSync G.row
+                × (0 < workers1.count) × (length numbers1.now ≤ MAX_MODULES)
+                × AreMovable work.now.rest.now work.now.batch.now numbers1.now bays1.now }
+            ensures { HaveMoved (W.is_sure work.entry.now.wires.now)
+                work.entry.now.rest.now work.entry.now.batch.now
+                numbers1.entry.now bays1.entry.now bays1.exit.now result }
         {
             work.gate.arrive(workers1.least);
             move_all(rt, work, workers1, numbers1, bays1)
         },
         &mut || -> Moved
-            requires { IsSync R.row × IsSync W.row × IsSync G.row × (0 < workers2.count) × (length numbers2.now ≤ MAX_MODULES) × AreMovable work.now.rest.now work.now.batch.now numbers2.now bays2.now }
-            ensures { HaveMoved (W.is_sure work.entry.now.wires.now) work.entry.now.rest.now work.entry.now.batch.now numbers2.entry.now bays2.entry.now bays2.exit.now result }
+            requires { IsSync R.row × IsSync W.row × IsSync G.row
+                × (0 < workers2.count) × (length numbers2.now ≤ MAX_MODULES)
+                × AreMovable work.now.rest.now work.now.batch.now numbers2.now bays2.now }
+            ensures { HaveMoved (W.is_sure work.entry.now.wires.now)
+                work.entry.now.rest.now work.entry.now.batch.now
+                numbers2.entry.now bays2.entry.now bays2.exit.now result }
         {
             work.gate.arrive(workers2.least);
             move_all(rt, work, workers2, numbers2, bays2)
@@ -73,14 +83,13 @@ fn move_in_turn<W: WireMaker, G>(
 ) -> Moved
     requires few { length numbers.now ≤ MAX_MODULES }
     requires movable { AreMovable work.now.rest.now work.now.batch.now numbers.now bays.old }
-    ensures { HaveMoved (W.is_sure work.now.wires.now) work.now.rest.now work.now.batch.now numbers.now bays.old bays.new result }
+    ensures { HaveMoved (W.is_sure work.now.wires.now) work.now.rest.now work.now.batch.now
+        numbers.now bays.old bays.new result }
 {
     let mut moved = Moved::none();
     for i in 0..numbers.len() {
         let t = numbers[i];
-        let Some(transfer) = work.batch.transfer(t) else {
-            unreachable!();
-        };
+        let transfer = transfer_of(work.batch, t);
         let mut wire = work.wires.line(t);
         let words = move_block(&mut wire, work.rest, transfer, &mut bays[i]);
         moved.push(t, words);

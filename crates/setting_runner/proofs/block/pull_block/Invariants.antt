@@ -1,6 +1,8 @@
-use Rattle.std.proofs.Common.{◌≡◌, ◌++◌, take, drop, length}
+use Rattle.std.proofs.Common.{◌≡◌, ◌++◌, length}
 use Rattle.module_memory.specs.Store.{block_of}
 use Rattle.peek_poke.specs.Messages.{IsAtRest}
+use Rattle.setting_runner.specs.Carried.{first_sent, pulled}
+use Rattle.setting_runner.specs.Moves.{moved_into}
 use Rattle.setting_runner.proofs.block.pull_block.Given as goal
 
 abbrev pub invariant-loop-j : goal.invariant-loop-j
@@ -10,7 +12,9 @@ invariant-loop-j g l = record {
   store : l.store ≡ record { place = l.source; words = block_of l.rest l.source };
   place : l.bay.place ≡ l.fn.bay.place;
   width : length l.bay.words ≡ l.fn.rest.shape.words;
-  words : l.bay.words ≡ take l.j (block_of l.rest l.source) ++ drop l.j l.fn.bay.words;
+  words : l.bay.words ≡ moved_into l.j (block_of l.rest l.source) l.fn.bay.words;
   rest : IsAtRest l.answerer;
+  carried : g.W.Wire.carried l.wire ≡ g.W.Wire.carried l.fn.wire ++ first_sent (pulled l.rest.shape l.source.block (block_of l.rest l.source)) l.j;
+  failures : g.W.Wire.failures l.wire ≡ g.W.Wire.failures l.fn.wire;
   sure : g.W.Wire.never_fails l.fn.wire → g.W.Wire.never_fails l.wire;
 }

@@ -3,6 +3,7 @@ use Rattle.std.proofs.lemmas.List.{take_all}
 use Rattle.std.specs.List.{range_with_len}
 use Rattle.c004_commands.specs.Commands.{text}
 use Rattle.c004_commands.specs.declared.command.Command.TheVariants.{Enquire}
+use Rattle.c004_commands.specs.declared.port.TheConstants.{PORTS}
 use Rattle.setting_runner.proofs.PairCommands.{enquiry_more}
 use Rattle.setting_runner.proofs.bytes.enquiry_bytes.Goals as goal
 
@@ -16,6 +17,6 @@ loop-number-preserved c = record {
 
 pub returns : goal.returns
 returns c =
-    let all : c.loop-number.number ≡ 32 = omega arith in
+    let all : c.loop-number.number ≡ PORTS = omega arith in
     let whole : length c.loop-number.bytes ≤ c.loop-number.stand = omega arith in
     sym (take_all c.loop-number.stand c.loop-number.bytes whole) ∙ c.loop-number.invariant.bytes ∙ ap (λ n. text (map Enquire (range_with_len 0 n))) all

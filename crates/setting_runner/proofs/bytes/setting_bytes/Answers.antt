@@ -1,6 +1,5 @@
 use Rattle.std.proofs.Common.{arith}
 use Rattle.crossbar.specs.Pairs.{setting}
-use Rattle.setting_runner.specs.Pairs.{pairs_of}
 use Rattle.setting_runner.proofs.PairCommands.{pairs_few, setting_commands, setting_text}
 use Rattle.setting_runner.proofs.bytes.setting_bytes.Goals as goal
 
@@ -11,11 +10,11 @@ pub put-requires : goal.put-requires
 put-requires c = omega (arith, pairs_few c.args.pairs.now c.requires)
 
 pub returns-clause-bytes : goal.returns-clause-bytes
-returns-clause-bytes c = setting_text (pairs_of c.args.pairs.now) _ _ _ c.put-begun.ensures.bytes c.put_pairs-joined.ensures.bytes c.put.ensures.bytes
+returns-clause-bytes c = setting_text c.args.pairs.now _ _ _ c.put-begun.ensures.bytes c.put_pairs-joined.ensures.bytes c.put.ensures.bytes
 
 pub returns-clause-sets : goal.returns-clause-sets
 returns-clause-sets c = λ switch.
-    let pairs = pairs_of c.args.pairs.now in
+    let pairs = c.args.pairs.now in
     let both = setting_commands pairs c.requires in
     record {
       commands = setting pairs;

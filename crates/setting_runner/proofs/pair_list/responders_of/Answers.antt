@@ -9,9 +9,7 @@ use Rattle.setting_runner.proofs.pair_list.responders_of.Goals as goal
 pub loop-t-preserved : goal.loop-t-preserved
 loop-t-preserved c =
     let t = get_or c.args.numbers.now c.loop-t.t-index 0 in
-    let x : Transfer = c.in-Some.transfer in
-    let e : transfer_at c.args.batch.now t ≡ x = get_or_from_slice_get c.args.batch.now t x _ (sym c.in-Some.ensures) in
-    table_more c.args.batch.now c.args.numbers.now c.loop-t.t-index t c.loop-t.responders x c.requires.batch c.requires.known c.requires.matching c.loop-t-test.true refl e c.loop-t.invariant
+    table_more c.args.batch.now c.args.numbers.now c.loop-t.t-index t c.loop-t.responders c.transfer_of-transfer.result c.requires.batch c.requires.known c.requires.matching c.loop-t-test.true refl (sym c.transfer_of-transfer.ensures) c.loop-t.invariant
 
 pub returns-clause-pairs : goal.returns-clause-pairs
 returns-clause-pairs c =

@@ -8,28 +8,20 @@ use Rattle.batch.specs.declared.transfer.Place.{Place}
 use Rattle.batch.specs.declared.transfer.Transfer.{Transfer}
 use Rattle.module_memory.specs.Bays.{destinations_of}
 use Rattle.setting_runner.specs.Runs.{numbers_of}
-use Rattle.setting_runner.proofs.Schedules.{concat_more, are_settings}
+use Rattle.setting_runner.proofs.Schedules.{are_settings}
+use Rattle.batch.proofs.Lists.{concat_more}
 use Rattle.setting_runner.proofs.ready.destinations.Goals as goal
 
-pub push_destinations-requires : goal.push_destinations-requires
-push_destinations-requires c =
-    let k = c.loop-k.k in
-    let plan = c.args.planned.now in
-    let numbers = c.in-Some.numbers.now in
-    let h : slice_get plan.settings k ≡ Some numbers = ap (λ (s : List (List ℕ)). slice_get s k) (sym c.schedule-schedule.ensures.schedule) ∙ sym c.in-Some.ensures in
-    let e : numbers_of plan k ≡ numbers = get_or_from_slice_get plan.settings k numbers [] h in
-    let below : k < length plan.settings = omega (arith, c.settings-k-end.ensures, ap (length {A = List ℕ}) c.schedule-schedule.ensures.schedule) in
-    let known = (are_settings plan.batch plan.settings k c.batch-batch.ensures.plan.shortest.schedule below).own.known in
-    subst (λ (b : List Transfer). All (λ t. t < length b) numbers) (sym c.batch-batch.ensures.batch) (subst (λ (x : List ℕ). All (λ t. t < length plan.batch) x) e known)
+pub setting_numbers-requires : goal.setting_numbers-requires
+setting_numbers-requires c = omega (arith, c.settings-k-end.ensures, ap (length {A = List ℕ}) c.schedule.ensures.schedule)
 
 pub loop-k-preserved : goal.loop-k-preserved
 loop-k-preserved c =
     let k = c.loop-k.k in
     let plan = c.args.planned.now in
-    let numbers = c.in-Some.numbers.now in
-    let h : slice_get plan.settings k ≡ Some numbers = ap (λ (s : List (List ℕ)). slice_get s k) (sym c.schedule-schedule.ensures.schedule) ∙ sym c.in-Some.ensures in
-    let e : numbers_of plan k ≡ numbers = get_or_from_slice_get plan.settings k numbers [] h in
-    let below : k < length plan.settings = omega (arith, c.settings-k-end.ensures, ap (length {A = List ℕ}) c.schedule-schedule.ensures.schedule) in
+    let numbers = c.setting_numbers.result.now in
+    let e : numbers_of plan k ≡ numbers = sym c.setting_numbers.ensures.numbers in
+    let below : k < length plan.settings = omega (arith, c.settings-k-end.ensures, ap (length {A = List ℕ}) c.schedule.ensures.schedule) in
     c.in_ok-push_destinations.ensures.places
     ∙ ap (λ (ps : List Place). ps ++ destinations_of c.batch-batch.result.now numbers) c.loop-k.invariant
     ∙ ap₂ (λ (b : List Transfer) (x : List ℕ). destinations_of plan.batch (concat (take k plan.settings)) ++ destinations_of b x) c.batch-batch.ensures.batch (sym e)

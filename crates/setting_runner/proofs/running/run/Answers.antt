@@ -1,4 +1,4 @@
-use Rattle.std.proofs.Common.{◌≡◌, ◌<◌, ℕ, List, length, take, arith, refl, sym, ap, ◌∙◌, subst}
+use Rattle.std.proofs.Common.{◌≡◌, ◌<◌, ℕ, List, length, rules, arith, refl, sym, ap, ◌∙◌, subst}
 use Rattle.std.specs.List.{concat}
 use Rattle.std.proofs.lemmas.Bool.{false≢true}
 use Rattle.std.proofs.lemmas.List.{length-map}
@@ -6,12 +6,12 @@ use Rattle.batch.specs.Extent.{Extent}
 use Rattle.batch.specs.Overlap.{IsApart, IsFirstOverlap, destination_at}
 use Rattle.batch.specs.declared.transfer.Place.{Place}
 use Rattle.batch.specs.declared.transfer.Transfer.{Transfer}
-use Rattle.module_memory.specs.Bays.{AreBaysOf, destinations_of}
-use Rattle.module_memory.specs.Core.{FitsIn, IsReady, setting_of}
+use Rattle.module_memory.specs.Bays.{destinations_of}
+use Rattle.module_memory.specs.Core.{FitsIn, IsReady}
 use Rattle.module_memory.specs.Lending.{AreLendable, BlockAt, bays_of, joined, without}
 use Rattle.module_memory.specs.Store.{Store}
 use Rattle.module_memory.proofs.PartLaws.{shape-without}
-use Rattle.setting_runner.specs.Runs.{numbers_of, HasCause}
+use Rattle.setting_runner.specs.Runs.{Given, HasCause, HasOwnBays, plan_destinations}
 use Rattle.setting_runner.proofs.Schedules.{all_settings, numbers_are_counted}
 use Rattle.setting_runner.proofs.Starting.{overlap_is, no_overlap, overlap_no_shape, shape_no_overlap, lend_fault_is, plan_lendable, plan_bays}
 use Rattle.setting_runner.proofs.running.run.Goals as goal
@@ -37,31 +37,36 @@ returns-then-not-fits_in-clause-shape g c =
       λ both. refl,
     )
 
-pub run_settings-outcome-requires-clause-ready : goal.run_settings-outcome-requires-clause-ready
-run_settings-outcome-requires-clause-ready g c κs within =
+pub run_settings-outcome-requires-clause-prepared : goal.run_settings-outcome-requires-clause-prepared
+run_settings-outcome-requires-clause-prepared g c κs within =
     let plan = c.args.planned.now in
     let fits : FitsIn c.args.rack.shape plan.batch = subst (FitsIn c.args.rack.shape) c.batch-batch.ensures.batch (subst (λ (s : Extent). FitsIn s c.batch-batch.result.now) c.shape.ensures.value (c.fits_in.ensures.0 c.if-not-fits_in.false)) in
-    let ready : IsReady c.args.rack plan.batch (concat plan.settings) = record { whole = c.shape.ensures.whole; places = fits; apart = subst IsApart c.batch-batch.ensures.batch c.in_default.ensures.none; setting = all_settings plan.batch plan.settings c.batch-batch.ensures.plan.shortest.schedule } in
+    let schedule = c.batch-batch.ensures.plan.shortest.schedule in
+    let ready : IsReady c.args.rack plan.batch (concat plan.settings) = record { whole = c.shape.ensures.whole; places = fits; apart = subst IsApart c.batch-batch.ensures.batch c.in_default.ensures.none; setting = all_settings plan.batch plan.settings schedule } in
     let rest = c.in-Ok-part.parted.rest in
-    let store : joined rest c.as_mut_slice.result.now ≡ c.args.rack = ap (joined rest) c.as_mut_slice.ensures.value ∙ c.in-Ok-part.ensures.store in
-    subst (λ (s : Store). IsReady s plan.batch (concat plan.settings)) (sym store) ready
-
-pub run_settings-outcome-requires-clause-bays : goal.run_settings-outcome-requires-clause-bays
-run_settings-outcome-requires-clause-bays g c κs within = λ k below.
-    let plan = c.args.planned.now in
-    let fits : FitsIn c.args.rack.shape plan.batch = subst (FitsIn c.args.rack.shape) c.batch-batch.ensures.batch (subst (λ (s : Extent). FitsIn s c.batch-batch.result.now) c.shape.ensures.value (c.fits_in.ensures.0 c.if-not-fits_in.false)) in
-    let ready : IsReady c.args.rack plan.batch (concat plan.settings) = record { whole = c.shape.ensures.whole; places = fits; apart = subst IsApart c.batch-batch.ensures.batch c.in_default.ensures.none; setting = all_settings plan.batch plan.settings c.batch-batch.ensures.plan.shortest.schedule } in
-    let places : c.as_slice.result.now ≡ destinations_of plan.batch (concat plan.settings) = c.as_slice.ensures.value ∙ c.in-Ok.ensures.places in
-    let rest : c.in-Ok-part.parted.rest ≡ without c.args.rack (destinations_of plan.batch (concat plan.settings)) = c.in-Ok-part.ensures.rest ∙ ap (without c.args.rack) places in
-    let bays : c.as_mut_slice.result.now ≡ bays_of c.args.rack (destinations_of plan.batch (concat plan.settings)) = c.as_mut_slice.ensures.value ∙ c.in-Ok-part.ensures.bays ∙ ap (bays_of c.args.rack) places in
-    let own = plan_bays c.args.rack plan k ready below in
-    subst (λ (r : Store). AreBaysOf r c.as_mut_slice.result.now (length (concat (take k plan.settings))) (setting_of plan.batch (numbers_of plan k))) (sym rest)
-    (subst (λ (b : List BlockAt). AreBaysOf (without c.args.rack (destinations_of plan.batch (concat plan.settings))) b (length (concat (take k plan.settings))) (setting_of plan.batch (numbers_of plan k))) (sym bays) own)
+    let lent = c.as_mut_slice.result.now in
+    let store : joined rest lent ≡ c.args.rack = ap (joined rest) c.as_mut_slice.ensures.value ∙ c.in-Ok-part.ensures.store in
+    let places : c.as_slice.result.now ≡ plan_destinations plan = c.as_slice.ensures.value ∙ c.in-Ok.ensures.places in
+    let left : rest ≡ without c.args.rack (plan_destinations plan) = c.in-Ok-part.ensures.rest ∙ ap (without c.args.rack) places in
+    let bays : lent ≡ bays_of c.args.rack (plan_destinations plan) = c.as_mut_slice.ensures.value ∙ c.in-Ok-part.ensures.bays ∙ ap (bays_of c.args.rack) places in
+    record {
+      schedule = schedule;
+      ready = subst (λ (s : Store). IsReady s plan.batch (concat plan.settings)) (sym store) ready;
+      settings = λ k below. subst (λ (r : Store). HasOwnBays r lent plan k) (sym left) (subst (λ (b : List BlockAt). HasOwnBays (without c.args.rack (plan_destinations plan)) b plan k) (sym bays) (plan_bays c.args.rack plan k ready below));
+      rejoins = search rules;
+    }
 
 pub returns-in-Ok-part-clause-cause : goal.returns-in-Ok-part-clause-cause
 returns-in-Ok-part-clause-cause g c =
     let same : c.in-Ok-part.parted.rest.shape.words ≡ c.args.rack.shape.words = ap (λ (s : Store). s.shape.words) c.in-Ok-part.ensures.rest ∙ ap (λ (x : Extent). x.words) (shape-without c.args.rack c.as_slice.result.now) in
-    subst (λ (w : ℕ). HasCause (g.W.WireMaker.is_sure c.args.plant.now.wires) w (g.P.ConfigPort.failures c.args.plant.now.port) (g.P.ConfigPort.failures c.run_settings-outcome.new.plant.port) (g.P.ConfigPort.honest c.args.plant.now.port) c.run_settings-outcome.result) same c.run_settings-outcome.ensures.cause
+    let given : ℕ → Given = λ w. record { sure = g.W.WireMaker.is_sure c.args.plant.now.wires; words = w; before = g.P.ConfigPort.failures c.args.plant.now.port; after = g.P.ConfigPort.failures c.run_settings-outcome.new.plant.port; honest = g.P.ConfigPort.honest c.args.plant.now.port } in
+    subst (λ (w : ℕ). HasCause (given w) c.run_settings-outcome.result) same c.run_settings-outcome.ensures.cause
+
+pub returns-in-Ok-part-clause-free : goal.returns-in-Ok-part-clause-free
+returns-in-Ok-part-clause-free g c = λ going. record {
+  apart = subst IsApart c.batch-batch.ensures.batch c.in_default.ensures.none;
+  fits = subst (FitsIn c.args.rack.shape) c.batch-batch.ensures.batch (subst (λ (s : Extent). FitsIn s c.batch-batch.result.now) c.shape.ensures.value (c.fits_in.ensures.0 c.if-not-fits_in.false));
+}
 
 pub returns-clause-memory : goal.returns-clause-memory
 returns-clause-memory g c = λ e.
@@ -69,7 +74,7 @@ returns-clause-memory g c = λ e.
     let fits : FitsIn c.args.rack.shape plan.batch = subst (FitsIn c.args.rack.shape) c.batch-batch.ensures.batch (subst (λ (s : Extent). FitsIn s c.batch-batch.result.now) c.shape.ensures.value (c.fits_in.ensures.0 c.if-not-fits_in.false)) in
     let apart = subst IsApart c.batch-batch.ensures.batch c.in_default.ensures.none in
     let ready : IsReady c.args.rack plan.batch (concat plan.settings) = record { whole = c.shape.ensures.whole; places = fits; apart = apart; setting = all_settings plan.batch plan.settings c.batch-batch.ensures.plan.shortest.schedule } in
-    let places : c.as_slice.result.now ≡ destinations_of plan.batch (concat plan.settings) = c.as_slice.ensures.value ∙ c.in-Ok.ensures.places in
+    let places : c.as_slice.result.now ≡ plan_destinations plan = c.as_slice.ensures.value ∙ c.in-Ok.ensures.places in
     let lendable = plan_lendable c.args.rack plan.batch (concat plan.settings) ready in
     let some : 0 < length c.as_slice.result.now = lend_fault_is c.args.rack.shape c.as_slice.result.now c.in-Err._fault (subst (λ (ps : List Place). AreLendable c.args.rack.shape ps) (sym places) lendable) c.in-Err.ensures.fault in
     record {

@@ -3,48 +3,27 @@ use Rattle.std.specs.Prelude.{AllPairs}
 use Rattle.std.specs.List.{slice_get}
 use Rattle.std.proofs.lemmas.Option.{get_or_from_slice_get}
 use Rattle.std.proofs.Math.Nat.{mul-le-mul_left}
+use Rattle.batch.specs.declared.limits.TheConstants.{MAX_MODULES, MAX_TRANSFERS, MAX_WORDS}
 use Rattle.batch.specs.declared.transfer.Transfer.{Transfer}
-use Rattle.crossbar.specs.Pairs.{switch_of}
 use Rattle.module_memory.specs.Lending.{joined}
 use Rattle.setting_runner.specs.Moves.{AreMovable, HaveMoved, none_sure, all_moved}
-use Rattle.setting_runner.specs.Runs.{numbers_of, setting_pairs, Told, IsCompleted}
-use Rattle.setting_runner.proofs.Going.{Begun, going_next, going_stops, going_completes, next_begins, part_movable}
-use Rattle.setting_runner.proofs.Joined.{matching_few}
+use Rattle.setting_runner.specs.Runs.{numbers_of, setting_switch, Told, IsCompleted}
+use Rattle.setting_runner.proofs.Going.{going_next, going_stops, going_completes, next_begins, part_movable}
 use Rattle.setting_runner.proofs.Schedules.{front_few, numbers_are_counted, are_settings}
 use Rattle.setting_runner.proofs.running.run_settings.Goals as goal
 
-pub run_setting-requires-clause-numbers : goal.run_setting-requires-clause-numbers
-run_setting-requires-clause-numbers g c κs within =
-    let n = c.loop-number.number in
-    let plan = c.args.planned.now in
-    let numbers = c.in-Some.numbers.now in
-    let h : slice_get plan.settings n ≡ Some numbers = ap (λ (s : List (List ℕ)). slice_get s n) (sym c.schedule-schedule.ensures.schedule) ∙ sym c.in-Some.ensures in
-    let e : numbers_of plan n ≡ numbers = get_or_from_slice_get plan.settings n numbers [] h in
-    let is = c.batch-batch.ensures.plan in
-    let below : n < length plan.settings = omega (arith, c.settings-number-end.ensures, ap (length {A = List ℕ}) c.schedule-schedule.ensures.schedule) in
-    let few = matching_few plan.batch (numbers_of plan n) is.fits (are_settings plan.batch plan.settings n is.shortest.schedule below).own.known (is.shortest.schedule.matchings n [] below) in
-    subst (λ (x : List ℕ). length x ≤ 16) e few
-
-pub run_setting-requires-clause-ascending : goal.run_setting-requires-clause-ascending
-run_setting-requires-clause-ascending g c κs within =
-    let n = c.loop-number.number in
-    let plan = c.args.planned.now in
-    let numbers = c.in-Some.numbers.now in
-    let h : slice_get plan.settings n ≡ Some numbers = ap (λ (s : List (List ℕ)). slice_get s n) (sym c.schedule-schedule.ensures.schedule) ∙ sym c.in-Some.ensures in
-    let e : numbers_of plan n ≡ numbers = get_or_from_slice_get plan.settings n numbers [] h in
-    let below : n < length plan.settings = omega (arith, c.settings-number-end.ensures, ap (length {A = List ℕ}) c.schedule-schedule.ensures.schedule) in
-    subst (λ (x : List ℕ). AllPairs (λ t u. t < u) x) e (c.batch-batch.ensures.plan.ascending n [] below)
+pub setting_numbers-numbers-requires : goal.setting_numbers-numbers-requires
+setting_numbers-numbers-requires g c = omega (arith, c.settings-number-end.ensures, ap (length {A = List ℕ}) c.schedule-schedule.ensures.schedule)
 
 pub run_setting-requires-clause-movable : goal.run_setting-requires-clause-movable
 run_setting-requires-clause-movable g c κs within =
     let n = c.loop-number.number in
     let plan = c.args.planned.now in
     let inv = c.loop-number.invariant in
-    let numbers = c.in-Some.numbers.now in
-    let h : slice_get plan.settings n ≡ Some numbers = ap (λ (s : List (List ℕ)). slice_get s n) (sym c.schedule-schedule.ensures.schedule) ∙ sym c.in-Some.ensures in
-    let e : numbers_of plan n ≡ numbers = get_or_from_slice_get plan.settings n numbers [] h in
+    let numbers = c.setting_numbers-numbers.result.now in
+    let e : numbers_of plan n ≡ numbers = sym c.setting_numbers-numbers.ensures.numbers in
     let below : n < length plan.settings = omega (arith, c.settings-number-end.ensures, ap (length {A = List ℕ}) c.schedule-schedule.ensures.schedule) in
-    let begun : Begun c.args.rest.now c.args.bays.now plan = record { schedule = c.batch-batch.ensures.plan.shortest.schedule; ready = c.requires.ready; settings = c.requires.bays; rejoins = c.requires.rejoins } in
+    let begun = c.requires.prepared in
     let count : c.loop-number.from + length numbers - c.loop-number.from ≡ length (numbers_of plan n) = omega (arith, ap (length {A = ℕ}) e) in
     let movable = part_movable c.args.rest.now c.args.bays.now c.loop-number.bays plan n c.loop-number.from (c.loop-number.from + length numbers - c.loop-number.from) begun inv.going below inv.from count in
     let part = take (c.loop-number.from + length numbers - c.loop-number.from) (drop c.loop-number.from c.loop-number.bays) in
@@ -55,11 +34,10 @@ returns-in-Err-clause-rejoins g c =
     let n = c.loop-number.number in
     let plan = c.args.planned.now in
     let inv = c.loop-number.invariant in
-    let numbers = c.in-Some.numbers.now in
-    let h : slice_get plan.settings n ≡ Some numbers = ap (λ (s : List (List ℕ)). slice_get s n) (sym c.schedule-schedule.ensures.schedule) ∙ sym c.in-Some.ensures in
-    let e : numbers_of plan n ≡ numbers = get_or_from_slice_get plan.settings n numbers [] h in
+    let numbers = c.setting_numbers-numbers.result.now in
+    let e : numbers_of plan n ≡ numbers = sym c.setting_numbers-numbers.ensures.numbers in
     let below : n < length plan.settings = omega (arith, c.settings-number-end.ensures, ap (length {A = List ℕ}) c.schedule-schedule.ensures.schedule) in
-    let begun : Begun c.args.rest.now c.args.bays.now plan = record { schedule = c.batch-batch.ensures.plan.shortest.schedule; ready = c.requires.ready; settings = c.requires.bays; rejoins = c.requires.rejoins } in
+    let begun = c.requires.prepared in
     let a = c.loop-number.from in
     let k = c.loop-number.from + length numbers - c.loop-number.from in
     let count : k ≡ length (numbers_of plan n) = omega (arith, ap (length {A = ℕ}) e) in
@@ -76,11 +54,10 @@ returns-in-Err-clause-memories g c =
     let n = c.loop-number.number in
     let plan = c.args.planned.now in
     let inv = c.loop-number.invariant in
-    let numbers = c.in-Some.numbers.now in
-    let h : slice_get plan.settings n ≡ Some numbers = ap (λ (s : List (List ℕ)). slice_get s n) (sym c.schedule-schedule.ensures.schedule) ∙ sym c.in-Some.ensures in
-    let e : numbers_of plan n ≡ numbers = get_or_from_slice_get plan.settings n numbers [] h in
+    let numbers = c.setting_numbers-numbers.result.now in
+    let e : numbers_of plan n ≡ numbers = sym c.setting_numbers-numbers.ensures.numbers in
     let below : n < length plan.settings = omega (arith, c.settings-number-end.ensures, ap (length {A = List ℕ}) c.schedule-schedule.ensures.schedule) in
-    let begun : Begun c.args.rest.now c.args.bays.now plan = record { schedule = c.batch-batch.ensures.plan.shortest.schedule; ready = c.requires.ready; settings = c.requires.bays; rejoins = c.requires.rejoins } in
+    let begun = c.requires.prepared in
     let a = c.loop-number.from in
     let k = c.loop-number.from + length numbers - c.loop-number.from in
     let count : k ≡ length (numbers_of plan n) = omega (arith, ap (length {A = ℕ}) e) in
@@ -97,22 +74,20 @@ returns-in-Err-clause-switch g c = λ honest t is.
     let n = c.loop-number.number in
     let plan = c.args.planned.now in
     let inv = c.loop-number.invariant in
-    let numbers = c.in-Some.numbers.now in
-    let h : slice_get plan.settings n ≡ Some numbers = ap (λ (s : List (List ℕ)). slice_get s n) (sym c.schedule-schedule.ensures.schedule) ∙ sym c.in-Some.ensures in
-    let e : numbers_of plan n ≡ numbers = get_or_from_slice_get plan.settings n numbers [] h in
+    let numbers = c.setting_numbers-numbers.result.now in
+    let e : numbers_of plan n ≡ numbers = sym c.setting_numbers-numbers.ensures.numbers in
     c.in-Err.ensures.wire t is (subst IsTrue (sym inv.honesty) honest) ∙ c.of_setting-pairs.ensures.switch
-    ∙ ap₂ (λ (b : List Transfer) (x : List ℕ). switch_of (setting_pairs b x)) c.batch-batch.ensures.batch (sym e)
+    ∙ ap₂ (λ (b : List Transfer) (x : List ℕ). setting_switch b x) c.batch-batch.ensures.batch (sym e)
 
 pub loop-number-preserved : goal.loop-number-preserved
 loop-number-preserved g c =
     let n = c.loop-number.number in
     let plan = c.args.planned.now in
     let inv = c.loop-number.invariant in
-    let numbers = c.in-Some.numbers.now in
-    let h : slice_get plan.settings n ≡ Some numbers = ap (λ (s : List (List ℕ)). slice_get s n) (sym c.schedule-schedule.ensures.schedule) ∙ sym c.in-Some.ensures in
-    let e : numbers_of plan n ≡ numbers = get_or_from_slice_get plan.settings n numbers [] h in
+    let numbers = c.setting_numbers-numbers.result.now in
+    let e : numbers_of plan n ≡ numbers = sym c.setting_numbers-numbers.ensures.numbers in
     let below : n < length plan.settings = omega (arith, c.settings-number-end.ensures, ap (length {A = List ℕ}) c.schedule-schedule.ensures.schedule) in
-    let begun : Begun c.args.rest.now c.args.bays.now plan = record { schedule = c.batch-batch.ensures.plan.shortest.schedule; ready = c.requires.ready; settings = c.requires.bays; rejoins = c.requires.rejoins } in
+    let begun = c.requires.prepared in
     let a = c.loop-number.from in
     let k = c.loop-number.from + length numbers - c.loop-number.from in
     let count : k ≡ length (numbers_of plan n) = omega (arith, ap (length {A = ℕ}) e) in
@@ -121,20 +96,20 @@ loop-number-preserved g c =
     let words = c.args.rest.now.shape.words in
     let moves : HaveMoved none_sure c.args.rest.now plan.batch (numbers_of plan n) part new (all_moved (numbers_of plan n) words) =
     subst (λ (x : List ℕ). HaveMoved none_sure c.args.rest.now plan.batch x part new (all_moved x words)) (sym e)
-    (subst (λ (b : List Transfer). HaveMoved none_sure c.args.rest.now b numbers part new (all_moved numbers words)) c.batch-batch.ensures.batch c.in_default-run_setting.ensures.moved) in
-    let same = ap₂ (λ (b : List Transfer) (x : List ℕ). switch_of (setting_pairs b x)) c.batch-batch.ensures.batch (sym e) in
+    (subst (λ (b : List Transfer). HaveMoved none_sure c.args.rest.now b numbers part new (all_moved numbers words)) c.batch-batch.ensures.batch c.in_default.ensures.moved) in
+    let same = ap₂ (λ (b : List Transfer) (x : List ℕ). setting_switch b x) c.batch-batch.ensures.batch (sym e) in
     record {
       from = omega (arith, next_begins plan n a k below inv.from count);
       going = going_next c.args.rest.now c.args.bays.now c.loop-number.bays new plan n a k begun inv.going below inv.from count moves;
       told = subst (λ (x : ℕ). Told g.N.Notice.hears c.args.notice.now x c.done-in-loop-number.new.self) (sym (add-one n)) (c.loop-number.notice, inv.told, subst (λ (x : ℕ). g.N.Notice.hears c.loop-number.notice x c.done-in-loop-number.new.self) (add-one n) c.done-in-loop-number.ensures);
-      standing = (c.of_setting-pairs.ensures.pairs, λ honest. c.in_default-run_setting.ensures.set (subst IsTrue (sym inv.honesty) honest));
+      standing = (c.of_setting-pairs.ensures.pairs, λ honest. c.in_default.ensures.set (subst IsTrue (sym inv.honesty) honest));
       switch = λ j last honest.
           let at : n ≡ j = omega arith in
-          c.in_default-run_setting.ensures.set (subst IsTrue (sym inv.honesty) honest) ∙ c.of_setting-pairs.ensures.switch ∙ same
-          ∙ ap (λ (x : ℕ). switch_of (setting_pairs plan.batch (numbers_of plan x))) at;
+          c.in_default.ensures.set (subst IsTrue (sym inv.honesty) honest) ∙ c.of_setting-pairs.ensures.switch ∙ same
+          ∙ ap (λ (x : ℕ). setting_switch plan.batch (numbers_of plan x)) at;
       uncalled = λ none. absurd (omega arith);
       plant = search rules;
-      unfailed = c.in_default-run_setting.ensures.unfailed ∙ inv.unfailed;
+      unfailed = c.in_default.ensures.unfailed ∙ inv.unfailed;
       honesty = c.run_setting.ensures.honesty ∙ inv.honesty;
     }
 
@@ -142,14 +117,14 @@ pub overflow_mul-result : goal.overflow_mul-result
 overflow_mul-result g c =
     let plan = c.args.planned.now in
     let is = c.batch-batch.ensures.plan in
-    let few : c.loop-number.from ≤ 4096 = omega (arith, c.loop-number.invariant.from, front_few plan.settings c.loop-number.number, numbers_are_counted plan.batch plan.settings is.shortest.schedule, is.fits.few) in
-    let wide : c.words.result ≤ 256 = omega (arith, c.words.ensures.value, c.words.ensures.shape.few_words) in
+    let few : c.loop-number.from ≤ MAX_TRANSFERS = omega (arith, c.loop-number.invariant.from, front_few plan.settings c.loop-number.number, numbers_are_counted plan.batch plan.settings is.shortest.schedule, is.fits.few) in
+    let wide : c.words.result ≤ MAX_WORDS = omega (arith, c.words.ensures.value, c.words.ensures.shape.few_words) in
     omega (arith, mul-le-mul_left c.loop-number.from wide)
 
 pub returns-clause-memories : goal.returns-clause-memories
 returns-clause-memories g c =
     let plan = c.args.planned.now in
-    let begun : Begun c.args.rest.now c.args.bays.now plan = record { schedule = c.batch-batch.ensures.plan.shortest.schedule; ready = c.requires.ready; settings = c.requires.bays; rejoins = c.requires.rejoins } in
+    let begun = c.requires.prepared in
     let size : length plan.settings ≡ c.settings.result = search rules in
     let done : length plan.settings ≤ c.loop-number.number = omega (arith, c.settings-number-end.ensures, ap (length {A = List ℕ}) c.schedule-schedule.ensures.schedule) in
     let wide : c.words.result ≡ c.args.rest.now.shape.words = search rules in

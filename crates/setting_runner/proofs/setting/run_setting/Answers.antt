@@ -1,9 +1,9 @@
 use Rattle.std.proofs.Common.{◌≡◌, ◌<◌, ℕ, List, sym, subst, rules}
 use Rattle.std.specs.Prelude.{All, AllPairs}
 use Rattle.setting_runner.specs.Moves.{HaveMoved, none_sure, AllWhole}
-use Rattle.setting_runner.specs.Runs.{IsLeastShort}
+use Rattle.setting_runner.specs.Runs.{Given, IsLeastShort}
 use Rattle.setting_runner.proofs.Moves.{HaveMoved-forget, none_have_moved, whole_moves}
-use Rattle.setting_runner.proofs.Causes.{all_zero, set_fault_stops, no_wire, sure_moved, names_moved, least_short}
+use Rattle.setting_runner.proofs.Causes.{all_zero, set_fault_stops, no_wire, sure_moved, names_moved}
 use Rattle.setting_runner.proofs.setting.run_setting.Goals as goal
 
 pub returns-in-Err-clause-moved : goal.returns-in-Err-clause-moved
@@ -12,7 +12,8 @@ returns-in-Err-clause-moved g c =
 
 pub returns-in-Err-clause-cause : goal.returns-in-Err-clause-cause
 returns-in-Err-clause-cause g c =
-    set_fault_stops (g.W.WireMaker.is_sure c.args.plant.now.wires) c.args.rest.now.shape.words (g.P.ConfigPort.failures c.args.plant.now.port) (g.P.ConfigPort.failures c.set_switch.new.port) (g.P.ConfigPort.honest c.args.plant.now.port) c.in-Err.cause c.none_moved.result c.in-Err.ensures.fault
+    let given : Given = record { sure = g.W.WireMaker.is_sure c.args.plant.now.wires; words = c.args.rest.now.shape.words; before = g.P.ConfigPort.failures c.args.plant.now.port; after = g.P.ConfigPort.failures c.set_switch.new.port; honest = g.P.ConfigPort.honest c.args.plant.now.port } in
+    set_fault_stops given c.in-Err.cause c.none_moved.result c.in-Err.ensures.fault
     (subst (λ (ms : List (ℕ × ℕ)). All (λ (m : ℕ × ℕ). m.1 ≡ 0) ms) (sym c.none_moved.ensures) (all_zero c.args.setting.now.numbers.now))
 
 pub returns-in-Err-clause-wire : goal.returns-in-Err-clause-wire
@@ -21,12 +22,17 @@ returns-in-Err-clause-wire g c = λ t is. absurd (no_wire _ _ _ c.in-Err.cause t
 pub returns-in-Some-clause-moved : goal.returns-in-Some-clause-moved
 returns-in-Some-clause-moved g c = HaveMoved-forget _ _ _ _ _ _ _ c.move_all-moved.ensures
 
+pub least_short-requires : goal.least_short-requires
+least_short-requires g c = subst (λ (ts : List ℕ). AllPairs (λ a b. a < b) ts) (sym (names_moved _ _ _ _ _ _ _ c.move_all-moved.ensures)) c.requires.ascending
+
 pub returns-in-Some-clause-cause : goal.returns-in-Some-clause-cause
 returns-in-Some-clause-cause g c =
-    let ms = c.move_all-moved.result in
-    let asc = subst (λ (ts : List ℕ). AllPairs (λ a b. a < b) ts) (sym (names_moved _ _ _ _ _ _ _ c.move_all-moved.ensures)) c.requires.ascending in
     let e : c.words-words.result ≡ c.args.rest.now.shape.words = search rules in
-    (subst (λ (w : ℕ). IsLeastShort w c.in-Some.transfer ms) e (least_short _ c.in-Some.transfer ms asc c.in-Some.ensures), sure_moved _ _ _ _ _ _ _ c.move_all-moved.ensures, c.in_default.ensures.unfailed)
+    record {
+      least = subst (λ (w : ℕ). IsLeastShort w c.in-Some.transfer c.move_all-moved.result) e c.in-Some.ensures;
+      others = sure_moved _ _ _ _ _ _ _ c.move_all-moved.ensures;
+      unfailed = c.in_default.ensures.unfailed;
+    }
 
 pub returns-in-None-clause-moved : goal.returns-in-None-clause-moved
 returns-in-None-clause-moved g c =

@@ -1,8 +1,7 @@
 use Rattle.std.proofs.Common.{ℕ, ◌<◌, get_or}
 use Rattle.crossbar.specs.Pairs.{switch_of}
-use Rattle.setting_runner.specs.Pairs.{pairs_of}
 use Rattle.setting_runner.specs.Answers.{Agrees}
 use Rattle.setting_runner.proofs.switching.first_disagreement.Given as goal
 
 abbrev pub invariant-loop-output : goal.invariant-loop-output
-invariant-loop-output l = (before : ℕ) → before < l.output → Agrees (switch_of (pairs_of l.pairs)) before (get_or l.replies before 0)
+invariant-loop-output l = (before : ℕ) → before < l.output → Agrees (switch_of l.pairs) before (get_or l.replies before 0)

@@ -1,9 +1,8 @@
 use Rattle.std.proofs.Common.{IsTrue, take, refl, sym, subst, rules}
 use Rattle.crossbar.specs.Port.{CarriesOut}
 use Rattle.crossbar.specs.Pairs.{switch_of}
-use Rattle.setting_runner.specs.Pairs.{pairs_of}
 use Rattle.setting_runner.specs.Pairs.{all_enquiries}
-use Rattle.setting_runner.proofs.Replies.{all_ports, all_say, not_honest, some_too, carried}
+use Rattle.setting_runner.proofs.Replies.{all_ports, all_report, not_honest, some_too, carried}
 use Rattle.setting_runner.proofs.switching.set_switch.Goals as goal
 
 pub exchange-requires-2 : goal.exchange-requires-2
@@ -17,9 +16,9 @@ returns-in-Some-clause-fault g c = (
       let h' : IsTrue (g.P.ConfigPort.honest c.exchange.new.self) = subst IsTrue (sym c.exchange.ensures.honesty) h in
       let second : CarriesOut c.enquiry_bytes-enquiries.result (g.P.ConfigPort.switch c.exchange.new.self) (g.P.ConfigPort.switch c.exchange-2.new.self) c.exchange-2.new.replies = search (rules, c.exchange-2.ensures.done h') in
       let turns = c.bytes_for-number.ensures.sets (g.P.ConfigPort.switch port) (some_too _ _ c.args.standing (λ x p. p.1 h) c.requires.standing) in
-      let all = carried (take c.bytes_for-number.result c.bytes_for-number.new.out) (g.P.ConfigPort.switch port) (g.P.ConfigPort.switch c.exchange.new.self) (g.P.ConfigPort.switch c.exchange-2.new.self) (switch_of (pairs_of c.args.pairs.now)) c.exchange.new.replies c.exchange-2.new.replies c.enquiry_bytes-enquiries.result turns first c.enquiry_bytes-enquiries.ensures second in
-      c.in-Some.ensures.1 (all_say (switch_of (pairs_of c.args.pairs.now)) c.in-Some.output c.exchange-2.new.replies c.in-Some.ensures.0 all.1)),
-  c.in-Some.ensures.0,
+      let all = carried (take c.bytes_for-number.result c.bytes_for-number.new.out) (g.P.ConfigPort.switch port) (g.P.ConfigPort.switch c.exchange.new.self) (g.P.ConfigPort.switch c.exchange-2.new.self) (switch_of c.args.pairs.now) c.exchange.new.replies c.exchange-2.new.replies c.enquiry_bytes-enquiries.result turns first c.enquiry_bytes-enquiries.ensures second in
+      c.in-Some.ensures.differs (all_report (switch_of c.args.pairs.now) c.in-Some.output c.exchange-2.new.replies c.in-Some.ensures.known all.1)),
+  c.in-Some.ensures.known,
   search rules,
 )
 
@@ -30,5 +29,5 @@ returns-in-None-clause-set g c = λ h.
     let h' : IsTrue (g.P.ConfigPort.honest c.exchange.new.self) = subst IsTrue (sym c.exchange.ensures.honesty) h in
     let second : CarriesOut c.enquiry_bytes-enquiries.result (g.P.ConfigPort.switch c.exchange.new.self) (g.P.ConfigPort.switch c.exchange-2.new.self) c.exchange-2.new.replies = search (rules, c.exchange-2.ensures.done h') in
     let turns = c.bytes_for-number.ensures.sets (g.P.ConfigPort.switch port) (some_too _ _ c.args.standing (λ x p. p.1 h) c.requires.standing) in
-    let all = carried (take c.bytes_for-number.result c.bytes_for-number.new.out) (g.P.ConfigPort.switch port) (g.P.ConfigPort.switch c.exchange.new.self) (g.P.ConfigPort.switch c.exchange-2.new.self) (switch_of (pairs_of c.args.pairs.now)) c.exchange.new.replies c.exchange-2.new.replies c.enquiry_bytes-enquiries.result turns first c.enquiry_bytes-enquiries.ensures second in
+    let all = carried (take c.bytes_for-number.result c.bytes_for-number.new.out) (g.P.ConfigPort.switch port) (g.P.ConfigPort.switch c.exchange.new.self) (g.P.ConfigPort.switch c.exchange-2.new.self) (switch_of c.args.pairs.now) c.exchange.new.replies c.exchange-2.new.replies c.enquiry_bytes-enquiries.result turns first c.enquiry_bytes-enquiries.ensures second in
     all.0

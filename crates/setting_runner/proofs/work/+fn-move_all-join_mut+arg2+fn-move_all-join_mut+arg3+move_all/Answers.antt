@@ -1,4 +1,5 @@
 use Rattle.std.proofs.Common.{◌≡◌, ◌≤◌, ◌<◌, ◌/◌, ◌++◌, ℕ, List, length, take, drop, ◌∙◌, ap₂, rules, sym, subst, arith, take-append-drop}
+use Rattle.batch.specs.declared.limits.TheConstants.{MAX_MODULES}
 use Rattle.module_memory.specs.Lending.{BlockAt}
 use Rattle.setting_runner.specs.Moves.{AreMovable, HaveMoved}
 use Rattle.setting_runner.proofs.Moves.{HaveMoved-append, HaveMoved-length, AreMovable-length, AreMovable-take, AreMovable-drop}
@@ -18,8 +19,8 @@ join_mut-moved1-requires-after_bounds g t c =
     let back : AreMovable c.args.work.now.rest.now c.args.work.now.batch.now c.split_at.result.1.now c.split_at_mut-bays1.result.1.now =
     subst (λ (x : List ℕ). AreMovable rest batch x c.split_at_mut-bays1.result.1.now) (sym c.split_at.ensures.back)
     (subst (λ (x : List BlockAt). AreMovable rest batch (drop middle c.args.numbers.now) x) (sym c.split_at_mut-bays1.ensures.back) (AreMovable-drop rest batch c.args.numbers.now c.args.bays.now middle c.requires.movable)) in
-    let f1 : length c.split_at.result.0.now ≤ 16 = omega arith in
-    let f2 : length c.split_at.result.1.now ≤ 16 = omega arith in
+    let f1 : length c.split_at.result.0.now ≤ MAX_MODULES = omega arith in
+    let f2 : length c.split_at.result.1.now ≤ MAX_MODULES = omega arith in
     let n1 : c.halves.result.0.count < c.args.workers.count = omega arith in
     let n2 : c.halves.result.1.count < c.args.workers.count = omega arith in
     let n3 : 0 < c.halves.result.0.count = omega arith in

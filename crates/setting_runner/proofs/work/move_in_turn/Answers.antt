@@ -7,13 +7,13 @@ use Rattle.batch.specs.Overlap.{transfer_at}
 use Rattle.module_memory.specs.Store.{block_of}
 use Rattle.module_memory.specs.Lending.{BlockAt}
 use Rattle.setting_runner.specs.Moves.{HasMoved}
-use Rattle.setting_runner.proofs.Moves.{AreMovable-at, AreMovable-length, Completes-next, Completes-end, same_there, same_after, no_get}
+use Rattle.setting_runner.proofs.Moves.{AreMovable-at, AreMovable-length, Completes-next, Completes-end, same_there, same_after}
 use Rattle.setting_runner.proofs.work.move_in_turn.Goals as goal
 
-pub unreachable-requires : goal.unreachable-requires
-unreachable-requires g c =
+pub transfer_of-transfer-requires : goal.transfer_of-transfer-requires
+transfer_of-transfer-requires g c =
     let m = AreMovable-at c.args.work.now.rest.now c.args.work.now.batch.now c.args.numbers.now c.args.bays.now c.loop-i.i 0 (record { place = record { «module» = 0; block = 0 }; words = [] }) c.requires.movable c.loop-i-test.true in
-    no_get c.args.work.now.batch.now _ m.known (sym c.transfer.ensures ∙ c.in_default.is)
+    m.known
 
 pub bounds-bays-i : goal.bounds-bays-i
 bounds-bays-i g c = omega (arith, AreMovable-length c.args.work.now.rest.now c.args.work.now.batch.now c.args.numbers.now c.args.bays.now c.requires.movable)
@@ -21,16 +21,16 @@ bounds-bays-i g c = omega (arith, AreMovable-length c.args.work.now.rest.now c.a
 pub move_block-words-requires-clause-source_exists : goal.move_block-words-requires-clause-source_exists
 move_block-words-requires-clause-source_exists g c =
     let i = c.loop-i.i in
-    let x : Transfer = c.in-Some.transfer in
-    let e : transfer_at c.args.work.now.batch.now (get_or c.args.numbers.now i 0) ≡ x = get_or_from_slice_get c.args.work.now.batch.now (get_or c.args.numbers.now i 0) x _ (sym c.in-Some.ensures) in
+    let x : Transfer = c.transfer_of-transfer.result in
+    let e : transfer_at c.args.work.now.batch.now (get_or c.args.numbers.now i 0) ≡ x = sym c.transfer_of-transfer.ensures in
     let m = AreMovable-at c.args.work.now.rest.now c.args.work.now.batch.now c.args.numbers.now c.args.bays.now i 0 c.index-bays-i.result c.requires.movable c.loop-i-test.true in
     subst (λ (y : Transfer). HasPlace c.args.work.now.rest.now.shape (source_of y)) e m.source_exists
 
 pub move_block-words-requires-clause-source_here : goal.move_block-words-requires-clause-source_here
 move_block-words-requires-clause-source_here g c =
     let i = c.loop-i.i in
-    let x : Transfer = c.in-Some.transfer in
-    let e : transfer_at c.args.work.now.batch.now (get_or c.args.numbers.now i 0) ≡ x = get_or_from_slice_get c.args.work.now.batch.now (get_or c.args.numbers.now i 0) x _ (sym c.in-Some.ensures) in
+    let x : Transfer = c.transfer_of-transfer.result in
+    let e : transfer_at c.args.work.now.batch.now (get_or c.args.numbers.now i 0) ≡ x = sym c.transfer_of-transfer.ensures in
     let m = AreMovable-at c.args.work.now.rest.now c.args.work.now.batch.now c.args.numbers.now c.args.bays.now i 0 c.index-bays-i.result c.requires.movable c.loop-i-test.true in
     ap (λ (y : Transfer). length (block_of c.args.work.now.rest.now (source_of y))) (sym e) ∙ m.source_here
 
@@ -53,8 +53,8 @@ loop-i-preserved g c =
     let i = c.loop-i.i in
     let inv = c.loop-i.invariant in
     let t = get_or c.args.numbers.now i 0 in
-    let x : Transfer = c.in-Some.transfer in
-    let e : transfer_at c.args.work.now.batch.now t ≡ x = get_or_from_slice_get c.args.work.now.batch.now t x _ (sym c.in-Some.ensures) in
+    let x : Transfer = c.transfer_of-transfer.result in
+    let e : transfer_at c.args.work.now.batch.now t ≡ x = sym c.transfer_of-transfer.ensures in
     let old : BlockAt = c.index-bays-i.result in
     let new : BlockAt = c.move_block-words.new.bay in
     let count = c.move_block-words.result in

@@ -1,6 +1,6 @@
 use Rattle.std.proofs.Common.{◌<◌, ◌++◌, ◌∷◌, [], List, None, length, take, get_or, arith, sym, ap, ◌∙◌}
 use Rattle.std.proofs.lemmas.List.{take_more, length-take-le}
-use Rattle.crossbar.specs.Pairs.{Pair as JoinedPair}
+use Rattle.crossbar.specs.declared.pair.Pair.{Pair}
 use Rattle.setting_runner.specs.Tables.{table_pairs}
 use Rattle.setting_runner.proofs.Joined.{table_push}
 use Rattle.setting_runner.proofs.pair_list.PairList.of_setting.Goals as goal
@@ -13,5 +13,5 @@ loop-initiator-preserved c =
     let more = ap (table_pairs 0) (take_more table i None long) ∙ table_push 0 (take i table) (get_or table i None) i (omega (arith, length-take-le i table (omega arith))) in
     record {
       room = omega (arith, c.put.ensures.count, c.loop-initiator.invariant.room);
-      built = c.put.ensures.pairs ∙ ap (λ (x : List JoinedPair). x ++ table_pairs i (get_or table i None ∷ [])) c.loop-initiator.invariant.built ∙ sym more;
+      built = c.put.ensures.pairs ∙ ap (λ (x : List Pair). x ++ table_pairs i (get_or table i None ∷ [])) c.loop-initiator.invariant.built ∙ sym more;
     }

@@ -1,0 +1,44 @@
+//! Bytes that go to the switch.
+
+ghost use Rattle.std.specs.Prelude.{◌≡◌};
+
+use crate::{
+    CHANGE_BYTES, ENQUIRY_BYTES, Pair, change_bytes, enquiry_bytes, line_bits, setting_bytes,
+};
+
+fn pair(initiator: u8, responder: u8) -> Pair
+    ensures { result ≡ record { initiator = initiator; responder = responder } }
+{
+    Pair {
+        initiator,
+        responder,
+    }
+}
+
+#[test]
+fn change_of_pairs(rt: HostRuntime) {
+    let mut out = [0; CHANGE_BYTES];
+    let old = [pair(0, 1), pair(1, 2)];
+    let new = [pair(0, 1), pair(1, 3)];
+    let count = change_bytes(&old, &new, &mut out);
+    assert_eq!(rt;
+        &out[..count],
+        [0x06, 0x01, 0x12, 0x01, 0x01, 0x13, 0x03].as_slice()
+    );
+    let count = change_bytes(&old, &old, &mut out);
+    assert_eq!(rt; &out[..count], [0x03].as_slice());
+    let count = setting_bytes(&old, &mut out);
+    assert_eq!(rt;
+        &out[..count],
+        [0x04, 0x01, 0x00, 0x11, 0x01, 0x01, 0x12, 0x03].as_slice()
+    );
+    assert_eq!(rt; &enquiry_bytes()[60..], [0x02, 0x1e, 0x02, 0x1f].as_slice());
+}
+
+#[test]
+fn named_sizes(rt: HostRuntime) {
+    assert_eq!(rt; CHANGE_BYTES, 97);
+    assert_eq!(rt; ENQUIRY_BYTES, 64);
+    assert_eq!(rt; line_bits(1), 117);
+    assert_eq!(rt; line_bits(1_048_576), 122_683_392);
+}
