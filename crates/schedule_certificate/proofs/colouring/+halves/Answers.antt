@@ -56,3 +56,9 @@ colour_part-returns g t c =
     let p = rw c.deref-3.ensures.value at c.put_back.ensures in
     put_back_coloured c.args.graph.now c.args.part.now c.in_ok-left.left.items c.in_ok-left.right.items c.degree_of-degree.result c.in_ok-left-2.left c.in_ok-left-2.right c.requires.0 c.degree_of-degree.ensures high c.in_ok-left.ensures c₁ c₂
     c.in_ok-joined.joined j.batch j.colours j.classes (omega (arith, j.inserted)) c.in_ok-table.table c.in_ok-table.class.items (omega arith) c.in_ok-table.ensures.taken c.put_back.new.table p.batch p.colours p.placed p.inserted
+
+pub colour_halves-returns-then-workers-lt2-clause-left : goal.colour_halves-returns-then-workers-lt2-clause-left
+colour_halves-returns-then-workers-lt2-clause-left g t c = search rules
+
+pub colour_halves-returns-clause-left : goal.colour_halves-returns-clause-left
+colour_halves-returns-clause-left g t c = search rules
