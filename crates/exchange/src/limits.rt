@@ -1,10 +1,4 @@
-//! The statuses that the program ends with. They are this project's choice.
-
-/// The status where the command did what was asked.
-pub const DONE: u8 = 0;
-
-/// The status where the command refused, or there was no memory.
-pub const REFUSED: u8 = 1;
+//! The statuses that the program ends with where there is no answer. They are this project's choice.
 
 /// The status where the words fit no command.
 pub const MISUSED: u8 = 2;

@@ -6,24 +6,11 @@
 ghost use Rattle.std.specs.Prelude.{◌≤◌, ◌≡◌, IfOk};
 ghost use Rattle.std.specs.Process.{exit_status};
 
-mod answer;
-mod checking;
 mod limits;
-mod planning;
-mod refusal;
-mod report;
-mod running;
-mod text;
-mod words;
 
-use crate::answer::Answer;
-use crate::checking::answer_check;
-use crate::limits::{DONE, MISUSED, REFUSED, UNWRITTEN};
-use crate::planning::answer_plan;
-use crate::running::answer_run;
-use crate::text::Text;
-use crate::words::{Job, WordsFault, read_words};
-use schedule_certificate::MAX_WORKERS;
+use crate::limits::{MISUSED, UNWRITTEN};
+use answers::{Answer, DONE, REFUSED, answer_check, answer_plan, answer_run};
+use command_words::{Job, MAX_WORKERS, Text, WordsFault, read_words};
 use std::alloc::AllocError;
 use std::io::{ErrorKind, Write};
 use std::process::ExitCode;

@@ -1,0 +1,5 @@
+pub mod PlanText
+pub mod OneVerdict
+pub mod OneReport
+pub mod Reporting
+pub mod Fewest

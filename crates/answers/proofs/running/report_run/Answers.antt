@@ -1,0 +1,37 @@
+use Rattle.std.proofs.Common.{◌≡◌, ℕ, sym}
+use Rattle.std.proofs.lemmas.Result.{err_from_is_err_and}
+use Rattle.answers.proofs.Fewest.{fewest_settings, first_refusal}
+use Rattle.batch.specs.Overlap.{IsFirstOverlap}
+use Rattle.module_memory.specs.Core.{FitsIn}
+use Rattle.setting_runner.specs.declared.outcome.RunRefusal.TheVariants.{Overlap, Shape as Misfit}
+use Rattle.answers.proofs.running.report_run.Goals as goal
+
+pub returns-in_err-batch-clause-wrong : goal.returns-in_err-batch-clause-wrong
+returns-in_err-batch-clause-wrong g c =
+    let p = err_from_is_err_and c.from_residual-in_err-batch.result c.from_residual-in_err-batch.ensures.1 in
+    rw (p.1, p.2) (λ real. (c.in_ok-shape.shape, c.in_ok-shape.ensures.shape, c.in_err-batch.ensures.fault real))
+
+pub returns-in_err-rack-2-clause-wrong : goal.returns-in_err-rack-2-clause-wrong
+returns-in_err-rack-2-clause-wrong g c =
+    let p = err_from_is_err_and c.from_residual-in_err-rack-2.result c.from_residual-in_err-rack-2.ensures.1 in
+    let batch = c.in_ok-planned.ensures.batch in
+    let shape = c.in_ok-rack.ensures.same_shape in
+    let overlap : (i j : ℕ) → c.in_err-rack-2.field-0.0 ≡ Overlap i j → IsFirstOverlap c.in_ok-batch.batch i j = λ i j same. rw (sym batch) (c.in_err-rack-2.ensures.overlap i j same) in
+    let misfit : c.in_err-rack-2.field-0.0 ≡ Misfit → FitsIn c.in_ok-shape.shape c.in_ok-batch.batch → ⊥ = λ same fits. c.in_err-rack-2.ensures.shape same (rw (shape, batch) fits) in
+    rw (p.1, p.2) (λ real. (c.in_ok-shape.shape, c.in_ok-batch.batch, c.in_ok-shape.ensures.shape, c.in_ok-batch.ensures.batch, first_refusal c.in_ok-shape.shape c.args.batch.now c.in_ok-batch.batch c.in_ok-batch.ensures.batch c.in_err-rack-2.field-0.0 overlap misfit real))
+
+pub returns-clause-report : goal.returns-clause-report
+returns-clause-report g c = record {
+  extent = c.in_ok-shape.shape;
+  transfers = c.in_ok-batch.batch;
+  marked = c.in_ok-rack.rack;
+  placed = c.in_ok-rack-2.rack;
+  settings = c.in_ok-rack-2.settings;
+  shape_read = c.in_ok-shape.ensures.shape;
+  batch_read = c.in_ok-batch.ensures.batch;
+  apart = rw (sym c.in_ok-planned.ensures.batch) c.in_ok-rack-2.ensures.apart;
+  is_marked = c.in_ok-rack.ensures;
+  is_placed = rw (sym c.in_ok-planned.ensures.batch) c.in_ok-rack-2.ensures.placed;
+  fewest = rw (sym c.in_ok-planned.ensures.batch, c.in_ok-rack-2.ensures.settings) (fewest_settings c.in_ok-planned.planned c.in_ok-planned.ensures.plan);
+  report = rw (sym c.in_ok-planned.ensures.batch, sym c.batch-2.ensures.batch) c.in_ok-report.ensures;
+}

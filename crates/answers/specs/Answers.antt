@@ -1,0 +1,126 @@
+-- What the commands answer.
+use Rattle.std.specs.Prelude.{◌≡◌, ℕ, List, ◌++◌, length, Some, None, codes}
+use Rattle.std.specs.Fmt.{decimal}
+use Rattle.batch.specs.declared.fault.BatchFault.{BatchFault}
+use Rattle.batch.specs.declared.transfer.Transfer.{Transfer}
+use Rattle.batch.specs.Extent.{Extent}
+use Rattle.batch.specs.Text.{Denotes}
+use Rattle.batch.specs.Faults.{IsFirstFault}
+use Rattle.batch.specs.Overlap.{IsApart, IsFirstOverlap}
+use Rattle.batch.specs.ShapeText.{DenotesShape, IsBadShape}
+use Rattle.module_memory.specs.Store.{Store, zeros_of}
+use Rattle.module_memory.specs.Mark.{IsMarked}
+use Rattle.module_memory.specs.Core.{IsPlaced}
+use Rattle.link_graph.specs.declared.schedule_fault.ScheduleFault.{ScheduleFault}
+use Rattle.link_graph.specs.declared.schedule_fault.ScheduleFault.TheVariants as schedule_fault
+use Rattle.link_graph.specs.Certificates.{Naming, IsShortest, IsCertificate}
+use Rattle.link_graph.specs.Checks.{IsFirstCheckFault}
+use Rattle.link_graph.specs.ScheduleText.{said, Says}
+use Rattle.link_graph.specs.ScheduleFaults.{IsFirstBadLine}
+use Rattle.schedule_certificate.specs.Plans.{Plan, IsPlan, HasFewReinsertions}
+use Rattle.schedule_certificate.specs.Parts.{IsDegree}
+use Rattle.setting_runner.specs.declared.outcome.RunRefusal.{RunRefusal}
+use Rattle.setting_runner.specs.declared.outcome.RunRefusal.TheVariants as run_refusal
+use Rattle.answers.specs.declared.limits.TheConstants.{DONE, REFUSED}
+use Rattle.answers.specs.declared.refusal.Refusal.{Refusal}
+use Rattle.answers.specs.declared.refusal.Refusal.TheVariants.{Batch, Schedule, NoCertificate, Check, Shape, Run, NoMemory}
+use Rattle.answers.specs.Refusals.{refusal_line}
+use Rattle.answers.specs.Reports.{report_of}
+
+-- what a command prints, and the status that the program ends with
+pub record Printed : Type 0 where
+  pub text : List ℕ
+  pub status : ℕ
+
+-- a refusal's line, under its status
+pub record IsRefusedBy (refusal : Refusal) (printed : Printed) : Type 0 where
+  pub line : printed.text ≡ refusal_line refusal
+  pub status : printed.status ≡ REFUSED
+
+-- ---- `plan`
+
+-- the text says the plan's schedule and certificate
+abbrev pub SaysPlan : List ℕ → Plan → Type 0
+SaysPlan text plan = Says text (said plan.settings (Some plan.named))
+
+-- a text that says a plan of the batch that the batch text denotes, or the refusal of that text's first fault, each under its status
+pub data IsPlanned (shape : Extent) (batch : List ℕ) (printed : Printed) : Type 0 where
+  planned : (plan : Plan) → Denotes shape batch plan.batch → IsPlan plan → HasFewReinsertions plan → SaysPlan printed.text plan → printed.status ≡ DONE → IsPlanned shape batch printed
+  refused : (fault : BatchFault) → IsFirstFault shape batch fault → IsRefusedBy (Batch fault) printed → IsPlanned shape batch printed
+
+-- ---- `check`
+
+-- The texts are those of a batch and of a shortest schedule of it, which has so many settings, with a certificate that shows it.
+pub record IsShown (shape : Extent) (batch schedule : List ℕ) (count : ℕ) : Type 0 where
+  pub transfers : List Transfer
+  pub settings : List (List ℕ)
+  pub named : Naming
+  pub batch_read : Denotes shape batch transfers
+  pub schedule_read : Says schedule (said settings (Some named))
+  pub shortest : IsShortest transfers settings
+  pub certificate : IsCertificate transfers settings named
+  pub counted : count ≡ length settings
+
+-- the first line at fault of the schedule text
+abbrev pub IsFirstScheduleFault : List ℕ → ScheduleFault → Type 0
+IsFirstScheduleFault schedule (schedule_fault.Line n) = IsFirstBadLine schedule n
+IsFirstScheduleFault schedule schedule_fault.NoMemory = ⊥
+
+-- What is first wrong: the batch text is looked at first, then the schedule text, then whether it has the certificate part, then what the checker finds.
+abbrev pub IsFirstWrong : Extent → List ℕ → List ℕ → Refusal → Type 0
+IsFirstWrong shape batch schedule (Batch fault) = IsFirstFault shape batch fault
+IsFirstWrong shape batch schedule (Schedule fault) = (transfers : List Transfer) × Denotes shape batch transfers × IsFirstScheduleFault schedule fault
+IsFirstWrong shape batch schedule NoCertificate = (transfers : List Transfer) × (settings : List (List ℕ)) × Denotes shape batch transfers × Says schedule (said settings None)
+IsFirstWrong shape batch schedule (Check fault) = (transfers : List Transfer) × (settings : List (List ℕ)) × (named : Naming)
+    × Denotes shape batch transfers × Says schedule (said settings (Some named)) × IsFirstCheckFault transfers settings named fault
+IsFirstWrong shape batch schedule Shape = ⊥
+IsFirstWrong shape batch schedule (Run why) = ⊥
+IsFirstWrong shape batch schedule NoMemory = ⊥
+
+-- `shortest S`
+abbrev pub shortest_line : ℕ → List ℕ
+shortest_line count = codes "shortest " ++ decimal count ++ codes "\n"
+
+-- how many settings the shortest schedule has, or what is first wrong, each under its status
+pub data IsChecked (shape : Extent) (batch schedule : List ℕ) (printed : Printed) : Type 0 where
+  shortest : (count : ℕ) → IsShown shape batch schedule count → printed.text ≡ shortest_line count → printed.status ≡ DONE → IsChecked shape batch schedule printed
+  refused : (refusal : Refusal) → IsFirstWrong shape batch schedule refusal → IsRefusedBy refusal printed → IsChecked shape batch schedule printed
+
+-- ---- `run`
+
+-- The texts are those of a shape and of a batch of which no transfers overlap. Over a rack of the shape whose words told where they
+-- stood, the batch is placed, in as many settings as the busiest link has uses, and this is the report of it.
+pub record IsReport (shape batch text : List ℕ) : Type 0 where
+  pub extent : Extent
+  pub transfers : List Transfer
+  pub marked : Store
+  pub placed : Store
+  pub settings : ℕ
+  pub shape_read : DenotesShape shape extent
+  pub batch_read : Denotes extent batch transfers
+  pub apart : IsApart transfers
+  pub is_marked : IsMarked (zeros_of extent) marked
+  pub is_placed : IsPlaced marked transfers placed
+  pub fewest : IsDegree transfers settings
+  pub report : text ≡ report_of transfers settings placed
+
+-- what was refused of a run of a batch: the first two transfers that overlap
+abbrev pub IsFirstRefusal : List Transfer → RunRefusal → Type 0
+IsFirstRefusal transfers (run_refusal.Overlap i j) = IsFirstOverlap transfers i j
+IsFirstRefusal transfers run_refusal.Shape = ⊥
+IsFirstRefusal transfers run_refusal.NoMemory = ⊥
+
+-- what is first wrong: the shape text is looked at first, then the batch text, then whether transfers overlap
+abbrev pub IsFirstRunWrong : List ℕ → List ℕ → Refusal → Type 0
+IsFirstRunWrong shape batch Shape = IsBadShape shape
+IsFirstRunWrong shape batch (Batch fault) = (extent : Extent) × DenotesShape shape extent × IsFirstFault extent batch fault
+IsFirstRunWrong shape batch (Run why) = (extent : Extent) × (transfers : List Transfer) × DenotesShape shape extent × Denotes extent batch transfers × IsFirstRefusal transfers why
+IsFirstRunWrong shape batch (Schedule fault) = ⊥
+IsFirstRunWrong shape batch NoCertificate = ⊥
+IsFirstRunWrong shape batch (Check fault) = ⊥
+IsFirstRunWrong shape batch NoMemory = ⊥
+
+-- the report of the run, or what is first wrong, each under its status
+pub data IsRun (shape batch : List ℕ) (printed : Printed) : Type 0 where
+  ran : IsReport shape batch printed.text → printed.status ≡ DONE → IsRun shape batch printed
+  run_refused : (refusal : Refusal) → IsFirstRunWrong shape batch refusal → IsRefusedBy refusal printed → IsRun shape batch printed

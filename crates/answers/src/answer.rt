@@ -1,0 +1,57 @@
+ghost use Rattle.std.specs.Prelude.{◌≡◌, string_bytes};
+
+use crate::limits::{DONE, REFUSED};
+use std::marker::Model;
+
+/// What a command prints on standard output, and the status that the program ends with.
+#[derive(Drop)]
+pub struct Answer {
+    bytes: Vec<u8>,
+    code: u8,
+}
+
+impl Model for Answer {
+    ghost use Rattle.answers.specs.Answers.{Printed};
+
+    ghost Value = { Printed };
+
+    ghost view = { λ a. record { text = a.bytes.items; status = a.code } };
+}
+
+impl Answer {
+    /// The bytes that are printed: whole lines.
+    pub fn text(&self) -> &[u8]
+        ensures { result.now ≡ self.now.text }
+    {
+        self.bytes.as_slice()
+    }
+
+    /// [`DONE`] where the command did what was asked, [`REFUSED`] where it refused.
+    pub fn status(&self) -> u8
+        ensures { result ≡ self.now.status }
+    {
+        self.code
+    }
+
+    /// A text under the status [`DONE`].
+    pub fn done(text: Vec<u8>) -> Answer
+        ensures text { result.text ≡ text.items }
+        ensures status { result.status ≡ DONE }
+    {
+        Answer {
+            bytes: text,
+            code: DONE,
+        }
+    }
+
+    /// A refusal's line under the status [`REFUSED`].
+    pub fn refused(line: String) -> Answer
+        ensures text { result.text ≡ string_bytes line }
+        ensures status { result.status ≡ REFUSED }
+    {
+        Answer {
+            bytes: line.into_bytes(),
+            code: REFUSED,
+        }
+    }
+}

@@ -1,0 +1,25 @@
+//! The answers of the commands: from the bytes of their texts to the bytes that are printed, and the
+//! status that the program ends with.
+//!
+//! Each `answer_` function reads its texts, does what the command asks for, and gives an [`Answer`]:
+//! what was asked for, or the line of the refusal of what is first wrong. It reads no file and prints
+//! nothing.
+#![tactic(auto)]
+
+mod answer;
+mod checking;
+mod limits;
+mod planning;
+mod refusal;
+mod report;
+mod running;
+
+pub use answer::Answer;
+pub use checking::answer_check;
+pub use limits::{DONE, REFUSED};
+pub use planning::answer_plan;
+pub use refusal::Refusal;
+pub use running::answer_run;
+
+#[cfg(test)]
+mod tests;

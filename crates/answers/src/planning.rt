@@ -1,0 +1,35 @@
+ghost use Rattle.std.specs.Prelude.{◌≤◌, IfOk};
+ghost use Rattle.batch.specs.Extent.{widest};
+ghost use Rattle.answers.specs.Answers.{IsPlanned};
+
+use crate::answer::Answer;
+use crate::refusal::Refusal;
+use batch::{Batch, Shape};
+use schedule_certificate::{MAX_WORKERS, OpenGate, schedule};
+use std::alloc::{AllocError, Global};
+use std::thread::Threads;
+
+/// The answer of `exchange plan`: the text of a shortest schedule for the batch that the text
+/// denotes, with the certificate that shows that none is shorter; or the refusal of the text's first
+/// fault.
+///
+/// The batch is read against the widest shape. Planning is given 1 to [`MAX_WORKERS`] workers.
+pub fn answer_plan<R: Threads + Sync>(
+    rt: &R,
+    alloc: Global,
+    batch: &[u8],
+    workers: usize,
+) -> Result<Answer, AllocError>
+    requires some { 1 ≤ workers }
+    requires few { workers ≤ MAX_WORKERS }
+    ensures { IfOk result (λ answer. IsPlanned widest batch.now answer) }
+{
+    match Batch::read(alloc, batch, Shape::WIDEST) {
+        Ok(batch) => {
+            let planned = schedule(rt, alloc, batch, workers, &OpenGate)?;
+            let text = planned.schedule().write(Some(planned.certificate()))?;
+            Ok(Answer::done(text))
+        }
+        Err(fault) => Ok(Answer::refused(Refusal::Batch(fault).line(alloc)?)),
+    }
+}

@@ -1,0 +1,121 @@
+//! The command `run`.
+
+ghost use Rattle.std.specs.Prelude.{◌≡◌, ◌≤◌, ℕ, IfOk, IfErr, length, string_bytes};
+ghost use Rattle.batch.specs.Overlap.{IsApart, IsFirstOverlap};
+ghost use Rattle.module_memory.specs.Store.{zeros_of};
+ghost use Rattle.module_memory.specs.Mark.{IsMarked};
+ghost use Rattle.module_memory.specs.Core.{FitsIn, IsPlaced};
+ghost use Rattle.setting_runner.specs.declared.outcome.RunRefusal.TheVariants.{Overlap, Shape as Misfit};
+ghost use Rattle.answers.specs.Answers.{Printed, IsReport, IsFirstRunWrong, IsRun};
+ghost use Rattle.answers.specs.Refusals.{IsReal};
+
+use crate::answer::Answer;
+use crate::refusal::Refusal;
+use crate::report::report;
+use batch::{Batch, Shape, laws};
+use crossbar::MemoryPort;
+use module_memory::Rack;
+use peek_poke::PlainWires;
+use schedule_certificate::{MAX_WORKERS, OpenGate, Planned, schedule};
+use setting_runner::{Notice, Outcome, Plant, RunRefusal, run};
+use std::alloc::{AllocError, Global};
+use std::thread::Threads;
+
+/// Nobody is told how far a run has come.
+#[derive(Drop)]
+struct Unheard;
+
+impl Notice for Unheard {
+    ghost hears = { λ _ _ _. Unit {0} };
+
+    fn done(&mut self, _settings: usize) {}
+}
+
+/// A rack of the shape whose words tell where they stand.
+fn marked_rack(alloc: Global, shape: Shape) -> Result<Rack, AllocError>
+    ensures { IfOk result (λ rack. IsMarked (zeros_of shape) rack) }
+{
+    let mut rack = Rack::new(alloc, shape)?;
+    rack.mark();
+    Ok(rack)
+}
+
+/// Runs a plan on a rack, over a port and wires that never fail. Gives the rack as the run leaves it, and
+/// how many settings there were.
+fn run_plain<R: Threads + Sync>(
+    rt: &R,
+    alloc: Global,
+    rack: Rack,
+    planned: &Planned,
+    workers: usize,
+) -> Result<(Rack, usize), RunRefusal>
+    requires some { 1 ≤ workers }
+    requires few { workers ≤ MAX_WORKERS }
+    ensures settings { IfOk result (λ ran. ran.1 ≡ length planned.now.settings) }
+    ensures placed { IfOk result (λ ran. IsPlaced rack planned.now.batch ran.0) }
+    ensures apart { IfOk result (λ _. IsApart planned.now.batch) }
+    ensures overlap { IfErr result (λ refusal. (i j : ℕ) → refusal ≡ Overlap i j → IsFirstOverlap planned.now.batch i j) }
+    ensures shape { IfErr result (λ refusal. refusal ≡ Misfit → FitsIn rack.shape planned.now.batch → ⊥) }
+{
+    laws::first_overlap();
+    let mut plant = Plant {
+        port: MemoryPort::new(),
+        wires: PlainWires,
+        gate: OpenGate,
+        workers,
+    };
+    let (rack, outcome) = run(rt, alloc, rack, &mut plant, planned, &mut Unheard);
+    match outcome {
+        Outcome::Completed { settings, .. } => Ok((rack, settings)),
+        Outcome::Refused(refusal) => Err(refusal),
+        Outcome::Stopped { .. } => unreachable!(),
+    }
+}
+
+/// The report of the run, or what is first wrong.
+fn report_run<R: Threads + Sync>(
+    rt: &R,
+    alloc: Global,
+    shape: &[u8],
+    batch: &[u8],
+    workers: usize,
+) -> Result<String, Refusal>
+    requires some { 1 ≤ workers }
+    requires few { workers ≤ MAX_WORKERS }
+    ensures report { IfOk result (λ text. IsReport shape.now batch.now (string_bytes text)) }
+    ensures wrong { IfErr result (λ refusal. IsReal refusal → IsFirstRunWrong shape.now batch.now refusal) }
+{
+    let shape = Shape::read(shape)?;
+    let batch = Batch::read(alloc, batch, shape)?;
+    let rack = marked_rack(alloc, shape)?;
+    let planned = schedule(rt, alloc, batch, workers, &OpenGate)?;
+    let (rack, settings) = run_plain(rt, alloc, rack, &planned, workers)?;
+    Ok(report(alloc, &rack, planned.batch(), settings)?)
+}
+
+/// The answer of `exchange run`: the report of a run of the batch that the batch text denotes, on a rack of
+/// the shape that the shape text denotes, whose words first tell where they stand; or the refusal of what is
+/// first wrong.
+///
+/// The shape text `MxKxW` is looked at first; then the batch text, against that shape; then whether
+/// transfers overlap. The report is `ran settings S words X bits Y`, and the line `block M B` with the words,
+/// of eight hexadecimal digits each, of every block that the batch writes, by module and then by block. Such
+/// a run has as few settings as the batch allows, and goes to its end, since its port and its wires never
+/// fail. Planning and the run are given 1 to [`MAX_WORKERS`] workers each.
+pub fn answer_run<R: Threads + Sync>(
+    rt: &R,
+    alloc: Global,
+    shape: &[u8],
+    batch: &[u8],
+    workers: usize,
+) -> Result<Answer, AllocError>
+    requires some { 1 ≤ workers }
+    requires few { workers ≤ MAX_WORKERS }
+    ensures ran { IfOk result (λ answer. IsRun shape.now batch.now answer) }
+    ensures one { IfOk result (λ answer. (other : Printed) → IsRun shape.now batch.now other → other ≡ answer) }
+{
+    match report_run(rt, alloc, shape, batch, workers) {
+        Ok(text) => Ok(Answer::done(text.into_bytes())),
+        Err(refusal) => Ok(Answer::refused(refusal.line(alloc)?)),
+    }
+}

@@ -1,0 +1,28 @@
+-- The job that the words of the command line name.
+use Rattle.std.specs.Prelude.{◌≡◌, ℕ, ◌≤◌, List, Some, codes, MatchOption, ⊤}
+use Rattle.std.specs.Str.Parse.{digits_value, without_leading_plus}
+use Rattle.clap.specs.Words.{Row, Text, first_of, one_of, subcommand_of}
+use Rattle.schedule_certificate.specs.declared.limits.TheConstants.{MAX_WORKERS}
+use Rattle.command_words.specs.declared.words.Job.{Job}
+use Rattle.command_words.specs.declared.words.Job.TheVariants.{Plan, Check, Run}
+use Rattle.command_words.specs.Program.{program}
+
+-- the number that the text of `--workers` reads as
+abbrev pub HasWorkers : List Row → ℕ → Type 0
+HasWorkers rows n = (text : Text) × (one_of (codes "workers") rows ≡ Some text) × (n ≡ digits_value 10 (without_leading_plus text)) × (1 ≤ n) × (n ≤ MAX_WORKERS)
+
+-- the command by its name, with its texts and its number of workers where it takes one
+abbrev pub IsJob : Text → List Row → Job → Type 0
+IsJob name rows (Plan file workers) = (name ≡ codes "plan") × (first_of (codes "FILE") rows ≡ Some file) × HasWorkers rows workers
+IsJob name rows (Check batch schedule) = (name ≡ codes "check") × (first_of (codes "BATCH") rows ≡ Some batch) × (first_of (codes "SCHEDULE") rows ≡ Some schedule)
+IsJob name rows (Run shape batch workers) = (name ≡ codes "run") × (first_of (codes "SHAPE") rows ≡ Some shape) × (first_of (codes "BATCH") rows ≡ Some batch) × HasWorkers rows workers
+
+-- the job that clap finds in these words
+abbrev pub Holds : List Text → Job → Type 0
+Holds words job = MatchOption (subcommand_of program words) ⊥ (λ p. IsJob p.0 p.1 job)
+
+-- the job's numbers are within the limits
+abbrev pub IsWithinLimits : Job → Type 0
+IsWithinLimits (Plan file workers) = (1 ≤ workers) × (workers ≤ MAX_WORKERS)
+IsWithinLimits (Check batch schedule) = ⊤
+IsWithinLimits (Run shape batch workers) = (1 ≤ workers) × (workers ≤ MAX_WORKERS)
