@@ -18,7 +18,7 @@ use Rattle.setting_runner.specs.declared.outcome.RunRefusal.{RunRefusal}
 use Rattle.setting_runner.specs.declared.outcome.RunRefusal.TheVariants as run_refusal
 use Rattle.answers.specs.declared.refusal.Refusal.{Refusal}
 use Rattle.answers.specs.declared.refusal.Refusal.TheVariants.{Batch, Schedule, NoCertificate, Check, Shape, Run, NoMemory}
-use Rattle.answers.specs.Answers.{Printed, IsRefusedBy, IsReport, IsFirstRefusal, IsFirstRunWrong, IsRun, ran, run_refused}
+use Rattle.answers.specs.Answers.{Printed, IsRefusedBy, IsReport, IsFirstRefusal, IsFirstRunWrong, IsRunAnswer, ran, run_refused}
 use Rattle.answers.proofs.OneVerdict.{printed_same, refused_same}
 
 -- a degree is reached, so none is greater
@@ -103,7 +103,7 @@ one_run_wrong shape batch NoCertificate g a b = absurd a
 one_run_wrong shape batch (Check f) g a b = absurd a
 one_run_wrong shape batch NoMemory g a b = absurd a
 
-pub one_run : (shape batch : List ℕ) (p q : Printed) → IsRun shape batch p → IsRun shape batch q → q ≡ p
+pub one_run : (shape batch : List ℕ) (p q : Printed) → IsRunAnswer shape batch p → IsRunAnswer shape batch q → q ≡ p
 one_run shape batch p q (ran a ends) (ran b stops) = printed_same q p (same_report shape batch q.text p.text b a) (stops ∙ sym ends)
 one_run shape batch p q (ran a ends) (run_refused g b is) = absurd (report_right shape batch p.text g a b)
 one_run shape batch p q (run_refused f a is) (ran b stops) = absurd (report_right shape batch q.text f b a)

@@ -121,6 +121,6 @@ IsFirstRunWrong shape batch (Check fault) = ⊥
 IsFirstRunWrong shape batch NoMemory = ⊥
 
 -- the report of the run, or what is first wrong, each under its status
-pub data IsRun (shape batch : List ℕ) (printed : Printed) : Type 0 where
-  ran : IsReport shape batch printed.text → printed.status ≡ DONE → IsRun shape batch printed
-  run_refused : (refusal : Refusal) → IsFirstRunWrong shape batch refusal → IsRefusedBy refusal printed → IsRun shape batch printed
+pub data IsRunAnswer (shape batch : List ℕ) (printed : Printed) : Type 0 where
+  ran : IsReport shape batch printed.text → printed.status ≡ DONE → IsRunAnswer shape batch printed
+  run_refused : (refusal : Refusal) → IsFirstRunWrong shape batch refusal → IsRefusedBy refusal printed → IsRunAnswer shape batch printed

@@ -6,7 +6,7 @@ ghost use Rattle.module_memory.specs.Store.{zeros_of};
 ghost use Rattle.module_memory.specs.Mark.{IsMarked};
 ghost use Rattle.module_memory.specs.Core.{FitsIn, IsPlaced};
 ghost use Rattle.setting_runner.specs.declared.outcome.RunRefusal.TheVariants.{Overlap, Shape as Misfit};
-ghost use Rattle.answers.specs.Answers.{Printed, IsReport, IsFirstRunWrong, IsRun};
+ghost use Rattle.answers.specs.Answers.{Printed, IsReport, IsFirstRunWrong, IsRunAnswer};
 ghost use Rattle.answers.specs.Refusals.{IsReal};
 
 use crate::answer::Answer;
@@ -111,8 +111,8 @@ pub fn answer_run<R: Threads + Sync>(
 ) -> Result<Answer, AllocError>
     requires some { 1 ≤ workers }
     requires few { workers ≤ MAX_WORKERS }
-    ensures ran { IfOk result (λ answer. IsRun shape.now batch.now answer) }
-    ensures one { IfOk result (λ answer. (other : Printed) → IsRun shape.now batch.now other → other ≡ answer) }
+    ensures ran { IfOk result (λ answer. IsRunAnswer shape.now batch.now answer) }
+    ensures one { IfOk result (λ answer. (other : Printed) → IsRunAnswer shape.now batch.now other → other ≡ answer) }
 {
     match report_run(rt, alloc, shape, batch, workers) {
         Ok(text) => Ok(Answer::done(text.into_bytes())),

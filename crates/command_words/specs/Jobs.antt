@@ -1,7 +1,10 @@
 -- The job that the words of the command line name.
-use Rattle.std.specs.Prelude.{◌≡◌, ℕ, ◌≤◌, List, Some, codes, MatchOption, ⊤}
+use Rattle.std.specs.Prelude.{◌≡◌, ◌⊎◌, ℕ, ◌≤◌, List, Some, codes, MatchOption, ⊤}
 use Rattle.std.specs.Str.Parse.{digits_value, without_leading_plus}
 use Rattle.clap.specs.Words.{Row, Text, first_of, one_of, subcommand_of}
+use Rattle.clap.specs.Values.{kind_of}
+use Rattle.clap.specs.declared.error.Error.{Error}
+use Rattle.clap.specs.declared.error.kind.ErrorKind.TheVariants.{DisplayHelp, DisplayVersion}
 use Rattle.schedule_certificate.specs.declared.limits.TheConstants.{MAX_WORKERS}
 use Rattle.command_words.specs.declared.words.Job.{Job}
 use Rattle.command_words.specs.declared.words.Job.TheVariants.{Plan, Check, Run}
@@ -26,3 +29,7 @@ abbrev pub IsWithinLimits : Job → Type 0
 IsWithinLimits (Plan file workers) = (1 ≤ workers) × (workers ≤ MAX_WORKERS)
 IsWithinLimits (Check batch schedule) = ⊤
 IsWithinLimits (Run shape batch workers) = (1 ≤ workers) × (workers ≤ MAX_WORKERS)
+
+-- the words ask for a text that helps, and make no mistake
+abbrev pub AsksForHelp : Error → Type 0
+AsksForHelp error = (kind_of error ≡ DisplayHelp) ⊎ (kind_of error ≡ DisplayVersion)

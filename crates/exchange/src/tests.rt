@@ -1,42 +1,275 @@
-use crate::check;
-use answers::{DONE, REFUSED};
-use command_words::Text;
-use std::fs;
-use std::process::ExitCode;
+//! Commands over real files, from the words of the command line to what is printed and the status. What
+//! the commands answer to texts is tested with `answers`.
 
-/// The program hands the two files over in the order of its words, and a file that isn't there is
-/// refused before any text is looked at.
+use crate::dispatch::{respond, respond_to};
+use command_words::WordsFault;
+use std::alloc::{AllocError, Global};
+use std::io::{ErrorKind, Write};
+use std::rt::Files;
+use std::test::Fail;
+use std::thread::Threads;
+use std::{fs, io};
+
+/// The batch of row three-transfers.
+const BATCH: &str = "batch 3\npush 0 0 1 0\npush 0 1 2 0\npush 1 1 2 1\n";
+
+/// Its schedule, with the certificate.
+const SCHEDULE: &str = "settings 2\nsetting 0 2\nsetting 1\nbusiest link 0 module 0\nnamed 0 1\n";
+
+/// The words of a line, which one space parts.
+fn words(alloc: Global, line: &str) -> Result<Vec<String>, AllocError> {
+    let mut words = Vec::new(alloc);
+    for word in line.split(' ') {
+        words.push(String::from_str(alloc, word)?)?;
+    }
+    Ok(words)
+}
+
+/// Whether the program prints the text for the words of a line, nothing on standard error, and ends with
+/// the status.
+fn prints<R: AllocGlobal + Files + Threads + Sync>(
+    rt: &R,
+    line: &str,
+    text: &str,
+    status: u8,
+) -> Result<bool, AllocError> {
+    let words = words(rt.alloc(), line)?;
+    let mut out = Vec::new(rt.alloc());
+    let mut err = Vec::new(rt.alloc());
+    let code = respond(rt, Ok(words), &mut out, &mut err);
+    Ok(code == status && out.as_slice() == text.as_bytes() && err.is_empty())
+}
+
 #[test]
-fn check_reads_two_files(rt: HostRuntime) -> Result<(), Fail> {
-    let alloc = rt.alloc();
-    let batch = Text::of(alloc, "check_reads_two_files.batch")?;
-    let schedule = Text::of(alloc, "check_reads_two_files.schedule")?;
-    fs::write(&rt, batch.as_str(), b"batch 0\n")?;
-    fs::write(&rt, schedule.as_str(), b"settings 0\nbusiest none\n")?;
-    let right = check(&rt, &batch, &schedule)?;
-    let swapped = check(&rt, &schedule, &batch)?;
-    fs::remove_file(&rt, batch.as_str())?;
-    let gone = check(&rt, &batch, &schedule)?;
-    fs::remove_file(&rt, schedule.as_str())?;
-    assert_eq!(rt; right, ExitCode::from(DONE));
-    assert_eq!(rt; swapped, ExitCode::from(REFUSED));
-    assert_eq!(rt; gone, ExitCode::from(REFUSED));
+fn plan_of_a_file(rt: HostRuntime) -> Result<(), Fail> {
+    fs::write(&rt, "plan.batch", BATCH.as_bytes())?;
+    let alone = prints(&rt, "exchange plan plan.batch", SCHEDULE, 0)?;
+    let many = prints(&rt, "exchange plan --workers 16 plan.batch", SCHEDULE, 0)?;
+    fs::remove_file(&rt, "plan.batch")?;
+    assert!(rt; alone);
+    assert!(rt; many);
+    assert!(rt; prints(&rt, "exchange plan plan.batch", "refused file\n", 1)?);
     Ok(())
 }
 
-/// A batch file that isn't there is refused before the shape is looked at.
+/// The first file is the batch, and the second the schedule.
 #[test]
-fn run_reads_its_file(rt: HostRuntime) -> Result<(), Fail> {
-    let alloc = rt.alloc();
-    let name = Text::of(alloc, "run_reads_its_file.batch")?;
-    let shape = Text::of(alloc, "2x1x1")?;
-    fs::write(&rt, name.as_str(), b"batch 1\npush 0 0 1 0\n")?;
-    let right = crate::run(&rt, &shape, &name, 2)?;
-    let swapped = crate::run(&rt, &name, &shape, 2)?;
-    fs::remove_file(&rt, name.as_str())?;
-    let gone = crate::run(&rt, &shape, &name, 2)?;
-    assert_eq!(rt; right, ExitCode::from(DONE));
-    assert_eq!(rt; swapped, ExitCode::from(REFUSED));
-    assert_eq!(rt; gone, ExitCode::from(REFUSED));
+fn check_of_two_files(rt: HostRuntime) -> Result<(), Fail> {
+    fs::write(&rt, "check.batch", BATCH.as_bytes())?;
+    fs::write(&rt, "check.schedule", SCHEDULE.as_bytes())?;
+    let right = prints(
+        &rt,
+        "exchange check check.batch check.schedule",
+        "shortest 2\n",
+        0,
+    )?;
+    let exchanged = prints(
+        &rt,
+        "exchange check check.schedule check.batch",
+        "refused batch line 1\n",
+        1,
+    )?;
+    fs::remove_file(&rt, "check.batch")?;
+    fs::remove_file(&rt, "check.schedule")?;
+    assert!(rt; right);
+    assert!(rt; exchanged);
+    Ok(())
+}
+
+/// A file that isn't there is refused before any text is looked at.
+#[test]
+fn check_of_a_file_that_is_missing(rt: HostRuntime) -> Result<(), Fail> {
+    fs::write(&rt, "check.wrong", b"batch\n")?;
+    let first = prints(
+        &rt,
+        "exchange check check.none check.wrong",
+        "refused file\n",
+        1,
+    )?;
+    let second = prints(
+        &rt,
+        "exchange check check.wrong check.none",
+        "refused file\n",
+        1,
+    )?;
+    let both = prints(
+        &rt,
+        "exchange check check.wrong check.wrong",
+        "refused batch line 1\n",
+        1,
+    )?;
+    fs::remove_file(&rt, "check.wrong")?;
+    assert!(rt; first);
+    assert!(rt; second);
+    assert!(rt; both);
+    Ok(())
+}
+
+/// The first word is the shape, and the second the batch's file.
+#[test]
+fn run_of_a_file(rt: HostRuntime) -> Result<(), Fail> {
+    let report = "ran settings 1 words 2 bits 234\nblock 1 0 00000000 00000001\n";
+    fs::write(&rt, "run.batch", b"batch 1\npush 0 0 1 0\n")?;
+    let alone = prints(&rt, "exchange run 2x1x2 run.batch", report, 0)?;
+    let many = prints(&rt, "exchange run 2x1x2 run.batch --workers 2", report, 0)?;
+    let small = prints(
+        &rt,
+        "exchange run 1x1x2 run.batch",
+        "refused no module 0\n",
+        1,
+    )?;
+    let exchanged = prints(&rt, "exchange run run.batch 2x1x2", "refused file\n", 1)?;
+    fs::remove_file(&rt, "run.batch")?;
+    assert!(rt; alone);
+    assert!(rt; many);
+    assert!(rt; small);
+    assert!(rt; exchanged);
+    Ok(())
+}
+
+/// The batch's file is read before the shape is looked at.
+#[test]
+fn run_of_a_file_that_is_missing(rt: HostRuntime) -> Result<(), Fail> {
+    fs::write(&rt, "run.wrong", b"batch\n")?;
+    let shape = prints(&rt, "exchange run 0x1x1 run.wrong", "refused shape\n", 1)?;
+    fs::remove_file(&rt, "run.wrong")?;
+    assert!(rt; shape);
+    assert!(rt; prints(&rt, "exchange run 0x1x1 run.wrong", "refused file\n", 1)?);
+    Ok(())
+}
+
+/// What the program prints on standard output and on standard error for the words of a line, and the
+/// status.
+fn ends<R: AllocGlobal + Files + Threads + Sync>(
+    rt: &R,
+    line: &str,
+) -> Result<(Vec<u8>, Vec<u8>, u8), AllocError> {
+    let words = words(rt.alloc(), line)?;
+    let mut out = Vec::new(rt.alloc());
+    let mut err = Vec::new(rt.alloc());
+    let status = respond(rt, Ok(words), &mut out, &mut err);
+    Ok((out, err, status))
+}
+
+/// Help goes to standard output, under status 0.
+#[test]
+fn help_is_an_answer(rt: HostRuntime) -> Result<(), Fail> {
+    for (line, begin) in [
+        ("exchange --help", "Plans block transfers"),
+        ("exchange help", "Plans block transfers"),
+        ("exchange plan --help", "Prints a schedule of a batch"),
+        ("exchange check --help", "Judges a schedule of a batch"),
+        ("exchange run --help", "Runs a batch on a rack"),
+    ] {
+        let (out, err, status) = ends(&rt, line)?;
+        assert!(rt; out.as_slice().starts_with(begin.as_bytes()), "{line}");
+        assert!(rt; err.is_empty(), "{line}");
+        assert_eq!(rt; status, 0, "{line}");
+    }
+    Ok(())
+}
+
+/// Words that fit no command are answered on standard error, under status 2.
+#[test]
+fn misuse_is_an_error(rt: HostRuntime) -> Result<(), Fail> {
+    for line in [
+        "exchange",
+        "exchange plan",
+        "exchange chart F",
+        "exchange run S B --workers 65",
+    ] {
+        let (out, err, status) = ends(&rt, line)?;
+        assert!(rt; out.is_empty(), "{line}");
+        assert!(rt; !err.is_empty(), "{line}");
+        assert_eq!(rt; status, 2, "{line}");
+    }
+    Ok(())
+}
+
+/// What the program prints where the words can't be had, and the status.
+fn ends_without_words<R: AllocGlobal + Files + Threads + Sync>(
+    rt: &R,
+    why: ErrorKind,
+) -> (Vec<u8>, Vec<u8>, u8) {
+    let mut out = Vec::new(rt.alloc());
+    let mut err = Vec::new(rt.alloc());
+    let status = respond(rt, Err(io::Error::new(why, "no words")), &mut out, &mut err);
+    (out, err, status)
+}
+
+#[test]
+fn words_that_cannot_be_had(rt: HostRuntime) {
+    let (out, err, status) = ends_without_words(&rt, ErrorKind::OutOfMemory);
+    assert_eq!(rt; out.as_slice(), b"refused no memory\n".as_slice());
+    assert!(rt; err.is_empty());
+    assert_eq!(rt; status, 1);
+    let (out, err, status) = ends_without_words(&rt, ErrorKind::InvalidData);
+    assert!(rt; out.is_empty());
+    assert_eq!(rt;
+        err.as_slice(),
+        b"error: a word isn't UTF-8 text\n".as_slice()
+    );
+    assert_eq!(rt; status, 2);
+}
+
+/// Want of memory while the words are read is a refusal.
+#[test]
+fn words_without_memory(rt: HostRuntime) -> Result<(), Fail> {
+    let mut out = Vec::new(rt.alloc());
+    let mut err = Vec::new(rt.alloc());
+    let status = respond_to(&rt, Err(WordsFault::NoMemory), &mut out, &mut err)?;
+    assert_eq!(rt; out.as_slice(), b"refused no memory\n".as_slice());
+    assert!(rt; err.is_empty());
+    assert_eq!(rt; status, 1);
+    Ok(())
+}
+
+/// A writer that takes so many bytes, and then fails.
+#[derive(Drop)]
+struct Full {
+    room: usize,
+}
+
+impl Write for Full {
+    fn write(&mut self, buf: &[u8]) -> io::Result<usize> {
+        if self.room == 0 {
+            return Err(io::Error::other("no room"));
+        }
+        let taken = buf.len().min(self.room);
+        self.room -= taken;
+        Ok(taken)
+    }
+
+    fn flush(&mut self) -> io::Result<()> {
+        Ok(())
+    }
+}
+
+/// What the program says on standard error for the words of a line where standard output takes so many
+/// bytes only, and the status.
+fn ends_in_full<R: AllocGlobal + Files + Threads + Sync>(
+    rt: &R,
+    line: &str,
+    room: usize,
+) -> Result<(Vec<u8>, u8), AllocError> {
+    let words = words(rt.alloc(), line)?;
+    let mut err = Vec::new(rt.alloc());
+    let status = respond(rt, Ok(words), &mut Full { room }, &mut err);
+    Ok((err, status))
+}
+
+/// An answer, a refusal or a help that can't be written ends with status 3.
+#[test]
+fn what_cannot_be_written(rt: HostRuntime) -> Result<(), Fail> {
+    let said = b"exchange: the answer can't be written: no room\n".as_slice();
+    fs::write(&rt, "full.batch", BATCH.as_bytes())?;
+    let (answer, first) = ends_in_full(&rt, "exchange plan full.batch", 11)?;
+    fs::remove_file(&rt, "full.batch")?;
+    let (refusal, second) = ends_in_full(&rt, "exchange plan full.batch", 0)?;
+    let (help, third) = ends_in_full(&rt, "exchange --help", 100)?;
+    assert_eq!(rt; answer.as_slice(), said);
+    assert_eq!(rt; refusal.as_slice(), said);
+    assert_eq!(rt; help.as_slice(), said);
+    assert_eq!(rt; [first, second, third], [3, 3, 3]);
     Ok(())
 }
