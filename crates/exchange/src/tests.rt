@@ -138,17 +138,18 @@ fn run_of_a_file_that_is_missing(rt: HostRuntime) -> Result<(), Fail> {
     Ok(())
 }
 
-/// What the program prints on standard output and on standard error for the words of a line, and the
-/// status.
-fn ends<R: AllocGlobal + Files + Threads + Sync>(
+/// Whether the program prints a text that begins so for the words of a line, nothing on standard error,
+/// and ends with status 0.
+fn helps<R: AllocGlobal + Files + Threads + Sync>(
     rt: &R,
     line: &str,
-) -> Result<(Vec<u8>, Vec<u8>, u8), AllocError> {
+    begin: &str,
+) -> Result<bool, AllocError> {
     let words = words(rt.alloc(), line)?;
     let mut out = Vec::new(rt.alloc());
     let mut err = Vec::new(rt.alloc());
     let status = respond(rt, Ok(words), &mut out, &mut err);
-    Ok((out, err, status))
+    Ok(status == 0 && out.as_slice().starts_with(begin.as_bytes()) && err.is_empty())
 }
 
 /// Help goes to standard output, under status 0.
@@ -161,12 +162,22 @@ fn help_is_an_answer(rt: HostRuntime) -> Result<(), Fail> {
         ("exchange check --help", "Judges a schedule of a batch"),
         ("exchange run --help", "Runs a batch on a rack"),
     ] {
-        let (out, err, status) = ends(&rt, line)?;
-        assert!(rt; out.as_slice().starts_with(begin.as_bytes()), "{line}");
-        assert!(rt; err.is_empty(), "{line}");
-        assert_eq!(rt; status, 0, "{line}");
+        assert!(rt; helps(&rt, line, begin)?, "{line}");
     }
     Ok(())
+}
+
+/// Whether the program prints nothing for the words of a line but on standard error, and ends with
+/// status 2.
+fn is_misused<R: AllocGlobal + Files + Threads + Sync>(
+    rt: &R,
+    line: &str,
+) -> Result<bool, AllocError> {
+    let words = words(rt.alloc(), line)?;
+    let mut out = Vec::new(rt.alloc());
+    let mut err = Vec::new(rt.alloc());
+    let status = respond(rt, Ok(words), &mut out, &mut err);
+    Ok(status == 2 && out.is_empty() && !err.is_empty())
 }
 
 /// Words that fit no command are answered on standard error, under status 2.
@@ -178,49 +189,45 @@ fn misuse_is_an_error(rt: HostRuntime) -> Result<(), Fail> {
         "exchange chart F",
         "exchange run S B --workers 65",
     ] {
-        let (out, err, status) = ends(&rt, line)?;
-        assert!(rt; out.is_empty(), "{line}");
-        assert!(rt; !err.is_empty(), "{line}");
-        assert_eq!(rt; status, 2, "{line}");
+        assert!(rt; is_misused(&rt, line)?, "{line}");
     }
     Ok(())
 }
 
-/// What the program prints where the words can't be had, and the status.
+/// Whether the program prints these texts on standard output and on standard error where the words can't be
+/// had for this reason, and ends with the status.
 fn ends_without_words<R: AllocGlobal + Files + Threads + Sync>(
     rt: &R,
     why: ErrorKind,
-) -> (Vec<u8>, Vec<u8>, u8) {
+    printed: &str,
+    said: &str,
+    status: u8,
+) -> bool {
     let mut out = Vec::new(rt.alloc());
     let mut err = Vec::new(rt.alloc());
-    let status = respond(rt, Err(io::Error::new(why, "no words")), &mut out, &mut err);
-    (out, err, status)
+    let code = respond(rt, Err(io::Error::new(why, "no words")), &mut out, &mut err);
+    code == status && out.as_slice() == printed.as_bytes() && err.as_slice() == said.as_bytes()
 }
 
 #[test]
 fn words_that_cannot_be_had(rt: HostRuntime) {
-    let (out, err, status) = ends_without_words(&rt, ErrorKind::OutOfMemory);
-    assert_eq!(rt; out.as_slice(), b"refused no memory\n".as_slice());
-    assert!(rt; err.is_empty());
-    assert_eq!(rt; status, 1);
-    let (out, err, status) = ends_without_words(&rt, ErrorKind::InvalidData);
-    assert!(rt; out.is_empty());
-    assert_eq!(rt;
-        err.as_slice(),
-        b"error: a word isn't UTF-8 text\n".as_slice()
-    );
-    assert_eq!(rt; status, 2);
+    let none = ErrorKind::OutOfMemory;
+    assert!(rt; ends_without_words(&rt, none, "refused no memory\n", "", 1));
+    let other = ErrorKind::InvalidData;
+    assert!(rt; ends_without_words(&rt, other, "", "error: a word isn't UTF-8 text\n", 2));
 }
 
-/// Want of memory while the words are read is a refusal.
-#[test]
-fn words_without_memory(rt: HostRuntime) -> Result<(), Fail> {
+/// Whether want of memory while the words are read is a refusal.
+fn refuses_without_memory<R: AllocGlobal + Files + Threads + Sync>(rt: &R) -> io::Result<bool> {
     let mut out = Vec::new(rt.alloc());
     let mut err = Vec::new(rt.alloc());
-    let status = respond_to(&rt, Err(WordsFault::NoMemory), &mut out, &mut err)?;
-    assert_eq!(rt; out.as_slice(), b"refused no memory\n".as_slice());
-    assert!(rt; err.is_empty());
-    assert_eq!(rt; status, 1);
+    let status = respond_to(rt, Err(WordsFault::NoMemory), &mut out, &mut err)?;
+    Ok(status == 1 && out.as_slice() == b"refused no memory\n".as_slice() && err.is_empty())
+}
+
+#[test]
+fn words_without_memory(rt: HostRuntime) -> Result<(), Fail> {
+    assert!(rt; refuses_without_memory(&rt)?);
     Ok(())
 }
 
@@ -245,31 +252,28 @@ impl Write for Full {
     }
 }
 
-/// What the program says on standard error for the words of a line where standard output takes so many
-/// bytes only, and the status.
-fn ends_in_full<R: AllocGlobal + Files + Threads + Sync>(
+/// Whether the program says on standard error that it can't write, and ends with status 3, where standard
+/// output takes so many bytes only.
+fn is_unwritten<R: AllocGlobal + Files + Threads + Sync>(
     rt: &R,
     line: &str,
     room: usize,
-) -> Result<(Vec<u8>, u8), AllocError> {
+) -> Result<bool, AllocError> {
     let words = words(rt.alloc(), line)?;
     let mut err = Vec::new(rt.alloc());
     let status = respond(rt, Ok(words), &mut Full { room }, &mut err);
-    Ok((err, status))
+    let said = b"exchange: the answer can't be written: no room\n".as_slice();
+    Ok(status == 3 && err.as_slice() == said)
 }
 
 /// An answer, a refusal or a help that can't be written ends with status 3.
 #[test]
 fn what_cannot_be_written(rt: HostRuntime) -> Result<(), Fail> {
-    let said = b"exchange: the answer can't be written: no room\n".as_slice();
     fs::write(&rt, "full.batch", BATCH.as_bytes())?;
-    let (answer, first) = ends_in_full(&rt, "exchange plan full.batch", 11)?;
+    let answer = is_unwritten(&rt, "exchange plan full.batch", 11)?;
     fs::remove_file(&rt, "full.batch")?;
-    let (refusal, second) = ends_in_full(&rt, "exchange plan full.batch", 0)?;
-    let (help, third) = ends_in_full(&rt, "exchange --help", 100)?;
-    assert_eq!(rt; answer.as_slice(), said);
-    assert_eq!(rt; refusal.as_slice(), said);
-    assert_eq!(rt; help.as_slice(), said);
-    assert_eq!(rt; [first, second, third], [3, 3, 3]);
+    assert!(rt; answer);
+    assert!(rt; is_unwritten(&rt, "exchange plan full.batch", 0)?);
+    assert!(rt; is_unwritten(&rt, "exchange --help", 100)?);
     Ok(())
 }
