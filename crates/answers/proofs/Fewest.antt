@@ -4,11 +4,7 @@ use Rattle.std.proofs.lemmas.List.Elements.{All-get_or}
 use Rattle.batch.specs.declared.transfer.Transfer.{Transfer}
 use Rattle.batch.specs.Extent.{Extent}
 use Rattle.batch.specs.Text.{IsWithin, Denotes}
-use Rattle.batch.specs.Overlap.{transfer_at, IsFirstOverlap}
-use Rattle.setting_runner.specs.declared.outcome.RunRefusal.{RunRefusal}
-use Rattle.setting_runner.specs.declared.outcome.RunRefusal.TheVariants as run_refusal
-use Rattle.answers.specs.declared.refusal.Refusal.TheVariants.{Run}
-use Rattle.answers.specs.Refusals.{IsReal}
+use Rattle.batch.specs.Overlap.{transfer_at}
 use Rattle.batch.proofs.Places.{places_within}
 use Rattle.module_memory.specs.Core.{FitsIn}
 use Rattle.link_graph.specs.declared.link.Link.{Link}
@@ -17,7 +13,6 @@ use Rattle.link_graph.specs.Certificates.{CertifiesBy}
 use Rattle.link_graph.proofs.Users.{counted}
 use Rattle.schedule_certificate.specs.Plans.{Plan, NamesBusiest, IsPlan}
 use Rattle.schedule_certificate.specs.Parts.{IsDegree}
-use Rattle.answers.specs.Answers.{IsFirstRefusal}
 
 degree_at : (batch : List Transfer) (settings : List (List ℕ)) (link : Option Link) (named : List ℕ) → CertifiesBy batch settings link named → NamesBusiest batch link named → IsDegree batch (length settings)
 degree_at batch settings None named certified names =
@@ -34,9 +29,3 @@ fewest_settings plan is = degree_at plan.batch plan.settings plan.named.link pla
 -- the blocks of a batch that a text denotes are those of the shape
 pub fits_in : (shape : Extent) (text : List ℕ) (ts : List Transfer) → Denotes shape text ts → FitsIn shape ts
 fits_in shape text ts denotes i below = places_within shape (transfer_at ts i) (All-get_or (IsWithin shape) ts i (transfer_at [] 0) below denotes.within)
-
--- a run of such a batch is refused for an overlap, memory aside
-pub first_refusal : (shape : Extent) (text : List ℕ) (ts : List Transfer) → Denotes shape text ts → (why : RunRefusal) → ((i j : ℕ) → why ≡ run_refusal.Overlap i j → IsFirstOverlap ts i j) → (why ≡ run_refusal.Shape → FitsIn shape ts → ⊥) → IsReal (Run why) → IsFirstRefusal ts why
-first_refusal shape text ts denotes (run_refusal.Overlap i j) overlap misfit real = overlap i j refl
-first_refusal shape text ts denotes run_refusal.Shape overlap misfit real = misfit refl (fits_in shape text ts denotes)
-first_refusal shape text ts denotes run_refusal.NoMemory overlap misfit real = real refl

@@ -4,7 +4,7 @@ use Rattle.std.proofs.lemmas.List.{length-replicate}
 use Rattle.batch.specs.declared.transfer.Transfer.{Transfer}
 use Rattle.batch.specs.Extent.{Extent, IsShape}
 use Rattle.batch.specs.Faults.{IsFirstFault}
-use Rattle.batch.specs.Overlap.{IsApart}
+use Rattle.batch.specs.Overlap.{IsApart, IsFirstOverlap}
 use Rattle.batch.specs.Text.{Denotes}
 use Rattle.batch.specs.ShapeText.{DenotesShape}
 use Rattle.batch.proofs.Shapes.{one_shape}
@@ -14,11 +14,10 @@ use Rattle.module_memory.specs.Store.{HasAllBlocks, zeros_of}
 use Rattle.module_memory.proofs.CoreLaw.{one_placed}
 use Rattle.module_memory.proofs.Marking.{one_marked}
 use Rattle.schedule_certificate.specs.Parts.{IsDegree}
-use Rattle.setting_runner.specs.declared.outcome.RunRefusal.{RunRefusal}
-use Rattle.setting_runner.specs.declared.outcome.RunRefusal.TheVariants as run_refusal
-use Rattle.answers.specs.declared.refusal.Refusal.{Refusal}
-use Rattle.answers.specs.declared.refusal.Refusal.TheVariants.{Batch, Schedule, NoCertificate, Check, Shape, Run, NoMemory}
-use Rattle.answers.specs.Answers.{Printed, IsRefusedBy, IsReport, IsFirstRefusal, IsFirstRunWrong, IsRunAnswer, ran, run_refused}
+use Rattle.answers.specs.declared.running_fault.RunningFault.{RunningFault}
+use Rattle.answers.specs.declared.running_fault.RunningFault.TheVariants.{Shape, Batch, Overlap, NoMemory}
+use Rattle.answers.specs.Refusals.{Printed, IsRefused, running_words}
+use Rattle.answers.specs.Answers.{IsReport, IsFirstRunWrong, IsRunAnswer, ran, run_refused}
 use Rattle.answers.proofs.OneVerdict.{printed_same, refused_same}
 
 -- a degree is reached, so none is greater
@@ -49,58 +48,33 @@ same_extent : (shape batch : List ℕ) (a b : Extent) (ts : List Transfer) → D
 same_extent shape batch a b ts one other denotes = subst (λ (x : Extent). Denotes x batch ts) (sym (one_shape shape a b one other)) denotes
 
 -- a batch that is run has nothing wrong
-report_right : (shape batch text : List ℕ) (refusal : Refusal) → IsReport shape batch text → IsFirstRunWrong shape batch refusal → ⊥
+report_right : (shape batch text : List ℕ) (fault : RunningFault) → IsReport shape batch text → IsFirstRunWrong shape batch fault → ⊥
 report_right shape batch text Shape a wrong = wrong a.extent a.shape_read
 report_right shape batch text (Batch fault) a wrong =
     apart wrong.0 wrong.1.allowed batch a.transfers fault (same_extent shape batch wrong.0 a.extent a.transfers wrong.1 a.shape_read a.batch_read) wrong.2
-report_right shape batch text (Run (run_refusal.Overlap i j)) a wrong =
+report_right shape batch text (Overlap i j) a wrong =
     let transfers : a.transfers ≡ wrong.1 = one_batch a.extent a.shape_read.allowed batch a.transfers wrong.1 a.batch_read (same_extent shape batch a.extent wrong.0 wrong.1 a.shape_read wrong.2 wrong.3) in
     subst IsApart transfers a.apart i j wrong.4.overlap
-report_right shape batch text (Run run_refusal.Shape) a wrong = wrong.4
-report_right shape batch text (Run run_refusal.NoMemory) a wrong = wrong.4
-report_right shape batch text (Schedule fault) a wrong = wrong
-report_right shape batch text NoCertificate a wrong = wrong
-report_right shape batch text (Check fault) a wrong = wrong
 report_right shape batch text NoMemory a wrong = wrong
 
-one_refusal : (transfers : List Transfer) (f g : RunRefusal) → IsFirstRefusal transfers f → IsFirstRefusal transfers g → f ≡ g
-one_refusal transfers (run_refusal.Overlap i j) (run_refusal.Overlap k l) a b =
-    let same = one_first transfers i j k l a b in
-    ap₂ run_refusal.Overlap same.0 same.1
-one_refusal transfers (run_refusal.Overlap i j) run_refusal.Shape a b = absurd b
-one_refusal transfers (run_refusal.Overlap i j) run_refusal.NoMemory a b = absurd b
-one_refusal transfers run_refusal.Shape g a b = absurd a
-one_refusal transfers run_refusal.NoMemory g a b = absurd a
-
 -- there is one first thing that is wrong
-one_run_wrong : (shape batch : List ℕ) (f g : Refusal) → IsFirstRunWrong shape batch f → IsFirstRunWrong shape batch g → f ≡ g
+one_run_wrong : (shape batch : List ℕ) (f g : RunningFault) → IsFirstRunWrong shape batch f → IsFirstRunWrong shape batch g → f ≡ g
 one_run_wrong shape batch Shape Shape a b = refl
 one_run_wrong shape batch Shape (Batch g) a b = absurd (a b.0 b.1)
-one_run_wrong shape batch Shape (Run g) a b = absurd (a b.0 b.2)
+one_run_wrong shape batch Shape (Overlap k l) a b = absurd (a b.0 b.2)
 one_run_wrong shape batch (Batch f) Shape a b = absurd (b a.0 a.1)
 one_run_wrong shape batch (Batch f) (Batch g) a b =
     ap Batch (one_fault a.0 a.1.allowed batch f g a.2 (subst (λ (x : Extent). IsFirstFault x batch g) (one_shape shape b.0 a.0 b.1 a.1) b.2))
-one_run_wrong shape batch (Batch f) (Run g) a b = absurd (apart a.0 a.1.allowed batch b.1 f (same_extent shape batch a.0 b.0 b.1 a.1 b.2 b.3) a.2)
-one_run_wrong shape batch (Run f) Shape a b = absurd (b a.0 a.2)
-one_run_wrong shape batch (Run f) (Batch g) a b = absurd (apart b.0 b.1.allowed batch a.1 g (same_extent shape batch b.0 a.0 a.1 b.1 a.2 a.3) b.2)
-one_run_wrong shape batch (Run f) (Run g) a b =
+one_run_wrong shape batch (Batch f) (Overlap k l) a b = absurd (apart a.0 a.1.allowed batch b.1 f (same_extent shape batch a.0 b.0 b.1 a.1 b.2 b.3) a.2)
+one_run_wrong shape batch (Overlap i j) Shape a b = absurd (b a.0 a.2)
+one_run_wrong shape batch (Overlap i j) (Batch g) a b = absurd (apart b.0 b.1.allowed batch a.1 g (same_extent shape batch b.0 a.0 a.1 b.1 a.2 a.3) b.2)
+one_run_wrong shape batch (Overlap i j) (Overlap k l) a b =
     let transfers : a.1 ≡ b.1 = one_batch a.0 a.2.allowed batch a.1 b.1 a.3 (same_extent shape batch a.0 b.0 b.1 a.2 b.2 b.3) in
-    ap Run (one_refusal a.1 f g a.4 (subst (λ (x : List Transfer). IsFirstRefusal x g) (sym transfers) b.4))
-one_run_wrong shape batch Shape (Schedule g) a b = absurd b
-one_run_wrong shape batch Shape NoCertificate a b = absurd b
-one_run_wrong shape batch Shape (Check g) a b = absurd b
+    let same = one_first a.1 i j k l a.4 (subst (λ (x : List Transfer). IsFirstOverlap x k l) (sym transfers) b.4) in
+    ap₂ Overlap same.0 same.1
 one_run_wrong shape batch Shape NoMemory a b = absurd b
-one_run_wrong shape batch (Batch f) (Schedule g) a b = absurd b
-one_run_wrong shape batch (Batch f) NoCertificate a b = absurd b
-one_run_wrong shape batch (Batch f) (Check g) a b = absurd b
 one_run_wrong shape batch (Batch f) NoMemory a b = absurd b
-one_run_wrong shape batch (Run f) (Schedule g) a b = absurd b
-one_run_wrong shape batch (Run f) NoCertificate a b = absurd b
-one_run_wrong shape batch (Run f) (Check g) a b = absurd b
-one_run_wrong shape batch (Run f) NoMemory a b = absurd b
-one_run_wrong shape batch (Schedule f) g a b = absurd a
-one_run_wrong shape batch NoCertificate g a b = absurd a
-one_run_wrong shape batch (Check f) g a b = absurd a
+one_run_wrong shape batch (Overlap i j) NoMemory a b = absurd b
 one_run_wrong shape batch NoMemory g a b = absurd a
 
 pub one_run : (shape batch : List ℕ) (p q : Printed) → IsRunAnswer shape batch p → IsRunAnswer shape batch q → q ≡ p
@@ -108,4 +82,4 @@ one_run shape batch p q (ran a ends) (ran b stops) = printed_same q p (same_repo
 one_run shape batch p q (ran a ends) (run_refused g b is) = absurd (report_right shape batch p.text g a b)
 one_run shape batch p q (run_refused f a is) (ran b stops) = absurd (report_right shape batch q.text f b a)
 one_run shape batch p q (run_refused f a is) (run_refused g b was) =
-    refused_same g q p was (subst (λ (r : Refusal). IsRefusedBy r p) (one_run_wrong shape batch f g a b) is)
+    refused_same (running_words g) q p was (subst (λ (r : RunningFault). IsRefused (running_words r) p) (one_run_wrong shape batch f g a b) is)

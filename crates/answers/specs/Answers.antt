@@ -19,23 +19,17 @@ use Rattle.link_graph.specs.ScheduleText.{said, Says}
 use Rattle.link_graph.specs.ScheduleFaults.{IsFirstBadLine}
 use Rattle.schedule_certificate.specs.Plans.{Plan, IsPlan, HasFewReinsertions}
 use Rattle.schedule_certificate.specs.Parts.{IsDegree}
-use Rattle.setting_runner.specs.declared.outcome.RunRefusal.{RunRefusal}
-use Rattle.setting_runner.specs.declared.outcome.RunRefusal.TheVariants as run_refusal
-use Rattle.answers.specs.declared.limits.TheConstants.{DONE, REFUSED}
-use Rattle.answers.specs.declared.refusal.Refusal.{Refusal}
-use Rattle.answers.specs.declared.refusal.Refusal.TheVariants.{Batch, Schedule, NoCertificate, Check, Shape, Run, NoMemory}
-use Rattle.answers.specs.Refusals.{refusal_line}
+use Rattle.answers.specs.declared.limits.TheConstants.{DONE}
+use Rattle.answers.specs.declared.checking_fault.CheckingFault.{CheckingFault}
+use Rattle.answers.specs.declared.checking_fault.CheckingFault.TheVariants as checking
+use Rattle.answers.specs.declared.running_fault.RunningFault.{RunningFault}
+use Rattle.answers.specs.declared.running_fault.RunningFault.TheVariants as running
+use Rattle.answers.specs.Refusals.{Printed, IsRefused, batch_words, checking_words, running_words}
 use Rattle.answers.specs.Reports.{report_of}
 
--- what a command prints, and the status that the program ends with
-pub record Printed : Type 0 where
-  pub text : List ℕ
-  pub status : ℕ
-
--- a refusal's line, under its status
-pub record IsRefusedBy (refusal : Refusal) (printed : Printed) : Type 0 where
-  pub line : printed.text ≡ refusal_line refusal
-  pub status : printed.status ≡ REFUSED
+-- no other answer is such
+abbrev pub IsOnly : (Printed → Type 0) → Printed → Type 0
+IsOnly IsAnswer answer = (other : Printed) → IsAnswer other → other ≡ answer
 
 -- ---- `plan`
 
@@ -46,7 +40,7 @@ SaysPlan text plan = Says text (said plan.settings (Some plan.named))
 -- a text that says a plan of the batch that the batch text denotes, or the refusal of that text's first fault, each under its status
 pub data IsPlanned (shape : Extent) (batch : List ℕ) (printed : Printed) : Type 0 where
   planned : (plan : Plan) → Denotes shape batch plan.batch → IsPlan plan → HasFewReinsertions plan → SaysPlan printed.text plan → printed.status ≡ DONE → IsPlanned shape batch printed
-  refused : (fault : BatchFault) → IsFirstFault shape batch fault → IsRefusedBy (Batch fault) printed → IsPlanned shape batch printed
+  refused : (fault : BatchFault) → IsFirstFault shape batch fault → IsRefused (batch_words fault) printed → IsPlanned shape batch printed
 
 -- ---- `check`
 
@@ -67,15 +61,12 @@ IsFirstScheduleFault schedule (schedule_fault.Line n) = IsFirstBadLine schedule 
 IsFirstScheduleFault schedule schedule_fault.NoMemory = ⊥
 
 -- What is first wrong: the batch text is looked at first, then the schedule text, then whether it has the certificate part, then what the checker finds.
-abbrev pub IsFirstWrong : Extent → List ℕ → List ℕ → Refusal → Type 0
-IsFirstWrong shape batch schedule (Batch fault) = IsFirstFault shape batch fault
-IsFirstWrong shape batch schedule (Schedule fault) = (transfers : List Transfer) × Denotes shape batch transfers × IsFirstScheduleFault schedule fault
-IsFirstWrong shape batch schedule NoCertificate = (transfers : List Transfer) × (settings : List (List ℕ)) × Denotes shape batch transfers × Says schedule (said settings None)
-IsFirstWrong shape batch schedule (Check fault) = (transfers : List Transfer) × (settings : List (List ℕ)) × (named : Naming)
+abbrev pub IsFirstWrong : Extent → List ℕ → List ℕ → CheckingFault → Type 0
+IsFirstWrong shape batch schedule (checking.Batch fault) = IsFirstFault shape batch fault
+IsFirstWrong shape batch schedule (checking.Schedule fault) = (transfers : List Transfer) × Denotes shape batch transfers × IsFirstScheduleFault schedule fault
+IsFirstWrong shape batch schedule checking.NoCertificate = (transfers : List Transfer) × (settings : List (List ℕ)) × Denotes shape batch transfers × Says schedule (said settings None)
+IsFirstWrong shape batch schedule (checking.Check fault) = (transfers : List Transfer) × (settings : List (List ℕ)) × (named : Naming)
     × Denotes shape batch transfers × Says schedule (said settings (Some named)) × IsFirstCheckFault transfers settings named fault
-IsFirstWrong shape batch schedule Shape = ⊥
-IsFirstWrong shape batch schedule (Run why) = ⊥
-IsFirstWrong shape batch schedule NoMemory = ⊥
 
 -- `shortest S`
 abbrev pub shortest_line : ℕ → List ℕ
@@ -84,7 +75,7 @@ shortest_line count = codes "shortest " ++ decimal count ++ codes "\n"
 -- how many settings the shortest schedule has, or what is first wrong, each under its status
 pub data IsChecked (shape : Extent) (batch schedule : List ℕ) (printed : Printed) : Type 0 where
   shortest : (count : ℕ) → IsShown shape batch schedule count → printed.text ≡ shortest_line count → printed.status ≡ DONE → IsChecked shape batch schedule printed
-  refused : (refusal : Refusal) → IsFirstWrong shape batch schedule refusal → IsRefusedBy refusal printed → IsChecked shape batch schedule printed
+  refused : (fault : CheckingFault) → IsFirstWrong shape batch schedule fault → IsRefused (checking_words fault) printed → IsChecked shape batch schedule printed
 
 -- ---- `run`
 
@@ -104,23 +95,21 @@ pub record IsReport (shape batch text : List ℕ) : Type 0 where
   pub fewest : IsDegree transfers settings
   pub report : text ≡ report_of transfers settings placed
 
--- what was refused of a run of a batch: the first two transfers that overlap
-abbrev pub IsFirstRefusal : List Transfer → RunRefusal → Type 0
-IsFirstRefusal transfers (run_refusal.Overlap i j) = IsFirstOverlap transfers i j
-IsFirstRefusal transfers run_refusal.Shape = ⊥
-IsFirstRefusal transfers run_refusal.NoMemory = ⊥
+-- what is wrong with running transfers that the rack has: the first two that overlap
+abbrev pub IsWrongOf : List Transfer → RunningFault → Type 0
+IsWrongOf transfers running.Shape = ⊥
+IsWrongOf transfers (running.Batch fault) = ⊥
+IsWrongOf transfers (running.Overlap i j) = IsFirstOverlap transfers i j
+IsWrongOf transfers running.NoMemory = ⊥
 
 -- what is first wrong: the shape text is looked at first, then the batch text, then whether transfers overlap
-abbrev pub IsFirstRunWrong : List ℕ → List ℕ → Refusal → Type 0
-IsFirstRunWrong shape batch Shape = IsBadShape shape
-IsFirstRunWrong shape batch (Batch fault) = (extent : Extent) × DenotesShape shape extent × IsFirstFault extent batch fault
-IsFirstRunWrong shape batch (Run why) = (extent : Extent) × (transfers : List Transfer) × DenotesShape shape extent × Denotes extent batch transfers × IsFirstRefusal transfers why
-IsFirstRunWrong shape batch (Schedule fault) = ⊥
-IsFirstRunWrong shape batch NoCertificate = ⊥
-IsFirstRunWrong shape batch (Check fault) = ⊥
-IsFirstRunWrong shape batch NoMemory = ⊥
+abbrev pub IsFirstRunWrong : List ℕ → List ℕ → RunningFault → Type 0
+IsFirstRunWrong shape batch running.Shape = IsBadShape shape
+IsFirstRunWrong shape batch (running.Batch fault) = (extent : Extent) × DenotesShape shape extent × IsFirstFault extent batch fault
+IsFirstRunWrong shape batch (running.Overlap i j) = (extent : Extent) × (transfers : List Transfer) × DenotesShape shape extent × Denotes extent batch transfers × IsFirstOverlap transfers i j
+IsFirstRunWrong shape batch running.NoMemory = ⊥
 
 -- the report of the run, or what is first wrong, each under its status
 pub data IsRunAnswer (shape batch : List ℕ) (printed : Printed) : Type 0 where
   ran : IsReport shape batch printed.text → printed.status ≡ DONE → IsRunAnswer shape batch printed
-  run_refused : (refusal : Refusal) → IsFirstRunWrong shape batch refusal → IsRefusedBy refusal printed → IsRunAnswer shape batch printed
+  run_refused : (fault : RunningFault) → IsFirstRunWrong shape batch fault → IsRefused (running_words fault) printed → IsRunAnswer shape batch printed

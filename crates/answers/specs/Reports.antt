@@ -1,5 +1,5 @@
 -- What `run` prints of a run that was completed. The texts are this project's choice.
-use Rattle.std.specs.Prelude.{ℕ, ◌*◌, ◌-◌, ◌==◌, ◌&&◌, Bool, false, List, [], ◌++◌, if◌then◌else◌, codes, length, replicate}
+use Rattle.std.specs.Prelude.{◌≡◌, ℕ, ◌*◌, ◌-◌, ◌==◌, ◌&&◌, Bool, false, List, [], ◌++◌, if◌then◌else◌, codes, length, replicate, String, string_bytes}
 use Rattle.std.specs.Fmt.{decimal, digits}
 use Rattle.std.specs.List.{flat_map, list_any, range_with_len}
 use Rattle.batch.specs.declared.transfer.Place.{Place}
@@ -39,3 +39,7 @@ module_text batch s m = flat_map (block_text batch s m) (range_with_len 0 s.shap
 -- how much was done, and then the words of each block that was written, by module and then by block
 abbrev pub report_of : List Transfer → ℕ → Store → List ℕ
 report_of batch settings s = ran_line settings (length batch * s.shape.words) ++ flat_map (module_text batch s) (range_with_len 0 s.shape.modules)
+
+-- these bytes were put at the end of a text
+abbrev pub Adds : {Z : Type 0} → String Z → String Z → List ℕ → Type 0
+Adds old new more = string_bytes new ≡ string_bytes old ++ more

@@ -1,6 +1,8 @@
-ghost use Rattle.std.specs.Prelude.{◌≡◌, string_bytes};
+ghost use Rattle.std.specs.Prelude.{◌≡◌, IfOk};
+ghost use Rattle.answers.specs.Refusals.{IsRefused};
 
 use crate::limits::{DONE, REFUSED};
+use std::alloc::{AllocError, Global};
 use std::marker::Model;
 
 /// What a command prints on standard output, and the status that the program ends with.
@@ -11,7 +13,7 @@ pub struct Answer {
 }
 
 impl Model for Answer {
-    ghost use Rattle.answers.specs.Answers.{Printed};
+    ghost use Rattle.answers.specs.Refusals.{Printed};
 
     ghost Value = { Printed };
 
@@ -44,14 +46,14 @@ impl Answer {
         }
     }
 
-    /// A refusal's line under the status [`REFUSED`].
-    pub fn refused(line: String) -> Answer
-        ensures text { result.text ≡ string_bytes line }
-        ensures status { result.status ≡ REFUSED }
+    /// The line of a refusal that says these words, under the status [`REFUSED`].
+    pub fn refused(alloc: Global, words: &str) -> Result<Answer, AllocError>
+        ensures { IfOk result (IsRefused words.now) }
     {
-        Answer {
+        let line = format!(in alloc; "refused {words}\n")?;
+        Ok(Answer {
             bytes: line.into_bytes(),
             code: REFUSED,
-        }
+        })
     }
 }

@@ -1,23 +1,24 @@
-ghost use Rattle.std.specs.Prelude.{◌≡◌, IfOk, IfErr};
+ghost use Rattle.std.specs.Prelude.{IfOk, IfErr};
 ghost use Rattle.batch.specs.Extent.{widest};
-ghost use Rattle.answers.specs.Answers.{Printed, IsShown, IsFirstWrong, IsChecked};
-ghost use Rattle.answers.specs.Refusals.{IsReal};
+ghost use Rattle.answers.specs.Answers.{IsOnly, IsShown, IsFirstWrong, IsChecked};
+ghost use Rattle.answers.specs.Refusals.{IsRealChecking};
 
 use crate::answer::Answer;
-use crate::refusal::Refusal;
+use crate::checking_fault::CheckingFault;
 use batch::{Batch, Shape};
 use link_graph::{Schedule, Shortest, check_schedule};
 use std::alloc::{AllocError, Global};
 
 /// How many settings the shortest schedule has, or what is first wrong.
-fn judge(alloc: Global, batch: &[u8], schedule: &[u8]) -> Result<Shortest, Refusal>
-    ensures shown { IfOk result (λ shortest. IsShown widest batch.now schedule.now shortest.settings) }
-    ensures wrong { IfErr result (λ refusal. IsReal refusal → IsFirstWrong widest batch.now schedule.now refusal) }
+fn judge(alloc: Global, batch: &[u8], schedule: &[u8]) -> Result<Shortest, CheckingFault>
+    ensures shown { IfOk result (λ found. IsShown widest batch.now schedule.now found.settings) }
+    ensures wrong { IfErr result (λ fault. IsRealChecking fault
+        → IsFirstWrong widest batch.now schedule.now fault) }
 {
     let batch = Batch::read(alloc, batch, Shape::WIDEST)?;
     let (schedule, certificate) = Schedule::read(alloc, schedule)?;
     let Some(certificate) = certificate else {
-        return Err(Refusal::NoCertificate);
+        return Err(CheckingFault::NoCertificate);
     };
     Ok(check_schedule(alloc, &batch, &schedule, &certificate)?)
 }
@@ -30,8 +31,8 @@ fn judge(alloc: Global, batch: &[u8], schedule: &[u8]) -> Result<Shortest, Refus
 /// it has the certificate part; then the faults of [`CheckFault`](link_graph::CheckFault), in their
 /// order. Takes time that grows with the lengths of the texts.
 pub fn answer_check(alloc: Global, batch: &[u8], schedule: &[u8]) -> Result<Answer, AllocError>
-    ensures checked { IfOk result (λ answer. IsChecked widest batch.now schedule.now answer) }
-    ensures one { IfOk result (λ answer. (other : Printed) → IsChecked widest batch.now schedule.now other → other ≡ answer) }
+    ensures checked { IfOk result (IsChecked widest batch.now schedule.now) }
+    ensures one { IfOk result (IsOnly (IsChecked widest batch.now schedule.now)) }
 {
     match judge(alloc, batch, schedule) {
         Ok(shortest) => {
@@ -39,6 +40,6 @@ pub fn answer_check(alloc: Global, batch: &[u8], schedule: &[u8]) -> Result<Answ
             let line = format!(in alloc; "shortest {count}\n")?;
             Ok(Answer::done(line.into_bytes()))
         }
-        Err(refusal) => Ok(Answer::refused(refusal.line(alloc)?)),
+        Err(fault) => Answer::refused(alloc, fault.words(alloc)?.as_str()),
     }
 }

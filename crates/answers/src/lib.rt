@@ -8,18 +8,22 @@
 
 mod answer;
 mod checking;
+mod checking_fault;
 mod limits;
 mod planning;
 mod refusal;
 mod report;
 mod running;
+mod running_fault;
 
 pub use answer::Answer;
 pub use checking::answer_check;
+pub use checking_fault::CheckingFault;
 pub use limits::{DONE, REFUSED};
 pub use planning::answer_plan;
-pub use refusal::Refusal;
 pub use running::answer_run;
+pub use running_fault::RunningFault;
+pub use schedule_certificate::MAX_WORKERS;
 
 #[cfg(test)]
 mod tests;

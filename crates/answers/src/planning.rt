@@ -3,7 +3,7 @@ ghost use Rattle.batch.specs.Extent.{widest};
 ghost use Rattle.answers.specs.Answers.{IsPlanned};
 
 use crate::answer::Answer;
-use crate::refusal::Refusal;
+use crate::refusal::batch_words;
 use batch::{Batch, Shape};
 use schedule_certificate::{MAX_WORKERS, OpenGate, schedule};
 use std::alloc::{AllocError, Global};
@@ -30,6 +30,6 @@ pub fn answer_plan<R: Threads + Sync>(
             let text = planned.schedule().write(Some(planned.certificate()))?;
             Ok(Answer::done(text))
         }
-        Err(fault) => Ok(Answer::refused(Refusal::Batch(fault).line(alloc)?)),
+        Err(fault) => Answer::refused(alloc, batch_words(alloc, fault)?.as_str()),
     }
 }

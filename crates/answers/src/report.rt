@@ -1,8 +1,8 @@
 //! What a completed run reports.
 
-ghost use Rattle.std.specs.Prelude.{◌≡◌, ◌<◌, ◌++◌, IfOk, OnOk, string_bytes};
+ghost use Rattle.std.specs.Prelude.{◌≡◌, ◌<◌, IfOk, OnOk, string_bytes};
 ghost use Rattle.batch.specs.Places.{HasPlace};
-ghost use Rattle.answers.specs.Reports.{words_text, is_written as writes, block_text, module_text, report_of};
+ghost use Rattle.answers.specs.Reports.{words_text, is_written as writes, block_text, module_text, report_of, Adds};
 
 use batch::{Batch, Place};
 use module_memory::Rack;
@@ -11,7 +11,7 @@ use std::alloc::{AllocError, Global};
 
 /// Puts words at the end of the text, each after a space and as eight hexadecimal digits.
 fn push_words(text: &mut String, words: &[u32]) -> Result<(), AllocError>
-    ensures { OnOk result (string_bytes text.new ≡ string_bytes text.old ++ words_text words.now) }
+    ensures { OnOk result (Adds text.old text.new (words_text words.now)) }
 {
     for word in words {
         write!(text, " {word:08x}")?;
@@ -43,7 +43,7 @@ fn push_block(
     block: usize,
 ) -> Result<(), AllocError>
     requires { HasPlace rack.now.shape (record { «module» = «module»; block = block }) }
-    ensures { OnOk result (string_bytes text.new ≡ string_bytes text.old ++ block_text batch.now rack.now «module» block) }
+    ensures { OnOk result (Adds text.old text.new (block_text batch.now rack.now «module» block)) }
 {
     let place = Place { module, block };
     if !is_written(batch, place) {
@@ -65,7 +65,7 @@ fn push_module(
     module: usize,
 ) -> Result<(), AllocError>
     requires { «module» < rack.now.shape.modules }
-    ensures { OnOk result (string_bytes text.new ≡ string_bytes text.old ++ module_text batch.now rack.now «module») }
+    ensures { OnOk result (Adds text.old text.new (module_text batch.now rack.now «module»)) }
 {
     for block in 0..rack.shape().blocks() {
         push_block(text, rack, batch, module, block)?;

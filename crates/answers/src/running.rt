@@ -1,17 +1,16 @@
 //! The command `run`.
 
-ghost use Rattle.std.specs.Prelude.{◌≡◌, ◌≤◌, ℕ, IfOk, IfErr, length, string_bytes};
-ghost use Rattle.batch.specs.Overlap.{IsApart, IsFirstOverlap};
+ghost use Rattle.std.specs.Prelude.{◌≡◌, ◌≤◌, IfOk, IfErr, length, string_bytes};
+ghost use Rattle.batch.specs.Overlap.{IsApart};
 ghost use Rattle.module_memory.specs.Store.{zeros_of};
 ghost use Rattle.module_memory.specs.Mark.{IsMarked};
 ghost use Rattle.module_memory.specs.Core.{FitsIn, IsPlaced};
-ghost use Rattle.setting_runner.specs.declared.outcome.RunRefusal.TheVariants.{Overlap, Shape as Misfit};
-ghost use Rattle.answers.specs.Answers.{Printed, IsReport, IsFirstRunWrong, IsRunAnswer};
-ghost use Rattle.answers.specs.Refusals.{IsReal};
+ghost use Rattle.answers.specs.Answers.{IsOnly, IsReport, IsWrongOf, IsFirstRunWrong, IsRunAnswer};
+ghost use Rattle.answers.specs.Refusals.{IsRealRunning};
 
 use crate::answer::Answer;
-use crate::refusal::Refusal;
 use crate::report::report;
+use crate::running_fault::RunningFault;
 use batch::{Batch, Shape, laws};
 use crossbar::MemoryPort;
 use module_memory::Rack;
@@ -48,14 +47,14 @@ fn run_plain<R: Threads + Sync>(
     rack: Rack,
     planned: &Planned,
     workers: usize,
-) -> Result<(Rack, usize), RunRefusal>
+) -> Result<(Rack, usize), RunningFault>
     requires some { 1 ≤ workers }
     requires few { workers ≤ MAX_WORKERS }
+    requires fits { FitsIn rack.shape planned.now.batch }
     ensures settings { IfOk result (λ ran. ran.1 ≡ length planned.now.settings) }
     ensures placed { IfOk result (λ ran. IsPlaced rack planned.now.batch ran.0) }
     ensures apart { IfOk result (λ _. IsApart planned.now.batch) }
-    ensures overlap { IfErr result (λ refusal. (i j : ℕ) → refusal ≡ Overlap i j → IsFirstOverlap planned.now.batch i j) }
-    ensures shape { IfErr result (λ refusal. refusal ≡ Misfit → FitsIn rack.shape planned.now.batch → ⊥) }
+    ensures wrong { IfErr result (λ e. IsRealRunning e → IsWrongOf planned.now.batch e) }
 {
     laws::first_overlap();
     let mut plant = Plant {
@@ -67,7 +66,11 @@ fn run_plain<R: Threads + Sync>(
     let (rack, outcome) = run(rt, alloc, rack, &mut plant, planned, &mut Unheard);
     match outcome {
         Outcome::Completed { settings, .. } => Ok((rack, settings)),
-        Outcome::Refused(refusal) => Err(refusal),
+        Outcome::Refused(refusal) => match refusal {
+            RunRefusal::Overlap(i, j) => Err(RunningFault::Overlap(i, j)),
+            RunRefusal::Shape => unreachable!(),
+            RunRefusal::NoMemory => Err(RunningFault::NoMemory),
+        },
         Outcome::Stopped { .. } => unreachable!(),
     }
 }
@@ -79,11 +82,12 @@ fn report_run<R: Threads + Sync>(
     shape: &[u8],
     batch: &[u8],
     workers: usize,
-) -> Result<String, Refusal>
+) -> Result<String, RunningFault>
     requires some { 1 ≤ workers }
     requires few { workers ≤ MAX_WORKERS }
     ensures report { IfOk result (λ text. IsReport shape.now batch.now (string_bytes text)) }
-    ensures wrong { IfErr result (λ refusal. IsReal refusal → IsFirstRunWrong shape.now batch.now refusal) }
+    ensures wrong { IfErr result (λ fault. IsRealRunning fault
+        → IsFirstRunWrong shape.now batch.now fault) }
 {
     let shape = Shape::read(shape)?;
     let batch = Batch::read(alloc, batch, shape)?;
@@ -111,11 +115,11 @@ pub fn answer_run<R: Threads + Sync>(
 ) -> Result<Answer, AllocError>
     requires some { 1 ≤ workers }
     requires few { workers ≤ MAX_WORKERS }
-    ensures ran { IfOk result (λ answer. IsRunAnswer shape.now batch.now answer) }
-    ensures one { IfOk result (λ answer. (other : Printed) → IsRunAnswer shape.now batch.now other → other ≡ answer) }
+    ensures ran { IfOk result (IsRunAnswer shape.now batch.now) }
+    ensures one { IfOk result (IsOnly (IsRunAnswer shape.now batch.now)) }
 {
     match report_run(rt, alloc, shape, batch, workers) {
         Ok(text) => Ok(Answer::done(text.into_bytes())),
-        Err(refusal) => Ok(Answer::refused(refusal.line(alloc)?)),
+        Err(fault) => Answer::refused(alloc, fault.words(alloc)?.as_str()),
     }
 }

@@ -1,7 +1,8 @@
 -- The job that the words of the command line name.
-use Rattle.std.specs.Prelude.{◌≡◌, ◌⊎◌, ℕ, ◌≤◌, List, Some, codes, MatchOption, ⊤}
+use Rattle.std.specs.Prelude.{◌≡◌, ◌⊎◌, ℕ, ◌≤◌, List, Some, String, codes, map, string_bytes, MatchOption, ⊤}
 use Rattle.std.specs.Str.Parse.{digits_value, without_leading_plus}
-use Rattle.clap.specs.Words.{Row, Text, first_of, one_of, subcommand_of}
+use Rattle.clap.specs.Words.{Row, Text, first_of, one_of, subcommand_of, subcommand_rows_of}
+use Rattle.clap.specs.declared.parser.matches.ArgMatches.{ArgMatches}
 use Rattle.clap.specs.Values.{kind_of}
 use Rattle.clap.specs.declared.error.Error.{Error}
 use Rattle.clap.specs.declared.error.kind.ErrorKind.TheVariants.{DisplayHelp, DisplayVersion}
@@ -19,6 +20,14 @@ abbrev pub IsJob : Text → List Row → Job → Type 0
 IsJob name rows (Plan file workers) = (name ≡ codes "plan") × (first_of (codes "FILE") rows ≡ Some file) × HasWorkers rows workers
 IsJob name rows (Check batch schedule) = (name ≡ codes "check") × (first_of (codes "BATCH") rows ≡ Some batch) × (first_of (codes "SCHEDULE") rows ≡ Some schedule)
 IsJob name rows (Run shape batch workers) = (name ≡ codes "run") × (first_of (codes "SHAPE") rows ≡ Some shape) × (first_of (codes "BATCH") rows ≡ Some batch) × HasWorkers rows workers
+
+-- the words as lists of their bytes
+abbrev pub texts_of : {Z : Type 0} → List (String Z) → List Text
+texts_of words = map (λ word. string_bytes word) words
+
+-- clap's matches are those of the program's words
+abbrev pub AreMatchesOf : List Text → ArgMatches → Type 0
+AreMatchesOf words found = subcommand_rows_of found ≡ subcommand_of program words
 
 -- the job that clap finds in these words
 abbrev pub Holds : List Text → Job → Type 0

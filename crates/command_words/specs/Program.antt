@@ -1,6 +1,8 @@
 -- The commands of the program, as clap reads them.
-use Rattle.std.specs.Prelude.{ℕ, List, [], ◌∷◌, Some, codes, pos, true}
-use Rattle.clap.specs.Words.{App, Rule, new_app, new_rule, with_rule, with_subcommand}
+use Rattle.std.specs.Prelude.{◌≡◌, ℕ, List, [], ◌∷◌, Some, Result, Ok, codes, pos, true, false}
+use Rattle.clap.specs.Words.{App, Rule, app_of, new_app, new_rule, with_rule, with_subcommand}
+use Rattle.clap.specs.declared.builder.command.Command.{Command}
+use Rattle.clap.specs.declared.builder.command.Command.TheViews.{out-Command as fields_of}
 use Rattle.clap.specs.declared.builder.value_parser.ValueParser.TheVariants as parser
 use Rattle.schedule_certificate.specs.declared.limits.TheConstants.{MAX_WORKERS}
 
@@ -40,3 +42,24 @@ planner = with_subcommand (with_subcommand top plan.top) check.top
 -- the whole program
 abbrev pub program : App
 program = with_subcommand planner run.top
+
+-- the command has no argument that the commands below it share
+abbrev pub IsLocal : Command → Type 0
+IsLocal command = (fields_of command).has_globals ≡ false
+
+-- clap's command is this one
+pub record IsCommand (wanted : App) (command : Command) : Type 0 where
+  pub app : app_of command ≡ wanted
+  pub local : IsLocal command
+
+-- clap's command, with one more argument
+pub record AddsRule (old : Command) (rule : Rule) (new : Command) : Type 0 where
+  pub app : app_of new ≡ with_rule (app_of old) rule
+  pub local : (fields_of new).has_globals ≡ (fields_of old).has_globals
+
+-- clap's command, with one more below it, which was to be had and has no argument to share
+pub record AddsCommand {E : Type 0} (old : Command) (below : Result Command E) (new : Command) : Type 0 where
+  pub added : Command
+  pub there : below ≡ Ok added
+  pub app : IsLocal added → app_of new ≡ with_subcommand (app_of old) (app_of added).top
+  pub local : IsLocal old → IsLocal added → IsLocal new

@@ -1,6 +1,7 @@
 //! The words of the command line: the jobs that they name, and the texts of help.
 #![tactic(auto)]
 
+mod help;
 mod text;
 mod words;
 

@@ -1,6 +1,10 @@
+use crate::help::{CHECK_NOTES, PLAN_NOTES, RUN_NOTES, WORKERS_HELP};
 use crate::words::{Job, WordsFault, read_words};
+use batch::{MAX_BLOCKS, MAX_MODULES, MAX_TRANSFERS, MAX_WORDS};
+use module_memory::{BLOCK_MARK, MODULE_MARK};
 use schedule_certificate::MAX_WORKERS;
 use std::alloc::{AllocError, Global};
+use std::test::Fail;
 
 /// The words of a line, which one space parts.
 fn words(alloc: Global, line: &str) -> Result<Vec<String>, AllocError> {
@@ -91,4 +95,96 @@ fn words_name_jobs(rt: HostRuntime) {
     ] {
         assert!(rt; is_misused(read(alloc, line)), "{line}");
     }
+}
+
+/// Whether want of memory within clap is want of memory, and nothing that is to be printed.
+fn is_no_memory(fault: WordsFault) -> bool {
+    match fault {
+        WordsFault::NoMemory => true,
+        WordsFault::Clap(_) => false,
+    }
+}
+
+#[test]
+fn clap_without_memory(rt: HostRuntime) {
+    assert!(rt; is_no_memory(WordsFault::from(clap::Error::from(AllocError))));
+}
+
+/// Whether a help text has the phrase.
+fn says(text: &str, phrase: Result<String, AllocError>) -> Result<bool, AllocError> {
+    let phrase = phrase?;
+    Ok(text.contains(phrase.as_str()))
+}
+
+/// The limits that the help of a batch text names are those that a batch is read by.
+#[test]
+fn batch_limits_in_help(rt: HostRuntime) -> Result<(), Fail> {
+    let alloc = rt.alloc();
+    let (modules, blocks) = (MAX_MODULES - 1, MAX_BLOCKS - 1);
+    let ranges = format!(in alloc; "modules from 0 to {modules} and blocks from 0 to {blocks}");
+    assert!(rt; says(PLAN_NOTES, ranges)?);
+    let most = format!(in alloc; "at most {MAX_TRANSFERS} lines");
+    assert!(rt; says(PLAN_NOTES, most)?);
+    assert!(rt; says(PLAN_NOTES, format!(in alloc; "more than {MAX_TRANSFERS}\n"))?);
+    assert!(rt; says(PLAN_NOTES, format!(in alloc; "a module above {modules}\n"))?);
+    assert!(rt; says(PLAN_NOTES, format!(in alloc; "a block above {blocks}\n"))?);
+    Ok(())
+}
+
+/// The limits of a shape, of workers, and the marks of a rack stand in the help as they are.
+#[test]
+fn rack_limits_in_help(rt: HostRuntime) -> Result<(), Fail> {
+    let alloc = rt.alloc();
+    assert!(rt; says(RUN_NOTES, format!(in alloc; "M modules, from 1 to {MAX_MODULES}, "))?);
+    assert!(rt; says(RUN_NOTES, format!(in alloc; "K blocks, from 1 to {MAX_BLOCKS}, "))?);
+    assert!(rt; says(RUN_NOTES, format!(in alloc; "W words, from 1 to {MAX_WORDS}. "))?);
+    let mark = format!(in alloc; "is {MODULE_MARK} m + {BLOCK_MARK} b + j before the run");
+    assert!(rt; says(RUN_NOTES, mark)?);
+    assert!(rt; says(WORKERS_HELP, format!(in alloc; "from 1 to {MAX_WORKERS}"))?);
+    Ok(())
+}
+
+/// The refusals that a command has stand in its help in the order in which they are looked for.
+#[test]
+fn refusals_in_help(rt: HostRuntime) {
+    assert!(rt;
+        are_in_order(
+            PLAN_NOTES,
+            &["file", "batch line N", "too many", "no module T", "no block T", "count"]
+        )
+    );
+    assert!(rt;
+        are_in_order(
+            CHECK_NOTES,
+            &[
+                "file",
+                "..",
+                "schedule line N",
+                "no certificate",
+                "check unknown T",
+                "check repeated T",
+                "check missing T",
+                "check clash S link E module M",
+                "check wrong link T",
+                "check certificate repeats T",
+                "check not tight S U",
+            ]
+        )
+    );
+    assert!(rt; are_in_order(RUN_NOTES, &["file", "shape", "..", "overlap I J"]));
+}
+
+/// Whether the refusals that a help text lists are these, in this order.
+fn are_in_order(text: &str, refusals: &[&str]) -> bool {
+    let mut rest = text;
+    for refusal in refusals {
+        let Some((_, behind)) = rest.split_once("refused ") else {
+            return false;
+        };
+        if !behind.starts_with(*refusal) {
+            return false;
+        }
+        rest = behind;
+    }
+    true
 }

@@ -1,16 +1,18 @@
 //! The words of the command line.
 
-ghost use Rattle.std.specs.Prelude.{◌≡◌, List, map, IfOk, false, Some, string_bytes};
-ghost use Rattle.clap.specs.Words.{app_of, rule_of, subcommand_rows_of, subcommand_of, first_of, rows_of, found_of};
-ghost use Rattle.clap.specs.declared.builder.Command.TheViews.{out-Command as fields_of};
-ghost use Rattle.command_words.specs.Program.{planner, program, workers, word, plan as plan_app, check as check_app, run as run_app};
-ghost use Rattle.command_words.specs.Jobs.{Holds, HasWorkers, IsJob, IsWithinLimits};
+ghost use Rattle.std.specs.Prelude.{◌≡◌, IfOk, false, Some};
+ghost use Rattle.clap.specs.Words.{new_app, app_of, rule_of, first_of, rows_of, found_of};
+ghost use Rattle.command_words.specs.Program.{IsLocal, IsCommand, AddsRule, AddsCommand, word, workers};
+ghost use Rattle.command_words.specs.Program.{top, planner, program, plan as plan_app, check as check_app, run as run_app};
+ghost use Rattle.command_words.specs.Jobs.{Holds, HasWorkers, IsJob, IsWithinLimits, AreMatchesOf, texts_of};
 
+use crate::help::{CHECK_NOTES, PLAN_NOTES, RUN_NOTES, WORKERS_HELP};
 use crate::text::Text;
 use clap::error::ErrorKind;
 use clap::{Arg, ArgMatches, Command, value_parser};
 use schedule_certificate::MAX_WORKERS;
 use std::alloc::{AllocError, Global};
+use thiserror::Error;
 
 /// What the program is to do.
 #[derive(Drop)]
@@ -34,11 +36,13 @@ pub enum Job {
 }
 
 /// Why the words name no job.
-#[derive(Drop)]
+#[derive(Debug, Drop, Error)]
 pub enum WordsFault {
     /// They fit no command, or ask for help. The error has the text to print.
+    #[error("{0}")]
     Clap(clap::Error),
     /// There was no memory to read them.
+    #[error("no memory")]
     NoMemory,
 }
 
@@ -57,62 +61,13 @@ impl From<clap::Error> for WordsFault {
     }
 }
 
-/// What `plan --help` says below its options.
-const PLAN_NOTES: &str = "\
-FILE is a batch text: the line `batch N`, then N lines of the form
-  push I b R c   module I writes its block b into block c of module R
-  pull I b R c   module I reads block c of module R into its block b
-with modules from 0 to 15 and blocks from 0 to 63, at most 4096 lines.
-
-The answer is the line `settings S`, then S lines `setting t t ..`: the
-transfers that move at once, numbered from 0 in the order of their lines.
-In one setting no two of them share link 0 of an initiator I or link 3 of a
-responder R. No schedule has fewer settings, as the two last lines show:
-  busiest link E module M   the link that most transfers use
-  named t t ..              all transfers that use it, one in each setting
-or the line `busiest none` where there is no transfer.
-
-Status: 0 a schedule was printed, 1 the batch was refused or there was no
-memory, 2 the words fit no command, 3 the answer couldn't be written.";
-
-/// What `check --help` says below its options.
-const CHECK_NOTES: &str = "\
-BATCH is a batch text and SCHEDULE a schedule text with the certificate part,
-in the form that `exchange plan --help` shows.
-
-The answer is the line `shortest S` where the S settings use each transfer
-once and no link twice at a time, and S distinct transfers are named that all
-use the link. Then no schedule of the batch has fewer settings. Else it is
-the first of these that is wrong: `refused batch line N`, `refused schedule
-line N`, `refused no certificate`, or of the schedule
-  refused check unknown T               no transfer T
-  refused check repeated T              T stands twice
-  refused check missing T               T stands nowhere
-  refused check clash S link E module M two of setting S use the link
-  refused check wrong link T            T is named and doesn't use the link
-  refused check certificate repeats T   T is named twice
-  refused check not tight S U           S settings, but U transfers named
-
-Status: 0 it is shortest, 1 it was refused or there was no memory, 2 the
-words fit no command, 3 the answer couldn't be written.";
-
-/// What `run --help` says below its options.
-const RUN_NOTES: &str = "\
-SHAPE is MxKxW: M modules, from 1 to 16, each of K blocks, from 1 to 64, each
-of W words, from 1 to 256. BATCH is a batch text, in the form that
-`exchange plan --help` shows, with modules below M and blocks below K.
-
-Word j of block b of module m is 65536 m + 256 b + j before the run. The
-answer is the line `ran settings S words X bits Y`: how often the switch was
-set, how many words were moved, and how many bits went over the links for
-them. Then comes each block that was written, by module and then by block:
-  block M B hex8 ..   its words, of eight hexadecimal digits each
-Where the order of the transfers might show, as one writes what another reads
-or both write one block, nothing is run: `refused overlap I J` names the two.
-Else it is `refused shape` or the first of the batch's faults.
-
-Status: 0 the batch was run, 1 it was refused or there was no memory, 2 the
-words fit no command, 3 the answer couldn't be written.";
+/// A command by its name, what it is about, and what its help says below its options.
+fn command<'a>(alloc: Global, name: &'a str, about: &'a str, notes: &'a str) -> Command<'a>
+    ensures app { app_of result ≡ new_app name.entry.now }
+    ensures local { IsLocal result }
+{
+    Command::new(alloc, name).about(about).after_help(notes)
+}
 
 /// A word that has to be there.
 fn required<'a>(alloc: Global, id: &'a str, help: &'a str) -> Arg<'a>
@@ -120,6 +75,18 @@ fn required<'a>(alloc: Global, id: &'a str, help: &'a str) -> Arg<'a>
     ensures local { result.global ≡ false }
 {
     Arg::new(alloc, id).required(true).help(help)
+}
+
+/// The command with a word that has to be there.
+fn with_word<'a>(
+    alloc: Global,
+    command: Command<'a>,
+    id: &'a str,
+    help: &'a str,
+) -> Result<Command<'a>, AllocError>
+    ensures { IfOk result (AddsRule command.entry (word id.entry.now)) }
+{
+    command.arg(required(alloc, id, help))
 }
 
 /// `--workers N`.
@@ -132,65 +99,85 @@ fn workers<'a>(alloc: Global) -> Arg<'a>
         .value_name("N")
         .value_parser(value_parser!(u8).range(1..=MAX_WORKERS as i64))
         .default_value("1")
-        .help("How many workers there may be, from 1 to 64")
+        .help(WORKERS_HELP)
+}
+
+/// The command with `--workers N`.
+fn with_workers<'a>(alloc: Global, command: Command<'a>) -> Result<Command<'a>, AllocError>
+    ensures { IfOk result (AddsRule command.entry workers) }
+{
+    command.arg(workers(alloc))
 }
 
 /// `plan FILE [--workers N]`.
 fn plan<'a>(alloc: Global) -> Result<Command<'a>, AllocError>
-    ensures { IfOk result (λ c. (app_of c ≡ plan_app) × ((fields_of c).has_globals ≡ false)) }
+    ensures { IfOk result (IsCommand plan_app) }
 {
-    Command::new(alloc, "plan")
-        .about("Prints a schedule of a batch: which transfers move in which switch setting")
-        .after_help(PLAN_NOTES)
-        .arg(required(alloc, "FILE", "The file of the batch"))?
-        .arg(workers(alloc))
+    let about = "Prints a schedule of a batch: which transfers move in which switch setting";
+    let plan = command(alloc, "plan", about, PLAN_NOTES);
+    let plan = with_word(alloc, plan, "FILE", "The file of the batch")?;
+    with_workers(alloc, plan)
 }
 
 /// `check BATCH SCHEDULE`.
 fn check<'a>(alloc: Global) -> Result<Command<'a>, AllocError>
-    ensures { IfOk result (λ c. (app_of c ≡ check_app) × ((fields_of c).has_globals ≡ false)) }
+    ensures { IfOk result (IsCommand check_app) }
 {
-    Command::new(alloc, "check")
-        .about("Judges a schedule of a batch: whether its certificate shows that none is shorter")
-        .after_help(CHECK_NOTES)
-        .arg(required(alloc, "BATCH", "The file of the batch"))?
-        .arg(required(alloc, "SCHEDULE", "The file of the schedule"))
+    let about = "Judges a schedule of a batch: whether its certificate shows that none is shorter";
+    let check = command(alloc, "check", about, CHECK_NOTES);
+    let check = with_word(alloc, check, "BATCH", "The file of the batch")?;
+    with_word(alloc, check, "SCHEDULE", "The file of the schedule")
 }
 
 /// `run SHAPE BATCH [--workers N]`.
 fn run<'a>(alloc: Global) -> Result<Command<'a>, AllocError>
-    ensures { IfOk result (λ c. (app_of c ≡ run_app) × ((fields_of c).has_globals ≡ false)) }
+    ensures { IfOk result (IsCommand run_app) }
 {
-    Command::new(alloc, "run")
-        .about("Runs a batch on a rack: sets the switch, moves the blocks and reports")
-        .after_help(RUN_NOTES)
-        .arg(required(alloc, "SHAPE", "The shape of the rack, as 3x2x2"))?
-        .arg(required(alloc, "BATCH", "The file of the batch"))?
-        .arg(workers(alloc))
+    let about = "Runs a batch on a rack: sets the switch, moves the blocks and reports";
+    let run = command(alloc, "run", about, RUN_NOTES);
+    let run = with_word(alloc, run, "SHAPE", "The shape of the rack, as 3x2x2")?;
+    let run = with_word(alloc, run, "BATCH", "The file of the batch")?;
+    with_workers(alloc, run)
+}
+
+/// The command with one more command below it, where that could be had.
+fn with_command<'a>(
+    command: Command<'a>,
+    below: Result<Command<'a>, AllocError>,
+) -> Result<Command<'a>, AllocError>
+    ensures { IfOk result (AddsCommand command.entry below.entry) }
+{
+    command.subcommand(below?)
+}
+
+/// The program without its commands.
+fn top<'a>(alloc: Global) -> Command<'a>
+    ensures { IsCommand top result }
+{
+    let about = "Plans block transfers between transputer modules that one C004 crossbar joins";
+    let notes = "`exchange plan --help` shows the form of a batch.";
+    command(alloc, "exchange", about, notes).subcommand_required(true)
 }
 
 /// The program with the commands that need no rack.
 fn planner<'a>(alloc: Global) -> Result<Command<'a>, AllocError>
-    ensures { IfOk result (λ c. (app_of c ≡ planner) × ((fields_of c).has_globals ≡ false)) }
+    ensures { IfOk result (IsCommand planner) }
 {
-    Command::new(alloc, "exchange")
-        .about("Plans block transfers between transputer modules that one C004 crossbar joins")
-        .after_help("`exchange plan --help` shows the form of a batch.")
-        .subcommand_required(true)
-        .subcommand(plan(alloc)?)?
-        .subcommand(check(alloc)?)
+    let planner = with_command(top(alloc), plan(alloc))?;
+    with_command(planner, check(alloc))
 }
 
 /// All commands.
 fn program<'a>(alloc: Global) -> Result<Command<'a>, AllocError>
     ensures { IfOk result (λ c. app_of c ≡ program) }
 {
-    planner(alloc)?.subcommand(run(alloc)?)
+    let planner = planner(alloc)?;
+    with_command(planner, run(alloc))
 }
 
 /// The matches of the words.
 fn matches_of<'a>(alloc: Global, words: &'a [String]) -> Result<ArgMatches<'a>, WordsFault>
-    ensures { IfOk result (λ m. subcommand_rows_of m ≡ subcommand_of program (map (λ s. string_bytes s) words.entry.now)) }
+    ensures { IfOk result (AreMatchesOf (texts_of words.entry.now)) }
 {
     Ok(program(alloc)?.try_get_matches_from(words)?)
 }
@@ -259,7 +246,7 @@ fn job_of(alloc: Global, name: &str, found: &ArgMatches<'_>) -> Result<Job, Word
 /// Gives the job that clap finds in them: its command, its texts, and its number of workers. Words
 /// that fit no command are clap's error, which holds the text to print, and so is a demand for help.
 pub fn read_words(alloc: Global, words: &[String]) -> Result<Job, WordsFault>
-    ensures job { IfOk result (λ job. Holds (map (λ s. string_bytes s) words.now) job) }
+    ensures job { IfOk result (λ job. Holds (texts_of words.now) job) }
     ensures limits { IfOk result (λ job. IsWithinLimits job) }
 {
     let matches = matches_of(alloc, words)?;

@@ -2,7 +2,8 @@
 use Rattle.std.specs.Prelude.{◌≡◌, ◌⊎◌, ℕ, List, Option, Result, Ok, Err, IfOk, codes}
 use Rattle.std.specs.Io.KnownBytes.{Appends}
 use Rattle.answers.specs.Extent.{widest}
-use Rattle.answers.specs.Answers.{Printed, IsPlanned, IsChecked, IsRunAnswer}
+use Rattle.answers.specs.Answers.{IsPlanned, IsChecked, IsRunAnswer}
+use Rattle.answers.specs.Refusals.{Printed}
 use Rattle.answers.specs.declared.limits.TheConstants.{DONE, REFUSED}
 use Rattle.command_words.specs.declared.words.Job.{Job}
 use Rattle.command_words.specs.declared.words.Job.TheVariants.{Plan, Check, Run}
@@ -13,11 +14,23 @@ use Rattle.exchange.specs.declared.limits.TheConstants.{MISUSED}
 use Rattle.exchange.specs.declared.unanswered.Unanswered.{Unanswered}
 use Rattle.exchange.specs.declared.unanswered.Unanswered.TheVariants.{File, NoMemory}
 
+-- an answer of `plan` to some bytes
+abbrev pub IsSomePlan : Printed → Type 0
+IsSomePlan answer = (batch : List ℕ) × IsPlanned widest batch answer
+
+-- an answer of `check` to some bytes
+abbrev pub IsSomeCheck : Printed → Type 0
+IsSomeCheck answer = (batch schedule : List ℕ) × IsChecked widest batch schedule answer
+
+-- an answer of `run` to this shape's text and some bytes
+abbrev pub IsSomeRun : List ℕ → Printed → Type 0
+IsSomeRun shape answer = (batch : List ℕ) × IsRunAnswer shape batch answer
+
 -- the answer to a job, whatever bytes its files hold
 abbrev pub IsAnswerTo : Job → Printed → Type 0
-IsAnswerTo (Plan file workers) answer = (batch : List ℕ) × IsPlanned widest batch answer
-IsAnswerTo (Check batch_file schedule_file) answer = (batch schedule : List ℕ) × IsChecked widest batch schedule answer
-IsAnswerTo (Run shape file workers) answer = (batch : List ℕ) × IsRunAnswer shape batch answer
+IsAnswerTo (Plan file workers) answer = IsSomePlan answer
+IsAnswerTo (Check batch schedule) answer = IsSomeCheck answer
+IsAnswerTo (Run shape batch workers) answer = IsSomeRun shape answer
 
 -- the line where there is no answer
 abbrev pub unanswered_line : Unanswered → List ℕ
@@ -33,14 +46,14 @@ abbrev pub IsResponseTo : Job → Printed → Type 0
 IsResponseTo job printed = IsAnswerTo job printed ⊎ ((why : Unanswered) × (printed ≡ unanswered why))
 
 -- this was printed behind what stood there, and ends with its status
-pub record IsPrinted (before after : Option (List ℕ)) (code : ℕ) (printed : Printed) : Type 0 where
+pub record IsPrinted (before after : Option (List ℕ)) (printed : Printed) (code : ℕ) : Type 0 where
   pub text : Appends before after printed.text
   pub status : code ≡ printed.status
 
 -- how the program ends where the words hold this job, or are at fault: what it prints behind what stood there, and its status
 abbrev pub IsEndFor : Result Job WordsFault → Option (List ℕ) → Option (List ℕ) → ℕ → Type 0
-IsEndFor (Ok job) before after code = (printed : Printed) × IsResponseTo job printed × IsPrinted before after code printed
-IsEndFor (Err words_fault.NoMemory) before after code = IsPrinted before after code (unanswered NoMemory)
+IsEndFor (Ok job) before after code = (printed : Printed) × IsResponseTo job printed × IsPrinted before after printed code
+IsEndFor (Err words_fault.NoMemory) before after code = IsPrinted before after (unanswered NoMemory) code
 IsEndFor (Err (words_fault.Clap error)) before after code = (AsksForHelp error → code ≡ DONE) × ((AsksForHelp error → ⊥) → (code ≡ MISUSED) × (after ≡ before))
 
 -- how it ends for these words
@@ -49,4 +62,4 @@ IsEndForWords words before after code = (job : Result Job WordsFault) × IfOk jo
 
 -- how it ends where the words can't be had as texts
 abbrev pub IsEndWithoutWords : Option (List ℕ) → Option (List ℕ) → ℕ → Type 0
-IsEndWithoutWords before after code = IsPrinted before after code (unanswered NoMemory) ⊎ ((code ≡ MISUSED) × (after ≡ before))
+IsEndWithoutWords before after code = IsPrinted before after (unanswered NoMemory) code ⊎ ((code ≡ MISUSED) × (after ≡ before))

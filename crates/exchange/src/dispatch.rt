@@ -1,10 +1,10 @@
 //! From the words of the command line to what is printed, and the status that the program ends with.
 
-ghost use Rattle.std.specs.Prelude.{◌≡◌, ◌⊎◌, ◌≤◌, ℕ, List, map, IfOk, OnErr, string_bytes};
-ghost use Rattle.answers.specs.Extent.{widest};
-ghost use Rattle.answers.specs.Answers.{Printed, IsPlanned, IsChecked, IsRunAnswer};
-ghost use Rattle.command_words.specs.Jobs.{IsWithinLimits};
-ghost use Rattle.exchange.specs.Responses.{IsAnswerTo, IsResponseTo, IsPrinted, unanswered, IsEndFor, IsEndForWords, IsEndWithoutWords};
+ghost use Rattle.std.specs.Prelude.{◌≡◌, ◌⊎◌, ◌≤◌, IfOk, OnErr};
+ghost use Rattle.answers.specs.Refusals.{Printed};
+ghost use Rattle.command_words.specs.Jobs.{IsWithinLimits, texts_of};
+ghost use Rattle.exchange.specs.Responses.{IsSomePlan, IsSomeCheck, IsSomeRun, IsAnswerTo, IsResponseTo, IsPrinted};
+ghost use Rattle.exchange.specs.Responses.{unanswered, IsEndFor, IsEndForWords, IsEndWithoutWords};
 
 use crate::limits::{MISUSED, UNWRITTEN};
 use crate::unanswered::Unanswered;
@@ -26,7 +26,7 @@ pub fn respond<R: AllocGlobal + Files + Threads + Sync, O: Write, E: Write>(
     err: &mut E,
 ) -> u8
     ensures words { IfOk words (λ w. (result ≡ UNWRITTEN)
-        ⊎ IsEndForWords (map (λ s. string_bytes s) w.items) (O.contents out.old) (O.contents out.new) result) }
+        ⊎ IsEndForWords (texts_of w.items) (O.contents out.old) (O.contents out.new) result) }
     ensures none { OnErr words ((result ≡ UNWRITTEN)
         ⊎ IsEndWithoutWords (O.contents out.old) (O.contents out.new) result) }
 {
@@ -47,7 +47,7 @@ fn respond_to_words<R: AllocGlobal + Files + Threads + Sync, O: Write, E: Write>
     err: &mut E,
 ) -> io::Result<u8>
     ensures words { IfOk words (λ w. IfOk result
-        (IsEndForWords (map (λ s. string_bytes s) w.items) (O.contents out.old) (O.contents out.new))) }
+        (IsEndForWords (texts_of w.items) (O.contents out.old) (O.contents out.new))) }
     ensures none { OnErr words (IfOk result
         (IsEndWithoutWords (O.contents out.old) (O.contents out.new))) }
 {
@@ -93,7 +93,7 @@ fn carry_out<R: AllocGlobal + Files + Threads + Sync, O: Write>(
 ) -> io::Result<u8>
     requires { IsWithinLimits job }
     ensures { IfOk result (λ status. (p : Printed) × IsResponseTo job p
-        × IsPrinted (O.contents out.old) (O.contents out.new) status p) }
+        × IsPrinted (O.contents out.old) (O.contents out.new) p status) }
 {
     match answer_to(rt, job) {
         Ok(answer) => print(&answer, out),
@@ -107,7 +107,7 @@ fn answer_to<R: AllocGlobal + Files + Threads + Sync>(
     job: Job,
 ) -> Result<Answer, Unanswered>
     requires { IsWithinLimits job }
-    ensures { IfOk result (λ answer. IsAnswerTo job answer) }
+    ensures { IfOk result (IsAnswerTo job) }
 {
     match job {
         Job::Plan { file, workers } => plan(rt, &file, workers),
@@ -128,7 +128,7 @@ fn plan<R: AllocGlobal + Files + Threads + Sync>(
 ) -> Result<Answer, Unanswered>
     requires some { 1 ≤ workers }
     requires few { workers ≤ MAX_WORKERS }
-    ensures { IfOk result (λ answer. (batch : List ℕ) × IsPlanned widest batch answer) }
+    ensures { IfOk result IsSomePlan }
 {
     let batch = fs::read(rt, file.as_str())?;
     Ok(answer_plan(rt, rt.alloc(), batch.as_slice(), workers)?)
@@ -140,7 +140,7 @@ fn check<R: AllocGlobal + Files>(
     batch: &Text,
     schedule: &Text,
 ) -> Result<Answer, Unanswered>
-    ensures { IfOk result (λ answer. (batch schedule : List ℕ) × IsChecked widest batch schedule answer) }
+    ensures { IfOk result IsSomeCheck }
 {
     let batch = fs::read(rt, batch.as_str())?;
     let schedule = fs::read(rt, schedule.as_str())?;
@@ -156,7 +156,7 @@ fn run<R: AllocGlobal + Files + Threads + Sync>(
 ) -> Result<Answer, Unanswered>
     requires some { 1 ≤ workers }
     requires few { workers ≤ MAX_WORKERS }
-    ensures { IfOk result (λ answer. (batch : List ℕ) × IsRunAnswer shape.now batch answer) }
+    ensures { IfOk result (IsSomeRun shape.now) }
 {
     let batch = fs::read(rt, batch.as_str())?;
     let shape = shape.as_str().as_bytes();
@@ -165,7 +165,7 @@ fn run<R: AllocGlobal + Files + Threads + Sync>(
 
 /// Prints an answer, and gives its status.
 fn print<O: Write>(answer: &Answer, out: &mut O) -> io::Result<u8>
-    ensures { IfOk result (λ status. IsPrinted (O.contents out.old) (O.contents out.new) status answer.now) }
+    ensures { IfOk result (IsPrinted (O.contents out.old) (O.contents out.new) answer.now) }
 {
     out.write_all(answer.text())?;
     Ok(answer.status())
@@ -173,7 +173,7 @@ fn print<O: Write>(answer: &Answer, out: &mut O) -> io::Result<u8>
 
 /// Prints why there is no answer, and gives the status of a refusal.
 fn refuse<O: Write>(why: Unanswered, out: &mut O) -> io::Result<u8>
-    ensures { IfOk result (λ status. IsPrinted (O.contents out.old) (O.contents out.new) status (unanswered why)) }
+    ensures { IfOk result (IsPrinted (O.contents out.old) (O.contents out.new) (unanswered why)) }
 {
     out.write_all(why.line().as_bytes())?;
     Ok(REFUSED)

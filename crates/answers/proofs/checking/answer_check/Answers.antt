@@ -1,6 +1,8 @@
-use Rattle.std.proofs.Common.{◌∙◌, ap, arith}
+use Rattle.std.proofs.Common.{◌≡◌, List, ℕ, string_bytes, ◌∙◌, ap, arith}
+use Rattle.std.proofs.lemmas.Result.{IfOk-weaker}
 use Rattle.batch.specs.Extent.{widest, IsShape}
-use Rattle.answers.specs.Answers.{shortest, refused}
+use Rattle.answers.specs.Answers.{IsChecked, IsOnly, shortest, refused}
+use Rattle.answers.specs.Refusals.{IsRefused, checking_words}
 use Rattle.answers.proofs.OneVerdict.{one_verdict}
 use Rattle.answers.proofs.checking.answer_check.Goals as goal
 
@@ -14,9 +16,13 @@ returns-in_ok-line-in-Ok-clause-checked c =
 pub returns-in_ok-line-in-Ok-clause-one : goal.returns-in_ok-line-in-Ok-clause-one
 returns-in_ok-line-in-Ok-clause-one c other = one_verdict widest widest_fits c.args.batch.now c.args.schedule.now c.done.result other (returns-in_ok-line-in-Ok-clause-checked c)
 
-pub returns-in_ok-line-in-Err-clause-checked : goal.returns-in_ok-line-in-Err-clause-checked
-returns-in_ok-line-in-Err-clause-checked c =
-    refused c.in-Err.refusal (c.in-Err.ensures.wrong c.in_ok-line-in-Err.ensures.real) (record { line = c.refused.ensures.text ∙ c.in_ok-line-in-Err.ensures.text; status = c.refused.ensures.status })
+pub returns-in_ok-words-in-Err-clause-checked : goal.returns-in_ok-words-in-Err-clause-checked
+returns-in_ok-words-in-Err-clause-checked c =
+    let said : c.as_str.result.now ≡ checking_words c.in-Err.fault = c.as_str.ensures.value ∙ c.in_ok-words-in-Err.ensures.text in
+    IfOk-weaker c.refused.result (IsRefused c.as_str.result.now) (IsChecked widest c.args.batch.now c.args.schedule.now)
+    (λ p is. refused c.in-Err.fault (c.in-Err.ensures.wrong c.in_ok-words-in-Err.ensures.real) (rw said at is)) c.refused.ensures
 
-pub returns-in_ok-line-in-Err-clause-one : goal.returns-in_ok-line-in-Err-clause-one
-returns-in_ok-line-in-Err-clause-one c other = one_verdict widest widest_fits c.args.batch.now c.args.schedule.now c.refused.result other (returns-in_ok-line-in-Err-clause-checked c)
+pub returns-in_ok-words-in-Err-clause-one : goal.returns-in_ok-words-in-Err-clause-one
+returns-in_ok-words-in-Err-clause-one c =
+    IfOk-weaker c.refused.result (IsChecked widest c.args.batch.now c.args.schedule.now) (IsOnly (IsChecked widest c.args.batch.now c.args.schedule.now))
+    (λ p is other. one_verdict widest widest_fits c.args.batch.now c.args.schedule.now p other is) (returns-in_ok-words-in-Err-clause-checked c)

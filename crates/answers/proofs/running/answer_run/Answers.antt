@@ -1,14 +1,20 @@
-use Rattle.std.proofs.Common.{rules, ◌∙◌}
-use Rattle.answers.specs.Answers.{run_refused}
+use Rattle.std.proofs.Common.{◌≡◌, rules, ◌∙◌}
+use Rattle.std.proofs.lemmas.Result.{IfOk-weaker}
+use Rattle.answers.specs.Answers.{IsRunAnswer, IsOnly, run_refused}
+use Rattle.answers.specs.Refusals.{IsRefused, running_words}
 use Rattle.answers.proofs.OneReport.{one_run}
 use Rattle.answers.proofs.running.answer_run.Goals as goal
 
 pub returns-in-Ok-clause-one : goal.returns-in-Ok-clause-one
 returns-in-Ok-clause-one g c other = one_run c.args.shape.now c.args.batch.now c.done.result other (search rules)
 
-pub returns-in_ok-line-in-Err-clause-ran : goal.returns-in_ok-line-in-Err-clause-ran
-returns-in_ok-line-in-Err-clause-ran g c =
-    run_refused c.in-Err.refusal (c.in-Err.ensures.wrong c.in_ok-line-in-Err.ensures.real) (record { line = c.refused.ensures.text ∙ c.in_ok-line-in-Err.ensures.text; status = c.refused.ensures.status })
+pub returns-in_ok-words-in-Err-clause-ran : goal.returns-in_ok-words-in-Err-clause-ran
+returns-in_ok-words-in-Err-clause-ran g c =
+    let said : c.as_str.result.now ≡ running_words c.in-Err.fault = c.as_str.ensures.value ∙ c.in_ok-words-in-Err.ensures.text in
+    IfOk-weaker c.refused.result (IsRefused c.as_str.result.now) (IsRunAnswer c.args.shape.now c.args.batch.now)
+    (λ p is. run_refused c.in-Err.fault (c.in-Err.ensures.wrong c.in_ok-words-in-Err.ensures.real) (rw said at is)) c.refused.ensures
 
-pub returns-in_ok-line-in-Err-clause-one : goal.returns-in_ok-line-in-Err-clause-one
-returns-in_ok-line-in-Err-clause-one g c other = one_run c.args.shape.now c.args.batch.now c.refused.result other (returns-in_ok-line-in-Err-clause-ran g c)
+pub returns-in_ok-words-in-Err-clause-one : goal.returns-in_ok-words-in-Err-clause-one
+returns-in_ok-words-in-Err-clause-one g c =
+    IfOk-weaker c.refused.result (IsRunAnswer c.args.shape.now c.args.batch.now) (IsOnly (IsRunAnswer c.args.shape.now c.args.batch.now))
+    (λ p is other. one_run c.args.shape.now c.args.batch.now p other is) (returns-in_ok-words-in-Err-clause-ran g c)

@@ -1,9 +1,6 @@
 use Rattle.std.proofs.Common.{◌≡◌, ℕ, sym}
 use Rattle.std.proofs.lemmas.Result.{err_from_is_err_and}
-use Rattle.answers.proofs.Fewest.{fewest_settings, first_refusal}
-use Rattle.batch.specs.Overlap.{IsFirstOverlap}
-use Rattle.module_memory.specs.Core.{FitsIn}
-use Rattle.setting_runner.specs.declared.outcome.RunRefusal.TheVariants.{Overlap, Shape as Misfit}
+use Rattle.answers.proofs.Fewest.{fewest_settings, fits_in}
 use Rattle.answers.proofs.running.report_run.Goals as goal
 
 pub returns-in_err-batch-clause-wrong : goal.returns-in_err-batch-clause-wrong
@@ -11,14 +8,9 @@ returns-in_err-batch-clause-wrong g c =
     let p = err_from_is_err_and c.from_residual-in_err-batch.result c.from_residual-in_err-batch.ensures.1 in
     rw (p.1, p.2) (λ real. (c.in_ok-shape.shape, c.in_ok-shape.ensures.shape, c.in_err-batch.ensures.fault real))
 
-pub returns-in_err-rack-2-clause-wrong : goal.returns-in_err-rack-2-clause-wrong
-returns-in_err-rack-2-clause-wrong g c =
-    let p = err_from_is_err_and c.from_residual-in_err-rack-2.result c.from_residual-in_err-rack-2.ensures.1 in
-    let batch = c.in_ok-planned.ensures.batch in
-    let shape = c.in_ok-rack.ensures.same_shape in
-    let overlap : (i j : ℕ) → c.in_err-rack-2.field-0.0 ≡ Overlap i j → IsFirstOverlap c.in_ok-batch.batch i j = λ i j same. rw (sym batch) (c.in_err-rack-2.ensures.overlap i j same) in
-    let misfit : c.in_err-rack-2.field-0.0 ≡ Misfit → FitsIn c.in_ok-shape.shape c.in_ok-batch.batch → ⊥ = λ same fits. c.in_err-rack-2.ensures.shape same (rw (shape, batch) fits) in
-    rw (p.1, p.2) (λ real. (c.in_ok-shape.shape, c.in_ok-batch.batch, c.in_ok-shape.ensures.shape, c.in_ok-batch.ensures.batch, first_refusal c.in_ok-shape.shape c.args.batch.now c.in_ok-batch.batch c.in_ok-batch.ensures.batch c.in_err-rack-2.field-0.0 overlap misfit real))
+pub run_plain-requires-clause-fits : goal.run_plain-requires-clause-fits
+run_plain-requires-clause-fits g c κs within =
+    rw (c.in_ok-rack.ensures.same_shape, c.in_ok-planned.ensures.batch) (fits_in c.in_ok-shape.shape c.args.batch.now c.in_ok-batch.batch c.in_ok-batch.ensures.batch)
 
 pub returns-clause-report : goal.returns-clause-report
 returns-clause-report g c = record {

@@ -1,4 +1,5 @@
-use Rattle.std.proofs.Common.{sym, ◌∙◌}
+use Rattle.std.proofs.Common.{ap, sym, ◌∙◌}
+use Rattle.setting_runner.specs.declared.outcome.Outcome.TheVariants.{Refused}
 use Rattle.answers.proofs.running.run_plain.Goals as goal
 
 pub returns-in-Completed-clause-apart : goal.returns-in-Completed-clause-apart
@@ -7,5 +8,6 @@ returns-in-Completed-clause-apart g c =
     let bad = sym c.in-Completed.is ∙ (c.run-rack.ensures.overlap i j).1 first in
     absurd cc)
 
-pub returns-in-Refused-clause-overlap : goal.returns-in-Refused-clause-overlap
-returns-in-Refused-clause-overlap g c i j same = (c.run-rack.ensures.overlap i j).0 (rw same at c.in-Refused.is)
+pub returns-in-Overlap-clause-wrong : goal.returns-in-Overlap-clause-wrong
+returns-in-Overlap-clause-wrong g c real =
+    (c.run-rack.ensures.overlap c.in-Overlap.i c.in-Overlap.j).0 (c.in-Refused.is ∙ ap Refused c.in-Overlap.is)

@@ -1,0 +1,74 @@
+//! Why `run` refuses.
+
+ghost use Rattle.std.specs.Prelude.{◌≡◌, IfOk, string_bytes};
+ghost use Rattle.answers.specs.Refusals.{running_words, IsRealRunning};
+
+use crate::refusal::batch_words;
+use batch::{BatchFault, ShapeFault};
+use std::alloc::{AllocError, Global};
+use thiserror::Error;
+
+/// What is first wrong with a batch that is to be run and the shape of its rack, or want of memory.
+#[derive(Clone, Copy, Debug, PartialEq, Eq, Error)]
+pub enum RunningFault {
+    /// The shape text is that of no shape.
+    #[error("the shape")]
+    Shape,
+    /// The batch text has this fault.
+    #[error("the batch: {0}")]
+    Batch(BatchFault),
+    /// These two transfers overlap, the first two of the batch; or this one with itself.
+    #[error("overlap of {0} and {1}")]
+    Overlap(usize, usize),
+    /// There was no memory.
+    #[error("no memory")]
+    NoMemory,
+}
+
+impl From<ShapeFault> for RunningFault {
+    ghost use Rattle.std.specs.Prelude.{◌≡◌};
+    ghost use Rattle.answers.specs.declared.running_fault.RunningFault.TheVariants.{Shape};
+
+    ghost from_gives = { λ _ gives. gives ≡ Shape };
+
+    fn from(_fault: ShapeFault) -> RunningFault {
+        RunningFault::Shape
+    }
+}
+
+impl From<BatchFault> for RunningFault {
+    ghost use Rattle.std.specs.Prelude.{◌≡◌};
+    ghost use Rattle.answers.specs.declared.running_fault.RunningFault.TheVariants.{Batch};
+
+    ghost from_gives = { λ fault gives. gives ≡ Batch fault };
+
+    fn from(fault: BatchFault) -> RunningFault {
+        RunningFault::Batch(fault)
+    }
+}
+
+impl From<AllocError> for RunningFault {
+    ghost use Rattle.std.specs.Prelude.{◌≡◌};
+    ghost use Rattle.answers.specs.declared.running_fault.RunningFault.TheVariants.{NoMemory};
+
+    ghost from_gives = { λ _ gives. gives ≡ NoMemory };
+
+    fn from(_error: AllocError) -> RunningFault {
+        RunningFault::NoMemory
+    }
+}
+
+impl RunningFault {
+    /// What is told of it. Where that is want of memory, the error is the same.
+    pub fn words(self, alloc: Global) -> Result<String, AllocError>
+        ensures real { IfOk result (λ _. IsRealRunning self) }
+        ensures text { IfOk result (λ words. string_bytes words ≡ running_words self) }
+    {
+        match self {
+            RunningFault::Shape => String::from_str(alloc, "shape"),
+            RunningFault::Batch(fault) => batch_words(alloc, fault),
+            RunningFault::Overlap(i, j) => format!(in alloc; "overlap {i} {j}"),
+            RunningFault::NoMemory => Err(AllocError),
+        }
+    }
+}

@@ -1,0 +1,80 @@
+//! What the commands say of themselves. Where a text names a limit, a test holds it to the constant.
+
+/// What `plan --help` says below its options.
+pub const PLAN_NOTES: &str = "\
+FILE is a batch text: the line `batch N`, then N lines of the form
+  push I b R c   module I writes its block b into block c of module R
+  pull I b R c   module I reads block c of module R into its block b
+with modules from 0 to 15 and blocks from 0 to 63, at most 4096 lines.
+
+The answer is the line `settings S`, then S lines `setting t t ..`: the
+transfers that move at once, numbered from 0 in the order of their lines.
+In one setting no two of them share link 0 of an initiator I or link 3 of a
+responder R. No schedule has fewer settings, as the two last lines show:
+  busiest link E module M   the link that most transfers use
+  named t t ..              all transfers that use it, one in each setting
+or the line `busiest none` where there is no transfer.
+
+A file that can't be read is `refused file`. Where FILE is no batch text, the
+answer is what is first wrong, line by line:
+  refused batch line N   line N, from 1, has another form or no line feed
+  refused too many       the first line says more than 4096
+  refused no module T    transfer T names a module above 15
+  refused no block T     transfer T names a block above 63
+  refused count          fewer than N lines follow, or something after them
+
+Status: 0 a schedule was printed, 1 the batch was refused or there was no
+memory, 2 the words fit no command, 3 the answer couldn't be written.";
+
+/// What `check --help` says below its options.
+pub const CHECK_NOTES: &str = "\
+BATCH is a batch text and SCHEDULE a schedule text with the certificate part,
+in the form that `exchange plan --help` shows.
+
+The answer is the line `shortest S` where the S settings use each transfer
+once and no link twice at a time, and S distinct transfers are named that all
+use the link. Then no schedule of the batch has fewer settings.
+
+Else it is the first of these that is wrong. Both files are read first, then
+BATCH is looked at, then SCHEDULE, and then what it says:
+  refused file                          a file can't be read
+  refused ..                            BATCH, as `exchange plan --help` shows
+  refused schedule line N               line N of SCHEDULE, from 1
+  refused no certificate                SCHEDULE has no certificate part
+  refused check unknown T               no transfer T
+  refused check repeated T              T stands twice
+  refused check missing T               T stands nowhere
+  refused check clash S link E module M two of setting S use the link
+  refused check wrong link T            T is named and doesn't use the link
+  refused check certificate repeats T   T is named twice
+  refused check not tight S U           S settings, but U transfers named
+
+Status: 0 it is shortest, 1 it was refused or there was no memory, 2 the
+words fit no command, 3 the answer couldn't be written.";
+
+/// What `run --help` says below its options.
+pub const RUN_NOTES: &str = "\
+SHAPE is MxKxW: M modules, from 1 to 16, each of K blocks, from 1 to 64, each
+of W words, from 1 to 256. BATCH is a batch text, in the form that
+`exchange plan --help` shows, with modules below M and blocks below K.
+
+Word j of block b of module m is 65536 m + 256 b + j before the run. The
+answer is the line `ran settings S words X bits Y`: how often the switch was
+set, how many words were moved, and how many bits went over the links for
+them. Then comes each block that was written, by module and then by block:
+  block M B hex8 ..   its words, of eight hexadecimal digits each
+
+Else nothing is run, and the answer is the first of these that is wrong:
+  refused file          BATCH can't be read
+  refused shape         SHAPE is no shape
+  refused ..            BATCH, as `exchange plan --help` shows, in this rack
+  refused overlap I J   transfer I writes a block that J reads or writes, or
+                        reads one that J writes; I and J may be one
+With an overlap the order of the transfers might show. The first I is told,
+and its first J.
+
+Status: 0 the batch was run, 1 it was refused or there was no memory, 2 the
+words fit no command, 3 the answer couldn't be written.";
+
+/// What is said of `--workers`.
+pub const WORKERS_HELP: &str = "How many workers there may be, from 1 to 64";
