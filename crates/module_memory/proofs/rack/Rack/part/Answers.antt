@@ -75,3 +75,6 @@ returns-clause-lent c =
     let ps = c.args.places.now in
     let all : take c.loop-place.place-index ps ≡ ps = take_all c.loop-place.place-index ps (omega arith) in
     subst₂ AreLent (sym (inv.rest ∙ ap (without c.args.self) all)) (sym (inv.bays ∙ ap (bays_of c.args.self) all)) (AreLent-parted c.args.self ps whole h)
+
+pub returns-in_default-with_capacity-clause-fault : goal.returns-in_default-with_capacity-clause-fault
+returns-in_default-with_capacity-clause-fault c = search rules
