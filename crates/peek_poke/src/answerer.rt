@@ -1,6 +1,6 @@
 //! The end of a module's link 3, which answers peek and poke.
 
-ghost use Rattle.std.specs.Prelude.{◌≡◌, ℕ, ◌≤◌, ◌↔◌, List, [], ◌∷◌, ◌++◌, true, false, IsTrue, IfOk, MatchResult, option_to_list};
+ghost use Rattle.std.specs.Prelude.{◌≡◌, ◌↔◌, [], ◌∷◌, ◌++◌, IsTrue, MatchResult};
 ghost use Rattle.peek_poke.specs.Messages.{IsAtRest, IsPartial, rest_after};
 ghost use Rattle.peek_poke.specs.Effects.{Continues, Does, Feeds, IsRefused};
 

@@ -1,6 +1,6 @@
 //! The worked rows, words moved over wires, and printed faults.
 
-ghost use Rattle.std.specs.Prelude.{◌≡◌, ◌<◌, ◌≤◌, ◌∷◌, ◌++◌, [], length, IfOk, OnErr, OnOk, IsOk};
+ghost use Rattle.std.specs.Prelude.{◌≡◌, ◌<◌, ◌≤◌, length, IfOk, OnErr, IsOk};
 ghost use Rattle.batch.specs.Extent.{extent};
 
 use crate::{

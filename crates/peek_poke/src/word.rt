@@ -1,6 +1,6 @@
 //! Words moved over a wire, as messages to an answering end.
 
-ghost use Rattle.std.specs.Prelude.{◌≡◌, ◌<◌, ◌≤◌, ◌++◌, ℕ, [], Ok, false, take, length, IfOk, OnErr, OnOk, IsOk};
+ghost use Rattle.std.specs.Prelude.{◌≡◌, ◌<◌, ◌≤◌, ◌++◌, ℕ, [], Ok, false, IfOk, OnErr, OnOk, IsOk};
 ghost use Rattle.peek_poke.specs.declared.message.Message.TheVariants.{Peek, Poke};
 ghost use Rattle.peek_poke.specs.Messages.{IsAtRest, IsPartial, rest_after, spell, word_bytes};
 ghost use Rattle.peek_poke.specs.Sending.{IsBrokenOff, IsCut};
@@ -71,7 +71,8 @@ fn carry_back<W: Wire>(
 /// Pokes a word over a wire: the bytes of the poke go forward, and the answering end writes the word.
 ///
 /// The answering end has to be at rest, and the store has to take the write. Nine bytes go over the
-/// wire. Where it breaks, nothing is written; a new answering end has to be made then.
+/// wire, each of which the answering end takes before the next one goes. Where the wire breaks, nothing is
+/// written; a new answering end has to be made then.
 pub fn push_word<W: Wire, S: WordStore>(
     wire: &mut W,
     answerer: &mut Answerer,
