@@ -135,9 +135,24 @@ fn batch_limits_in_help(rt: HostRuntime) -> Result<(), Fail> {
 #[test]
 fn rack_limits_in_help(rt: HostRuntime) -> Result<(), Fail> {
     let alloc = rt.alloc();
-    assert!(rt; says(RUN_NOTES, format!(in alloc; "M modules, from 1 to {MAX_MODULES}, "))?);
-    assert!(rt; says(RUN_NOTES, format!(in alloc; "K blocks, from 1 to {MAX_BLOCKS}, "))?);
-    assert!(rt; says(RUN_NOTES, format!(in alloc; "W words, from 1 to {MAX_WORDS}. "))?);
+    assert!(rt;
+        says(
+            RUN_NOTES,
+            format!(in alloc; "M modules, from 1 to {MAX_MODULES}, ")
+        )?
+    );
+    assert!(rt;
+        says(
+            RUN_NOTES,
+            format!(in alloc; "K blocks, from 1 to {MAX_BLOCKS}, ")
+        )?
+    );
+    assert!(rt;
+        says(
+            RUN_NOTES,
+            format!(in alloc; "W words, from 1 to {MAX_WORDS}. ")
+        )?
+    );
     let mark = format!(in alloc; "is {MODULE_MARK} m + {BLOCK_MARK} b + j before the run");
     assert!(rt; says(RUN_NOTES, mark)?);
     assert!(rt; says(WORKERS_HELP, format!(in alloc; "from 1 to {MAX_WORKERS}"))?);
@@ -150,7 +165,14 @@ fn refusals_in_help(rt: HostRuntime) {
     assert!(rt;
         are_in_order(
             PLAN_NOTES,
-            &["file", "batch line N", "too many", "no module T", "no block T", "count"]
+            &[
+                "file",
+                "batch line N",
+                "too many",
+                "no module T",
+                "no block T",
+                "count"
+            ]
         )
     );
     assert!(rt;

@@ -1,4 +1,4 @@
-use Rattle.std.proofs.Common.{◌≡◌, ℕ, sym}
+use Rattle.std.proofs.Common.{sym}
 use Rattle.std.proofs.lemmas.Result.{err_from_is_err_and}
 use Rattle.answers.proofs.Fewest.{fewest_settings, fits_in}
 use Rattle.answers.proofs.running.report_run.Goals as goal
