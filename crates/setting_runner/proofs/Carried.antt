@@ -1,5 +1,5 @@
 -- The bytes of one word more.
-use Rattle.std.proofs.Common.{◌≡◌, ◌+◌, ◌<◌, ℕ, zero, length, take, suc, List, [], ◌∷◌, ◌++◌, sym, ap, ◌∙◌, arith, add-one, append_assoc, append-nil}
+use Rattle.std.proofs.Common.{◌≡◌, ◌+◌, ◌<◌, ℕ, zero, length, take, suc, List, ◌++◌, sym, ap, ◌∙◌, arith, add-one, append_assoc, append-nil}
 use Rattle.std.specs.List.{flat_map, range_with_len}
 use Rattle.peek_poke.specs.Sending.{IsCut}
 use Rattle.setting_runner.specs.Carried.{first_sent}

@@ -1,8 +1,7 @@
 -- What goes over the wire of a transfer. Source of the messages: INMOS IMS T414 data sheet.
-use Rattle.std.specs.Prelude.{◌≡◌, ◌<◌, ◌++◌, ℕ, List, [], slice_index}
+use Rattle.std.specs.Prelude.{◌≡◌, ◌<◌, ◌++◌, ℕ, List, slice_index}
 use Rattle.std.specs.List.{flat_map, range_with_len}
 use Rattle.batch.specs.Extent.{Extent}
-use Rattle.batch.specs.Places.{source_of, destination_of}
 use Rattle.batch.specs.declared.transfer.Kind.{Kind}
 use Rattle.batch.specs.declared.transfer.Kind.TheVariants.{Push, Pull}
 use Rattle.module_memory.specs.Address.{address_of}

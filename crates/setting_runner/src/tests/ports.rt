@@ -129,10 +129,19 @@ fn stops_at(ran: Recorded, output: u8) -> bool {
         && ran.sent.is_of_settings(&[BOTH_PAIRS.as_slice()])
 }
 
+/// Whether row two-pushes stops at this output, where the port answers in this manner.
+fn stops_with<R: AllocGlobal + Threads + Sync>(
+    rt: &R,
+    manner: Manner,
+    output: u8,
+) -> Result<bool, Fail> {
+    let ran = run_recorded(rt, "3x2x2", TWO_PUSHES, manner, &UNMOVED)?;
+    Ok(stops_at(ran, output))
+}
+
 #[test]
 fn switch_stops_no_answers(rt: HostRuntime) -> Result<(), Fail> {
-    let ran = run_recorded(&rt, "3x2x2", TWO_PUSHES, Manner::AnswersNothing, &UNMOVED)?;
-    assert!(rt; stops_at(ran, 0));
+    assert!(rt; stops_with(&rt, Manner::AnswersNothing, 0)?);
     Ok(())
 }
 
@@ -147,8 +156,7 @@ fn stops_at_answer<R: AllocGlobal + Threads + Sync>(
         output: output as usize,
         reply,
     };
-    let ran = run_recorded(rt, "3x2x2", TWO_PUSHES, manner, &UNMOVED)?;
-    Ok(stops_at(ran, output))
+    stops_with(rt, manner, output)
 }
 
 /// Another input, an input where there is to be none, a byte that the switch never answers, and the last

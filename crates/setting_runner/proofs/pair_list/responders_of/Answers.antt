@@ -1,8 +1,5 @@
-use Rattle.std.proofs.Common.{◌≡◌, ℕ, List, get_or, refl, sym, subst}
+use Rattle.std.proofs.Common.{ℕ, List, get_or, refl, sym, subst}
 use Rattle.std.proofs.lemmas.List.{take_all}
-use Rattle.std.proofs.lemmas.Option.{get_or_from_slice_get}
-use Rattle.batch.specs.Overlap.{transfer_at}
-use Rattle.batch.specs.declared.transfer.Transfer.{Transfer}
 use Rattle.setting_runner.proofs.Joined.{IsTableOf, table_more, table_is_pairs, table_is_switch, setting_joinable}
 use Rattle.setting_runner.proofs.pair_list.responders_of.Goals as goal
 

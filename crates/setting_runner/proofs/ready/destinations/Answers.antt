@@ -1,14 +1,11 @@
-use Rattle.std.proofs.Common.{◌≡◌, ◌<◌, ◌++◌, [], ℕ, List, Some, length, take, arith, sym, ap, ap₂, ◌∙◌, subst}
-use Rattle.std.specs.Prelude.{All}
-use Rattle.std.specs.List.{slice_get, concat}
+use Rattle.std.proofs.Common.{◌≡◌, ◌<◌, ◌++◌, ℕ, List, length, take, arith, sym, ap, ap₂, ◌∙◌}
+use Rattle.std.specs.List.{concat}
 use Rattle.std.proofs.lemmas.List.{map-append}
-use Rattle.std.proofs.lemmas.Option.{get_or_from_slice_get}
 use Rattle.batch.specs.Overlap.{destination_at}
 use Rattle.batch.specs.declared.transfer.Place.{Place}
 use Rattle.batch.specs.declared.transfer.Transfer.{Transfer}
 use Rattle.module_memory.specs.Bays.{destinations_of}
 use Rattle.setting_runner.specs.Runs.{numbers_of}
-use Rattle.setting_runner.proofs.Schedules.{are_settings}
 use Rattle.batch.proofs.Lists.{concat_more}
 use Rattle.setting_runner.proofs.ready.destinations.Goals as goal
 

@@ -1,10 +1,8 @@
 use Rattle.std.proofs.Common.{◌≡◌, ◌+◌, ◌++◌, ◌∷◌, [], List, sym, ap, ◌∙◌, append_assoc, get_or, take}
 use Rattle.std.proofs.lemmas.List.{take_more, map-append}
-use Rattle.std.proofs.lemmas.Option.{get_or_from_slice_get}
-use Rattle.batch.specs.Overlap.{transfer_at, destination_at}
+use Rattle.batch.specs.Overlap.{destination_at}
 use Rattle.batch.specs.Places.{destination_of}
 use Rattle.batch.specs.declared.transfer.Place.{Place}
-use Rattle.batch.specs.declared.transfer.Transfer.{Transfer}
 use Rattle.module_memory.specs.Bays.{destinations_of}
 use Rattle.setting_runner.proofs.ready.push_destinations.Goals as goal
 

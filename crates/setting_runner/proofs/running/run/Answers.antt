@@ -6,7 +6,6 @@ use Rattle.batch.specs.Extent.{Extent}
 use Rattle.batch.specs.Overlap.{IsApart, IsFirstOverlap, destination_at}
 use Rattle.batch.specs.declared.transfer.Place.{Place}
 use Rattle.batch.specs.declared.transfer.Transfer.{Transfer}
-use Rattle.module_memory.specs.Bays.{destinations_of}
 use Rattle.module_memory.specs.Core.{FitsIn, IsReady}
 use Rattle.module_memory.specs.Lending.{AreLendable, BlockAt, bays_of, joined, without}
 use Rattle.module_memory.specs.Store.{Store}

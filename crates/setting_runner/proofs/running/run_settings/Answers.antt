@@ -1,15 +1,12 @@
-use Rattle.std.proofs.Common.{◌≡◌, ◌<◌, ◌≤◌, ◌+◌, ◌-◌, ◌*◌, [], ℕ, IsTrue, List, Some, length, take, drop, arith, rules, sym, ap, ap₂, ◌∙◌, subst, add-one}
-use Rattle.std.specs.Prelude.{AllPairs}
-use Rattle.std.specs.List.{slice_get}
-use Rattle.std.proofs.lemmas.Option.{get_or_from_slice_get}
+use Rattle.std.proofs.Common.{◌≡◌, ◌<◌, ◌≤◌, ◌+◌, ◌-◌, ◌*◌, ℕ, IsTrue, List, length, take, drop, arith, rules, sym, ap, ap₂, ◌∙◌, subst, add-one}
 use Rattle.std.proofs.Math.Nat.{mul-le-mul_left}
-use Rattle.batch.specs.declared.limits.TheConstants.{MAX_MODULES, MAX_TRANSFERS, MAX_WORDS}
+use Rattle.batch.specs.declared.limits.TheConstants.{MAX_TRANSFERS, MAX_WORDS}
 use Rattle.batch.specs.declared.transfer.Transfer.{Transfer}
 use Rattle.module_memory.specs.Lending.{joined}
 use Rattle.setting_runner.specs.Moves.{AreMovable, HaveMoved, none_sure, all_moved}
 use Rattle.setting_runner.specs.Runs.{numbers_of, setting_switch, Told, IsCompleted}
 use Rattle.setting_runner.proofs.Going.{going_next, going_stops, going_completes, next_begins, part_movable}
-use Rattle.setting_runner.proofs.Schedules.{front_few, numbers_are_counted, are_settings}
+use Rattle.setting_runner.proofs.Schedules.{front_few, numbers_are_counted}
 use Rattle.setting_runner.proofs.running.run_settings.Goals as goal
 
 pub setting_numbers-numbers-requires : goal.setting_numbers-numbers-requires

@@ -1,6 +1,5 @@
 use Rattle.std.proofs.Common.{◌≡◌, ◌<◌, ◌+◌, ◌++◌, ◌∷◌, [], length, take, drop, get_or, set, ap, ap₂, ◌∙◌, sym, subst, arith, length-append, refl}
 use Rattle.std.proofs.lemmas.List.{take_more_set, drop-set-lt, drop_more}
-use Rattle.std.proofs.lemmas.Option.{get_or_from_slice_get}
 use Rattle.batch.specs.declared.transfer.Transfer.{Transfer}
 use Rattle.batch.specs.Places.{HasPlace, source_of}
 use Rattle.batch.specs.Overlap.{transfer_at}

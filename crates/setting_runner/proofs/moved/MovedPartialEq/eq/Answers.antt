@@ -1,4 +1,4 @@
-use Rattle.std.proofs.Common.{◌≡◌, true, ◌∙◌, sym, ap, rules}
+use Rattle.std.proofs.Common.{◌≡◌, ◌∙◌, sym, ap, rules}
 use Rattle.setting_runner.specs.Equal.{same_moved}
 use Rattle.setting_runner.proofs.Equal.{same_moved_is, same_moved_self}
 use Rattle.setting_runner.proofs.moved.MovedPartialEq.eq.Goals as goal
