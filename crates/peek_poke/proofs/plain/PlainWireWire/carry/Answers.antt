@@ -1,4 +1,4 @@
-use Rattle.std.proofs.Common.{◌≡◌, ◌++◌, ◌∙◌, ◌∷◌, List, ℕ, [], ap, sym}
+use Rattle.std.proofs.Common.{rules, ◌≡◌, ◌++◌, ◌∙◌, ◌∷◌, List, ℕ, [], ap, sym}
 use Rattle.peek_poke.specs.Bringing.{Brought}
 use Rattle.link_bytes.specs.declared.packet.Packet.TheVariants.{Ack, Byte}
 use Rattle.link_bytes.specs.Line.{packet_bits}
@@ -58,4 +58,5 @@ returns-clause-added c =
     let sent = c.send.ensures.sent c.self.invariant.0 in
     let bits : c.in-Ok.bits ≡ packet_bits (Byte c.args.byte) = cc (sent, c.in-Ok.is) in
     let read = c.bring.ensures (Byte c.args.byte) c.ranges.byte.fits bits in
-    ap (λ (l : Brought). l.bytes) read.1 ∙ ap (λ (xs : List ℕ). xs ++ c.args.byte ∷ []) c.self.view_is
+    let grown : c.bring.new.self.bytes ≡ c.args.self.now ++ c.args.byte ∷ [] = ap (λ (l : Brought). l.bytes) read.1 ∙ ap (λ (xs : List ℕ). xs ++ c.args.byte ∷ []) c.self.view_is in
+    search rules
