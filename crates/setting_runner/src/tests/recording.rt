@@ -188,6 +188,11 @@ fn with_port(manner: Manner) -> Plant<OtherPort, PlainWires, OpenGate> {
     }
 }
 
+/// What the port of a plant was sent and replied.
+fn records_of(plant: Plant<OtherPort, PlainWires, OpenGate>) -> (Record, Record) {
+    (plant.port.sent, plant.port.replied)
+}
+
 /// Runs a batch text with a port of this manner.
 pub fn run_recorded<R: AllocGlobal + Threads + Sync>(
     rt: &R,
@@ -197,10 +202,11 @@ pub fn run_recorded<R: AllocGlobal + Threads + Sync>(
     blocks: &[Block<'_>],
 ) -> Result<Recorded, Fail> {
     let mut plant = with_port(manner);
-    let seen = run_with(rt, shape, text, &mut plant, blocks)?;
+    let ran = run_with(rt, shape, text, &mut plant, blocks);
+    let (sent, replied) = records_of(plant);
     Ok(Recorded {
-        seen,
-        sent: plant.port.sent,
-        replied: plant.port.replied,
+        seen: ran?,
+        sent,
+        replied,
     })
 }

@@ -20,3 +20,6 @@ returns c =
     let all : c.loop-number.number ≡ PORTS = omega arith in
     let whole : length c.loop-number.bytes ≤ c.loop-number.stand = omega arith in
     sym (take_all c.loop-number.stand c.loop-number.bytes whole) ∙ c.loop-number.invariant.bytes ∙ ap (λ n. text (map Enquire (range_with_len 0 n))) all
+
+pub loop-number-init : goal.loop-number-init
+loop-number-init c = search rules

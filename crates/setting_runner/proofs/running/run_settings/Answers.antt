@@ -133,3 +133,6 @@ returns-clause-uncalled g c = λ empty.
     let none : length c.args.planned.now.settings ≡ 0 = ap (length {A = List ℕ}) empty in
     let first : c.loop-number.number ≡ 0 = omega (arith, c.settings-number-end.ensures, ap (length {A = List ℕ}) c.schedule-schedule.ensures.schedule) in
     c.loop-number.invariant.uncalled first
+
+pub returns-clause-cause : goal.returns-clause-cause
+returns-clause-cause g c = search rules
