@@ -37,6 +37,7 @@ fn written(command: Command) -> ([u8; LONGEST_COMMAND], usize) {
     (out, number)
 }
 
+/// Row written-commands.
 #[test]
 fn written_bytes(rt: HostRuntime) -> Result<(), Fail> {
     let link1 = PortNo::new(3).ok_or("3 is a port")?;

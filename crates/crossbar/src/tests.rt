@@ -94,6 +94,7 @@ fn state_after(bytes: &[u8]) -> Result<(Option<u8>, bool), CommandFault> {
     Ok((answer, crossbar.is_ready()))
 }
 
+/// Row connect-and-cut, up to the connection.
 #[test]
 fn an_input_feeds_an_output(rt: HostRuntime) {
     assert_eq!(rt;
@@ -116,6 +117,7 @@ fn an_input_feeds_an_output(rt: HostRuntime) {
     assert_eq!(rt; state_after(&[0x00, 0x03, 0x07, 0x03]), Ok((None, true)));
 }
 
+/// Row connect-and-cut, behind the connection.
 #[test]
 fn an_output_is_cut(rt: HostRuntime) {
     assert_eq!(rt;
@@ -129,6 +131,11 @@ fn an_output_is_cut(rt: HostRuntime) {
     // To cut output 3 isn't to cut what input 3 feeds.
     assert_eq!(rt;
         state_after(&[0x00, 0x03, 0x07, 0x05, 0x03, 0x02, 0x07]),
+        Ok((Some(0x83), false))
+    );
+    // Nor is what the same input feeds.
+    assert_eq!(rt;
+        state_after(&[0x00, 0x03, 0x07, 0x00, 0x03, 0x08, 0x05, 0x08, 0x02, 0x07]),
         Ok((Some(0x83), false))
     );
     assert_eq!(rt; state_after(&[0x05, 0x07]), Ok((None, true)));

@@ -1,6 +1,7 @@
 //! From the words of the command line to what is printed, and the status that the program ends with.
 
 ghost use Rattle.std.specs.Prelude.{◌≡◌, ◌⊎◌, ◌≤◌, IfOk, OnErr};
+ghost use Rattle.std.specs.Process.{exit_status};
 ghost use Rattle.answers.specs.Refusals.{Printed};
 ghost use Rattle.command_words.specs.Jobs.{IsWithinLimits, texts_of};
 ghost use Rattle.exchange.specs.Responses.{IsSomePlan, IsSomeCheck, IsSomeRun, IsAnswerTo, IsResponseTo, IsPrinted};
@@ -11,6 +12,7 @@ use crate::unanswered::Unanswered;
 use answers::{Answer, DONE, REFUSED, answer_check, answer_plan, answer_run};
 use command_words::{Job, MAX_WORKERS, Text, WordsFault, read_words};
 use std::io::{ErrorKind, Write};
+use std::process::ExitCode;
 use std::rt::Files;
 use std::thread::Threads;
 use std::{fs, io};
@@ -24,17 +26,17 @@ pub fn respond<R: AllocGlobal + Files + Threads + Sync, O: Write, E: Write>(
     words: io::Result<Vec<String>>,
     out: &mut O,
     err: &mut E,
-) -> u8
-    ensures words { IfOk words (λ w. (result ≡ UNWRITTEN)
-        ⊎ IsEndForWords (texts_of w.items) (O.contents out.old) (O.contents out.new) result) }
-    ensures none { OnErr words ((result ≡ UNWRITTEN)
-        ⊎ IsEndWithoutWords (O.contents out.old) (O.contents out.new) result) }
+) -> ExitCode
+    ensures words { IfOk words (λ w. (exit_status result ≡ UNWRITTEN)
+        ⊎ IsEndForWords (texts_of w.items) (O.contents out.old) (O.contents out.new) (exit_status result)) }
+    ensures none { OnErr words ((exit_status result ≡ UNWRITTEN)
+        ⊎ IsEndWithoutWords (O.contents out.old) (O.contents out.new) (exit_status result)) }
 {
     match respond_to_words(rt, words, out, err) {
-        Ok(status) => status,
+        Ok(status) => ExitCode::from(status),
         Err(error) => {
             let _ = err.writeln(format_args!("exchange: the answer can't be written: {error}"));
-            UNWRITTEN
+            ExitCode::from(UNWRITTEN)
         }
     }
 }

@@ -14,7 +14,7 @@ use std::{env, io};
 
 fn main(rt: HostRuntime) -> ExitCode {
     let words = command_line(&rt);
-    ExitCode::from(respond(&rt, words, &mut io::writer(&rt), &mut rt.stderr()))
+    respond(&rt, words, &mut io::writer(&rt), &mut rt.stderr())
 }
 
 /// The words of the command line, the first of which is the program's name.

@@ -2,9 +2,11 @@
 //! the commands answer to texts is tested with `answers`.
 
 use crate::dispatch::{respond, respond_to};
+use crate::unanswered::Unanswered;
 use command_words::WordsFault;
 use std::alloc::{AllocError, Global};
 use std::io::{ErrorKind, Write};
+use std::process::ExitCode;
 use std::rt::Files;
 use std::test::Fail;
 use std::thread::Threads;
@@ -37,7 +39,7 @@ fn prints<R: AllocGlobal + Files + Threads + Sync>(
     let mut out = Vec::new(rt.alloc());
     let mut err = Vec::new(rt.alloc());
     let code = respond(rt, Ok(words), &mut out, &mut err);
-    Ok(code == status && out.as_slice() == text.as_bytes() && err.is_empty())
+    Ok(code == ExitCode::from(status) && out.as_slice() == text.as_bytes() && err.is_empty())
 }
 
 #[test]
@@ -148,8 +150,8 @@ fn helps<R: AllocGlobal + Files + Threads + Sync>(
     let words = words(rt.alloc(), line)?;
     let mut out = Vec::new(rt.alloc());
     let mut err = Vec::new(rt.alloc());
-    let status = respond(rt, Ok(words), &mut out, &mut err);
-    Ok(status == 0 && out.as_slice().starts_with(begin.as_bytes()) && err.is_empty())
+    let code = respond(rt, Ok(words), &mut out, &mut err);
+    Ok(code == ExitCode::from(0) && out.as_slice().starts_with(begin.as_bytes()) && err.is_empty())
 }
 
 /// Help goes to standard output, under status 0.
@@ -176,8 +178,8 @@ fn is_misused<R: AllocGlobal + Files + Threads + Sync>(
     let words = words(rt.alloc(), line)?;
     let mut out = Vec::new(rt.alloc());
     let mut err = Vec::new(rt.alloc());
-    let status = respond(rt, Ok(words), &mut out, &mut err);
-    Ok(status == 2 && out.is_empty() && !err.is_empty())
+    let code = respond(rt, Ok(words), &mut out, &mut err);
+    Ok(code == ExitCode::from(2) && out.is_empty() && !err.is_empty())
 }
 
 /// Words that fit no command are answered on standard error, under status 2.
@@ -206,7 +208,9 @@ fn ends_without_words<R: AllocGlobal + Files + Threads + Sync>(
     let mut out = Vec::new(rt.alloc());
     let mut err = Vec::new(rt.alloc());
     let code = respond(rt, Err(io::Error::new(why, "no words")), &mut out, &mut err);
-    code == status && out.as_slice() == printed.as_bytes() && err.as_slice() == said.as_bytes()
+    code == ExitCode::from(status)
+        && out.as_slice() == printed.as_bytes()
+        && err.as_slice() == said.as_bytes()
 }
 
 #[test]
@@ -223,6 +227,16 @@ fn refuses_without_memory<R: AllocGlobal + Files + Threads + Sync>(rt: &R) -> io
     let mut err = Vec::new(rt.alloc());
     let status = respond_to(rt, Err(WordsFault::NoMemory), &mut out, &mut err)?;
     Ok(status == 1 && out.as_slice() == b"refused no memory\n".as_slice() && err.is_empty())
+}
+
+/// Want of memory while a file is read is told as such, and whatever else fails there is a file that can't be
+/// read.
+#[test]
+fn files_that_cannot_be_read(rt: HostRuntime) {
+    let none = Unanswered::from(io::Error::new(ErrorKind::OutOfMemory, "no file"));
+    assert!(rt; none == Unanswered::NoMemory);
+    let missing = Unanswered::from(io::Error::new(ErrorKind::NotFound, "no file"));
+    assert!(rt; missing == Unanswered::File);
 }
 
 #[test]
@@ -261,9 +275,9 @@ fn is_unwritten<R: AllocGlobal + Files + Threads + Sync>(
 ) -> Result<bool, AllocError> {
     let words = words(rt.alloc(), line)?;
     let mut err = Vec::new(rt.alloc());
-    let status = respond(rt, Ok(words), &mut Full { room }, &mut err);
+    let code = respond(rt, Ok(words), &mut Full { room }, &mut err);
     let said = b"exchange: the answer can't be written: no room\n".as_slice();
-    Ok(status == 3 && err.as_slice() == said)
+    Ok(code == ExitCode::from(3) && err.as_slice() == said)
 }
 
 /// An answer, a refusal or a help that can't be written ends with status 3.

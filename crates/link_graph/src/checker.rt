@@ -89,7 +89,8 @@ pub fn check_schedule(
     ensures shortest { OnOk result (IsShortest batch.now schedule.now) }
     ensures settings { IfOk result (λ shortest. shortest.settings ≡ length schedule.now) }
     ensures fault { IfErr result (IsFirstUnlessMemory batch.now schedule.now certificate.now) }
-    ensures accepted { IsCertified batch.now schedule.now certificate.now → IfErr result IsWantOfMemory }
+    ensures accepted { IsCertified batch.now schedule.now certificate.now →
+        IfErr result IsWantOfMemory }
     ensures memory { IfErr result (λ fault. fault ≡ NoMemory → AreKnown batch.now schedule.now) }
 {
     let count = batch.len();

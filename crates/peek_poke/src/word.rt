@@ -71,8 +71,8 @@ fn carry_back<W: Wire>(
 /// Pokes a word over a wire: the bytes of the poke go forward, and the answering end writes the word.
 ///
 /// The answering end has to be at rest, and the store has to take the write. Nine bytes go over the
-/// wire, each of which the answering end takes before the next one goes. Where the wire breaks, nothing is
-/// written; a new answering end has to be made then.
+/// wire, and the answering end takes them. Where the wire breaks, nothing is written; a new answering end has
+/// to be made then.
 pub fn push_word<W: Wire, S: WordStore>(
     wire: &mut W,
     answerer: &mut Answerer,

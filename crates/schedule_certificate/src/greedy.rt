@@ -47,7 +47,7 @@ fn first_open(batch: &Batch, lists: &[Vec<usize>], t: usize) -> Option<usize>
     None
 }
 
-/// Puts a transfer into the first setting that has neither of its links.
+/// Puts a transfer into the first setting whose links leave it room, or into a new one.
 fn place(
     alloc: Global,
     batch: &Batch,

@@ -18,7 +18,8 @@ pub fn move_block<W: Wire>(wire: &mut W, rest: &Rest, transfer: Transfer, bay: &
     requires bay_exists { HasPlace rest.now.shape bay.old.place }
     requires bay_width { length bay.old.words ≡ rest.now.shape.words }
     ensures place { bay.new.place ≡ bay.old.place }
-    ensures words { bay.new.words ≡ moved_into result (block_of rest.now (source_of transfer)) bay.old.words }
+    ensures words { bay.new.words ≡
+        moved_into result (block_of rest.now (source_of transfer)) bay.old.words }
     ensures at_most { result ≤ rest.now.shape.words }
     ensures sure { W.never_fails wire.old → result ≡ rest.now.shape.words }
     // What went over the wire is the words' messages, one after the other.

@@ -35,7 +35,7 @@ enum Way {
 
 /// Writes the bytes that set any switch to the pairs, and gives their number, at most 50: a reset, the joins
 /// of the pairs in their order, and the end of the sequence (INMOS IMS C004 data sheet, configuration
-/// messages). So `04`, then `01 I 16+R` for each pair, then `03`. What stands in `out` behind them isn't said.
+/// messages): `04`, a row `01 I 16+R` a pair, `03`. What stands in `out` behind them isn't said.
 ///
 /// The initiators have to ascend, the responders to be distinct, and all to be below 16. Takes time by the
 /// number of pairs.
@@ -53,8 +53,8 @@ pub fn setting_bytes(pairs: &[Pair], out: &mut [u8; CHANGE_BYTES]) -> usize
 
 /// Writes the bytes that set the switch of the old pairs to the new ones, and gives their number, at most 97:
 /// the cuts of the pairs that go, the joins of those that come, each in their order, and the end of the
-/// sequence (INMOS IMS C004 data sheet, configuration messages). So `06 I 16+R` for each old pair that isn't
-/// new, `01 I 16+R` for each new pair that isn't old, then `03`. What stands in `out` behind them isn't said.
+/// sequence (INMOS IMS C004 data sheet, configuration messages): a row `06 I 16+R` a cut, a row `01 I 16+R` a
+/// join, `03`. What stands in `out` behind them isn't said.
 ///
 /// Of both, the initiators have to ascend, the responders to be distinct, and all to be below 16. The time
 /// grows with the product of the numbers of pairs.
@@ -108,7 +108,8 @@ fn put_pairs(
 ) -> usize
     requires pairs { ArePairs pairs.now }
     requires room { stand + LONGEST_COMMAND * length pairs.now ≤ CHANGE_BYTES }
-    ensures bytes { take result out.new ≡ take stand out.old ++ text (commands_of way others.now pairs.now) }
+    ensures bytes { take result out.new ≡
+        take stand out.old ++ text (commands_of way others.now pairs.now) }
     ensures room { result ≤ stand + LONGEST_COMMAND * length pairs.now }
 {
     let mut count = stand;

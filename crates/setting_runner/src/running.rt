@@ -35,8 +35,8 @@ use std::thread::Threads;
 /// run. A wire that fails lets the other transfers of its setting go on. After a run the switch stays as it
 /// was set last.
 ///
-/// Where a thread can't be had, its work is done by the caller. After the notice has been told 0 the run
-/// takes no memory, a thread's start apart. Takes time that grows with the words moved, and with the square
+/// Where a thread can't be had, the worker that wanted it does the work itself. After the notice has been told
+/// 0 the run takes no memory, a thread's start apart. Takes time that grows with the words moved, and with the square
 /// of the number of transfers.
 pub fn run<R: Threads + Sync, P: ConfigPort, W: WireMaker + Sync, G: Gate + Sync, N: Notice>(
     rt: &R,
@@ -113,7 +113,8 @@ fn run_settings<R: Threads + Sync, P: ConfigPort, W: WireMaker + Sync, G: Gate +
     requires prepared { IsPrepared rest.now bays.old planned.now }
 
     ensures rejoins { Rejoins rest.now bays.new }
-    ensures memories { LeavesMemories (joined rest.now bays.old) planned.now result (joined rest.now bays.new) }
+    ensures memories { LeavesMemories
+        (joined rest.now bays.old) planned.now result (joined rest.now bays.new) }
     ensures cause { HasCause (record {
       sure = W.is_sure plant.old.wires;
       words = rest.now.shape.words;

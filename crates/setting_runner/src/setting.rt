@@ -48,7 +48,8 @@ pub fn run_setting<R: Threads + Sync, P: ConfigPort, W: WireMaker + Sync, G: Gat
 ) -> Result<(), Stop>
     requires some { 1 ≤ plant.old.workers }
     requires few { plant.old.workers ≤ MAX_WORKERS }
-    requires standing { AreStanding (P.honest plant.old.port) (P.switch plant.old.port) setting.now.standing }
+    requires standing { AreStanding
+        (P.honest plant.old.port) (P.switch plant.old.port) setting.now.standing }
     requires pairs { ArePairs setting.now.pairs }
     requires numbers { length setting.now.numbers.now ≤ MAX_MODULES }
     requires ascending { AllPairs (λ t u. t < u) setting.now.numbers.now }

@@ -159,8 +159,8 @@ fn stops_at_answer<R: AllocGlobal + Threads + Sync>(
     stops_with(rt, manner, output)
 }
 
-/// Another input, an input where there is to be none, a byte that the switch never answers, and the last
-/// output.
+/// Row switch-answers: another input, an input where there is to be none, bytes that the switch never
+/// answers, and the last output.
 #[test]
 fn wrong_answers(rt: HostRuntime) -> Result<(), Fail> {
     assert!(rt; stops_at_answer(&rt, 0, 0x92)?);
@@ -187,30 +187,44 @@ fn loose_answers(rt: HostRuntime) -> Result<(), Fail> {
     Ok(())
 }
 
-/// A port that is wrong in setting 1 alone stops row three-transfers there: transfers 0 and 2 have moved, and
-/// transfer 1 hasn't.
-#[test]
-fn wrong_answer_in_the_second_setting(rt: HostRuntime) -> Result<(), Fail> {
+/// Whether row three-transfers has stopped in setting 1 at this output: transfers 0 and 2 have moved,
+/// transfer 1 hasn't, and nothing is sent behind the enquiries.
+fn stopped_in_setting_1(ran: Recorded, output: u8) -> bool {
+    let stop = Stop {
+        setting: 1,
+        cause: StopCause::SwitchDisagrees(output),
+        moved: [Some((1, 0)), None],
+    };
+    let seen = ran.seen;
+    stop_of(seen.outcome) == Some(stop)
+        && seen.has_blocks
+        && seen.told.last == Some(1)
+        && ran
+            .sent
+            .is_of_settings(&[BOTH_PAIRS.as_slice(), ONE_PAIR.as_slice()])
+}
+
+/// Whether row three-transfers stops in setting 1 at an output that answers this byte there alone.
+fn stops_in_setting_1<R: AllocGlobal + Threads + Sync>(
+    rt: &R,
+    output: u8,
+    reply: u8,
+) -> Result<bool, Fail> {
     let manner = Manner::Answers {
         setting: 1,
-        output: 0,
-        reply: 0x91,
+        output: output as usize,
+        reply,
     };
-    let ran = run_recorded(&rt, "3x2x1", THREE_TRANSFERS, manner, &SECOND_UNMOVED)?;
-    let seen = ran.seen;
-    assert_eq!(rt;
-        stop_of(seen.outcome),
-        Some(Stop {
-            setting: 1,
-            cause: StopCause::SwitchDisagrees(0),
-            moved: [Some((1, 0)), None],
-        })
-    );
-    assert!(rt; seen.has_blocks);
-    assert_eq!(rt; seen.told.last, Some(1));
-    assert!(rt;
-        ran.sent
-            .is_of_settings(&[BOTH_PAIRS.as_slice(), ONE_PAIR.as_slice()])
-    );
+    let ran = run_recorded(rt, "3x2x1", THREE_TRANSFERS, manner, &SECOND_UNMOVED)?;
+    Ok(stopped_in_setting_1(ran, output))
+}
+
+/// Row switch-answers: a port that is wrong in setting 1 alone, by another input, by none, and by an input
+/// where there is to be none.
+#[test]
+fn wrong_answers_in_the_second_setting(rt: HostRuntime) -> Result<(), Fail> {
+    assert!(rt; stops_in_setting_1(&rt, 0, 0x91)?);
+    assert!(rt; stops_in_setting_1(&rt, 0, 0x00)?);
+    assert!(rt; stops_in_setting_1(&rt, 31, 0x80)?);
     Ok(())
 }
