@@ -117,8 +117,8 @@ abbrev pub OneBatch : Type 0
 OneBatch = (shape : Extent) → IsShape shape → (text : List ℕ) (a b : List Transfer) → Denotes shape text a → Denotes shape text b → a ≡ b
 
 -- a text that denotes a batch has no first fault
-abbrev pub BatchOrFault : Type 0
-BatchOrFault = (shape : Extent) → IsShape shape → (text : List ℕ) (a : List Transfer) (fault : BatchFault) → Denotes shape text a → IsFirstFault shape text fault → ⊥
+abbrev pub NeverBoth : Type 0
+NeverBoth = (shape : Extent) → IsShape shape → (text : List ℕ) (a : List Transfer) (fault : BatchFault) → Denotes shape text a → IsFirstFault shape text fault → ⊥
 
 -- a text has at most one first fault
 abbrev pub OneFault : Type 0

@@ -2,7 +2,7 @@
 
 ghost use Rattle.std.specs.Prelude.{◌≡◌, ℕ, ◌↔◌, List};
 ghost use Rattle.batch.specs.Extent.{widest};
-ghost use Rattle.batch.specs.Faults.{BatchOrFault, OneBatch, OneFault};
+ghost use Rattle.batch.specs.Faults.{NeverBoth, OneBatch, OneFault};
 ghost use Rattle.batch.specs.Overlap.{NoneOverlap, OneFirstOverlap};
 ghost use Rattle.batch.specs.ShapeText.{OneShape};
 ghost use Rattle.batch.specs.Text.{IsNumeral, SpellsNumber};
@@ -12,7 +12,7 @@ use crate::shape::Shape;
 /// A text denotes at most one batch, has at most one first fault, and never both.
 pub fn one_reading()
     ensures batch { OneBatch }
-    ensures apart { BatchOrFault }
+    ensures apart { NeverBoth }
     ensures fault { OneFault }
 {}
 

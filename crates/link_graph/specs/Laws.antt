@@ -31,8 +31,8 @@ abbrev pub OneSaid : Type 0
 OneSaid = (text : List ℕ) (one other : Said) → Says text one → Says text other → one ≡ other
 
 -- a text that says something has no first line at fault
-abbrev pub SaysOrFaults : Type 0
-SaysOrFaults = (text : List ℕ) (s : Said) (n : ℕ) → Says text s → IsFirstBadLine text n → ⊥
+abbrev pub NeverBoth : Type 0
+NeverBoth = (text : List ℕ) (s : Said) (n : ℕ) → Says text s → IsFirstBadLine text n → ⊥
 
 -- a text has at most one first line at fault
 abbrev pub OneBadLine : Type 0

@@ -2,7 +2,7 @@
 
 ghost use Rattle.std.specs.Prelude.{◌↔◌, IsTrue};
 ghost use Rattle.link_graph.specs.Links.{StandsBefore};
-ghost use Rattle.link_graph.specs.Laws.{CertifiedIsShortest, UsersAreCounted, RightHasNoFault, OneFault, OneSaid, SaysOrFaults, OneBadLine};
+ghost use Rattle.link_graph.specs.Laws.{CertifiedIsShortest, UsersAreCounted, RightHasNoFault, OneFault, OneSaid, NeverBoth, OneBadLine};
 
 use crate::link::Link;
 
@@ -34,6 +34,6 @@ pub fn one_check()
 /// never both. So what [`Schedule::write`](crate::Schedule::write) gives is read back as it was.
 pub fn one_reading()
     ensures said { OneSaid }
-    ensures apart { SaysOrFaults }
+    ensures apart { NeverBoth }
     ensures line { OneBadLine }
 {}

@@ -3,10 +3,10 @@ use Rattle.std.proofs.Common.{ℕ, ◌≡◌, ◌≢◌, ◌<◌, ◌+◌, ◌*�
 use Rattle.std.proofs.lemmas.Nat.{div-mul-add, mod-mul-add}
 use Rattle.batch.specs.Extent.{Extent}
 use Rattle.module_memory.specs.declared.address.TheConstants.{WINDOW_START, WORD_BYTES}
-use Rattle.module_memory.specs.Lending.{BlockAt}
+use Rattle.module_memory.specs.Lending.{BlockAt, with_word}
 use Rattle.module_memory.specs.Address.{word_number, address_of}
 use Rattle.module_memory.proofs.Addresses.{by_four, four_divides}
-use Rattle.peek_poke.specs.Blocks.{word_in, then_do, with_word, WordsAreRead, WordsAreWritten, OthersAreOutside}
+use Rattle.peek_poke.specs.Blocks.{word_in, then_do, WordsAreRead, WordsAreWritten, OthersAreOutside}
 use Rattle.peek_poke.specs.declared.fault.StoreFault.{StoreFault}
 use Rattle.peek_poke.specs.declared.fault.StoreFault.TheVariants.{Outside}
 

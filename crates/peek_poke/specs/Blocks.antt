@@ -1,12 +1,12 @@
 -- A block of a module as a store of its own: the addresses are those of the module, and every address of another block is outside.
 -- This project's choice.
-use Rattle.std.specs.Prelude.{ℕ, ◌≡◌, ◌≢◌, ◌<◌, ◌/◌, ◌%◌, ◌&&◌, ◌==◌, Bool, nat_lt, nat_le, length, slice_index, slice_set, Result, Ok, Err, if◌then◌else◌}
+use Rattle.std.specs.Prelude.{ℕ, ◌≡◌, ◌≢◌, ◌<◌, ◌/◌, ◌%◌, ◌&&◌, ◌==◌, Bool, nat_lt, nat_le, length, slice_index, Result, Ok, Err, if◌then◌else◌}
 use Rattle.batch.specs.Extent.{Extent}
 use Rattle.module_memory.specs.declared.address.TheConstants.{WINDOW_START, WORD_BYTES}
 use Rattle.batch.specs.Places.{HasPlace}
 use Rattle.batch.specs.declared.transfer.Place.{Place}
 use Rattle.module_memory.specs.Store.{Store, block_of}
-use Rattle.module_memory.specs.Lending.{BlockAt}
+use Rattle.module_memory.specs.Lending.{BlockAt, with_word}
 use Rattle.module_memory.specs.Address.{address_of, word_number}
 use Rattle.peek_poke.specs.declared.fault.StoreFault.{StoreFault}
 use Rattle.peek_poke.specs.declared.fault.StoreFault.TheVariants.{Misaligned, Outside}
@@ -31,10 +31,6 @@ HasBlock s p = HasPlace s.shape p × (length (block_of s p) ≡ s.shape.words)
 abbrev pub then_do : {A B : Type 0} → Result A StoreFault → (A → B) → Result B StoreFault
 then_do (Ok x) f = Ok (f x)
 then_do (Err e) f = Err e
-
--- the block with this word as word j
-abbrev pub with_word : BlockAt → ℕ → ℕ → BlockAt
-with_word b j w = record { place = b.place; words = slice_set b.words j w }
 
 -- what reads of a block give
 abbrev pub block_read : BlockAt → ℕ → Result ℕ StoreFault

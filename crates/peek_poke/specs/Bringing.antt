@@ -16,8 +16,8 @@ data_of (Byte byte) = byte ∷ []
 data_of Ack = []
 
 -- the bits of a packet are read as that packet, and nothing of a next one has come
-abbrev pub Reads : List Bool → Option Packet → Reading → Type 0
-Reads bits result new = (packet : Packet) → IsPacket packet → bits ≡ packet_bits packet
+abbrev pub ReadsPacket : List Bool → Option Packet → Reading → Type 0
+ReadsPacket bits result new = (packet : Packet) → IsPacket packet → bits ≡ packet_bits packet
     → (result ≡ Some packet) × (new ≡ begun [])
 
 -- the same on a line, which has then brought the byte of a data packet

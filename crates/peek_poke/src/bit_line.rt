@@ -2,7 +2,7 @@
 
 ghost use Rattle.std.specs.Prelude.{◌≡◌, []};
 ghost use Rattle.link_bytes.specs.Reading.{begun};
-ghost use Rattle.peek_poke.specs.Bringing.{Brings, Reads};
+ghost use Rattle.peek_poke.specs.Bringing.{Brings, ReadsPacket};
 
 use link_bytes::{BitReader, Packet, laws};
 use passed_bytes::PassedBytes;
@@ -51,7 +51,7 @@ impl BitLine {
 /// Feeds the bits of a packet to a reader, and gives the packet that it read.
 fn read(reader: &mut BitReader, bits: &[bool]) -> Option<Packet>
     requires { reader.old ≡ begun [] }
-    ensures { Reads bits.now result reader.new }
+    ensures { ReadsPacket bits.now result reader.new }
 {
     laws::one_packet();
     for bit in bits {

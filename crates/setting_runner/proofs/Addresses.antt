@@ -1,9 +1,9 @@
 -- Words by their addresses in a block.
 use Rattle.std.proofs.Common.{ℕ, ◌≡◌, ◌<◌, length, get_or, sym, ap, ◌∙◌, Result, Ok}
 use Rattle.batch.specs.Extent.{Extent}
-use Rattle.module_memory.specs.Lending.{BlockAt}
+use Rattle.module_memory.specs.Lending.{BlockAt, with_word}
 use Rattle.module_memory.specs.Address.{address_of}
-use Rattle.peek_poke.specs.Blocks.{block_read, block_write, with_word, WordsAreRead, WordsAreWritten}
+use Rattle.peek_poke.specs.Blocks.{block_read, block_write, WordsAreRead, WordsAreWritten}
 use Rattle.peek_poke.specs.declared.fault.StoreFault.{StoreFault}
 
 abbrev lands : BlockAt → Result BlockAt StoreFault
