@@ -1,10 +1,10 @@
 -- A table of counts, by the places of links.
-use Rattle.std.proofs.Common.{◌≡◌, ◌≢◌, ℕ, ◌+◌, ◌-◌, ◌<◌, ◌≤◌, Some, None, slice_get, replicate, take, List, [], ◌∷◌, ◌++◌, length, get_or, All, refl, sym, ap, subst, ◌∙◌, arith, inl, inr}
+use Rattle.std.proofs.Common.{◌≡◌, ◌≢◌, ℕ, ◌-◌, ◌<◌, ◌≤◌, Some, slice_get, replicate, List, [], ◌∷◌, length, get_or, All, refl, sym, ap, subst, ◌∙◌, arith, inl, inr}
 use Rattle.std.specs.Prelude.{nat_lt}
 use Rattle.std.specs.List.{IsFirstBest, AllByRecursion}
 use Rattle.std.proofs.lemmas.Bool.{cases_lt, ltb-true, ltb-false}
-use Rattle.std.proofs.lemmas.List.{get_or-replicate, length-replicate, take_more}
-use Rattle.std.proofs.lemmas.Option.{slice_get_cases, slice_get_within, get_or_from_slice_get}
+use Rattle.std.proofs.lemmas.List.{get_or-replicate, length-replicate}
+use Rattle.std.proofs.lemmas.Option.{slice_get_within, get_or_from_slice_get}
 use Rattle.std.proofs.lemmas.List.Elements.{All-from_get_or, All-weaker, recursion_from_All, All-head}
 use Rattle.std.proofs.lemmas.List.Sums.{sum_by-cons}
 use Rattle.batch.specs.declared.limits.TheConstants.{MAX_MODULES}
@@ -99,20 +99,8 @@ none_used counts (x ∷ xs) m g best zero =
 pub no_counts : AreCounts (replicate LINKS 0) []
 no_counts = record { places = length-replicate {A = ℕ} LINKS 0; at = λ link lt. get_or-replicate LINKS (link_index link) 0 0 (index_below link lt) }
 
-pub next_counts : (counts : List ℕ) (batch : List Transfer) (t : ℕ) (x : Transfer) → slice_get batch t ≡ Some x → AreCounts counts (take t batch ++ x ∷ []) → AreCounts counts (take (t + 1) batch)
-next_counts counts batch t x here table =
-    let inside : t < length batch = slice_get_within batch t x here in
-    subst (λ (xs : List Transfer). AreCounts counts xs) (ap (λ (y : Transfer). take t batch ++ y ∷ []) (sym (get_or_from_slice_get batch t x x here)) ∙ sym (take_more batch t x inside)) table
-
 pub modules_of : (batch : List Transfer) (t : ℕ) (x : Transfer) → slice_get batch t ≡ Some x → IsBatch batch → HasModules widest x
 modules_of batch t x here b = subst (HasModules widest) (get_or_from_slice_get batch t x x here) (b.within t x (slice_get_within batch t x here)).0
 
 pub room_left : (counts : List ℕ) (xs : List Transfer) (limit : ℕ) → AreCounts counts xs → length xs < limit → All (λ count. count < limit) counts
 room_left counts xs limit table lt = All-weaker (λ count. count ≤ length xs) (λ count. count < limit) (λ count le. omega arith) counts (counts_few counts xs table)
-
-pub none_past : (batch : List Transfer) (t : ℕ) → slice_get batch t ≡ None → length batch ≤ t
-none_past batch t none =
-    elim (cases_lt t (length batch)) [
-      | inl less ↦ let x = (slice_get_cases batch t).1 in elim x [ inl p ↦ let some : slice_get batch t ≡ Some p.0 = p.2 in absurd cc | inr p ↦ p.0 ]
-      | inr more ↦ more
-    ]
