@@ -1,0 +1,38 @@
+-- A history that grows.
+use Rattle.std.proofs.Common.{◌≡◌, ℕ, ◌+◌, ◌<◌, List, [], ◌∷◌, ◌++◌, length, refl, sym, ap, ◌∙◌, subst, arith, length-append, Result, Ok, is_ok, if◌then◌else◌}
+use Rattle.batch_book.specs.declared.limits.TheConstants.{MAX_ENTRIES}
+use Rattle.batch_book.specs.declared.entry.Entry.{Entry}
+use Rattle.batch_book.specs.declared.reply.Reply.{Reply}
+use Rattle.batch_book.specs.declared.call.Call.{Call}
+use Rattle.batch_book.specs.Machine.{Machine, opened, IsStep}
+use Rattle.batch_book.specs.History.{Account, account, IsReplay, IsKept, entry}
+use Rattle.batch_book.proofs.Steps.{small_step}
+
+replay_push : (m : Machine) (es : List Entry) (k : Machine) (session : ℕ) (c : Call) (r : Reply) (n : Machine)
+    → IsReplay m es k → IsStep k session c r n → IsReplay m (es ++ entry session c r ∷ []) n
+replay_push m [] k session c r n led step = (n, subst (λ (x : Machine). IsStep x session c r n) led step, refl)
+replay_push m (e ∷ es) k session c r n led step = (led.0, led.1, replay_push led.0 es k session c r n led.2 step)
+
+-- one step of the machine and one more entry, where there was room for it
+pub grown : (a : Account) (session : ℕ) (c : Call) (r : Reply) (es : List Entry) (n : Machine)
+    → IsKept a → length a.history < MAX_ENTRIES → es ≡ a.history ++ entry session c r ∷ [] → IsStep a.machine session c r n → IsKept (account a.opening es n)
+grown a session c r es n kept room is step =
+    let small = small_step a.machine session c r n step in
+    let given = small.given in let runs = small.runs in
+    let given_before = kept.given in let runs_before = kept.runs in
+    let longer : length es ≡ length a.history + 1 = ap length is ∙ length-append a.history (entry session c r ∷ []) in record {
+      replay = subst (λ (x : List Entry). IsReplay (opened a.opening) x n) (sym is) (replay_push (opened a.opening) a.history a.machine session c r n kept.replay step);
+      few = omega arith;
+      given = omega arith;
+      runs = omega arith;
+    }
+
+-- what a push leaves that had room
+pushed : {A X : Type 0} (res : Result (Unit {0}) X) (u : Unit {0}) (ns vs es : List A) (v : A) → res ≡ Ok u → ns ≡ (if is_ok res then vs ++ v ∷ [] else vs) → vs ≡ es → ns ≡ es ++ v ∷ []
+pushed res u ns vs es v ok is same = is ∙ (ap (λ r. if is_ok r then vs ++ v ∷ [] else vs) ok ∙ ap (λ l. l ++ v ∷ []) same)
+
+-- the same where copies of the call and of its reply were pushed
+pub entered : {X : Type 0} (res : Result (Unit {0}) X) (u : Unit {0}) (ns vs es : List Entry) (session : ℕ) (kept c : Call) (recorded r : Reply)
+    → kept ≡ c → recorded ≡ r → res ≡ Ok u → ns ≡ (if is_ok res then vs ++ entry session kept recorded ∷ [] else vs) → vs ≡ es → ns ≡ es ++ entry session c r ∷ []
+entered res u ns vs es session kept c recorded r call_is reply_is ok is same =
+    pushed res u ns vs es (entry session kept recorded) ok is same ∙ (λ i. es ++ entry session (call_is i) (reply_is i) ∷ [])

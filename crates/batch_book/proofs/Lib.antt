@@ -1,0 +1,9 @@
+pub mod Entries
+pub mod Runs
+pub mod Steps
+pub mod Histories
+pub mod OneReplay
+pub mod OwnPlans
+pub mod Numbers
+pub mod Answering
+pub mod Seats

@@ -1,0 +1,5 @@
+use Rattle.std.proofs.Common.{rules}
+use Rattle.batch_book.proofs.book.Book.rack.Goals as goal
+
+pub returns : goal.returns
+returns c = search rules

@@ -1,0 +1,27 @@
+use Rattle.std.proofs.Common.{rules, ◌≡◌, Some, sym, ap, ◌∙◌}
+use Rattle.std.specs.Option.{unwrap_or, option_copied}
+use Rattle.batch_book.specs.Desk.{no_store}
+use Rattle.batch_book.specs.Machine.{batch_of}
+use Rattle.setting_runner.specs.Runs.{HasCause, LeavesSwitch, TellsOutcome}
+use Rattle.batch_book.proofs.Runs.{AreRefusals, worded, ended, ran_step, as_told}
+use Rattle.batch_book.proofs.desk.Desk.run.Goals as goal
+
+pub returns-clause-step : goal.returns-clause-step
+returns-clause-step g c =
+    let own : batch_of c.args.self.now c.args.session c.args.id ≡ Some c.in-Some.found.now = rw (← c.self.view_is) (sym c.own.ensures ∙ ap option_copied c.in-Some.is) in
+    let same : c.args.self.now.store ≡ c.in-Some-take.rack = rw (← c.self.view_is) (ap (λ r. unwrap_or r no_store) (sym c.take.ensures.value ∙ c.in-Some-take.is)) in
+    let refusals : AreRefusals c.args.self.now.store.shape c.in-Planned.planned.batch c.run-rack.result.1 = rw same (record { overlap = c.run-rack.ensures.overlap; shape = c.run-rack.ensures.shape; free = c.run-rack.ensures.free }) in
+    ran_step c.args.self.now c.args.session c.args.id c.in-Some.found.now c.in-Planned.planned c.end.result c.end.new.self own c.in-Planned.is
+    (ended c.args.self.now c.run-rack.result.0 c.args.id c.in-Planned.planned c.run-rack.result.1 c.end.result c.end.new.self refusals (rw same c.run-rack.ensures.memories) (rw (← c.self.view_is) c.end.ensures))
+
+pub returns-in-Waiting-clause-step : goal.returns-in-Waiting-clause-step
+returns-in-Waiting-clause-step g c = search rules
+
+pub returns-clause-cause : goal.returns-clause-cause
+returns-clause-cause g c = as_told (HasCause _) (worded c.args.self.now c.run-rack.result.0) c.args.id c.run-rack.result.1 c.end.result c.end.new.self (λ why other same. same) (rw (← c.self.view_is) c.end.ensures) (search rules)
+
+pub returns-clause-switch : goal.returns-clause-switch
+returns-clause-switch g c = λ honest plan is. as_told (λ o. LeavesSwitch plan o (g.P.ConfigPort.switch c.run-rack.new.plant.port)) (worded c.args.self.now c.run-rack.result.0) c.args.id c.run-rack.result.1 c.end.result c.end.new.self (λ why other same. same) (rw (← c.self.view_is) c.end.ensures) (search rules)
+
+pub returns-clause-told : goal.returns-clause-told
+returns-clause-told g c = as_told (λ o. TellsOutcome g.N.Notice.hears c.args.notice.now o c.run-rack.new.notice) (worded c.args.self.now c.run-rack.result.0) c.args.id c.run-rack.result.1 c.end.result c.end.new.self (λ why other same. same) (rw (← c.self.view_is) c.end.ensures) c.run-rack.ensures.told

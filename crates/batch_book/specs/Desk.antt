@@ -1,0 +1,48 @@
+-- What a desk keeps, and what it does for a call beside the machine's step.
+use Rattle.std.specs.Prelude.{◌≡◌, ℕ, ◌+◌, ◌<◌, ◌≤◌, nat_eq, List, [], length, Option, Some, None, IsSome, Result, Ok, IsErr}
+use Rattle.std.specs.Map.{lookup}
+use Rattle.batch.specs.Extent.{extent}
+use Rattle.batch.specs.declared.transfer.Transfer.{Transfer}
+use Rattle.module_memory.specs.Store.{Store}
+use Rattle.setting_runner.specs.declared.outcome.Outcome.{Outcome}
+use Rattle.setting_runner.specs.declared.outcome.Outcome.TheVariants as outcome
+use Rattle.setting_runner.specs.declared.outcome.RunRefusal.TheVariants as run_refusal
+use Rattle.batch_book.specs.declared.limits.TheConstants.{MAX_BATCHES}
+use Rattle.batch_book.specs.declared.call.Call.{Call}
+use Rattle.batch_book.specs.declared.call.Call.TheVariants.{Fetch}
+use Rattle.batch_book.specs.declared.reply.Reply.{Reply}
+use Rattle.batch_book.specs.declared.reply.Reply.TheVariants.{Ran, Stopped, RunRefused}
+use Rattle.batch_book.specs.declared.held.Stage.TheVariants as stage
+use Rattle.batch_book.specs.declared.held.Held.{Held}
+use Rattle.batch_book.specs.Machine.{Machine, batch_of, run_to}
+
+-- what stands for the words while a run has them
+abbrev pub no_store : Store
+no_store = record { shape = extent 0 0 0; blocks = [] }
+
+-- numbers above those that were given are free
+abbrev pub IsFreeAbove : List (ℕ × Held) → ℕ → Type 0
+IsFreeAbove batches given = (id : ℕ) → given < id → lookup (nat_eq id) batches ≡ None
+
+-- the rack is there, no number is held that wasn't given, and there are no more batches than may be
+pub record IsKept (rack : Option Store) (batches : List (ℕ × Held)) (given : ℕ) : Type 0 where
+  pub there : IsSome rack
+  pub free : IsFreeAbove batches given
+  pub few : length batches ≤ MAX_BATCHES
+
+-- the batch of a reply to this call
+abbrev pub batch_in : Option Held → Option (List Transfer)
+batch_in None = None
+batch_in (Some h) = Some h.batch
+
+abbrev pub spare_of : Machine → ℕ → Call → Option (List Transfer)
+spare_of m session (Fetch id) = batch_in (batch_of m session id)
+spare_of m session call = None
+
+-- Behind a run that left the machine's words: the reply that tells of it, and the next machine. Where there was no memory for the run, there
+-- is no reply.
+abbrev pub Ends : {E : Type 0} → Machine → ℕ → Outcome → Result Reply E → Machine → Type 0
+Ends m id (outcome.Completed settings words) r next = (r ≡ Ok (Ran (m.runs + 1) settings words)) × (next ≡ run_to m id stage.Ran m.store)
+Ends m id (outcome.Stopped setting cause moved) r next = (r ≡ Ok (Stopped (m.runs + 1) setting cause moved)) × (next ≡ run_to m id stage.Stopped m.store)
+Ends m id (outcome.Refused run_refusal.NoMemory) r next = IsErr r × (next ≡ m)
+Ends m id (outcome.Refused why) r next = (r ≡ Ok (RunRefused why)) × (next ≡ m)

@@ -1,0 +1,10 @@
+pub mod Replies
+pub mod Machine
+pub mod Running
+pub mod Desk
+pub mod History
+pub mod Answering
+pub mod Values
+pub mod Seats
+pub mod Exchanges
+pub mod Closing

@@ -1,0 +1,35 @@
+-- Replies: which of them the history has, and what of a run they tell.
+use Rattle.std.specs.Prelude.{◌≡◌, Option, Some, Bool, true, false, List, Result, Ok, Err}
+use Rattle.batch.specs.declared.transfer.Transfer.{Transfer}
+use Rattle.setting_runner.specs.declared.outcome.Outcome.{Outcome}
+use Rattle.setting_runner.specs.declared.outcome.Outcome.TheVariants as outcome
+use Rattle.setting_runner.specs.declared.outcome.RunRefusal.TheVariants as run_refusal
+use Rattle.batch_book.specs.declared.reply.Reply.{Reply}
+use Rattle.batch_book.specs.declared.reply.Reply.TheVariants.{Fetched, Ran, Stopped, Refused}
+use Rattle.batch_book.specs.declared.refusal.Refusal.TheVariants.{HistoryFull, NoMemory}
+
+-- the history has all replies but these two
+abbrev pub is_logged : Reply → Bool
+is_logged (Refused HistoryFull) = false
+is_logged (Refused NoMemory) = false
+is_logged reply = true
+
+-- how the run ended of which the reply tells; where it tells of none, as if want of memory had refused it
+abbrev pub outcome_of : Reply → Outcome
+outcome_of (Ran run settings words) = outcome.Completed settings words
+outcome_of (Stopped run setting cause moved) = outcome.Stopped setting cause moved
+outcome_of reply = outcome.Refused run_refusal.NoMemory
+
+-- the same where there may have been no memory for a reply
+abbrev pub outcome_in : {E : Type 0} → Result Reply E → Outcome
+outcome_in (Ok reply) = outcome_of reply
+outcome_in (Err e) = outcome.Refused run_refusal.NoMemory
+
+-- no run went, whether there was a reply or not
+abbrev pub TellsNoRun : Outcome → Type 0
+TellsNoRun o = o ≡ outcome.Refused run_refusal.NoMemory
+
+-- a reply with a batch has a copy of it at hand
+abbrev pub SpareFits : Option (List Transfer) → Reply → Type 0
+SpareFits spare (Fetched batch) = spare ≡ Some batch
+SpareFits spare reply = Unit {0}

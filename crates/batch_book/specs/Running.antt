@@ -1,0 +1,34 @@
+-- What a call does to the switch and to the port, if it runs a plan.
+use Rattle.std.specs.Prelude.{◌≡◌, ℕ, [], Option, Some, None}
+use Rattle.crossbar.specs.Switch.{Switch}
+use Rattle.schedule_certificate.specs.Plans.{Plan}
+use Rattle.setting_runner.specs.Runs.{LeavesSwitch}
+use Rattle.setting_runner.specs.declared.outcome.Outcome.{Outcome}
+use Rattle.batch_book.specs.declared.call.Call.{Call}
+use Rattle.batch_book.specs.declared.call.Call.TheVariants.{Run}
+use Rattle.batch_book.specs.declared.held.Stage.{Stage}
+use Rattle.batch_book.specs.declared.held.Stage.TheVariants as stage
+use Rattle.batch_book.specs.declared.held.Held.{Held}
+use Rattle.batch_book.specs.Machine.{Machine, batch_of}
+
+-- the plan by which a batch can be run
+abbrev pub plan_at : Stage → Option Plan
+plan_at (stage.Planned plan) = Some plan
+plan_at s = None
+
+abbrev pub plan_in : Option Held → Option Plan
+plan_in None = None
+plan_in (Some h) = plan_at h.stage
+
+-- the plan that a call runs
+abbrev pub plan_of : Machine → ℕ → Call → Option Plan
+plan_of m session (Run id) = plan_in (batch_of m session id)
+plan_of m session call = None
+
+-- where a plan was run, the switch is as its run leaves it
+abbrev pub SetsSwitch : Option Plan → Outcome → Switch → Type 0
+SetsSwitch ran outcome switch = (plan : Plan) → ran ≡ Some plan → LeavesSwitch plan outcome switch
+
+-- a plan without settings leaves what it was run with
+abbrev pub SparesEmpty : {X : Type 0} → Option Plan → X → X → Type 0
+SparesEmpty ran old new = (plan : Plan) → ran ≡ Some plan → plan.settings ≡ [] → new ≡ old

@@ -1,0 +1,206 @@
+//! The book, and its history.
+
+ghost use Rattle.std.specs.Prelude.{◌+◌, ◌≡◌, ◌↔◌, ◌≤◌, ◌<◌, ◌++◌, ◌∷◌, [], ℕ, true, false, IsTrue, IfOk, IfErr, OnErr, length};
+ghost use Rattle.setting_runner.specs.Runs.{HasCause, TellsOutcome, IsRefused};
+ghost use Rattle.batch_book.specs.Desk.{spare_of};
+ghost use Rattle.batch_book.specs.Machine.{opened};
+ghost use Rattle.batch_book.specs.Running.{plan_of, SetsSwitch, SparesEmpty};
+ghost use Rattle.batch_book.specs.Replies.{is_logged, outcome_of, outcome_in};
+ghost use Rattle.batch_book.specs.History.{new_account, IsReplay, IsLegal, IsFull, IsGrown, IsSound};
+
+use crate::call::Call;
+use crate::desk::Desk;
+use crate::entry::Entry;
+use crate::limits::MAX_ENTRIES;
+use crate::refusal::Refusal;
+use crate::reply::Reply;
+use batch::Batch;
+use crossbar::ConfigPort;
+use module_memory::Rack;
+use peek_poke::WireMaker;
+use schedule_certificate::{Gate, MAX_WORKERS};
+use setting_runner::{Notice, Plant};
+use std::alloc::{AllocError, Global};
+use std::marker::Model;
+use std::thread::Threads;
+
+/// The batches that sessions have submitted, the rack that these are run on, and the history of what was
+/// asked and answered. Contracts see the words that it was opened with, the history, and the machine that
+/// this has led to, step by step.
+#[derive(Drop)]
+pub struct Book {
+    desk: Desk,
+    opening: Rack,
+    history: Vec<Entry>,
+}
+
+impl Model for Book {
+    ghost use Rattle.batch_book.specs.History.{Account, account, IsKept};
+
+    ghost Value = { Account };
+
+    ghost view = { λ b. account b.opening b.history.items b.desk };
+
+    ghost invariant = { λ b. IsKept (account b.opening b.history.items b.desk) };
+}
+
+impl Book {
+    /// A book of this rack, with no batch and no entry. It takes memory, and time, for a copy of the rack and
+    /// for as many batches as it may hold; where there is no memory the rack comes back as it was.
+    pub fn new(alloc: Global, rack: Rack) -> Result<Book, (Rack, AllocError)>
+        ensures ok { IfOk result (λ book. book ≡ new_account rack) }
+        ensures unchanged { IfErr result (λ refused. refused.0 ≡ rack) }
+    {
+        let opening = match rack.copy() {
+            Ok(opening) => opening,
+            Err(error) => return Err((rack, error)),
+        };
+        let desk = Desk::new(alloc, rack)?;
+        Ok(Book {
+            desk,
+            opening,
+            history: Vec::new(alloc),
+        })
+    }
+
+    /// What was asked and answered, in order. Each reply is one that the machine may give where the entries
+    /// before it lead, and the batches and memories are where all of them lead.
+    pub fn history(&self) -> &[Entry]
+        ensures history { result.now ≡ self.now.history }
+        ensures replay { IsReplay (opened self.now.opening) self.now.history self.now.machine }
+        ensures legal { IsLegal self.now.opening self.now.history }
+    {
+        self.history.as_slice()
+    }
+
+    /// The rack, with the words that the history leaves.
+    pub fn rack(&self) -> &Rack
+        ensures { result.now ≡ self.now.machine.store }
+    {
+        self.desk.rack()
+    }
+
+    /// A copy of the rack that the book was made with.
+    pub fn opening(&self) -> &Rack
+        ensures { result.now ≡ self.now.opening }
+    {
+        &self.opening
+    }
+
+    /// The number that the next run gets.
+    pub(crate) fn next_run(&self) -> usize
+        ensures number { result ≡ self.now.machine.runs + 1 }
+        ensures limit { result ≤ MAX_ENTRIES + 1 }
+        ensures sound { IsSound self.now.machine }
+    {
+        let _shape = self.desk.rack().shape();
+        let _history = &self.history;
+        self.desk.runs() + 1
+    }
+
+    /// A copy of the batch that the reply to this call has, if it has one.
+    pub(crate) fn spare(&self, session: usize, call: &Call) -> Result<Option<Batch>, AllocError>
+        ensures { IfOk result (λ spare. spare ≡ spare_of self.now.machine session call.now) }
+    {
+        self.desk.spare(session, call)
+    }
+
+    /// One call of a session, and its reply. The history has both then, but where it is full, and where there
+    /// was no memory: then nothing has changed. A batch or plan of a call that is refused is dropped.
+    ///
+    /// In a full history no memory is asked for. Else all of it is taken before anything changes: for the
+    /// entry, for copies of what the call and the reply hold, and for the run, if there is one.
+    ///
+    /// A run takes its time, `Submit`, `Fetch` and `Settle` take time by the batch, and `Discard` by the batches
+    /// that are held. All other calls take constant time, however long the history is, but for those few at
+    /// which its memory grows.
+    pub fn apply<R: Threads + Sync, P: ConfigPort, W: WireMaker + Sync, G: Gate + Sync, N: Notice>(
+        &mut self,
+        rt: &R,
+        session: usize,
+        call: Call,
+        plant: &mut Plant<P, W, G>,
+        notice: &mut N,
+    ) -> Reply
+        requires some { 1 ≤ plant.old.workers }
+        requires few { plant.old.workers ≤ MAX_WORKERS }
+
+        // One step of the machine, and one entry more.
+        ensures grown { is_logged result ≡ true → IsGrown self.old session call result self.new }
+        ensures opening { self.new.opening ≡ self.old.opening }
+        ensures full { (result ≡ Reply.Refused Refusal.HistoryFull) ↔ IsFull self.old }
+        ensures unchanged { is_logged result ≡ false → self.new ≡ self.old }
+
+        // What a run has done to the plant. Nothing else does anything to it.
+        ensures cause { HasCause (record {
+          sure = W.is_sure plant.old.wires;
+          words = self.old.machine.store.shape.words;
+          before = P.failures plant.old.port;
+          after = P.failures plant.new.port;
+          honest = P.honest plant.old.port;
+        }) (outcome_of result) }
+        ensures switch { IsTrue (P.honest plant.old.port) →
+            SetsSwitch (plan_of self.old.machine session call) (outcome_of result) (P.switch plant.new.port) }
+        ensures told { TellsOutcome N.hears notice.old (outcome_of result) notice.new }
+        ensures refused { IsRefused (outcome_of result) → plant.new ≡ plant.old }
+        ensures uncalled { SparesEmpty (plan_of self.old.machine session call) plant.old plant.new }
+        ensures plant { plant.new ≡ record plant.old { port = plant.new.port } }
+        ensures counted { P.failures plant.old.port ≤ P.failures plant.new.port }
+        ensures honesty { P.honest plant.new.port ≡ P.honest plant.old.port }
+    {
+        if self.history.len() >= MAX_ENTRIES {
+            return Reply::Refused(Refusal::HistoryFull);
+        }
+        match self.enter(rt, session, call, plant, notice) {
+            Ok(reply) => reply,
+            Err(_) => Reply::Refused(Refusal::NoMemory),
+        }
+    }
+
+    /// One call of a session, where the history has room. For want of memory nothing changes.
+    fn enter<R: Threads + Sync, P: ConfigPort, W: WireMaker + Sync, G: Gate + Sync, N: Notice>(
+        &mut self,
+        rt: &R,
+        session: usize,
+        call: Call,
+        plant: &mut Plant<P, W, G>,
+        notice: &mut N,
+    ) -> Result<Reply, AllocError>
+        requires room { length self.old.history < MAX_ENTRIES }
+        requires some { 1 ≤ plant.old.workers }
+        requires few { plant.old.workers ≤ MAX_WORKERS }
+
+        ensures grown { IfOk result (λ reply. IsGrown self.old session call reply self.new) }
+        ensures logged { IfOk result (λ reply. is_logged reply ≡ true) }
+        ensures unchanged { OnErr result (self.new ≡ self.old) }
+
+        ensures cause { HasCause (record {
+          sure = W.is_sure plant.old.wires;
+          words = self.old.machine.store.shape.words;
+          before = P.failures plant.old.port;
+          after = P.failures plant.new.port;
+          honest = P.honest plant.old.port;
+        }) (outcome_in result) }
+        ensures switch { IsTrue (P.honest plant.old.port) →
+            SetsSwitch (plan_of self.old.machine session call) (outcome_in result) (P.switch plant.new.port) }
+        ensures told { TellsOutcome N.hears notice.old (outcome_in result) notice.new }
+        ensures refused { IsRefused (outcome_in result) → plant.new ≡ plant.old }
+        ensures uncalled { SparesEmpty (plan_of self.old.machine session call) plant.old plant.new }
+        ensures plant { plant.new ≡ record plant.old { port = plant.new.port } }
+        ensures counted { P.failures plant.old.port ≤ P.failures plant.new.port }
+        ensures honesty { P.honest plant.new.port ≡ P.honest plant.old.port }
+    {
+        self.history.reserve(1)?;
+        let kept = call.copy()?;
+        let spare = self.desk.spare(session, &kept)?;
+        let reply = self.desk.answer(rt, session, call, plant, notice)?;
+        let recorded = reply.copy_with(spare);
+        let entry = Entry {
+            session,
+            call: kept,
+            reply: recorded,
+        };
+        self.history.push(entry).unwrap();
+        Ok(reply)
+    }
+}

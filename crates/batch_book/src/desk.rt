@@ -1,0 +1,359 @@
+//! The batches and the memories of a book, and one call at a time.
+
+ghost use Rattle.std.specs.Prelude.{◌≡◌, ◌≤◌, ◌<◌, ◌+◌, ℕ, nat_eq, IsTrue, IfOk, IfErr, OnErr, Option, Some, None, length};
+ghost use Rattle.std.specs.Option.{option_copied};
+ghost use Rattle.std.specs.Map.{lookup};
+ghost use Rattle.crossbar.specs.Switch.{Switch};
+ghost use Rattle.module_memory.specs.Store.{Store};
+ghost use Rattle.setting_runner.specs.Runs.{HasCause, TellsOutcome, IsRefused};
+ghost use Rattle.batch_book.specs.Desk.{Ends, spare_of};
+ghost use Rattle.batch_book.specs.Machine.{Machine, opened, owned, batch_of, set_stage, Gives, submit, fetch, settle, show, discard, peek, poke, run_to, IsRun, IsStep};
+ghost use Rattle.batch_book.specs.Running.{plan_in, plan_of, SetsSwitch, SparesEmpty};
+ghost use Rattle.batch_book.specs.Replies.{TellsNoRun, outcome_of, outcome_in};
+
+use crate::call::Call;
+use crate::held::{Held, Stage};
+use crate::limits::{MAX_BATCHES, MAX_ENTRIES};
+use crate::refusal::Refusal;
+use crate::reply::Reply;
+use batch::Batch;
+use crossbar::ConfigPort;
+use indexmap::IndexMap;
+use module_memory::Rack;
+use peek_poke::WireMaker;
+use schedule_certificate::{Gate, MAX_WORKERS, Planned};
+use setting_runner::{Notice, Outcome, Plant, RunRefusal, run};
+use std::alloc::{AllocError, Global};
+use std::marker::Model;
+use std::thread::Threads;
+
+/// The batches that are held, and the rack. Contracts see the machine.
+#[derive(Drop)]
+pub struct Desk {
+    // A run takes the rack and gives it back.
+    rack: Option<Rack>,
+    // By their numbers, in order of acceptance.
+    held: IndexMap<usize, Held>,
+    // How many numbers batches and runs were given.
+    given: usize,
+    runs: usize,
+}
+
+impl Model for Desk {
+    ghost use Rattle.std.specs.Option.{unwrap_or};
+    ghost use Rattle.batch_book.specs.Desk.{IsKept, no_store};
+    ghost use Rattle.batch_book.specs.Machine.{Machine};
+
+    ghost Value = { Machine };
+
+    ghost view = { λ d. record { batches = d.held.entries; given = d.given; runs = d.runs; store = unwrap_or d.rack no_store } };
+
+    ghost invariant = { λ d. IsKept d.rack d.held.entries d.given };
+}
+
+/// What is held under a number, where it is this session's.
+fn own<'a>(held: &'a IndexMap<usize, Held>, session: usize, id: usize) -> Option<&'a Held>
+    ensures { option_copied result ≡ owned session (lookup (nat_eq id) held.now.entries) }
+{
+    match held.get(&id) {
+        Some(found) if found.owner == session => Some(found),
+        _ => None,
+    }
+}
+
+/// Brings what is held under a number to another stage.
+fn bring(held: &mut IndexMap<usize, Held>, id: usize, stage: Stage)
+    ensures { held.new.entries ≡ set_stage id stage held.old.entries }
+{
+    if let Some(found) = held.get_mut(&id) {
+        found.stage = stage;
+    }
+}
+
+impl Desk {
+    /// A desk with this rack and no batch, and with room for as many as it may hold. For want of memory the
+    /// rack comes back as it was.
+    pub fn new(alloc: Global, rack: Rack) -> Result<Desk, (Rack, AllocError)>
+        ensures ok { IfOk result (λ desk. desk ≡ opened rack) }
+        ensures err { IfErr result (λ refused. refused.0 ≡ rack) }
+    {
+        match IndexMap::with_capacity(alloc, MAX_BATCHES) {
+            Ok(held) => Ok(Desk {
+                rack: Some(rack),
+                held,
+                given: 0,
+                runs: 0,
+            }),
+            Err(error) => Err((rack, error)),
+        }
+    }
+
+    /// The rack.
+    pub fn rack(&self) -> &Rack
+        ensures { result.now ≡ self.now.store }
+    {
+        match &self.rack {
+            Some(rack) => rack,
+            None => unreachable!(),
+        }
+    }
+
+    /// How many runs were given a number.
+    pub fn runs(&self) -> usize
+        ensures { result ≡ self.now.runs }
+    {
+        self.runs
+    }
+
+    /// A copy of the batch that the reply to this call has, if it has one.
+    pub fn spare(&self, session: usize, call: &Call) -> Result<Option<Batch>, AllocError>
+        ensures { IfOk result (λ spare. spare ≡ spare_of self.now session call.now) }
+    {
+        let Call::Fetch(id) = call else {
+            return Ok(None);
+        };
+        match own(&self.held, session, *id) {
+            Some(found) => Ok(Some(found.batch.copy()?)),
+            None => Ok(None),
+        }
+    }
+
+    fn submit(&mut self, session: usize, batch: Batch) -> Result<Reply, AllocError>
+        requires { self.old.given < MAX_ENTRIES }
+        ensures step { IfOk result (λ reply. Gives (submit self.old session batch) reply self.new) }
+        ensures quiet { TellsNoRun (outcome_in result) }
+        ensures unchanged { OnErr result (self.new ≡ self.old) }
+    {
+        if self.held.len() >= MAX_BATCHES {
+            return Ok(Reply::Refused(Refusal::BookFull));
+        }
+        // There is room from the start on, but the map doesn't say that removing a batch leaves it.
+        self.held.reserve(1)?;
+        let id = self.given + 1;
+        let held = Held {
+            owner: session,
+            batch,
+            stage: Stage::Waiting,
+        };
+        self.held.insert(id, held).unwrap();
+        self.given = id;
+        Ok(Reply::Accepted(id))
+    }
+
+    fn fetch(&self, session: usize, id: usize) -> Result<Reply, AllocError>
+        ensures step { IfOk result (λ reply.
+            Gives (fetch self.now (batch_of self.now session id)) reply self.now) }
+        ensures quiet { TellsNoRun (outcome_in result) }
+    {
+        match own(&self.held, session, id) {
+            Some(found) => Ok(Reply::Fetched(found.batch.copy()?)),
+            None => Ok(Reply::Refused(Refusal::Unknown)),
+        }
+    }
+
+    fn settle(&mut self, session: usize, id: usize, planned: Planned) -> Reply
+        ensures step { Gives (settle self.old id planned (batch_of self.old session id))
+            result self.new }
+        ensures quiet { TellsNoRun (outcome_of result) }
+    {
+        let Some(found) = own(&self.held, session, id) else {
+            return Reply::Refused(Refusal::Unknown);
+        };
+        if found.batch != *planned.batch() {
+            return Reply::Refused(Refusal::Stranger);
+        }
+        match found.stage {
+            Stage::Waiting => {
+                let settings = planned.schedule().settings();
+                bring(&mut self.held, id, Stage::Planned(planned));
+                Reply::Settled { settings }
+            }
+            _ => Reply::Refused(Refusal::Already),
+        }
+    }
+
+    fn show(&self, session: usize, id: usize) -> Reply
+        ensures step { Gives (show self.now (batch_of self.now session id)) result self.now }
+        ensures quiet { TellsNoRun (outcome_of result) }
+    {
+        match own(&self.held, session, id) {
+            Some(found) => Reply::Shown {
+                transfers: found.batch.len(),
+                state: found.stage.state(),
+            },
+            None => Reply::Refused(Refusal::Unknown),
+        }
+    }
+
+    fn discard(&mut self, session: usize, id: usize) -> Reply
+        ensures step { Gives (discard self.old id (batch_of self.old session id)) result self.new }
+        ensures quiet { TellsNoRun (outcome_of result) }
+    {
+        if own(&self.held, session, id).is_none() {
+            return Reply::Refused(Refusal::Unknown);
+        }
+        self.held.shift_remove(&id);
+        Reply::Discarded
+    }
+
+    fn peek(&self, module: usize, address: u32) -> Reply
+        ensures step { Gives (peek self.now «module» address) result self.now }
+        ensures quiet { TellsNoRun (outcome_of result) }
+    {
+        match self.rack().read(module, address) {
+            Ok(word) => Reply::Word(word),
+            Err(fault) => Reply::Refused(Refusal::Memory(fault)),
+        }
+    }
+
+    fn poke(&mut self, module: usize, address: u32, word: u32) -> Reply
+        ensures step { Gives (poke self.old «module» address word) result self.new }
+        ensures quiet { TellsNoRun (outcome_of result) }
+    {
+        let Some(rack) = &mut self.rack else {
+            unreachable!()
+        };
+        match rack.write(module, address, word) {
+            Ok(()) => Reply::Poked,
+            Err(fault) => Reply::Refused(Refusal::Memory(fault)),
+        }
+    }
+
+    fn run<R: Threads + Sync, P: ConfigPort, W: WireMaker + Sync, G: Gate + Sync, N: Notice>(
+        &mut self,
+        rt: &R,
+        session: usize,
+        id: usize,
+        plant: &mut Plant<P, W, G>,
+        notice: &mut N,
+    ) -> Result<Reply, AllocError>
+        requires number { self.old.runs < MAX_ENTRIES }
+        requires some { 1 ≤ plant.old.workers }
+        requires few { plant.old.workers ≤ MAX_WORKERS }
+
+        ensures step { IfOk result (λ reply.
+            IsRun self.old id (batch_of self.old session id) reply self.new) }
+        ensures unchanged { OnErr result (self.new ≡ self.old) }
+
+        ensures cause { HasCause (record {
+          sure = W.is_sure plant.old.wires;
+          words = self.old.store.shape.words;
+          before = P.failures plant.old.port;
+          after = P.failures plant.new.port;
+          honest = P.honest plant.old.port;
+        }) (outcome_in result) }
+        ensures switch { IsTrue (P.honest plant.old.port) →
+            SetsSwitch (plan_in (batch_of self.old session id)) (outcome_in result) (P.switch plant.new.port) }
+        ensures told { TellsOutcome N.hears notice.old (outcome_in result) notice.new }
+        ensures refused { IsRefused (outcome_in result) → plant.new ≡ plant.old }
+        ensures uncalled { SparesEmpty (plan_in (batch_of self.old session id))
+            plant.old plant.new }
+        ensures plant { plant.new ≡ record plant.old { port = plant.new.port } }
+        ensures counted { P.failures plant.old.port ≤ P.failures plant.new.port }
+        ensures honesty { P.honest plant.new.port ≡ P.honest plant.old.port }
+    {
+        let Some(found) = own(&self.held, session, id) else {
+            return Ok(Reply::Refused(Refusal::Unknown));
+        };
+        let planned = match &found.stage {
+            Stage::Waiting => return Ok(Reply::Refused(Refusal::Unplanned)),
+            Stage::Planned(planned) => planned,
+            Stage::Ran | Stage::Stopped => return Ok(Reply::Refused(Refusal::Already)),
+        };
+        let alloc = *self.held.allocator();
+        let Some(rack) = self.rack.take() else {
+            unreachable!()
+        };
+        let (rack, outcome) = run(rt, alloc, rack, plant, planned, notice);
+        self.rack = Some(rack);
+        self.end(id, &outcome)
+    }
+
+    /// Brings a batch to the stage behind its run, which left these words, and gives the run's number.
+    fn number(&mut self, id: usize, stage: Stage) -> usize
+        requires { self.old.runs < MAX_ENTRIES }
+        ensures number { result ≡ self.old.runs + 1 }
+        ensures next { self.new ≡ run_to self.old id stage self.old.store }
+    {
+        bring(&mut self.held, id, stage);
+        self.runs += 1;
+        self.runs
+    }
+
+    /// The reply that tells of a run, which left these words. A run that was refused leaves its batch planned.
+    fn end(&mut self, id: usize, outcome: &Outcome) -> Result<Reply, AllocError>
+        requires { self.old.runs < MAX_ENTRIES }
+        ensures { Ends self.old id outcome.now result self.new }
+    {
+        match outcome {
+            Outcome::Completed { settings, words } => {
+                let run = self.number(id, Stage::Ran);
+                Ok(Reply::Ran {
+                    run,
+                    settings: *settings,
+                    words: *words,
+                })
+            }
+            Outcome::Stopped {
+                setting,
+                cause,
+                moved,
+            } => {
+                let run = self.number(id, Stage::Stopped);
+                Ok(Reply::Stopped {
+                    run,
+                    setting: *setting,
+                    cause: *cause,
+                    moved: *moved,
+                })
+            }
+            Outcome::Refused(RunRefusal::NoMemory) => Err(AllocError),
+            Outcome::Refused(refusal) => Ok(Reply::RunRefused(*refusal)),
+        }
+    }
+
+    /// One call of a session. For want of memory nothing changes.
+    pub fn answer<R: Threads + Sync, P: ConfigPort, W: WireMaker + Sync, G: Gate + Sync, N: Notice>(
+        &mut self,
+        rt: &R,
+        session: usize,
+        call: Call,
+        plant: &mut Plant<P, W, G>,
+        notice: &mut N,
+    ) -> Result<Reply, AllocError>
+        requires id { self.old.given < MAX_ENTRIES }
+        requires number { self.old.runs < MAX_ENTRIES }
+        requires some { 1 ≤ plant.old.workers }
+        requires few { plant.old.workers ≤ MAX_WORKERS }
+
+        ensures step { IfOk result (λ reply. IsStep self.old session call reply self.new) }
+        ensures unchanged { OnErr result (self.new ≡ self.old) }
+
+        ensures cause { HasCause (record {
+          sure = W.is_sure plant.old.wires;
+          words = self.old.store.shape.words;
+          before = P.failures plant.old.port;
+          after = P.failures plant.new.port;
+          honest = P.honest plant.old.port;
+        }) (outcome_in result) }
+        ensures switch { IsTrue (P.honest plant.old.port) →
+            SetsSwitch (plan_of self.old session call) (outcome_in result) (P.switch plant.new.port) }
+        ensures told { TellsOutcome N.hears notice.old (outcome_in result) notice.new }
+        ensures refused { IsRefused (outcome_in result) → plant.new ≡ plant.old }
+        ensures uncalled { SparesEmpty (plan_of self.old session call) plant.old plant.new }
+        ensures plant { plant.new ≡ record plant.old { port = plant.new.port } }
+        ensures counted { P.failures plant.old.port ≤ P.failures plant.new.port }
+        ensures honesty { P.honest plant.new.port ≡ P.honest plant.old.port }
+    {
+        match call {
+            Call::Submit(batch) => self.submit(session, batch),
+            Call::Fetch(id) => self.fetch(session, id),
+            Call::Settle(id, planned) => Ok(self.settle(session, id, planned)),
+            Call::Run(id) => self.run(rt, session, id, plant, notice),
+            Call::Show(id) => Ok(self.show(session, id)),
+            Call::Discard(id) => Ok(self.discard(session, id)),
+            Call::Peek(module, address) => Ok(self.peek(module, address)),
+            Call::Poke(module, address, word) => Ok(self.poke(module, address, word)),
+        }
+    }
+}

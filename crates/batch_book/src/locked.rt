@@ -1,0 +1,175 @@
+//! What lies under the lock of an exchange.
+
+ghost use Rattle.std.specs.Prelude.{◌≡◌, ◌+◌, ◌++◌, ◌≤◌, ◌<◌, [], ◌∷◌, length, vec_len, vec_capacity, true, false, if◌then◌else◌, Some, IfOk, OnErr};
+ghost use Rattle.schedule_certificate.specs.declared.limits.TheConstants.{MAX_WORKERS};
+ghost use Rattle.batch_book.specs.Answering.{IsReplyTo};
+ghost use Rattle.batch_book.specs.History.{entry, IsGrown};
+ghost use Rattle.batch_book.specs.Replies.{is_logged, SpareFits};
+ghost use Rattle.batch_book.specs.Seats.{IsSameSeat, Reaches};
+ghost use Rattle.batch_book.specs.Values.{value_of, greatest};
+
+use crate::book::Book;
+use crate::call::Call;
+use crate::entry::Entry;
+use crate::limits::MAX_ENTRIES;
+use crate::raise::Raise;
+use crate::refusal::Refusal;
+use crate::reply::Reply;
+use crate::seat::Seat;
+use crate::ticket::Ticket;
+use batch::Batch;
+use crossbar::ConfigPort;
+use peek_poke::WireMaker;
+use progress_word::ProgressWord;
+use schedule_certificate::{Gate, MAX_WORKERS};
+use setting_runner::Plant;
+use std::alloc::AllocError;
+use std::sync::ledger;
+use std::sync::ledger::Ledger;
+use std::thread::Threads;
+
+/// The book and the plant, and the ledger's total, which is the number of entries.
+#[derive(Drop)]
+pub struct Locked<L: Ledger, P, W, G> {
+    pub book: Book,
+    pub plant: Plant<P, W, G>,
+    pub entries: ledger::Book<L>,
+    pub ghost counted: { length book.history ≡ entries.total },
+    pub ghost some: { 1 ≤ plant.workers },
+    pub ghost few: { plant.workers ≤ MAX_WORKERS },
+}
+
+impl<L: Ledger, P: ConfigPort, W: WireMaker + Sync, G: Gate + Sync> Locked<L, P, W, G> {
+    /// One call of a seat. The history and the seat's list get the entry, or neither does.
+    pub fn call<R: Threads + Sync>(
+        &mut self,
+        rt: &R,
+        word: &ProgressWord,
+        seat: &mut Seat<L>,
+        call: Call,
+    ) -> Reply
+        requires { seat.old.exchange ≡ Some word.now }
+        ensures reply { IsReplyTo call result }
+        ensures history { is_logged result ≡ true →
+            IsGrown self.old.book seat.old.session call result self.new.book }
+        ensures list { is_logged result ≡ true →
+            seat.new.log ≡ seat.old.log ++ entry seat.old.session call result ∷ [] }
+        ensures unlogged { is_logged result ≡ false →
+            (self.new.book ≡ self.old.book) × (seat.new ≡ seat.old) }
+        ensures seat { IsSameSeat seat.old seat.new }
+        ensures later { seat.old.seen ≤ seat.new.seen }
+        ensures seen { value_of result ≤ seat.new.seen }
+        ensures raised { seat.new.raised ≡ greatest seat.new.log }
+    {
+        let _session = seat.session;
+        if self.book.history().len() >= MAX_ENTRIES {
+            return Reply::Refused(Refusal::HistoryFull);
+        }
+        match self.enter(rt, word, seat, call) {
+            Ok(reply) => reply,
+            Err(_) => Reply::Refused(Refusal::NoMemory),
+        }
+    }
+
+    // All growths come before the book's call. For want of memory nothing changes.
+    fn enter<R: Threads + Sync>(
+        &mut self,
+        rt: &R,
+        word: &ProgressWord,
+        seat: &mut Seat<L>,
+        call: Call,
+    ) -> Result<Reply, AllocError>
+        requires { seat.old.exchange ≡ Some word.now }
+        ensures reply { IfOk result (λ reply. IsReplyTo call reply) }
+        ensures history { IfOk result (λ reply. is_logged reply ≡ true →
+            IsGrown self.old.book seat.old.session call reply self.new.book) }
+        ensures list { IfOk result (λ reply. is_logged reply ≡ true →
+            seat.new.log ≡ seat.old.log ++ entry seat.old.session call reply ∷ []) }
+        ensures unlogged { IfOk result (λ reply. is_logged reply ≡ false →
+            (self.new.book ≡ self.old.book) × (seat.new ≡ seat.old)) }
+        ensures seat { IsSameSeat seat.old seat.new }
+        ensures later { seat.old.seen ≤ seat.new.seen }
+        ensures seen { IfOk result (λ reply. value_of reply ≤ seat.new.seen) }
+        ensures raised { seat.new.raised ≡ greatest seat.new.log }
+        ensures err { OnErr result ((self.new.book ≡ self.old.book) × (seat.new ≡ seat.old)) }
+    {
+        seat.log.reserve(1)?;
+        let session = seat.session;
+        let kept = call.copy()?;
+        let spare = self.book.spare(session, &call)?;
+        let Some(ticket) = seat.ticket.take() else {
+            unreachable!()
+        };
+        let (reply, ticket) = self.ask(rt, word, session, ticket, call);
+        list(&mut seat.log, session, kept, &reply, spare);
+        seat.ticket = Some(ticket);
+        Ok(reply)
+    }
+
+    // One call of the book, which raises the word from the ticket's lookout, and counts in the ledger.
+    fn ask<R: Threads + Sync>(
+        &mut self,
+        rt: &R,
+        word: &ProgressWord,
+        session: usize,
+        ticket: Ticket<L>,
+        call: Call,
+    ) -> (Reply, Ticket<L>)
+        requires { ticket.lookout.word ≡ word.now }
+        ensures reply { IsReplyTo call result.0 }
+        ensures history { is_logged result.0 ≡ true →
+            IsGrown self.old.book session call result.0 self.new.book }
+        ensures unlogged { is_logged result.0 ≡ false →
+            (self.new.book ≡ self.old.book) × (result.1.lookout ≡ ticket.lookout) }
+        ensures amount { result.1.share.amount ≡
+            (if is_logged result.0 then ticket.share.amount + 1 else ticket.share.amount) }
+        ensures parts { result.1.parts ≡ ticket.parts }
+        ensures lookout { Reaches ticket.lookout (value_of result.0) result.1.lookout }
+    {
+        let Ticket {
+            mut share,
+            lookout,
+            parts,
+        } = ticket;
+        let mut raise = Raise {
+            word,
+            lookout,
+            run: self.book.next_run(),
+        };
+        let reply = self
+            .book
+            .apply(rt, session, call, &mut self.plant, &mut raise);
+        if reply.is_logged() {
+            self.entries.add(&mut share, 1);
+        }
+        let Raise {
+            word: _,
+            lookout,
+            run: _,
+        } = raise;
+        let ticket = Ticket {
+            share,
+            lookout,
+            parts,
+        };
+        (reply, ticket)
+    }
+}
+
+// Adds an entry to a list with room, where the history has it too.
+fn list(log: &mut Vec<Entry>, session: usize, call: Call, reply: &Reply, spare: Option<Batch>)
+    requires room { vec_len log.old < vec_capacity log.old }
+    requires spare { SpareFits spare reply.now }
+    ensures { log.new.items ≡ (if is_logged reply.now
+        then log.old.items ++ entry session call reply.now ∷ []
+        else log.old.items) }
+{
+    if reply.is_logged() {
+        let entry = Entry {
+            session,
+            call,
+            reply: reply.copy_with(spare),
+        };
+        log.push(entry).unwrap();
+    }
+}

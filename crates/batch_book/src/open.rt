@@ -1,0 +1,120 @@
+//! How an exchange is made.
+
+ghost use Rattle.std.specs.Prelude.{◌≡◌, ◌↔◌, ◌≤◌, ◌<◌, ◌⊎◌, [], vec_capacity, IfOk, IfErr, OnOk};
+ghost use Rattle.progress_word.specs.Outlooks.{outlook};
+ghost use Rattle.batch_book.specs.Exchanges.{AreNew};
+
+use crate::book::Book;
+use crate::locked::Locked;
+use crate::seat::Seat;
+use crate::shared::Shared;
+use crate::ticket::Ticket;
+use module_memory::Rack;
+use progress_word::{ALL_PARTS, ProgressWord};
+use schedule_certificate::MAX_WORKERS;
+use setting_runner::Plant;
+use std::alloc::Global;
+use std::sync::ledger::{Blank, Ledger};
+use thiserror::Error;
+
+/// Why an exchange can't be made. The causes are tested in this order.
+#[derive(Clone, Copy, Debug, PartialEq, Eq, Error)]
+pub enum SharedFault {
+    /// There are no sessions, or more than there are parts.
+    #[error("sessions must be 1 to 16")]
+    BadSessions,
+    /// There was no memory.
+    #[error("no memory")]
+    NoMemory,
+}
+
+impl<L: Ledger, P, W, G> Shared<L, P, W, G> {
+    /// An exchange over this rack and plant, and a seat for each session, from 1 to [`ALL_PARTS`] of them. The
+    /// sessions are numbered from 0, in the order of the seats. The blank is one of a ledger of [`ALL_PARTS`].
+    ///
+    /// It takes memory for a copy of the rack, for the book, the word and the seats. Where it can't be made,
+    /// blank, rack and plant come back as they were.
+    pub fn new(
+        alloc: Global,
+        blank: Blank,
+        rack: Rack,
+        plant: Plant<P, W, G>,
+        sessions: usize,
+    ) -> Result<(Shared<L, P, W, G>, Vec<Seat<L>>), (Blank, Rack, Plant<P, W, G>, SharedFault)>
+        requires name { blank.name ≡ L.name }
+        requires parts { (blank.parts ≡ L.parts) × (blank.parts ≡ ALL_PARTS) }
+        requires some { 1 ≤ plant.workers }
+        requires few { plant.workers ≤ MAX_WORKERS }
+        ensures sessions { OnOk result ((1 ≤ sessions) × (sessions ≤ ALL_PARTS)) }
+        ensures shape { IfOk result (λ made. made.0.shape ≡ rack.shape) }
+        ensures seats { IfOk result (λ made. AreNew made.0.word sessions made.1.items) }
+        ensures blank { IfErr result (λ back.
+            (back.0.name ≡ blank.name) × (back.0.parts ≡ blank.parts)) }
+        ensures rack { IfErr result (λ back. back.1 ≡ rack) }
+        ensures plant { IfErr result (λ back. back.2 ≡ plant) }
+        ensures bad { IfErr result (λ back.
+            (back.3 ≡ SharedFault.BadSessions) ↔ ((sessions ≡ 0) ⊎ (ALL_PARTS < sessions))) }
+    {
+        if sessions == 0 || sessions > ALL_PARTS {
+            return Err((blank, rack, plant, SharedFault::BadSessions));
+        }
+        let Ok(seats) = Vec::with_capacity(alloc, sessions) else {
+            return Err((blank, rack, plant, SharedFault::NoMemory));
+        };
+        let Ok((word, lookout)) = ProgressWord::new(alloc) else {
+            return Err((blank, rack, plant, SharedFault::NoMemory));
+        };
+        let shape = rack.shape();
+        let book = match Book::new(alloc, rack) {
+            Ok(book) => book,
+            Err((rack, _)) => return Err((blank, rack, plant, SharedFault::NoMemory)),
+        };
+        let (entries, share) = blank.open::<L>();
+        let all = Ticket {
+            share,
+            lookout,
+            parts: ALL_PARTS,
+        };
+        let seats = deal(alloc, &word, seats, all, sessions);
+        let locked = Locked {
+            book,
+            plant,
+            entries,
+        };
+        Ok((Shared::of(locked, word, shape), seats))
+    }
+}
+
+// Deals the parts to the seats, which takes no memory: each gets one, and the first keeps those left over.
+fn deal<L: Ledger>(
+    alloc: Global,
+    word: &ProgressWord,
+    mut seats: Vec<Seat<L>>,
+    mut first: Ticket<L>,
+    sessions: usize,
+) -> Vec<Seat<L>>
+    requires empty { seats.items ≡ [] }
+    requires room { sessions ≤ vec_capacity seats }
+    requires some { 0 < sessions }
+    requires few { sessions ≤ ALL_PARTS }
+    requires first { first.lookout ≡ outlook word.now 0 0 ALL_PARTS }
+    requires amount { first.share.amount ≡ 0 }
+    ensures { AreNew word.now sessions result.items }
+{
+    for session in 1..sessions {
+        let ticket = Some(first.split(word));
+        let seat = Seat {
+            session,
+            log: Vec::new(alloc),
+            ticket,
+        };
+        seats.push(seat).unwrap();
+    }
+    let seat = Seat {
+        session: 0,
+        log: Vec::new(alloc),
+        ticket: Some(first),
+    };
+    seats.insert(0, seat).unwrap();
+    seats
+}

@@ -1,0 +1,114 @@
+ghost use Rattle.std.specs.Prelude.{◌≡◌};
+ghost use Rattle.batch_book.specs.Replies.{SpareFits, is_logged};
+
+use crate::held::BatchState;
+use crate::refusal::Refusal;
+use batch::Batch;
+use setting_runner::{Moved, RunRefusal, StopCause};
+
+/// What the book answers. Batches and runs are numbered from 1, and no number is given twice.
+#[derive(Drop)]
+pub enum Reply {
+    /// The batch was accepted under this number.
+    Accepted(usize),
+    /// A copy of the batch.
+    Fetched(Batch),
+    /// The plan was taken.
+    Settled {
+        /// How many settings the plan has.
+        settings: usize,
+    },
+    /// The run completed.
+    Ran {
+        /// The number of the run.
+        run: usize,
+        /// How many settings were run.
+        settings: usize,
+        /// How many words were moved.
+        words: usize,
+    },
+    /// The run stopped.
+    Stopped {
+        /// The number of the run.
+        run: usize,
+        /// The setting in which it stopped, counted from 0.
+        setting: usize,
+        /// Why it stopped.
+        cause: StopCause,
+        /// How many words each transfer of that setting has moved.
+        moved: Moved,
+    },
+    /// The batch can't be run on this rack, for this cause, which isn't want of memory. It is still planned.
+    RunRefused(RunRefusal),
+    /// What the batch is.
+    Shown {
+        /// How many transfers it has.
+        transfers: usize,
+        /// How far it has come.
+        state: BatchState,
+    },
+    /// The batch is gone.
+    Discarded,
+    /// The word.
+    Word(u32),
+    /// The word was written.
+    Poked,
+    /// The call was refused.
+    Refused(Refusal),
+}
+
+impl Reply {
+    /// Whether a call with this reply has its entry in the history: each has, but where the history was full or
+    /// there was no memory.
+    pub fn is_logged(&self) -> bool
+        ensures { result ≡ is_logged self.now }
+    {
+        !matches!(
+            self,
+            Reply::Refused(Refusal::HistoryFull) | Reply::Refused(Refusal::NoMemory)
+        )
+    }
+
+    /// An equal reply. It takes no memory: of its batch, if it has one, a copy is handed in.
+    pub(crate) fn copy_with(&self, spare: Option<Batch>) -> Reply
+        requires { SpareFits spare self.now }
+        ensures { result ≡ self.now }
+    {
+        match self {
+            Reply::Accepted(id) => Reply::Accepted(*id),
+            Reply::Fetched(_) => Reply::Fetched(spare.unwrap()),
+            Reply::Settled { settings } => Reply::Settled {
+                settings: *settings,
+            },
+            Reply::Ran {
+                run,
+                settings,
+                words,
+            } => Reply::Ran {
+                run: *run,
+                settings: *settings,
+                words: *words,
+            },
+            Reply::Stopped {
+                run,
+                setting,
+                cause,
+                moved,
+            } => Reply::Stopped {
+                run: *run,
+                setting: *setting,
+                cause: *cause,
+                moved: *moved,
+            },
+            Reply::RunRefused(refusal) => Reply::RunRefused(*refusal),
+            Reply::Shown { transfers, state } => Reply::Shown {
+                transfers: *transfers,
+                state: *state,
+            },
+            Reply::Discarded => Reply::Discarded,
+            Reply::Word(word) => Reply::Word(*word),
+            Reply::Poked => Reply::Poked,
+            Reply::Refused(refusal) => Reply::Refused(*refusal),
+        }
+    }
+}

@@ -1,0 +1,86 @@
+//! A session's seat at an exchange.
+
+ghost use Rattle.std.specs.Prelude.{◌≡◌, ◌≤◌, length, Some, IsSome};
+ghost use Rattle.progress_word.specs.declared.limits.TheConstants.{ALL_PARTS};
+ghost use Rattle.batch_book.specs.Values.{greatest};
+ghost use Rattle.batch_book.specs.Seats.{closed};
+
+use crate::entry::Entry;
+use crate::ticket::Ticket;
+use progress_word::ALL_PARTS;
+use std::marker::Model;
+use std::sync::ledger::Ledger;
+
+/// The seat of a session at an exchange, and the list of what the session has asked and was answered. Once
+/// the exchange is closed, the seat keeps its list, and no exchange takes it.
+#[derive(Drop)]
+pub struct Seat<L: Ledger> {
+    pub(crate) session: usize,
+    pub(crate) log: Vec<Entry>,
+    // Until the exchange is closed.
+    pub(crate) ticket: Option<Ticket<L>>,
+}
+
+impl<L: Ledger> Model for Seat<L> {
+    ghost use Rattle.std.specs.Prelude.{◌≡◌, IfSome, length, option_map};
+    ghost use Rattle.std.specs.Option.{option_map_or};
+    ghost use Rattle.batch_book.specs.Values.{greatest};
+    ghost use Rattle.batch_book.specs.Seats.{Stand};
+
+    ghost Value = { Stand };
+
+    ghost view = { λ s. record {
+      exchange = option_map (λ t. t.lookout.word) s.ticket;
+      session = s.session;
+      log = s.log.items;
+      seen = option_map_or (λ t. t.lookout.seen) s.ticket 0;
+      raised = option_map_or (λ t. t.lookout.raised) s.ticket 0;
+      parts = option_map_or (λ t. t.parts) s.ticket 0;
+    } };
+
+    ghost invariant = { λ s. IfSome s.ticket (λ t.
+        (t.share.amount ≡ length s.log.items) × (t.lookout.raised ≡ greatest s.log.items)) };
+}
+
+impl<L: Ledger> Seat<L> {
+    /// The number of the session.
+    pub fn session(&self) -> usize
+        ensures { result ≡ self.now.session }
+    {
+        self.session
+    }
+
+    /// What this session asked and was answered, in order: the entries of its calls that are in the history.
+    pub fn log(&self) -> &[Entry]
+        ensures { result.now ≡ self.now.log }
+    {
+        self.log.as_slice()
+    }
+
+    /// How many parts of its exchange the seat has: none once that is closed.
+    pub(crate) fn parts(&self) -> usize
+        ensures parts { result ≡ self.now.parts }
+        ensures limit { result ≤ ALL_PARTS }
+    {
+        match &self.ticket {
+            Some(ticket) => ticket.parts,
+            None => 0,
+        }
+    }
+
+    /// Gives up what the seat has of its exchange, and keeps its list.
+    pub(crate) fn leave(&mut self) -> Ticket<L>
+        requires { IsSome self.old.exchange }
+        ensures seat { self.new ≡ closed self.old }
+        ensures word { Some result.lookout.word ≡ self.old.exchange }
+        ensures seen { result.lookout.seen ≡ self.old.seen }
+        ensures raised { result.lookout.raised ≡ greatest self.old.log }
+        ensures parts { result.parts ≡ self.old.parts }
+        ensures amount { result.share.amount ≡ length self.old.log }
+    {
+        match self.ticket.take() {
+            Some(ticket) => ticket,
+            None => unreachable!(),
+        }
+    }
+}

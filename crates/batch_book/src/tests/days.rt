@@ -1,0 +1,295 @@
+//! Whole days of an exchange: each session calls in a thread of its own, and then all seats are given back.
+
+ghost use Rattle.std.specs.Prelude.{◌≡◌, ◌<◌, ◌≤◌, IfSome, All, Some};
+ghost use Rattle.schedule_certificate.specs.declared.limits.TheConstants.{MAX_WORKERS};
+ghost use Rattle.progress_word.specs.declared.limits.TheConstants.{ALL_PARTS};
+ghost use Rattle.batch_book.specs.History.{IsLegal};
+ghost use Rattle.batch_book.specs.Seats.{Agrees};
+
+use super::office::{FIRST, batch, plan};
+use super::pairs::{marked, plant};
+use crate::{Call, Closed, Entry, Reply, Seat, Shared};
+use crossbar::{ConfigPort, MemoryPort};
+use module_memory::Rack;
+use peek_poke::{FuseWires, WireMaker};
+use schedule_certificate::{Gate, MAX_WORKERS, OpenGate};
+use setting_runner::Plant;
+use std::alloc::Global;
+use std::marker::Brand;
+use std::sync::Wait;
+use std::sync::ledger::{Blank, Ledger};
+use std::test::Fail;
+use std::thread;
+use std::thread::Threads;
+
+/// The wire of transfer 1 carries one word of two.
+const CUT_SECOND: FuseWires = FuseWires {
+    transfer: 1,
+    bytes: 9,
+};
+
+/// What each session does: it peeks so often, or makes so many calls of all kinds.
+#[derive(Clone, Copy)]
+enum Work {
+    Peeks(usize),
+    Mixture(usize),
+}
+
+// ---- the mixture
+
+/// One transfer; two in two settings, of which the second is cut; two of which each writes what the other reads;
+/// and none.
+const TEXTS: [&str; 4] = [
+    "batch 1\npush 0 0 1 0\n",
+    "batch 2\npush 0 0 1 0\npush 0 1 1 1\n",
+    "batch 2\npush 0 0 1 0\npush 1 0 0 0\n",
+    "batch 0\n",
+];
+
+/// Numbers that a seed gives, by D. E. Knuth's linear congruential generator.
+#[derive(Drop)]
+struct Numbers {
+    state: u64,
+}
+
+impl Numbers {
+    /// The next number, which is below a bound.
+    fn below(&mut self, bound: usize) -> usize
+        requires { 0 < bound }
+        ensures { result < bound }
+    {
+        self.state = self
+            .state
+            .wrapping_mul(6_364_136_223_846_793_005)
+            .wrapping_add(1_442_695_040_888_963_407);
+        (self.state >> 33) as usize % bound
+    }
+}
+
+/// The number under which the last batch was accepted, 0 where none was.
+fn last_accepted(log: &[Entry]) -> usize {
+    let mut last = 0;
+    for entry in log {
+        if let Reply::Accepted(id) = entry.reply {
+            last = id;
+        }
+    }
+    last
+}
+
+/// A call of one of eight kinds. Those that name a batch name this one.
+fn call_of<R: AllocGlobal + Threads + Sync>(
+    rt: &R,
+    kind: usize,
+    text: &str,
+    id: usize,
+    module: usize,
+) -> Option<Call> {
+    Some(match kind {
+        0 => Call::Submit(batch(rt.alloc(), text)?),
+        1 => Call::Fetch(id),
+        2 => Call::Settle(id, plan(rt, text)?),
+        3 => Call::Run(id),
+        4 => Call::Show(id),
+        5 => Call::Discard(id),
+        6 => Call::Peek(module, FIRST),
+        _ => Call::Poke(module, FIRST, 7),
+    })
+}
+
+/// The kind of a call, by its number.
+fn kind_of(call: &Call) -> usize {
+    match call {
+        Call::Submit(_) => 0,
+        Call::Fetch(_) => 1,
+        Call::Settle(_, _) => 2,
+        Call::Run(_) => 3,
+        Call::Show(_) => 4,
+        Call::Discard(_) => 5,
+        Call::Peek(_, _) => 6,
+        Call::Poke(_, _, _) => 7,
+    }
+}
+
+/// One call of a kind that the numbers choose, or a reading.
+fn mix<
+    L: Ledger,
+    P: ConfigPort,
+    W: WireMaker + Sync,
+    G: Gate + Sync,
+    R: AllocGlobal + Threads + Wait + Sync,
+>(rt: &R, shared: &Shared<L, P, W, G>, seat: &mut Seat<L>, numbers: &mut Numbers)
+    requires { seat.old.exchange ≡ Some shared.now.word }
+    ensures { seat.new.exchange ≡ seat.old.exchange }
+{
+    let kind = numbers.below(12);
+    if kind == 8 {
+        let _reading = shared.progress(seat);
+        return;
+    }
+    // Settling and running come more often. Most batches of a session have one text.
+    let kind = if kind > 8 { kind % 2 + 2 } else { kind };
+    let other = if numbers.below(8) == 0 { 1 } else { 0 };
+    let text = TEXTS[(seat.session() % 4 + other) % 4];
+    let id = last_accepted(seat.log());
+    let module = numbers.below(3);
+    if let Some(call) = call_of(rt, kind, text, id, module) {
+        let _reply = shared.call(rt, seat, call);
+    }
+}
+
+// ---- a day
+
+/// One session at its work, which then gives its seat back.
+fn session<
+    L: Ledger,
+    P: ConfigPort,
+    W: WireMaker + Sync,
+    G: Gate + Sync,
+    R: AllocGlobal + Threads + Wait + Sync,
+>(rt: &R, shared: &Shared<L, P, W, G>, seat: Seat<L>, work: Work) -> Seat<L>
+    requires { seat.exchange ≡ Some shared.now.word }
+    ensures { result.exchange ≡ seat.exchange }
+{
+    let mut seat = seat;
+    match work {
+        Work::Peeks(times) => {
+            for _ in 0..times {
+                let _reply = shared.call(rt, &mut seat, Call::Peek(0, FIRST));
+            }
+        }
+        Work::Mixture(times) => {
+            let mut numbers = Numbers {
+                state: seat.session() as u64,
+            };
+            for _ in 0..times {
+                mix(rt, shared, &mut seat, &mut numbers);
+            }
+        }
+    }
+    seat
+}
+
+/// The sessions at once, each in a thread. Then the history is legal, and has of each session what it asked.
+fn day<
+    L: Ledger + Send + Sync,
+    P: ConfigPort + Send + Drop,
+    W: WireMaker + Send + Sync + Drop,
+    G: Gate + Send + Sync + Drop,
+    R: AllocGlobal + Threads + Wait + Sync,
+>(
+    rt: &R,
+    blank: Blank,
+    rack: Rack,
+    plant: Plant<P, W, G>,
+    sessions: usize,
+    work: Work,
+) -> Option<Closed<L, P, W, G>>
+    requires name { blank.name ≡ L.name }
+    requires parts { (blank.parts ≡ L.parts) × (blank.parts ≡ ALL_PARTS) }
+    requires some { 1 ≤ plant.workers }
+    requires few { plant.workers ≤ MAX_WORKERS }
+    ensures legal { IfSome result (λ c. IsLegal c.book.opening c.book.history) }
+    ensures filters { IfSome result (λ c. All (Agrees c.book.history) c.seats.items) }
+{
+    let made = Shared::<L, P, W, G>::new(rt.alloc(), blank, rack, plant, sessions);
+    let Ok((shared, seats)) = made else {
+        return None;
+    };
+    let lent = &shared;
+    let one = |seat: Seat<L>| -> Seat<L>
+        requires { seat.exchange ≡ Some lent.now.word }
+        ensures { result.exchange ≡ seat.exchange }
+    { session(rt, lent, seat, work) };
+    let Ok(seats) = thread::map_vec(rt, seats, &one) else {
+        return None;
+    };
+    let Ok(closed) = shared.close(seats) else {
+        return None;
+    };
+    closed.book.history();
+    Some(closed)
+}
+
+/// What is left of a day.
+#[derive(Clone, Copy, Debug, PartialEq, Eq)]
+struct Remains {
+    /// The entries of the history.
+    entries: usize,
+    /// How many of the eight kinds of call it has.
+    kinds: usize,
+    /// Whether runs completed, stopped and were refused.
+    ran: bool,
+    stopped: bool,
+    refused: bool,
+}
+
+/// Whether the history has a call of this kind.
+fn has_kind(history: &[Entry], kind: usize) -> bool {
+    history.iter().any(|entry| kind_of(&entry.call) == kind)
+}
+
+fn remains_of(history: &[Entry]) -> Remains {
+    let mut kinds: usize = 0;
+    for kind in 0..8 {
+        if has_kind(history, kind) {
+            kinds = kinds.saturating_add(1);
+        }
+    }
+    Remains {
+        entries: history.len(),
+        kinds,
+        ran: history
+            .iter()
+            .any(|entry| matches!(entry.reply, Reply::Ran { .. })),
+        stopped: history
+            .iter()
+            .any(|entry| matches!(entry.reply, Reply::Stopped { .. })),
+        refused: history
+            .iter()
+            .any(|entry| matches!(entry.reply, Reply::RunRefused(_))),
+    }
+}
+
+fn spend<L: Ledger + Send + Sync, R: AllocGlobal + Threads + Wait + Sync>(
+    rt: &R,
+    blank: Blank,
+    rack: Rack,
+    sessions: usize,
+    work: Work,
+) -> Option<Remains>
+    requires name { blank.name ≡ L.name }
+    requires parts { (blank.parts ≡ L.parts) × (blank.parts ≡ ALL_PARTS) }
+{
+    let plant = plant(CUT_SECOND);
+    let closed = day::<L, MemoryPort, FuseWires, OpenGate, R>(
+        rt, blank, rack, plant, sessions, work,
+    )?;
+    Some(remains_of(closed.book.history()))
+}
+
+/// What so many sessions leave that do this work. Nothing where the exchange didn't close.
+fn spend_day<R: AllocGlobal + Threads + Wait + Sync>(
+    rt: &R,
+    sessions: usize,
+    work: Work,
+) -> Option<Remains> {
+    let rack = marked(rt.alloc(), "2x2x2")?;
+    spend::<Brand, R>(rt, Blank::new(16), rack, sessions, work)
+}
+
+#[test]
+fn four_seats_peek_100_times(rt: HostRuntime) -> Result<(), Fail> {
+    let left = spend_day(&rt, 4, Work::Peeks(100)).ok_or("not closed")?;
+    assert_eq!(rt; left.entries, 400);
+    assert_eq!(rt; left.kinds, 1);
+    Ok(())
+}
+
+#[test]
+fn sixteen_seats_mix_all_calls(rt: HostRuntime) -> Result<(), Fail> {
+    let left = spend_day(&rt, 16, Work::Mixture(300)).ok_or("not closed")?;
+    assert_eq!(rt; left.kinds, 8);
+    assert!(rt; left.ran && left.stopped && left.refused);
+    Ok(())
+}

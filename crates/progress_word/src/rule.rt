@@ -1,0 +1,80 @@
+//! What the rule of the word speaks of, and the rule for the table that holds the word.
+
+use atomic_table::{Join, Play, Split, TableRule};
+
+/// What is known of the word from one lookout. No value of it is made.
+pub struct View {
+    /// The greatest value that was seen.
+    pub seen: u64,
+    /// The greatest value to which the word was raised.
+    pub raised: u64,
+    /// How many of the word's parts there are.
+    pub parts: u64,
+}
+
+/// The five kinds of atomic step. The numbers are those of the views that step, in the order in which they
+/// were made. No value of it is made.
+pub enum Step {
+    /// The word is made, with its first view.
+    Make,
+    /// The word is read.
+    Load(usize),
+    /// The word is raised to a value, by one `fetch_max`: view, value.
+    Raise(usize, u64),
+    /// A view gives a part to a new one.
+    Split(usize),
+    /// A view takes in another: the one that is kept, the other.
+    Join(usize, usize),
+}
+
+/// The rule, for the table.
+pub(crate) struct Rises;
+
+impl TableRule<u8, View, ()> for Rises {
+    ghost use Rattle.progress_word.specs.Plays.{IsKept};
+    ghost use Rattle.progress_word.specs.Rule.{whole};
+
+    ghost holds = { λ _. IsKept };
+
+    ghost first = { λ _. whole };
+}
+
+/// A load.
+pub(crate) struct Loads;
+
+impl Play<u8, View> for Loads {
+    ghost use Rattle.progress_word.specs.Plays.{HasLoaded};
+
+    ghost then = { HasLoaded };
+}
+
+/// A raise.
+pub(crate) struct Raises;
+
+impl Play<u8, View> for Raises {
+    ghost use Rattle.progress_word.specs.Plays.{HasRaised};
+
+    ghost then = { HasRaised };
+}
+
+/// A split.
+pub(crate) struct OnePart;
+
+impl Split<View> for OnePart {
+    ghost use Rattle.progress_word.specs.Rule.{without_part, newcomer};
+
+    ghost left = { without_part };
+
+    ghost right = { newcomer };
+}
+
+/// A join.
+pub(crate) struct Both;
+
+impl Join<View> for Both {
+    ghost use Rattle.progress_word.specs.Rule.{joined, spent};
+
+    ghost both = { joined };
+
+    ghost spent = { spent };
+}
