@@ -1,0 +1,156 @@
+-- What calls of the seat and readings do.
+use Rattle.std.proofs.Common.{◌≡◌, ◌≢◌, ℕ, ◌≤◌, List, [], ◌∷◌, ◌++◌, map, codes, Option, Some, Bool, true, false, sym, ap, ◌∙◌, append_assoc, append-nil, refl, subst, arith, inl, inr}
+use Rattle.std.specs.List.{AllByRecursion}
+use Rattle.std.proofs.lemmas.List.{map-append}
+use Rattle.batch.specs.declared.fault.BatchFault.{BatchFault}
+use Rattle.batch.specs.declared.fault.BatchFault.TheVariants.{Line, TooMany, NoModule, NoBlock, Count, NoMemory}
+use Rattle.batch.specs.Faults.{IsFirstFault}
+use Rattle.batch.specs.declared.transfer.Transfer.{Transfer}
+use Rattle.batch.specs.Extent.{Extent}
+use Rattle.schedule_certificate.specs.Plans.{Plan, IsPlan}
+use Rattle.batch_book.specs.declared.entry.Entry.{Entry}
+use Rattle.batch_book.specs.declared.call.Call.{Call}
+use Rattle.batch_book.specs.declared.call.Call.TheVariants as call
+use Rattle.batch_book.specs.declared.reply.Reply.{Reply}
+use Rattle.batch_book.specs.declared.reply.Reply.TheVariants.{Accepted, Fetched, Settled, Ran, Stopped, RunRefused, Shown, Discarded, Word, Poked, Refused}
+use Rattle.batch_book.specs.Replies.{is_logged}
+use Rattle.batch_book.specs.Answering.{IsReplyTo}
+use Rattle.batch_book.specs.History.{entry}
+use Rattle.batch_book.specs.Values.{value_of}
+use Rattle.line_words.specs.BatchFaults.{batch_words}
+use Rattle.client_session.specs.declared.command.Command.{Command}
+use Rattle.batch_book.specs.declared.reading.Reading.{Reading}
+use Rattle.client_session.specs.Replies.{reply_line, refused_line, progress_line}
+use Rattle.client_session.specs.Seats.{SeatView, logged, GoesOnFrom, IsCalled, IsRead}
+use Rattle.client_session.specs.Turns.{Answer, answer, tells, settles, Tells, Submits, Settles, Plans, Reads}
+use Rattle.client_session.specs.Steps.{CanBeTold, IsNoFetch, Did, Acts}
+use Rattle.client_session.proofs.Lists.{every_weaker, every_append}
+
+pub stays : (p : SeatView) → GoesOnFrom p p
+stays p = record { exchange = refl; shape = refl; session = refl; parts = refl; seen = omega arith }
+
+pub goes_on : (a b c : SeatView) → GoesOnFrom a b → GoesOnFrom b c → GoesOnFrom a c
+goes_on a b c p q = record { exchange = q.exchange ∙ p.exchange; shape = q.shape ∙ p.shape; session = q.session ∙ p.session; parts = q.parts ∙ p.parts; seen = omega (arith, p.seen, q.seen) }
+
+-- the reply to a call that is none of `Fetch` can be told
+pub can_be_told : (c : Call) (r : Reply) → IsNoFetch c → IsReplyTo c r → CanBeTold r
+can_be_told (call.Fetch id) r other is = absurd other
+can_be_told (call.Run id) (Ran run settings words) other is = is.few_words
+can_be_told (call.Submit b) (Ran run settings words) other is = absurd is
+can_be_told (call.Settle id p) (Ran run settings words) other is = absurd is
+can_be_told (call.Show id) (Ran run settings words) other is = absurd is
+can_be_told (call.Discard id) (Ran run settings words) other is = absurd is
+can_be_told (call.Peek m a) (Ran run settings words) other is = absurd is
+can_be_told (call.Poke m a w) (Ran run settings words) other is = absurd is
+can_be_told (call.Run id) (Fetched b) other is = absurd is
+can_be_told (call.Submit b) (Fetched x) other is = absurd is
+can_be_told (call.Settle id p) (Fetched b) other is = absurd is
+can_be_told (call.Show id) (Fetched b) other is = absurd is
+can_be_told (call.Discard id) (Fetched b) other is = absurd is
+can_be_told (call.Peek m a) (Fetched b) other is = absurd is
+can_be_told (call.Poke m a w) (Fetched b) other is = absurd is
+can_be_told c (Accepted n) other is = tt
+can_be_told c (Settled n) other is = tt
+can_be_told c (Stopped r s why m) other is = tt
+can_be_told c (RunRefused why) other is = tt
+can_be_told c (Shown n s) other is = tt
+can_be_told c Discarded other is = tt
+can_be_told c (Word w) other is = tt
+can_be_told c Poked other is = tt
+can_be_told c (Refused why) other is = tt
+
+-- nothing was done but to answer
+did_nothing : (p : SeatView) (line : List ℕ) → Did p p (answer [] line)
+did_nothing p line = record { goes_on = stays p; log = sym (append-nil p.log); low = tt; high = tt }
+
+pub says : (p : SeatView) (IsSo : Answer → Type 0) (words line : List ℕ) → IsSo (answer [] words) → line ≡ words → Acts p p IsSo line
+says p IsSo words line h e = record { answer = answer [] words; did = did_nothing p words; is_so = h; line_is = e }
+
+shown_if : (seen : ℕ) (b : Bool) (by : ℕ) (c : Call) (r : Reply) → b ≡ is_logged r → value_of r ≤ seen → AllByRecursion (λ v. v ≤ seen) (map (λ (e : Entry). value_of e.reply) (logged by c r))
+shown_if seen true by c r is h = rw (sym is) (h, tt)
+shown_if seen false by c r is h = rw (sym is) tt
+
+did_call : (old new : SeatView) (c : Call) (r : Reply) (line : List ℕ) → IsCalled old c r new → Did old new (answer (logged old.session c r) line)
+did_call old new c r line h = record { goes_on = h.goes_on; log = h.log; low = tt; high = shown_if new.seen (is_logged r) old.session c r refl h.seen }
+
+-- a call was made, and its reply is the line
+acts_call : (old new : SeatView) (id : ℕ) (c : Call) (r : Reply) (line : List ℕ) (IsSo : Answer → Type 0) → IsCalled old c r new → IsSo (tells old.session id c r) → line ≡ reply_line id r → Acts old new IsSo line
+acts_call old new id c r line IsSo h so e = record { answer = tells old.session id c r; did = did_call old new c r _ h; is_so = so; line_is = e }
+
+pub called : (old new : SeatView) (id : ℕ) (c : Call) (r : Reply) (line : List ℕ) → IsCalled old c r new → line ≡ reply_line id r → Acts old new (Tells old.session id c) line
+called old new id c r line h e = acts_call old new id c r line (Tells old.session id c) h (r, h.answers, refl) e
+
+-- what was done first, and then without a reading
+did_more : (old mid new : SeatView) (a b : List Entry) (x y line : List ℕ) → Did old mid (answer a x) → Did mid new (answer b y) → Did old new (answer (a ++ b) line)
+did_more old mid new a b x y line p q = record {
+  goes_on = goes_on old mid new p.goes_on q.goes_on;
+  log = q.log ∙ ap (λ l. l ++ b) p.log ∙ append_assoc old.log a b;
+  low = tt;
+  high = rw (map-append (λ (e : Entry). value_of e.reply) a b) (every_append (λ v. v ≤ new.seen) _ _ (every_weaker (λ v. v ≤ mid.seen) (λ v. v ≤ new.seen) _ (λ v le. omega (arith, le, q.goes_on.seen)) p.high) q.high);
+}
+
+-- ---- planning
+
+plans : (old new : SeatView) (id : ℕ) (batch : List Transfer) (a : Answer) (line : List ℕ) → Did old new a → Settles old.session id batch a → line ≡ a.line → Acts old new (Plans old.session id) line
+plans old new id batch a line did so e = record { answer = a; did = did; is_so = inr (batch, so); line_is = e }
+
+-- a batch was fetched, and its plan settled
+pub settled : (old mid new : SeatView) (id : ℕ) (batch : List Transfer) (plan : Plan) (line : List ℕ) → IsCalled old (call.Fetch id) (Fetched batch) mid → IsPlan plan → plan.batch ≡ batch → Acts mid new (Tells mid.session id (call.Settle id plan)) line → Acts old new (Plans old.session id) line
+settled old mid new id batch plan line h shortest of acts =
+    let r = acts.is_so.0 in
+    let same : acts.answer ≡ tells old.session id (call.Settle id plan) r = acts.is_so.2 ∙ ap (λ by. tells by id (call.Settle id plan) r) h.goes_on.session in
+    let second : Did mid new (tells old.session id (call.Settle id plan) r) = subst (Did mid new) same acts.did in
+    plans old new id batch (settles old.session id batch plan r) line
+    (did_more old mid new (entry old.session (call.Fetch id) (Fetched batch) ∷ []) _ [] (reply_line id r) (reply_line id r) (did_call old mid (call.Fetch id) (Fetched batch) [] h) second)
+    (inl (plan, r, shortest, of, acts.is_so.1, refl))
+    (acts.line_is ∙ ap (λ (x : Answer). x.line) same)
+
+-- a batch was fetched, and there was no memory to plan it
+pub unplanned : (old mid : SeatView) (id : ℕ) (batch : List Transfer) (line : List ℕ) → IsCalled old (call.Fetch id) (Fetched batch) mid → line ≡ refused_line (codes "no memory") → Acts old mid (Plans old.session id) line
+unplanned old mid id batch line h e =
+    plans old mid id batch (answer (entry old.session (call.Fetch id) (Fetched batch) ∷ []) (refused_line (codes "no memory"))) line (did_call old mid (call.Fetch id) (Fetched batch) _ h) (inr refl) e
+
+-- the reply to `Fetch`, where it is no batch, can be told, and refuses it
+pub told_unfetched : (id : ℕ) (r : Reply) → IsReplyTo (call.Fetch id) r → ((batch : List Transfer) → r ≡ Fetched batch → ⊥) → CanBeTold r
+told_unfetched id (Fetched b) is other = absurd (other b refl)
+told_unfetched id (Refused why) is other = tt
+told_unfetched id r is other = absurd is
+
+pub unfetched : (old new : SeatView) (id : ℕ) (r : Reply) (line : List ℕ) → IsCalled old (call.Fetch id) r new → ((batch : List Transfer) → r ≡ Fetched batch → ⊥) → line ≡ reply_line id r → Acts old new (Plans old.session id) line
+unfetched old new id (Fetched b) line h other e = absurd (other b refl)
+unfetched old new id (Refused why) line h other e = acts_call old new id (call.Fetch id) (Refused why) line (Plans old.session id) h (inl (why, h.answers, refl)) e
+unfetched old new id r line h other e = absurd h.answers
+
+-- ---- the progress word
+
+pub read_progress : (old new : SeatView) (r : Reading) (line : List ℕ) → IsRead old r new → line ≡ progress_line r → Acts old new Reads line
+read_progress old new r line h e = record {
+  answer = record { entries = []; reading = Some r; line = progress_line r };
+  did = record {
+    goes_on = h.goes_on;
+    log = h.log ∙ sym (append-nil old.log);
+    low = (omega (arith, h.goes_on.seen, h.seen), tt);
+    high = (omega (arith, h.seen), tt);
+  };
+  is_so = (r, h.done, refl);
+  line_is = e;
+}
+
+-- ---- batch texts
+
+tells_fault : (p : SeatView) (shape : Extent) (text : List ℕ) (fault : BatchFault) (line : List ℕ) → shape ≡ p.shape → fault ≢ NoMemory → (fault ≢ NoMemory → IsFirstFault shape text fault) → line ≡ refused_line (batch_words fault) → Acts p p (Submits p.shape p.session text) line
+tells_fault p shape text fault line same other first e =
+    says p (Submits p.shape p.session text) (refused_line (batch_words fault)) line (inr (inl (fault, other, subst (λ (x : Extent). IsFirstFault x text fault) same (first other), refl))) e
+
+-- the first fault of a batch text is told, or want of memory
+pub faulty : (p : SeatView) (shape : Extent) (text : List ℕ) (fault : BatchFault) (line : List ℕ) → shape ≡ p.shape → (fault ≢ NoMemory → IsFirstFault shape text fault) → line ≡ refused_line (batch_words fault) → Acts p p (Submits p.shape p.session text) line
+faulty p shape text NoMemory line same first e = says p (Submits p.shape p.session text) (refused_line (codes "no memory")) line (inr (inr refl)) e
+faulty p shape text (Line n) line same first e = tells_fault p shape text (Line n) line same (λ x. cc) first e
+faulty p shape text TooMany line same first e = tells_fault p shape text TooMany line same (λ x. cc) first e
+faulty p shape text (NoModule t) line same first e = tells_fault p shape text (NoModule t) line same (λ x. cc) first e
+faulty p shape text (NoBlock t) line same first e = tells_fault p shape text (NoBlock t) line same (λ x. cc) first e
+faulty p shape text Count line same first e = tells_fault p shape text Count line same (λ x. cc) first e
+
+-- the command that there is
+pub which : (o : Option Command) (x y : Command) → o ≡ Some x → x ≡ y → o ≡ Some y
+which o x y e f = e ∙ ap Some f

@@ -1,0 +1,9 @@
+pub mod OneMeaning
+pub mod Parts
+pub mod Known
+pub mod Lists
+pub mod Taken
+pub mod Doing
+pub mod Turning
+pub mod Readings
+pub mod Served

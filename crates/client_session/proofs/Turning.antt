@@ -1,0 +1,162 @@
+-- One command taken from the input, and what a fault leaves.
+use Rattle.std.proofs.Common.{◌≡◌, ℕ, ◌+◌, ◌<◌, ◌≤◌, List, [], ◌∷◌, ◌++◌, length, take, drop, flat_map, Option, Some, None, Bool, false, MatchBool, nat_lt, sym, ap, ◌∙◌, append_assoc, append-nil, refl, subst, arith, inl, inr}
+use Rattle.std.proofs.lemmas.List.{take-append-drop, length-append, length-drop}
+use Rattle.std.proofs.lemmas.Bool.{lt-ltb, le-ltb}
+use Rattle.batch.specs.declared.limits.TheConstants.{MAX_TRANSFERS}
+use Rattle.client_session.specs.declared.limits.TheConstants.{LINE_BYTES, MAX_READS}
+use Rattle.client_session.specs.declared.command.Command.{Command}
+use Rattle.client_session.specs.declared.command.Command.TheVariants.{Batch, Plan, Run, Show, Drop, Peek, Poke, Progress, Bye}
+use Rattle.client_session.specs.declared.fault.ServeFault.{ServeFault}
+use Rattle.client_session.specs.declared.fault.ServeFault.TheVariants.{Read, Write, LineTooLong, Cut, Turns, NoMemory}
+use Rattle.client_session.specs.Bytes.{Pending, HasLine, fuel}
+use Rattle.client_session.specs.Commands.{Means}
+use Rattle.client_session.specs.Seats.{SeatView}
+use Rattle.client_session.specs.Replies.{with_feed}
+use Rattle.client_session.specs.Turns.{Submits, Does, GoesOn, lines_after}
+use Rattle.client_session.specs.Sessions.{BeginsBatch, IsPartial, RestAt}
+use Rattle.client_session.specs.Steps.{Acts, LinesTaken, LinesStopped, PendingAt, StandsAlone, TurnTaken, TurnStopped}
+use Rattle.client_session.proofs.Known.{Consumes-nil}
+use Rattle.client_session.proofs.Taken.{line_front, line_is}
+
+pub fuel_skip : (old new : Pending) (k : ℕ) → new.pending ≡ drop (k + 1) old.pending → new.reads ≡ old.reads → k < length old.pending → fuel new < fuel old
+fuel_skip old new k e r h = omega (arith, ap length e, length-drop (k + 1) old.pending, r)
+
+-- the line in front, and what stands behind it
+pub front_is : (bytes : List ℕ) (n : ℕ) → HasLine bytes n → bytes ≡ with_feed (take n bytes) ++ drop (n + 1) bytes
+front_is bytes n has = sym (take-append-drop (n + 1) bytes) ∙ ap (λ l. l ++ drop (n + 1) bytes) (sym (line_front bytes n has))
+
+-- there was no memory for the first line of a batch
+pub stopped_at_once : (a : Option (List ℕ)) (old : Pending) (seat : SeatView) (n count : ℕ) → HasLine old.pending n → n ≤ LINE_BYTES → length old.pending ≤ LINE_BYTES + 1 → BeginsBatch (take n old.pending) count → TurnStopped NoMemory a a old seat seat
+stopped_at_once a old seat n count has short room begins = record {
+  bytes = [];
+  consumed = Consumes-nil a;
+  same = refl;
+  rest = record {
+    head = take n old.pending;
+    body = [];
+    part = drop (n + 1) old.pending;
+    count = count;
+    each = (line_is old.pending n has short, tt);
+    begins = begins;
+    belong = omega arith;
+    room = omega (arith, room, length-drop (n + 1) old.pending);
+    whole = append-nil old.pending ∙ front_is old.pending n has ∙ ap (λ l. l ++ drop (n + 1) old.pending) (sym (append-nil (with_feed (take n old.pending))));
+  };
+}
+
+-- all that is left behind the first lines of a batch
+lines_are : (a b : Option (List ℕ)) (old mid new : Pending) (n k : ℕ) (before after : List ℕ) → HasLine old.pending n → mid.pending ≡ drop (n + 1) old.pending → (t : LinesTaken a b mid new before after k)
+    → old.pending ++ t.bytes ≡ (with_feed (take n old.pending) ++ flat_map with_feed t.lines) ++ new.pending
+lines_are a b old mid new n k before after has rest t =
+    ap (λ l. l ++ t.bytes) (front_is old.pending n has) ∙ append_assoc (with_feed (take n old.pending)) _ _
+    ∙ ap (λ l. with_feed (take n old.pending) ++ l) (ap (λ l. l ++ t.bytes) (sym rest) ∙ t.kept)
+    ∙ sym (append_assoc (with_feed (take n old.pending)) _ _)
+
+-- a fault came in the lines of a batch
+pub stopped_in_lines : (e : ServeFault) (a b : Option (List ℕ)) (old mid new : Pending) (seat : SeatView) (n count : ℕ) (before after : List ℕ) → HasLine old.pending n → n ≤ LINE_BYTES
+    → BeginsBatch (take n old.pending) count → mid.pending ≡ drop (n + 1) old.pending → mid.reads ≡ old.reads → LinesStopped e a b mid new before after count → TurnStopped e a b old seat seat
+stopped_in_lines e a b old mid new seat n count before after has short begins rest same s = record {
+  bytes = t.bytes;
+  consumed = t.consumed;
+  same = refl;
+  rest = left e s.at;
+} where
+  t : LinesTaken a b mid new before after s.n
+  t = s.taken
+
+  whole : old.pending ++ t.bytes ≡ (with_feed (take n old.pending) ++ flat_map with_feed t.lines) ++ new.pending
+  whole = lines_are a b old mid new n s.n before after has rest t
+
+  part : IsPartial (old.pending ++ t.bytes)
+  part = record {
+    lines = take n old.pending ∷ t.lines;
+    part = new.pending;
+    each = (line_is old.pending n has short, t.each);
+    short = (count, begins, omega (arith, t.count, s.fewer));
+    whole = whole;
+  }
+
+  left : (e : ServeFault) → PendingAt e b new → RestAt e b (old.reads + length t.bytes) (old.pending ++ t.bytes)
+  left Read h = (part, h)
+  left LineTooLong h = (part, h.0, h.1)
+  left Cut h = (part, h.0, omega (arith, length-append old.pending t.bytes, has.0), h.1)
+  left Turns h = (part, h.0, omega (arith, h.1, t.reads, same))
+  left NoMemory h = record {
+    head = take n old.pending;
+    body = t.lines;
+    part = new.pending;
+    count = count;
+    each = (line_is old.pending n has short, t.each);
+    begins = begins;
+    belong = omega (arith, t.count, s.fewer);
+    room = h;
+    whole = whole;
+  }
+  left Write h = h
+
+few_after : (count : ℕ) → count ≤ MAX_TRANSFERS → lines_after (Some (Batch count)) ≡ count
+few_after count most = rw (le-ltb MAX_TRANSFERS count most) refl
+
+many_after : (count : ℕ) → MAX_TRANSFERS < count → lines_after (Some (Batch count)) ≡ 0
+many_after count many = rw (lt-ltb MAX_TRANSFERS count many) refl
+
+-- a batch was taken whole, and submitted
+pub batch_taken : (a b : Option (List ℕ)) (old mid new : Pending) (from to : SeatView) (n count : ℕ) (before after all line : List ℕ) → HasLine old.pending n → n ≤ LINE_BYTES
+    → BeginsBatch (take n old.pending) count → mid.pending ≡ drop (n + 1) old.pending → before ≡ take (n + 1) old.pending → LinesTaken a b mid new before after count
+    → mid.reads ≡ old.reads → all ≡ after → Acts from to (Submits from.shape from.session all) line → TurnTaken a b old new from to line false
+batch_taken a b old mid new from to n count before after all line has short begins rest first t reads same acts =
+    let head : List ℕ = take n old.pending in
+    let text : all ≡ with_feed head ++ flat_map with_feed t.lines = same ∙ t.text ∙ ap (λ l. l ++ flat_map with_feed t.lines) (first ∙ sym (line_front old.pending n has)) in
+    record {
+      turn = record { head = head; body = t.lines; command = Some (Batch count); did = acts.answer };
+      is = record {
+        head = line_is old.pending n has short;
+        body = t.each;
+        means = begins.0;
+        whole = t.count ∙ sym (few_after count begins.1);
+        does = inr (begins.1, subst (λ (l : List ℕ). Submits from.shape from.session l acts.answer) text acts.is_so);
+      };
+      bytes = t.bytes;
+      consumed = t.consumed;
+      kept = lines_are a b old mid new n count before after has rest t;
+      reads = omega (arith, t.reads, reads);
+      did = acts.did;
+      line_is = acts.line_is;
+      last = tt;
+    }
+
+none_after : (command : Option Command) → StandsAlone command → lines_after command ≡ 0
+none_after None h = refl
+none_after (Some (Batch count)) h = many_after count h
+none_after (Some (Plan id)) h = refl
+none_after (Some (Run id)) h = refl
+none_after (Some (Show id)) h = refl
+none_after (Some (Drop id)) h = refl
+none_after (Some (Peek m a)) h = refl
+none_after (Some (Poke m a w)) h = refl
+none_after (Some Progress) h = refl
+none_after (Some Bye) h = refl
+
+-- a command with no lines behind its own was taken, and done
+pub alone_taken : (a : Option (List ℕ)) (old new : Pending) (from to : SeatView) (n : ℕ) (command : Option Command) (line : List ℕ) (ends : Bool) → HasLine old.pending n → n ≤ LINE_BYTES
+    → Means (take n old.pending) command → StandsAlone command → new.pending ≡ drop (n + 1) old.pending → new.reads ≡ old.reads
+    → ((text : List ℕ) → Acts from to (Does from.shape from.session command text) line) → MatchBool ends (command ≡ Some Bye) (GoesOn command) → TurnTaken a a old new from to line ends
+alone_taken a old new from to n command line ends has short means alone rest same acts last =
+    let done = acts (with_feed (take n old.pending) ++ []) in
+    record {
+      turn = record { head = take n old.pending; body = []; command = command; did = done.answer };
+      is = record {
+        head = line_is old.pending n has short;
+        body = tt;
+        means = means;
+        whole = sym (none_after command alone);
+        does = done.is_so;
+      };
+      bytes = [];
+      consumed = Consumes-nil a;
+      kept = append-nil old.pending ∙ front_is old.pending n has ∙ ap (λ l. with_feed (take n old.pending) ++ l) (sym rest) ∙ ap (λ l. l ++ new.pending) (sym (append-nil (with_feed (take n old.pending))));
+      reads = omega (arith, same);
+      did = done.did;
+      line_is = done.line_is;
+      last = last;
+    }

@@ -1,0 +1,16 @@
+use Rattle.std.proofs.Common.{◌+◌, ◌-◌, ◌++◌, ◌∙◌, ap, sym, take, arith}
+use Rattle.std.proofs.lemmas.List.{length-take}
+use Rattle.client_session.specs.declared.limits.TheConstants.{LINE_BYTES}
+use Rattle.client_session.proofs.Parts.{grown}
+use Rattle.client_session.proofs.input.Input.fill.Goals as goal
+
+pub returns-in-Ok-clause-takes : goal.returns-in-Ok-clause-takes
+returns-in-Ok-clause-takes g c =
+    let s = c.self.inside in
+    let got = take c.in-Ok.n c.read.new.buf in
+    record {
+      bytes = got;
+      consumed = c.in-Ok.ensures.bytes.0;
+      kept = ap (λ h. h.pending ++ got) (sym c.self.view_is) ∙ sym (grown s.len (LINE_BYTES + 1 - s.len) c.in-Ok.n s.buffer c.read.new.buf (omega arith) c.in-Ok.ensures.bound.0);
+      reads = omega (arith, length-take c.in-Ok.n c.read.new.buf, c.in-Ok.ensures.bound.0, ap (λ h. h.reads) c.self.view_is);
+    }

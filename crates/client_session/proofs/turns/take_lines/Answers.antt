@@ -1,0 +1,32 @@
+use Rattle.std.proofs.Common.{◌+◌, ◌++◌, take, arith, ap, ◌∙◌}
+use Rattle.std.proofs.lemmas.Result.{err_from_is_err_and}
+use Rattle.client_session.proofs.Taken.{LinesTaken-none, LinesTaken-read, LinesTaken-line, LinesTaken-same, pending_at}
+use Rattle.client_session.proofs.Turning.{fuel_skip}
+use Rattle.client_session.proofs.turns.take_lines.Goals as goal
+
+pub loop-init : goal.loop-init
+loop-init g c = (LinesTaken-none _ _ _, omega arith)
+
+pub returns-in_err-n-clause-err : goal.returns-in_err-n-clause-err
+returns-in_err-n-clause-err g c =
+    let p = err_from_is_err_and c.from_residual.result c.from_residual.ensures.1 in
+    let got = LinesTaken-read _ _ _ _ _ _ _ _ _ c.loop.invariant.0 c.in_err-n.ensures.takes in
+    rw (p.1, p.2) record { n = c.loop.counter; fewer = c.loop-test.true; taken = got; at = pending_at _ _ _ c.in_err-n.ensures.err }
+
+pub returns-in_err-extend_from_slice-clause-err : goal.returns-in_err-extend_from_slice-clause-err
+returns-in_err-extend_from_slice-clause-err g c =
+    let p = err_from_is_err_and c.from_residual-in_err-extend_from_slice.result c.from_residual-in_err-extend_from_slice.ensures.1 in
+    let got = LinesTaken-read _ _ _ _ _ _ _ _ _ c.loop.invariant.0 c.in_ok-n.ensures.takes in
+    rw (p.1, p.2) record { n = c.loop.counter; fewer = c.loop-test.true; taken = LinesTaken-same _ _ _ _ _ _ _ _ got c.in_err-extend_from_slice.ensures.items; at = c.in_ok-n.ensures.room.0 }
+
+pub loop-preserved : goal.loop-preserved
+loop-preserved g c =
+    let mid = c.next_line.new.self in
+    let k = c.in-Some.n in
+    let got = LinesTaken-read _ _ _ _ _ mid _ _ _ c.loop.invariant.0 c.in_ok-n.ensures.takes in
+    let line = rw c.in-Some.is at c.in_ok-n.ensures.line in
+    let grows = c.in_ok-extend_from_slice.ensures.items ∙ ap (λ l. c.loop.text.items ++ take (k + 1) l) c.pending.ensures in
+    let less = fuel_skip mid c.skip.new.self k c.skip.ensures.pending c.skip.ensures.reads line.0.0 in (
+      LinesTaken-line _ _ _ mid _ _ _ _ _ k got line.0 line.1 grows c.skip.ensures.pending c.skip.ensures.reads,
+      omega (arith, less, c.in_ok-n.ensures.fuel, c.loop.invariant.1),
+    )

@@ -1,0 +1,8 @@
+use Rattle.std.proofs.Common.{◌≤◌}
+use Rattle.client_session.specs.Bytes.{fuel}
+use Rattle.client_session.specs.Steps.{LinesTaken}
+use Rattle.client_session.proofs.turns.take_lines.Given as goal
+
+abbrev pub invariant-loop : goal.invariant-loop
+invariant-loop g l =
+    LinesTaken (g.I.Read.remaining l.initial.reader) (g.I.Read.remaining l.reader) l.initial.input l.input l.initial.text.items l.text.items l.counter × (fuel l.input ≤ fuel l.initial.input)

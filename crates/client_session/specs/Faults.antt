@@ -1,0 +1,21 @@
+-- When each fault of the input comes.
+use Rattle.std.specs.Prelude.{◌≡◌, ℕ, ◌+◌, ◌<◌, List, length, Option}
+use Rattle.std.specs.Io.KnownBytes.{IsAtEnd}
+use Rattle.client_session.specs.declared.limits.TheConstants.{LINE_BYTES, MAX_READS}
+use Rattle.client_session.specs.Bytes.{Pending, HasNoFeed, IsLine}
+use Rattle.client_session.specs.declared.input.InputFault.{InputFault}
+use Rattle.client_session.specs.declared.input.InputFault.TheVariants.{Read, LineTooLong, Cut, Turns}
+
+-- the reader failed, or was asked as often as it may be
+abbrev pub IsReadOrTurns : InputFault → ℕ → Type 0
+IsReadOrTurns Read reads = Unit {0}
+IsReadOrTurns Turns reads = reads ≡ MAX_READS
+IsReadOrTurns LineTooLong reads = ⊥
+IsReadOrTurns Cut reads = ⊥
+
+-- what each fault tells of what is left to read, and of what is pending
+abbrev pub IsFaultAt : InputFault → Option (List ℕ) → Pending → Type 0
+IsFaultAt Read known h = IsLine h.pending
+IsFaultAt Turns known h = IsLine h.pending × (h.reads ≡ MAX_READS)
+IsFaultAt LineTooLong known h = HasNoFeed h.pending × (length h.pending ≡ LINE_BYTES + 1)
+IsFaultAt Cut known h = IsLine h.pending × (0 < length h.pending) × IsAtEnd known

@@ -1,0 +1,57 @@
+-- A seat of the exchange as its session sees it, and what it is answered.
+use Rattle.std.specs.Prelude.{◌≡◌, ℕ, ◌<◌, ◌≤◌, List, [], ◌∷◌, ◌++◌, Option, if◌then◌else◌}
+use Rattle.atomic_table.specs.Seated.{TableId}
+use Rattle.batch.specs.Extent.{Extent}
+use Rattle.batch_book.specs.declared.entry.Entry.{Entry}
+use Rattle.batch_book.specs.declared.call.Call.{Call}
+use Rattle.batch_book.specs.declared.limits.TheConstants.{RUN_STEP}
+use Rattle.batch_book.specs.declared.reading.Reading.{Reading}
+use Rattle.batch_book.specs.declared.reply.Reply.{Reply}
+use Rattle.batch_book.specs.Answering.{IsReplyTo}
+use Rattle.batch_book.specs.History.{entry}
+use Rattle.batch_book.specs.Replies.{is_logged}
+use Rattle.batch_book.specs.Seats.{Stand}
+use Rattle.batch_book.specs.Values.{value_at, value_of}
+
+-- the word of the seat's exchange, the shape of its rack, the session's number, the seat's parts, its list, and the greatest progress that it has seen
+pub record SeatView : Type 0 where
+  pub exchange : Option TableId
+  pub shape : Extent
+  pub session : ℕ
+  pub parts : ℕ
+  pub log : List Entry
+  pub seen : ℕ
+
+-- the seat, where the rack has this shape
+abbrev pub seat_view : Extent → Stand → SeatView
+seat_view shape seat = record { exchange = seat.exchange; shape = shape; session = seat.session; parts = seat.parts; log = seat.log; seen = seat.seen }
+
+-- a reading as the progress word has it
+abbrev pub reading_value : Reading → ℕ
+reading_value r = value_at r.run r.done
+
+-- the entry of a call, where the history has such replies
+abbrev pub logged : ℕ → Call → Reply → List Entry
+logged session call reply = if is_logged reply then entry session call reply ∷ [] else []
+
+-- the same seat, which has seen no less
+pub record GoesOnFrom (old new : SeatView) : Type 0 where
+  pub exchange : new.exchange ≡ old.exchange
+  pub shape : new.shape ≡ old.shape
+  pub session : new.session ≡ old.session
+  pub parts : new.parts ≡ old.parts
+  pub seen : old.seen ≤ new.seen
+
+-- a call was made
+pub record IsCalled (old : SeatView) (call : Call) (reply : Reply) (new : SeatView) : Type 0 where
+  pub goes_on : GoesOnFrom old new
+  pub log : new.log ≡ old.log ++ logged old.session call reply
+  pub answers : IsReplyTo call reply
+  pub seen : value_of reply ≤ new.seen
+
+-- the progress word was read
+pub record IsRead (old : SeatView) (r : Reading) (new : SeatView) : Type 0 where
+  pub goes_on : GoesOnFrom old new
+  pub log : new.log ≡ old.log
+  pub seen : new.seen ≡ reading_value r
+  pub done : r.done < RUN_STEP

@@ -1,0 +1,110 @@
+-- What the parts of a session do.
+use Rattle.std.specs.Prelude.{◌≡◌, ℕ, ◌+◌, ◌*◌, ◌<◌, ◌≤◌, Bool, List, ◌++◌, length, Option, Some, MatchBool}
+use Rattle.std.specs.List.{AllByRecursion}
+use Rattle.std.specs.Io.KnownBytes.{Consumes, Appends, IsAtEnd}
+use Rattle.batch.specs.declared.limits.TheConstants.{MAX_TRANSFERS, MAX_WORDS}
+use Rattle.batch_book.specs.declared.call.Call.{Call}
+use Rattle.batch_book.specs.declared.call.Call.TheVariants.{Fetch}
+use Rattle.batch_book.specs.declared.reply.Reply.{Reply}
+use Rattle.batch_book.specs.declared.reply.Reply.TheVariants.{Fetched, Ran}
+use Rattle.client_session.specs.declared.limits.TheConstants.{LINE_BYTES, MAX_READS}
+use Rattle.client_session.specs.declared.input.InputFault.{InputFault}
+use Rattle.client_session.specs.declared.input.InputFault.TheVariants as input
+use Rattle.client_session.specs.declared.command.Command.{Command}
+use Rattle.client_session.specs.declared.command.Command.TheVariants.{Batch, Bye}
+use Rattle.client_session.specs.declared.fault.ServeFault.{ServeFault}
+use Rattle.client_session.specs.declared.fault.ServeFault.TheVariants.{Read, Write, LineTooLong, Cut, Turns, NoMemory}
+use Rattle.client_session.specs.Bytes.{Pending, HasNoFeed, IsLine}
+use Rattle.client_session.specs.Seats.{SeatView, GoesOnFrom}
+use Rattle.client_session.specs.Turns.{Turn, IsTurn, GoesOn, Answer, turn_text, lines_text, readings_of, shown}
+use Rattle.client_session.specs.Sessions.{RestAt}
+
+abbrev pub of_input : InputFault → ServeFault
+of_input input.Read = Read
+of_input input.LineTooLong = LineTooLong
+of_input input.Cut = Cut
+of_input input.Turns = Turns
+
+-- the call is none of `Fetch`
+abbrev pub IsNoFetch : Call → Type 0
+IsNoFetch (Fetch id) = ⊥
+IsNoFetch call = Unit {0}
+
+-- a line can tell the reply: it has no batch, and no more words than a run can move
+abbrev pub CanBeTold : Reply → Type 0
+CanBeTold (Fetched batch) = ⊥
+CanBeTold (Ran run settings words) = words ≤ MAX_TRANSFERS * MAX_WORDS
+CanBeTold reply = Unit {0}
+
+-- no lines belong to the command behind its own
+abbrev pub StandsAlone : Option Command → Type 0
+StandsAlone (Some (Batch count)) = MAX_TRANSFERS < count
+StandsAlone command = Unit {0}
+
+-- the seat did this
+pub record Did (old new : SeatView) (a : Answer) : Type 0 where
+  pub goes_on : GoesOnFrom old new
+  pub log : new.log ≡ old.log ++ a.entries
+  pub low : AllByRecursion (λ r. old.seen ≤ r) (readings_of a.reading)
+  pub high : AllByRecursion (λ v. v ≤ new.seen) (shown a)
+
+-- something such was done, and this is its line
+pub record Acts (old new : SeatView) (IsSo : Answer → Type 0) (line : List ℕ) : Type 0 where
+  pub answer : Answer
+  pub did : Did old new answer
+  pub is_so : IsSo answer
+  pub line_is : line ≡ answer.line
+
+-- n lines were taken from the input, and stand behind the text
+pub record LinesTaken (before after : Option (List ℕ)) (old new : Pending) (text_before text_after : List ℕ) (n : ℕ) : Type 0 where
+  pub bytes : List ℕ
+  pub consumed : Consumes before after bytes
+  pub lines : List (List ℕ)
+  pub each : AllByRecursion IsLine lines
+  pub count : length lines ≡ n
+  pub text : text_after ≡ text_before ++ lines_text lines
+  pub kept : old.pending ++ bytes ≡ lines_text lines ++ new.pending
+  pub reads : new.reads ≤ old.reads + length bytes
+
+-- what is pending where a fault stopped the taking of lines
+abbrev pub PendingAt : ServeFault → Option (List ℕ) → Pending → Type 0
+PendingAt Read known h = IsLine h.pending
+PendingAt LineTooLong known h = HasNoFeed h.pending × (length h.pending ≡ LINE_BYTES + 1)
+PendingAt Cut known h = IsLine h.pending × IsAtEnd known
+PendingAt Turns known h = IsLine h.pending × (h.reads ≡ MAX_READS)
+PendingAt NoMemory known h = length h.pending ≤ LINE_BYTES + 1
+PendingAt Write known h = ⊥
+
+-- some lines were taken, fewer than wanted, and then a fault came
+pub record LinesStopped (fault : ServeFault) (before after : Option (List ℕ)) (old new : Pending) (text_before text_after : List ℕ) (wanted : ℕ) : Type 0 where
+  pub n : ℕ
+  pub fewer : n < wanted
+  pub taken : LinesTaken before after old new text_before text_after n
+  pub at : PendingAt fault after new
+
+-- a turn was taken from the input, and done
+pub record TurnTaken (before after : Option (List ℕ)) (old new : Pending) (from to : SeatView) (line : List ℕ) (ends : Bool) : Type 0 where
+  pub turn : Turn
+  pub is : IsTurn from.shape from.session turn
+  pub bytes : List ℕ
+  pub consumed : Consumes before after bytes
+  pub kept : old.pending ++ bytes ≡ turn_text turn ++ new.pending
+  pub reads : new.reads ≤ old.reads + length bytes
+  pub did : Did from to turn.did
+  pub line_is : line ≡ turn.did.line
+  pub last : MatchBool ends (turn.command ≡ Some Bye) (GoesOn turn.command)
+
+-- a fault came first
+pub record TurnStopped (fault : ServeFault) (before after : Option (List ℕ)) (old : Pending) (from to : SeatView) : Type 0 where
+  pub bytes : List ℕ
+  pub consumed : Consumes before after bytes
+  pub same : to ≡ from
+  pub rest : RestAt fault after (old.reads + length bytes) (old.pending ++ bytes)
+
+-- writing failed, and so much as a front of the line was written
+pub record IsCut (fault : ServeFault) (held holds : Option (List ℕ)) (line : List ℕ) : Type 0 where
+  pub fault_is : fault ≡ Write
+  pub front : List ℕ
+  pub missing : List ℕ
+  pub line_is : line ≡ front ++ missing
+  pub appended : Appends held holds front

@@ -1,0 +1,155 @@
+-- One command with its lines, what it did, and its reply line.
+use Rattle.std.specs.Prelude.{◌≡◌, ◌≢◌, ℕ, ◌<◌, ◌≤◌, ◌⊎◌, nat_lt, if◌then◌else◌, List, [], ◌∷◌, ◌++◌, length, map, flat_map, codes, Option, Some, None}
+use Rattle.std.specs.List.{AllByRecursion}
+use Rattle.batch.specs.declared.limits.TheConstants.{MAX_TRANSFERS}
+use Rattle.batch.specs.declared.fault.BatchFault.{BatchFault}
+use Rattle.batch.specs.declared.fault.BatchFault.TheVariants.{NoMemory}
+use Rattle.batch.specs.declared.transfer.Transfer.{Transfer}
+use Rattle.batch.specs.Extent.{Extent}
+use Rattle.batch.specs.Text.{Denotes}
+use Rattle.batch.specs.Faults.{IsFirstFault}
+use Rattle.schedule_certificate.specs.Plans.{Plan, IsPlan}
+use Rattle.batch_book.specs.declared.entry.Entry.{Entry}
+use Rattle.batch_book.specs.declared.call.Call.{Call}
+use Rattle.batch_book.specs.declared.call.Call.TheVariants as call
+use Rattle.batch_book.specs.declared.refusal.Refusal.{Refusal}
+use Rattle.batch_book.specs.declared.reply.Reply.{Reply}
+use Rattle.batch_book.specs.declared.reply.Reply.TheVariants.{Fetched, Refused}
+use Rattle.batch_book.specs.Answering.{IsReplyTo}
+use Rattle.batch_book.specs.History.{entry}
+use Rattle.batch_book.specs.Values.{value_of}
+use Rattle.line_words.specs.BatchFaults.{batch_words}
+use Rattle.batch_book.specs.declared.limits.TheConstants.{RUN_STEP}
+use Rattle.client_session.specs.declared.command.Command.{Command}
+use Rattle.client_session.specs.declared.command.Command.TheVariants.{Batch, Plan as PlanOf, Run, Show, Drop, Peek, Poke, Progress, Bye}
+use Rattle.batch_book.specs.declared.reading.Reading.{Reading}
+use Rattle.client_session.specs.Bytes.{IsLine}
+use Rattle.client_session.specs.Commands.{Means}
+use Rattle.client_session.specs.Replies.{with_feed, reply_line, refused_line, progress_line}
+use Rattle.client_session.specs.Seats.{logged, reading_value}
+
+-- ---- what a command did
+
+-- the entries that it added, the progress that it read, and its reply line
+pub record Answer : Type 0 where
+  pub entries : List Entry
+  pub reading : Option Reading
+  pub line : List ℕ
+
+abbrev pub answer : List Entry → List ℕ → Answer
+answer entries line = record { entries = entries; reading = None; line = line }
+
+-- a refusal in these words, without a call
+abbrev pub refuses : List ℕ → Answer
+refuses words = answer [] (refused_line words)
+
+-- a call was made, and this was its reply, which is the line
+abbrev pub tells : ℕ → ℕ → Call → Reply → Answer
+tells by id call reply = answer (logged by call reply) (reply_line id reply)
+
+-- a call was made, and its reply is the line
+abbrev pub Tells : ℕ → ℕ → Call → Answer → Type 0
+Tells by id call a = (reply : Reply) × IsReplyTo call reply × (a ≡ tells by id call reply)
+
+-- The lines of a batch: what they denote was submitted, or their first fault is the line, or there was no memory to read them.
+abbrev pub Submits : Extent → ℕ → List ℕ → Answer → Type 0
+Submits shape by text a =
+    ((batch : List Transfer) × Denotes shape text batch × Tells by 0 (call.Submit batch) a)
+    ⊎ ((fault : BatchFault) × (fault ≢ NoMemory) × IsFirstFault shape text fault × (a ≡ refuses (batch_words fault)))
+    ⊎ (a ≡ refuses (codes "no memory"))
+
+-- a batch was fetched, and a plan of it was settled: this was the reply, which is the line
+abbrev pub settles : ℕ → ℕ → List Transfer → Plan → Reply → Answer
+settles by id batch plan reply =
+    answer (entry by (call.Fetch id) (Fetched batch) ∷ logged by (call.Settle id plan) reply) (reply_line id reply)
+
+-- A batch was fetched: a plan of it was settled, and the reply is the line, or there was no memory to plan it.
+abbrev pub Settles : ℕ → ℕ → List Transfer → Answer → Type 0
+Settles by id batch a =
+    ((plan : Plan) × (reply : Reply) × IsPlan plan × (plan.batch ≡ batch) × IsReplyTo (call.Settle id plan) reply
+    × (a ≡ settles by id batch plan reply))
+    ⊎ (a ≡ answer (entry by (call.Fetch id) (Fetched batch) ∷ []) (refused_line (codes "no memory")))
+
+-- `plan`: fetching was refused, and that is the line; or a batch was fetched
+abbrev pub Plans : ℕ → ℕ → Answer → Type 0
+Plans by id a =
+    ((why : Refusal) × IsReplyTo (call.Fetch id) (Refused why) × (a ≡ tells by id (call.Fetch id) (Refused why)))
+    ⊎ ((batch : List Transfer) × Settles by id batch a)
+
+-- `progress`: the word was read
+abbrev pub Reads : Answer → Type 0
+Reads a = (r : Reading) × (r.done < RUN_STEP) × (a ≡ record { entries = []; reading = Some r; line = progress_line r })
+
+-- What a command may do: this is the whole table of a session. The text is that of its lines.
+abbrev pub Does : Extent → ℕ → Option Command → List ℕ → Answer → Type 0
+Does shape by None text a = a ≡ refuses (codes "line")
+Does shape by (Some (Batch count)) text a = ((MAX_TRANSFERS < count) × (a ≡ refuses (codes "too many"))) ⊎ ((count ≤ MAX_TRANSFERS) × Submits shape by text a)
+Does shape by (Some (PlanOf id)) text a = Plans by id a
+Does shape by (Some (Run id)) text a = Tells by id (call.Run id) a
+Does shape by (Some (Show id)) text a = Tells by id (call.Show id) a
+Does shape by (Some (Drop id)) text a = Tells by id (call.Discard id) a
+Does shape by (Some (Peek «module» address)) text a = Tells by 0 (call.Peek «module» address) a
+Does shape by (Some (Poke «module» address word)) text a = Tells by 0 (call.Poke «module» address word) a
+Does shape by (Some Progress) text a = Reads a
+Does shape by (Some Bye) text a = a ≡ answer [] (with_feed (codes "bye"))
+
+-- ---- a turn
+
+-- the line of a command, those behind it that belong to it, what it means, and what the command did
+pub record Turn : Type 0 where
+  pub head : List ℕ
+  pub body : List (List ℕ)
+  pub command : Option Command
+  pub did : Answer
+
+abbrev pub lines_text : List (List ℕ) → List ℕ
+lines_text lines = flat_map with_feed lines
+
+abbrev pub turn_text : Turn → List ℕ
+turn_text t = with_feed t.head ++ lines_text t.body
+
+-- how many lines belong to a command behind its own
+abbrev pub lines_after : Option Command → ℕ
+lines_after (Some (Batch count)) = if nat_lt MAX_TRANSFERS count then 0 else count
+lines_after command = 0
+
+pub record IsTurn (shape : Extent) (by : ℕ) (t : Turn) : Type 0 where
+  pub head : IsLine t.head
+  pub body : AllByRecursion IsLine t.body
+  pub means : Means t.head t.command
+  pub whole : length t.body ≡ lines_after t.command
+  pub does : Does shape by t.command (turn_text t) t.did
+
+-- the session goes on after it
+abbrev pub GoesOn : Option Command → Type 0
+GoesOn (Some Bye) = ⊥
+GoesOn command = Unit {0}
+
+-- ---- the progress that turns tell
+
+abbrev pub readings_of : Option Reading → List ℕ
+readings_of None = []
+readings_of (Some r) = reading_value r ∷ []
+
+-- a reading, and the values of the entries
+abbrev pub shown : Answer → List ℕ
+shown a = readings_of a.reading ++ map (λ (e : Entry). value_of e.reply) a.entries
+
+-- no reading of these turns is behind the value
+abbrev pub IsBelowReadings : List Turn → ℕ → Type 0
+IsBelowReadings turns v = AllByRecursion (λ t. AllByRecursion (λ r. v ≤ r) (readings_of t.did.reading)) turns
+
+-- no reading of these turns is ahead of the value
+abbrev pub IsAboveReadings : List Turn → ℕ → Type 0
+IsAboveReadings turns v = AllByRecursion (λ t. AllByRecursion (λ r. r ≤ v) (readings_of t.did.reading)) turns
+
+-- no reading is behind what an earlier turn has shown
+abbrev pub AreRising : List Turn → Type 0
+AreRising [] = Unit {0}
+AreRising (t ∷ turns) = AllByRecursion (IsBelowReadings turns) (shown t.did) × AreRising turns
+
+-- and all are between what was seen before the turns and behind them
+pub record AreReadings (before after : ℕ) (turns : List Turn) : Type 0 where
+  pub low : IsBelowReadings turns before
+  pub high : IsAboveReadings turns after
+  pub rising : AreRising turns

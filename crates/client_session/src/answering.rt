@@ -1,0 +1,107 @@
+//! What is done for a command, and its reply line.
+
+ghost use Rattle.std.specs.Prelude.{◌≡◌, ℕ, ◌≤◌, List, Option};
+ghost use Rattle.client_session.specs.Turns.{Tells, Submits, Plans, Does};
+ghost use Rattle.client_session.specs.Steps.{IsNoFetch, StandsAlone, Acts};
+
+use crate::command::Command;
+use crate::desk::Desk;
+use crate::reply_line::{batch_refused, bye, progress, refused, told};
+use batch::Batch;
+use batch_book::{Call, Reply};
+use crossbar::ConfigPort;
+use line_words::Line;
+use peek_poke::WireMaker;
+use schedule_certificate::{Gate, MAX_WORKERS, OpenGate, schedule};
+use std::alloc::Global;
+use std::sync::Wait;
+use std::sync::ledger::Ledger;
+use std::thread::Threads;
+
+/// Makes a call that fetches no batch, and gives its reply line.
+fn call<R: Threads + Wait + Sync, L: Ledger, P: ConfigPort, W: WireMaker + Sync, G: Gate + Sync>(
+    rt: &R,
+    desk: &mut Desk<'_, L, P, W, G>,
+    id: usize,
+    call: Call,
+) -> Line
+    requires { IsNoFetch call }
+    ensures { Acts desk.old desk.new (Tells desk.old.session id call) result }
+{
+    let reply = desk.call(rt, call);
+    told(id, &reply)
+}
+
+/// Submits the batch that the text denotes, or tells the text's first fault.
+pub(crate) fn submit<
+    R: Threads + Wait + Sync,
+    L: Ledger,
+    P: ConfigPort,
+    W: WireMaker + Sync,
+    G: Gate + Sync,
+>(rt: &R, alloc: Global, desk: &mut Desk<'_, L, P, W, G>, text: &[u8]) -> Line
+    ensures { Acts desk.old desk.new
+        (Submits desk.old.shape desk.old.session text.now) result }
+{
+    match Batch::read(alloc, text, desk.shape()) {
+        Ok(batch) => call(rt, desk, 0, Call::Submit(batch)),
+        Err(fault) => batch_refused(fault),
+    }
+}
+
+/// Fetches a batch, plans it outside the exchange, and settles its plan.
+fn plan<R: Threads + Wait + Sync, L: Ledger, P: ConfigPort, W: WireMaker + Sync, G: Gate + Sync>(
+    rt: &R,
+    alloc: Global,
+    desk: &mut Desk<'_, L, P, W, G>,
+    id: usize,
+    workers: usize,
+) -> Line
+    requires some { 1 ≤ workers }
+    requires few { workers ≤ MAX_WORKERS }
+    ensures { Acts desk.old desk.new (Plans desk.old.session id) result }
+{
+    match desk.call(rt, Call::Fetch(id)) {
+        Reply::Fetched(batch) => match schedule(rt, alloc, batch, workers, &OpenGate) {
+            Ok(planned) => call(rt, desk, id, Call::Settle(id, planned)),
+            Err(_) => refused(b"no memory"),
+        },
+        reply => told(id, &reply),
+    }
+}
+
+/// Does what a line commands that has no lines behind it, and gives the reply line.
+pub(crate) fn answer<
+    R: Threads + Wait + Sync,
+    L: Ledger,
+    P: ConfigPort,
+    W: WireMaker + Sync,
+    G: Gate + Sync,
+>(
+    rt: &R,
+    alloc: Global,
+    desk: &mut Desk<'_, L, P, W, G>,
+    command: Option<Command>,
+    workers: usize,
+) -> Line
+    requires alone { StandsAlone command }
+    requires some { 1 ≤ workers }
+    requires few { workers ≤ MAX_WORKERS }
+    ensures { (text : List ℕ) → Acts desk.old desk.new
+        (Does desk.old.shape desk.old.session command text) result }
+{
+    match command {
+        None => refused(b"line"),
+        Some(Command::Batch(_)) => refused(b"too many"),
+        Some(Command::Plan(id)) => plan(rt, alloc, desk, id, workers),
+        Some(Command::Run(id)) => call(rt, desk, id, Call::Run(id)),
+        Some(Command::Show(id)) => call(rt, desk, id, Call::Show(id)),
+        Some(Command::Drop(id)) => call(rt, desk, id, Call::Discard(id)),
+        Some(Command::Peek(module, address)) => call(rt, desk, 0, Call::Peek(module, address)),
+        Some(Command::Poke(module, address, word)) => {
+            call(rt, desk, 0, Call::Poke(module, address, word))
+        }
+        Some(Command::Progress) => progress(desk.progress()),
+        Some(Command::Bye) => bye(),
+    }
+}

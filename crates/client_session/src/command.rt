@@ -1,0 +1,166 @@
+//! The commands of a session, and the lines that they stand for.
+
+ghost use Rattle.std.specs.Prelude.{◌≡◌, ◌≢◌, ℕ, List, ◌∷◌, ◌++◌, ◌≤◌, ◌+◌, length, codes, IfSome, IfNone};
+ghost use Rattle.std.specs.Fmt.{decimal};
+ghost use Rattle.batch.specs.Text.{IsNumber, number, space};
+ghost use Rattle.line_words.specs.declared.limits.TheConstants.{NUMBER_ROOM};
+ghost use Rattle.line_words.specs.HexWords.{IsWord, hex8};
+ghost use Rattle.client_session.specs.Commands.{Means, line_of};
+
+use batch::number_from_digits;
+use line_words::{Line, behind, hex8_and_rest, number_and_rest, word_from_hex8};
+
+/// A line of a session that is in the grammar. Batches go by the numbers under which they were accepted, modules
+/// are counted from 0, and addresses are in bytes.
+#[derive(Clone, Copy, Debug, PartialEq, Eq)]
+pub enum Command {
+    /// Submit the batch whose lines follow, so many: `batch N`.
+    Batch(usize),
+    /// Plan this batch: `plan ID`.
+    Plan(usize),
+    /// Run this batch: `run ID`.
+    Run(usize),
+    /// Tell of this batch: `show ID`.
+    Show(usize),
+    /// Let this batch go: `drop ID`.
+    Drop(usize),
+    /// Tell the word of a module at an address: `peek M A`.
+    Peek(usize, u32),
+    /// Write a word of a module at an address: `poke M A D`.
+    Poke(usize, u32, u32),
+    /// Tell how far the runs of the exchange have come: `progress`.
+    Progress,
+    /// End the session: `bye`.
+    Bye,
+}
+
+/// The number behind a word that the line begins with.
+fn number_behind(line: &[u8], word: &[u8]) -> Option<usize>
+    ensures some { IfSome result (λ n. IsNumber n × (line.now ≡ word.now ++ decimal n)) }
+    ensures none { IfNone result ((n : ℕ) → IsNumber n → line.now ≢ word.now ++ decimal n) }
+{
+    let digits = behind(line, word)?;
+    number_from_digits(digits)
+}
+
+/// What a line that peeks names.
+fn peek(line: &[u8]) -> Option<(usize, u32)>
+    ensures some { IfSome result (λ p. IsNumber p.0 × IsWord p.1
+        × (line.now ≡ codes "peek " ++ number p.0 space ++ hex8 p.1)) }
+    ensures none { IfNone result ((n a : ℕ) → IsNumber n → IsWord a
+        → line.now ≢ codes "peek " ++ number n space ++ hex8 a) }
+{
+    let rest = behind(line, b"peek ")?;
+    let (module, rest) = number_and_rest(rest)?;
+    let address = word_from_hex8(rest)?;
+    Some((module, address))
+}
+
+/// What a line that pokes names.
+fn poke(line: &[u8]) -> Option<(usize, u32, u32)>
+    ensures some { IfSome result (λ p. IsNumber p.0 × IsWord p.1 × IsWord p.2
+        × (line.now ≡ codes "poke " ++ (number p.0 space ++ (hex8 p.1 ++ space ∷ hex8 p.2)))) }
+    ensures none { IfNone result ((n a w : ℕ) → IsNumber n → IsWord a → IsWord w
+        → line.now ≢ codes "poke " ++ (number n space ++ (hex8 a ++ space ∷ hex8 w))) }
+{
+    let rest = behind(line, b"poke ")?;
+    let (module, rest) = number_and_rest(rest)?;
+    let (address, rest) = hex8_and_rest(rest)?;
+    let word = word_from_hex8(rest)?;
+    Some((module, address, word))
+}
+
+/// A word and the number behind it.
+fn named(word: &[u8], n: usize) -> Line
+    requires { length word.now ≤ 20 }
+    ensures text { result ≡ word.now ++ decimal n }
+    ensures room { length result ≤ length word.now + NUMBER_ROOM }
+{
+    let mut line = Line::new();
+    line.put(word);
+    line.put_number(n as u64);
+    line
+}
+
+/// The line that peeks there.
+fn peek_line(module: usize, address: u32) -> Line
+    ensures { result ≡ line_of (Command.Peek «module» address) }
+{
+    let mut line = named(b"peek ", module);
+    line.put(b" ");
+    line.put_hex8(address);
+    line
+}
+
+/// The line that pokes this there.
+fn poke_line(module: usize, address: u32, word: u32) -> Line
+    ensures { result ≡ line_of (Command.Poke «module» address word) }
+{
+    let mut line = named(b"poke ", module);
+    line.put(b" ");
+    line.put_hex8(address);
+    line.put(b" ");
+    line.put_hex8(word);
+    line
+}
+
+impl Command {
+    /// Its line, without a line feed. Takes no memory.
+    pub fn line(self) -> Line
+        ensures { result ≡ line_of self }
+    {
+        match self {
+            Command::Batch(count) => named(b"batch ", count),
+            Command::Plan(id) => named(b"plan ", id),
+            Command::Run(id) => named(b"run ", id),
+            Command::Show(id) => named(b"show ", id),
+            Command::Drop(id) => named(b"drop ", id),
+            Command::Peek(module, address) => peek_line(module, address),
+            Command::Poke(module, address, word) => poke_line(module, address, word),
+            Command::Progress => {
+                let mut line = Line::new();
+                line.put(b"progress");
+                line
+            }
+            Command::Bye => {
+                let mut line = Line::new();
+                line.put(b"bye");
+                line
+            }
+        }
+    }
+
+    /// The command that this is the line of, without its line feed. Takes time by the length of the line.
+    pub fn read(line: &[u8]) -> Option<Command>
+        ensures { Means line.now result }
+    {
+        if let Some(count) = number_behind(line, b"batch ") {
+            return Some(Command::Batch(count));
+        }
+        if let Some(id) = number_behind(line, b"plan ") {
+            return Some(Command::Plan(id));
+        }
+        if let Some(id) = number_behind(line, b"run ") {
+            return Some(Command::Run(id));
+        }
+        if let Some(id) = number_behind(line, b"show ") {
+            return Some(Command::Show(id));
+        }
+        if let Some(id) = number_behind(line, b"drop ") {
+            return Some(Command::Drop(id));
+        }
+        if let Some((module, address)) = peek(line) {
+            return Some(Command::Peek(module, address));
+        }
+        if let Some((module, address, word)) = poke(line) {
+            return Some(Command::Poke(module, address, word));
+        }
+        if line == b"progress".as_slice() {
+            return Some(Command::Progress);
+        }
+        if line == b"bye".as_slice() {
+            return Some(Command::Bye);
+        }
+        None
+    }
+}

@@ -1,0 +1,72 @@
+//! A seat, and what its session asks of the exchange.
+
+ghost use Rattle.std.specs.Prelude.{◌≡◌, Some};
+ghost use Rattle.client_session.specs.Seats.{seat_view, IsCalled, IsRead};
+
+use batch::Shape;
+use batch_book::{Call, Reading, Reply, Seat, Shared};
+use crossbar::ConfigPort;
+use peek_poke::WireMaker;
+use schedule_certificate::Gate;
+use std::marker::Model;
+use std::sync::Wait;
+use std::sync::ledger::Ledger;
+use std::thread::Threads;
+
+/// A seat beside the exchange that it belongs to. Contracts see the seat as its session does.
+#[derive(Drop)]
+pub(crate) struct Desk<'a, L: Ledger, P, W, G> {
+    shared: &'a Shared<L, P, W, G>,
+    seat: Seat<L>,
+}
+
+impl<'a, L: Ledger, P, W, G> Model for Desk<'a, L, P, W, G> {
+    ghost use Rattle.std.specs.Prelude.{◌≡◌, Some};
+    ghost use Rattle.client_session.specs.Seats.{SeatView, seat_view};
+
+    ghost Value = { SeatView };
+
+    ghost view = { λ d. seat_view d.shared.now.shape d.seat };
+
+    ghost invariant = { λ d. d.seat.exchange ≡ Some d.shared.now.word };
+}
+
+impl<'a, L: Ledger, P, W, G> Desk<'a, L, P, W, G> {
+    /// The seat at its exchange.
+    pub fn new(shared: &'a Shared<L, P, W, G>, seat: Seat<L>) -> Desk<'a, L, P, W, G>
+        requires { seat.exchange ≡ Some shared.now.word }
+        ensures { result ≡ seat_view shared.now.shape seat }
+    {
+        Desk { shared, seat }
+    }
+
+    /// The seat.
+    pub fn into_seat(self) -> Seat<L>
+        ensures { seat_view self.entry.shape result ≡ self.entry }
+    {
+        self.seat
+    }
+
+    /// The shape of the exchange's rack.
+    pub fn shape(&self) -> Shape
+        ensures { result ≡ self.now.shape }
+    {
+        self.shared.shape()
+    }
+
+    /// Reads the progress word.
+    pub fn progress(&mut self) -> Reading
+        ensures { IsRead self.old result self.new }
+    {
+        self.shared.progress(&mut self.seat)
+    }
+}
+
+impl<L: Ledger, P: ConfigPort, W: WireMaker + Sync, G: Gate + Sync> Desk<'_, L, P, W, G> {
+    /// Makes a call of the book.
+    pub fn call<R: Threads + Wait + Sync>(&mut self, rt: &R, call: Call) -> Reply
+        ensures { IsCalled self.old call result self.new }
+    {
+        self.shared.call(rt, &mut self.seat, call)
+    }
+}

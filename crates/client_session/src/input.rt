@@ -1,0 +1,126 @@
+//! Lines from any reader, through a buffer of its own, with a limit on the calls of `read`.
+
+ghost use Rattle.std.specs.Prelude.{◌≡◌, ℕ, ◌+◌, ◌-◌, ◌^◌, ◌<◌, ◌≤◌, length, take, drop, [], None, IfSome, MatchResult, MatchOption, IsSome, IfOk, IfErr};
+ghost use Rattle.std.specs.Io.KnownBytes.{IsAtEnd};
+ghost use Rattle.client_session.specs.Bytes.{Pending, HasNoFeed, TakesIn, HasLine, fuel};
+ghost use Rattle.client_session.specs.Faults.{IsReadOrTurns, IsFaultAt};
+
+use crate::limits::{LINE_BYTES, MAX_READS};
+use std::io::Read;
+use std::marker::Model;
+
+/// Why no line came.
+#[derive(Clone, Copy, Debug, PartialEq, Eq)]
+pub(crate) enum InputFault {
+    /// The reader failed.
+    Read,
+    /// More bytes came without a line feed than a line may have.
+    LineTooLong,
+    /// The input ended inside a line.
+    Cut,
+    /// The reader was asked as often as it may be.
+    Turns,
+}
+
+/// Bytes that were read and not yet taken.
+#[derive(Drop)]
+pub(crate) struct Input {
+    buffer: [u8; LINE_BYTES + 1],
+    len: usize,
+    reads: usize,
+}
+
+impl Model for Input {
+    ghost use Rattle.std.specs.Prelude.{◌≤◌, ◌+◌, take};
+    ghost use Rattle.client_session.specs.declared.limits.TheConstants.{LINE_BYTES, MAX_READS};
+    ghost use Rattle.client_session.specs.Bytes.{Pending};
+
+    ghost Value = { Pending };
+
+    ghost view = { λ s. record { pending = take s.len s.buffer; reads = s.reads } };
+
+    ghost invariant = { λ s. (s.len ≤ LINE_BYTES + 1) × (s.reads ≤ MAX_READS) };
+}
+
+impl Input {
+    pub(crate) fn new() -> Input
+        ensures { result ≡ record { pending = []; reads = 0 } }
+    {
+        Input {
+            buffer: [0; LINE_BYTES + 1],
+            len: 0,
+            reads: 0,
+        }
+    }
+
+    /// The bytes that are pending.
+    pub(crate) fn pending(&self) -> &[u8]
+        ensures { result.now ≡ self.now.pending }
+    {
+        &self.buffer[..self.len]
+    }
+
+    /// Drops the first n bytes.
+    pub(crate) fn skip(&mut self, n: usize)
+        requires { n ≤ length self.old.pending }
+        ensures pending { self.new.pending ≡ drop n self.old.pending }
+        ensures reads { self.new.reads ≡ self.old.reads }
+    {
+        let len = self.len;
+        self.buffer.copy_within(n..len, 0);
+        self.len = len - n;
+    }
+
+    /// Asks the reader once, where there is room.
+    fn fill<R: Read>(&mut self, reader: &mut R) -> Result<usize, InputFault>
+        requires { length self.old.pending ≤ LINE_BYTES }
+        ensures takes { TakesIn (R.remaining reader.old) (R.remaining reader.new) self.old self.new }
+        ensures count { IfOk result (λ n. length self.new.pending ≡ length self.old.pending + n) }
+        ensures end { IfOk result (λ n. n ≡ 0 → IsAtEnd (R.remaining reader.new)) }
+        ensures reads { IfOk result (λ n. 0 < n → self.new.reads ≡ self.old.reads + 1) }
+        ensures err { IfErr result (λ e. (self.new.pending ≡ self.old.pending) × IsReadOrTurns e self.new.reads) }
+        ensures room { (length self.new.pending ≤ LINE_BYTES + 1) × (self.new.reads ≤ MAX_READS)
+            × (self.old.reads ≤ self.new.reads) }
+    {
+        if self.reads == MAX_READS {
+            return Err(InputFault::Turns);
+        }
+        let len = self.len;
+        match reader.read(&mut self.buffer[len..]) {
+            Ok(n) => {
+                self.len = len + n;
+                self.reads += n.min(1);
+                Ok(n)
+            }
+            Err(_) => Err(InputFault::Read),
+        }
+    }
+
+    /// The length of the line in front, without its line feed, or nothing at the end of the input. Takes time by
+    /// the length of the line times the reads that it came in.
+    pub(crate) fn next_line<R: Read>(&mut self, reader: &mut R) -> Result<Option<usize>, InputFault>
+        ensures takes { TakesIn (R.remaining reader.old) (R.remaining reader.new) self.old self.new }
+        ensures line { IfOk result (λ found. MatchOption found
+            ((self.new.pending ≡ []) × IsAtEnd (R.remaining reader.new))
+            (λ n. HasLine self.new.pending n × (n ≤ LINE_BYTES))) }
+        ensures err { IfErr result (λ e. IsFaultAt e (R.remaining reader.new) self.new) }
+        ensures fuel { fuel self.new ≤ fuel self.old }
+        ensures room { (length self.new.pending ≤ LINE_BYTES + 1) × (self.new.reads ≤ MAX_READS) }
+    {
+        loop {
+            if let Some(n) = self.pending().iter().position(|b| *b == b'\n') {
+                return Ok(Some(n));
+            }
+            if self.len == LINE_BYTES + 1 {
+                return Err(InputFault::LineTooLong);
+            }
+            if self.fill(reader)? == 0 {
+                return if self.len == 0 {
+                    Ok(None)
+                } else {
+                    Err(InputFault::Cut)
+                };
+            }
+        }
+    }
+}

@@ -1,0 +1,25 @@
+//! Sessions: a client speaks lines, and has a reply line to each command.
+//!
+//! [`serve`] reads the commands of one client and answers them from one seat of an exchange. Contracts see a
+//! session as a relation between the bytes that were read, the entries that are new in the seat's list, the
+//! progress that the seat has seen, and the bytes that were written.
+#![tactic(auto)]
+
+mod answering;
+mod command;
+mod desk;
+mod fault;
+mod input;
+pub mod laws;
+mod limits;
+mod reply_line;
+mod serving;
+mod turns;
+
+pub use command::Command;
+pub use fault::ServeFault;
+pub use limits::{LINE_BYTES, MAX_READS};
+pub use serving::serve;
+
+#[cfg(test)]
+mod tests;

@@ -1,0 +1,116 @@
+//! The session.
+
+ghost use Rattle.std.specs.Prelude.{◌≡◌, ◌≤◌, Some, OnOk, IfErr};
+ghost use Rattle.std.specs.Io.KnownBytes.{Appends};
+ghost use Rattle.batch_book.specs.Seats.{IsSameSeat};
+ghost use Rattle.client_session.specs.Sessions.{HasEnded, Passes, IsServed, fault_of, seat_back};
+ghost use Rattle.client_session.specs.Steps.{IsCut};
+
+use crate::desk::Desk;
+use crate::fault::ServeFault;
+use crate::input::Input;
+use crate::turns::turn;
+use batch_book::{Seat, Shared};
+use crossbar::ConfigPort;
+use peek_poke::WireMaker;
+use schedule_certificate::{Gate, MAX_WORKERS};
+use std::alloc::Global;
+use std::io::{Read, Write};
+use std::sync::Wait;
+use std::sync::ledger::Ledger;
+use std::thread::Threads;
+
+/// Writes the line whole, or a front of it.
+fn send<O: Write>(writer: &mut O, line: &[u8]) -> Result<(), ServeFault>
+    ensures ok { OnOk result (Appends (O.contents writer.old) (O.contents writer.new) line.now) }
+    ensures err { IfErr result (λ e. IsCut e (O.contents writer.old) (O.contents writer.new) line.now) }
+{
+    let mut rest = line;
+    while !rest.is_empty() {
+        match writer.write(rest) {
+            Ok(0) => return Err(ServeFault::Write),
+            Ok(n) => rest = &rest[n..],
+            Err(_) => return Err(ServeFault::Write),
+        }
+    }
+    match writer.flush() {
+        Ok(()) => Ok(()),
+        Err(_) => Err(ServeFault::Write),
+    }
+}
+
+/// Serves a session at a desk.
+fn serve_desk<
+    R: Threads + Wait + Sync,
+    L: Ledger,
+    P: ConfigPort,
+    W: WireMaker + Sync,
+    G: Gate + Sync,
+    I: Read,
+    O: Write,
+>(
+    rt: &R,
+    alloc: Global,
+    desk: &mut Desk<'_, L, P, W, G>,
+    reader: &mut I,
+    writer: &mut O,
+    workers: usize,
+) -> Result<(), ServeFault>
+    requires some { 1 ≤ workers }
+    requires few { workers ≤ MAX_WORKERS }
+    ensures { Passes (I.remaining reader.old) (I.remaining reader.new)
+        (O.contents writer.old) (O.contents writer.new) desk.old desk.new
+        (HasEnded (fault_of result) (I.remaining reader.new) desk.old desk.new) }
+{
+    let mut input = Input::new();
+    while let Some(n) = input.next_line(reader)? {
+        let (line, ends) = turn(rt, alloc, desk, &mut input, reader, n, workers)?;
+        send(writer, line.as_bytes())?;
+        if ends {
+            return Ok(());
+        }
+    }
+    Ok(())
+}
+
+/// Serves the session of one client from a seat: reads its commands, and writes a reply line to each, whole, before
+/// the next command is looked at. The seat comes back, whether the session ended by itself, behind a whole command
+/// or by `bye`, or by a fault.
+///
+/// A client that asks for a plan has it made by so many workers, at most [`MAX_WORKERS`], outside the exchange's
+/// lock. A reply takes no memory, so none is lost whose call was made; want of memory is a reply, but for the text
+/// of a batch, where it ends the session.
+///
+/// A command takes time by its lines and by its call, whatever the session has said before it.
+pub fn serve<
+    R: Threads + Wait + Sync,
+    L: Ledger,
+    P: ConfigPort,
+    W: WireMaker + Sync,
+    G: Gate + Sync,
+    I: Read,
+    O: Write,
+>(
+    rt: &R,
+    alloc: Global,
+    shared: &Shared<L, P, W, G>,
+    seat: Seat<L>,
+    reader: &mut I,
+    writer: &mut O,
+    workers: usize,
+) -> Result<Seat<L>, (Seat<L>, ServeFault)>
+    requires seat { seat.exchange ≡ Some shared.now.word }
+    requires some { 1 ≤ workers }
+    requires few { workers ≤ MAX_WORKERS }
+    ensures seat { IsSameSeat seat (seat_back result) }
+    ensures session { IsServed shared.now.shape seat result (I.remaining reader.old) (I.remaining reader.new)
+        (O.contents writer.old) (O.contents writer.new) }
+{
+    let mut desk = Desk::new(shared, seat);
+    let ended = serve_desk(rt, alloc, &mut desk, reader, writer, workers);
+    let seat = desk.into_seat();
+    match ended {
+        Ok(()) => Ok(seat),
+        Err(fault) => Err((seat, fault)),
+    }
+}

@@ -1,0 +1,6 @@
+mod commands;
+mod ends;
+mod office;
+mod replies;
+mod rows;
+mod streams;

@@ -1,0 +1,262 @@
+//! How sessions end.
+
+use super::office::{Client, Ended, NO_FUSE, day_of, is_answered, saying};
+use super::rows::ONE_SCRIPT;
+use super::streams::{Full, Sink, Source};
+use crate::ServeFault;
+use std::alloc::AllocError;
+use std::sync::Wait;
+use std::test::Fail;
+use std::thread::Threads;
+
+/// Eighty letters.
+const LETTERS: &str =
+    "aaaaaaaaaaaaaaaaaaaaaaaaaaaaaaaaaaaaaaaaaaaaaaaaaaaaaaaaaaaaaaaaaaaaaaaaaaaaaaaa";
+
+/// How a client alone ends at an exchange of shape 1x1x1, and how many entries there are.
+fn end_of<R: AllocGlobal + Threads + Wait + Sync>(
+    rt: &R,
+    client_of: Client<'_>,
+) -> Option<(Option<ServeFault>, usize, Vec<u8>)> {
+    let mut clients = (client_of, saying(rt.alloc(), b""));
+    let ended = day_of(rt, "1x1x1", NO_FUSE, &mut clients)?;
+    let written = Vec::from_slice(rt.alloc(), clients.0.sink.bytes()).ok()?;
+    Some((ended.first, ended.history, written))
+}
+
+/// Whether it ends so, with so many entries, and has heard this.
+fn ends_so<R: AllocGlobal + Threads + Wait + Sync>(
+    rt: &R,
+    client_of: Client<'_>,
+    fault: Option<ServeFault>,
+    entries: usize,
+    want: &str,
+) -> bool {
+    match end_of(rt, client_of) {
+        Some((end, history, written)) => {
+            end == fault && history == entries && written.as_slice() == want.as_bytes()
+        }
+        None => false,
+    }
+}
+
+/// A client that says this, whose writer has room for so many bytes and then does this.
+fn deaf<R: AllocGlobal>(rt: &R, script: &'static str, room: usize, full: Full) -> Client<'static> {
+    Client {
+        source: Source::of(script.as_bytes()),
+        sink: Sink::with_room(rt.alloc(), room, full),
+    }
+}
+
+/// A client that says this, whose reader fails after so many reads of so many bytes.
+fn mute<R: AllocGlobal>(
+    rt: &R,
+    script: &'static str,
+    step: usize,
+    fails_at: usize,
+) -> Client<'static> {
+    let mut client_of = saying(rt.alloc(), script.as_bytes());
+    client_of.source.step = step;
+    client_of.source.fails_at = fails_at;
+    client_of
+}
+
+#[test]
+fn session_ends(rt: HostRuntime) -> Result<(), Fail> {
+    let alloc = rt.alloc();
+    assert!(rt; is_answered(&rt, "1x1x1", "", "", None, 0));
+    assert!(rt; is_answered(&rt, "1x1x1", "bye\nxyz", "bye\n", None, 0));
+    let line = format!(in alloc; "{LETTERS}\n")?;
+    assert!(rt; is_answered(&rt, "1x1x1", line.as_str(), "refused line\n", None, 0));
+    let long = format!(in alloc; "peek 0 80000800\n{LETTERS}a")?;
+    let fault = Some(ServeFault::LineTooLong);
+    assert!(rt; is_answered(&rt, "1x1x1", long.as_str(), "word 00000000\n", fault, 1));
+    assert!(rt; is_answered(&rt, "1x1x1", "batch 1\n", "", Some(ServeFault::Cut), 0));
+    Ok(())
+}
+
+#[test]
+fn session_ends_by_its_reader(rt: HostRuntime) -> Result<(), Fail> {
+    let read = Some(ServeFault::Read);
+    assert!(rt; ends_so(&rt, mute(&rt, "", 1, 0), read, 0, ""));
+    let script = "peek 0 80000800\nhello\n";
+    assert!(rt; ends_so(&rt, mute(&rt, script, 1, 15), read, 0, ""));
+    assert!(rt; ends_so(&rt, mute(&rt, script, 1, 16), read, 1, "word 00000000\n"));
+    assert!(rt; ends_so(&rt, mute(&rt, script, 1, 21), read, 1, "word 00000000\n"));
+    let want = "word 00000000\nrefused line\n";
+    assert!(rt; ends_so(&rt, mute(&rt, script, 1, 22), read, 1, want));
+    assert!(rt; ends_so(&rt, mute(&rt, script, 1, 23), None, 1, want));
+    assert!(rt;
+        ends_so(
+            &rt,
+            mute(&rt, "batch 1\npush 0 0 0 0\n", 1, 10),
+            read,
+            0,
+            ""
+        )
+    );
+    Ok(())
+}
+
+#[test]
+fn session_ends_by_its_writer(rt: HostRuntime) -> Result<(), Fail> {
+    let write = Some(ServeFault::Write);
+    let script = "peek 0 80000800\nhello\n";
+    assert!(rt;
+        ends_so(
+            &rt,
+            deaf(&rt, "peek 0 80000800\n", 0, Full::Fails),
+            write,
+            1,
+            ""
+        )
+    );
+    assert!(rt; ends_so(&rt, deaf(&rt, script, 5, Full::Fails), write, 1, "word "));
+    assert!(rt;
+        ends_so(
+            &rt,
+            deaf(&rt, script, 14, Full::Fails),
+            write,
+            1,
+            "word 00000000\n"
+        )
+    );
+    assert!(rt;
+        ends_so(
+            &rt,
+            deaf(&rt, script, 26, Full::Fails),
+            write,
+            1,
+            "word 00000000\nrefused line"
+        )
+    );
+    let want = "word 00000000\nrefused line\n";
+    assert!(rt; ends_so(&rt, deaf(&rt, script, 27, Full::Fails), None, 1, want));
+    let nothing = deaf(&rt, script, 5, Full::TakesNothing);
+    assert!(rt; ends_so(&rt, nothing, write, 1, "word "));
+    let mut flushed = deaf(&rt, script, 100, Full::Fails);
+    flushed.sink.flush_fails = true;
+    assert!(rt; ends_so(&rt, flushed, write, 1, "word 00000000\n"));
+    let mut slow = deaf(&rt, script, 100, Full::Fails);
+    slow.sink.step = 1;
+    assert!(rt; ends_so(&rt, slow, None, 1, want));
+    Ok(())
+}
+
+/// The first script of row one-script, cut after so many bytes, and the replies to its whole commands. It is whole
+/// where it isn't cut within a command.
+#[derive(Drop)]
+struct Front {
+    script: Vec<u8>,
+    replies: Vec<u8>,
+    whole: bool,
+}
+
+fn cut_after<R: AllocGlobal>(rt: &R, count: usize) -> Result<Front, AllocError> {
+    let mut script = Vec::new(rt.alloc());
+    let mut replies = Vec::new(rt.alloc());
+    let mut whole = count == 0;
+    for (command, reply) in &ONE_SCRIPT {
+        script.extend_from_slice(command.as_bytes())?;
+        if script.len() <= count {
+            replies.extend_from_slice(reply.as_bytes())?;
+        }
+        whole = whole || script.len() == count;
+    }
+    script.truncate(count);
+    Ok(Front {
+        script,
+        replies,
+        whole,
+    })
+}
+
+/// Whether that is answered so at a new exchange.
+fn is_cut_so<R: AllocGlobal + Threads + Wait + Sync>(rt: &R, count: usize) -> bool {
+    let Ok(front) = cut_after(rt, count) else {
+        return false;
+    };
+    let fault = if front.whole {
+        None
+    } else {
+        Some(ServeFault::Cut)
+    };
+    let mut clients = (
+        saying(rt.alloc(), front.script.as_slice()),
+        saying(rt.alloc(), b""),
+    );
+    let ended = day_of(rt, "2x2x2", NO_FUSE, &mut clients);
+    ended.is_some_and(|ended| ended.first == fault)
+        && clients.0.sink.bytes() == front.replies.as_slice()
+}
+
+#[test]
+fn one_script_cut_after_each_byte(rt: HostRuntime) {
+    for count in 0..89 {
+        assert!(rt; is_cut_so(&rt, count), "at {count}");
+    }
+}
+
+/// A client that says these bytes so many times, at most so many a read.
+fn endless<R: AllocGlobal>(
+    rt: &R,
+    bytes: &'static str,
+    times: usize,
+    step: usize,
+) -> Client<'static> {
+    let mut source = Source::of(bytes.as_bytes());
+    source.times = times;
+    source.step = step;
+    Client {
+        source,
+        sink: Sink::new(rt.alloc()),
+    }
+}
+
+/// How often the text has this line, where it has nothing else.
+fn times_of(text: &[u8], line: &[u8]) -> Option<usize> {
+    let len = line.len();
+    if len == 0 || text.len() % len != 0 {
+        return None;
+    }
+    for (place, byte) in text.iter().enumerate() {
+        if line[place % len] != *byte {
+            return None;
+        }
+    }
+    Some(text.len() / len)
+}
+
+#[test]
+fn a_reader_without_end(rt: HostRuntime) -> Result<(), Fail> {
+    let hello = endless(&rt, "hello\n", usize::MAX, 1);
+    let (fault, entries, written) = end_of(&rt, hello).ok_or("not closed")?;
+    assert_eq!(rt; (fault, entries), (Some(ServeFault::Turns), 0));
+    let times = times_of(written.as_slice(), b"refused line\n");
+    assert_eq!(rt; times, Some(166_666));
+    Ok(())
+}
+
+#[test]
+fn a_full_history(rt: HostRuntime) -> Result<(), Fail> {
+    let peeks = endless(&rt, "peek 0 80000800\n", 65_537, 16);
+    let (fault, entries, written) = end_of(&rt, peeks).ok_or("not closed")?;
+    assert_eq!(rt; (fault, entries), (None, 65_536));
+    let last = b"refused history full\n".as_slice();
+    let front = written.as_slice().strip_suffix(last).ok_or("no refusal")?;
+    assert_eq!(rt; times_of(front, b"word 00000000\n"), Some(65_536));
+    Ok(())
+}
+
+#[test]
+fn a_full_book(rt: HostRuntime) -> Result<(), Fail> {
+    let batches = endless(&rt, "batch 0\n", 257, 81);
+    let (fault, entries, written) = end_of(&rt, batches).ok_or("not closed")?;
+    assert_eq!(rt; (fault, entries), (None, 257));
+    assert!(rt;
+        written
+            .as_slice()
+            .ends_with(b"accepted 256\nrefused book full\n".as_slice())
+    );
+    Ok(())
+}

@@ -1,0 +1,10 @@
+//! The sizes of words and lines.
+
+/// How many hexadecimal digits a word of 32 bits has.
+pub const HEX_DIGITS: usize = 8;
+
+/// Room for a number, whatever digits it has.
+pub const NUMBER_ROOM: usize = 20;
+
+/// How many bytes a line may have. This is the project's choice: it is enough for the longest reply.
+pub const LINE_ROOM: usize = 1024;
