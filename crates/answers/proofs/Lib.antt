@@ -3,3 +3,4 @@ pub mod OneVerdict
 pub mod OneReport
 pub mod Reporting
 pub mod Fewest
+pub mod Sessions

@@ -1,4 +1,7 @@
 pub mod Refusals
 pub mod Reports
 pub mod Answers
+pub mod Frames
+pub mod Serving
+pub mod Hosting
 pub use Rattle.batch.specs.Extent

@@ -46,14 +46,22 @@ impl Answer {
         }
     }
 
+    /// A text under the status [`REFUSED`].
+    pub fn failed(text: Vec<u8>) -> Answer
+        ensures text { result.text ≡ text.items }
+        ensures status { result.status ≡ REFUSED }
+    {
+        Answer {
+            bytes: text,
+            code: REFUSED,
+        }
+    }
+
     /// The line of a refusal that says these words, under the status [`REFUSED`].
     pub fn refused(alloc: Global, words: &str) -> Result<Answer, AllocError>
         ensures { IfOk result (IsRefused words.now) }
     {
         let line = format!(in alloc; "refused {words}\n")?;
-        Ok(Answer {
-            bytes: line.into_bytes(),
-            code: REFUSED,
-        })
+        Ok(Answer::failed(line.into_bytes()))
     }
 }

@@ -9,21 +9,26 @@
 mod answer;
 mod checking;
 mod checking_fault;
+mod frames;
 mod limits;
 mod planning;
 mod refusal;
 mod report;
 mod running;
 mod running_fault;
+mod serving;
+mod session;
 
 pub use answer::Answer;
 pub use checking::answer_check;
 pub use checking_fault::CheckingFault;
+pub use client_session::{LINE_BYTES, MAX_READS};
 pub use limits::{DONE, REFUSED};
 pub use planning::answer_plan;
 pub use running::answer_run;
 pub use running_fault::RunningFault;
 pub use schedule_certificate::MAX_WORKERS;
+pub use serving::answer_serve;
 
 #[cfg(test)]
 mod tests;

@@ -1,5 +1,7 @@
 ghost use Rattle.std.specs.Prelude.{◌≤◌};
 
+mod serving;
+
 use crate::answer::Answer;
 use crate::checking::answer_check;
 use crate::planning::answer_plan;

@@ -1,25 +1,39 @@
 -- The job that the words of the command line name.
-use Rattle.std.specs.Prelude.{◌≡◌, ◌⊎◌, ℕ, ◌≤◌, List, Some, String, codes, map, string_bytes, MatchOption, ⊤}
+use Rattle.std.specs.Prelude.{◌≡◌, ◌⊎◌, ℕ, ◌≤◌, List, Some, String, codes, length, map, string_bytes, MatchOption, ⊤}
 use Rattle.std.specs.Str.Parse.{digits_value, without_leading_plus}
-use Rattle.clap.specs.Words.{Row, Text, first_of, one_of, subcommand_of, subcommand_rows_of}
+use Rattle.clap.specs.Words.{Row, Text, all_of, first_of, one_of, subcommand_of, subcommand_rows_of}
 use Rattle.clap.specs.declared.parser.matches.ArgMatches.{ArgMatches}
 use Rattle.clap.specs.Values.{kind_of}
 use Rattle.clap.specs.declared.error.Error.{Error}
 use Rattle.clap.specs.declared.error.kind.ErrorKind.TheVariants.{DisplayHelp, DisplayVersion}
 use Rattle.schedule_certificate.specs.declared.limits.TheConstants.{MAX_WORKERS}
+use Rattle.command_words.specs.declared.limits.TheConstants.{MAX_SCRIPTS}
 use Rattle.command_words.specs.declared.words.Job.{Job}
-use Rattle.command_words.specs.declared.words.Job.TheVariants.{Plan, Check, Run}
+use Rattle.command_words.specs.declared.words.Job.TheVariants.{Plan, Check, Run, Serve}
 use Rattle.command_words.specs.Program.{program}
 
 -- the number that the text of `--workers` reads as
 abbrev pub HasWorkers : List Row → ℕ → Type 0
 HasWorkers rows n = (text : Text) × (one_of (codes "workers") rows ≡ Some text) × (n ≡ digits_value 10 (without_leading_plus text)) × (1 ≤ n) × (n ≤ MAX_WORKERS)
 
+-- the text of a rack's shape
+abbrev pub HasShape : List Row → Text → Type 0
+HasShape rows shape = first_of (codes "SHAPE") rows ≡ Some shape
+
+-- so many scripts may be served
+abbrev pub AreScripts : List Text → Type 0
+AreScripts scripts = (1 ≤ length scripts) × (length scripts ≤ MAX_SCRIPTS)
+
+-- the texts of the scripts, in their order
+abbrev pub HasScripts : List Row → List Text → Type 0
+HasScripts rows scripts = (all_of (codes "SCRIPT") rows ≡ Some scripts) × AreScripts scripts
+
 -- the command by its name, with its texts and its number of workers where it takes one
 abbrev pub IsJob : Text → List Row → Job → Type 0
 IsJob name rows (Plan file workers) = (name ≡ codes "plan") × (first_of (codes "FILE") rows ≡ Some file) × HasWorkers rows workers
 IsJob name rows (Check batch schedule) = (name ≡ codes "check") × (first_of (codes "BATCH") rows ≡ Some batch) × (first_of (codes "SCHEDULE") rows ≡ Some schedule)
-IsJob name rows (Run shape batch workers) = (name ≡ codes "run") × (first_of (codes "SHAPE") rows ≡ Some shape) × (first_of (codes "BATCH") rows ≡ Some batch) × HasWorkers rows workers
+IsJob name rows (Run shape batch workers) = (name ≡ codes "run") × HasShape rows shape × (first_of (codes "BATCH") rows ≡ Some batch) × HasWorkers rows workers
+IsJob name rows (Serve shape scripts workers) = (name ≡ codes "serve") × HasShape rows shape × HasScripts rows scripts × HasWorkers rows workers
 
 -- the words as lists of their bytes
 abbrev pub texts_of : {Z : Type 0} → List (String Z) → List Text
@@ -38,6 +52,7 @@ abbrev pub IsWithinLimits : Job → Type 0
 IsWithinLimits (Plan file workers) = (1 ≤ workers) × (workers ≤ MAX_WORKERS)
 IsWithinLimits (Check batch schedule) = ⊤
 IsWithinLimits (Run shape batch workers) = (1 ≤ workers) × (workers ≤ MAX_WORKERS)
+IsWithinLimits (Serve shape scripts workers) = AreScripts scripts × (1 ≤ workers) × (workers ≤ MAX_WORKERS)
 
 -- the words ask for a text that helps, and make no mistake
 abbrev pub AsksForHelp : Error → Type 0

@@ -5,10 +5,15 @@ use Rattle.clap.specs.declared.builder.command.Command.{Command}
 use Rattle.clap.specs.declared.builder.command.Command.TheViews.{out-Command as fields_of}
 use Rattle.clap.specs.declared.builder.value_parser.ValueParser.TheVariants as parser
 use Rattle.schedule_certificate.specs.declared.limits.TheConstants.{MAX_WORKERS}
+use Rattle.command_words.specs.declared.limits.TheConstants.{MAX_SCRIPTS}
 
 -- a word that has to be there
 abbrev pub word : List ℕ → Rule
 word id = record (new_rule id) { required = true }
+
+-- the word of the scripts: it has to be there, and may be there so many times
+abbrev pub words : Rule
+words = record (word (codes "SCRIPT")) { range = Some (record { start_inclusive = 1; end_inclusive = MAX_SCRIPTS }) }
 
 -- `--workers`, at least 1, and 1 where it is left out
 abbrev pub workers : Rule
@@ -31,6 +36,10 @@ check = with_rule (with_rule (new_app (codes "check")) (word (codes "BATCH"))) (
 abbrev pub run : App
 run = with_rule (with_rule (with_rule (new_app (codes "run")) (word (codes "SHAPE"))) (word (codes "BATCH"))) workers
 
+-- `serve SHAPE SCRIPT.. [--workers N]`
+abbrev pub serve : App
+serve = with_rule (with_rule (with_rule (new_app (codes "serve")) (word (codes "SHAPE"))) words) workers
+
 -- the program's name, which a command has to follow
 abbrev pub top : App
 top = record (new_app (codes "exchange")) { top = record (new_app (codes "exchange")).top { subcommand_required = true } }
@@ -41,7 +50,7 @@ planner = with_subcommand (with_subcommand top plan.top) check.top
 
 -- the whole program
 abbrev pub program : App
-program = with_subcommand planner run.top
+program = with_subcommand (with_subcommand planner run.top) serve.top
 
 -- the command has no argument that the commands below it share
 abbrev pub IsLocal : Command → Type 0

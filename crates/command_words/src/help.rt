@@ -76,5 +76,60 @@ and its first J.
 Status: 0 the batch was run, 1 it was refused or there was no memory, 2 the
 words fit no command, 3 the answer couldn't be written.";
 
+/// What `serve --help` says below its options.
+pub const SERVE_NOTES: &str = "\
+SHAPE is MxKxW, in the form that `exchange run --help` shows. Each SCRIPT is a
+file of session lines; 1 to 16 of them are served at once, one thread each. They
+share one exchange: one rack, whose words are 0 at first, and one switch.
+
+A line has at most 80 bytes, and single spaces between its words. It is answered
+by one line:
+  batch N      takes the N batch lines behind it, N up to 4096: accepted ID
+  plan ID      plans the batch: planned ID settings S
+  run ID       runs its plan: ran ID run R settings S words X bits Y
+  show ID      how it stands: batch ID transfers N waiting, or planned, or ran
+  drop ID      forgets the batch: dropped ID
+  peek M A     reads the word of module M at address A: word D
+  poke M A D   writes D there: poked
+  progress     how far the last run is: progress run R done SETTINGS
+  bye          ends the session: bye
+Batches and runs are numbered from 1, in the order in which the exchange meets
+them, and a batch is its session's own. A and D are eight hexadecimal digits.
+Word j of block b is at address 80000800 + 4 (W b + j), in hexadecimal digits.
+
+The answer is, for each script in the order of the words, the line `session I`,
+with I from 0, and then the lines that its commands are answered by. A command
+may be refused; then nothing has changed, and the session goes on:
+  refused line               the line has another form
+  refused ..                 the batch, as `exchange plan --help` shows, in
+                             this rack; its lines count from the line `batch N`
+  refused unknown            the session has no batch ID
+  refused unplanned          batch ID has no plan
+  refused already            it has a plan, or was run
+  refused overlap I J        as `exchange run --help` shows
+  refused memory no module   there is no module M
+  refused memory misaligned  A isn't a multiple of four
+  refused memory outside     no word of the module is at A
+  refused book full          the exchange holds as many batches as it can
+  refused history full       the exchange has had as many calls as it can
+  refused no memory          there was no memory for it
+A session that doesn't end with its script or by `bye` has one line more:
+  ended cut                  the script ends within a line or within a batch
+  ended line too long        a line has more than 80 bytes
+  ended turns                the script was read 1000000 times
+  ended no memory            there was no memory for the lines of a batch
+  ended write                there was no memory for an answer
+  ended read                 the script can't be read any further
+The line `logs disagree` at the end would say that what the sessions did isn't
+what the exchange's history has of them.
+
+Else nothing is served, and the answer is the first of these that is wrong:
+  refused file   a SCRIPT can't be read
+  refused shape  SHAPE is no shape
+
+Status: 0 each session ended with its script or by `bye`, 1 one of them didn't,
+or nothing was served, or there was no memory, 2 the words fit no command, 3 the
+answer couldn't be written.";
+
 /// What is said of `--workers`.
 pub const WORKERS_HELP: &str = "How many workers there may be, from 1 to 64";

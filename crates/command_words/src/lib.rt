@@ -2,11 +2,15 @@
 #![tactic(auto)]
 
 mod help;
+mod limits;
 mod text;
+mod text_list;
 mod words;
 
+pub use limits::MAX_SCRIPTS;
 pub use schedule_certificate::MAX_WORKERS;
 pub use text::Text;
+pub use text_list::TextList;
 pub use words::{Job, WordsFault, read_words};
 
 #[cfg(test)]

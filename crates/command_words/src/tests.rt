@@ -1,4 +1,6 @@
-use crate::help::{CHECK_NOTES, PLAN_NOTES, RUN_NOTES, WORKERS_HELP};
+use crate::help::{CHECK_NOTES, PLAN_NOTES, RUN_NOTES, SERVE_NOTES, WORKERS_HELP};
+use crate::limits::MAX_SCRIPTS;
+use crate::text_list::TextList;
 use crate::words::{Job, WordsFault, read_words};
 use batch::{MAX_BLOCKS, MAX_MODULES, MAX_TRANSFERS, MAX_WORDS};
 use module_memory::{BLOCK_MARK, MODULE_MARK};
@@ -52,6 +54,31 @@ fn is_run(job: Result<Job, WordsFault>, wanted: &str, name: &str, count: usize) 
     }
 }
 
+/// Whether the words ask to serve the scripts of these files on a rack of the shape with so many workers.
+fn is_serve(job: Result<Job, WordsFault>, wanted: &str, names: &[&str], count: usize) -> bool {
+    match job {
+        Ok(
+            Job::Serve {
+                shape,
+                scripts,
+                workers,
+            },
+        ) => shape.as_str() == wanted && are_texts(&scripts, names) && workers == count,
+        _ => false,
+    }
+}
+
+/// Whether these are the texts of the list, in this order.
+fn are_texts(texts: &TextList, wanted: &[&str]) -> bool {
+    for (i, word) in wanted.iter().enumerate() {
+        match texts.get(i) {
+            Some(text) if text.as_str() == *word => {}
+            _ => return false,
+        }
+    }
+    texts.len() == wanted.len() && texts.is_empty() == wanted.is_empty()
+}
+
 /// Whether clap refuses the words with a text on standard error.
 fn is_misused(job: Result<Job, WordsFault>) -> bool {
     match job {
@@ -92,6 +119,53 @@ fn words_name_jobs(rt: HostRuntime) {
         "exchange chart F",
         "exchange plan F --workers 0",
         "exchange plan F --workers 65",
+    ] {
+        assert!(rt; is_misused(read(alloc, line)), "{line}");
+    }
+}
+
+/// Scripts are kept in the order of the words, and there are 1 to 16 of them.
+#[test]
+fn words_name_scripts(rt: HostRuntime) {
+    let alloc = rt.alloc();
+    assert!(rt; is_serve(read(alloc, "exchange serve S A"), "S", &["A"], 1));
+    assert!(rt;
+        is_serve(
+            read(alloc, "exchange serve S B A B"),
+            "S",
+            &["B", "A", "B"],
+            1
+        )
+    );
+    assert!(rt;
+        is_serve(
+            read(alloc, "exchange serve S A B --workers 64"),
+            "S",
+            &["A", "B"],
+            64
+        )
+    );
+    assert!(rt;
+        is_serve(
+            read(alloc, "exchange serve --workers 2 S A B"),
+            "S",
+            &["A", "B"],
+            2
+        )
+    );
+    let sixteen = "exchange serve S a b c d e f g h i j k l m n o p";
+    let names = [
+        "a", "b", "c", "d", "e", "f", "g", "h", "i", "j", "k", "l", "m", "n", "o", "p",
+    ];
+    assert!(rt; is_serve(read(alloc, sixteen), "S", &names, 1));
+    for line in [
+        "exchange serve",
+        "exchange serve S",
+        "exchange serve --workers 2 S",
+        "exchange serve S a b c d e f g h i j k l m n o p q",
+        "exchange serve S A --workers 0",
+        "exchange serve S A --workers 65",
+        "exchange serve S A --workers",
     ] {
         assert!(rt; is_misused(read(alloc, line)), "{line}");
     }
@@ -159,6 +233,16 @@ fn rack_limits_in_help(rt: HostRuntime) -> Result<(), Fail> {
     Ok(())
 }
 
+/// The numbers of scripts and of batch lines stand in the help as they are.
+#[test]
+fn script_limits_in_help(rt: HostRuntime) -> Result<(), Fail> {
+    let alloc = rt.alloc();
+    let scripts = format!(in alloc; "1 to {MAX_SCRIPTS} of them");
+    assert!(rt; says(SERVE_NOTES, scripts)?);
+    assert!(rt; says(SERVE_NOTES, format!(in alloc; "N up to {MAX_TRANSFERS}: "))?);
+    Ok(())
+}
+
 /// The refusals that a command has stand in its help in the order in which they are looked for.
 #[test]
 fn refusals_in_help(rt: HostRuntime) {
@@ -194,6 +278,27 @@ fn refusals_in_help(rt: HostRuntime) {
         )
     );
     assert!(rt; are_in_order(RUN_NOTES, &["file", "shape", "..", "overlap I J"]));
+    assert!(rt;
+        are_in_order(
+            SERVE_NOTES,
+            &[
+                "line",
+                "..",
+                "unknown",
+                "unplanned",
+                "already",
+                "overlap I J",
+                "memory no module",
+                "memory misaligned",
+                "memory outside",
+                "book full",
+                "history full",
+                "no memory",
+                "file",
+                "shape",
+            ]
+        )
+    );
 }
 
 /// Whether the refusals that a help text lists are these, in this order.

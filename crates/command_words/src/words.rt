@@ -1,13 +1,16 @@
 //! The words of the command line.
 
-ghost use Rattle.std.specs.Prelude.{◌≡◌, IfOk, false, Some};
+ghost use Rattle.std.specs.Prelude.{◌≡◌, IfOk, false, Some, codes};
 ghost use Rattle.clap.specs.Words.{new_app, app_of, rule_of, first_of, rows_of, found_of};
-ghost use Rattle.command_words.specs.Program.{IsLocal, IsCommand, AddsRule, AddsCommand, word, workers};
-ghost use Rattle.command_words.specs.Program.{top, planner, program, plan as plan_app, check as check_app, run as run_app};
-ghost use Rattle.command_words.specs.Jobs.{Holds, HasWorkers, IsJob, IsWithinLimits, AreMatchesOf, texts_of};
+ghost use Rattle.command_words.specs.Program.{IsLocal, IsCommand, AddsRule, AddsCommand, word, words, workers};
+ghost use Rattle.command_words.specs.Program.{top, planner, program};
+ghost use Rattle.command_words.specs.Program.{plan as plan_app, check as check_app, run as run_app, serve as serve_app};
+ghost use Rattle.command_words.specs.Jobs.{Holds, HasShape, HasScripts, HasWorkers, IsJob, IsWithinLimits, AreMatchesOf, texts_of};
 
-use crate::help::{CHECK_NOTES, PLAN_NOTES, RUN_NOTES, WORKERS_HELP};
+use crate::help::{CHECK_NOTES, PLAN_NOTES, RUN_NOTES, SERVE_NOTES, WORKERS_HELP};
+use crate::limits::MAX_SCRIPTS;
 use crate::text::Text;
+use crate::text_list::TextList;
 use clap::error::ErrorKind;
 use clap::{Arg, ArgMatches, Command, value_parser};
 use schedule_certificate::MAX_WORKERS;
@@ -31,6 +34,13 @@ pub enum Job {
     Run {
         shape: Text,
         batch: Text,
+        workers: usize,
+    },
+    /// Serve the scripts of 1 to [`MAX_SCRIPTS`] files, side by side on one exchange with a rack of the shape,
+    /// with 1 to [`MAX_WORKERS`] workers.
+    Serve {
+        shape: Text,
+        scripts: TextList,
         workers: usize,
     },
 }
@@ -89,6 +99,21 @@ fn with_word<'a>(
     command.arg(required(alloc, id, help))
 }
 
+/// The command with the word of the shape.
+fn with_shape<'a>(alloc: Global, command: Command<'a>) -> Result<Command<'a>, AllocError>
+    ensures { IfOk result (AddsRule command.entry (word (codes "SHAPE"))) }
+{
+    with_word(alloc, command, "SHAPE", "The shape of the rack, as 3x2x2")
+}
+
+/// The word of the scripts, which has to be there, up to [`MAX_SCRIPTS`] times.
+fn scripts<'a>(alloc: Global) -> Arg<'a>
+    ensures rule { rule_of result ≡ words }
+    ensures local { result.global ≡ false }
+{
+    required(alloc, "SCRIPT", "A file of session lines").num_args(1..=MAX_SCRIPTS)
+}
+
 /// `--workers N`.
 fn workers<'a>(alloc: Global) -> Arg<'a>
     ensures rule { rule_of result ≡ workers }
@@ -107,6 +132,13 @@ fn with_workers<'a>(alloc: Global, command: Command<'a>) -> Result<Command<'a>, 
     ensures { IfOk result (AddsRule command.entry workers) }
 {
     command.arg(workers(alloc))
+}
+
+/// The command with the word of the scripts.
+fn with_scripts<'a>(alloc: Global, command: Command<'a>) -> Result<Command<'a>, AllocError>
+    ensures { IfOk result (AddsRule command.entry words) }
+{
+    command.arg(scripts(alloc))
 }
 
 /// `plan FILE [--workers N]`.
@@ -135,9 +167,20 @@ fn run<'a>(alloc: Global) -> Result<Command<'a>, AllocError>
 {
     let about = "Runs a batch on a rack: sets the switch, moves the blocks and reports";
     let run = command(alloc, "run", about, RUN_NOTES);
-    let run = with_word(alloc, run, "SHAPE", "The shape of the rack, as 3x2x2")?;
+    let run = with_shape(alloc, run)?;
     let run = with_word(alloc, run, "BATCH", "The file of the batch")?;
     with_workers(alloc, run)
+}
+
+/// `serve SHAPE SCRIPT.. [--workers N]`.
+fn serve<'a>(alloc: Global) -> Result<Command<'a>, AllocError>
+    ensures { IfOk result (IsCommand serve_app) }
+{
+    let about = "Serves scripts side by side on one exchange, and prints the replies to each";
+    let serve = command(alloc, "serve", about, SERVE_NOTES);
+    let serve = with_shape(alloc, serve)?;
+    let serve = with_scripts(alloc, serve)?;
+    with_workers(alloc, serve)
 }
 
 /// The command with one more command below it, where that could be had.
@@ -172,7 +215,8 @@ fn program<'a>(alloc: Global) -> Result<Command<'a>, AllocError>
     ensures { IfOk result (λ c. app_of c ≡ program) }
 {
     let planner = planner(alloc)?;
-    with_command(planner, run(alloc))
+    let runner = with_command(planner, run(alloc))?;
+    with_command(runner, serve(alloc))
 }
 
 /// The matches of the words.
@@ -203,6 +247,25 @@ fn text_of(alloc: Global, matches: &ArgMatches<'_>, id: &str) -> Result<Text, Wo
     }
 }
 
+/// The text of the shape.
+fn shape_of(alloc: Global, matches: &ArgMatches<'_>) -> Result<Text, WordsFault>
+    ensures { IfOk result (λ shape. HasShape (rows_of (found_of matches.now)) shape) }
+{
+    text_of(alloc, matches, "SHAPE")
+}
+
+/// The texts of the scripts.
+fn scripts_of(alloc: Global, matches: &ArgMatches<'_>) -> Result<TextList, WordsFault>
+    ensures { IfOk result (λ texts. HasScripts (rows_of (found_of matches.now)) texts) }
+{
+    match matches.get_strs("SCRIPT") {
+        Some(texts) if texts.len() >= 1 && texts.len() <= MAX_SCRIPTS => Ok(TextList::of(
+            alloc, texts,
+        )?),
+        _ => Err(missing(alloc)),
+    }
+}
+
 /// The number of `--workers`.
 fn workers_of(alloc: Global, matches: &ArgMatches<'_>) -> Result<usize, WordsFault>
     ensures { IfOk result (λ n. HasWorkers (rows_of (found_of matches.now)) n) }
@@ -229,12 +292,22 @@ fn job_of(alloc: Global, name: &str, found: &ArgMatches<'_>) -> Result<Job, Word
         return Ok(Job::Check { batch, schedule });
     }
     if name == "run" {
-        let shape = text_of(alloc, found, "SHAPE")?;
+        let shape = shape_of(alloc, found)?;
         let batch = text_of(alloc, found, "BATCH")?;
         let workers = workers_of(alloc, found)?;
         return Ok(Job::Run {
             shape,
             batch,
+            workers,
+        });
+    }
+    if name == "serve" {
+        let shape = shape_of(alloc, found)?;
+        let scripts = scripts_of(alloc, found)?;
+        let workers = workers_of(alloc, found)?;
+        return Ok(Job::Serve {
+            shape,
+            scripts,
             workers,
         });
     }

@@ -1,12 +1,13 @@
 -- What the program prints for a job.
-use Rattle.std.specs.Prelude.{◌≡◌, ◌⊎◌, ℕ, List, Option, Result, Ok, Err, IfOk, codes}
+use Rattle.std.specs.Prelude.{◌≡◌, ◌⊎◌, ℕ, List, Option, Result, Ok, Err, IfOk, codes, length}
 use Rattle.std.specs.Io.KnownBytes.{Appends}
 use Rattle.answers.specs.Extent.{widest}
 use Rattle.answers.specs.Answers.{IsPlanned, IsChecked, IsRunAnswer}
 use Rattle.answers.specs.Refusals.{Printed}
+use Rattle.answers.specs.Serving.{IsServeAnswer}
 use Rattle.answers.specs.declared.limits.TheConstants.{DONE, REFUSED}
 use Rattle.command_words.specs.declared.words.Job.{Job}
-use Rattle.command_words.specs.declared.words.Job.TheVariants.{Plan, Check, Run}
+use Rattle.command_words.specs.declared.words.Job.TheVariants.{Plan, Check, Run, Serve}
 use Rattle.command_words.specs.declared.words.WordsFault.{WordsFault}
 use Rattle.command_words.specs.declared.words.WordsFault.TheVariants as words_fault
 use Rattle.command_words.specs.Jobs.{Holds, AsksForHelp}
@@ -26,11 +27,16 @@ IsSomeCheck answer = (batch schedule : List ℕ) × IsChecked widest batch sched
 abbrev pub IsSomeRun : List ℕ → Printed → Type 0
 IsSomeRun shape answer = (batch : List ℕ) × IsRunAnswer shape batch answer
 
+-- an answer of `serve` to this shape's text and to so many scripts of some bytes
+abbrev pub IsSomeServe : List ℕ → ℕ → Printed → Type 0
+IsSomeServe shape count answer = (scripts : List (List ℕ)) × (length scripts ≡ count) × IsServeAnswer shape scripts answer
+
 -- the answer to a job, whatever bytes its files hold
 abbrev pub IsAnswerTo : Job → Printed → Type 0
 IsAnswerTo (Plan file workers) answer = IsSomePlan answer
 IsAnswerTo (Check batch schedule) answer = IsSomeCheck answer
 IsAnswerTo (Run shape batch workers) answer = IsSomeRun shape answer
+IsAnswerTo (Serve shape scripts workers) answer = IsSomeServe shape (length scripts) answer
 
 -- the line where there is no answer
 abbrev pub unanswered_line : Unanswered → List ℕ

@@ -1,19 +1,21 @@
 //! From the words of the command line to what is printed, and the status that the program ends with.
 
-ghost use Rattle.std.specs.Prelude.{◌≡◌, ◌⊎◌, ◌≤◌, IfOk, OnErr};
+ghost use Rattle.std.specs.Prelude.{◌≡◌, ◌⊎◌, ◌≤◌, IfOk, OnErr, length, vec_len};
 ghost use Rattle.std.specs.Process.{exit_status};
 ghost use Rattle.answers.specs.Refusals.{Printed};
-ghost use Rattle.command_words.specs.Jobs.{IsWithinLimits, texts_of};
-ghost use Rattle.exchange.specs.Responses.{IsSomePlan, IsSomeCheck, IsSomeRun, IsAnswerTo, IsResponseTo, IsPrinted};
+ghost use Rattle.command_words.specs.Jobs.{AreScripts, IsWithinLimits, texts_of};
+ghost use Rattle.exchange.specs.Responses.{IsSomePlan, IsSomeCheck, IsSomeRun, IsSomeServe, IsAnswerTo, IsResponseTo, IsPrinted};
 ghost use Rattle.exchange.specs.Responses.{unanswered, IsEndFor, IsEndForWords, IsEndWithoutWords};
 
 use crate::limits::{MISUSED, UNWRITTEN};
 use crate::unanswered::Unanswered;
-use answers::{Answer, DONE, REFUSED, answer_check, answer_plan, answer_run};
-use command_words::{Job, MAX_WORKERS, Text, WordsFault, read_words};
+use answers::{Answer, DONE, REFUSED, answer_check, answer_plan, answer_run, answer_serve};
+use command_words::{Job, MAX_WORKERS, Text, TextList, WordsFault, read_words};
+use std::alloc::AllocError;
 use std::io::{ErrorKind, Write};
 use std::process::ExitCode;
 use std::rt::Files;
+use std::sync::Wait;
 use std::thread::Threads;
 use std::{fs, io};
 
@@ -21,7 +23,7 @@ use std::{fs, io};
 /// ends with: [`UNWRITTEN`] where that can't be printed.
 ///
 /// Answers, refusals and the texts of help go to `out`; words that fit no command are answered on `err`.
-pub fn respond<R: AllocGlobal + Files + Threads + Sync, O: Write, E: Write>(
+pub fn respond<R: AllocGlobal + Files + Threads + Wait + Sync, O: Write, E: Write>(
     rt: &R,
     words: io::Result<Vec<String>>,
     out: &mut O,
@@ -42,7 +44,7 @@ pub fn respond<R: AllocGlobal + Files + Threads + Sync, O: Write, E: Write>(
 }
 
 /// Does what the words ask for. The error is that of writing.
-fn respond_to_words<R: AllocGlobal + Files + Threads + Sync, O: Write, E: Write>(
+fn respond_to_words<R: AllocGlobal + Files + Threads + Wait + Sync, O: Write, E: Write>(
     rt: &R,
     words: io::Result<Vec<String>>,
     out: &mut O,
@@ -64,7 +66,7 @@ fn respond_to_words<R: AllocGlobal + Files + Threads + Sync, O: Write, E: Write>
 }
 
 /// Does a job, or prints why there is none. The error is that of writing.
-pub fn respond_to<R: AllocGlobal + Files + Threads + Sync, O: Write, E: Write>(
+pub fn respond_to<R: AllocGlobal + Files + Threads + Wait + Sync, O: Write, E: Write>(
     rt: &R,
     job: Result<Job, WordsFault>,
     out: &mut O,
@@ -88,7 +90,7 @@ pub fn respond_to<R: AllocGlobal + Files + Threads + Sync, O: Write, E: Write>(
 }
 
 /// Does a job, and prints its answer, or why it has none. The error is that of writing.
-fn carry_out<R: AllocGlobal + Files + Threads + Sync, O: Write>(
+fn carry_out<R: AllocGlobal + Files + Threads + Wait + Sync, O: Write>(
     rt: &R,
     job: Job,
     out: &mut O,
@@ -104,7 +106,7 @@ fn carry_out<R: AllocGlobal + Files + Threads + Sync, O: Write>(
 }
 
 /// The answer to a job, or why it has none.
-fn answer_to<R: AllocGlobal + Files + Threads + Sync>(
+fn answer_to<R: AllocGlobal + Files + Threads + Wait + Sync>(
     rt: &R,
     job: Job,
 ) -> Result<Answer, Unanswered>
@@ -119,6 +121,11 @@ fn answer_to<R: AllocGlobal + Files + Threads + Sync>(
             batch,
             workers,
         } => run(rt, &shape, &batch, workers),
+        Job::Serve {
+            shape,
+            scripts,
+            workers,
+        } => serve(rt, &shape, &scripts, workers),
     }
 }
 
@@ -163,6 +170,36 @@ fn run<R: AllocGlobal + Files + Threads + Sync>(
     let batch = fs::read(rt, batch.as_str())?;
     let shape = shape.as_str().as_bytes();
     Ok(answer_run(rt, rt.alloc(), shape, batch.as_slice(), workers)?)
+}
+
+/// The answer of `exchange serve SHAPE SCRIPT..`. The scripts' files are read in the order of the words, and
+/// before the shape is looked at.
+fn serve<R: AllocGlobal + Files + Threads + Wait + Sync>(
+    rt: &R,
+    shape: &Text,
+    scripts: &TextList,
+    workers: usize,
+) -> Result<Answer, Unanswered>
+    requires scripts { AreScripts scripts.now }
+    requires some { 1 ≤ workers }
+    requires few { workers ≤ MAX_WORKERS }
+    ensures { IfOk result (IsSomeServe shape.now (length scripts.now)) }
+{
+    let files = read_files(rt, scripts.as_slice())?;
+    let shape = shape.as_str().as_bytes();
+    Ok(answer_serve(rt, rt.alloc(), shape, workers, files.as_slice())?)
+}
+
+/// What the files hold, in the order of their names: the first that can't be read is the error.
+fn read_files<R: AllocGlobal + Files>(rt: &R, names: &[Text]) -> Result<Vec<Vec<u8>>, Unanswered>
+    ensures { IfOk result (λ files. vec_len files ≡ length names.now) }
+{
+    let mut files = Vec::new(rt.alloc());
+    for name in names {
+        let file = fs::read(rt, name.as_str())?;
+        files.push(file).map_err(|_| AllocError)?;
+    }
+    Ok(files)
 }
 
 /// Prints an answer, and gives its status.

@@ -3,11 +3,13 @@
 
 use crate::dispatch::{respond, respond_to};
 use crate::unanswered::Unanswered;
+use answers::{LINE_BYTES, MAX_READS};
 use command_words::WordsFault;
 use std::alloc::{AllocError, Global};
 use std::io::{ErrorKind, Write};
 use std::process::ExitCode;
 use std::rt::Files;
+use std::sync::Wait;
 use std::test::Fail;
 use std::thread::Threads;
 use std::{fs, io};
@@ -29,7 +31,7 @@ fn words(alloc: Global, line: &str) -> Result<Vec<String>, AllocError> {
 
 /// Whether the program prints the text for the words of a line, nothing on standard error, and ends with
 /// the status.
-fn prints<R: AllocGlobal + Files + Threads + Sync>(
+fn prints<R: AllocGlobal + Files + Threads + Wait + Sync>(
     rt: &R,
     line: &str,
     text: &str,
@@ -140,9 +142,180 @@ fn run_of_a_file_that_is_missing(rt: HostRuntime) -> Result<(), Fail> {
     Ok(())
 }
 
+/// The first script of row one-script.
+const FETCH: &str = "\
+poke 1 80000808 000000ff
+batch 1
+pull 0 0 1 1
+plan 1
+run 1
+progress
+peek 0 80000800
+bye
+";
+
+/// Row one-script, from its files.
+#[test]
+fn one_script(rt: HostRuntime) -> Result<(), Fail> {
+    let told = "\
+session 0
+poked
+accepted 1
+planned 1 settings 1
+ran 1 run 1 settings 1 words 2 bits 234
+progress run 1 done 1
+word 000000ff
+bye
+session 1
+refused unknown
+";
+    fs::write(&rt, "one.fetch", FETCH.as_bytes())?;
+    fs::write(&rt, "one.look", b"show 1\n")?;
+    let alone = prints(&rt, "exchange serve 2x2x2 one.fetch one.look", told, 0)?;
+    let many = prints(
+        &rt,
+        "exchange serve --workers 64 2x2x2 one.fetch one.look",
+        told,
+        0,
+    )?;
+    fs::remove_file(&rt, "one.fetch")?;
+    fs::remove_file(&rt, "one.look")?;
+    assert!(rt; alone);
+    assert!(rt; many);
+    Ok(())
+}
+
+/// A session that is cut gives status 1.
+#[test]
+fn serve_of_a_script_that_is_cut(rt: HostRuntime) -> Result<(), Fail> {
+    fs::write(&rt, "cut.session", b"peek 0 80000800\nbatch 1\n")?;
+    let told = "session 0\nword 00000000\nended cut\n";
+    let cut = prints(&rt, "exchange serve 1x1x1 cut.session", told, 1)?;
+    fs::remove_file(&rt, "cut.session")?;
+    assert!(rt; cut);
+    Ok(())
+}
+
+/// All scripts are read before the shape is looked at.
+#[test]
+fn serve_of_a_file_that_is_missing(rt: HostRuntime) -> Result<(), Fail> {
+    fs::write(&rt, "serve.there", b"bye\n")?;
+    let first = prints(
+        &rt,
+        "exchange serve 0x1x1 serve.none serve.there",
+        "refused file\n",
+        1,
+    )?;
+    let last = prints(
+        &rt,
+        "exchange serve 0x1x1 serve.there serve.none",
+        "refused file\n",
+        1,
+    )?;
+    let shape = prints(
+        &rt,
+        "exchange serve 0x1x1 serve.there serve.there",
+        "refused shape\n",
+        1,
+    )?;
+    fs::remove_file(&rt, "serve.there")?;
+    assert!(rt; first);
+    assert!(rt; last);
+    assert!(rt; shape);
+    Ok(())
+}
+
+/// The files of a stored run with sixteen scripts.
+const NAMES: [&str; 16] = [
+    "serve.a", "serve.b", "serve.c", "serve.d", "serve.e", "serve.f", "serve.g", "serve.h",
+    "serve.i", "serve.j", "serve.k", "serve.l", "serve.m", "serve.n", "serve.o", "serve.p",
+];
+
+/// Writes a script into each file, which writes a word of its own and reads it.
+fn write_scripts<R: AllocGlobal + Files>(rt: &R) -> io::Result<()> {
+    for (i, name) in NAMES.iter().enumerate() {
+        let address = 0x8000_0800 + 4 * i;
+        let script = format!(in rt.alloc();
+            "poke 0 {address:08x} 0000c0{i:02x}\npeek 0 {address:08x}\n"
+        )?;
+        fs::write(rt, *name, script.as_bytes())?;
+    }
+    Ok(())
+}
+
+/// Removes the files.
+fn remove_scripts<R: AllocGlobal + Files>(rt: &R) -> io::Result<()> {
+    for name in &NAMES {
+        fs::remove_file(rt, *name)?;
+    }
+    Ok(())
+}
+
+/// Sixteen scripts are told in the order of the words, which isn't that of their names.
+#[test]
+fn sixteen_scripts(rt: HostRuntime) -> Result<(), Fail> {
+    let line = "exchange serve 1x1x16 serve.p serve.a serve.o serve.b serve.n serve.c serve.m \
+        serve.d serve.l serve.e serve.k serve.f serve.j serve.g serve.i serve.h";
+    let told = "\
+session 0
+poked
+word 0000c00f
+session 1
+poked
+word 0000c000
+session 2
+poked
+word 0000c00e
+session 3
+poked
+word 0000c001
+session 4
+poked
+word 0000c00d
+session 5
+poked
+word 0000c002
+session 6
+poked
+word 0000c00c
+session 7
+poked
+word 0000c003
+session 8
+poked
+word 0000c00b
+session 9
+poked
+word 0000c004
+session 10
+poked
+word 0000c00a
+session 11
+poked
+word 0000c005
+session 12
+poked
+word 0000c009
+session 13
+poked
+word 0000c006
+session 14
+poked
+word 0000c008
+session 15
+poked
+word 0000c007
+";
+    write_scripts(&rt)?;
+    let served = prints(&rt, line, told, 0)?;
+    remove_scripts(&rt)?;
+    assert!(rt; served);
+    Ok(())
+}
+
 /// Whether the program prints a text that begins so for the words of a line, nothing on standard error,
 /// and ends with status 0.
-fn helps<R: AllocGlobal + Files + Threads + Sync>(
+fn helps<R: AllocGlobal + Files + Threads + Wait + Sync>(
     rt: &R,
     line: &str,
     begin: &str,
@@ -163,15 +336,48 @@ fn help_is_an_answer(rt: HostRuntime) -> Result<(), Fail> {
         ("exchange plan --help", "Prints a schedule of a batch"),
         ("exchange check --help", "Judges a schedule of a batch"),
         ("exchange run --help", "Runs a batch on a rack"),
+        (
+            "exchange serve --help",
+            "Serves scripts side by side on one exchange",
+        ),
     ] {
         assert!(rt; helps(&rt, line, begin)?, "{line}");
     }
     Ok(())
 }
 
+/// Whether the help of `serve` has the phrase.
+fn serve_says<R: AllocGlobal + Files + Threads + Wait + Sync>(
+    rt: &R,
+    phrase: Result<String, AllocError>,
+) -> Result<bool, AllocError> {
+    let phrase = phrase?;
+    let words = words(rt.alloc(), "exchange serve --help")?;
+    let mut out = Vec::new(rt.alloc());
+    let mut err = Vec::new(rt.alloc());
+    respond(rt, Ok(words), &mut out, &mut err);
+    match str::from_utf8(out.as_slice()) {
+        Ok(text) => Ok(text.contains(phrase.as_str())),
+        Err(_) => Ok(false),
+    }
+}
+
+/// The limits of a session stand in the help as they are.
+#[test]
+fn session_limits_in_help(rt: HostRuntime) -> Result<(), Fail> {
+    let alloc = rt.alloc();
+    let bytes = format!(in alloc; "A line has at most {LINE_BYTES} bytes");
+    assert!(rt; serve_says(&rt, bytes)?);
+    let longer = format!(in alloc; "a line has more than {LINE_BYTES} bytes\n");
+    assert!(rt; serve_says(&rt, longer)?);
+    let reads = format!(in alloc; "the script was read {MAX_READS} times\n");
+    assert!(rt; serve_says(&rt, reads)?);
+    Ok(())
+}
+
 /// Whether the program prints nothing for the words of a line but on standard error, and ends with
 /// status 2.
-fn is_misused<R: AllocGlobal + Files + Threads + Sync>(
+fn is_misused<R: AllocGlobal + Files + Threads + Wait + Sync>(
     rt: &R,
     line: &str,
 ) -> Result<bool, AllocError> {
@@ -190,6 +396,7 @@ fn misuse_is_an_error(rt: HostRuntime) -> Result<(), Fail> {
         "exchange plan",
         "exchange chart F",
         "exchange run S B --workers 65",
+        "exchange serve S",
     ] {
         assert!(rt; is_misused(&rt, line)?, "{line}");
     }
@@ -198,7 +405,7 @@ fn misuse_is_an_error(rt: HostRuntime) -> Result<(), Fail> {
 
 /// Whether the program prints these texts on standard output and on standard error where the words can't be
 /// had for this reason, and ends with the status.
-fn ends_without_words<R: AllocGlobal + Files + Threads + Sync>(
+fn ends_without_words<R: AllocGlobal + Files + Threads + Wait + Sync>(
     rt: &R,
     why: ErrorKind,
     printed: &str,
@@ -222,7 +429,9 @@ fn words_that_cannot_be_had(rt: HostRuntime) {
 }
 
 /// Whether want of memory while the words are read is a refusal.
-fn refuses_without_memory<R: AllocGlobal + Files + Threads + Sync>(rt: &R) -> io::Result<bool> {
+fn refuses_without_memory<R: AllocGlobal + Files + Threads + Wait + Sync>(
+    rt: &R,
+) -> io::Result<bool> {
     let mut out = Vec::new(rt.alloc());
     let mut err = Vec::new(rt.alloc());
     let status = respond_to(rt, Err(WordsFault::NoMemory), &mut out, &mut err)?;
@@ -268,7 +477,7 @@ impl Write for Full {
 
 /// Whether the program says on standard error that it can't write, and ends with status 3, where standard
 /// output takes so many bytes only.
-fn is_unwritten<R: AllocGlobal + Files + Threads + Sync>(
+fn is_unwritten<R: AllocGlobal + Files + Threads + Wait + Sync>(
     rt: &R,
     line: &str,
     room: usize,

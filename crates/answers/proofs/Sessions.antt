@@ -1,0 +1,174 @@
+-- The sessions of scripts, the seats of their exchange, and its history.
+use Rattle.std.proofs.Common.{◌≡◌, ℕ, ◌+◌, ◌<◌, ◌≤◌, suc, Bool, true, false, ◌||◌, is_some, List, [], ◌∷◌, ◌++◌, length, get_or, map, option_map, All, Option, Some, Result, Ok, Err, IfOk, refl, sym, ap, ap₂, ◌∙◌, subst, slice_get, take, arith}
+use Rattle.std.specs.List.{range_with_len, sum, sum_by}
+use Rattle.std.proofs.lemmas.List.{take_more, take-map, flat_map_more, get_or-map, length-map, map-id}
+use Rattle.std.proofs.lemmas.List.Elements.{All-map}
+use Rattle.std.proofs.lemmas.List.Folds.{list_any_at, list_any_more}
+use Rattle.std.proofs.lemmas.List.FromFn.{get_or-range_with_len, length-range_with_len}
+use Rattle.std.proofs.lemmas.Option.{slice_get-map, slice_get_read}
+use Rattle.std.proofs.lemmas.List.Sums.{sum-map}
+use Rattle.std.proofs.lemmas.Simd.{map-map}
+use Rattle.progress_word.specs.declared.limits.TheConstants.{ALL_PARTS}
+use Rattle.batch_book.specs.declared.close.Closed.{Closed}
+use Rattle.batch_book.specs.declared.entry.Entry.{Entry}
+use Rattle.batch_book.specs.Closing.{AreClosed, AllAgree, NoneAhead}
+use Rattle.batch_book.specs.Exchanges.{Exchange, AreNew, new_seat, parts_at}
+use Rattle.batch_book.specs.History.{IsLegal}
+use Rattle.batch_book.specs.Seats.{Stand, IsSameSeat, Agrees, parts_of, entries_of, own}
+use Rattle.batch_book.specs.Values.{greatest}
+use Rattle.client_session.specs.declared.fault.ServeFault.{ServeFault}
+use Rattle.client_session.specs.Seats.{SeatView, seat_view}
+use Rattle.client_session.specs.Sessions.{Passes, HasEnded}
+use Rattle.answers.specs.declared.session.Session.{Session}
+use Rattle.answers.specs.Frames.{Transcript, session_text, sessions_text, has_fault}
+use Rattle.answers.specs.Serving.{HasItsScript, HaveOneHistory}
+use Rattle.answers.specs.Hosting.{transcript, IsReady, HaveAllSeats, AreServedAt}
+
+-- ---- lists
+
+-- lists of which some value agrees place by place
+map_same : {A B C : Type 0} (f : A → C) (g : B → C) (xs : List A) (ys : List B) → length xs ≡ length ys → ((k : ℕ) (d : A) (e : B) → k < length xs → f (get_or xs k d) ≡ g (get_or ys k e)) → map f xs ≡ map g ys
+map_same f g [] [] len same = refl
+map_same f g [] (y ∷ ys) len same = absurd (omega (arith, len))
+map_same f g (x ∷ xs) [] len same = absurd (omega (arith, len))
+map_same {A} {B} {C} f g (x ∷ xs) (y ∷ ys) len same =
+    ap₂ (λ (c : C) (cs : List C). c ∷ cs) (same 0 x y (omega arith)) (map_same f g xs ys (omega (arith, len)) (λ k d e lt. same (suc k) d e (omega arith)))
+
+-- what holds of all values holds of what has them
+of_map : {X Y : Type 0} (P : Y → Type 0) (f : X → Y) (xs : List X) → All P (map f xs) → All (λ x. P (f x)) xs
+of_map P f xs all k d lt = subst P (get_or-map f xs k d (f d) lt) (all k (f d) (omega (arith, length-map xs f)))
+
+sum_mapped : {X Y : Type 0} (g : Y → ℕ) (f : X → Y) (xs : List X) → sum_by g (map f xs) ≡ sum_by (λ x. g (f x)) xs
+sum_mapped g f xs = sym (sum-map g (map f xs)) ∙ ap sum (map-map g f xs) ∙ sum-map (λ x. g (f x)) xs
+
+-- one more element
+one_more : {A B : Type 0} (f : A → B) (xs : List A) (i : ℕ) (x : A) → i < length xs → x ≡ get_or xs i x → map f (take i xs) ++ f x ∷ [] ≡ map f (take (i + 1) xs)
+one_more {A} {B} f xs i x lt is =
+    let below : i < length (map f xs) = omega (arith, length-map xs f) in
+    let last : f x ≡ get_or (map f xs) i (f x) = ap f is ∙ sym (get_or-map f xs i x (f x) lt) in
+    ap₂ (λ (ys : List B) (y : B). ys ++ y ∷ []) (sym (take-map f i xs)) last ∙ sym (take_more (map f xs) i (f x) below) ∙ take-map f (i + 1) xs
+
+-- two facts of what was had
+pub both : {X E : Type 0} (r : Result X E) {P Q S : X → Type 0} → IfOk r P → IfOk r Q → ((x : X) → P x → Q x → S x) → IfOk r S
+both (Ok x) p q f = f x p q
+both (Err e) p q f = tt
+
+-- ---- frames
+
+-- one more session is printed
+pub one_more_text : {L : Type 0} (ss : List (Session L)) (i : ℕ) (s : Session L) (before after : List ℕ) → i < length ss → s ≡ get_or ss i s
+    → before ≡ sessions_text (map transcript (take i ss)) → after ≡ before ++ session_text (transcript s) → after ≡ sessions_text (map transcript (take (i + 1) ss))
+one_more_text ss i s before after lt is framed more =
+    more ∙ ap (λ (x : List ℕ). x ++ session_text (transcript s)) framed ∙ flat_map_more session_text [] (map transcript (take i ss)) (transcript s) ∙ ap sessions_text (one_more transcript ss i s lt is)
+
+-- ---- faults
+
+-- what stands at a place among the transcripts
+there : {L : Type 0} (ss : List (Session L)) (i : ℕ) (s : Session L) → i < length ss → s ≡ get_or ss i s → get_or (map transcript ss) i (transcript s) ≡ transcript s
+there ss i s lt is = get_or-map transcript ss i s (transcript s) lt ∙ ap transcript (sym is)
+
+pub fault_here : {L : Type 0} (ss : List (Session L)) (i : ℕ) (s : Session L) → i < length ss → s ≡ get_or ss i s → is_some s.fault ≡ true → has_fault (map transcript ss) ≡ true
+fault_here ss i s lt is some =
+    let HasFault : Transcript → Bool = λ t. is_some t.fault in
+    list_any_at HasFault (map transcript ss) i (transcript s) (omega (arith, length-map ss transcript)) (ap HasFault (there ss i s lt is) ∙ some)
+
+pub no_fault_yet : {L : Type 0} (ss : List (Session L)) (i : ℕ) (s : Session L) → i < length ss → s ≡ get_or ss i s → has_fault (take i (map transcript ss)) ≡ false → is_some s.fault ≡ false
+    → has_fault (take (i + 1) (map transcript ss)) ≡ false
+no_fault_yet ss i s lt is before none =
+    let HasFault : Transcript → Bool = λ t. is_some t.fault in
+    list_any_more HasFault (map transcript ss) i (transcript s) (omega (arith, length-map ss transcript)) ∙ ap₂ ◌||◌ before (ap HasFault (there ss i s lt is) ∙ none)
+
+-- ---- a session
+
+-- the script at a place
+pub script_at : {A : Type 0} (v : A → List ℕ) (xs : List A) (k i : ℕ) (x : A) (script : List ℕ) → i ≡ k → k < length xs → x ≡ get_or xs i x → script ≡ v x → slice_get (map v xs) k ≡ Some script
+script_at v xs k i x script at lt is text =
+    slice_get-map v xs k ∙ ap (option_map v) (slice_get_read xs (length xs) k x refl lt (rw at at is)) ∙ ap Some (sym text)
+
+-- what a session of this script from a new seat leaves
+pub its_script : (x : Exchange) (scripts : List (List ℕ)) (n : ℕ) (old new : Stand) (script rest told : List ℕ) (fault : Option ServeFault)
+    → IsReady x n old → IsSameSeat old new → slice_get scripts old.session ≡ Some script
+    → Passes (Some script) (Some rest) (Some []) (Some told) (seat_view x.shape old) (seat_view x.shape new) (HasEnded fault (Some rest) (seat_view x.shape old) (seat_view x.shape new))
+    → HasItsScript x.shape scripts (record { session = new.session; entries = new.log; seen = new.seen; told = told; fault = fault })
+its_script x scripts n old new script rest told fault ready same at p =
+    let seat : SeatView = seat_view x.shape old in
+    let left : SeatView = record seat { log = new.log; seen = new.seen } in
+    let kept : seat_view x.shape new ≡ left = rw (same.exchange, same.session, same.parts) refl in
+    let entries : p.entries ≡ new.log = sym (p.logged ∙ ap (λ (es : List Entry). es ++ p.entries) ready.log) in
+    let End : SeatView → List Entry → List ℕ → Type 0 = λ v es w. HasEnded fault (Some rest) seat v p.bytes es w in
+    let one : End left p.entries p.written = subst (λ v. End v p.entries p.written) kept p.is_so in
+    let two : End left new.log p.written = subst (λ es. End left es p.written) entries one in (
+      script,
+      ap (slice_get scripts) same.session ∙ at,
+      record {
+        seat = seat;
+        is_new = record { shape_is = refl; session_is = sym same.session; log = ready.log; seen = ready.seen };
+        read = p.bytes;
+        rest = rest;
+        front = p.consumed;
+        ended = subst (λ w. End left new.log w) (sym p.appended) two;
+      },
+    )
+
+-- ---- all sessions
+
+-- the session of the seat at a place
+pub record IsOfSeat {L : Type 0} (x : Exchange) (scripts : List (List ℕ)) (seats : List Stand) (k : ℕ) (s : Session L) : Type 0 where
+  pub seat : Stand
+  pub at : (e : Stand) → get_or seats k e ≡ seat
+  pub same : IsSameSeat seat s.seat
+  pub its : HasItsScript x.shape scripts (transcript s)
+
+-- each seat of a new exchange has had its session
+pub all_served : {L : Type 0} (x : Exchange) (scripts : List (List ℕ)) (n : ℕ) (seats : List Stand) (ss : List (Session L))
+    → n ≡ length scripts → AreNew x.word n seats → length ss ≡ length seats → ((k : ℕ) (s : Session L) → k < length seats → IsOfSeat x scripts seats k (get_or ss k s))
+    → AreServedAt x scripts ss
+all_served {L} x scripts n seats ss count new len each =
+    let begun : (k : ℕ) (s : Session L) (lt : k < length ss) → (each k s (omega (arith, len))).seat ≡ new_seat x.word k (parts_at n k) =
+    λ k s lt. let o = each k s (omega (arith, len)) in sym (o.at o.seat) ∙ new.each k o.seat (omega (arith, len, new.count)) in
+    let numbers : map (λ (s : Session L). s.seat.session) ss ≡ map (λ (n : ℕ). n) (range_with_len 0 (length scripts)) =
+    map_same (λ (s : Session L). s.seat.session) (λ (n : ℕ). n) ss (range_with_len 0 (length scripts)) (omega (arith, len, count, new.count, length-range_with_len 0 (length scripts)))
+    (λ k s e lt.
+    let o = each k s (omega (arith, len)) in
+    let at = get_or-range_with_len 0 (length scripts) k e (omega (arith, len, count, new.count)) in
+    o.same.session ∙ ap (λ (t : Stand). t.session) (begun k s lt) ∙ omega (arith, at)) in
+    let parts : map (λ (s : Session L). s.seat.parts) ss ≡ map (λ (t : Stand). t.parts) seats =
+    map_same (λ (s : Session L). s.seat.parts) (λ (t : Stand). t.parts) ss seats len
+    (λ k s e lt. let o = each k s (omega (arith, len)) in o.same.parts ∙ ap (λ (t : Stand). t.parts) (sym (o.at e))) in
+    record {
+      all_seats = record {
+        seats = λ k s lt. (let o = each k s (omega (arith, len)) in o.same.exchange ∙ ap (λ (t : Stand). t.exchange) (begun k s lt));
+        parts = sym (sum-map (λ (s : Session L). s.seat.parts) ss) ∙ ap sum parts ∙ sum-map (λ (t : Stand). t.parts) seats ∙ new.parts;
+      };
+      of_scripts = record {
+        numbers = map-map (λ (t : Transcript). t.session) transcript ss ∙ numbers ∙ map-id (range_with_len 0 (length scripts));
+        each = All-map (HasItsScript x.shape scripts) transcript ss (λ k s lt. (each k s (omega (arith, len))).its);
+      };
+    }
+
+-- ---- the exchange is closed
+
+-- all seats of the exchange are there
+pub all_parts : {L : Type 0} (x : Exchange) (ss : List (Session L)) (seats : List Stand) → HaveAllSeats x ss → seats ≡ map (λ (s : Session L). s.seat) ss → parts_of seats ≡ ALL_PARTS
+all_parts {L} x ss seats all are = ap parts_of are ∙ sum_mapped (λ (t : Stand). t.parts) (λ (s : Session L). s.seat) ss ∙ all.parts
+
+pub all_of_it : {L : Type 0} (x : Exchange) (ss : List (Session L)) (seats : List Stand) → HaveAllSeats x ss → seats ≡ map (λ (s : Session L). s.seat) ss → All (λ (t : Stand). t.exchange ≡ Some x.word) seats
+all_of_it {L} x ss seats all are =
+    subst (λ (ts : List Stand). All (λ (t : Stand). t.exchange ≡ Some x.word) ts) (sym are) (All-map (λ (t : Stand). t.exchange ≡ Some x.word) (λ (s : Session L). s.seat) ss all.seats)
+
+-- the history of an exchange whose lists agree with it is that of its sessions
+pub one_history : {L P W G : Type 0} (ss : List (Session L)) (seats : List Stand) (c : Closed L P W G) → seats ≡ map (λ (s : Session L). s.seat) ss
+    → AreClosed seats c → AllAgree seats c → NoneAhead seats c → IsLegal c.book.opening c.book.history → HaveOneHistory (map transcript ss)
+one_history {L} ss seats c are closed agree behind legal =
+    let h = c.book.history in
+    let Seen : Stand → Type 0 = λ t. t.seen ≤ greatest h in
+    let agrees : All (λ (s : Session L). Agrees h s.seat) ss = of_map (Agrees h) (λ (s : Session L). s.seat) ss (subst (All (Agrees h)) are agree) in
+    let seen : All (λ (s : Session L). Seen s.seat) ss = of_map Seen (λ (s : Session L). s.seat) ss (subst (All Seen) are behind) in
+    record {
+      opening = c.book.opening;
+      history = h;
+      legal = legal;
+      entries = All-map (λ (t : Transcript). t.entries ≡ own t.session h) transcript ss agrees;
+      no_other = closed.counted ∙ ap entries_of are ∙ sum_mapped (λ (t : Stand). length t.log) (λ (s : Session L). s.seat) ss ∙ sym (sum_mapped (λ (t : Transcript). length t.entries) transcript ss);
+      seen = All-map (λ (t : Transcript). t.seen ≤ greatest h) transcript ss seen;
+    }

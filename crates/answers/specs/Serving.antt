@@ -1,0 +1,64 @@
+-- What `serve` answers.
+use Rattle.std.specs.Prelude.{◌≡◌, ℕ, ◌≤◌, List, [], ◌++◌, codes, length, map, All, slice_get, sum_by, Some}
+use Rattle.std.specs.List.{range_with_len}
+use Rattle.batch.specs.Extent.{Extent}
+use Rattle.batch.specs.ShapeText.{DenotesShape, IsBadShape}
+use Rattle.module_memory.specs.Store.{Store}
+use Rattle.batch_book.specs.declared.entry.Entry.{Entry}
+use Rattle.batch_book.specs.History.{IsLegal}
+use Rattle.batch_book.specs.Seats.{own}
+use Rattle.batch_book.specs.Values.{greatest}
+use Rattle.client_session.specs.Seats.{SeatView}
+use Rattle.client_session.specs.Sessions.{HasEnded}
+use Rattle.answers.specs.declared.limits.TheConstants.{REFUSED}
+use Rattle.answers.specs.Refusals.{Printed, IsRefused}
+use Rattle.answers.specs.Frames.{Transcript, sessions_text, status_of, disagree_line}
+
+-- a seat of this session, which has asked nothing and seen nothing, at an exchange whose rack has this shape
+pub record IsNewSeat (shape : Extent) (session : ℕ) (seat : SeatView) : Type 0 where
+  pub shape_is : seat.shape ≡ shape
+  pub session_is : seat.session ≡ session
+  pub log : seat.log ≡ []
+  pub seen : seat.seen ≡ 0
+
+-- a session that began on a new seat, was given a front of this script to read, and has ended as a session may
+pub record IsSessionOf (shape : Extent) (script : List ℕ) (t : Transcript) : Type 0 where
+  pub seat : SeatView
+  pub is_new : IsNewSeat shape t.session seat
+  pub read : List ℕ
+  pub rest : List ℕ
+  pub front : script ≡ read ++ rest
+  pub ended : HasEnded t.fault (Some rest) seat (record seat { log = t.entries; seen = t.seen }) read t.entries t.told
+
+-- it is one of the script at its number's place
+abbrev pub HasItsScript : Extent → List (List ℕ) → Transcript → Type 0
+HasItsScript shape scripts t = (script : List ℕ) × (slice_get scripts t.session ≡ Some script) × IsSessionOf shape script t
+
+-- each script has its session, in the order of the scripts
+pub record AreSessionsOf (shape : Extent) (scripts : List (List ℕ)) (sessions : List Transcript) : Type 0 where
+  pub numbers : map (λ t. t.session) sessions ≡ range_with_len 0 (length scripts)
+  pub each : All (HasItsScript shape scripts) sessions
+
+-- One history of an exchange, which is legal from some words, has just the entries of these sessions: those of each session in its order. No
+-- session saw the runs come further than the history tells.
+pub record HaveOneHistory (sessions : List Transcript) : Type 0 where
+  pub opening : Store
+  pub history : List Entry
+  pub legal : IsLegal opening history
+  pub entries : All (λ t. t.entries ≡ own t.session history) sessions
+  pub no_other : length history ≡ sum_by (λ t. length t.entries) sessions
+  pub seen : All (λ t. t.seen ≤ greatest history) sessions
+
+-- The texts of the sessions are printed. Where these have no one history, that is said by a last line.
+pub data ArePrinted (sessions : List Transcript) (printed : Printed) : Type 0 where
+  agree : HaveOneHistory sessions → printed.text ≡ sessions_text sessions → printed.status ≡ status_of sessions → ArePrinted sessions printed
+  disagree : printed.text ≡ sessions_text sessions ++ disagree_line → printed.status ≡ REFUSED → ArePrinted sessions printed
+
+-- the sessions of the scripts on one exchange, with a rack of the shape, are printed
+abbrev pub AreServed : Extent → List (List ℕ) → Printed → Type 0
+AreServed shape scripts printed = (sessions : List Transcript) × AreSessionsOf shape scripts sessions × ArePrinted sessions printed
+
+-- the sessions of the scripts on a rack of the shape that the text denotes, or the refusal where it denotes none
+pub data IsServeAnswer (shape : List ℕ) (scripts : List (List ℕ)) (printed : Printed) : Type 0 where
+  served : (extent : Extent) → DenotesShape shape extent → AreServed extent scripts printed → IsServeAnswer shape scripts printed
+  shape_refused : IsBadShape shape → IsRefused (codes "shape") printed → IsServeAnswer shape scripts printed

@@ -1,0 +1,87 @@
+//! How sessions are printed.
+
+ghost use Rattle.std.specs.Prelude.{◌≡◌, ◌++◌, IfOk, OnOk, map};
+ghost use Rattle.answers.specs.Frames.{ended_line, end_text, heading, session_text, sessions_text, has_fault};
+ghost use Rattle.answers.specs.Hosting.{transcript};
+
+use crate::session::Session;
+use client_session::ServeFault;
+use std::alloc::{AllocError, Global};
+use std::sync::ledger::Ledger;
+
+/// The line that tells of a fault which ended a session.
+fn ended_line(fault: ServeFault) -> &'static [u8]
+    ensures { result.now ≡ ended_line fault }
+{
+    match fault {
+        ServeFault::Read => b"ended read\n",
+        ServeFault::Write => b"ended write\n",
+        ServeFault::LineTooLong => b"ended line too long\n",
+        ServeFault::Cut => b"ended cut\n",
+        ServeFault::Turns => b"ended turns\n",
+        ServeFault::NoMemory => b"ended no memory\n",
+    }
+}
+
+/// Puts the line of a session's number at the end of the text.
+fn push_heading(alloc: Global, text: &mut Vec<u8>, session: usize) -> Result<(), AllocError>
+    ensures { OnOk result (text.new.items ≡ text.old.items ++ heading session) }
+{
+    let line = format!(in alloc; "session {session}\n")?;
+    text.extend_from_slice(line.as_str().as_bytes())
+}
+
+/// Puts what is said of a session's end at the end of the text, behind what the session was told.
+pub fn push_end(
+    text: &mut Vec<u8>,
+    told: &[u8],
+    fault: Option<ServeFault>,
+) -> Result<(), AllocError>
+    ensures { OnOk result (text.new.items ≡ text.old.items ++ end_text told.now fault) }
+{
+    let Some(fault) = fault else {
+        return Ok(());
+    };
+    match told.last() {
+        Some(last) if *last != b'\n' => text.push(b'\n')?,
+        _ => {}
+    }
+    text.extend_from_slice(ended_line(fault))
+}
+
+/// Puts what is printed of a session at the end of the text.
+fn push_session<L: Ledger>(
+    alloc: Global,
+    text: &mut Vec<u8>,
+    session: &Session<L>,
+) -> Result<(), AllocError>
+    ensures { OnOk result (text.new.items ≡ text.old.items ++ session_text (transcript session.now)) }
+{
+    push_heading(alloc, text, session.seat.session())?;
+    text.extend_from_slice(session.told.as_slice())?;
+    push_end(text, session.told.as_slice(), session.fault)
+}
+
+/// What is printed of sessions: for each the line `session I`, what it was told, and where a fault ended it
+/// a line that says so.
+pub fn frame<L: Ledger>(alloc: Global, sessions: &[Session<L>]) -> Result<Vec<u8>, AllocError>
+    ensures { IfOk result (λ text. text.items ≡ sessions_text (map transcript sessions.now)) }
+{
+    let mut text = Vec::new(alloc);
+    for session in sessions {
+        push_session(alloc, &mut text, session)?;
+    }
+    Ok(text)
+}
+
+/// Whether a fault ended one of the sessions.
+pub fn has_fault<L: Ledger>(sessions: &[Session<L>]) -> bool
+    ensures { result ≡ has_fault (map transcript sessions.now) }
+{
+    for session in sessions {
+        if session.fault.is_some() {
+            return true;
+        }
+    }
+    false
+}

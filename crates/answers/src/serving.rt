@@ -1,0 +1,193 @@
+//! The command `serve`.
+
+ghost use Rattle.std.specs.Prelude.{◌≡◌, ◌≤◌, IfOk, length, map, true};
+ghost use Rattle.progress_word.specs.declared.limits.TheConstants.{ALL_PARTS};
+ghost use Rattle.batch_book.specs.Exchanges.{AreNew};
+ghost use Rattle.batch_book.specs.Seats.{IsSameSeat};
+ghost use Rattle.answers.specs.Hosting.{transcript, IsReady, HaveAllSeats, AreServedAt};
+ghost use Rattle.answers.specs.Serving.{HasItsScript, HaveOneHistory, AreServed, IsServeAnswer};
+
+use crate::answer::Answer;
+use crate::frames::{frame, has_fault};
+use crate::session::Session;
+use batch::Shape;
+use batch_book::{Seat, Shared, Unclosed};
+use client_session::serve;
+use crossbar::MemoryPort;
+use module_memory::Rack;
+use peek_poke::PlainWires;
+use progress_word::ALL_PARTS;
+use schedule_certificate::{MAX_WORKERS, OpenGate};
+use setting_runner::Plant;
+use std::alloc::{AllocError, Global};
+use std::marker::Brand;
+use std::sync::Wait;
+use std::sync::ledger::{Blank, Ledger};
+use std::thread;
+use std::thread::Threads;
+
+/// An exchange whose port and wires never fail.
+type PlainExchange<L> = Shared<L, MemoryPort, PlainWires, OpenGate>;
+
+/// Serves the script at the place of the seat's session, to the session's end.
+fn serve_script<L: Ledger, R: Threads + Wait + Sync>(
+    rt: &R,
+    alloc: Global,
+    exchange: &PlainExchange<L>,
+    seat: Seat<L>,
+    scripts: &[Vec<u8>],
+    workers: usize,
+) -> Session<L>
+    requires seat { IsReady exchange.now (length scripts.now) seat }
+    requires some { 1 ≤ workers }
+    requires few { workers ≤ MAX_WORKERS }
+    ensures same { IsSameSeat seat result.seat }
+    ensures served { HasItsScript exchange.now.shape (map (λ s. s.items) scripts.now)
+        (transcript result) }
+{
+    let mut reader = scripts[seat.session()].as_slice();
+    let mut told = Vec::new(alloc);
+    match serve(rt, alloc, exchange, seat, &mut reader, &mut told, workers) {
+        Ok(seat) => Session {
+            seat,
+            told,
+            fault: None,
+        },
+        Err((seat, fault)) => Session {
+            seat,
+            told,
+            fault: Some(fault),
+        },
+    }
+}
+
+/// Serves the scripts side by side, one thread for each where it can be had. The sessions come in the order
+/// of the scripts.
+fn serve_all<L: Ledger + Send + Sync, R: Threads + Wait + Sync>(
+    rt: &R,
+    alloc: Global,
+    exchange: &PlainExchange<L>,
+    seats: Vec<Seat<L>>,
+    scripts: &[Vec<u8>],
+    workers: usize,
+) -> Result<Vec<Session<L>>, AllocError>
+    requires seats { AreNew exchange.now.word (length scripts.now) seats.items }
+    requires some { 1 ≤ workers }
+    requires few { workers ≤ MAX_WORKERS }
+    ensures { IfOk result (λ sessions.
+        AreServedAt exchange.now (map (λ s. s.items) scripts.now) sessions.items) }
+{
+    let one = |seat: Seat<L>| -> Session<L>
+        requires { IsReady exchange.now (length scripts.now) seat × (1 ≤ workers)
+            × (workers ≤ MAX_WORKERS) }
+        ensures same { IsSameSeat seat result.seat }
+        ensures served { HasItsScript exchange.entry.now.shape
+            (map (λ s. s.items) scripts.entry.now) (transcript result) }
+    { serve_script(rt, alloc, exchange, seat, scripts, workers) };
+    thread::map_vec(rt, seats, &one)
+}
+
+/// The seats of sessions.
+fn seats_of<L: Ledger>(alloc: Global, sessions: Vec<Session<L>>) -> Result<Vec<Seat<L>>, AllocError>
+    ensures { IfOk result (λ seats. seats.items ≡ map (λ s. s.seat) sessions.items) }
+{
+    sessions
+        .into_iter()
+        .map(|session| session.seat)
+        .collect(alloc)
+}
+
+/// Closes the exchange, and says whether the lists of its sessions are those of its history.
+fn close<L: Ledger>(
+    alloc: Global,
+    exchange: PlainExchange<L>,
+    sessions: Vec<Session<L>>,
+) -> Result<bool, AllocError>
+    requires parts { L.parts ≡ ALL_PARTS }
+    requires seats { HaveAllSeats exchange sessions.items }
+    ensures { IfOk result (λ agree. agree ≡ true
+        → HaveOneHistory (map transcript sessions.items)) }
+{
+    match exchange.close(seats_of(alloc, sessions)?) {
+        Ok(closed) => {
+            closed.book.history();
+            Ok(true)
+        }
+        Err(Unclosed::LogsDisagree(_)) => Ok(false),
+        Err(Unclosed::SeatMissing(..)) => unreachable!(),
+    }
+}
+
+/// The answer of the scripts' sessions on one exchange with this rack.
+fn host<L: Ledger + Send + Sync, R: Threads + Wait + Sync>(
+    rt: &R,
+    alloc: Global,
+    blank: Blank,
+    rack: Rack,
+    workers: usize,
+    scripts: &[Vec<u8>],
+) -> Result<Answer, AllocError>
+    requires name { blank.name ≡ L.name }
+    requires parts { (blank.parts ≡ L.parts) × (blank.parts ≡ ALL_PARTS) }
+    requires some { 1 ≤ workers }
+    requires few { workers ≤ MAX_WORKERS }
+    ensures { IfOk result (AreServed rack.shape (map (λ s. s.items) scripts.now)) }
+{
+    let plant = Plant {
+        port: MemoryPort::new(),
+        wires: PlainWires,
+        gate: OpenGate,
+        workers,
+    };
+    let made = Shared::<L, MemoryPort, PlainWires, OpenGate>::new(
+        alloc,
+        blank,
+        rack,
+        plant,
+        scripts.len(),
+    );
+    let Ok((exchange, seats)) = made else {
+        return Err(AllocError);
+    };
+    let sessions = serve_all(rt, alloc, &exchange, seats, scripts, workers)?;
+    let mut text = frame(alloc, sessions.as_slice())?;
+    let failed = has_fault(sessions.as_slice());
+    if !close(alloc, exchange, sessions)? {
+        text.extend_from_slice(b"logs disagree\n")?;
+        return Ok(Answer::failed(text));
+    }
+    if failed {
+        return Ok(Answer::failed(text));
+    }
+    Ok(Answer::done(text))
+}
+
+/// The answer of `exchange serve`: what the sessions of the scripts were told, on one exchange that has a rack
+/// of the shape which the shape text denotes, with words of 0 at first; or the refusal of the shape.
+///
+/// There are 1 to [`ALL_PARTS`] scripts, of lines of at most [`LINE_BYTES`](crate::LINE_BYTES) bytes. Each is
+/// served in a thread of its own, or by the caller where none can be had, and waits while the exchange answers
+/// the calls of the others; planning and runs are given 1 to [`MAX_WORKERS`] workers each. For each script, in
+/// order, comes the line `session I`, and then what the session was told; where a fault ended it, a line
+/// `ended ..` says so, and the status is [`REFUSED`](crate::REFUSED). When all have ended the exchange is closed.
+/// Under that status too, a last line `logs disagree` would say that the sessions' lists aren't those of its
+/// history.
+pub fn answer_serve<R: Threads + Wait + Sync>(
+    rt: &R,
+    alloc: Global,
+    shape: &[u8],
+    workers: usize,
+    scripts: &[Vec<u8>],
+) -> Result<Answer, AllocError>
+    requires some { 1 ≤ workers }
+    requires few { workers ≤ MAX_WORKERS }
+    requires some_scripts { 1 ≤ length scripts.now }
+    requires few_scripts { length scripts.now ≤ ALL_PARTS }
+    ensures { IfOk result (IsServeAnswer shape.now (map (λ s. s.items) scripts.now)) }
+{
+    let Ok(shape) = Shape::read(shape) else {
+        return Answer::refused(alloc, "shape");
+    };
+    let rack = Rack::new(alloc, shape)?;
+    host::<Brand, R>(rt, alloc, Blank::new(16), rack, workers, scripts)
+}

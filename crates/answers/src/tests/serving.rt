@@ -1,0 +1,243 @@
+//! Sessions of scripts side by side, as they are printed.
+
+use crate::frames::push_end;
+use crate::serving::answer_serve;
+use client_session::ServeFault;
+use progress_word::ALL_PARTS;
+use std::alloc::{AllocError, Global};
+use std::sync::Wait;
+use std::test::Fail;
+use std::thread::Threads;
+
+/// The bytes of texts.
+fn bytes_of(alloc: Global, texts: &[&str]) -> Result<Vec<Vec<u8>>, AllocError> {
+    let mut scripts = Vec::new(alloc);
+    for text in texts {
+        scripts.push(Vec::from_slice(alloc, text.as_bytes())?)?;
+    }
+    Ok(scripts)
+}
+
+/// Whether `serve` answers this text under this status to scripts on a rack of the shape.
+fn is_answer<R: AllocGlobal + Threads + Wait + Sync>(
+    rt: &R,
+    shape: &str,
+    scripts: &[Vec<u8>],
+    text: &str,
+    status: u8,
+) -> Result<bool, AllocError> {
+    if scripts.is_empty() || scripts.len() > ALL_PARTS {
+        return Ok(false);
+    }
+    let answer = answer_serve(rt, rt.alloc(), shape.as_bytes(), 1, scripts)?;
+    Ok(answer.text() == text.as_bytes() && answer.status() == status)
+}
+
+/// Whether `serve` answers so to these texts.
+fn answers<R: AllocGlobal + Threads + Wait + Sync>(
+    rt: &R,
+    shape: &str,
+    scripts: &[&str],
+    text: &str,
+    status: u8,
+) -> Result<bool, AllocError> {
+    let scripts = bytes_of(rt.alloc(), scripts)?;
+    is_answer(rt, shape, scripts.as_slice(), text, status)
+}
+
+/// Whether `serve` answers so to one text.
+fn answers_one<R: AllocGlobal + Threads + Wait + Sync>(
+    rt: &R,
+    shape: &str,
+    script: &str,
+    text: &str,
+    status: u8,
+) -> Result<bool, AllocError> {
+    answers(rt, shape, &[script], text, status)
+}
+
+/// The first script of row one-script.
+const ONE_SCRIPT: &str = "\
+poke 1 80000808 000000ff
+batch 1
+pull 0 0 1 1
+plan 1
+run 1
+progress
+peek 0 80000800
+bye
+";
+
+#[test]
+fn one_script(rt: HostRuntime) -> Result<(), Fail> {
+    let text = "\
+session 0
+poked
+accepted 1
+planned 1 settings 1
+ran 1 run 1 settings 1 words 2 bits 234
+progress run 1 done 1
+word 000000ff
+bye
+session 1
+refused unknown
+";
+    assert!(rt; answers(&rt, "2x2x2", &[ONE_SCRIPT, "show 1\n"], text, 0)?);
+    Ok(())
+}
+
+#[test]
+fn session_refusals(rt: HostRuntime) -> Result<(), Fail> {
+    let script = "\
+plan 1
+batch 1
+push 0 0 1 0
+run 1
+plan 1
+plan 1
+show 1
+run 1
+run 1
+drop 1
+show 1
+peek 2 80000800
+peek 0 80000801
+peek 0 80000000
+hello
+";
+    let text = "\
+session 0
+refused unknown
+accepted 1
+refused unplanned
+planned 1 settings 1
+refused already
+batch 1 transfers 1 planned
+ran 1 run 1 settings 1 words 1 bits 117
+refused already
+dropped 1
+refused unknown
+refused memory no module
+refused memory misaligned
+refused memory outside
+refused line
+";
+    assert!(rt; answers_one(&rt, "2x1x1", script, text, 0)?);
+    Ok(())
+}
+
+/// The rack's words are 0 at first.
+#[test]
+fn rack_of_zeros(rt: HostRuntime) -> Result<(), Fail> {
+    let text = "session 0\nword 00000000\n";
+    assert!(rt; answers_one(&rt, "1x1x1", "peek 0 80000800\n", text, 0)?);
+    Ok(())
+}
+
+/// Row session-ends, as it is printed.
+#[test]
+fn session_ends(rt: HostRuntime) -> Result<(), Fail> {
+    let rows = [
+        ("", "session 0\n", 0),
+        ("bye\nxyz", "session 0\nbye\n", 0),
+        ("batch 1\n", "session 0\nended cut\n", 1),
+        ("peek 0 80000800", "session 0\nended cut\n", 1),
+        (
+            "aaaaaaaaaaaaaaaaaaaaaaaaaaaaaaaaaaaaaaaaaaaaaaaaaaaaaaaaaaaaaaaaaaaaaaaaaaaaaaaa\n",
+            "session 0\nrefused line\n",
+            0,
+        ),
+        (
+            "peek 0 80000800\naaaaaaaaaaaaaaaaaaaaaaaaaaaaaaaaaaaaaaaaaaaaaaaaaaaaaaaaaaaaaaaaaaaaaaaaaaaaaaaaa",
+            "session 0\nword 00000000\nended line too long\n",
+            1,
+        ),
+    ];
+    for (script, text, status) in rows {
+        assert!(rt;
+            answers_one(&rt, "1x1x1", script, text, status)?,
+            "{script:?}"
+        );
+    }
+    Ok(())
+}
+
+/// One session that ends by a fault gives the status, whichever it is; the others go on.
+#[test]
+fn one_of_three_is_cut(rt: HostRuntime) -> Result<(), Fail> {
+    let whole = "peek 0 80000800\n";
+    let text = "session 0\nword 00000000\nsession 1\nended cut\nsession 2\nword 00000000\n";
+    assert!(rt; answers(&rt, "1x1x1", &[whole, "bye", whole], text, 1)?);
+    Ok(())
+}
+
+#[test]
+fn shape_is_refused(rt: HostRuntime) -> Result<(), Fail> {
+    for shape in ["0x1x1", "17x1x1", "1x1", "", "01x1x1"] {
+        assert!(rt;
+            answers_one(&rt, shape, "bye\n", "refused shape\n", 1)?,
+            "{shape}"
+        );
+    }
+    Ok(())
+}
+
+/// Sixteen scripts, each of which writes its own number into its own word and reads it.
+fn sixteen(alloc: Global) -> Result<Vec<Vec<u8>>, AllocError> {
+    let mut scripts = Vec::new(alloc);
+    for i in 0..16usize {
+        let address = 0x8000_0800 + 4 * i;
+        let script = format!(in alloc; "poke 0 {address:08x} {i:08x}\npeek 0 {address:08x}\n")?;
+        scripts.push(script.into_bytes())?;
+    }
+    Ok(scripts)
+}
+
+/// What they are told.
+fn sixteen_told(alloc: Global) -> Result<String, AllocError> {
+    let mut text = String::new(alloc);
+    for i in 0..16usize {
+        write!(text, "session {i}\npoked\nword {i:08x}\n")?;
+    }
+    Ok(text)
+}
+
+/// The texts come in the order of the scripts.
+#[test]
+fn sixteen_scripts(rt: HostRuntime) -> Result<(), Fail> {
+    let scripts = sixteen(rt.alloc())?;
+    let told = sixteen_told(rt.alloc())?;
+    assert!(rt; is_answer(&rt, "1x1x16", scripts.as_slice(), told.as_str(), 0)?);
+    Ok(())
+}
+
+/// What is put behind what a session was told, where this fault ended it.
+fn end_of(alloc: Global, told: &str, fault: Option<ServeFault>) -> Result<Vec<u8>, AllocError> {
+    let mut text = Vec::new(alloc);
+    push_end(&mut text, told.as_bytes(), fault)?;
+    Ok(text)
+}
+
+/// The line of each fault begins a line.
+#[test]
+fn ends_are_framed(rt: HostRuntime) -> Result<(), Fail> {
+    let rows = [
+        ("bye\n", None, ""),
+        ("", Some(ServeFault::Read), "ended read\n"),
+        ("bye\n", Some(ServeFault::Write), "ended write\n"),
+        ("word 0000", Some(ServeFault::Write), "\nended write\n"),
+        (
+            "poked\n",
+            Some(ServeFault::LineTooLong),
+            "ended line too long\n",
+        ),
+        ("poked\n", Some(ServeFault::Cut), "ended cut\n"),
+        ("poked\n", Some(ServeFault::Turns), "ended turns\n"),
+        ("poked\n", Some(ServeFault::NoMemory), "ended no memory\n"),
+    ];
+    for (told, fault, text) in rows {
+        let end = end_of(rt.alloc(), told, fault)?;
+        assert_eq!(rt; end.as_slice(), text.as_bytes());
+    }
+    Ok(())
+}

@@ -1,0 +1,62 @@
+ghost use Rattle.std.specs.Prelude.{◌≡◌, ◌↔◌, [], IfOk, IsTrue, length, map, slice_get};
+ghost use Rattle.std.specs.Option.{option_copied};
+
+use crate::text::Text;
+use std::alloc::{AllocError, Global};
+use std::marker::Model;
+
+/// Texts of their own, as words of the command line that stand for one thing each. Contracts see the list of
+/// their bytes.
+#[derive(Drop)]
+pub struct TextList {
+    texts: Vec<Text>,
+}
+
+impl Model for TextList {
+    ghost use Rattle.std.specs.Prelude.{List, ℕ};
+
+    ghost Value = { List (List ℕ) };
+
+    ghost view = { λ l. l.texts.items };
+}
+
+impl TextList {
+    /// Copies of the texts, in their order.
+    pub fn of(alloc: Global, texts: &[&str]) -> Result<TextList, AllocError>
+        ensures { IfOk result (λ list. list ≡ map (λ t. t.now) texts.now) }
+    {
+        let mut list = Vec::new(alloc);
+        for text in texts {
+            list.push(Text::of(alloc, *text)?)?;
+        }
+        Ok(TextList { texts: list })
+    }
+
+    /// How many texts there are.
+    pub fn len(&self) -> usize
+        ensures { result ≡ length self.now }
+    {
+        self.texts.len()
+    }
+
+    /// Whether there is no text.
+    pub fn is_empty(&self) -> bool
+        ensures { IsTrue result ↔ (self.now ≡ []) }
+    {
+        self.texts.is_empty()
+    }
+
+    /// The text at a place, counted from 0.
+    pub fn get(&self, i: usize) -> Option<&Text>
+        ensures { option_copied result ≡ slice_get self.now i }
+    {
+        self.texts.get(i)
+    }
+
+    /// The texts, in their order.
+    pub fn as_slice(&self) -> &[Text]
+        ensures { result.now ≡ self.now }
+    {
+        self.texts.as_slice()
+    }
+}
