@@ -4,7 +4,7 @@ use Rattle.std.specs.List.{AllByRecursion}
 use Rattle.std.proofs.lemmas.List.{map-append}
 use Rattle.batch.specs.declared.fault.BatchFault.{BatchFault}
 use Rattle.batch.specs.declared.fault.BatchFault.TheVariants.{Line, TooMany, NoModule, NoBlock, Count, NoMemory}
-use Rattle.batch.specs.Faults.{IsFirstFault}
+use Rattle.batch.specs.Faults.{IsFirstFault, NeedsMemory}
 use Rattle.batch.specs.declared.transfer.Transfer.{Transfer}
 use Rattle.batch.specs.Extent.{Extent}
 use Rattle.schedule_certificate.specs.Plans.{Plan, IsPlan}
@@ -143,13 +143,13 @@ tells_fault p shape text fault line same other first e =
     says p (Submits p.shape p.session text) (refused_line (batch_words fault)) line (inr (inl (fault, other, subst (λ (x : Extent). IsFirstFault x text fault) same (first other), refl))) e
 
 -- the first fault of a batch text is told, or want of memory
-pub faulty : (p : SeatView) (shape : Extent) (text : List ℕ) (fault : BatchFault) (line : List ℕ) → shape ≡ p.shape → (fault ≢ NoMemory → IsFirstFault shape text fault) → line ≡ refused_line (batch_words fault) → Acts p p (Submits p.shape p.session text) line
-faulty p shape text NoMemory line same first e = says p (Submits p.shape p.session text) (refused_line (codes "no memory")) line (inr (inr refl)) e
-faulty p shape text (Line n) line same first e = tells_fault p shape text (Line n) line same (λ x. cc) first e
-faulty p shape text TooMany line same first e = tells_fault p shape text TooMany line same (λ x. cc) first e
-faulty p shape text (NoModule t) line same first e = tells_fault p shape text (NoModule t) line same (λ x. cc) first e
-faulty p shape text (NoBlock t) line same first e = tells_fault p shape text (NoBlock t) line same (λ x. cc) first e
-faulty p shape text Count line same first e = tells_fault p shape text Count line same (λ x. cc) first e
+pub faulty : (p : SeatView) (shape : Extent) (text : List ℕ) (fault : BatchFault) (line : List ℕ) → shape ≡ p.shape → (fault ≢ NoMemory → IsFirstFault shape text fault) → (fault ≡ NoMemory → NeedsMemory shape text) → line ≡ refused_line (batch_words fault) → Acts p p (Submits p.shape p.session text) line
+faulty p shape text NoMemory line same first needs e = says p (Submits p.shape p.session text) (refused_line (codes "no memory")) line (inr (inr (subst (λ (x : Extent). NeedsMemory x text) same (needs refl), refl))) e
+faulty p shape text (Line n) line same first needs e = tells_fault p shape text (Line n) line same (λ x. cc) first e
+faulty p shape text TooMany line same first needs e = tells_fault p shape text TooMany line same (λ x. cc) first e
+faulty p shape text (NoModule t) line same first needs e = tells_fault p shape text (NoModule t) line same (λ x. cc) first e
+faulty p shape text (NoBlock t) line same first needs e = tells_fault p shape text (NoBlock t) line same (λ x. cc) first e
+faulty p shape text Count line same first needs e = tells_fault p shape text Count line same (λ x. cc) first e
 
 -- the command that there is
 pub which : (o : Option Command) (x y : Command) → o ≡ Some x → x ≡ y → o ≡ Some y

@@ -7,7 +7,7 @@ use Rattle.batch.specs.declared.fault.BatchFault.TheVariants.{NoMemory}
 use Rattle.batch.specs.declared.transfer.Transfer.{Transfer}
 use Rattle.batch.specs.Extent.{Extent}
 use Rattle.batch.specs.Text.{Denotes}
-use Rattle.batch.specs.Faults.{IsFirstFault}
+use Rattle.batch.specs.Faults.{IsFirstFault, NeedsMemory}
 use Rattle.schedule_certificate.specs.Plans.{Plan, IsPlan}
 use Rattle.batch_book.specs.declared.entry.Entry.{Entry}
 use Rattle.batch_book.specs.declared.call.Call.{Call}
@@ -51,12 +51,12 @@ tells by id call reply = answer (logged by call reply) (reply_line id reply)
 abbrev pub Tells : ℕ → ℕ → Call → Answer → Type 0
 Tells by id call a = (reply : Reply) × IsReplyTo call reply × (a ≡ tells by id call reply)
 
--- The lines of a batch: what they denote was submitted, or their first fault is the line, or there was no memory to read them.
+-- The lines of a batch: what they denote was submitted, or their first fault is the line, or there was no memory for a transfer that they have.
 abbrev pub Submits : Extent → ℕ → List ℕ → Answer → Type 0
 Submits shape by text a =
     ((batch : List Transfer) × Denotes shape text batch × Tells by 0 (call.Submit batch) a)
     ⊎ ((fault : BatchFault) × (fault ≢ NoMemory) × IsFirstFault shape text fault × (a ≡ refuses (batch_words fault)))
-    ⊎ (a ≡ refuses (codes "no memory"))
+    ⊎ (NeedsMemory shape text × (a ≡ refuses (codes "no memory")))
 
 -- a batch was fetched, and a plan of it was settled: this was the reply, which is the line
 abbrev pub settles : ℕ → ℕ → List Transfer → Plan → Reply → Answer
