@@ -14,7 +14,7 @@ use line_words::{Line, behind, hex8_and_rest, number_and_rest, word_from_hex8};
 /// are counted from 0, and addresses are in bytes.
 #[derive(Clone, Copy, Debug, PartialEq, Eq)]
 pub enum Command {
-    /// Submit the batch whose lines follow, so many: `batch N`.
+    /// Submit the batch of which so many lines follow: `batch N`.
     Batch(usize),
     /// Plan this batch: `plan ID`.
     Plan(usize),
