@@ -23,7 +23,7 @@ use Rattle.batch_book.specs.declared.reply.Reply.TheVariants as reply
 use Rattle.batch_book.specs.declared.call.Call.{Call}
 use Rattle.batch_book.specs.declared.call.Call.TheVariants.{Submit, Fetch, Settle, Run, Show, Discard, Peek, Poke}
 use Rattle.batch_book.specs.Machine.{Machine, opened, owned, batch_of, Gives, accept, refuse, fetch, settle_at, settle, show, discard, peek_unless, poke_unless, IsRunOf, IsRunAt, IsRun, IsStep}
-use Rattle.batch_book.specs.History.{IsReplay, HasOwnPlan, HaveOwnPlans, IsSound}
+use Rattle.batch_book.specs.History.{Account, IsReplay, IsGrown, HasOwnPlan, HaveOwnPlans, IsSound}
 use Rattle.batch_book.specs.Replies.{is_logged}
 use Rattle.batch_book.specs.Answering.{IsReplyTo}
 use Rattle.batch_book.proofs.OwnPlans.{plans_stay}
@@ -157,13 +157,13 @@ unlogged c (reply.Refused HistoryFull) is = tt
 unlogged c (reply.Refused NoMemory) is = tt
 unlogged c r is = absurd (cc)
 
-replied_by : (m : Machine) (session : ℕ) (c : Call) (r : Reply) (n : Machine) (b : Bool) → is_logged r ≡ b → IsSound m → (is_logged r ≡ true → IsStep m session c r n) → IsReplyTo c r
-replied_by m session c r n true is sound may = (answered m session c r n sound (may is)).fits
-replied_by m session c r n false is sound may = unlogged c r is
+replied_by : (old : Account) (session : ℕ) (c : Call) (r : Reply) (new : Account) (b : Bool) → is_logged r ≡ b → IsSound old.machine → (is_logged r ≡ true → IsGrown old session c r new) → IsReplyTo c r
+replied_by old session c r new true is sound grown = (answered old.machine session c r new.machine sound (grown is).step).fits
+replied_by old session c r new false is sound grown = unlogged c r is
 
 -- the reply is one of its call's, whether the history has it or not
-pub replied : (m : Machine) (session : ℕ) (c : Call) (r : Reply) (n : Machine) → IsSound m → (is_logged r ≡ true → IsStep m session c r n) → IsReplyTo c r
-replied m session c r n = replied_by m session c r n (is_logged r) refl
+pub replied : (old : Account) (session : ℕ) (c : Call) (r : Reply) (new : Account) → IsSound old.machine → (is_logged r ≡ true → IsGrown old session c r new) → IsReplyTo c r
+replied old session c r new = replied_by old session c r new (is_logged r) refl
 
 -- ---- every machine of a book
 

@@ -6,7 +6,7 @@ use Rattle.std.specs.Map.{lookup, set_value, remove_entry}
 use Rattle.batch_book.specs.declared.held.Stage.{Stage}
 use Rattle.batch_book.specs.declared.held.Held.{Held}
 use Rattle.module_memory.specs.Store.{Store}
-use Rattle.batch_book.specs.Desk.{IsFreeAbove, IsKept}
+use Rattle.batch_book.specs.Holdings.{IsFreeAbove, AreKept}
 use Rattle.batch_book.specs.Machine.{held, staged, set_stage}
 
 pub on_ok : {A E : Type 0} (r : Result A E) (x : A) (P : Type 0) → r ≡ Ok x → OnOk r P → P
@@ -71,16 +71,16 @@ shorter_removed : (k : ℕ → Bool) (es : List (ℕ × Held)) → length (remov
 shorter_removed k [] = omega arith
 shorter_removed k (x ∷ xs) = shorter_step x xs (remove_entry k xs) (shorter_removed k xs) (k x.0)
 
--- ---- what a desk keeps
+-- ---- what holdings keep
 
-pub kept_at_stage : (rack : Option Store) (es : List (ℕ × Held)) (given id : ℕ) (s : Stage) → IsKept rack es given → IsKept rack (set_stage id s es) given
+pub kept_at_stage : (rack : Option Store) (es : List (ℕ × Held)) (given id : ℕ) (s : Stage) → AreKept rack es given → AreKept rack (set_stage id s es) given
 kept_at_stage rack es given id s kept = record {
   there = kept.there;
   free = free_set_stage id s es given kept.free;
   few = rw (length_set_stage id s es) kept.few;
 }
 
-pub kept_removed : (rack : Option Store) (es : List (ℕ × Held)) (given id : ℕ) → IsKept rack es given → IsKept rack (remove_entry (nat_eq id) es) given
+pub kept_removed : (rack : Option Store) (es : List (ℕ × Held)) (given id : ℕ) → AreKept rack es given → AreKept rack (remove_entry (nat_eq id) es) given
 kept_removed rack es given id kept =
     let shorter = shorter_removed (nat_eq id) es in
     let few = kept.few in record {

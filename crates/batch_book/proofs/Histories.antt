@@ -5,7 +5,7 @@ use Rattle.batch_book.specs.declared.entry.Entry.{Entry}
 use Rattle.batch_book.specs.declared.reply.Reply.{Reply}
 use Rattle.batch_book.specs.declared.call.Call.{Call}
 use Rattle.batch_book.specs.Machine.{Machine, opened, IsStep}
-use Rattle.batch_book.specs.History.{Account, account, IsReplay, IsKept, entry}
+use Rattle.batch_book.specs.History.{Account, account, IsReplay, IsKeptBook, entry}
 use Rattle.batch_book.proofs.Steps.{small_step}
 
 replay_push : (m : Machine) (es : List Entry) (k : Machine) (session : ℕ) (c : Call) (r : Reply) (n : Machine)
@@ -15,7 +15,7 @@ replay_push m (e ∷ es) k session c r n led step = (led.0, led.1, replay_push l
 
 -- one step of the machine and one more entry, where there was room for it
 pub grown : (a : Account) (session : ℕ) (c : Call) (r : Reply) (es : List Entry) (n : Machine)
-    → IsKept a → length a.history < MAX_ENTRIES → es ≡ a.history ++ entry session c r ∷ [] → IsStep a.machine session c r n → IsKept (account a.opening es n)
+    → IsKeptBook a → length a.history < MAX_ENTRIES → es ≡ a.history ++ entry session c r ∷ [] → IsStep a.machine session c r n → IsKeptBook (account a.opening es n)
 grown a session c r es n kept room is step =
     let small = small_step a.machine session c r n step in
     let given = small.given in let runs = small.runs in

@@ -17,7 +17,7 @@ use Rattle.batch_book.specs.declared.reply.Reply.TheVariants as reply
 use Rattle.batch_book.specs.declared.held.Held.{Held}
 use Rattle.batch_book.specs.declared.held.Stage.{Stage}
 use Rattle.batch_book.specs.declared.held.Stage.TheVariants as stage
-use Rattle.batch_book.specs.Desk.{Ends}
+use Rattle.batch_book.specs.Holdings.{Ends}
 use Rattle.batch_book.specs.Replies.{outcome_in}
 use Rattle.batch_book.specs.Machine.{Machine, HasBegun, batch_of, IsRun, IsRunAt, IsRunOf}
 

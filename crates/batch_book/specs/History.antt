@@ -44,7 +44,7 @@ abbrev pub IsFull : Account → Type 0
 IsFull a = length a.history ≡ MAX_ENTRIES
 
 -- the machine is the history's replay, and there are no more entries than may be, nor more numbers than entries
-pub record IsKept (a : Account) : Type 0 where
+pub record IsKeptBook (a : Account) : Type 0 where
   pub replay : IsReplay (opened a.opening) a.history a.machine
   pub few : length a.history ≤ MAX_ENTRIES
   pub given : a.machine.given ≤ length a.history

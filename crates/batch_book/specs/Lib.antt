@@ -1,7 +1,7 @@
 pub mod Replies
 pub mod Machine
 pub mod Running
-pub mod Desk
+pub mod Holdings
 pub mod History
 pub mod Answering
 pub mod Values

@@ -1,7 +1,7 @@
 -- The seats of an exchange, and their lists.
 use Rattle.std.specs.Prelude.{◌≡◌, ℕ, ◌≤◌, max, nat_eq, List, length, filter, sum_by, Option, Some, None}
 use Rattle.atomic_table.specs.Seated.{TableId}
-use Rattle.progress_word.specs.Outlooks.{Outlook}
+use Rattle.progress_word.specs.Lookouts.{LookoutView}
 use Rattle.batch_book.specs.declared.entry.Entry.{Entry}
 
 -- What contracts see of a seat: the word of its exchange (none, once that is closed), its session, its list, the greatest value that it
@@ -15,7 +15,7 @@ pub record Stand : Type 0 where
   pub parts : ℕ
 
 -- a seat with this lookout on the word of its exchange
-abbrev pub stand : Outlook → ℕ → List Entry → ℕ → Stand
+abbrev pub stand : LookoutView → ℕ → List Entry → ℕ → Stand
 stand o session log parts = record { exchange = Some o.word; session = session; log = log; seen = o.seen; raised = o.raised; parts = parts }
 
 -- the seat once its exchange is closed: it keeps its list
@@ -45,7 +45,7 @@ abbrev pub Agrees : List Entry → Stand → Type 0
 Agrees history seat = seat.log ≡ own seat.session history
 
 -- a lookout from which the word was raised to a value, or needn't be
-pub record Reaches (old : Outlook) (value : ℕ) (new : Outlook) : Type 0 where
+pub record Reaches (old : LookoutView) (value : ℕ) (new : LookoutView) : Type 0 where
   pub word : new.word ≡ old.word
   pub parts : new.parts ≡ old.parts
   pub raised : new.raised ≡ max old.raised value

@@ -2,15 +2,15 @@
 
 ghost use Rattle.std.specs.Prelude.{◌+◌, ◌≡◌, ◌↔◌, ◌≤◌, ◌<◌, ◌++◌, ◌∷◌, [], ℕ, true, false, IsTrue, IfOk, IfErr, OnErr, length};
 ghost use Rattle.setting_runner.specs.Runs.{HasCause, TellsOutcome, IsRefused};
-ghost use Rattle.batch_book.specs.Desk.{spare_of};
+ghost use Rattle.batch_book.specs.Holdings.{spare_of};
 ghost use Rattle.batch_book.specs.Machine.{opened};
 ghost use Rattle.batch_book.specs.Running.{plan_of, SetsSwitch, SparesEmpty};
 ghost use Rattle.batch_book.specs.Replies.{is_logged, outcome_of, outcome_in};
 ghost use Rattle.batch_book.specs.History.{new_account, IsReplay, IsLegal, IsFull, IsGrown, IsSound};
 
 use crate::call::Call;
-use crate::desk::Desk;
 use crate::entry::Entry;
+use crate::holdings::Holdings;
 use crate::limits::MAX_ENTRIES;
 use crate::refusal::Refusal;
 use crate::reply::Reply;
@@ -29,19 +29,19 @@ use std::thread::Threads;
 /// this has led to, step by step.
 #[derive(Drop)]
 pub struct Book {
-    desk: Desk,
+    holdings: Holdings,
     opening: Rack,
     history: Vec<Entry>,
 }
 
 impl Model for Book {
-    ghost use Rattle.batch_book.specs.History.{Account, account, IsKept};
+    ghost use Rattle.batch_book.specs.History.{Account, account, IsKeptBook};
 
     ghost Value = { Account };
 
-    ghost view = { λ b. account b.opening b.history.items b.desk };
+    ghost view = { λ b. account b.opening b.history.items b.holdings };
 
-    ghost invariant = { λ b. IsKept (account b.opening b.history.items b.desk) };
+    ghost invariant = { λ b. IsKeptBook (account b.opening b.history.items b.holdings) };
 }
 
 impl Book {
@@ -55,9 +55,9 @@ impl Book {
             Ok(opening) => opening,
             Err(error) => return Err((rack, error)),
         };
-        let desk = Desk::new(alloc, rack)?;
+        let holdings = Holdings::new(alloc, rack)?;
         Ok(Book {
-            desk,
+            holdings,
             opening,
             history: Vec::new(alloc),
         })
@@ -77,7 +77,7 @@ impl Book {
     pub fn rack(&self) -> &Rack
         ensures { result.now ≡ self.now.machine.store }
     {
-        self.desk.rack()
+        self.holdings.rack()
     }
 
     /// A copy of the rack that the book was made with.
@@ -93,16 +93,17 @@ impl Book {
         ensures limit { result ≤ MAX_ENTRIES + 1 }
         ensures sound { IsSound self.now.machine }
     {
-        let _shape = self.desk.rack().shape();
+        // The one's contract has the bounds of the shape, the other opens the book: so the check knows both.
+        let _shape = self.holdings.rack().shape();
         let _history = &self.history;
-        self.desk.runs() + 1
+        self.holdings.runs() + 1
     }
 
     /// A copy of the batch that the reply to this call has, if it has one.
     pub(crate) fn spare(&self, session: usize, call: &Call) -> Result<Option<Batch>, AllocError>
         ensures { IfOk result (λ spare. spare ≡ spare_of self.now.machine session call.now) }
     {
-        self.desk.spare(session, call)
+        self.holdings.spare(session, call)
     }
 
     /// One call of a session, and its reply. The history has both then, but where it is full, and where there
@@ -192,8 +193,8 @@ impl Book {
     {
         self.history.reserve(1)?;
         let kept = call.copy()?;
-        let spare = self.desk.spare(session, &kept)?;
-        let reply = self.desk.answer(rt, session, call, plant, notice)?;
+        let spare = self.holdings.spare(session, &kept)?;
+        let reply = self.holdings.answer(rt, session, call, plant, notice)?;
         let recorded = reply.copy_with(spare);
         let entry = Entry {
             session,

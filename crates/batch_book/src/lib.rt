@@ -15,9 +15,9 @@
 mod book;
 mod call;
 mod close;
-mod desk;
 mod entry;
 mod held;
+mod holdings;
 pub mod laws;
 mod limits;
 mod lists;

@@ -59,8 +59,10 @@ impl<L: Ledger, P: ConfigPort, W: WireMaker + Sync, G: Gate + Sync> Locked<L, P,
         ensures seat { IsSameSeat seat.old seat.new }
         ensures later { seat.old.seen ≤ seat.new.seen }
         ensures seen { value_of result ≤ seat.new.seen }
+        ensures quiet { value_of result ≡ 0 → seat.new.seen ≡ seat.old.seen }
         ensures raised { seat.new.raised ≡ greatest seat.new.log }
     {
+        // This opens the seat: by its invariant `raised` holds also where the history is full.
         let _session = seat.session;
         if self.book.history().len() >= MAX_ENTRIES {
             return Reply::Refused(Refusal::HistoryFull);
@@ -90,6 +92,7 @@ impl<L: Ledger, P: ConfigPort, W: WireMaker + Sync, G: Gate + Sync> Locked<L, P,
         ensures seat { IsSameSeat seat.old seat.new }
         ensures later { seat.old.seen ≤ seat.new.seen }
         ensures seen { IfOk result (λ reply. value_of reply ≤ seat.new.seen) }
+        ensures quiet { IfOk result (λ reply. value_of reply ≡ 0 → seat.new.seen ≡ seat.old.seen) }
         ensures raised { seat.new.raised ≡ greatest seat.new.log }
         ensures err { OnErr result ((self.new.book ≡ self.old.book) × (seat.new ≡ seat.old)) }
     {
@@ -119,8 +122,8 @@ impl<L: Ledger, P: ConfigPort, W: WireMaker + Sync, G: Gate + Sync> Locked<L, P,
         ensures reply { IsReplyTo call result.0 }
         ensures history { is_logged result.0 ≡ true →
             IsGrown self.old.book session call result.0 self.new.book }
-        ensures unlogged { is_logged result.0 ≡ false →
-            (self.new.book ≡ self.old.book) × (result.1.lookout ≡ ticket.lookout) }
+        ensures unlogged { is_logged result.0 ≡ false → self.new.book ≡ self.old.book }
+        ensures quiet { value_of result.0 ≡ 0 → result.1.lookout ≡ ticket.lookout }
         ensures amount { result.1.share.amount ≡
             (if is_logged result.0 then ticket.share.amount + 1 else ticket.share.amount) }
         ensures parts { result.1.parts ≡ ticket.parts }

@@ -1,7 +1,7 @@
 //! How an exchange is made.
 
 ghost use Rattle.std.specs.Prelude.{◌≡◌, ◌↔◌, ◌≤◌, ◌<◌, ◌⊎◌, [], vec_capacity, IfOk, IfErr, OnOk};
-ghost use Rattle.progress_word.specs.Outlooks.{outlook};
+ghost use Rattle.progress_word.specs.Lookouts.{lookout_view};
 ghost use Rattle.batch_book.specs.Exchanges.{AreNew};
 
 use crate::book::Book;
@@ -97,7 +97,7 @@ fn deal<L: Ledger>(
     requires room { sessions ≤ vec_capacity seats }
     requires some { 0 < sessions }
     requires few { sessions ≤ ALL_PARTS }
-    requires first { first.lookout ≡ outlook word.now 0 0 ALL_PARTS }
+    requires first { first.lookout ≡ lookout_view word.now 0 0 ALL_PARTS }
     requires amount { first.share.amount ≡ 0 }
     ensures { AreNew word.now sessions result.items }
 {

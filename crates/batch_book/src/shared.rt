@@ -101,7 +101,7 @@ impl<L: Ledger, P, W, G> Shared<L, P, W, G> {
 impl<L: Ledger, P: ConfigPort, W: WireMaker + Sync, G: Gate + Sync> Shared<L, P, W, G> {
     /// One call of the seat's session, and its reply: it takes the lock, and applies the call to the book. Call
     /// and reply are added to the seat's list, where they are in the history. The seat has then seen what the
-    /// reply tells of a run.
+    /// reply tells of a run, and nothing new where it tells of none.
     ///
     /// It waits until the calls of other seats that go before it are done, runs included. Beside what the
     /// book takes it takes memory for the entry in the seat's list.
@@ -114,6 +114,7 @@ impl<L: Ledger, P: ConfigPort, W: WireMaker + Sync, G: Gate + Sync> Shared<L, P,
         ensures seat { IsSameSeat seat.old seat.new }
         ensures later { seat.old.seen ≤ seat.new.seen }
         ensures seen { value_of result ≤ seat.new.seen }
+        ensures quiet { value_of result ≡ 0 → seat.new.seen ≡ seat.old.seen }
         ensures raised { seat.new.raised ≡ greatest seat.new.log }
     {
         self.locked.lock(rt).call(rt, &self.word, seat, call)

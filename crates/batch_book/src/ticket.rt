@@ -2,7 +2,7 @@
 
 ghost use Rattle.std.specs.Prelude.{◌≡◌, ◌<◌, ◌≤◌, ◌+◌, ◌-◌, max};
 ghost use Rattle.progress_word.specs.declared.limits.TheConstants.{ALL_PARTS};
-ghost use Rattle.progress_word.specs.Outlooks.{outlook};
+ghost use Rattle.progress_word.specs.Lookouts.{lookout_view};
 
 use progress_word::{ALL_PARTS, Lookout, ProgressWord};
 use std::sync::ledger::{Ledger, Share};
@@ -26,8 +26,8 @@ impl<L: Ledger> Ticket<L> {
         requires parts { 1 < self.old.parts }
         ensures parts { (self.new.parts + 1 ≡ self.old.parts) × (result.parts ≡ 1) }
         ensures kept { self.new.lookout ≡
-            outlook word.now self.old.lookout.seen self.old.lookout.raised (self.old.parts - 1) }
-        ensures given { result.lookout ≡ outlook word.now self.old.lookout.seen 0 1 }
+            lookout_view word.now self.old.lookout.seen self.old.lookout.raised (self.old.parts - 1) }
+        ensures given { result.lookout ≡ lookout_view word.now self.old.lookout.seen 0 1 }
         ensures amount { self.new.share.amount ≡ self.old.share.amount }
         ensures nothing { result.share.amount ≡ 0 }
     {
@@ -51,7 +51,7 @@ impl<L: Ledger> Ticket<L> {
         requires all { L.parts ≡ ALL_PARTS }
         requires word { (self.old.lookout.word ≡ word.now) × (other.lookout.word ≡ word.now) }
         ensures parts { self.new.parts ≡ self.old.parts + other.parts }
-        ensures lookout { self.new.lookout ≡ outlook word.now
+        ensures lookout { self.new.lookout ≡ lookout_view word.now
             (max self.old.lookout.seen other.lookout.seen)
             (max self.old.lookout.raised other.lookout.raised)
             (self.old.parts + other.parts) }

@@ -11,7 +11,7 @@ use Rattle.progress_word.specs.declared.limits.TheConstants.{ALL_PARTS}
 use Rattle.progress_word.specs.declared.rule.View.{View}
 use Rattle.progress_word.specs.declared.rule.Step.TheVariants.{Make, Load, Raise, Split, Join}
 use Rattle.progress_word.specs.Rule.{whole, spent, progress, all_parts, Stands, IsBelow, IsRaised, HasRule, loaded, raised_to, without_part, newcomer, joined, MakesRule, KeepsRule, HasNoOther}
-use Rattle.progress_word.specs.Plays.{IsKept, HasLoaded, HasRaised}
+use Rattle.progress_word.specs.Plays.{MeetsRule, HasLoaded, HasRaised}
 
 parts_set : (vs : List View) (j : ℕ) (v w : View) → Stands vs j v → all_parts (set vs j w) + v.parts ≡ all_parts vs + w.parts
 parts_set [] j v w e = absurd (some-ne-none v (sym e))
@@ -193,14 +193,14 @@ has_no_other p i v h e all = (sym (whole_raised p.word p.views i v h e all), λ 
 
 -- ---- the steps on the table
 
-pub begins : IsKept (opening (0 ∷ []) [] whole)
+pub begins : MeetsRule (opening (0 ∷ []) [] whole)
 begins = (0, refl, rule_whole)
 
 -- the words of a table whose one word is this
 word_is : (ws : List ℕ) (word : ℕ) → ws ≡ word ∷ [] → slice_index ws 0 ≡ word
 word_is ws word e = ap (λ l. slice_index l 0) e
 
-pub loads : (slots id : ℕ) (me : Me ℕ View) → 0 < me.0.parts → Allows IsKept slots id me 0 (λ n. n) (HasLoaded (step slots 0 0 0 none) me)
+pub loads : (slots id : ℕ) (me : Me ℕ View) → 0 < me.0.parts → Allows MeetsRule slots id me 0 (λ n. n) (HasLoaded (step slots 0 0 0 none) me)
 loads slots id me part s kept homes at small =
     let word = kept.0 in
     let found = word_is s.words word kept.1 in
@@ -212,7 +212,7 @@ loads slots id me part s kept homes at small =
       (refl, (let b = (kept.2.below id v at).seen in omega arith), (λ all. found ∙ whole_raised word s.views id v kept.2 at all)),
     )
 
-pub raises : (slots id value : ℕ) (me : Me ℕ View) → 0 < me.0.parts → Allows IsKept slots id me 0 (λ n. max n value) (HasRaised (step slots 0 value 0 none) me)
+pub raises : (slots id value : ℕ) (me : Me ℕ View) → 0 < me.0.parts → Allows MeetsRule slots id me 0 (λ n. max n value) (HasRaised (step slots 0 value 0 none) me)
 raises slots id value me part s kept homes at small =
     let word = kept.0 in
     let found = word_is s.words word kept.1 in
@@ -224,10 +224,10 @@ raises slots id value me part s kept homes at small =
       (refl, (let b = (kept.2.below id v at).seen in omega arith)),
     )
 
-pub splits : (id : ℕ) (v : View) → 1 < v.parts → Splits IsKept id v (without_part v) (newcomer v)
+pub splits : (id : ℕ) (v : View) → 1 < v.parts → Splits MeetsRule id v (without_part v) (newcomer v)
 splits id v parts s kept at = (kept.0, kept.1, rule_split kept.0 s.views id v kept.2 at parts)
 
-pub joins : (id other : ℕ) (v u : View) → 0 < v.parts → Joins IsKept id v other u (joined v u) spent
+pub joins : (id other : ℕ) (v u : View) → 0 < v.parts → Joins MeetsRule id v other u (joined v u) spent
 joins id other v u part s kept at apart there =
     let before : Stands s.views other u = sym (set_else s.views id other (joined v u) apart) ∙ there in
     (kept.0, kept.1, rule_joined kept.0 s.views id other v u kept.2 at part apart before)

@@ -7,8 +7,8 @@ use Rattle.progress_word.specs.declared.rule.View.{View}
 use Rattle.progress_word.specs.Rule.{HasRule, progress, loaded, raised_to}
 
 -- the table has one word, and that and the views meet the rule
-abbrev pub IsKept : State ℕ View → Type 0
-IsKept s = (word : ℕ) × (s.words ≡ word ∷ []) × HasRule (progress word s.views)
+abbrev pub MeetsRule : State ℕ View → Type 0
+MeetsRule s = (word : ℕ) × (s.words ≡ word ∷ []) × HasRule (progress word s.views)
 
 -- a load found the word; who has all parts has raised it to that
 abbrev pub HasLoaded : Step ℕ → Me ℕ View → ℕ → Me ℕ View → Type 0

@@ -76,7 +76,7 @@ abbrev pub joined : View → View → View
 joined v w = view (max v.seen w.seen) (max v.raised w.raised) (v.parts + w.parts)
 
 -- who steps has this view, with more parts than that
-pub record May (views : List View) (i : ℕ) (v : View) (few : ℕ) : Type 0 where
+pub record CanStep (views : List View) (i : ℕ) (v : View) (few : ℕ) : Type 0 where
   pub stands : Stands views i v
   pub parts : few < v.parts
 
@@ -84,11 +84,11 @@ pub record May (views : List View) (i : ℕ) (v : View) (few : ℕ) : Type 0 whe
 -- a view takes in another, which is spent. Each changes the view that steps, or the two of a split or a join, and a raise alone the word.
 abbrev pub IsStep : Step → Progress → Progress → Type 0
 IsStep Make p q = q ≡ progress 0 (whole ∷ [])
-IsStep (Load i) p q = (v : View) × May p.views i v 0 × (q ≡ progress p.word (slice_set p.views i (loaded p.word v)))
-IsStep (Raise i value) p q = (v : View) × May p.views i v 0 × (q ≡ progress (max p.word value) (slice_set p.views i (raised_to value p.word v)))
-IsStep (Split i) p q = (v : View) × May p.views i v 1 × (q ≡ progress p.word (slice_set p.views i (without_part v) ++ newcomer v ∷ []))
+IsStep (Load i) p q = (v : View) × CanStep p.views i v 0 × (q ≡ progress p.word (slice_set p.views i (loaded p.word v)))
+IsStep (Raise i value) p q = (v : View) × CanStep p.views i v 0 × (q ≡ progress (max p.word value) (slice_set p.views i (raised_to value p.word v)))
+IsStep (Split i) p q = (v : View) × CanStep p.views i v 1 × (q ≡ progress p.word (slice_set p.views i (without_part v) ++ newcomer v ∷ []))
 IsStep (Join i j) p q =
-    (v w : View) × May p.views i v 0 × May p.views j w 0 × (j ≢ i) × (q ≡ progress p.word (slice_set (slice_set p.views i (joined v w)) j spent))
+    (v w : View) × CanStep p.views i v 0 × CanStep p.views j w 0 × (j ≢ i) × (q ≡ progress p.word (slice_set (slice_set p.views i (joined v w)) j spent))
 
 -- ---- the law
 

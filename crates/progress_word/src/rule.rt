@@ -31,10 +31,10 @@ pub enum Step {
 pub(crate) struct Rises;
 
 impl TableRule<u8, View, ()> for Rises {
-    ghost use Rattle.progress_word.specs.Plays.{IsKept};
+    ghost use Rattle.progress_word.specs.Plays.{MeetsRule};
     ghost use Rattle.progress_word.specs.Rule.{whole};
 
-    ghost holds = { λ _. IsKept };
+    ghost holds = { λ _. MeetsRule };
 
     ghost first = { λ _. whole };
 }

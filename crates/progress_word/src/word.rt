@@ -1,7 +1,7 @@
 //! The word, and the lookouts from which it is read and raised.
 
 ghost use Rattle.std.specs.Prelude.{◌≡◌, ◌+◌, ◌-◌, ◌<◌, ◌≤◌, IfOk, max};
-ghost use Rattle.progress_word.specs.Outlooks.{outlook, IsAt};
+ghost use Rattle.progress_word.specs.Lookouts.{lookout_view, IsAt};
 
 use crate::limits::ALL_PARTS;
 use crate::rule::{Both, Loads, OnePart, Raises, Rises, View};
@@ -36,13 +36,13 @@ pub struct Lookout {
 
 impl Model for Lookout {
     ghost use Rattle.std.specs.Prelude.{◌≡◌, []};
-    ghost use Rattle.progress_word.specs.Outlooks.{Outlook, outlook, outlook_coded};
+    ghost use Rattle.progress_word.specs.Lookouts.{LookoutView, lookout_view, lookout_view_coded};
 
-    ghost Value = { Outlook };
+    ghost Value = { LookoutView };
 
-    ghost coded = { outlook_coded };
+    ghost coded = { lookout_view_coded };
 
-    ghost view = { λ l. outlook l.seat.table_id l.seat.me.0.seen l.seat.me.0.raised l.seat.me.0.parts };
+    ghost view = { λ l. lookout_view l.seat.table_id l.seat.me.0.seen l.seat.me.0.raised l.seat.me.0.parts };
 
     ghost invariant = { λ l. l.seat.me.1 ≡ [] };
 }
@@ -50,7 +50,7 @@ impl Model for Lookout {
 impl ProgressWord {
     /// A word that is 0, and the one lookout, which has all [`ALL_PARTS`].
     pub fn new(alloc: Global) -> Result<(ProgressWord, Lookout), AllocError>
-        ensures { IfOk result (λ r. r.1 ≡ outlook r.0 0 0 ALL_PARTS) }
+        ensures { IfOk result (λ r. r.1 ≡ lookout_view r.0 0 0 ALL_PARTS) }
     {
         let (table, seat) = Table::of_words(alloc, &[0], &())?;
         Ok((ProgressWord { table }, Lookout { seat }))
@@ -59,7 +59,7 @@ impl ProgressWord {
     /// The word as it is now, which isn't behind what was seen. One atomic load.
     pub fn load(&self, lookout: &mut Lookout) -> u64
         requires { IsAt self.now lookout.old }
-        ensures lookout { lookout.new ≡ outlook self.now result lookout.old.raised lookout.old.parts }
+        ensures lookout { lookout.new ≡ lookout_view self.now result lookout.old.raised lookout.old.parts }
         ensures later { lookout.old.seen ≤ result }
         ensures whole { lookout.old.parts ≡ ALL_PARTS → result ≡ lookout.old.raised }
     {
@@ -86,8 +86,8 @@ impl ProgressWord {
         requires word { IsAt self.now lookout.old }
         requires parts { 1 < lookout.old.parts }
         ensures kept { lookout.new ≡
-            outlook self.now lookout.old.seen lookout.old.raised (lookout.old.parts - 1) }
-        ensures given { result ≡ outlook self.now lookout.old.seen 0 1 }
+            lookout_view self.now lookout.old.seen lookout.old.raised (lookout.old.parts - 1) }
+        ensures given { result ≡ lookout_view self.now lookout.old.seen 0 1 }
     {
         let seat = self.table.shared.split_seat::<OnePart>(&mut lookout.seat);
         Lookout { seat }
@@ -97,7 +97,7 @@ impl ProgressWord {
     pub fn join(&self, lookout: &mut Lookout, other: Lookout)
         requires lookout { IsAt self.now lookout.old }
         requires other { IsAt self.now other }
-        ensures { lookout.new ≡ outlook self.now
+        ensures { lookout.new ≡ lookout_view self.now
             (max lookout.old.seen other.seen)
             (max lookout.old.raised other.raised)
             (lookout.old.parts + other.parts) }

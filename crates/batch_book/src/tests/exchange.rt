@@ -99,7 +99,7 @@ fn no_run_yet<L: Ledger, R: AllocGlobal + Threads + Wait + Sync>(
         && pair.read_second() == reading(0, 0)
 }
 
-/// One setting was done, and in the second one the wire of transfer 1 failed at once.
+/// Row second-setting-stops: one setting was done, and in the second one the wire of transfer 1 failed at once.
 fn stopped<L: Ledger, R: AllocGlobal + Threads + Wait + Sync>(
     rt: &R,
     pair: &mut Pair<L, FuseWires>,
@@ -131,11 +131,14 @@ fn holds<L: Ledger, R: AllocGlobal + Threads + Wait + Sync>(
         Row::NoRunYet => no_run_yet(rt, &mut pair),
         Row::StoppedInItsSecondSetting => stopped(rt, &mut pair),
         Row::SeatMissing => {
+            let poked = pair.ask(rt, Call::Poke(0, FIRST, 5));
             let Some(back) = close_without_second(rt.alloc(), pair) else {
                 return false;
             };
             pair = back;
-            marked_rack(rt, &mut pair)
+            poked == Said::Poked
+                && pair.ask_second(rt, Call::Peek(0, FIRST)) == Said::Word(5)
+                && marked_rack(rt, &mut pair)
         }
     };
     is_so && close(rt.alloc(), pair).is_some()

@@ -1,10 +1,10 @@
-//! How many sessions an exchange may have.
+//! The number behind each named size, and how many sessions an exchange may have.
 
 ghost use Rattle.std.specs.Prelude.{◌≡◌};
 ghost use Rattle.progress_word.specs.declared.limits.TheConstants.{ALL_PARTS};
 
 use super::pairs::{marked, plant};
-use crate::{Shared, SharedFault};
+use crate::{ALL_PARTS, MAX_BATCHES, MAX_ENTRIES, RUN_STEP, Shared, SharedFault};
 use crossbar::MemoryPort;
 use module_memory::Rack;
 use peek_poke::PlainWires;
@@ -13,6 +13,12 @@ use std::alloc::Global;
 use std::marker::Brand;
 use std::sync::ledger::{Blank, Ledger};
 use std::test::Fail;
+
+#[test]
+fn named_sizes(rt: HostRuntime) {
+    assert_eq!(rt; (MAX_BATCHES, MAX_ENTRIES, ALL_PARTS), (256, 65536, 16));
+    assert_eq!(rt; RUN_STEP, 8192);
+}
 
 /// Whether 0 and 17 sessions are refused, and what comes back is taken by 16.
 fn takes_sixteen<L: Ledger>(alloc: Global, blank: Blank, rack: Rack) -> bool

@@ -402,33 +402,48 @@ fn progress_is_seen_between_two_settings(rt: HostRuntime) -> Result<(), Fail> {
 
 // ---- the opening
 
-/// The words of modules 0 and 1 that a closed exchange was opened with, and then changed.
+/// The first words of modules 0 and 1.
+fn first_words(rack: &Rack) -> Option<[u32; 2]> {
+    Some([rack.read(0, FIRST).ok()?, rack.read(1, FIRST).ok()?])
+}
+
+/// The words that a closed exchange was opened with, and those that it has once two of them were poked.
+#[derive(Clone, Copy, Debug, PartialEq, Eq)]
+struct Words {
+    opening: [u32; 2],
+    left: [u32; 2],
+}
+
 fn words_of<L: Ledger, R: AllocGlobal + Threads + Wait + Sync>(
     rt: &R,
     blank: Blank,
     rack: Rack,
-) -> Option<(u32, u32)>
+) -> Option<Words>
     requires name { blank.name ≡ L.name }
     requires parts { (blank.parts ≡ L.parts) × (blank.parts ≡ ALL_PARTS) }
 {
     let mut pair = open_pair::<L, PlainWires>(rt.alloc(), blank, rack, PlainWires)?;
     let _poked = pair.ask(rt, Call::Poke(0, FIRST, 7));
-    let _poked = pair.ask(rt, Call::Poke(1, FIRST, 7));
+    let _poked = pair.ask(rt, Call::Poke(1, FIRST, 8));
     let closed = close(rt.alloc(), pair)?;
-    let opening = closed.book.opening();
-    let first = opening.read(0, FIRST).ok()?;
-    let second = opening.read(1, FIRST).ok()?;
-    Some((first, second))
+    Some(Words {
+        opening: first_words(closed.book.opening())?,
+        left: first_words(closed.book.rack())?,
+    })
 }
 
-fn words_behind<R: AllocGlobal + Threads + Wait + Sync>(rt: &R, rack: Rack) -> Option<(u32, u32)> {
+fn words_behind<R: AllocGlobal + Threads + Wait + Sync>(rt: &R, rack: Rack) -> Option<Words> {
     words_of::<Brand, R>(rt, Blank::new(16), rack)
 }
 
 /// The rack has one word a module.
 #[test]
-fn a_closed_book_was_opened_with_the_rack_handed_in(rt: HostRuntime) -> Result<(), Fail> {
+fn a_closed_book_has_its_opening_and_its_words(rt: HostRuntime) -> Result<(), Fail> {
     let rack = marked(rt.alloc(), "2x1x1").ok_or("no memory")?;
-    assert_eq!(rt; words_behind(&rt, rack), Some((0, 0x0001_0000)));
+    let words = Words {
+        opening: [0, 0x0001_0000],
+        left: [7, 8],
+    };
+    assert_eq!(rt; words_behind(&rt, rack), Some(words));
     Ok(())
 }

@@ -6,5 +6,5 @@ use Rattle.batch_book.proofs.book.Book.next_run.Goals as goal
 
 pub returns-clause-sound : goal.returns-clause-sound
 returns-clause-sound c =
-    let shape : IsShape c.self.inside.desk.store.shape = subst (λ (s : Store). IsShape s.shape) c.rack.ensures c.shape-shape.ensures.whole.within in
+    let shape : IsShape c.self.inside.holdings.store.shape = subst (λ (s : Store). IsShape s.shape) c.rack.ensures c.shape-shape.ensures.whole.within in
     rw (← c.self.view_is) (sound _ _ _ shape c.self.invariant.replay)

@@ -1,42 +1,38 @@
-use Rattle.std.proofs.Common.{◌≡◌, ◌∙◌, ◌++◌, ◌∷◌, [], if◌then◌else◌, ap, sym, length, subst, IfSome}
-use Rattle.batch_book.specs.Replies.{is_logged}
-use Rattle.batch_book.specs.History.{entry}
+use Rattle.std.proofs.Common.{◌≡◌, ◌∙◌, ap, sym, length, subst, IfSome}
 use Rattle.std.specs.Prelude.{Option, option_map}
 use Rattle.std.specs.Option.{option_map_or}
 use Rattle.batch_book.specs.declared.ticket.Ticket.{Ticket}
 use Rattle.batch_book.specs.Seats.{Stand, stand}
 use Rattle.batch_book.specs.Values.{greatest}
-use Rattle.batch_book.proofs.Seats.{entered, listed, unlisted}
+use Rattle.batch_book.proofs.Seats.{entered, listed, unlisted, unlogged_value}
 use Rattle.batch_book.proofs.locked.Locked.enter.Goals as goal
+
+pub returns-clause-list : goal.returns-clause-list
+returns-clause-list g c = λ logged. rw (← c.seat.view_is)
+    (listed c.seat.inside.log.items c.reserve.new.self.items c.list.new.log.items c.seat.inside.session _ c.args.call c.ask-reply.result.0 logged c.list.ensures c.reserve.ensures.items c.in_ok-kept.ensures)
 
 pub invariant_of-seat-2 : goal.invariant_of-seat-2
 invariant_of-seat-2 g c =
-    let r = c.ask-reply.result.0 in
     let es = c.seat.inside.log.items in
     let before : (c.in-Some.ticket.share.amount ≡ length es) × (c.in-Some.ticket.lookout.raised ≡ greatest es) =
     subst (λ o. IfSome o (λ t. (t.share.amount ≡ length es) × (t.lookout.raised ≡ greatest es))) (sym c.in-Some.ensures.value) c.seat.invariant in
-    let kept_is : c.in_ok-kept.kept ≡ c.args.call = c.in_ok-kept.ensures in
-    let now : c.list.new.log.items ≡ (if is_logged r then es ++ entry c.seat.inside.session c.args.call r ∷ [] else es) =
-    listed (is_logged r) es c.reserve.new.self.items c.list.new.log.items _ _ c.list.ensures c.reserve.ensures.items (λ i. entry c.seat.inside.session (kept_is i) r) in
-    entered es c.list.new.log.items c.seat.inside.session c.args.call r c.in-Some.ticket.share.amount _ c.in-Some.ticket.lookout.raised _ now c.ask-reply.ensures.amount c.ask-reply.ensures.lookout.raised before.0 before.1
+    entered es c.reserve.new.self.items c.list.new.log.items _ _ c.ask-reply.result.0 c.in-Some.ticket.share.amount _ c.in-Some.ticket.lookout.raised _
+    c.list.ensures c.reserve.ensures.items c.ask-reply.ensures.amount c.ask-reply.ensures.lookout.raised before.0 before.1
 
 pub returns-clause-raised : goal.returns-clause-raised
 returns-clause-raised g c =
-    let r = c.ask-reply.result.0 in
     let es = c.seat.inside.log.items in
     let before : (c.in-Some.ticket.share.amount ≡ length es) × (c.in-Some.ticket.lookout.raised ≡ greatest es) =
     subst (λ o. IfSome o (λ t. (t.share.amount ≡ length es) × (t.lookout.raised ≡ greatest es))) (sym c.in-Some.ensures.value) c.seat.invariant in
-    let kept_is : c.in_ok-kept.kept ≡ c.args.call = c.in_ok-kept.ensures in
-    let now : c.list.new.log.items ≡ (if is_logged r then es ++ entry c.seat.inside.session c.args.call r ∷ [] else es) =
-    listed (is_logged r) es c.reserve.new.self.items c.list.new.log.items _ _ c.list.ensures c.reserve.ensures.items (λ i. entry c.seat.inside.session (kept_is i) r) in
-    (entered es c.list.new.log.items c.seat.inside.session c.args.call r c.in-Some.ticket.share.amount _ c.in-Some.ticket.lookout.raised _ now c.ask-reply.ensures.amount c.ask-reply.ensures.lookout.raised before.0 before.1).1
+    (entered es c.reserve.new.self.items c.list.new.log.items _ _ c.ask-reply.result.0 c.in-Some.ticket.share.amount _ c.in-Some.ticket.lookout.raised _
+    c.list.ensures c.reserve.ensures.items c.ask-reply.ensures.amount c.ask-reply.ensures.lookout.raised before.0 before.1).1
 
 pub returns-clause-unlogged : goal.returns-clause-unlogged
 returns-clause-unlogged g c = λ u.
     let r = c.ask-reply.result.0 in
     let es = c.seat.inside.log.items in
     let session = c.seat.inside.session in
-    let a = c.ask-reply.ensures.unlogged u in
-    let log_is : c.list.new.log.items ≡ es = unlisted (is_logged r) c.reserve.new.self.items c.list.new.log.items (entry session c.in_ok-kept.kept r) u c.list.ensures ∙ c.reserve.ensures.items in
+    let log_is : c.list.new.log.items ≡ es = unlisted _ c.reserve.new.self.items c.list.new.log.items _ u c.list.ensures ∙ c.reserve.ensures.items in
+    let quiet = c.ask-reply.ensures.quiet (unlogged_value r u) in
     let of : Option (Ticket g.row.L.Denot) → Stand = λ o. record { exchange = option_map (λ t. t.lookout.word) o; session = session; log = es; seen = option_map_or (λ t. t.lookout.seen) o 0; raised = option_map_or (λ t. t.lookout.raised) o 0; parts = option_map_or (λ t. t.parts) o 0 } in
-    (a.0, (λ i. stand (a.1 i) session (log_is i) (c.ask-reply.ensures.parts i)) ∙ (ap of c.in-Some.ensures.value ∙ c.seat.view_is))
+    (c.ask-reply.ensures.unlogged u, (λ i. stand (quiet i) session (log_is i) (c.ask-reply.ensures.parts i)) ∙ (ap of c.in-Some.ensures.value ∙ c.seat.view_is))

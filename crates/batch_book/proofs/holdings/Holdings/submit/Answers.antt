@@ -2,10 +2,10 @@ use Rattle.std.proofs.Common.{rules, ◌≡◌, ◌+◌, ◌<◌, nat_lt, true, 
 use Rattle.std.specs.Map.{lookup}
 use Rattle.std.specs.Option.{unwrap_or}
 use Rattle.std.proofs.lemmas.Bool.Decides.{nat_tests}
-use Rattle.batch_book.specs.Desk.{no_store}
+use Rattle.batch_book.specs.Holdings.{no_store}
 use Rattle.batch_book.specs.declared.limits.TheConstants.{MAX_BATCHES}
 use Rattle.batch_book.proofs.Entries.{on_ok, goes_last}
-use Rattle.batch_book.proofs.desk.Desk.submit.Goals as goal
+use Rattle.batch_book.proofs.holdings.Holdings.submit.Goals as goal
 
 pub returns-clause-step : goal.returns-clause-step
 returns-clause-step c =

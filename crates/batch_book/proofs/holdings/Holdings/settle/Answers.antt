@@ -1,6 +1,6 @@
 use Rattle.std.proofs.Common.{rules}
 use Rattle.batch_book.proofs.Entries.{kept_at_stage}
-use Rattle.batch_book.proofs.desk.Desk.settle.Goals as goal
+use Rattle.batch_book.proofs.holdings.Holdings.settle.Goals as goal
 
 pub invariant_of-self : goal.invariant_of-self
 invariant_of-self c = rw c.bring.ensures (kept_at_stage _ _ _ _ _ c.self.invariant)

@@ -1,5 +1,5 @@
 use Rattle.std.proofs.Common.{rules}
-use Rattle.batch_book.proofs.desk.Desk.end.Goals as goal
+use Rattle.batch_book.proofs.holdings.Holdings.end.Goals as goal
 
 pub returns-in-Stopped : goal.returns-in-Stopped
 returns-in-Stopped c = search rules

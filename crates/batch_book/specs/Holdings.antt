@@ -1,4 +1,4 @@
--- What a desk keeps, and what it does for a call beside the machine's step.
+-- What a book's holdings keep, and what is done with them for a call beside the machine's step.
 use Rattle.std.specs.Prelude.{◌≡◌, ℕ, ◌+◌, ◌<◌, ◌≤◌, nat_eq, List, [], length, Option, Some, None, IsSome, Result, Ok, IsErr}
 use Rattle.std.specs.Map.{lookup}
 use Rattle.batch.specs.Extent.{extent}
@@ -25,7 +25,7 @@ abbrev pub IsFreeAbove : List (ℕ × Held) → ℕ → Type 0
 IsFreeAbove batches given = (id : ℕ) → given < id → lookup (nat_eq id) batches ≡ None
 
 -- the rack is there, no number is held that wasn't given, and there are no more batches than may be
-pub record IsKept (rack : Option Store) (batches : List (ℕ × Held)) (given : ℕ) : Type 0 where
+pub record AreKept (rack : Option Store) (batches : List (ℕ × Held)) (given : ℕ) : Type 0 where
   pub there : IsSome rack
   pub free : IsFreeAbove batches given
   pub few : length batches ≤ MAX_BATCHES

@@ -4,20 +4,20 @@ use Rattle.std.specs.Coded.{Coded, code_by, coded×, coded_ℕ}
 use Rattle.atomic_table.specs.Seated.{TableId, table_id_coded}
 
 -- of which word it is, and its view of that
-pub record Outlook : Type 0 where
+pub record LookoutView : Type 0 where
   pub word : TableId
   pub seen : ℕ
   pub raised : ℕ
   pub parts : ℕ
 
-abbrev pub outlook : TableId → ℕ → ℕ → ℕ → Outlook
-outlook word seen raised parts = record { word = word; seen = seen; raised = raised; parts = parts }
+abbrev pub lookout_view : TableId → ℕ → ℕ → ℕ → LookoutView
+lookout_view word seen raised parts = record { word = word; seen = seen; raised = raised; parts = parts }
 
-abbrev pub outlook_coded : Coded Outlook
-outlook_coded =
+abbrev pub lookout_view_coded : Coded LookoutView
+lookout_view_coded =
     code_by (TableId × (ℕ × (ℕ × ℕ))) (coded× table_id_coded (coded× coded_ℕ (coded× coded_ℕ coded_ℕ))) (λ o. (o.word, (o.seen, (o.raised, o.parts))))
-    (λ p. outlook p.0 p.1.0 p.1.1.0 p.1.1.1) (λ _. refl)
+    (λ p. lookout_view p.0 p.1.0 p.1.1.0 p.1.1.1) (λ _. refl)
 
 -- it is one of this word, and has a part
-abbrev pub IsAt : TableId → Outlook → Type 0
+abbrev pub IsAt : TableId → LookoutView → Type 0
 IsAt word o = (o.word ≡ word) × (0 < o.parts)

@@ -6,7 +6,7 @@ ghost use Rattle.std.specs.Map.{lookup};
 ghost use Rattle.crossbar.specs.Switch.{Switch};
 ghost use Rattle.module_memory.specs.Store.{Store};
 ghost use Rattle.setting_runner.specs.Runs.{HasCause, TellsOutcome, IsRefused};
-ghost use Rattle.batch_book.specs.Desk.{Ends, spare_of};
+ghost use Rattle.batch_book.specs.Holdings.{Ends, spare_of};
 ghost use Rattle.batch_book.specs.Machine.{Machine, opened, owned, batch_of, set_stage, Gives, submit, fetch, settle, show, discard, peek, poke, run_to, IsRun, IsStep};
 ghost use Rattle.batch_book.specs.Running.{plan_in, plan_of, SetsSwitch, SparesEmpty};
 ghost use Rattle.batch_book.specs.Replies.{TellsNoRun, outcome_of, outcome_in};
@@ -29,7 +29,7 @@ use std::thread::Threads;
 
 /// The batches that are held, and the rack. Contracts see the machine.
 #[derive(Drop)]
-pub struct Desk {
+pub struct Holdings {
     // A run takes the rack and gives it back.
     rack: Option<Rack>,
     // By their numbers, in order of acceptance.
@@ -39,20 +39,20 @@ pub struct Desk {
     runs: usize,
 }
 
-impl Model for Desk {
+impl Model for Holdings {
     ghost use Rattle.std.specs.Option.{unwrap_or};
-    ghost use Rattle.batch_book.specs.Desk.{IsKept, no_store};
+    ghost use Rattle.batch_book.specs.Holdings.{AreKept, no_store};
     ghost use Rattle.batch_book.specs.Machine.{Machine};
 
     ghost Value = { Machine };
 
-    ghost view = { λ d. record { batches = d.held.entries; given = d.given; runs = d.runs; store = unwrap_or d.rack no_store } };
+    ghost view = { λ h. record { batches = h.held.entries; given = h.given; runs = h.runs; store = unwrap_or h.rack no_store } };
 
-    ghost invariant = { λ d. IsKept d.rack d.held.entries d.given };
+    ghost invariant = { λ h. AreKept h.rack h.held.entries h.given };
 }
 
 /// What is held under a number, where it is this session's.
-fn own<'a>(held: &'a IndexMap<usize, Held>, session: usize, id: usize) -> Option<&'a Held>
+fn held_by<'a>(held: &'a IndexMap<usize, Held>, session: usize, id: usize) -> Option<&'a Held>
     ensures { option_copied result ≡ owned session (lookup (nat_eq id) held.now.entries) }
 {
     match held.get(&id) {
@@ -70,15 +70,15 @@ fn bring(held: &mut IndexMap<usize, Held>, id: usize, stage: Stage)
     }
 }
 
-impl Desk {
-    /// A desk with this rack and no batch, and with room for as many as it may hold. For want of memory the
+impl Holdings {
+    /// This rack and no batch, with room for as many batches as may be held. For want of memory the
     /// rack comes back as it was.
-    pub fn new(alloc: Global, rack: Rack) -> Result<Desk, (Rack, AllocError)>
-        ensures ok { IfOk result (λ desk. desk ≡ opened rack) }
+    pub fn new(alloc: Global, rack: Rack) -> Result<Holdings, (Rack, AllocError)>
+        ensures ok { IfOk result (λ holdings. holdings ≡ opened rack) }
         ensures err { IfErr result (λ refused. refused.0 ≡ rack) }
     {
         match IndexMap::with_capacity(alloc, MAX_BATCHES) {
-            Ok(held) => Ok(Desk {
+            Ok(held) => Ok(Holdings {
                 rack: Some(rack),
                 held,
                 given: 0,
@@ -112,7 +112,7 @@ impl Desk {
         let Call::Fetch(id) = call else {
             return Ok(None);
         };
-        match own(&self.held, session, *id) {
+        match held_by(&self.held, session, *id) {
             Some(found) => Ok(Some(found.batch.copy()?)),
             None => Ok(None),
         }
@@ -145,7 +145,7 @@ impl Desk {
             Gives (fetch self.now (batch_of self.now session id)) reply self.now) }
         ensures quiet { TellsNoRun (outcome_in result) }
     {
-        match own(&self.held, session, id) {
+        match held_by(&self.held, session, id) {
             Some(found) => Ok(Reply::Fetched(found.batch.copy()?)),
             None => Ok(Reply::Refused(Refusal::Unknown)),
         }
@@ -156,7 +156,7 @@ impl Desk {
             result self.new }
         ensures quiet { TellsNoRun (outcome_of result) }
     {
-        let Some(found) = own(&self.held, session, id) else {
+        let Some(found) = held_by(&self.held, session, id) else {
             return Reply::Refused(Refusal::Unknown);
         };
         if found.batch != *planned.batch() {
@@ -176,7 +176,7 @@ impl Desk {
         ensures step { Gives (show self.now (batch_of self.now session id)) result self.now }
         ensures quiet { TellsNoRun (outcome_of result) }
     {
-        match own(&self.held, session, id) {
+        match held_by(&self.held, session, id) {
             Some(found) => Reply::Shown {
                 transfers: found.batch.len(),
                 state: found.stage.state(),
@@ -189,7 +189,7 @@ impl Desk {
         ensures step { Gives (discard self.old id (batch_of self.old session id)) result self.new }
         ensures quiet { TellsNoRun (outcome_of result) }
     {
-        if own(&self.held, session, id).is_none() {
+        if held_by(&self.held, session, id).is_none() {
             return Reply::Refused(Refusal::Unknown);
         }
         self.held.shift_remove(&id);
@@ -252,7 +252,7 @@ impl Desk {
         ensures counted { P.failures plant.old.port ≤ P.failures plant.new.port }
         ensures honesty { P.honest plant.new.port ≡ P.honest plant.old.port }
     {
-        let Some(found) = own(&self.held, session, id) else {
+        let Some(found) = held_by(&self.held, session, id) else {
             return Ok(Reply::Refused(Refusal::Unknown));
         };
         let planned = match &found.stage {
