@@ -1,0 +1,77 @@
+//! The calls of the program: its words and its answers.
+
+ghost use Rattle.std.specs.Prelude.{◌≤◌};
+
+use crate::marks::{begin, end};
+use crate::met::Met;
+use crate::rows::{
+    THREE_TRANSFERS, THREE_TRANSFERS_PLAN, TWO_PUSHES, TWO_PUSHES_REPORT, TWO_PUSHES_SHAPE,
+};
+use answers::{Answer, answer_check, answer_plan, answer_run};
+use command_words::{Job, WordsFault, read_words};
+use schedule_certificate::MAX_WORKERS;
+use std::alloc::{AllocError, Global};
+use std::thread::Threads;
+
+/// What was met, where the row's answer is this text under status 0.
+fn met(answer: Result<Answer, AllocError>, text: &str) -> Met {
+    match answer {
+        Ok(answer) => Met::row_if(answer.text() == text.as_bytes() && answer.status() == 0),
+        Err(_) => Met::NoMemory,
+    }
+}
+
+/// `answer_plan` on row three-transfers, with so many workers.
+pub fn plan<R: AllocGlobal + Eprint + Threads + Sync>(rt: &R, workers: usize) -> Option<Met>
+    requires some { 1 ≤ workers }
+    requires few { workers ≤ MAX_WORKERS }
+{
+    begin(rt);
+    let answer = answer_plan(rt, rt.alloc(), THREE_TRANSFERS.as_bytes(), workers);
+    end(rt);
+    Some(met(answer, THREE_TRANSFERS_PLAN))
+}
+
+/// `answer_check` on row checker.
+pub fn check<R: AllocGlobal + Eprint>(rt: &R) -> Option<Met> {
+    let (batch, schedule) = (THREE_TRANSFERS.as_bytes(), THREE_TRANSFERS_PLAN.as_bytes());
+    begin(rt);
+    let answer = answer_check(rt.alloc(), batch, schedule);
+    end(rt);
+    Some(met(answer, "shortest 2\n"))
+}
+
+/// `answer_run` on row two-pushes, with so many workers.
+pub fn run<R: AllocGlobal + Eprint + Threads + Sync>(rt: &R, workers: usize) -> Option<Met>
+    requires some { 1 ≤ workers }
+    requires few { workers ≤ MAX_WORKERS }
+{
+    let (shape, batch) = (TWO_PUSHES_SHAPE.as_bytes(), TWO_PUSHES.as_bytes());
+    begin(rt);
+    let answer = answer_run(rt, rt.alloc(), shape, batch, workers);
+    end(rt);
+    Some(met(answer, TWO_PUSHES_REPORT))
+}
+
+/// The words of a line, which one space parts.
+fn words(alloc: Global, line: &str) -> Result<Vec<String>, AllocError> {
+    let mut words = Vec::new(alloc);
+    for word in line.split(' ') {
+        words.push(String::from_str(alloc, word)?)?;
+    }
+    Ok(words)
+}
+
+/// `read_words` of `plan F --workers 64`.
+pub fn read<R: AllocGlobal + Eprint>(rt: &R) -> Option<Met> {
+    let words = words(rt.alloc(), "exchange plan F --workers 64").ok()?;
+    begin(rt);
+    let job = read_words(rt.alloc(), words.as_slice());
+    end(rt);
+    Some(match job {
+        Ok(Job::Plan { file, workers }) => Met::row_if(file.as_str() == "F" && workers == 64),
+        Err(WordsFault::NoMemory) => Met::NoMemory,
+        Ok(_job) => Met::Other,
+        Err(_fault) => Met::Other,
+    })
+}

@@ -1,0 +1,115 @@
+//! The calls that read, write, copy and judge texts.
+
+use crate::marks::{begin, end};
+use crate::met::Met;
+use crate::rows::{LINK, ONE_PULL, THREE_TRANSFERS, THREE_TRANSFERS_PLAN, batch};
+use batch::{Batch, BatchFault, Shape};
+use link_graph::{Certificate, CheckFault, Schedule, ScheduleFault, Shortest, check_schedule};
+use std::alloc::Global;
+
+/// Whether writing a batch gives the text.
+fn is_written(batch: &Batch, text: &str) -> bool {
+    match batch.write() {
+        Ok(written) => written.as_slice() == text.as_bytes(),
+        Err(_) => false,
+    }
+}
+
+/// `Batch::read` on row three-transfers.
+pub fn read_batch<R: AllocGlobal + Eprint>(rt: &R) -> Option<Met> {
+    begin(rt);
+    let read = Batch::read(rt.alloc(), THREE_TRANSFERS.as_bytes(), Shape::WIDEST);
+    end(rt);
+    Some(match read {
+        Ok(batch) => Met::row_if(is_written(&batch, THREE_TRANSFERS)),
+        Err(fault) => Met::no_memory_if(fault == BatchFault::NoMemory),
+    })
+}
+
+/// `Batch::write` on row three-transfers.
+pub fn write_batch<R: AllocGlobal + Eprint>(rt: &R) -> Option<Met> {
+    let batch = batch(rt.alloc(), THREE_TRANSFERS)?;
+    let before = batch.copy().ok()?;
+    begin(rt);
+    let written = batch.write();
+    end(rt);
+    let is_as_before = batch == before;
+    Some(match written {
+        Ok(text) => Met::row_if(is_as_before && text.as_slice() == THREE_TRANSFERS.as_bytes()),
+        Err(_) => Met::no_memory_if(is_as_before),
+    })
+}
+
+/// `Batch::copy` on row one-script.
+pub fn copy_batch<R: AllocGlobal + Eprint>(rt: &R) -> Option<Met> {
+    let batch = batch(rt.alloc(), ONE_PULL)?;
+    begin(rt);
+    let copy = batch.copy();
+    end(rt);
+    let is_as_before = is_written(&batch, ONE_PULL);
+    Some(match copy {
+        Ok(copy) => Met::row_if(is_as_before && copy == batch),
+        Err(_) => Met::no_memory_if(is_as_before),
+    })
+}
+
+/// The schedule that row checker accepts, with its certificate.
+fn row_checker(alloc: Global) -> Option<(Schedule, Certificate)> {
+    let (schedule, certificate) = Schedule::read(alloc, THREE_TRANSFERS_PLAN.as_bytes()).ok()?;
+    Some((schedule, certificate?))
+}
+
+/// Whether these are the schedule and the certificate that row checker accepts.
+fn is_row_checker(schedule: &Schedule, certificate: Option<&Certificate>) -> bool {
+    let Some(certificate) = certificate else {
+        return false;
+    };
+    schedule.settings() == 2
+        && schedule.setting(0) == Some([0, 2].as_slice())
+        && schedule.setting(1) == Some([1].as_slice())
+        && certificate.link() == Some(LINK)
+        && certificate.transfers() == [0, 1].as_slice()
+}
+
+/// `Schedule::read` on row checker.
+pub fn read_schedule<R: AllocGlobal + Eprint>(rt: &R) -> Option<Met> {
+    begin(rt);
+    let read = Schedule::read(rt.alloc(), THREE_TRANSFERS_PLAN.as_bytes());
+    end(rt);
+    Some(match read {
+        Ok((schedule, certificate)) => {
+            Met::row_if(is_row_checker(&schedule, certificate.as_ref()))
+        }
+        Err(fault) => Met::no_memory_if(fault == ScheduleFault::NoMemory),
+    })
+}
+
+/// `Schedule::write` on row three-transfers.
+pub fn write_schedule<R: AllocGlobal + Eprint>(rt: &R) -> Option<Met> {
+    let (schedule, certificate) = Schedule::read(rt.alloc(), THREE_TRANSFERS_PLAN.as_bytes()).ok()?;
+    begin(rt);
+    let written = schedule.write(certificate.as_ref());
+    end(rt);
+    let is_as_before = is_row_checker(&schedule, certificate.as_ref());
+    Some(match written {
+        Ok(text) => {
+            Met::row_if(is_as_before && text.as_slice() == THREE_TRANSFERS_PLAN.as_bytes())
+        }
+        Err(_) => Met::no_memory_if(is_as_before),
+    })
+}
+
+/// `check_schedule` on row checker.
+pub fn check<R: AllocGlobal + Eprint>(rt: &R) -> Option<Met> {
+    let batch = batch(rt.alloc(), THREE_TRANSFERS)?;
+    let (schedule, certificate) = row_checker(rt.alloc())?;
+    begin(rt);
+    let judged = check_schedule(rt.alloc(), &batch, &schedule, &certificate);
+    end(rt);
+    let is_as_before = is_written(&batch, THREE_TRANSFERS)
+        && is_row_checker(&schedule, Some(&certificate));
+    Some(match judged {
+        Ok(shortest) => Met::row_if(is_as_before && shortest == Shortest { settings: 2 }),
+        Err(fault) => Met::no_memory_if(is_as_before && fault == CheckFault::NoMemory),
+    })
+}

@@ -1,0 +1,162 @@
+//! Sessions side by side on one exchange, and the history that they leave.
+
+ghost use Rattle.std.specs.Prelude.{◌≡◌, ◌≤◌, All, Some};
+ghost use Rattle.progress_word.specs.declared.limits.TheConstants.{ALL_PARTS};
+
+use crate::exchange_calls::Exchange;
+use crate::history::push_history;
+use crate::plants::plain;
+use batch::Shape;
+use batch_book::{Seat, Unclosed};
+use client_session::{ServeFault, serve};
+use module_memory::Rack;
+use schedule_certificate::MAX_WORKERS;
+use std::alloc::{AllocError, Global};
+use std::io::Write;
+use std::marker::Brand;
+use std::rt::Files;
+use std::sync::ledger::{Blank, Ledger};
+use std::sync::{Mutex, Wait};
+use std::thread::Threads;
+use std::{fs, io, thread};
+
+/// How many workers plan and run for each session.
+const WORKERS: usize = 2;
+
+/// What the session of a number was told, and the fault that ended it, if one did.
+#[derive(Drop)]
+struct Told {
+    session: usize,
+    lines: Vec<u8>,
+    fault: Option<ServeFault>,
+}
+
+/// Serves the script of a seat to its end, and keeps what it was told, as far as there is memory.
+fn serve_script<L: Ledger, R: AllocGlobal + Threads + Wait + Sync>(
+    rt: &R,
+    exchange: &Exchange<L>,
+    seat: Seat<L>,
+    scripts: &[Vec<u8>],
+    all: &Mutex<Vec<Told>>,
+) -> Seat<L>
+    requires { seat.exchange ≡ Some exchange.now.word }
+    ensures { result.exchange ≡ seat.exchange }
+{
+    let session = seat.session();
+    let mut reader: &[u8] = match scripts.get(session) {
+        Some(script) => script.as_slice(),
+        None => &[],
+    };
+    let mut lines = Vec::new(rt.alloc());
+    let served = serve(
+        rt,
+        rt.alloc(),
+        exchange,
+        seat,
+        &mut reader,
+        &mut lines,
+        WORKERS,
+    );
+    let (seat, fault) = match served {
+        Ok(seat) => (seat, None),
+        Err((seat, fault)) => (seat, Some(fault)),
+    };
+    let told = Told {
+        session,
+        lines,
+        fault,
+    };
+    let _ = all.lock(rt).push(told);
+    seat
+}
+
+/// The lines of a session: `session I`, what it was told, and `ended ..` where a fault ended it.
+fn push_told(text: &mut Vec<u8>, told: &Told) -> Result<(), AllocError> {
+    let session = told.session;
+    write!(text, "session {session}\n").map_err(|_| AllocError)?;
+    text.extend_from_slice(told.lines.as_slice())?;
+    if let Some(fault) = told.fault {
+        write!(text, "ended {fault}\n").map_err(|_| AllocError)?;
+    }
+    Ok(())
+}
+
+/// What all sessions were told, in whatever order they ended, and then the history of the closed exchange.
+fn text_of<L: Ledger>(
+    alloc: Global,
+    exchange: Exchange<L>,
+    seats: Vec<Seat<L>>,
+    all: &[Told],
+) -> Result<Vec<u8>, AllocError>
+    requires parts { L.parts ≡ ALL_PARTS }
+    requires seats { All (λ s. s.exchange ≡ Some exchange.word) seats.items }
+{
+    let mut text = Vec::new(alloc);
+    for told in all {
+        push_told(&mut text, told)?;
+    }
+    let mut history = String::new(alloc);
+    match exchange.close(seats) {
+        Ok(closed) => push_history(&mut history, closed.book.history())?,
+        Err(Unclosed::LogsDisagree(_closed)) => history.push_str("logs disagree\n")?,
+        Err(Unclosed::SeatMissing(_exchange, _seats)) => history.push_str("a seat is missing\n")?,
+    }
+    text.extend_from_slice(b"history\n")?;
+    text.extend_from_slice(history.as_bytes())?;
+    Ok(text)
+}
+
+/// Serves the scripts side by side on a new exchange, each in a thread of its own where it can be had, and closes it.
+fn serve_all<L: Ledger + Send + Sync, R: AllocGlobal + Threads + Wait + Sync>(
+    rt: &R,
+    blank: Blank,
+    rack: Rack,
+    scripts: &[Vec<u8>],
+) -> Option<Vec<u8>>
+    requires name { blank.name ≡ L.name }
+    requires parts { (blank.parts ≡ L.parts) × (blank.parts ≡ ALL_PARTS) }
+{
+    let made = Exchange::<L>::new(rt.alloc(), blank, rack, plain(WORKERS), scripts.len());
+    let Ok((exchange, seats)) = made else {
+        return None;
+    };
+    let all = Mutex::new(Vec::new(rt.alloc()));
+    let (lent, kept) = (&exchange, &all);
+    let one = |seat: Seat<L>| -> Seat<L>
+        requires { seat.exchange ≡ Some lent.now.word }
+        ensures { result.exchange ≡ seat.exchange }
+    { serve_script(rt, lent, seat, scripts, kept) };
+    let Ok(seats) = thread::map_vec(rt, seats, &one) else {
+        return None;
+    };
+    let all = all.into_inner();
+    text_of(rt.alloc(), exchange, seats, all.as_slice()).ok()
+}
+
+/// The files' bytes.
+fn read_all<R: AllocGlobal + Files>(rt: &R, files: &[String]) -> io::Result<Vec<Vec<u8>>> {
+    let mut scripts = Vec::new(rt.alloc());
+    for file in files {
+        let script = fs::read(rt, file.as_str())?;
+        scripts.push(script)?;
+    }
+    Ok(scripts)
+}
+
+/// Serves the scripts of 1 to 16 files side by side on an exchange with a rack of zeros, and prints what each session was told and the
+/// history.
+pub fn serve_side_by_side<R: AllocGlobal + Files + Print + Threads + Wait + Sync>(
+    rt: &R,
+    shape: &str,
+    files: &[String],
+) -> io::Result<()> {
+    let scripts = read_all(rt, files)?;
+    let Ok(shape) = Shape::read(shape.as_bytes()) else {
+        return println!(rt; "no shape");
+    };
+    let rack = Rack::new(rt.alloc(), shape)?;
+    match serve_all::<Brand, R>(rt, Blank::new(16), rack, scripts.as_slice()) {
+        Some(text) => io::writer(rt).write_all(text.as_slice()),
+        None => println!(rt; "not served"),
+    }
+}

@@ -1,0 +1,249 @@
+//! The calls that serve sessions, on row one-script.
+
+ghost use Rattle.std.specs.Prelude.{◌≡◌, ◌≤◌};
+ghost use Rattle.progress_word.specs.declared.limits.TheConstants.{ALL_PARTS};
+
+use crate::exchange_calls::{Pair, close, open_pair};
+use crate::kinds::Row;
+use crate::marks::{begin, end};
+use crate::met::Met;
+use answers::{Answer, answer_serve};
+use batch::Shape;
+use client_session::{ServeFault, serve as serve_session};
+use module_memory::Rack;
+use schedule_certificate::MAX_WORKERS;
+use std::alloc::AllocError;
+use std::io;
+use std::io::Write;
+use std::marker::Brand;
+use std::sync::Wait;
+use std::sync::ledger::{Blank, Ledger};
+use std::thread::Threads;
+
+/// The first script of the row.
+const SCRIPT: &str = "\
+poke 1 80000808 000000ff
+batch 1
+pull 0 0 1 1
+plan 1
+run 1
+progress
+peek 0 80000800
+bye
+";
+
+/// What it is told.
+const TOLD: &str = "\
+poked
+accepted 1
+planned 1 settings 1
+ran 1 run 1 settings 1 words 2 bits 234
+progress run 1 done 1
+word 000000ff
+bye
+";
+
+/// The second script of the row.
+const OTHER_SCRIPT: &str = "show 1\n";
+
+/// What the program prints of both.
+const PRINTED: &str = "\
+session 0
+poked
+accepted 1
+planned 1 settings 1
+ran 1 run 1 settings 1 words 2 bits 234
+progress run 1 done 1
+word 000000ff
+bye
+session 1
+refused unknown
+";
+
+/// How many bytes a writer keeps.
+const ROOM: usize = 1024;
+
+/// A writer that takes no memory: it keeps what it is handed, up to a limit.
+#[derive(Drop)]
+struct Kept {
+    bytes: [u8; ROOM],
+    count: usize,
+}
+
+impl Kept {
+    /// A writer that has kept nothing.
+    pub fn new() -> Kept {
+        Kept {
+            bytes: [0; ROOM],
+            count: 0,
+        }
+    }
+
+    /// What it has kept.
+    pub fn as_slice(&self) -> &[u8] {
+        self.bytes.get(..self.count).unwrap_or(&[])
+    }
+
+    /// Keeps a byte, if there is room.
+    fn keep(&mut self, byte: u8) {
+        if self.count < ROOM {
+            self.bytes[self.count] = byte;
+            self.count += 1;
+        }
+    }
+}
+
+impl Write for Kept {
+    fn write(&mut self, buf: &[u8]) -> io::Result<usize> {
+        let taken = buf.len().min(ROOM.saturating_sub(self.count));
+        for i in 0..taken {
+            self.keep(buf[i]);
+        }
+        Ok(taken)
+    }
+
+    fn flush(&mut self) -> io::Result<()> {
+        Ok(())
+    }
+}
+
+/// How many bytes at the front of two texts are the same.
+fn common(one: &[u8], other: &[u8]) -> usize {
+    let mut same: usize = 0;
+    for (a, b) in one.iter().zip(other) {
+        if a != b {
+            return same;
+        }
+        same = same.saturating_add(1);
+    }
+    same
+}
+
+/// Where the line begins in which a place stands.
+fn line_start(text: &[u8], place: usize) -> usize {
+    let mut start: usize = 0;
+    for (at, byte) in text.iter().enumerate() {
+        if at < place && *byte == b'\n' {
+            start = at.saturating_add(1);
+        }
+    }
+    start
+}
+
+/// Whether a text is that of a row, up to the first line that tells of want of memory.
+fn is_as_in_row(told: &[u8], row: &[u8]) -> bool {
+    let start = line_start(told, common(told, row));
+    match told.get(start..) {
+        Some(rest) => {
+            rest.is_empty()
+                || rest.starts_with(b"refused no memory\n")
+                || rest.starts_with(b"ended no memory\n")
+                || rest.starts_with(b"ended write\n")
+        }
+        None => false,
+    }
+}
+
+/// How many lines a text has.
+fn lines(text: &[u8]) -> usize {
+    text.iter().filter(|byte| **byte == b'\n').count()
+}
+
+/// What was met by a session that was told this and ended by this fault, if by one, where the exchange closed with its entries or not.
+fn met(told: &[u8], fault: Option<ServeFault>, has_entries: bool) -> Met {
+    let is_as_in_row = is_as_in_row(told, TOLD.as_bytes());
+    match fault {
+        None if told == TOLD.as_bytes() => Met::row_if(has_entries),
+        None => {
+            let is_told_all = lines(told) == lines(TOLD.as_bytes());
+            Met::no_memory_if(has_entries && is_as_in_row && is_told_all)
+        }
+        Some(ServeFault::NoMemory) => Met::no_memory_if(has_entries && is_as_in_row),
+        Some(_) => Met::Other,
+    }
+}
+
+/// `serve` on an exchange with two seats, with so many workers.
+fn serve_with<L: Ledger, R: AllocGlobal + Eprint + Threads + Wait + Sync>(
+    rt: &R,
+    blank: Blank,
+    workers: usize,
+) -> Option<Met>
+    requires name { blank.name ≡ L.name }
+    requires parts { (blank.parts ≡ L.parts) × (blank.parts ≡ ALL_PARTS) }
+    requires some { 1 ≤ workers }
+    requires few { workers ≤ MAX_WORKERS }
+{
+    let shape = Shape::read(Row::OneScript.shape().as_bytes()).ok()?;
+    let rack = Rack::new(rt.alloc(), shape).ok()?;
+    let Pair {
+        exchange,
+        first,
+        second,
+    } = open_pair::<L>(rt.alloc(), blank, rack, workers)?;
+    let mut reader = SCRIPT.as_bytes();
+    let mut writer = Kept::new();
+    begin(rt);
+    let served = serve_session(
+        rt,
+        rt.alloc(),
+        &exchange,
+        first,
+        &mut reader,
+        &mut writer,
+        workers,
+    );
+    end(rt);
+    let (first, fault) = match served {
+        Ok(seat) => (seat, None),
+        Err((seat, fault)) => (seat, Some(fault)),
+    };
+    let entries = first.log().len();
+    let pair = Pair {
+        exchange,
+        first,
+        second,
+    };
+    let closed = close(Vec::new(rt.alloc()), pair)?;
+    let has_entries = closed.book.history().len() == entries;
+    Some(met(writer.as_slice(), fault, has_entries))
+}
+
+/// `serve` on row one-script, with so many workers.
+pub fn serve<R: AllocGlobal + Eprint + Threads + Wait + Sync>(rt: &R, workers: usize) -> Option<Met>
+    requires some { 1 ≤ workers }
+    requires few { workers ≤ MAX_WORKERS }
+{
+    serve_with::<Brand, R>(rt, Blank::new(16), workers)
+}
+
+/// What the program was to print, where some of it tells of want of memory.
+fn met_by_answer(answer: Result<Answer, AllocError>) -> Met {
+    match answer {
+        Ok(answer) if answer.text() == PRINTED.as_bytes() => Met::row_if(answer.status() == 0),
+        Ok(answer) => Met::no_memory_if(is_as_in_row(answer.text(), PRINTED.as_bytes())),
+        Err(_) => Met::NoMemory,
+    }
+}
+
+/// `answer_serve` on row one-script, with so many workers.
+pub fn answer<R: AllocGlobal + Eprint + Threads + Wait + Sync>(
+    rt: &R,
+    workers: usize,
+) -> Option<Met>
+    requires some { 1 ≤ workers }
+    requires few { workers ≤ MAX_WORKERS }
+{
+    let mut scripts = Vec::new(rt.alloc());
+    scripts
+        .push(SCRIPT.as_bytes().to_vec(rt.alloc()).ok()?)
+        .ok()?;
+    scripts
+        .push(OTHER_SCRIPT.as_bytes().to_vec(rt.alloc()).ok()?)
+        .ok()?;
+    let shape = Row::OneScript.shape().as_bytes();
+    begin(rt);
+    let answer = answer_serve(rt, rt.alloc(), shape, workers, scripts.as_slice());
+    end(rt);
+    Some(met_by_answer(answer))
+}

@@ -1,0 +1,189 @@
+//! Calls that take no memory, between the same marks.
+
+ghost use Rattle.std.specs.Prelude.{◌≡◌, ◌≤◌, ◌<◌, length};
+ghost use Rattle.progress_word.specs.declared.limits.TheConstants.{ALL_PARTS};
+
+use crate::exchange_calls::{close as close_pair, open_pair};
+use crate::graph_calls::takes_four;
+use crate::kinds::{Kind, Row};
+use crate::marks::{begin, end};
+use crate::met::Met;
+use crate::plants::plain;
+use crate::rows::{
+    FIRST, FOUR, THREE_TRANSFERS, TWO_PUSHES, TWO_PUSHES_SHAPE, WRITTEN, are_same, batch, graph,
+    marked, plan,
+};
+use alternating_path::Table;
+use batch::{Batch, Place};
+use batch_book::{Book, Call, MAX_ENTRIES, Refusal, Reply};
+use module_memory::Rack;
+use setting_runner::{Notice, Outcome, run};
+use std::marker::Brand;
+use std::sync::Wait;
+use std::sync::ledger::{Blank, Ledger};
+use std::thread::Threads;
+
+/// `Table::insert` on row table-of-four.
+pub fn insert<R: AllocGlobal + Eprint>(rt: &R) -> Option<Met> {
+    let graph = graph(rt.alloc(), FOUR)?;
+    if graph.len() != 4 {
+        return None;
+    }
+    let table = Table::new(rt.alloc(), &graph, 2).ok()?;
+    begin(rt);
+    let is_right = takes_four(table);
+    end(rt);
+    Some(Met::row_if(is_right))
+}
+
+/// `Parted::rejoin` on row two-pushes.
+pub fn rejoin<R: AllocGlobal + Eprint>(rt: &R) -> Option<Met> {
+    let rack = marked(rt.alloc(), TWO_PUSHES_SHAPE)?;
+    let before = marked(rt.alloc(), TWO_PUSHES_SHAPE)?;
+    let Ok(parted) = rack.part(&WRITTEN) else {
+        return None;
+    };
+    begin(rt);
+    let rack = parted.rejoin();
+    end(rt);
+    Some(Met::row_if(are_same(&rack, &before)))
+}
+
+/// A notice that sets the first mark when a run has begun.
+struct Marking<'a, R> {
+    rt: &'a R,
+}
+
+impl<'a, R: Eprint> Notice for Marking<'a, R> {
+    ghost hears = { λ _ _ _. Unit {0} };
+
+    fn done(&mut self, settings: usize) {
+        if settings == 0 {
+            begin(self.rt);
+        }
+    }
+}
+
+/// `run` behind its beginning, on row three-transfers, which has two settings.
+pub fn run_on<R: AllocGlobal + Eprint + Threads + Sync>(rt: &R) -> Option<Met> {
+    let planned = plan(rt, THREE_TRANSFERS)?;
+    let rack = marked(rt.alloc(), "3x2x1")?;
+    let mut plant = plain(1);
+    let mut notice = Marking { rt };
+    let (_rack, outcome) = run(rt, rt.alloc(), rack, &mut plant, &planned, &mut notice);
+    end(rt);
+    let Marking { rt: _ } = notice;
+    let all = Outcome::Completed {
+        settings: 2,
+        words: 3,
+    };
+    Some(Met::row_if(outcome == all))
+}
+
+/// One call of session 0.
+fn ask<R: Threads + Sync>(rt: &R, book: &mut Book, call: Call) -> Reply {
+    book.apply(
+        rt,
+        0,
+        call,
+        &mut plain(1),
+        &mut crate::plants::Told::nothing(),
+    )
+}
+
+/// A book of row book-limits whose history is full.
+fn full_book<R: AllocGlobal + Threads + Sync>(rt: &R) -> Option<Book> {
+    let mut book = Book::new(rt.alloc(), marked(rt.alloc(), Row::BookLimits.shape())?).ok()?;
+    for _ in 0..MAX_ENTRIES {
+        ask(rt, &mut book, Call::Peek(1, FIRST));
+    }
+    Some(book)
+}
+
+/// One call of each kind.
+fn calls<R: AllocGlobal + Threads + Sync>(rt: &R) -> Option<Vec<Call>> {
+    let mut calls = Vec::new(rt.alloc());
+    for kind in [
+        Kind::Submit,
+        Kind::Fetch,
+        Kind::Settle,
+        Kind::Run,
+        Kind::Show,
+        Kind::Discard,
+        Kind::Peek,
+        Kind::Poke,
+    ] {
+        calls.push(kind.call(rt, Row::BookLimits)?).ok()?;
+    }
+    Some(calls)
+}
+
+/// `Book::apply` of one call of each kind at a full history.
+pub fn apply_full<R: AllocGlobal + Eprint + Threads + Sync>(rt: &R) -> Option<Met> {
+    let mut book = full_book(rt)?;
+    let calls = calls(rt)?;
+    let mut is_right = true;
+    begin(rt);
+    for call in calls {
+        let reply = ask(rt, &mut book, call);
+        is_right = is_right && matches!(reply, Reply::Refused(Refusal::HistoryFull));
+    }
+    end(rt);
+    Some(Met::row_if(is_right && book.history().len() == MAX_ENTRIES))
+}
+
+/// `Shared::progress` and `Shared::close` of an exchange with two seats and an entry.
+fn close_with<L: Ledger, R: AllocGlobal + Eprint + Threads + Wait + Sync>(
+    rt: &R,
+    blank: Blank,
+) -> Option<Met>
+    requires name { blank.name ≡ L.name }
+    requires parts { (blank.parts ≡ L.parts) × (blank.parts ≡ ALL_PARTS) }
+{
+    let rack = marked(rt.alloc(), Row::OneScript.shape())?;
+    let mut pair = open_pair::<L>(rt.alloc(), blank, rack, 1)?;
+    pair.ask(rt, Call::Peek(1, FIRST));
+    let seats = Vec::with_capacity(rt.alloc(), 2).ok()?;
+    begin(rt);
+    let reading = pair.read();
+    let closed = close_pair(seats, pair);
+    end(rt);
+    Some(Met::row_if(reading.run == 0 && closed.is_some()))
+}
+
+/// `Shared::progress` and `Shared::close` on row one-script.
+pub fn close<R: AllocGlobal + Eprint + Threads + Wait + Sync>(rt: &R) -> Option<Met> {
+    close_with::<Brand, R>(rt, Blank::new(16))
+}
+
+/// Whether a batch is that of row two-pushes, by the calls that look at it.
+fn looks_right(batch: &Batch, same: &Batch) -> bool {
+    batch.len() == 2
+        && batch.first_overlap().is_none()
+        && batch.transfer(1) == same.transfer(1)
+        && batch == same
+        && batch.iter().count() == 2
+}
+
+/// Whether a rack can be marked, read and written.
+fn works(rack: &mut Rack) -> bool {
+    rack.mark();
+    let place = Place {
+        module: 1,
+        block: 0,
+    };
+    rack.read(1, FIRST) == Ok(0x0001_0000)
+        && rack.write(1, FIRST, 7) == Ok(())
+        && rack.block(place) == Some([7, 0x0001_0001].as_slice())
+}
+
+/// The calls of batches and racks that look, mark, read and write.
+pub fn look<R: AllocGlobal + Eprint>(rt: &R) -> Option<Met> {
+    let one = batch(rt.alloc(), TWO_PUSHES)?;
+    let same = batch(rt.alloc(), TWO_PUSHES)?;
+    let mut rack = marked(rt.alloc(), TWO_PUSHES_SHAPE)?;
+    begin(rt);
+    let is_right = looks_right(&one, &same) && works(&mut rack);
+    end(rt);
+    Some(Met::row_if(is_right))
+}
