@@ -21,7 +21,7 @@ use Rattle.client_session.specs.Seats.{SeatView, seat_view}
 use Rattle.client_session.specs.Sessions.{Passes, HasEnded}
 use Rattle.answers.specs.declared.session.Session.{Session}
 use Rattle.answers.specs.Frames.{Transcript, session_text, sessions_text, has_fault}
-use Rattle.answers.specs.Serving.{HasItsScript, HaveOneHistory}
+use Rattle.answers.specs.Serving.{HasItsScript, IsHistoryOf, HaveOneHistory, HaveAnotherHistory}
 use Rattle.answers.specs.Hosting.{transcript, IsReady, HaveAllSeats, AreServedAt}
 
 -- ---- lists
@@ -156,7 +156,17 @@ pub all_of_it : {L : Type 0} (x : Exchange) (ss : List (Session L)) (seats : Lis
 all_of_it {L} x ss seats all are =
     subst (λ (ts : List Stand). All (λ (t : Stand). t.exchange ≡ Some x.word) ts) (sym are) (All-map (λ (t : Stand). t.exchange ≡ Some x.word) (λ (s : Session L). s.seat) ss all.seats)
 
--- the history of an exchange whose lists agree with it is that of its sessions
+-- the history that the exchange kept
+its_history : {L P W G : Type 0} (ss : List (Session L)) (seats : List Stand) (c : Closed L P W G) → seats ≡ map (λ (s : Session L). s.seat) ss
+    → AreClosed seats c → IsLegal c.book.opening c.book.history → IsHistoryOf (map transcript ss) c.book.history
+its_history {L} ss seats c are closed legal =
+    record {
+      opening = c.book.opening;
+      legal = legal;
+      counted = closed.counted ∙ ap entries_of are ∙ sum_mapped (λ (t : Stand). length t.log) (λ (s : Session L). s.seat) ss ∙ sym (sum_mapped (λ (t : Transcript). length t.entries) transcript ss);
+    }
+
+-- where their lists agree with it, it is that of its sessions
 pub one_history : {L P W G : Type 0} (ss : List (Session L)) (seats : List Stand) (c : Closed L P W G) → seats ≡ map (λ (s : Session L). s.seat) ss
     → AreClosed seats c → AllAgree seats c → NoneAhead seats c → IsLegal c.book.opening c.book.history → HaveOneHistory (map transcript ss)
 one_history {L} ss seats c are closed agree behind legal =
@@ -165,10 +175,20 @@ one_history {L} ss seats c are closed agree behind legal =
     let agrees : All (λ (s : Session L). Agrees h s.seat) ss = of_map (Agrees h) (λ (s : Session L). s.seat) ss (subst (All (Agrees h)) are agree) in
     let seen : All (λ (s : Session L). Seen s.seat) ss = of_map Seen (λ (s : Session L). s.seat) ss (subst (All Seen) are behind) in
     record {
-      opening = c.book.opening;
       history = h;
-      legal = legal;
-      entries = All-map (λ (t : Transcript). t.entries ≡ own t.session h) transcript ss agrees;
-      no_other = closed.counted ∙ ap entries_of are ∙ sum_mapped (λ (t : Stand). length t.log) (λ (s : Session L). s.seat) ss ∙ sym (sum_mapped (λ (t : Transcript). length t.entries) transcript ss);
+      is_history = its_history ss seats c are closed legal;
+      parts = All-map (λ (t : Transcript). t.entries ≡ own t.session h) transcript ss agrees;
       seen = All-map (λ (t : Transcript). t.seen ≤ greatest h) transcript ss seen;
+    }
+
+-- where they don't, it isn't
+pub another_history : {L P W G : Type 0} (ss : List (Session L)) (seats : List Stand) (c : Closed L P W G) → seats ≡ map (λ (s : Session L). s.seat) ss
+    → AreClosed seats c → ¬ AllAgree seats c → IsLegal c.book.opening c.book.history → HaveAnotherHistory (map transcript ss)
+another_history {L} ss seats c are closed differ legal =
+    let h = c.book.history in
+    record {
+      history = h;
+      is_history = its_history ss seats c are closed legal;
+      no_parts = λ parts.
+          differ (subst (All (Agrees h)) (sym are) (All-map (Agrees h) (λ (s : Session L). s.seat) ss (of_map (λ (t : Transcript). t.entries ≡ own t.session h) transcript ss parts)));
     }

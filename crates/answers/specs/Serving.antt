@@ -39,20 +39,34 @@ pub record AreSessionsOf (shape : Extent) (scripts : List (List ℕ)) (sessions 
   pub numbers : map (λ t. t.session) sessions ≡ range_with_len 0 (length scripts)
   pub each : All (HasItsScript shape scripts) sessions
 
--- One history of an exchange, which is legal from some words, has just the entries of these sessions: those of each session in its order. No
--- session saw the runs come further than the history tells.
-pub record HaveOneHistory (sessions : List Transcript) : Type 0 where
+-- a history of an exchange, which is legal from some words and has as many entries as these sessions
+pub record IsHistoryOf (sessions : List Transcript) (history : List Entry) : Type 0 where
   pub opening : Store
-  pub history : List Entry
   pub legal : IsLegal opening history
-  pub entries : All (λ t. t.entries ≡ own t.session history) sessions
-  pub no_other : length history ≡ sum_by (λ t. length t.entries) sessions
+  pub counted : length history ≡ sum_by (λ t. length t.entries) sessions
+
+-- the entries of each session are its part of the history
+abbrev pub AreParts : List Transcript → List Entry → Type 0
+AreParts sessions history = All (λ t. t.entries ≡ own t.session history) sessions
+
+-- The sessions have one history: it has just their entries, those of each session in its order. No session saw the runs come further than it
+-- tells.
+pub record HaveOneHistory (sessions : List Transcript) : Type 0 where
+  pub history : List Entry
+  pub is_history : IsHistoryOf sessions history
+  pub parts : AreParts sessions history
   pub seen : All (λ t. t.seen ≤ greatest history) sessions
 
--- The texts of the sessions are printed. Where these have no one history, that is said by a last line.
+-- the history that was kept of the sessions isn't that of their entries
+pub record HaveAnotherHistory (sessions : List Transcript) : Type 0 where
+  pub history : List Entry
+  pub is_history : IsHistoryOf sessions history
+  pub no_parts : ¬ AreParts sessions history
+
+-- The texts of the sessions are printed. Where another history was kept of them, that is said by a last line.
 pub data ArePrinted (sessions : List Transcript) (printed : Printed) : Type 0 where
   agree : HaveOneHistory sessions → printed.text ≡ sessions_text sessions → printed.status ≡ status_of sessions → ArePrinted sessions printed
-  disagree : printed.text ≡ sessions_text sessions ++ disagree_line → printed.status ≡ REFUSED → ArePrinted sessions printed
+  disagree : HaveAnotherHistory sessions → printed.text ≡ sessions_text sessions ++ disagree_line → printed.status ≡ REFUSED → ArePrinted sessions printed
 
 -- the sessions of the scripts on one exchange, with a rack of the shape, are printed
 abbrev pub AreServed : Extent → List (List ℕ) → Printed → Type 0

@@ -1,11 +1,11 @@
 //! The command `serve`.
 
-ghost use Rattle.std.specs.Prelude.{◌≡◌, ◌≤◌, IfOk, length, map, true};
+ghost use Rattle.std.specs.Prelude.{◌≡◌, ◌≤◌, IfOk, length, map, true, false};
 ghost use Rattle.progress_word.specs.declared.limits.TheConstants.{ALL_PARTS};
 ghost use Rattle.batch_book.specs.Exchanges.{AreNew};
 ghost use Rattle.batch_book.specs.Seats.{IsSameSeat};
 ghost use Rattle.answers.specs.Hosting.{transcript, IsReady, HaveAllSeats, AreServedAt};
-ghost use Rattle.answers.specs.Serving.{HasItsScript, HaveOneHistory, AreServed, IsServeAnswer};
+ghost use Rattle.answers.specs.Serving.{HasItsScript, HaveOneHistory, HaveAnotherHistory, AreServed, IsServeAnswer};
 
 use crate::answer::Answer;
 use crate::frames::{frame, has_fault};
@@ -105,15 +105,21 @@ fn close<L: Ledger>(
 ) -> Result<bool, AllocError>
     requires parts { L.parts ≡ ALL_PARTS }
     requires seats { HaveAllSeats exchange sessions.items }
-    ensures { IfOk result (λ agree. agree ≡ true
+    ensures agree { IfOk result (λ agree. agree ≡ true
         → HaveOneHistory (map transcript sessions.items)) }
+    ensures disagree { IfOk result (λ agree. agree ≡ false
+        → HaveAnotherHistory (map transcript sessions.items)) }
 {
+    // The history is asked for only for its contract, which says that it is legal.
     match exchange.close(seats_of(alloc, sessions)?) {
         Ok(closed) => {
             closed.book.history();
             Ok(true)
         }
-        Err(Unclosed::LogsDisagree(_)) => Ok(false),
+        Err(Unclosed::LogsDisagree(closed)) => {
+            closed.book.history();
+            Ok(false)
+        }
         Err(Unclosed::SeatMissing(..)) => unreachable!(),
     }
 }

@@ -126,13 +126,20 @@ refused line
     Ok(())
 }
 
-/// The rack's words are 0 at first.
+/// The rack's words are 0 at first, wherever they stand.
 #[test]
 fn rack_of_zeros(rt: HostRuntime) -> Result<(), Fail> {
-    let text = "session 0\nword 00000000\n";
-    assert!(rt; answers_one(&rt, "1x1x1", "peek 0 80000800\n", text, 0)?);
+    let first = "session 0\nword 00000000\n";
+    assert!(rt; answers_one(&rt, "1x1x1", "peek 0 80000800\n", first, 0)?);
+    let script = "peek 0 80000804\npeek 0 80000808\npeek 2 8000080c\n";
+    let others = "session 0\nword 00000000\nword 00000000\nword 00000000\n";
+    assert!(rt; answers_one(&rt, "3x2x2", script, others, 0)?);
     Ok(())
 }
+
+/// 81 letters.
+const LONG: &str =
+    "aaaaaaaaaaaaaaaaaaaaaaaaaaaaaaaaaaaaaaaaaaaaaaaaaaaaaaaaaaaaaaaaaaaaaaaaaaaaaaaaa";
 
 /// Row session-ends, as it is printed.
 #[test]
@@ -168,6 +175,14 @@ fn one_of_three_is_cut(rt: HostRuntime) -> Result<(), Fail> {
     let whole = "peek 0 80000800\n";
     let text = "session 0\nword 00000000\nsession 1\nended cut\nsession 2\nword 00000000\n";
     assert!(rt; answers(&rt, "1x1x1", &[whole, "bye", whole], text, 1)?);
+    Ok(())
+}
+
+/// Each session is told of its own fault.
+#[test]
+fn two_of_three_end_by_faults(rt: HostRuntime) -> Result<(), Fail> {
+    let text = "session 0\nended line too long\nsession 1\nbye\nsession 2\nended cut\n";
+    assert!(rt; answers(&rt, "1x1x1", &[LONG, "bye\n", "batch 1\n"], text, 1)?);
     Ok(())
 }
 
@@ -208,6 +223,50 @@ fn sixteen_scripts(rt: HostRuntime) -> Result<(), Fail> {
     let scripts = sixteen(rt.alloc())?;
     let told = sixteen_told(rt.alloc())?;
     assert!(rt; is_answer(&rt, "1x1x16", scripts.as_slice(), told.as_str(), 0)?);
+    Ok(())
+}
+
+/// Sixteen scripts that peek 4097 times each, which is one call for each more than an exchange answers.
+fn sixteen_of_peeks(alloc: Global) -> Result<Vec<Vec<u8>>, AllocError> {
+    let mut script = Vec::new(alloc);
+    for _ in 0..4097usize {
+        script.extend_from_slice(b"peek 0 80000800\n")?;
+    }
+    let mut scripts = Vec::new(alloc);
+    for _ in 0..16usize {
+        scripts.push(script.clone()?)?;
+    }
+    Ok(scripts)
+}
+
+/// How many lines of the text are this one.
+fn times(text: &[u8], line: &str) -> usize {
+    match str::from_utf8(text) {
+        Ok(text) => text.lines().filter(|l| *l == line).count(),
+        Err(_) => 0,
+    }
+}
+
+/// How many calls of the sixteen are answered and how many are refused, how many lines there are in all, and the
+/// status.
+fn full_history<R: AllocGlobal + Threads + Wait + Sync>(
+    rt: &R,
+) -> Result<(usize, usize, usize, u8), AllocError> {
+    let scripts = sixteen_of_peeks(rt.alloc())?;
+    if scripts.is_empty() || scripts.len() > ALL_PARTS {
+        return Ok((0, 0, 0, 0));
+    }
+    let answer = answer_serve(rt, rt.alloc(), b"1x1x1", 1, scripts.as_slice())?;
+    let answered = times(answer.text(), "word 00000000");
+    let refused = times(answer.text(), "refused history full");
+    let feeds = answer.text().iter().filter(|b| **b == b'\n').count();
+    Ok((answered, refused, feeds, answer.status()))
+}
+
+/// Where sixteen sessions fill the history, it has what each of them was told: no lists disagree.
+#[test]
+fn sixteen_fill_the_history(rt: HostRuntime) -> Result<(), Fail> {
+    assert_eq!(rt; full_history(&rt)?, (65_536, 16, 65_568, 0));
     Ok(())
 }
 
