@@ -1,0 +1,36 @@
+#!/usr/bin/env bash
+# Hostile use of the built program: tools/hostile/run.sh [COUNT]
+#
+#   streams   files that can't be read, and streams that can't be written
+#   growths   each growth of memory refused in turn, of each call that may want memory and of the command line
+#   texts     COUNT spoilt texts of each kind, 10000 where it isn't said, judged by a second implementation as well
+#   clients   COUNT / 50 rounds of sixteen clients at once, whose history the second implementation replays
+#
+# Programs that aren't built yet, or are older than their sources, are proved and built first. `rt ci` leaves them built.
+set -euo pipefail
+unset CDPATH
+here=$(cd "$(dirname "${BASH_SOURCE[0]}")" && pwd)
+top=$(cd "$here/../.." && pwd)
+work=$(mktemp -d)
+trap 'rm -rf "$work"' EXIT
+export PYTHONDONTWRITEBYTECODE=1
+
+"$top/exchange" --help >/dev/null
+calls=$top/crates/hostile_use/out/hostile_use
+if [ ! -x "$calls" ] || [ -n "$(find "$top/crates.txt" "$top"/crates/*/src "$top"/crates/*/specs -type f -newer "$calls" -print -quit)" ]; then
+    echo "run.sh: proving and building hostile_use .." >&2
+    (cd "$top/crates/hostile_use" && rt run) >"$work/log" 2>&1 || { cat "$work/log" >&2; exit 3; }
+    touch "$calls"
+fi
+cc -O2 -shared -fPIC -o "$work/refuse.so" "$here/refuse.c" -ldl
+
+failed=
+python3 "$here/streams.py" || failed+=" streams"
+python3 "$here/growths.py" "$work/refuse.so" || failed+=" growths"
+python3 "$here/texts.py" "${1:-10000}" || failed+=" texts"
+python3 "$here/clients.py" $((${1:-10000} / 50)) || failed+=" clients"
+if [ -n "$failed" ]; then
+    echo "hostile use: WRONG:$failed"
+    exit 1
+fi
+echo "hostile use: all is well"

@@ -1,0 +1,305 @@
+"""Good texts, and texts that were good before something was done to them.
+
+All is drawn from a random.Random that is handed in, so that a seed gives the same texts each time.
+"""
+
+import re
+
+EDGES = [0, 1, 2, 3, 9, 10, 15, 16, 17, 63, 64, 65, 255, 256, 257, 4095, 4096, 4097, 999999999, 1000000000, 2**32, 2**64]
+ODD = [b"", b"01", b"00", b"+1", b"-1", b"1.0", b"0x1", b"x", b" ", b"9" * 40]
+BYTES = b"0123456789 \n\r\t\x00\xff-+xabefghiklmnprstuPUSH"
+
+
+def batch(draw, shape, most):
+    """A batch text whose transfers all fit the shape. In half of the batches blocks that are read aren't written."""
+    modules, blocks, _ = shape
+    count = draw.randint(0, most)
+    apart = draw.random() < 0.5
+    free = [(m, b) for m in range(modules) for b in range(blocks // 2)]
+    draw.shuffle(free)
+    lines = []
+    while len(lines) < count and (free or not apart):
+        kind = draw.choice(["push", "pull"])
+        if apart:
+            reads = (draw.randrange(modules), draw.randrange(blocks // 2, blocks))
+            writes = free.pop()
+        else:
+            reads = (draw.randrange(modules), draw.randrange(blocks))
+            writes = (draw.randrange(modules), draw.randrange(blocks))
+        own, far = (reads, writes) if kind == "push" else (writes, reads)
+        lines.append(f"{kind} {own[0]} {own[1]} {far[0]} {far[1]}\n")
+    return f"batch {len(lines)}\n".encode() + "".join(lines).encode()
+
+
+def shape(draw):
+    """A shape, mostly a small one."""
+    if draw.random() < 0.05:
+        return draw.randint(1, 16), draw.randint(1, 64), draw.randint(1, 256)
+    return draw.randint(1, 16), draw.randint(1, 6), draw.randint(1, 4)
+
+
+def colours(transfers):
+    """A colour for each of the transfers, none of which shares a link with another of its colour, and no more colours than the
+    busiest link has uses: an edge is coloured after the other, along alternating paths."""
+    degree = 0
+    for side in (1, 3):
+        uses = [transfer[side] for transfer in transfers]
+        degree = max([degree] + [uses.count(module) for module in uses])
+    held = {}
+    colour = [None] * len(transfers)
+
+    def ends(t):
+        return (0, transfers[t][1]), (3, transfers[t][3])
+
+    def free(link):
+        return next(c for c in range(degree) if (link, c) not in held)
+
+    for t in range(len(transfers)):
+        here, there = ends(t)
+        a, b = free(here), free(there)
+        # The path of colours a and b from the far link on changes its colours, so that a is free there too.
+        path, link, wanted = [], there, a
+        while (link, wanted) in held:
+            u = held[link, wanted]
+            path.append(u)
+            link = ends(u)[1] if ends(u)[0] == link else ends(u)[0]
+            wanted = a + b - wanted
+        for u in path:
+            for end in ends(u):
+                del held[end, colour[u]]
+        for u in path:
+            colour[u] = a + b - colour[u]
+            for end in ends(u):
+                held[end, colour[u]] = u
+        colour[t] = a
+        held[here, a] = held[there, a] = t
+    return colour, degree
+
+
+def schedule(draw, transfers, named):
+    """The settings of a shortest schedule as lists, in whatever order, with the certificate (link, transfers) that is handed in."""
+    colour, degree = colours(transfers)
+    settings = [[t for t in range(len(transfers)) if colour[t] == c] for c in range(degree)]
+    draw.shuffle(settings)
+    for setting in settings:
+        if draw.random() < 0.3:
+            draw.shuffle(setting)
+    return settings, named
+
+
+def bend(draw, settings, certificate, count):
+    """Does something to a schedule that leaves its text well formed."""
+    settings = [list(setting) for setting in settings]
+    link, named = certificate
+    named = list(named)
+    full = [setting for setting in settings if setting]
+    what = draw.randrange(11)
+    if what == 0 and full:
+        draw.choice(full).pop()
+    elif what == 1 and full:
+        draw.choice(settings).append(draw.choice(draw.choice(full)))
+    elif what == 2 and settings:
+        draw.choice(settings).insert(0, count + draw.randrange(3))
+    elif what == 3 and full:
+        draw.choice(settings).append(draw.choice(full).pop())
+    elif what == 4:
+        settings.insert(draw.randint(0, len(settings)), [])
+    elif what == 5 and len(settings) > 1:
+        settings[0] += settings.pop()
+    elif what == 6 and named:
+        named.append(draw.choice(named))
+    elif what == 7 and len(named) > 1:
+        named.remove(draw.choice(named))
+    elif what == 8 and named:
+        named[draw.randrange(len(named))] = draw.randrange(count + 2)
+    elif what == 9 and link:
+        link = (draw.choice([0, 3]), draw.randrange(16))
+    elif what == 10 and full:
+        full[0][0], full[-1][-1] = full[-1][-1], full[0][0]
+    return settings, (link, named)
+
+
+def schedule_text(settings, certificate):
+    lines = [f"settings {len(settings)}"] + [" ".join(["setting", *map(str, setting)]) for setting in settings]
+    if certificate:
+        link, named = certificate
+        lines.append("busiest link {} module {}".format(*link) if link else "busiest none")
+        if named:
+            lines.append(" ".join(["named", *map(str, named)]))
+    return "".join(line + "\n" for line in lines).encode()
+
+
+def word(draw):
+    return "%08x" % draw.choice([0, 1, 0xFF, 0xFFFFFFFF, draw.randrange(1 << 32)])
+
+
+def address(draw, shape):
+    """An address that mostly is that of a word of a module."""
+    words = shape[1] * shape[2]
+    known = 0x80000800 + 4 * draw.randrange(words)
+    return "%08x" % draw.choices([known, draw.choice([0x80000800 - 4, 0x80000800 + 4 * words, known + 1, known + 2, 0, 0xFFFFFFFC])], [9, 1])[0]
+
+
+def memory_line(draw, shape, modules):
+    """A line that peeks or pokes in one of the modules, or seldom in one that may not be there."""
+    module = draw.choices([draw.choice(modules), draw.choice([16, 17, 999999999])], [19, 1])[0]
+    if draw.random() < 0.5:
+        return f"peek {module} {address(draw, shape)}\n"
+    return f"poke {module} {address(draw, shape)} {word(draw)}\n"
+
+
+def odd_line(draw):
+    """A line that is no command."""
+    return draw.choice(["", "hello", "plan", "peek 0", "batch", "progress 1", "bye bye", "run 01", "show 1000000000", "a" * 80]) + "\n"
+
+
+def script(draw, shape, most, numbers):
+    """A script of at most so many commands, whose batches fit the shape and which names batches by some of these numbers."""
+    lines = []
+    for _ in range(draw.randint(0, most)):
+        what = draw.randrange(20)
+        if what < 4:
+            lines.append(batch(draw, shape, 4).decode())
+        elif what < 14:
+            lines.append(f"{draw.choice(['plan', 'plan', 'run', 'run', 'show', 'drop'])} {draw.choice(numbers)}\n")
+        elif what < 17:
+            lines.append(memory_line(draw, shape, range(shape[0])))
+        elif what < 19:
+            lines.append("progress\n")
+        else:
+            lines.append(odd_line(draw))
+    if draw.random() < 0.5:
+        lines.append("bye\n")
+    return "".join(lines).encode()
+
+
+def crowd_script(draw, shape):
+    """A script for one of many clients: it submits some batches, and then plans and runs batches by numbers of which some may be its own,
+    with other lines between."""
+    lines = [batch(draw, shape, 4).decode() for _ in range(draw.randint(2, 6))]
+    for number in draw.sample(range(1, 81), 40):
+        lines.append(f"plan {number}\nrun {number}\n")
+        what = draw.randrange(30)
+        if what < 3:
+            lines.append(batch(draw, shape, 4).decode())
+        elif what < 9:
+            lines.append(memory_line(draw, shape, range(shape[0])))
+        elif what < 15:
+            lines.append("progress\n")
+        elif what < 18:
+            lines.append(f"{draw.choice(['plan', 'run', 'show', 'drop'])} {number}\n")
+        elif what < 19:
+            lines.append(odd_line(draw))
+    if draw.random() < 0.5:
+        lines.append("bye\n")
+    return "".join(lines).encode()
+
+
+def own_script(draw, shape, module, has_batches):
+    """A script that only looks at one module, so that its replies don't depend on what other sessions do with theirs. Only where it has
+    batches does it submit some, which stay within the module, and look at the progress."""
+    lines = []
+    for _ in range(draw.randint(0, 30)):
+        if has_batches and draw.random() < 0.2:
+            text = batch(draw, (1, *shape[1:]), 4).decode()
+            lines.append(re.sub(r"(push|pull) 0 (\d+) 0", rf"\1 {module} \2 {module}", text))
+        elif has_batches and draw.random() < 0.1:
+            lines.append("progress\n")
+        elif draw.random() < 0.3:
+            lines.append(f"{draw.choice(['plan', 'run', 'show', 'drop'])} {draw.randint(0, 9)}\n")
+        elif draw.random() < 0.1:
+            lines.append(odd_line(draw))
+        else:
+            lines.append(memory_line(draw, shape, [module]))
+    end = draw.choice(["", "bye\n", "bye\npeek 0", "peek", "a" * 81, "batch 2\npush 0 0 0 0\n"] if has_batches else ["", "bye\n", "peek", "b" * 99])
+    return "".join([*lines, end]).encode()
+
+
+def lose(draw, text):
+    at = draw.randrange(len(text))
+    return text[:at] + text[at + 1 :]
+
+
+def change(draw, text):
+    at = draw.randrange(len(text))
+    return text[:at] + bytes([draw.choice(BYTES)]) + text[at + 1 :]
+
+
+def double(draw, text):
+    at = draw.randrange(len(text))
+    return text[: at + 1] + text[at:]
+
+
+def swap(draw, text):
+    at = draw.randrange(len(text))
+    return text[:at] + text[at + 1 : at + 2] + text[at : at + 1] + text[at + 2 :]
+
+
+def cut(draw, text):
+    return text[: draw.randrange(len(text))]
+
+
+def cut_lines(draw, text):
+    lines = text.splitlines(keepends=True)
+    return b"".join(lines[: draw.randrange(len(lines))])
+
+
+def move_line(draw, text):
+    lines = text.splitlines(keepends=True)
+    line = lines.pop(draw.randrange(len(lines)))
+    lines.insert(draw.randint(0, len(lines)), line)
+    return b"".join(lines)
+
+
+def double_line(draw, text):
+    lines = text.splitlines(keepends=True)
+    at = draw.randrange(len(lines))
+    return b"".join(lines[: at + 1] + lines[at:])
+
+
+def lose_line(draw, text):
+    lines = text.splitlines(keepends=True)
+    del lines[draw.randrange(len(lines))]
+    return b"".join(lines)
+
+
+def add_behind(draw, text):
+    return text + draw.choice([b"\n", b" ", b"x", b"0", b"\r\n", b"\x00", text, b"push 0 0 1 0\n", b"named 0\n"])
+
+
+def add_return(draw, text):
+    ends = [it.start() for it in re.finditer(rb"\n", text)] or [len(text)]
+    at = draw.choice(ends)
+    return text[:at] + draw.choice([b"\r", b" ", b"\t"]) + text[at:]
+
+
+def change_number(draw, text):
+    found = list(re.finditer(rb"[0-9]+", text))
+    if not found:
+        return text
+    it = draw.choice(found)
+    number = draw.choice(ODD) if draw.random() < 0.2 else str(draw.choice(EDGES)).encode()
+    return text[: it.start()] + number + text[it.end() :]
+
+
+def step_number(draw, text):
+    found = list(re.finditer(rb"[0-9]+", text))
+    if not found:
+        return text
+    it = draw.choice(found)
+    number = max(0, int(it[0]) + draw.choice([-1, 1]))
+    return text[: it.start()] + str(number).encode() + text[it.end() :]
+
+
+WAYS = [
+    lose, change, double, swap, cut, cut_lines, move_line, double_line, lose_line, add_behind, add_return,
+    change_number, change_number, step_number, step_number,
+]  # fmt: skip
+
+
+def spoil(draw, text):
+    """The text after one of these things, seldom after two or three, and now and then as it was."""
+    for _ in range(draw.choices([0, 1, 2, 3], [1, 6, 2, 1])[0]):
+        if text:
+            text = draw.choice(WAYS)(draw, text)
+    return text

@@ -1,0 +1,177 @@
+#!/usr/bin/env python3
+"""Files that can't be read and streams that can't be written: one line on the right stream, the status that README.md names, and
+nothing hangs."""
+
+import os
+import shutil
+import sys
+import tempfile
+import threading
+
+from program import EXCHANGE, Ended, ask, end, start
+
+THREE_TRANSFERS = b"batch 3\npush 0 0 1 0\npush 0 1 2 0\npush 1 1 2 1\n"
+PLAN = b"settings 2\nsetting 0 2\nsetting 1\nbusiest link 0 module 0\nnamed 0 1\n"
+REFUSED_FILE = Ended(b"refused file\n", b"", 1)
+NO_MEMORY = Ended(b"refused no memory\n", b"", 1)
+UNWRITTEN = b"exchange: the answer can't be written: "
+
+# Seconds that each run has.
+LIMIT = 20
+
+problems, tried = [], 0
+
+
+def expect(what, ended, wanted):
+    """Notes whether a run ended as is wanted: a value of Ended, or a test of one."""
+    global tried
+    tried += 1
+    well = wanted(ended) if callable(wanted) else ended == wanted
+    if not well:
+        problems.append(what)
+        print(f"streams: WRONG: {what}: {ended}")
+
+
+def under(line, *words):
+    """Runs the program from a shell, behind a line of shell commands that set limits or streams."""
+    return ask("-c", f'{line} exec "$@"', "sh", EXCHANGE, *words, program="/bin/sh", seconds=LIMIT)
+
+
+def is_unwritten(ended):
+    """One line on standard error, nothing on standard output, and status 3."""
+    is_line = ended.err.startswith(UNWRITTEN) and ended.err.count(b"\n") == 1 and ended.err.endswith(b"\n")
+    return is_line and ended.out == b"" and ended.status == 3
+
+
+def files(room):
+    """Names that are no file that can be read."""
+    os.mkdir("folder")
+    os.symlink("nothing", "dangling")
+    os.symlink("round", "round")
+    yield from [("a folder", "folder"), ("a folder, by a dot", "."), ("nothing", "missing"), ("a link to nothing", "dangling")]
+    yield from [("a link to itself", "round"), ("a file as a folder", "three/x"), ("no name", ""), ("a long name", "x" * 5000)]
+    yield from [("a memory that can't be read", "/proc/self/mem"), ("a long path", "x/" * 3000)]
+
+
+def unreadable_files(room):
+    for what, name in files(room):
+        for words in [("plan", name), ("check", name, "plan"), ("check", "three", name), ("run", "3x2x2", name), ("run", "0", name), ("serve", "2x2x2", "script", name), ("serve", "0", name)]:
+            expect(f"{what}: {words[0]}", ask(*words, seconds=LIMIT), REFUSED_FILE)
+
+
+def forbidden_file(room):
+    """A file that its mode forbids, read by someone who isn't root."""
+    shutil.copy(EXCHANGE, "exchange")
+    for name, mode in [("exchange", 0o755), (".", 0o755), ("forbidden", 0o000)]:
+        if name == "forbidden":
+            shutil.copy("three", name)
+        os.chmod(name, mode)
+    words = [f"{room}/exchange", "plan", "forbidden"]
+    if os.geteuid() == 0:
+        words = ["/usr/bin/setpriv", "--reuid=65534", "--regid=65534", "--clear-groups", *words]
+    expect("a forbidden file", ask(*words[1:], program=words[0], seconds=LIMIT), REFUSED_FILE)
+
+
+def endless_files():
+    """What never ends wants more memory than there is."""
+    limit = "ulimit -v 400000;"
+    for words in [("plan", "/dev/zero"), ("check", "/dev/zero", "plan"), ("check", "three", "/dev/zero"), ("run", "3x2x2", "/dev/zero"), ("serve", "2x2x2", "script", "/dev/zero")]:
+        expect(f"an endless file: {words[0]}", under(limit, *words), NO_MEMORY)
+    with open("large", "wb") as file:
+        file.truncate(1 << 30)
+    expect("a file beyond the memory", under(limit, "plan", "large"), NO_MEMORY)
+
+
+def pieces(name, parts):
+    """Writes a text into a pipe piece by piece."""
+    with open(name, "wb", buffering=0) as pipe:
+        for part in parts:
+            pipe.write(part)
+
+
+def pipes():
+    """A text may come in pieces, and from a pipe; no text at all is an empty one."""
+    os.mkfifo("pipe")
+    for what, parts, wanted in [
+        ("byte by byte", [bytes([it]) for it in THREE_TRANSFERS], Ended(PLAN, b"", 0)),
+        ("cut in a line", [THREE_TRANSFERS[:24]], Ended(b"refused batch line 3\n", b"", 1)),
+        ("nothing", [], Ended(b"refused batch line 1\n", b"", 1)),
+    ]:
+        writer = threading.Thread(target=pieces, args=("pipe", parts))
+        writer.start()
+        expect(f"a pipe: {what}", ask("plan", "pipe", seconds=LIMIT), wanted)
+        writer.join()
+
+
+COMMANDS = {
+    "an answer": ("plan", "three"),
+    "a refusal": ("plan", "missing"),
+    "a long answer": ("run", "16x64x256", "many"),
+    "a help": ("--help",),
+    "a session": ("serve", "2x2x2", "script"),
+}
+
+
+def many_reads():
+    """A session ends after a million reads."""
+    with open("lines", "wb") as file:
+        file.write((b"a" * 40 + b"\n") * 2_100_000)
+    ended = ask("serve", "1x1x1", "lines", seconds=LIMIT)
+    lines = ended.out.splitlines()
+    well = ended.status == 1 and lines[0] == b"session 0" and lines[-1] == b"ended turns" and set(lines[1:-1]) == {b"refused line"}
+    expect("a million reads", well, True)
+
+
+def closed_and_full_output():
+    for what, words in COMMANDS.items():
+        expect(f"{what} to a closed output", under("exec >&-;", *words), is_unwritten)
+        expect(f"{what} to a full output", under("exec >/dev/full;", *words), is_unwritten)
+        expect(f"{what} to an output that is only read", under("exec 1</dev/null;", *words), is_unwritten)
+        expect(f"{what}, all streams closed", under("exec <&- >&- 2>&-;", *words), Ended(b"", b"", 3))
+    expect("an answer to a full output, errors to a full one", under("exec >/dev/full 2>/dev/full;", "plan", "three"), Ended(b"", b"", 3))
+    expect("no input", under("exec <&-;", "plan", "three"), Ended(PLAN, b"", 0))
+    expect("a wrong word to a closed error", under("exec 2>&-;", "chart"), Ended(b"", b"", 3))
+    expect("a wrong word to a full error", under("exec 2>/dev/full;", "chart"), Ended(b"", b"", 3))
+    expect("an answer with a closed error", under("exec 2>&-;", "plan", "three"), Ended(PLAN, b"", 0))
+
+
+def readers_that_go_away():
+    """The reader of standard output takes some bytes, or none, and closes its end."""
+    for what, words in COMMANDS.items():
+        for taken in (0, 10):
+            reader, writer = os.pipe()
+            if taken == 0:
+                os.close(reader)
+            process, _, err = start([EXCHANGE, *words], out=writer)
+            os.close(writer)
+            if taken:
+                os.read(reader, taken)
+                os.close(reader)
+            ended = end(process, None, err, LIMIT)
+            # What fits into the pipe before the reader goes is written.
+            is_short = taken and what != "a long answer"
+            expect(f"{what}, a reader that goes after {taken} bytes", ended, lambda it: is_unwritten(it) or is_short and it.status in (0, 1))
+
+
+def main():
+    with tempfile.TemporaryDirectory() as room:
+        os.chdir(room)
+        many = [f"push {m} {b} {(m + 1) % 16} {b + 32}\n" for m in range(16) for b in range(32)]
+        many = f"batch {len(many)}\n{''.join(many)}".encode()
+        for name, text in [("three", THREE_TRANSFERS), ("plan", PLAN), ("many", many), ("script", b"peek 0 80000800\nbye\n")]:
+            with open(name, "wb") as file:
+                file.write(text)
+        unreadable_files(room)
+        forbidden_file(room)
+        endless_files()
+        pipes()
+        many_reads()
+        closed_and_full_output()
+        readers_that_go_away()
+        os.chdir("/")
+    print(f"streams: {tried} tried, {len(problems)} wrong")
+    return 1 if problems else 0
+
+
+if __name__ == "__main__":
+    sys.exit(main())

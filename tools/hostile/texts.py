@@ -1,0 +1,190 @@
+#!/usr/bin/env python3
+"""Spoilt texts: what the program answers to them, and what the plain implementation does.
+
+    texts.py [COUNT]        COUNT texts of each kind, 10000 where it isn't said; of scripts side by side a twentieth
+
+Text number n of a kind is the same each time. A plan isn't the only one of its batch, so `plan` is judged by what a plan is; all
+other answers are compared byte by byte.
+"""
+
+import multiprocessing
+import os
+import random
+import sys
+import tempfile
+from collections import Counter
+
+import plain
+import sessions
+import spoil
+from program import ask
+
+
+def keep(name, text):
+    with open(name, "wb") as file:
+        file.write(text)
+    return name
+
+
+def is_refusal(answer, line):
+    return answer.out == line and answer.status == 1 and answer.err == b""
+
+
+def is_answer(answer, line):
+    return answer.out == line and answer.status == int(line.startswith(b"refused ")) and answer.err == b""
+
+
+def workers_of(draw):
+    return draw.choice([[], [], ["--workers", "2"], ["--workers", "3"], ["--workers", "64"]])
+
+
+def try_plan(draw):
+    """A spoilt batch text, put to `plan`."""
+    text = spoil.spoil(draw, spoil.batch(draw, plain.WIDEST, draw.choice([3, 10, 40])))
+    answer = ask("plan", keep("batch", text), *workers_of(draw))
+    refusal = plain.answer_plan(text)
+    if refusal:
+        return is_refusal(answer, refusal), refusal, [text], answer
+    well = answer.status == 0 and answer.err == b"" and plain.is_plan(text, answer.out)
+    return well, b"a plan", [text], answer
+
+
+def try_run(draw):
+    """A spoilt batch text, put to `run` with a shape that the batch fits, or fitted."""
+    shape = spoil.shape(draw)
+    text = spoil.spoil(draw, spoil.batch(draw, shape, draw.choice([3, 10, 20])))
+    if draw.random() < 0.1:
+        shape = spoil.shape(draw)
+    words = "{}x{}x{}".format(*shape)
+    answer = ask("run", words, keep("batch", text), *workers_of(draw))
+    wanted = plain.answer_run(words.encode(), text)
+    return is_answer(answer, wanted), wanted, [words.encode(), text], answer
+
+
+def try_check(draw):
+    """A spoilt schedule text of a good batch, put to `check`. Now and then the batch is spoilt too."""
+    batch = spoil.batch(draw, plain.WIDEST, draw.choice([0, 3, 10, 30]))
+    transfers = plain.read_batch(batch, plain.WIDEST)
+    certificate = plain.busiest(transfers) if transfers else (None, [])
+    settings, certificate = spoil.schedule(draw, transfers, certificate)
+    while draw.random() < 0.5:
+        settings, certificate = spoil.bend(draw, settings, certificate, len(transfers))
+    text = spoil.schedule_text(settings, certificate if draw.random() < 0.97 else None)
+    if draw.random() < 0.5:
+        text = spoil.spoil(draw, text)
+    if draw.random() < 0.05:
+        batch = spoil.spoil(draw, batch)
+    answer = ask("check", keep("batch", batch), keep("schedule", text))
+    wanted = plain.answer_check(batch, text)
+    return is_answer(answer, wanted), wanted, [batch, text], answer
+
+
+def try_shape(draw):
+    """A spoilt shape text, put to `run` with a good batch."""
+    shape = spoil.shape(draw)
+    batch = spoil.batch(draw, (shape[0], min(shape[1], 6), 1), 5)
+    text = spoil.spoil(draw, b"%dx%dx%d" % shape).replace(b"\0", b"")
+    answer = ask("run", os.fsdecode(text), keep("batch", batch))
+    if is_no_word(text):
+        well = answer.status == 2 and answer.out == b"" and answer.err != b""
+        return well, b"no word for a shape", [text, batch], answer
+    wanted = plain.answer_run(text, batch)
+    return is_answer(answer, wanted), wanted, [text, batch], answer
+
+
+def is_no_word(text):
+    """Whether a word of the command line can't be a shape text: clap takes it for an option, or it isn't UTF-8."""
+    try:
+        text.decode()
+    except UnicodeDecodeError:
+        return True
+    return len(text) > 1 and text.startswith(b"-")
+
+
+def is_served(answer, wanted, status):
+    return answer.out == wanted and answer.status == status and answer.err == b""
+
+
+def last_line(text):
+    return text[text[:-1].rfind(b"\n") + 1 :]
+
+
+def try_script(draw):
+    """A spoilt script, put to `serve`. A few make more calls than a history holds, or submit more batches than a book."""
+    shape = spoil.shape(draw)
+    text = spoil.spoil(draw, spoil.script(draw, shape, draw.choice([5, 15, 30]), range(5)))
+    chance = draw.random()
+    if chance < 0.0003:
+        text = b"peek 0 80000800\n" * 65530 + text + b"batch 0\nplan 1\n" * 8
+    elif chance < 0.003:
+        text = b"batch 0\n" * 250 + text + b"batch 0\n" * 8
+    words = "{}x{}x{}".format(*shape)
+    answer = ask("serve", words, keep("script", text), *workers_of(draw))
+    wanted, status = sessions.answer_serve(words.encode(), [text])
+    return is_served(answer, wanted, status), last_line(wanted), [words.encode(), text], answer
+
+
+def try_scripts(draw):
+    """Sixteen scripts side by side whose replies don't depend on the order of the sessions: each has a module of its own."""
+    shape = (plain.MODULES, draw.randint(2, 4), draw.randint(1, 4))
+    leader = draw.randrange(shape[0])
+    scripts = [spoil.own_script(draw, shape, module, module == leader) for module in range(shape[0])]
+    words = "{}x{}x{}".format(*shape)
+    names = [keep(f"script{number}", text) for number, text in enumerate(scripts)]
+    answer = ask("serve", words, *names, *workers_of(draw))
+    wanted, status = sessions.answer_serve(words.encode(), scripts)
+    return is_served(answer, wanted, status), b"sessions side by side", [words.encode(), *scripts], answer
+
+
+KINDS = {
+    "batches to plan": try_plan,
+    "batches to run": try_run,
+    "schedules to check": try_check,
+    "shapes to run": try_shape,
+    "scripts to serve": try_script,
+    "sixteen scripts side by side": try_scripts,
+}
+
+
+def class_of(wanted):
+    """The kind of an answer, by its words without its numbers."""
+    words = wanted.split(b"\n")[0].decode().split()
+    return " ".join(word for word in words if not word.isdigit())
+
+
+def try_some(share):
+    """Tries texts of a kind by their numbers: how often each class of answer came, and what went wrong."""
+    kind, numbers = share
+    classes, wrong = Counter(), []
+    with tempfile.TemporaryDirectory() as room:
+        os.chdir(room)
+        for number in numbers:
+            well, wanted, texts, answer = KINDS[kind](random.Random(f"{kind} {number}"))
+            classes[class_of(wanted)] += 1
+            if not well:
+                wrong.append((number, wanted, texts, answer))
+        os.chdir("/")
+    return kind, classes, wrong
+
+
+def main():
+    count = int(sys.argv[1]) if len(sys.argv) > 1 else 10000
+    counts = {kind: count // 20 if try_it is try_scripts else count for kind, try_it in KINDS.items()}
+    shares = [(kind, range(at, min(at + 250, most))) for kind, most in counts.items() for at in range(0, most, 250)]
+    classes, wrong = {kind: Counter() for kind in KINDS}, []
+    with multiprocessing.Pool(len(os.sched_getaffinity(0))) as pool:
+        for kind, found, failed in pool.imap_unordered(try_some, shares):
+            classes[kind].update(found)
+            wrong += [(kind, *it) for it in failed]
+    for kind, found in classes.items():
+        print(f"texts: {found.total()} {kind}")
+        for name, times in sorted(found.items()):
+            print(f"texts:   {times:6} {name}")
+    for kind, number, wanted, texts, answer in wrong[:5]:
+        print(f"texts: WRONG: {kind}, number {number}: {texts}\n  wanted {wanted}\n  got {answer}")
+    print(f"texts: {len(wrong)} wrong")
+    return 1 if wrong else 0
+
+
+if __name__ == "__main__":
+    sys.exit(main())
