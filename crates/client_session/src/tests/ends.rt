@@ -99,6 +99,12 @@ fn session_ends_by_its_reader(rt: HostRuntime) -> Result<(), Fail> {
 }
 
 #[test]
+fn nothing_is_asked_for_behind_bye(rt: HostRuntime) {
+    let bye = mute(&rt, "bye\n", 4, 1);
+    assert!(rt; ends_so(&rt, bye, None, 0, "bye\n"));
+}
+
+#[test]
 fn session_ends_by_its_writer(rt: HostRuntime) -> Result<(), Fail> {
     let write = Some(ServeFault::Write);
     let script = "peek 0 80000800\nhello\n";

@@ -14,6 +14,7 @@ use peek_poke::FuseWires;
 use schedule_certificate::OpenGate;
 use setting_runner::Plant;
 use std::alloc::Global;
+use std::io::{Read, Write};
 use std::marker::Brand;
 use std::sync::Wait;
 use std::sync::ledger::{Blank, Ledger};
@@ -27,9 +28,9 @@ pub const NO_FUSE: FuseWires = FuseWires {
 
 /// An exchange, and its two seats.
 #[derive(Drop)]
-struct Office<L: Ledger> {
+pub struct Office<L: Ledger> {
     shared: Shared<L, MemoryPort, FuseWires, OpenGate>,
-    first: Seat<L>,
+    pub first: Seat<L>,
     second: Seat<L>,
     ghost of_first: { first.exchange ≡ Some shared.word },
     ghost of_second: { second.exchange ≡ Some shared.word },
@@ -47,7 +48,13 @@ fn plant(wires: FuseWires) -> Plant<MemoryPort, FuseWires, OpenGate>
     }
 }
 
-fn open<L: Ledger>(alloc: Global, blank: Blank, rack: Rack, wires: FuseWires) -> Option<Office<L>>
+/// Opens an exchange of two seats.
+pub fn open<L: Ledger>(
+    alloc: Global,
+    blank: Blank,
+    rack: Rack,
+    wires: FuseWires,
+) -> Option<Office<L>>
     requires name { blank.name ≡ L.name }
     requires parts { (blank.parts ≡ L.parts) × (blank.parts ≡ ALL_PARTS) }
 {
@@ -93,6 +100,28 @@ pub struct Client<'a> {
 }
 
 impl<L: Ledger> Office<L> {
+    /// Serves a client from the first seat.
+    pub fn serve_first<R: AllocGlobal + Threads + Wait + Sync, I: Read, O: Write>(
+        self,
+        rt: &R,
+        reader: &mut I,
+        writer: &mut O,
+    ) -> (Office<L>, Option<ServeFault>) {
+        let Office {
+            shared,
+            first,
+            second,
+        } = self;
+        let ended = serve(rt, rt.alloc(), &shared, first, reader, writer, 1);
+        let (first, fault) = back(ended);
+        let office = Office {
+            shared,
+            first,
+            second,
+        };
+        (office, fault)
+    }
+
     /// Serves both clients, one after the other.
     fn serve_both<R: AllocGlobal + Threads + Wait + Sync>(
         self,
@@ -134,7 +163,7 @@ impl<L: Ledger> Office<L> {
     }
 
     /// Closes the exchange, and tells how many entries it has.
-    fn close(self, alloc: Global) -> Option<usize>
+    pub fn close(self, alloc: Global) -> Option<usize>
         requires { L.parts ≡ ALL_PARTS }
     {
         let Office {
