@@ -93,9 +93,8 @@ impl Book {
         ensures limit { result ≤ MAX_ENTRIES + 1 }
         ensures sound { IsSound self.now.machine }
     {
-        // The one's contract has the bounds of the shape, the other opens the book: so the check knows both.
+        // Its contract has the bounds of the shape, of which `sound` tells.
         let _shape = self.holdings.rack().shape();
-        let _history = &self.history;
         self.holdings.runs() + 1
     }
 
