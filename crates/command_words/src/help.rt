@@ -79,8 +79,10 @@ words fit no command, 3 the answer couldn't be written.";
 /// What `serve --help` says below its options.
 pub const SERVE_NOTES: &str = "\
 SHAPE is MxKxW, in the form that `exchange run --help` shows. Each SCRIPT is a
-file of session lines; 1 to 16 of them are served at once, one thread each. They
-share one exchange: one rack, whose words are 0 at first, and one switch.
+file of session lines; 1 to 16 of them are served at once, each in a thread of
+its own where one can be had. They share one exchange: one rack, whose words are
+0 at first, and one switch. Each may read and write every word, and whose line
+comes first isn't fixed.
 
 A line has at most 80 bytes, and single spaces between its words. It is answered
 by one line:
@@ -128,8 +130,8 @@ Else nothing is served, and the answer is the first of these that is wrong:
   refused shape  SHAPE is no shape
 
 Status: 0 each session ended with its script or by `bye`, 1 one of them didn't,
-or nothing was served, or there was no memory, 2 the words fit no command, 3 the
-answer couldn't be written.";
+or the logs disagree, or nothing was served, or there was no memory, 2 the words
+fit no command, 3 the answer couldn't be written.";
 
 /// What is said of `--workers`.
 pub const WORKERS_HELP: &str = "How many workers there may be, from 1 to 64";

@@ -1,4 +1,4 @@
-ghost use Rattle.std.specs.Prelude.{◌≡◌, ◌↔◌, [], IfOk, IsTrue, length, map, slice_get};
+ghost use Rattle.std.specs.Prelude.{◌≡◌, ◌<◌, ◌↔◌, [], IfOk, OnErr, IsTrue, length, map, slice_get};
 ghost use Rattle.std.specs.Option.{option_copied};
 
 use crate::text::Text;
@@ -23,7 +23,8 @@ impl Model for TextList {
 impl TextList {
     /// Copies of the texts, in their order.
     pub fn of(alloc: Global, texts: &[&str]) -> Result<TextList, AllocError>
-        ensures { IfOk result (λ list. list ≡ map (λ t. t.now) texts.now) }
+        ensures list { IfOk result (λ list. list ≡ map (λ t. t.now) texts.now) }
+        ensures memory { OnErr result (0 < length texts.now) }
     {
         let mut list = Vec::new(alloc);
         for text in texts {

@@ -8,7 +8,7 @@ pub returns-in_ok-of-in-Some : goal.returns-in_ok-of-in-Some
 returns-in_ok-of-in-Some c =
     let found = found_of c.args.matches.now in
     let texts = c.in-Some.texts.now in
-    let copied = c.in_ok-of-in-Some.ensures in
+    let copied = c.in_ok-of-in-Some.ensures.list in
     let got = rw c.in-Some.is at c.get_strs.ensures in
     let all = sym (raw_values-rows found (codes "SCRIPT")) ∙ sym got ∙ ap Some (sym copied) in
     let as_many = ap length copied ∙ length-map texts (λ t. t.now) in
