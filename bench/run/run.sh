@@ -11,7 +11,7 @@ work=$(mktemp -d)
 trap 'rm -rf "$work"' EXIT
 
 mkdir -p "$work/crates"
-grep -Ev "^(answers|command_words|exchange)[ :]" "$top/crates.txt" >"$work/crates.txt"
+sed -n '/^[a-z]/p; /^setting_runner/q' "$top/crates.txt" >"$work/crates.txt"
 grep -o "^[a-z_0-9]*" "$work/crates.txt" | while read -r crate; do
     cp -a "$top/crates/$crate" "$work/crates/"
 done
