@@ -1,0 +1,40 @@
+# For the scripts of the benches, which source it. The program of a bench is no crate of the repository: as src/main.rt
+# of one it is proved and built in a copy of the crates that it stands on, which takes some minutes.
+
+# begin_copy LAST: makes a folder to work in, which goes away at the end, with the crates that crates.txt lists, up to
+# this one.
+begin_copy() {
+    work=$(mktemp -d)
+    trap 'rm -rf "$work"' EXIT
+    mkdir "$work/crates"
+    sed -n "/^[a-z]/p; /^$1\>/q" "$top/crates.txt" >"$work/crates.txt"
+    grep -o "^[a-z_0-9]*" "$work/crates.txt" | while read -r crate; do
+        cp -a "$top/crates/$crate" "$work/crates/"
+    done
+    cp "$top/HANDLES" "$work/"
+}
+
+# enter_program NAME CRATE..: makes a crate of the program NAME.rattle, which stands on these crates, with the
+# invariants of its functions (FUNCTION.invariants), and goes there.
+enter_program() {
+    local invariants function crate=$work/crates/$1
+    mkdir -p "$crate/src" "$crate/specs" "$crate/proofs"
+    cp "$here/$1.rattle" "$crate/src/main.rt"
+    touch "$crate/specs/Lib.antt" "$crate/proofs/Lib.antt"
+    for invariants in "$here"/*.invariants; do
+        [ -e "$invariants" ] || continue
+        function=$(basename "$invariants" .invariants)
+        mkdir "$crate/proofs/$function"
+        cp "$invariants" "$crate/proofs/$function/Invariants.antt"
+    done
+    echo "$1: ${*:2}" >>"$work/crates.txt"
+    cd "$crate"
+}
+
+# instructions PROGRAM WORD..: how many instructions the program executes on one processor, by callgrind. A copied or
+# filled range of bytes counts by the instructions that do it, and not by its bytes.
+instructions() {
+    GLIBC_TUNABLES=glibc.cpu.x86_rep_movsb_threshold=1000000000:glibc.cpu.x86_rep_stosb_threshold=1000000000 \
+        valgrind --tool=callgrind --callgrind-out-file=/dev/null "$@" 2>&1 >/dev/null \
+        | sed -n 's/.*Collected : *\([0-9]*\).*/\1/p'
+}
