@@ -1,0 +1,74 @@
+#!/usr/bin/env bash
+# Counts the instructions that planning costs: of the whole program on one worker, beside plain Rust that does the
+# same and was written for speed (plain_planner.rs), for batches of several shapes, and how both grow from 1024
+# transfers to 4096. Both have to print the same text, byte for byte.
+#
+#   scrambled   modules of both ends by a linear congruential generator
+#   one_link    all from module 0 to module 1
+#   odd         each pair of modules in turn, so that each link has 255 uses
+#   star        all from module 0, to each module in turn
+#   two_by_two  from two modules to two
+#   part        2731 transfers from module 0 to module 1
+#
+# Needs valgrind. Build the program first: ./exchange --help
+set -eu
+here=$(cd "$(dirname "${BASH_SOURCE[0]}")" && pwd)
+top=$here/../..
+. "$here/../copy.sh"
+program=$top/crates/exchange/out/exchange
+work=$(mktemp -d)
+trap 'rm -rf "$work"' EXIT
+
+# COUNT
+scrambled() {
+    local x=1 t a b
+    echo "batch $1"
+    for ((t = 0; t < $1; t++)); do
+        a=$(((x >> 16) % 16)) x=$(((1103515245 * x + 12345) % 2147483648))
+        b=$(((x >> 16) % 16)) x=$(((1103515245 * x + 12345) % 2147483648))
+        echo "push $a 0 $b 0"
+    done
+}
+
+# COUNT FROM TO BLOCK: from a module to a module, both by expressions of the transfer's number t
+from_to() {
+    local t
+    echo "batch $1"
+    for ((t = 0; t < $1; t++)); do
+        echo "push $(($2)) 0 $(($3)) $4"
+    done
+}
+
+# NAME: counts for the batch in the file of that name
+measure() {
+    local proved plain
+    proved=$(instructions "$program" plan "$work/$1" --workers 1)
+    plain=$(instructions "$work/plain" "$work/$1")
+    "$program" plan "$work/$1" --workers 1 >"$work/answer"
+    "$work/plain" "$work/$1" | cmp - "$work/answer"
+    counts[$1]="$proved $plain"
+    awk -v name="$1" -v proved="$proved" -v plain="$plain" -v head="$(head -1 "$work/answer")" \
+        'BEGIN { printf "%-14s %-13s %9d of %8d instructions, ratio %.2f\n", name, head, proved, plain, proved / plain }'
+}
+
+# NAME: how the counts grow from 1024 transfers to 4096
+growth() {
+    echo "$1 ${counts[$1]} ${counts[$1-1024]}" \
+        | awk '{ printf "%-14s from 1024 to 4096: times %.2f, of plain Rust times %.2f\n", $1, $2 / $4, $3 / $5 }'
+}
+
+rustc --edition 2021 -O -o "$work/plain" "$here/plain_planner.rs"
+scrambled 4096 >"$work/scrambled"
+scrambled 1024 >"$work/scrambled-1024"
+from_to 4096 0 1 0 >"$work/one_link"
+from_to 1024 0 1 0 >"$work/one_link-1024"
+from_to 4080 t%16 '(t/16+t)%16' 1 >"$work/odd"
+from_to 4096 0 t%16 0 >"$work/star"
+from_to 4096 t%2 t/2%2 0 >"$work/two_by_two"
+from_to 2731 0 1 0 >"$work/part"
+declare -A counts
+for name in scrambled one_link odd star two_by_two part scrambled-1024 one_link-1024; do
+    measure $name
+done
+growth scrambled
+growth one_link
