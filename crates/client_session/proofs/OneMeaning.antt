@@ -1,11 +1,11 @@
 -- A line is that of at most one command.
-use Rattle.std.proofs.Common.{◌≡◌, ℕ, List, ◌++◌, ◌∷◌, get_or, codes, Option, Some, None, refl, sym, ap, ◌∙◌, arith}
+use Rattle.std.proofs.Common.{◌≡◌, ℕ, List, ◌++◌, ◌∷◌, get_or, codes, Some, None, refl, sym, ap, ◌∙◌, arith}
 use Rattle.std.specs.Fmt.{decimal}
 use Rattle.std.proofs.lemmas.Fmt.{decimal_injective}
 use Rattle.std.proofs.lemmas.List.{append_cancel_left}
 use Rattle.batch.specs.Text.{IsNumber, number, space}
 use Rattle.batch.proofs.Lines.{one_number}
-use Rattle.line_words.specs.HexWords.{IsWord, hex8}
+use Rattle.line_words.specs.HexWords.{hex8}
 use Rattle.line_words.proofs.Numbers.{space_ends, one_hex8, behind_hex8, hex8_in_front}
 use Rattle.client_session.specs.declared.command.Command.{Command}
 use Rattle.client_session.specs.declared.command.Command.TheVariants.{Batch, Plan, Run, Show, Drop, Peek, Poke, Progress, Bye}

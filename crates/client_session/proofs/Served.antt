@@ -4,14 +4,13 @@ use Rattle.std.proofs.lemmas.Grind.{flat_map-append}
 use Rattle.std.proofs.lemmas.List.{length-append}
 use Rattle.std.specs.Io.KnownBytes.{IsAtEnd, Appends}
 use Rattle.batch_book.specs.declared.entry.Entry.{Entry}
-use Rattle.client_session.specs.declared.limits.TheConstants.{MAX_READS}
 use Rattle.client_session.specs.declared.input.InputFault.{InputFault}
 use Rattle.client_session.specs.declared.input.InputFault.TheVariants as input
 use Rattle.client_session.specs.declared.fault.ServeFault.{ServeFault}
 use Rattle.client_session.specs.declared.fault.ServeFault.TheVariants.{Read, Write, LineTooLong, Cut, Turns, NoMemory}
 use Rattle.batch.specs.Extent.{Extent}
 use Rattle.batch_book.specs.Seats.{Stand, IsSameSeat}
-use Rattle.client_session.specs.Bytes.{Pending, HasNoFeed, TakesIn}
+use Rattle.client_session.specs.Bytes.{Pending, TakesIn}
 use Rattle.client_session.specs.Faults.{IsFaultAt}
 use Rattle.client_session.specs.Seats.{SeatView, GoesOnFrom, seat_view}
 use Rattle.client_session.specs.Turns.{Turn, IsTurn, GoesOn, turn_text}

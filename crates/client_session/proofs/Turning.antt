@@ -1,9 +1,9 @@
 -- One command taken from the input, and what a fault leaves.
-use Rattle.std.proofs.Common.{◌≡◌, ℕ, ◌+◌, ◌<◌, ◌≤◌, List, [], ◌∷◌, ◌++◌, length, take, drop, flat_map, Option, Some, None, Bool, false, MatchBool, nat_lt, sym, ap, ◌∙◌, append_assoc, append-nil, refl, subst, arith, inl, inr}
+use Rattle.std.proofs.Common.{◌≡◌, ℕ, ◌+◌, ◌<◌, ◌≤◌, List, [], ◌∷◌, ◌++◌, length, take, drop, flat_map, Option, Some, None, Bool, false, MatchBool, sym, ap, ◌∙◌, append_assoc, append-nil, refl, subst, arith, inr}
 use Rattle.std.proofs.lemmas.List.{take-append-drop, length-append, length-drop}
 use Rattle.std.proofs.lemmas.Bool.{lt-ltb, le-ltb}
 use Rattle.batch.specs.declared.limits.TheConstants.{MAX_TRANSFERS}
-use Rattle.client_session.specs.declared.limits.TheConstants.{LINE_BYTES, MAX_READS}
+use Rattle.client_session.specs.declared.limits.TheConstants.{LINE_BYTES}
 use Rattle.client_session.specs.declared.command.Command.{Command}
 use Rattle.client_session.specs.declared.command.Command.TheVariants.{Batch, Plan, Run, Show, Drop, Peek, Poke, Progress, Bye}
 use Rattle.client_session.specs.declared.fault.ServeFault.{ServeFault}

@@ -13,6 +13,10 @@ IsReadOrTurns Turns reads = reads ≡ MAX_READS
 IsReadOrTurns LineTooLong reads = ⊥
 IsReadOrTurns Cut reads = ⊥
 
+-- so no byte came
+abbrev pub HasBroughtNothing : InputFault → Pending → Pending → Type 0
+HasBroughtNothing fault old new = (new.pending ≡ old.pending) × IsReadOrTurns fault new.reads
+
 -- what each fault tells of what is left to read, and of what is pending
 abbrev pub IsFaultAt : InputFault → Option (List ℕ) → Pending → Type 0
 IsFaultAt Read known h = IsLine h.pending

@@ -3,7 +3,7 @@
 ghost use Rattle.std.specs.Prelude.{◌≡◌, ℕ, ◌+◌, ◌-◌, ◌^◌, ◌<◌, ◌≤◌, length, take, drop, [], None, IfSome, MatchResult, MatchOption, IsSome, IfOk, IfErr};
 ghost use Rattle.std.specs.Io.KnownBytes.{IsAtEnd};
 ghost use Rattle.client_session.specs.Bytes.{Pending, HasNoFeed, TakesIn, HasLine, fuel};
-ghost use Rattle.client_session.specs.Faults.{IsReadOrTurns, IsFaultAt};
+ghost use Rattle.client_session.specs.Faults.{HasBroughtNothing, IsFaultAt};
 
 use crate::limits::{LINE_BYTES, MAX_READS};
 use std::io::Read;
@@ -78,7 +78,7 @@ impl Input {
         ensures count { IfOk result (λ n. length self.new.pending ≡ length self.old.pending + n) }
         ensures end { IfOk result (λ n. n ≡ 0 → IsAtEnd (R.remaining reader.new)) }
         ensures reads { IfOk result (λ n. 0 < n → self.new.reads ≡ self.old.reads + 1) }
-        ensures err { IfErr result (λ e. (self.new.pending ≡ self.old.pending) × IsReadOrTurns e self.new.reads) }
+        ensures err { IfErr result (λ e. HasBroughtNothing e self.old self.new) }
         ensures room { (length self.new.pending ≤ LINE_BYTES + 1) × (self.new.reads ≤ MAX_READS)
             × (self.old.reads ≤ self.new.reads) }
     {

@@ -23,7 +23,8 @@ use std::thread::Threads;
 /// Writes the line whole, or a front of it.
 fn send<O: Write>(writer: &mut O, line: &[u8]) -> Result<(), ServeFault>
     ensures ok { OnOk result (Appends (O.contents writer.old) (O.contents writer.new) line.now) }
-    ensures err { IfErr result (λ e. IsCut e (O.contents writer.old) (O.contents writer.new) line.now) }
+    ensures err { IfErr result (λ e.
+        IsCut e (O.contents writer.old) (O.contents writer.new) line.now) }
 {
     let mut rest = line;
     while !rest.is_empty() {
@@ -103,7 +104,8 @@ pub fn serve<
     requires some { 1 ≤ workers }
     requires few { workers ≤ MAX_WORKERS }
     ensures seat { IsSameSeat seat (seat_back result) }
-    ensures session { IsServed shared.now.shape seat result (I.remaining reader.old) (I.remaining reader.new)
+    ensures session { IsServed shared.now.shape seat result
+        (I.remaining reader.old) (I.remaining reader.new)
         (O.contents writer.old) (O.contents writer.new) }
 {
     let mut desk = Desk::new(shared, seat);

@@ -1,4 +1,4 @@
-use Rattle.std.proofs.Common.{◌≡◌, codes, inl, refl, Some}
+use Rattle.std.proofs.Common.{◌≡◌, codes, inl, refl, Some, rules}
 use Rattle.client_session.specs.declared.command.Command.TheVariants.{Batch, Progress, Bye}
 use Rattle.client_session.specs.Replies.{with_feed, refused_line}
 use Rattle.client_session.proofs.Doing.{says, read_progress, which}
@@ -22,3 +22,18 @@ pub returns-in-Some-Bye : goal.returns-in-Some-Bye
 returns-in-Some-Bye g c =
     let is : c.args.command ≡ Some Bye = which _ _ _ c.in-Some-Bye.is (rw c.in-Some-Bye.is at c.in-Some-Bye.field-0-is) in
     rw is (λ text. says _ _ (with_feed (codes "bye")) _ refl c.bye.ensures)
+
+pub returns-in-Some-Run : goal.returns-in-Some-Run
+returns-in-Some-Run g c = search rules
+
+pub returns-in-Some-Show : goal.returns-in-Some-Show
+returns-in-Some-Show g c = search rules
+
+pub returns-in-Some-Drop : goal.returns-in-Some-Drop
+returns-in-Some-Drop g c = search rules
+
+pub returns-in-Some-Peek : goal.returns-in-Some-Peek
+returns-in-Some-Peek g c = search rules
+
+pub returns-in-Some-Poke : goal.returns-in-Some-Poke
+returns-in-Some-Poke g c = search rules

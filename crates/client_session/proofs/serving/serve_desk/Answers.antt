@@ -1,4 +1,4 @@
-use Rattle.std.proofs.Common.{◌∙◌, ap, sym}
+use Rattle.std.proofs.Common.{ap}
 use Rattle.std.proofs.lemmas.Result.{err_from_is_err_and}
 use Rattle.client_session.proofs.Served.{Serving-none, Serving-read, Serving-turn, ended_at_end, ended_by_bye, stopped_reading, stopped_turn, stopped_writing, none_of}
 use Rattle.client_session.proofs.serving.serve_desk.Goals as goal

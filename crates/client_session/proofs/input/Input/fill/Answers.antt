@@ -1,5 +1,6 @@
 use Rattle.std.proofs.Common.{◌+◌, ◌-◌, ◌++◌, ◌∙◌, ap, sym, take, arith}
 use Rattle.std.proofs.lemmas.List.{length-take}
+use Rattle.std.proofs.lemmas.Grind.{common_steps}
 use Rattle.client_session.specs.declared.limits.TheConstants.{LINE_BYTES}
 use Rattle.client_session.proofs.Parts.{grown}
 use Rattle.client_session.proofs.input.Input.fill.Goals as goal
@@ -14,3 +15,6 @@ returns-in-Ok-clause-takes g c =
       kept = ap (λ h. h.pending ++ got) (sym c.self.view_is) ∙ sym (grown s.len (LINE_BYTES + 1 - s.len) c.in-Ok.n s.buffer c.read.new.buf (omega arith) c.in-Ok.ensures.bound.0);
       reads = omega (arith, length-take c.in-Ok.n c.read.new.buf, c.in-Ok.ensures.bound.0, ap (λ h. h.reads) c.self.view_is);
     }
+
+pub returns-in-Err-clause-err : goal.returns-in-Err-clause-err
+returns-in-Err-clause-err g c = grind (arith, common_steps)

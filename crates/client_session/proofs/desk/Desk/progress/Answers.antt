@@ -1,0 +1,5 @@
+use Rattle.std.proofs.Common.{rules}
+use Rattle.client_session.proofs.desk.Desk.progress.Goals as goal
+
+pub returns : goal.returns
+returns g c = search rules
