@@ -10,7 +10,9 @@ use Rattle.std.proofs.lemmas.Option.{get_or_from_slice_get}
 use Rattle.batch.specs.declared.transfer.Place.{Place}
 use Rattle.batch.specs.declared.transfer.Transfer.{Transfer}
 use Rattle.batch.specs.Places.{destination_of}
-use Rattle.answers.specs.Reports.{hex8, words_text, is_written}
+use Rattle.line_words.specs.HexWords.{IsWord, hex8}
+use Rattle.line_words.proofs.Padded.{padded_is}
+use Rattle.answers.specs.Reports.{words_text, is_written}
 
 -- the fill on both sides, of which there is none behind the digits
 append_nil_at : (ds : List ℕ) → replicate (8 - length ds - 0 - 0) 48 ++ (ds ++ []) ≡ replicate (8 - length ds) 48 ++ ds
@@ -19,9 +21,9 @@ append_nil_at ds =
     rw (none, append-nil ds) refl
 
 -- `{:08x}` writes eight digits
-pub hex8_is : (word : ℕ) → padded_integral (format_spec 32 0 4 8 (2 ^ 64 - 1)) false [] (digits 16 false word) ≡ hex8 word
+pub hex8_is : (word : ℕ) → IsWord word → padded_integral (format_spec 32 0 4 8 (2 ^ 64 - 1)) false [] (digits 16 false word) ≡ hex8 word
 unfolding padded_integral char_count
-hex8_is word = append_nil_at (digits 16 false word)
+hex8_is word fits = append_nil_at (digits 16 false word) ∙ padded_is word fits
 
 -- one more word of a line
 pub more_words : (before : List ℕ) (words : List ℕ) (i : ℕ) → i < length words → (before ++ words_text (take i words)) ++ (codes " " ++ hex8 (get_or words i 0)) ≡ before ++ words_text (take (i + 1) words)

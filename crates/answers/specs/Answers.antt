@@ -24,7 +24,8 @@ use Rattle.answers.specs.declared.checking_fault.CheckingFault.{CheckingFault}
 use Rattle.answers.specs.declared.checking_fault.CheckingFault.TheVariants as checking
 use Rattle.answers.specs.declared.running_fault.RunningFault.{RunningFault}
 use Rattle.answers.specs.declared.running_fault.RunningFault.TheVariants as running
-use Rattle.answers.specs.Refusals.{Printed, IsRefused, batch_words, checking_words, running_words}
+use Rattle.line_words.specs.BatchFaults.{batch_words}
+use Rattle.answers.specs.Refusals.{Printed, IsRefused, checking_words, running_words}
 use Rattle.answers.specs.Reports.{report_of}
 
 -- no other answer is such

@@ -1,8 +1,8 @@
 -- What refusals say. The texts are this project's choice.
 use Rattle.std.specs.Prelude.{◌≡◌, ◌≢◌, ℕ, List, ◌++◌, codes, ⊤}
 use Rattle.std.specs.Fmt.{decimal}
-use Rattle.batch.specs.declared.fault.BatchFault.{BatchFault}
 use Rattle.batch.specs.declared.fault.BatchFault.TheVariants as batch_fault
+use Rattle.line_words.specs.BatchFaults.{batch_words}
 use Rattle.link_graph.specs.declared.link.Link.{Link}
 use Rattle.link_graph.specs.declared.schedule_fault.ScheduleFault.{ScheduleFault}
 use Rattle.link_graph.specs.declared.schedule_fault.ScheduleFault.TheVariants as schedule_fault
@@ -24,15 +24,6 @@ pub record Printed : Type 0 where
 pub record IsRefused (words : List ℕ) (printed : Printed) : Type 0 where
   pub line : printed.text ≡ codes "refused " ++ words ++ codes "\n"
   pub status : printed.status ≡ REFUSED
-
--- what is said of a batch text's fault
-abbrev pub batch_words : BatchFault → List ℕ
-batch_words (batch_fault.Line n) = codes "batch line " ++ decimal n
-batch_words batch_fault.TooMany = codes "too many"
-batch_words (batch_fault.NoModule t) = codes "no module " ++ decimal t
-batch_words (batch_fault.NoBlock t) = codes "no block " ++ decimal t
-batch_words batch_fault.Count = codes "count"
-batch_words batch_fault.NoMemory = codes "no memory"
 
 -- what is said of a schedule text's fault
 abbrev pub schedule_words : ScheduleFault → List ℕ

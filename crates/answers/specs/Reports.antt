@@ -1,16 +1,13 @@
 -- What `run` prints of a run that was completed. The texts are this project's choice.
-use Rattle.std.specs.Prelude.{◌≡◌, ℕ, ◌*◌, ◌-◌, ◌==◌, ◌&&◌, Bool, false, List, [], ◌++◌, if◌then◌else◌, codes, length, replicate, String, string_bytes}
-use Rattle.std.specs.Fmt.{decimal, digits}
+use Rattle.std.specs.Prelude.{◌≡◌, ℕ, ◌*◌, ◌==◌, ◌&&◌, Bool, List, [], ◌++◌, if◌then◌else◌, codes, length, String, string_bytes}
+use Rattle.std.specs.Fmt.{decimal}
 use Rattle.std.specs.List.{flat_map, list_any, range_with_len}
 use Rattle.batch.specs.declared.transfer.Place.{Place}
 use Rattle.batch.specs.declared.transfer.Transfer.{Transfer}
 use Rattle.batch.specs.Places.{destination_of}
 use Rattle.module_memory.specs.Store.{Store, block_of}
 use Rattle.setting_runner.specs.LineBits.{bits_of}
-
--- the eight hexadecimal digits of a word, in lower case
-abbrev pub hex8 : ℕ → List ℕ
-hex8 word = replicate (8 - length (digits 16 false word)) 48 ++ digits 16 false word
+use Rattle.line_words.specs.HexWords.{hex8}
 
 -- `ran settings S words X bits Y`
 abbrev pub ran_line : ℕ → ℕ → List ℕ

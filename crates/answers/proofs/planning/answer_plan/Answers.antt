@@ -2,7 +2,8 @@ use Rattle.std.proofs.Common.{◌≡◌, ◌∙◌}
 use Rattle.std.proofs.lemmas.Result.{IfOk-weaker}
 use Rattle.batch.specs.Extent.{widest}
 use Rattle.answers.specs.Answers.{IsPlanned, planned, refused}
-use Rattle.answers.specs.Refusals.{IsRefused, batch_words}
+use Rattle.line_words.specs.BatchFaults.{batch_words}
+use Rattle.answers.specs.Refusals.{IsRefused}
 use Rattle.answers.proofs.PlanText.{can_say}
 use Rattle.answers.proofs.planning.answer_plan.Goals as goal
 
