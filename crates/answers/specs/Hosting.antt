@@ -4,12 +4,16 @@ use Rattle.progress_word.specs.declared.limits.TheConstants.{ALL_PARTS}
 use Rattle.batch_book.specs.Exchanges.{Exchange}
 use Rattle.batch_book.specs.Seats.{Stand}
 use Rattle.answers.specs.declared.session.Session.{Session}
-use Rattle.answers.specs.Frames.{Transcript}
+use Rattle.answers.specs.Frames.{Transcript, session_text}
 use Rattle.answers.specs.Serving.{AreSessionsOf}
 
 -- what contracts see of a session that has ended
 abbrev pub transcript : {L : Type 0} → Session L → Transcript
 transcript s = record { session = s.seat.session; entries = s.seat.log; seen = s.seat.seen; told = s.told.items; fault = s.fault }
+
+-- what is printed of a session that has ended
+abbrev pub text_of : {L : Type 0} → Session L → List ℕ
+text_of s = session_text (transcript s)
 
 -- a seat of this exchange that has asked nothing and seen nothing, for one of so many scripts
 pub record IsReady (x : Exchange) (scripts : ℕ) (seat : Stand) : Type 0 where

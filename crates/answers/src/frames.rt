@@ -1,8 +1,8 @@
 //! How sessions are printed.
 
 ghost use Rattle.std.specs.Prelude.{◌≡◌, ◌++◌, IfOk, OnOk, map};
-ghost use Rattle.answers.specs.Frames.{ended_line, end_text, heading, session_text, sessions_text, has_fault};
-ghost use Rattle.answers.specs.Hosting.{transcript};
+ghost use Rattle.answers.specs.Frames.{ended_line, end_text, heading, sessions_text, has_fault};
+ghost use Rattle.answers.specs.Hosting.{transcript, text_of};
 
 use crate::session::Session;
 use client_session::ServeFault;
@@ -55,7 +55,7 @@ fn push_session<L: Ledger>(
     text: &mut Vec<u8>,
     session: &Session<L>,
 ) -> Result<(), AllocError>
-    ensures { OnOk result (text.new.items ≡ text.old.items ++ session_text (transcript session.now)) }
+    ensures { OnOk result (text.new.items ≡ text.old.items ++ text_of session.now) }
 {
     push_heading(alloc, text, session.seat.session())?;
     text.extend_from_slice(session.told.as_slice())?;

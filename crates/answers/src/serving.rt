@@ -195,5 +195,12 @@ pub fn answer_serve<R: Threads + Wait + Sync>(
         return Answer::refused(alloc, "shape");
     };
     let rack = Rack::new(alloc, shape)?;
-    host::<Brand, R>(rt, alloc, Blank::new(16), rack, workers, scripts)
+    host::<Brand, R>(
+        rt,
+        alloc,
+        Blank::new(ALL_PARTS as u64),
+        rack,
+        workers,
+        scripts,
+    )
 }
