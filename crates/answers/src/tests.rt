@@ -1,6 +1,7 @@
 ghost use Rattle.std.specs.Prelude.{◌≤◌};
 
 mod serving;
+mod side_by_side;
 
 use crate::answer::Answer;
 use crate::checking::answer_check;
