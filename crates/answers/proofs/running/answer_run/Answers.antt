@@ -5,6 +5,9 @@ use Rattle.answers.specs.Refusals.{IsRefused, running_words}
 use Rattle.answers.proofs.OneReport.{one_run}
 use Rattle.answers.proofs.running.answer_run.Goals as goal
 
+pub returns-in-Ok-clause-ran : goal.returns-in-Ok-clause-ran
+returns-in-Ok-clause-ran g c = search rules
+
 pub returns-in-Ok-clause-one : goal.returns-in-Ok-clause-one
 returns-in-Ok-clause-one g c other = one_run c.args.shape.now c.args.batch.now c.done.result other (search rules)
 
