@@ -5,7 +5,7 @@
 use std::io::Write;
 use std::process::ExitCode;
 
-const MODULES: usize = 16;
+const MODULES: usize = 32;
 const BLOCKS: usize = 64;
 const LINKS: usize = 2 * MODULES;
 const MAX_TRANSFERS: usize = 4096;

@@ -9,6 +9,7 @@
 #   star        all from module 0, to each module in turn
 #   two_by_two  from two modules to two
 #   part        2731 transfers from module 0 to module 1
+#   wide        as scrambled, over 32 modules
 #
 # Needs valgrind. Build the program first: ./exchange --help
 set -eu
@@ -19,13 +20,13 @@ program=$top/crates/exchange/out/exchange
 work=$(mktemp -d)
 trap 'rm -rf "$work"' EXIT
 
-# COUNT
+# COUNT MODULES
 scrambled() {
     local x=1 t a b
     echo "batch $1"
     for ((t = 0; t < $1; t++)); do
-        a=$(((x >> 16) % 16)) x=$(((1103515245 * x + 12345) % 2147483648))
-        b=$(((x >> 16) % 16)) x=$(((1103515245 * x + 12345) % 2147483648))
+        a=$(((x >> 16) % $2)) x=$(((1103515245 * x + 12345) % 2147483648))
+        b=$(((x >> 16) % $2)) x=$(((1103515245 * x + 12345) % 2147483648))
         echo "push $a 0 $b 0"
     done
 }
@@ -58,8 +59,9 @@ growth() {
 }
 
 rustc --edition 2021 -O -o "$work/plain" "$here/plain_planner.rs"
-scrambled 4096 >"$work/scrambled"
-scrambled 1024 >"$work/scrambled-1024"
+scrambled 4096 16 >"$work/scrambled"
+scrambled 1024 16 >"$work/scrambled-1024"
+scrambled 4096 32 >"$work/wide"
 from_to 4096 0 1 0 >"$work/one_link"
 from_to 1024 0 1 0 >"$work/one_link-1024"
 from_to 4080 t%16 '(t/16+t)%16' 1 >"$work/odd"
@@ -67,7 +69,7 @@ from_to 4096 0 t%16 0 >"$work/star"
 from_to 4096 t%2 t/2%2 0 >"$work/two_by_two"
 from_to 2731 0 1 0 >"$work/part"
 declare -A counts
-for name in scrambled one_link odd star two_by_two part scrambled-1024 one_link-1024; do
+for name in scrambled one_link odd star two_by_two part wide scrambled-1024 one_link-1024; do
     measure $name
 done
 growth scrambled

@@ -196,7 +196,7 @@ def parts_of(text):
 def try_round(number):
     """One round: how often each kind of reply came, how many readings there were, and what is wrong, if something is."""
     draw = random.Random(f"clients {number}")
-    shape = (draw.randint(2, 16), draw.randint(2, 4), draw.randint(1, 8))
+    shape = (draw.randint(2, plain.MODULES), draw.randint(2, 4), draw.randint(1, 8))
     scripts = [spoil.crowd_script(draw, shape) for _ in range(CLIENTS)]
     with tempfile.TemporaryDirectory() as room:
         names = [f"{room}/script{number}" for number in range(CLIENTS)]

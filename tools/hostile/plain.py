@@ -6,7 +6,7 @@ them, for clearness alone: nothing here is quick, and nothing is clever.
 
 import re
 
-MODULES, BLOCKS, WORDS, TRANSFERS = 16, 64, 256, 4096
+MODULES, BLOCKS, WORDS, TRANSFERS = 32, 64, 256, 4096
 WIDEST = (MODULES, BLOCKS, WORDS)
 
 NUMBER = rb"(0|[1-9][0-9]{0,8})"

@@ -5,7 +5,9 @@ All is drawn from a random.Random that is handed in, so that a seed gives the sa
 
 import re
 
-EDGES = [0, 1, 2, 3, 9, 10, 15, 16, 17, 63, 64, 65, 255, 256, 257, 4095, 4096, 4097, 999999999, 1000000000, 2**32, 2**64]
+from plain import MODULES
+
+EDGES = [0, 1, 2, 3, 9, 10, 15, 16, 17, 31, 32, 33, 63, 64, 65, 255, 256, 257, 4095, 4096, 4097, 999999999, 1000000000, 2**32, 2**64]
 ODD = [b"", b"01", b"00", b"+1", b"-1", b"1.0", b"0x1", b"x", b" ", b"9" * 40]
 BYTES = b"0123456789 \n\r\t\x00\xff-+xabefghiklmnprstuPUSH"
 
@@ -34,8 +36,8 @@ def batch(draw, shape, most):
 def shape(draw):
     """A shape, mostly a small one."""
     if draw.random() < 0.05:
-        return draw.randint(1, 16), draw.randint(1, 64), draw.randint(1, 256)
-    return draw.randint(1, 16), draw.randint(1, 6), draw.randint(1, 4)
+        return draw.randint(1, MODULES), draw.randint(1, 64), draw.randint(1, 256)
+    return draw.randint(1, MODULES), draw.randint(1, 6), draw.randint(1, 4)
 
 
 def colours(transfers):
@@ -113,7 +115,7 @@ def bend(draw, settings, certificate, count):
     elif what == 8 and named:
         named[draw.randrange(len(named))] = draw.randrange(count + 2)
     elif what == 9 and link:
-        link = (draw.choice([0, 3]), draw.randrange(16))
+        link = (draw.choice([0, 3]), draw.randrange(MODULES))
     elif what == 10 and full:
         full[0][0], full[-1][-1] = full[-1][-1], full[0][0]
     return settings, (link, named)
@@ -142,7 +144,7 @@ def address(draw, shape):
 
 def memory_line(draw, shape, modules):
     """A line that peeks or pokes in one of the modules, or seldom in one that may not be there."""
-    module = draw.choices([draw.choice(modules), draw.choice([16, 17, 999999999])], [19, 1])[0]
+    module = draw.choices([draw.choice(modules), draw.choice([MODULES, MODULES + 1, 999999999])], [19, 1])[0]
     if draw.random() < 0.5:
         return f"peek {module} {address(draw, shape)}\n"
     return f"poke {module} {address(draw, shape)} {word(draw)}\n"

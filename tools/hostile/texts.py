@@ -19,6 +19,8 @@ import sessions
 import spoil
 from program import ask
 
+SCRIPTS = 16
+
 
 def keep(name, text):
     with open(name, "wb") as file:
@@ -126,9 +128,10 @@ def try_script(draw):
 
 def try_scripts(draw):
     """Sixteen scripts side by side whose replies don't depend on the order of the sessions: each has a module of its own."""
-    shape = (plain.MODULES, draw.randint(2, 4), draw.randint(1, 4))
-    leader = draw.randrange(shape[0])
-    scripts = [spoil.own_script(draw, shape, module, module == leader) for module in range(shape[0])]
+    shape = (draw.randint(SCRIPTS, plain.MODULES), draw.randint(2, 4), draw.randint(1, 4))
+    modules = draw.sample(range(shape[0]), SCRIPTS)
+    leader = draw.choice(modules)
+    scripts = [spoil.own_script(draw, shape, module, module == leader) for module in modules]
     words = "{}x{}x{}".format(*shape)
     names = [keep(f"script{number}", text) for number, text in enumerate(scripts)]
     answer = ask("serve", words, *names, *workers_of(draw))

@@ -196,6 +196,60 @@ block 2 0 00010100 00010101
     Ok(())
 }
 
+/// Row wide_rack: two switches.
+#[test]
+fn wide_rack(rt: HostRuntime) -> Result<(), Fail> {
+    let batch = "batch 2\npush 16 0 0 0\npull 0 1 16 1\n";
+    let schedule = "\
+settings 1
+setting 0 1
+busiest link 0 module 0
+named 1
+";
+    assert_eq!(rt; plan(&rt, batch)?.text(), schedule.as_bytes());
+    let report = "\
+ran settings 1 words 2 bits 234
+block 0 0 00100000
+block 0 1 00100100
+";
+    let answer = run(&rt, "17x2x1", batch, 1)?;
+    assert_eq!(rt; answer.text(), report.as_bytes());
+    assert_eq!(rt; answer.status(), 0);
+    Ok(())
+}
+
+/// Each of 16 modules sends a block to the next, the last to the first.
+const RING: &str = "\
+batch 16\n\
+push 0 0 1 1\n\
+push 1 0 2 1\n\
+push 2 0 3 1\n\
+push 3 0 4 1\n\
+push 4 0 5 1\n\
+push 5 0 6 1\n\
+push 6 0 7 1\n\
+push 7 0 8 1\n\
+push 8 0 9 1\n\
+push 9 0 10 1\n\
+push 10 0 11 1\n\
+push 11 0 12 1\n\
+push 12 0 13 1\n\
+push 13 0 14 1\n\
+push 14 0 15 1\n\
+push 15 0 0 1\n\
+";
+
+/// What comes of 16 modules doesn't change with a module more, though the rack has another switch then.
+#[test]
+fn ring_beside_a_module_more(rt: HostRuntime) -> Result<(), Fail> {
+    let narrow = run(&rt, "16x2x1", RING, 1)?;
+    let wide = run(&rt, "17x2x1", RING, 1)?;
+    assert_eq!(rt; narrow.text(), wide.text());
+    let first = "ran settings 1 words 16 bits 1872\nblock 0 1 000f0000\nblock 1 1 00000000\n";
+    assert!(rt; wide.text().starts_with(first.as_bytes()));
+    Ok(())
+}
+
 #[test]
 fn three_by_three(rt: HostRuntime) -> Result<(), Fail> {
     let batch = "\
@@ -277,7 +331,7 @@ fn batch_refusals(rt: HostRuntime) -> Result<(), Fail> {
         ("batch 01\n", "refused batch line 1\n"),
         ("batch 1\npush 0 0 1\n", "refused batch line 2\n"),
         ("batch 1\npush 0 0 1 0", "refused batch line 2\n"),
-        ("batch 1\npush 16 0 0 0\n", "refused no module 0\n"),
+        ("batch 1\npush 32 0 0 0\n", "refused no module 0\n"),
         ("batch 1\npush 0 64 0 0\n", "refused no block 0\n"),
         ("batch 2\npush 0 0 1 0\n", "refused count\n"),
         ("batch 0\nx", "refused count\n"),

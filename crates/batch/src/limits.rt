@@ -1,7 +1,7 @@
 //! The limits of racks, batches and their texts. All of them are this project's choice.
 
 /// The most modules that a rack may have.
-pub const MAX_MODULES: usize = 16;
+pub const MAX_MODULES: usize = 32;
 
 /// The most blocks that each module of a rack may have.
 pub const MAX_BLOCKS: usize = 64;

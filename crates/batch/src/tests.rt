@@ -18,7 +18,7 @@ fn the_definitions_spell_the_rows()
     ensures empty_batch { batch_text [] ≡ codes "batch 0\n" }
     ensures pull { batch_text (pull 13 63 0 10 ∷ []) ≡ codes "batch 1\npull 13 63 0 10\n" }
     ensures shape { shape_text (extent 3 2 2) ≡ codes "3x2x2" }
-    ensures widest_shape { shape_text widest ≡ codes "16x64x256" }
+    ensures widest_shape { shape_text widest ≡ codes "32x64x256" }
 {}
 
 #[test]
@@ -47,13 +47,20 @@ fn three_transfers(rt: HostRuntime) {
 }
 
 #[test]
+fn last_modules_are_known(rt: HostRuntime) {
+    assert_eq!(rt; count(rt.alloc(), "batch 1\npush 16 0 0 0\n"), Ok(1));
+    assert_eq!(rt; count(rt.alloc(), "batch 1\npull 31 63 31 0\n"), Ok(1));
+}
+
+#[test]
 fn batch_refusals(rt: HostRuntime) {
     let rows = [
         ("", BatchFault::Line(1)),
         ("batch 01\n", BatchFault::Line(1)),
         ("batch 1\npush 0 0 1\n", BatchFault::Line(2)),
         ("batch 1\npush 0 0 1 0", BatchFault::Line(2)),
-        ("batch 1\npush 16 0 0 0\n", BatchFault::NoModule(0)),
+        ("batch 1\npush 32 0 0 0\n", BatchFault::NoModule(0)),
+        ("batch 1\npush 0 0 32 0\n", BatchFault::NoModule(0)),
         ("batch 1\npush 999999999 0 0 0\n", BatchFault::NoModule(0)),
         ("batch 1\npush 1000000000 0 0 0\n", BatchFault::Line(2)),
         ("batch 1\npush 0 64 0 0\n", BatchFault::NoBlock(0)),
@@ -158,8 +165,8 @@ fn transfers_overlap(rt: HostRuntime) {
 fn shapes_have_limits(rt: HostRuntime) -> Result<(), Fail> {
     let shape = Shape::new(3, 2, 1)?;
     assert_eq!(rt; (shape.modules(), shape.blocks(), shape.words()), (3, 2, 1));
-    assert_eq!(rt; Shape::new(16, 64, 256), Ok(Shape::WIDEST));
-    for (modules, blocks, words) in [(0, 1, 1), (17, 1, 1), (1, 65, 1), (1, 1, 257)] {
+    assert_eq!(rt; Shape::new(32, 64, 256), Ok(Shape::WIDEST));
+    for (modules, blocks, words) in [(0, 1, 1), (33, 1, 1), (1, 65, 1), (1, 1, 257)] {
         assert_eq!(rt;
             Shape::new(modules, blocks, words),
             Err(ShapeFault::BadShape)
@@ -170,15 +177,16 @@ fn shapes_have_limits(rt: HostRuntime) -> Result<(), Fail> {
 
 #[test]
 fn sizes_have_numbers(rt: HostRuntime) {
-    assert_eq!(rt; (MAX_MODULES, MAX_BLOCKS, MAX_WORDS), (16, 64, 256));
+    assert_eq!(rt; (MAX_MODULES, MAX_BLOCKS, MAX_WORDS), (32, 64, 256));
     assert_eq!(rt; (MAX_TRANSFERS, MAX_DIGITS), (4096, 9));
 }
 
 #[test]
 fn shapes_are_read(rt: HostRuntime) {
     assert_eq!(rt; Shape::read(b"3x2x2"), Shape::new(3, 2, 2));
-    assert_eq!(rt; Shape::read(b"16x64x256"), Ok(Shape::WIDEST));
-    for text in ["0x1x1", "17x1x1", "1x65x1", "1x1x257", "3x2", "03x2x2"] {
+    assert_eq!(rt; Shape::read(b"17x1x1"), Shape::new(17, 1, 1));
+    assert_eq!(rt; Shape::read(b"32x64x256"), Ok(Shape::WIDEST));
+    for text in ["0x1x1", "33x1x1", "1x65x1", "1x1x257", "3x2", "03x2x2"] {
         assert_eq!(rt;
             Shape::read(text.as_bytes()),
             Err(ShapeFault::BadShape),

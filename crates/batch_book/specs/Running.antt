@@ -1,8 +1,9 @@
--- What a call does to the switch and to the port, if it runs a plan.
+-- What a call does to the switches and to the port, if it runs a plan.
 use Rattle.std.specs.Prelude.{◌≡◌, ℕ, [], Option, Some, None}
-use Rattle.crossbar.specs.Switch.{Switch}
+use Rattle.batch.specs.Extent.{Extent}
+use Rattle.crossbar.specs.Chips.{Switches}
 use Rattle.schedule_certificate.specs.Plans.{Plan}
-use Rattle.setting_runner.specs.Runs.{LeavesSwitch}
+use Rattle.setting_runner.specs.Runs.{LeavesSwitches}
 use Rattle.setting_runner.specs.declared.outcome.Outcome.{Outcome}
 use Rattle.batch_book.specs.declared.call.Call.{Call}
 use Rattle.batch_book.specs.declared.call.Call.TheVariants.{Run}
@@ -25,9 +26,9 @@ abbrev pub plan_of : Machine → ℕ → Call → Option Plan
 plan_of m session (Run id) = plan_in (batch_of m session id)
 plan_of m session call = None
 
--- where a plan was run, the switch is as its run leaves it
-abbrev pub SetsSwitch : Option Plan → Outcome → Switch → Type 0
-SetsSwitch ran outcome switch = (plan : Plan) → ran ≡ Some plan → LeavesSwitch plan outcome switch
+-- where a plan was run on a rack of this shape, the switches are as its run leaves them
+abbrev pub SetsSwitches : Extent → Option Plan → Outcome → Switches → Type 0
+SetsSwitches shape ran outcome switches = (plan : Plan) → ran ≡ Some plan → LeavesSwitches shape plan outcome switches
 
 -- a plan without settings leaves what it was run with
 abbrev pub SparesEmpty : {X : Type 0} → Option Plan → X → X → Type 0

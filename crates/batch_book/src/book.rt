@@ -4,7 +4,7 @@ ghost use Rattle.std.specs.Prelude.{◌+◌, ◌≡◌, ◌↔◌, ◌≤◌, �
 ghost use Rattle.setting_runner.specs.Runs.{HasCause, TellsOutcome, IsRefused};
 ghost use Rattle.batch_book.specs.Holdings.{spare_of};
 ghost use Rattle.batch_book.specs.Machine.{opened};
-ghost use Rattle.batch_book.specs.Running.{plan_of, SetsSwitch, SparesEmpty};
+ghost use Rattle.batch_book.specs.Running.{plan_of, SetsSwitches, SparesEmpty};
 ghost use Rattle.batch_book.specs.Replies.{is_logged, outcome_of, outcome_in};
 ghost use Rattle.batch_book.specs.History.{new_account, IsReplay, IsLegal, IsFull, IsGrown, IsSound};
 
@@ -134,13 +134,13 @@ impl Book {
         // What a run has done to the plant. Nothing else does anything to it.
         ensures cause { HasCause (record {
           sure = W.is_sure plant.old.wires;
-          words = self.old.machine.store.shape.words;
+          shape = self.old.machine.store.shape;
           before = P.failures plant.old.port;
           after = P.failures plant.new.port;
           honest = P.honest plant.old.port;
         }) (outcome_of result) }
-        ensures switch { IsTrue (P.honest plant.old.port) →
-            SetsSwitch (plan_of self.old.machine session call) (outcome_of result) (P.switch plant.new.port) }
+        ensures switches { IsTrue (P.honest plant.old.port) →
+            SetsSwitches self.old.machine.store.shape (plan_of self.old.machine session call) (outcome_of result) (P.switches plant.new.port) }
         ensures told { TellsOutcome N.hears notice.old (outcome_of result) notice.new }
         ensures refused { IsRefused (outcome_of result) → plant.new ≡ plant.old }
         ensures uncalled { SparesEmpty (plan_of self.old.machine session call) plant.old plant.new }
@@ -176,13 +176,13 @@ impl Book {
 
         ensures cause { HasCause (record {
           sure = W.is_sure plant.old.wires;
-          words = self.old.machine.store.shape.words;
+          shape = self.old.machine.store.shape;
           before = P.failures plant.old.port;
           after = P.failures plant.new.port;
           honest = P.honest plant.old.port;
         }) (outcome_in result) }
-        ensures switch { IsTrue (P.honest plant.old.port) →
-            SetsSwitch (plan_of self.old.machine session call) (outcome_in result) (P.switch plant.new.port) }
+        ensures switches { IsTrue (P.honest plant.old.port) →
+            SetsSwitches self.old.machine.store.shape (plan_of self.old.machine session call) (outcome_in result) (P.switches plant.new.port) }
         ensures told { TellsOutcome N.hears notice.old (outcome_in result) notice.new }
         ensures refused { IsRefused (outcome_in result) → plant.new ≡ plant.old }
         ensures uncalled { SparesEmpty (plan_of self.old.machine session call) plant.old plant.new }

@@ -8,7 +8,7 @@ ghost use Rattle.module_memory.specs.Store.{Store};
 ghost use Rattle.setting_runner.specs.Runs.{HasCause, TellsOutcome, IsRefused};
 ghost use Rattle.batch_book.specs.Holdings.{Ends, spare_of};
 ghost use Rattle.batch_book.specs.Machine.{Machine, opened, owned, batch_of, set_stage, Gives, submit, fetch, settle, show, discard, peek, poke, run_to, IsRun, IsStep};
-ghost use Rattle.batch_book.specs.Running.{plan_in, plan_of, SetsSwitch, SparesEmpty};
+ghost use Rattle.batch_book.specs.Running.{plan_in, plan_of, SetsSwitches, SparesEmpty};
 ghost use Rattle.batch_book.specs.Replies.{TellsNoRun, outcome_of, outcome_in};
 
 use crate::call::Call;
@@ -237,13 +237,13 @@ impl Holdings {
 
         ensures cause { HasCause (record {
           sure = W.is_sure plant.old.wires;
-          words = self.old.store.shape.words;
+          shape = self.old.store.shape;
           before = P.failures plant.old.port;
           after = P.failures plant.new.port;
           honest = P.honest plant.old.port;
         }) (outcome_in result) }
-        ensures switch { IsTrue (P.honest plant.old.port) →
-            SetsSwitch (plan_in (batch_of self.old session id)) (outcome_in result) (P.switch plant.new.port) }
+        ensures switches { IsTrue (P.honest plant.old.port) →
+            SetsSwitches self.old.store.shape (plan_in (batch_of self.old session id)) (outcome_in result) (P.switches plant.new.port) }
         ensures told { TellsOutcome N.hears notice.old (outcome_in result) notice.new }
         ensures refused { IsRefused (outcome_in result) → plant.new ≡ plant.old }
         ensures uncalled { SparesEmpty (plan_in (batch_of self.old session id))
@@ -331,13 +331,13 @@ impl Holdings {
 
         ensures cause { HasCause (record {
           sure = W.is_sure plant.old.wires;
-          words = self.old.store.shape.words;
+          shape = self.old.store.shape;
           before = P.failures plant.old.port;
           after = P.failures plant.new.port;
           honest = P.honest plant.old.port;
         }) (outcome_in result) }
-        ensures switch { IsTrue (P.honest plant.old.port) →
-            SetsSwitch (plan_of self.old session call) (outcome_in result) (P.switch plant.new.port) }
+        ensures switches { IsTrue (P.honest plant.old.port) →
+            SetsSwitches self.old.store.shape (plan_of self.old session call) (outcome_in result) (P.switches plant.new.port) }
         ensures told { TellsOutcome N.hears notice.old (outcome_in result) notice.new }
         ensures refused { IsRefused (outcome_in result) → plant.new ≡ plant.old }
         ensures uncalled { SparesEmpty (plan_of self.old session call) plant.old plant.new }

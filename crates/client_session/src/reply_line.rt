@@ -122,10 +122,10 @@ fn put_cause(line: &mut Line, cause: StopCause)
 
 /// Puts transfers behind the line, each with the words that it has moved.
 fn put_moved(line: &mut Line, moved: &[(usize, usize)])
-    requires room { length line.old + 700 ≤ LINE_ROOM }
+    requires room { length line.old + 1400 ≤ LINE_ROOM }
     requires few { length moved.now ≤ MAX_MODULES }
     ensures text { line.new ≡ line.old ++ flat_map moved_words moved.now }
-    ensures room { length line.new ≤ length line.old + 672 }
+    ensures room { length line.new ≤ length line.old + 1344 }
 {
     for (transfer, words) in moved {
         line.put(b" ");

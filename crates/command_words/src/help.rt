@@ -5,7 +5,7 @@ pub const PLAN_NOTES: &str = "\
 FILE is a batch text: the line `batch N`, then N lines of the form
   push I b R c   module I writes its block b into block c of module R
   pull I b R c   module I reads block c of module R into its block b
-with modules from 0 to 15 and blocks from 0 to 63, at most 4096 lines.
+with modules from 0 to 31 and blocks from 0 to 63, at most 4096 lines.
 
 The answer is the line `settings S`, then S lines `setting t t ..`: the
 transfers that move at once, numbered from 0 in the order of their lines.
@@ -19,7 +19,7 @@ A file that can't be read is `refused file`. Where FILE is no batch text, the
 answer is what is first wrong, line by line:
   refused batch line N   line N, from 1, has another form or no line feed
   refused too many       the first line says more than 4096
-  refused no module T    transfer T names a module above 15
+  refused no module T    transfer T names a module above 31
   refused no block T     transfer T names a block above 63
   refused count          fewer than N lines follow, or something after them
 
@@ -54,14 +54,14 @@ words fit no command, 3 the answer couldn't be written.";
 
 /// What `run --help` says below its options.
 pub const RUN_NOTES: &str = "\
-SHAPE is MxKxW: M modules, from 1 to 16, each of K blocks, from 1 to 64, each
+SHAPE is MxKxW: M modules, from 1 to 32, each of K blocks, from 1 to 64, each
 of W words, from 1 to 256. BATCH is a batch text, in the form that
 `exchange plan --help` shows, with modules below M and blocks below K.
 
 Word j of block b of module m is 65536 m + 256 b + j before the run. The
-answer is the line `ran settings S words X bits Y`: how often the switch was
-set, how many words were moved, and how many bits went over the links for
-them. Then comes each block that was written, by module and then by block:
+answer is the line `ran settings S words X bits Y`: how many settings the
+switches had, how many words were moved, and how many bits went over the links
+for them. Then comes each block that was written, by module and then by block:
   block M B hex8 ..   its words, of eight hexadecimal digits each
 
 Else nothing is run, and the answer is the first of these that is wrong:
@@ -81,7 +81,7 @@ pub const SERVE_NOTES: &str = "\
 SHAPE is MxKxW, in the form that `exchange run --help` shows. Each SCRIPT is a
 file of session lines; 1 to 16 of them are served at once, each in a thread of
 its own where one can be had. They share one exchange: one rack, whose words are
-0 at first, and one switch. Each may read and write every word, and whose line
+0 at first, and its switches. Each may read and write every word, and whose line
 comes first isn't fixed.
 
 A line has at most 80 bytes, and single spaces between its words. It is answered

@@ -165,7 +165,7 @@ fn check<'a>(alloc: Global) -> Result<Command<'a>, AllocError>
 fn run<'a>(alloc: Global) -> Result<Command<'a>, AllocError>
     ensures { IfOk result (IsCommand run_app) }
 {
-    let about = "Runs a batch on a rack: sets the switch, moves the blocks and reports";
+    let about = "Runs a batch on a rack: sets the switches, moves the blocks and reports";
     let run = command(alloc, "run", about, RUN_NOTES);
     let run = with_shape(alloc, run)?;
     let run = with_word(alloc, run, "BATCH", "The file of the batch")?;

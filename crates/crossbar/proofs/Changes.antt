@@ -6,23 +6,29 @@ use Rattle.std.specs.List.{flat_map, list_any, AllByRecursion}
 use Rattle.std.specs.FinMap.{get, insert, remove, find, get-empty, get-from_entries}
 use Rattle.c004_commands.specs.declared.command.Command.TheVariants.{Settle}
 use Rattle.crossbar.specs.Switch.{Sources, Switch, after, after_all, idle}
-use Rattle.crossbar.specs.Pairs.{ArePairs, ends, switch_of, join, cut, is_pair, without, setting, change}
+use Rattle.crossbar.specs.Pairs.{ArePairs, room_of, ends, switch_of, join, cut, is_pair, without, setting, change}
+use Rattle.crossbar.specs.declared.chip.Wiring.{Wiring}
+use Rattle.crossbar.specs.declared.chip.Wiring.TheVariants.{Both, Forth, Back}
 use Rattle.crossbar.specs.declared.pair.Pair.{Pair}
 use Rattle.crossbar.specs.declared.switch.TheConstants.{JOINED_MODULES}
 use Rattle.crossbar.proofs.Carrying.{after_all-append}
 use Rattle.crossbar.proofs.Latches.{get-put, get-cut, same_sources, eqb_yes}
 
 -- whether an output is one of the pair's
-abbrev meets : ℕ → Pair → Bool
-meets o p = o == p.initiator || o == JOINED_MODULES + p.responder
+abbrev meets : Wiring → ℕ → Pair → Bool
+meets Both o p = o == p.initiator || o == JOINED_MODULES + p.responder
+meets Forth o p = o == p.responder
+meets Back o p = o == p.initiator
 
 -- the input that the pair gives to an output of its own
-abbrev partner : Pair → ℕ → ℕ
-partner p o = cond (o == p.initiator) (JOINED_MODULES + p.responder) p.initiator
+abbrev partner : Wiring → Pair → ℕ → ℕ
+partner Both p o = cond (o == p.initiator) (JOINED_MODULES + p.responder) p.initiator
+partner Forth p o = p.initiator
+partner Back p o = p.responder
 
-abbrev any : List Pair → ℕ → Bool
-any [] o = false
-any (p ∷ ps) o = meets o p || any ps o
+abbrev any : Wiring → List Pair → ℕ → Bool
+any w [] o = false
+any w (p ∷ ps) o = meets w o p || any w ps o
 
 abbrev In : Pair → List Pair → Type 0
 In p [] = ⊥
@@ -56,23 +62,23 @@ same_number : (a b : ℕ) → eqb a b ≡ true → a ≡ b
 same_number a b e = grind arith
 
 -- who meets an output
-witness : (ps : List Pair) (o : ℕ) → any ps o ≡ true → (p : Pair) × In p ps × (meets o p ≡ true)
-witness [] o e = absurd cc
-witness (p ∷ ps) o e = elim (or_cases (meets o p) (any ps o) e) [
+witness : (w : Wiring) (ps : List Pair) (o : ℕ) → any w ps o ≡ true → (p : Pair) × In p ps × (meets w o p ≡ true)
+witness w [] o e = absurd cc
+witness w (p ∷ ps) o e = elim (or_cases (meets w o p) (any w ps o) e) [
   | inl h ↦ (p, inl refl, h)
-  | inr h ↦ let w = witness ps o h in (w.0, inr w.1, w.2)
+  | inr h ↦ let who = witness w ps o h in (who.0, inr who.1, who.2)
 ]
 
-any_in : (ps : List Pair) (o : ℕ) (p : Pair) → In p ps → meets o p ≡ true → any ps o ≡ true
-any_in [] o p i m = absurd i
-any_in (q ∷ qs) o p i m = elim i [
-  | inl e ↦ or_true_left (meets o q) (any qs o) (ap (meets o) e ∙ m)
-  | inr h ↦ or_true_right (meets o q) (any qs o) (any_in qs o p h m)
+any_in : (w : Wiring) (ps : List Pair) (o : ℕ) (p : Pair) → In p ps → meets w o p ≡ true → any w ps o ≡ true
+any_in w [] o p i m = absurd i
+any_in w (q ∷ qs) o p i m = elim i [
+  | inl e ↦ or_true_left (meets w o q) (any w qs o) (ap (meets w o) e ∙ m)
+  | inr h ↦ or_true_right (meets w o q) (any w qs o) (any_in w qs o p h m)
 ]
 
-none_of : (ps qs : List Pair) (o : ℕ) → ((p : Pair) → In p ps → In p qs) → any qs o ≡ false → any ps o ≡ false
-none_of ps qs o sub e = elim (true_or_false (any ps o)) [
-  | inl t ↦ let w = witness ps o t in let u = any_in qs o w.0 (sub w.0 w.1) w.2 in absurd cc
+none_of : (w : Wiring) (ps qs : List Pair) (o : ℕ) → ((p : Pair) → In p ps → In p qs) → any w qs o ≡ false → any w ps o ≡ false
+none_of w ps qs o sub e = elim (true_or_false (any w ps o)) [
+  | inl t ↦ let who = witness w ps o t in let u = any_in w qs o who.0 (sub who.0 who.1) who.2 in absurd cc
   | inr f ↦ f
 ]
 
@@ -83,45 +89,47 @@ all_in P (q ∷ qs) p a i = elim i [
   | inr h ↦ all_in P qs p a.1 h
 ]
 
-low : (ps : List Pair) (p : Pair) → ArePairs ps → In p ps → p.initiator < JOINED_MODULES
-low [] p a i = absurd i
-low (q ∷ qs) p a i = elim i [
-  | inl e ↦ subst (λ (x : Pair). x.initiator < JOINED_MODULES) e a.0
-  | inr h ↦ low qs p a.4 h
+low : (w : Wiring) (ps : List Pair) (p : Pair) → ArePairs (room_of w) ps → In p ps → p.initiator < room_of w
+low w [] p a i = absurd i
+low w (q ∷ qs) p a i = elim i [
+  | inl e ↦ subst (λ (x : Pair). x.initiator < room_of w) e a.0
+  | inr h ↦ low w qs p a.4 h
 ]
 
--- the two outputs of a pair
-meets_cases : (o : ℕ) (p : Pair) → meets o p ≡ true → (o ≡ JOINED_MODULES + p.responder) ⊎ (o ≡ p.initiator)
+-- the two outputs of a pair on one switch
+meets_cases : (o : ℕ) (p : Pair) → meets Both o p ≡ true → (o ≡ JOINED_MODULES + p.responder) ⊎ (o ≡ p.initiator)
 meets_cases o p e = elim (or_cases (o == p.initiator) (o == JOINED_MODULES + p.responder) e) [
   | inl h ↦ inr (same_number o p.initiator h)
   | inr h ↦ inl (same_number o (JOINED_MODULES + p.responder) h)
 ]
 
 -- pairs that the switch has links for, and that meet in an output, have one initiator or one responder
-shared : (o : ℕ) (p q : Pair) → p.initiator < JOINED_MODULES → q.initiator < JOINED_MODULES → meets o p ≡ true → meets o q ≡ true → (p.initiator ≡ q.initiator) ⊎ (p.responder ≡ q.responder)
-shared o p q a b m n = elim (meets_cases o p m) [
+shared : (w : Wiring) (o : ℕ) (p q : Pair) → p.initiator < room_of w → q.initiator < room_of w → meets w o p ≡ true → meets w o q ≡ true → (p.initiator ≡ q.initiator) ⊎ (p.responder ≡ q.responder)
+shared Both o p q a b m n = elim (meets_cases o p m) [
   | inl x ↦ elim (meets_cases o q n) [ inl y ↦ inr (omega arith) | inr y ↦ absurd (omega arith) ]
   | inr x ↦ elim (meets_cases o q n) [ inl y ↦ absurd (omega arith) | inr y ↦ inl (omega arith) ]
 ]
+shared Forth o p q a b m n = inr (sym (same_number o p.responder m) ∙ same_number o q.responder n)
+shared Back o p q a b m n = inl (sym (same_number o p.initiator m) ∙ same_number o q.initiator n)
 
 -- the first of a matching shares nothing with the others
-apart : (p q : Pair) (qs : List Pair) (o : ℕ) → ArePairs (p ∷ qs) → In q qs → meets o p ≡ true → meets o q ≡ true → ⊥
-apart p q qs o a i m n = elim (shared o p q a.0 (low qs q a.4 i) m n) [
+apart : (w : Wiring) (p q : Pair) (qs : List Pair) (o : ℕ) → ArePairs (room_of w) (p ∷ qs) → In q qs → meets w o p ≡ true → meets w o q ≡ true → ⊥
+apart w p q qs o a i m n = elim (shared w o p q a.0 (low w qs q a.4 i) m n) [
   | inl e ↦ let lt : p.initiator < q.initiator = all_in (λ (x : Pair). p.initiator < x.initiator) qs q a.2 i in omega arith
   | inr e ↦ all_in (λ (x : Pair). p.responder ≢ x.responder) qs q a.3 i e
 ]
 
 -- two pairs of a matching that meet in an output are one
-unique : (ps : List Pair) (p q : Pair) (o : ℕ) → ArePairs ps → In p ps → In q ps → meets o p ≡ true → meets o q ≡ true → p ≡ q
-unique [] p q o a i j m n = absurd i
-unique (x ∷ xs) p q o a i j m n = elim i [
+unique : (w : Wiring) (ps : List Pair) (p q : Pair) (o : ℕ) → ArePairs (room_of w) ps → In p ps → In q ps → meets w o p ≡ true → meets w o q ≡ true → p ≡ q
+unique w [] p q o a i j m n = absurd i
+unique w (x ∷ xs) p q o a i j m n = elim i [
   | inl e ↦ elim j [
     | inl f ↦ sym e ∙ f
-    | inr k ↦ absurd (apart x q xs o a k (ap (meets o) e ∙ m) n)
+    | inr k ↦ absurd (apart w x q xs o a k (ap (meets w o) e ∙ m) n)
   ]
   | inr h ↦ elim j [
-    | inl f ↦ absurd (apart x p xs o a h (ap (meets o) f ∙ n) m)
-    | inr k ↦ unique xs p q o a.4 h k m n
+    | inl f ↦ absurd (apart w x p xs o a h (ap (meets w o) f ∙ n) m)
+    | inr k ↦ unique w xs p q o a.4 h k m n
   ]
 ]
 
@@ -136,77 +144,83 @@ two_cut true false g = refl
 two_cut false true g = refl
 two_cut false false g = refl
 
-get_join : (p : Pair) (s : Switch) (o : ℕ) → get (after (join p) s).sources o ≡ cond (meets o p) (Some (partner p o)) (get s.sources o)
-get_join p s o =
+get_join : (w : Wiring) (p : Pair) (s : Switch) (o : ℕ) → get (after (join w p) s).sources o ≡ cond (meets w o p) (Some (partner w p o)) (get s.sources o)
+get_join Both p s o =
     get-put (insert s.sources (JOINED_MODULES + p.responder) p.initiator) p.initiator (JOINED_MODULES + p.responder) o
     ∙ ap (λ g. cond (eqb o p.initiator) (Some (JOINED_MODULES + p.responder)) g) (get-put s.sources (JOINED_MODULES + p.responder) p.initiator o)
     ∙ two (eqb o p.initiator) (eqb o (JOINED_MODULES + p.responder)) (JOINED_MODULES + p.responder) p.initiator (get s.sources o)
+get_join Forth p s o = get-put s.sources p.responder p.initiator o
+get_join Back p s o = get-put s.sources p.initiator p.responder o
 
-get_cut : (p : Pair) (s : Switch) (o : ℕ) → get (after (cut p) s).sources o ≡ cond (meets o p) None (get s.sources o)
-get_cut p s o =
+get_cut : (w : Wiring) (p : Pair) (s : Switch) (o : ℕ) → get (after (cut w p) s).sources o ≡ cond (meets w o p) None (get s.sources o)
+get_cut Both p s o =
     get-cut (remove s.sources p.initiator) (JOINED_MODULES + p.responder) o
     ∙ ap (λ g. cond (eqb o (JOINED_MODULES + p.responder)) None g) (get-cut s.sources p.initiator o)
     ∙ two_cut (eqb o p.initiator) (eqb o (JOINED_MODULES + p.responder)) (get s.sources o)
+get_cut Forth p s o = get-cut s.sources p.responder o
+get_cut Back p s o = get-cut s.sources p.initiator o
 
-joins : List Pair → Switch → Switch
-joins ps s = after_all (map join ps) s
+joins : Wiring → List Pair → Switch → Switch
+joins w ps s = after_all (map (join w) ps) s
 
-cuts : List Pair → Switch → Switch
-cuts ps s = after_all (map cut ps) s
+cuts : Wiring → List Pair → Switch → Switch
+cuts w ps s = after_all (map (cut w) ps) s
 
-joins_other : (ps : List Pair) (s : Switch) (o : ℕ) → any ps o ≡ false → get (joins ps s).sources o ≡ get s.sources o
+joins_other : (w : Wiring) (ps : List Pair) (s : Switch) (o : ℕ) → any w ps o ≡ false → get (joins w ps s).sources o ≡ get s.sources o
 unfolding joins
-joins_other [] s o e = refl
-joins_other (p ∷ ps) s o e =
-    joins_other ps (after (join p) s) o (or_right (meets o p) (any ps o) e)
-    ∙ get_join p s o ∙ ap (λ b. cond b (Some (partner p o)) (get s.sources o)) (or_left (meets o p) (any ps o) e)
+joins_other w [] s o e = refl
+joins_other w (p ∷ ps) s o e =
+    joins_other w ps (after (join w p) s) o (or_right (meets w o p) (any w ps o) e)
+    ∙ get_join w p s o ∙ ap (λ b. cond b (Some (partner w p o)) (get s.sources o)) (or_left (meets w o p) (any w ps o) e)
 
-joins_own : (ps : List Pair) (s : Switch) (o : ℕ) (p : Pair) → In p ps → meets o p ≡ true → ((q : Pair) → In q ps → meets o q ≡ true → q ≡ p) → get (joins ps s).sources o ≡ Some (partner p o)
+joins_own : (w : Wiring) (ps : List Pair) (s : Switch) (o : ℕ) (p : Pair) → In p ps → meets w o p ≡ true → ((q : Pair) → In q ps → meets w o q ≡ true → q ≡ p) → get (joins w ps s).sources o ≡ Some (partner w p o)
 unfolding joins
-joins_own [] s o p i m u = absurd i
-joins_own (x ∷ xs) s o p i m u = elim (true_or_false (any xs o)) [
-  | inl t ↦ let w = witness xs o t in
-      joins_own xs (after (join x) s) o p (subst (λ (q : Pair). In q xs) (u w.0 (inr w.1) w.2) w.1) m (λ q k n. u q (inr k) n)
+joins_own w [] s o p i m u = absurd i
+joins_own w (x ∷ xs) s o p i m u = elim (true_or_false (any w xs o)) [
+  | inl t ↦ let who = witness w xs o t in
+      joins_own w xs (after (join w x) s) o p (subst (λ (q : Pair). In q xs) (u who.0 (inr who.1) who.2) who.1) m (λ q k n. u q (inr k) n)
   | inr f ↦ elim i [
-    | inl e ↦ joins_other xs (after (join x) s) o f ∙ get_join x s o
-        ∙ ap (λ (q : Pair). cond (meets o q) (Some (partner q o)) (get s.sources o)) e ∙ ap (λ b. cond b (Some (partner p o)) (get s.sources o)) m
-    | inr k ↦ let t = any_in xs o p k m in absurd cc
+    | inl e ↦ joins_other w xs (after (join w x) s) o f ∙ get_join w x s o
+        ∙ ap (λ (q : Pair). cond (meets w o q) (Some (partner w q o)) (get s.sources o)) e ∙ ap (λ b. cond b (Some (partner w p o)) (get s.sources o)) m
+    | inr k ↦ let t = any_in w xs o p k m in absurd cc
   ]
 ]
 
-cuts_at : (ps : List Pair) (s : Switch) (o : ℕ) → get (cuts ps s).sources o ≡ cond (any ps o) None (get s.sources o)
+cuts_at : (w : Wiring) (ps : List Pair) (s : Switch) (o : ℕ) → get (cuts w ps s).sources o ≡ cond (any w ps o) None (get s.sources o)
 unfolding cuts
-cuts_at [] s o = refl
-cuts_at (p ∷ ps) s o =
-    cuts_at ps (after (cut p) s) o ∙ ap (λ g. cond (any ps o) None g) (get_cut p s o) ∙ two_cut (meets o p) (any ps o) (get s.sources o)
+cuts_at w [] s o = refl
+cuts_at w (p ∷ ps) s o =
+    cuts_at w ps (after (cut w p) s) o ∙ ap (λ g. cond (any w ps o) None g) (get_cut w p s o) ∙ two_cut (meets w o p) (any w ps o) (get s.sources o)
 
-source : List Pair → ℕ → Option ℕ
-source ps o = get (switch_of ps).sources o
+source : Wiring → List Pair → ℕ → Option ℕ
+source w ps o = get (switch_of w ps).sources o
 
-find_ends : (p : Pair) (es : List (ℕ × ℕ)) (o : ℕ) → find nat_cmp o (ends p ++ es) ≡ cond (meets o p) (Some (partner p o)) (find nat_cmp o es)
-find_ends p es o =
+find_ends : (w : Wiring) (p : Pair) (es : List (ℕ × ℕ)) (o : ℕ) → find nat_cmp o (ends w p ++ es) ≡ cond (meets w o p) (Some (partner w p o)) (find nat_cmp o es)
+find_ends Both p es o =
     ap₂ (λ a b. cond a (Some (JOINED_MODULES + p.responder)) (cond b (Some p.initiator) (find nat_cmp o es))) (unsigned_tied o p.initiator) (unsigned_tied o (JOINED_MODULES + p.responder))
     ∙ two (eqb o p.initiator) (eqb o (JOINED_MODULES + p.responder)) (JOINED_MODULES + p.responder) p.initiator (find nat_cmp o es)
+find_ends Forth p es o = ap (λ a. cond a (Some p.initiator) (find nat_cmp o es)) (unsigned_tied o p.responder)
+find_ends Back p es o = ap (λ a. cond a (Some p.responder) (find nat_cmp o es)) (unsigned_tied o p.initiator)
 
-source_more : (p : Pair) (ps : List Pair) (o : ℕ) → source (p ∷ ps) o ≡ cond (meets o p) (Some (partner p o)) (source ps o)
+source_more : (w : Wiring) (p : Pair) (ps : List Pair) (o : ℕ) → source w (p ∷ ps) o ≡ cond (meets w o p) (Some (partner w p o)) (source w ps o)
 unfolding source
-source_more p ps o =
-    get-from_entries nat_cmp_total (flat_map ends (p ∷ ps)) o ∙ find_ends p (flat_map ends ps) o
-    ∙ ap (λ g. cond (meets o p) (Some (partner p o)) g) (sym (get-from_entries nat_cmp_total (flat_map ends ps) o))
+source_more w p ps o =
+    get-from_entries nat_cmp_total (flat_map (ends w) (p ∷ ps)) o ∙ find_ends w p (flat_map (ends w) ps) o
+    ∙ ap (λ g. cond (meets w o p) (Some (partner w p o)) g) (sym (get-from_entries nat_cmp_total (flat_map (ends w) ps) o))
 
-source_none : (ps : List Pair) (o : ℕ) → any ps o ≡ false → source ps o ≡ None
+source_none : (w : Wiring) (ps : List Pair) (o : ℕ) → any w ps o ≡ false → source w ps o ≡ None
 unfolding source
-source_none [] o e = get-empty nat_cmp o
-source_none (p ∷ ps) o e =
-    source_more p ps o ∙ ap (λ b. cond b (Some (partner p o)) (source ps o)) (or_left (meets o p) (any ps o) e) ∙ source_none ps o (or_right (meets o p) (any ps o) e)
+source_none w [] o e = get-empty nat_cmp o
+source_none w (p ∷ ps) o e =
+    source_more w p ps o ∙ ap (λ b. cond b (Some (partner w p o)) (source w ps o)) (or_left (meets w o p) (any w ps o) e) ∙ source_none w ps o (or_right (meets w o p) (any w ps o) e)
 
-source_own : (ps : List Pair) (o : ℕ) (p : Pair) → ArePairs ps → In p ps → meets o p ≡ true → source ps o ≡ Some (partner p o)
-source_own [] o p a i m = absurd i
-source_own (x ∷ xs) o p a i m = elim i [
-  | inl e ↦ source_more x xs o ∙ ap (λ (q : Pair). cond (meets o q) (Some (partner q o)) (source xs o)) e ∙ ap (λ b. cond b (Some (partner p o)) (source xs o)) m
-  | inr k ↦ elim (true_or_false (meets o x)) [
-    | inl t ↦ absurd (apart x p xs o a k t m)
-    | inr f ↦ source_more x xs o ∙ ap (λ b. cond b (Some (partner x o)) (source xs o)) f ∙ source_own xs o p a.4 k m
+source_own : (w : Wiring) (ps : List Pair) (o : ℕ) (p : Pair) → ArePairs (room_of w) ps → In p ps → meets w o p ≡ true → source w ps o ≡ Some (partner w p o)
+source_own w [] o p a i m = absurd i
+source_own w (x ∷ xs) o p a i m = elim i [
+  | inl e ↦ source_more w x xs o ∙ ap (λ (q : Pair). cond (meets w o q) (Some (partner w q o)) (source w xs o)) e ∙ ap (λ b. cond b (Some (partner w p o)) (source w xs o)) m
+  | inr k ↦ elim (true_or_false (meets w o x)) [
+    | inl t ↦ absurd (apart w x p xs o a k t m)
+    | inr f ↦ source_more w x xs o ∙ ap (λ b. cond b (Some (partner w x o)) (source w xs o)) f ∙ source_own w xs o p a.4 k m
   ]
 ]
 
@@ -270,69 +284,69 @@ without_in others (x ∷ xs) p i f = elim i [
 ]
 
 -- the outputs after the cuts and the joins are those of the new pairs
-changed : (old new : List Pair) → ArePairs old → ArePairs new → (o : ℕ) → get (joins (without old new) (cuts (without new old) (switch_of old))).sources o ≡ source new o
+changed : (w : Wiring) (old new : List Pair) → ArePairs (room_of w) old → ArePairs (room_of w) new → (o : ℕ) → get (joins w (without old new) (cuts w (without new old) (switch_of w old))).sources o ≡ source w new o
 unfolding source
-changed old new a b o =
+changed w old new a b o =
     let come = without old new in
     let gone = without new old in
-    let mid = cuts gone (switch_of old) in
-    elim (true_or_false (any new o)) [
+    let mid = cuts w gone (switch_of w old) in
+    elim (true_or_false (any w new o)) [
       | inl t ↦
-          let w = witness new o t in
-          let p = w.0 in
+          let who = witness w new o t in
+          let p = who.0 in
           elim (true_or_false (has old p)) [
             | inl h ↦
                 let in_old = has_in old p h in
-                let no_come : any come o ≡ false = elim (true_or_false (any come o)) [
-                  | inl x ↦ let v = witness come o x in let r = in_without old new v.0 v.1 in let e = unique new v.0 p o b r.0 w.1 v.2 w.2 in
+                let no_come : any w come o ≡ false = elim (true_or_false (any w come o)) [
+                  | inl x ↦ let v = witness w come o x in let r = in_without old new v.0 v.1 in let e = unique w new v.0 p o b r.0 who.1 v.2 who.2 in
                       let f = sym r.1 ∙ ap (has old) e ∙ h in absurd cc
                   | inr x ↦ x
                 ] in
-                let no_gone : any gone o ≡ false = elim (true_or_false (any gone o)) [
-                  | inl x ↦ let v = witness gone o x in let r = in_without new old v.0 v.1 in let e = unique old v.0 p o a r.0 in_old v.2 w.2 in
-                      let f = sym r.1 ∙ ap (has new) e ∙ in_has new p w.1 in absurd cc
+                let no_gone : any w gone o ≡ false = elim (true_or_false (any w gone o)) [
+                  | inl x ↦ let v = witness w gone o x in let r = in_without new old v.0 v.1 in let e = unique w old v.0 p o a r.0 in_old v.2 who.2 in
+                      let f = sym r.1 ∙ ap (has new) e ∙ in_has new p who.1 in absurd cc
                   | inr x ↦ x
                 ] in
-                joins_other come mid o no_come ∙ cuts_at gone (switch_of old) o ∙ ap (λ c. cond c None (source old o)) no_gone
-                ∙ source_own old o p a in_old w.2 ∙ sym (source_own new o p b w.1 w.2)
+                joins_other w come mid o no_come ∙ cuts_at w gone (switch_of w old) o ∙ ap (λ c. cond c None (source w old o)) no_gone
+                ∙ source_own w old o p a in_old who.2 ∙ sym (source_own w new o p b who.1 who.2)
             | inr h ↦
-                joins_own come mid o p (without_in old new p w.1 h) w.2
-                (λ q k n. unique new q p o b (in_without old new q k).0 w.1 n w.2)
-                ∙ sym (source_own new o p b w.1 w.2)
+                joins_own w come mid o p (without_in old new p who.1 h) who.2
+                (λ q k n. unique w new q p o b (in_without old new q k).0 who.1 n who.2)
+                ∙ sym (source_own w new o p b who.1 who.2)
           ]
       | inr f ↦
-          let no_come = none_of come new o (λ q k. (in_without old new q k).0) f in
-          let none_left : cond (any gone o) None (source old o) ≡ None = elim (true_or_false (any gone o)) [
-            | inl x ↦ ap (λ c. cond c None (source old o)) x
-            | inr x ↦ ap (λ c. cond c None (source old o)) x ∙ source_none old o (elim (true_or_false (any old o)) [
-              | inl y ↦ let v = witness old o y in elim (true_or_false (has new v.0)) [
-                | inl z ↦ let u = any_in new o v.0 (has_in new v.0 z) v.2 in absurd cc
-                | inr z ↦ let u = any_in gone o v.0 (without_in new old v.0 v.1 z) v.2 in absurd cc
+          let no_come = none_of w come new o (λ q k. (in_without old new q k).0) f in
+          let none_left : cond (any w gone o) None (source w old o) ≡ None = elim (true_or_false (any w gone o)) [
+            | inl x ↦ ap (λ c. cond c None (source w old o)) x
+            | inr x ↦ ap (λ c. cond c None (source w old o)) x ∙ source_none w old o (elim (true_or_false (any w old o)) [
+              | inl y ↦ let v = witness w old o y in elim (true_or_false (has new v.0)) [
+                | inl z ↦ let u = any_in w new o v.0 (has_in new v.0 z) v.2 in absurd cc
+                | inr z ↦ let u = any_in w gone o v.0 (without_in new old v.0 v.1 z) v.2 in absurd cc
               ]
               | inr y ↦ y
             ])
           ] in
-          joins_other come mid o no_come ∙ cuts_at gone (switch_of old) o ∙ none_left ∙ sym (source_none new o f)
+          joins_other w come mid o no_come ∙ cuts_at w gone (switch_of w old) o ∙ none_left ∙ sym (source_none w new o f)
     ]
 
 -- the outputs after a reset and the joins are those of the pairs
-set_afresh : (ps : List Pair) → ArePairs ps → (o : ℕ) → get (joins ps idle).sources o ≡ source ps o
-set_afresh ps a o = elim (true_or_false (any ps o)) [
-  | inl t ↦ let w = witness ps o t in joins_own ps idle o w.0 w.1 w.2 (λ q k n. unique ps q w.0 o a k w.1 n w.2) ∙ sym (source_own ps o w.0 a w.1 w.2)
-  | inr f ↦ joins_other ps idle o f ∙ get-empty nat_cmp o ∙ sym (source_none ps o f)
+set_afresh : (w : Wiring) (ps : List Pair) → ArePairs (room_of w) ps → (o : ℕ) → get (joins w ps idle).sources o ≡ source w ps o
+set_afresh w ps a o = elim (true_or_false (any w ps o)) [
+  | inl t ↦ let who = witness w ps o t in joins_own w ps idle o who.0 who.1 who.2 (λ q k n. unique w ps q who.0 o a k who.1 n who.2) ∙ sym (source_own w ps o who.0 a who.1 who.2)
+  | inr f ↦ joins_other w ps idle o f ∙ get-empty nat_cmp o ∙ sym (source_none w ps o f)
 ]
 
 -- the law of a change
-pub change_law : (old new : List Pair) → ArePairs old → ArePairs new → after_all (change old new) (switch_of old) ≡ switch_of new
+pub change_law : (w : Wiring) (old new : List Pair) → ArePairs (room_of w) old → ArePairs (room_of w) new → after_all (change w old new) (switch_of w old) ≡ switch_of w new
 unfolding joins cuts source
-change_law old new a b =
-    after_all-append (map cut (without new old)) (map join (without old new) ++ Settle ∷ []) (switch_of old)
-    ∙ after_all-append (map join (without old new)) (Settle ∷ []) (cuts (without new old) (switch_of old))
-    ∙ ap (λ (m : Sources). record { sources = m; ready = true }) (same_sources _ _ (changed old new a b))
+change_law w old new a b =
+    after_all-append (map (cut w) (without new old)) (map (join w) (without old new) ++ Settle ∷ []) (switch_of w old)
+    ∙ after_all-append (map (join w) (without old new)) (Settle ∷ []) (cuts w (without new old) (switch_of w old))
+    ∙ ap (λ (m : Sources). record { sources = m; ready = true }) (same_sources _ _ (changed w old new a b))
 
 -- the law of a first setting
-pub setting_law : (s : Switch) (pairs : List Pair) → ArePairs pairs → after_all (setting pairs) s ≡ switch_of pairs
+pub setting_law : (w : Wiring) (s : Switch) (pairs : List Pair) → ArePairs (room_of w) pairs → after_all (setting w pairs) s ≡ switch_of w pairs
 unfolding joins source
-setting_law s pairs a =
-    after_all-append (map join pairs) (Settle ∷ []) idle
-    ∙ ap (λ (m : Sources). record { sources = m; ready = true }) (same_sources _ _ (set_afresh pairs a))
+setting_law w s pairs a =
+    after_all-append (map (join w) pairs) (Settle ∷ []) idle
+    ∙ ap (λ (m : Sources). record { sources = m; ready = true }) (same_sources _ _ (set_afresh w pairs a))

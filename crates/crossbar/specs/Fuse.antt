@@ -1,14 +1,14 @@
--- A port to a switch that takes so many bytes and then fails. It is this project's own, for tests of what a
+-- A port to the switches of a rack that takes so many bytes and then fails. It is this project's own, for tests of what a
 -- failing port leaves.
 use Rattle.std.specs.Prelude.{◌≡◌, ◌≤◌, ◌-◌, ℕ, List, take, Option, Some, None, refl}
 use Rattle.std.specs.Coded.{Coded, code_by, coded×, coded_ℕ, coded_option}
-use Rattle.crossbar.specs.Switch.{Switch, switch_code}
-use Rattle.crossbar.specs.Port.{CarriesOut, CarriesOutWhole}
+use Rattle.crossbar.specs.Chips.{Switches, switches_code, CarriesOutAt, CarriesOutWholeAt}
+use Rattle.crossbar.specs.declared.chip.Chip.{Chip}
 
 pub record Fuse : Type 0 where
-  -- the switch at the port's other end
-  pub switch : Switch
-  -- how many bytes the port still takes, and nothing once it has failed
+  -- the switches at the port's other end
+  pub switches : Switches
+  -- how many bytes the port still takes, to both together, and nothing once it has failed
   pub left : Option ℕ
   -- how often the port has failed
   pub failures : ℕ
@@ -24,19 +24,19 @@ left_after (Some left) bytes = Some (left - bytes)
 left_after None bytes = None
 
 -- the commands of the bytes were carried out and answered
-abbrev pub Carries : List ℕ → Fuse → Fuse → List ℕ → Type 0
-Carries bytes old new replies = CarriesOut bytes old.switch new.switch replies
+abbrev pub Carries : Chip → List ℕ → Fuse → Fuse → List ℕ → Type 0
+Carries chip bytes old new replies = CarriesOutAt chip bytes old.switches new.switches replies
 
 -- the commands that are whole within so many of the bytes were carried out, or none where the port had failed
-abbrev pub CarriesFront : Option ℕ → List ℕ → Switch → Switch → Type 0
-CarriesFront (Some left) bytes old new = CarriesOutWhole (take left bytes) old new
-CarriesFront None bytes old new = new ≡ old
+abbrev pub CarriesFront : Chip → Option ℕ → List ℕ → Switches → Switches → Type 0
+CarriesFront chip (Some left) bytes old new = CarriesOutWholeAt chip (take left bytes) old new
+CarriesFront chip None bytes old new = new ≡ old
 
 -- the commands that are whole within the bytes that were left were carried out
-abbrev pub CarriesLeft : List ℕ → Fuse → Fuse → Type 0
-CarriesLeft bytes old new = CarriesFront old.left bytes old.switch new.switch
+abbrev pub CarriesLeft : Chip → List ℕ → Fuse → Fuse → Type 0
+CarriesLeft chip bytes old new = CarriesFront chip old.left bytes old.switches new.switches
 
 -- a fuse is stored as its three fields
 abbrev pub fuse_code : Coded Fuse
 fuse_code =
-    code_by (Switch × (Option ℕ × ℕ)) (coded× switch_code (coded× (coded_option coded_ℕ) coded_ℕ)) (λ f. (f.switch, (f.left, f.failures))) (λ p. record { switch = p.0; left = p.1.0; failures = p.1.1 }) (λ _. refl)
+    code_by (Switches × (Option ℕ × ℕ)) (coded× switches_code (coded× (coded_option coded_ℕ) coded_ℕ)) (λ f. (f.switches, (f.left, f.failures))) (λ p. record { switches = p.0; left = p.1.0; failures = p.1.1 }) (λ _. refl)

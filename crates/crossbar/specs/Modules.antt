@@ -12,8 +12,16 @@ link0 m = m
 abbrev pub link3 : ℕ → ℕ
 link3 m = JOINED_MODULES + m
 
--- link 0 of module m and link 3 of module n feed each other, and the switch is ready
+-- on one switch, link 0 of module m and link 3 of module n feed each other, and the switch is ready
 pub record AreJoined (switch : Switch) (m n : ℕ) : Type 0 where
   pub ready : IsTrue switch.ready
   pub initiator_feeds : map.get switch.sources (link3 n) ≡ Some (link0 m)
   pub responder_feeds : map.get switch.sources (link0 m) ≡ Some (link3 n)
+
+-- On two switches, link 0 of module m feeds link 3 of module n over the first, link 3 of module n feeds link 0 of module m over the
+-- second, and both are ready. Link 0 and link 3 of a module have its number on both.
+pub record AreJoinedWide (a b : Switch) (m n : ℕ) : Type 0 where
+  pub a_ready : IsTrue a.ready
+  pub b_ready : IsTrue b.ready
+  pub initiator_feeds : map.get a.sources n ≡ Some m
+  pub responder_feeds : map.get b.sources m ≡ Some n

@@ -2,20 +2,22 @@
 
 ghost use Rattle.std.specs.Prelude.{◌≡◌, ◌+◌, ◌↔◌, length, Some, None, IsOk, OnOk, OnErr};
 ghost use Rattle.crossbar.specs.Port.{IsExchange, IsFront, CarriesOutWhole};
-ghost use Rattle.crossbar.specs.Switch.{idle};
+ghost use Rattle.crossbar.specs.Chips.{both_idle, switch_at};
 
-use crate::port::{ConfigPort, PortFault, carry_out};
+use crate::chip::Chip;
+use crate::chips::Chips;
+use crate::port::{ConfigPort, PortFault};
 use crate::switch::Crossbar;
 use c004_commands::CommandReader;
 use failure_count::FailureCount;
 use std::marker::Model;
 
-/// An honest port to a switch in memory, which takes so many bytes over all its calls. A call with more
-/// bytes than are left fails, and so does each call after it. It takes no memory. Such a port is this
-/// project's own, and shows what a failing port leaves.
+/// An honest port to a switch in memory for each chip, which takes so many bytes over all its calls, to whichever
+/// chip they go. A call with more bytes than are left fails, and so does each call after it. It takes no memory.
+/// Such a port is this project's own, and shows what a failing port leaves.
 #[derive(Drop)]
 pub struct FusePort {
-    crossbar: Crossbar,
+    chips: Chips,
     // How many bytes it still takes, and nothing once it has failed.
     left: Option<usize>,
     failed: FailureCount,
@@ -28,26 +30,26 @@ impl Model for FusePort {
 
     ghost coded = { fuse_code };
 
-    ghost view = { λ port. record { switch = port.crossbar; left = port.left; failures = port.failed } };
+    ghost view = { λ port. record { switches = port.chips; left = port.left; failures = port.failed } };
 }
 
 impl FusePort {
-    /// A port to a new switch, which takes so many bytes.
+    /// A port to new switches, which takes so many bytes.
     pub fn new(bytes: usize) -> FusePort
-        ensures { result ≡ record { switch = idle; left = Some bytes; failures = 0 } }
+        ensures { result ≡ record { switches = both_idle; left = Some bytes; failures = 0 } }
     {
         FusePort {
-            crossbar: Crossbar::new(),
+            chips: Chips::new(),
             left: Some(bytes),
             failed: FailureCount::zero(),
         }
     }
 
-    /// The switch.
-    pub fn crossbar(&self) -> &Crossbar
-        ensures { result.now ≡ self.now.switch }
+    /// The switch of a chip.
+    pub fn crossbar(&self, chip: Chip) -> &Crossbar
+        ensures { result.now ≡ switch_at chip self.now.switches }
     {
-        &self.crossbar
+        self.chips.crossbar(chip)
     }
 }
 
@@ -55,7 +57,7 @@ impl ConfigPort for FusePort {
     ghost use Rattle.std.specs.Prelude.{true};
     ghost use Rattle.crossbar.specs.Fuse.{HasLeft, left_after, Carries, CarriesLeft};
 
-    ghost switch = { λ port. port.switch };
+    ghost switches = { λ port. port.switches };
 
     ghost honest = { λ _. true };
 
@@ -64,13 +66,13 @@ impl ConfigPort for FusePort {
     /// Takes time by the number of bytes. Where the bytes are more than are left, the commands that are
     /// whole within those that are left are carried out, and the port fails from then on. A call that
     /// fails leaves the replies as they were.
-    fn exchange(&mut self, bytes: &[u8], replies: &mut [u8]) -> Result<(), PortFault>
+    fn exchange(&mut self, chip: Chip, bytes: &[u8], replies: &mut [u8]) -> Result<(), PortFault>
         requires { IsExchange bytes.now (length replies.old) }
-        ensures done { OnOk result (Carries bytes.now self.old self.new replies.new) }
+        ensures done { OnOk result (Carries chip bytes.now self.old self.new replies.new) }
         // It takes the bytes just where they are within those that are left.
         ensures within { IsOk result ↔ HasLeft self.old.left (length bytes.now) }
         ensures left { OnOk result (self.new.left ≡ left_after self.old.left (length bytes.now)) }
-        ensures whole { OnErr result (CarriesLeft bytes.now self.old self.new) }
+        ensures whole { OnErr result (CarriesLeft chip bytes.now self.old self.new) }
         ensures ends { OnErr result (self.new.left ≡ None) }
         ensures replies { OnErr result (replies.new ≡ replies.old) }
         ensures fault { OnErr result (self.new.failures ≡ self.old.failures + 1) }
@@ -81,11 +83,11 @@ impl ConfigPort for FusePort {
             return Err(PortFault);
         };
         if bytes.len() <= left {
-            carry_out(&mut self.crossbar, bytes, replies);
+            self.chips.carry_out(chip, bytes, replies);
             self.left = Some(left - bytes.len());
             return Ok(());
         }
-        carry_whole(&mut self.crossbar, &bytes[..left]);
+        self.chips.carry_whole(chip, &bytes[..left]);
         self.left = None;
         self.failed.raise();
         Err(PortFault)
@@ -93,7 +95,7 @@ impl ConfigPort for FusePort {
 }
 
 /// Carries out the commands that are whole within the bytes, in order, and keeps no answer.
-fn carry_whole(crossbar: &mut Crossbar, bytes: &[u8])
+pub(crate) fn carry_whole(crossbar: &mut Crossbar, bytes: &[u8])
     requires { IsFront bytes.now }
     ensures { CarriesOutWhole bytes.now crossbar.old crossbar.new }
 {

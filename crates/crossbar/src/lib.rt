@@ -1,21 +1,24 @@
-//! The crossbar switch of an INMOS IMS C004, emulated, and the port through which a controller sets it
-//! and asks it.
+//! The crossbar switch of an INMOS IMS C004, emulated, and the port through which a controller sets the
+//! switches of a rack and asks them.
 //!
 //! The commands and their effects are those of the INMOS IMS C004 data sheet. Where the sheet is
 //! silent, the choice is this project's: when the switch is ready, that a new connection replaces the
 //! one that the output had, and which links the modules of a rack are on.
 #![tactic(auto)]
 
+mod chip;
+mod chips;
 mod fuse;
 pub mod laws;
 mod pair;
 mod port;
 mod switch;
 
+pub use chip::{Chip, Wiring};
 pub use fuse::FusePort;
 pub use pair::Pair;
 pub use port::{ConfigPort, MemoryPort, PortFault};
-pub use switch::{Crossbar, JOINED_MODULES};
+pub use switch::{Crossbar, JOINED_MODULES, joined_wide};
 
 #[cfg(test)]
 mod tests;

@@ -1,38 +1,41 @@
-//! The port through which a switch is set and asked.
+//! The port through which the switches of a rack are set and asked.
 
 ghost use Rattle.std.specs.Prelude.{◌≡◌, ◌<◌, ◌≤◌, ◌+◌, ◌++◌, Bool, true, ℕ, IsTrue, length, take, IsOk, OnOk, OnErr};
 ghost use Rattle.std.specs.Option.{option_to_list};
-ghost use Rattle.crossbar.specs.Switch.{Switch, idle, after_all, answers, enquiries};
+ghost use Rattle.crossbar.specs.Switch.{after_all, answers, enquiries};
+ghost use Rattle.crossbar.specs.Chips.{Switches, both_idle, switch_at, CarriesOutAt};
 ghost use Rattle.crossbar.specs.Port.{IsExchange, CarriesOut};
 
+use crate::chip::Chip;
+use crate::chips::Chips;
 use crate::switch::Crossbar;
 use c004_commands::{Command, CommandReader};
 use std::marker::Model;
 use thiserror::Error;
 
-/// The port failed. Which of the commands the switch has carried out isn't known. That a port may fail
+/// The port failed. Which of the commands the switches have carried out isn't known. That a port may fail
 /// is this project's choice.
 #[derive(Clone, Copy, Debug, PartialEq, Eq, Error)]
 #[error("the port to the switch failed")]
 pub struct PortFault;
 
-/// The controller's way to a switch: command bytes go out, and the answers to enquiries come back
-/// (INMOS IMS C004 data sheet, configuration link). That a port takes whole commands at a time is this
-/// project's choice.
+/// The controller's way to the switches of a rack: command bytes go out to one of them, and the answers to
+/// enquiries come back (INMOS IMS C004 data sheet, configuration link). That a port takes whole commands at a
+/// time, and counts its failures over all switches, is this project's choice.
 pub trait ConfigPort {
-    // The switch at the port's other end.
-    ghost switch: { Self → Switch };
+    // The switches at the port's other end.
+    ghost switches: { Self → Switches };
     // Whether the port carries out what it answers Ok to. No call changes it.
     ghost honest: { Self → Bool };
     // How often the port has failed.
     ghost failures: { Self → ℕ };
 
-    /// Sends the bytes of whole commands, and fills `replies` with the answers to their enquiries, in
-    /// order.
-    fn exchange(&mut self, bytes: &[u8], replies: &mut [u8]) -> Result<(), PortFault>
+    /// Sends the bytes of whole commands to a chip, and fills `replies` with the answers to their enquiries, in
+    /// order. The other chip stays as it is.
+    fn exchange(&mut self, chip: Chip, bytes: &[u8], replies: &mut [u8]) -> Result<(), PortFault>
         requires { IsExchange bytes.now (length replies.old) }
         ensures done { IsTrue (honest self.old) →
-            OnOk result (CarriesOut bytes.now (switch self.old) (switch self.new) replies.new) }
+            OnOk result (CarriesOutAt chip bytes.now (switches self.old) (switches self.new) replies.new) }
         // A fault is a failure in this call, and there are no others. They are never taken back.
         ensures fault { OnErr result (failures self.old < failures self.new) }
         ensures counted { failures self.old ≤ failures self.new }
@@ -40,55 +43,55 @@ pub trait ConfigPort {
         ensures honesty { honest self.new ≡ honest self.old };
 }
 
-/// A port to a switch in memory (INMOS IMS C004 data sheet). It is honest and never fails. Contracts see
-/// its switch.
+/// A port to a switch in memory for each chip (INMOS IMS C004 data sheet). It is honest and never fails. Contracts
+/// see the switches.
 #[derive(Debug, Drop)]
 pub struct MemoryPort {
-    crossbar: Crossbar,
+    chips: Chips,
 }
 
 impl Model for MemoryPort {
-    ghost use Rattle.crossbar.specs.Switch.{Switch, switch_code};
+    ghost use Rattle.crossbar.specs.Chips.{Switches, switches_code};
 
-    ghost Value = { Switch };
+    ghost Value = { Switches };
 
-    ghost coded = { switch_code };
+    ghost coded = { switches_code };
 
-    ghost view = { λ port. port.crossbar };
+    ghost view = { λ port. port.chips };
 }
 
 impl MemoryPort {
-    /// A port to a new switch.
+    /// A port to new switches.
     pub fn new() -> MemoryPort
-        ensures { result ≡ idle }
+        ensures { result ≡ both_idle }
     {
         MemoryPort {
-            crossbar: Crossbar::new(),
+            chips: Chips::new(),
         }
     }
 
-    /// The switch.
-    pub fn crossbar(&self) -> &Crossbar
-        ensures { result.now ≡ self.now }
+    /// The switch of a chip.
+    pub fn crossbar(&self, chip: Chip) -> &Crossbar
+        ensures { result.now ≡ switch_at chip self.now }
     {
-        &self.crossbar
+        self.chips.crossbar(chip)
     }
 }
 
 impl ConfigPort for MemoryPort {
-    ghost switch = { λ port. port };
+    ghost switches = { λ port. port };
 
     ghost honest = { λ _. true };
 
     ghost failures = { λ _. 0 };
 
     /// Takes time by the number of bytes, and never fails.
-    fn exchange(&mut self, bytes: &[u8], replies: &mut [u8]) -> Result<(), PortFault>
+    fn exchange(&mut self, chip: Chip, bytes: &[u8], replies: &mut [u8]) -> Result<(), PortFault>
         requires { IsExchange bytes.now (length replies.old) }
-        ensures done { CarriesOut bytes.now self.old self.new replies.new }
+        ensures done { CarriesOutAt chip bytes.now self.old self.new replies.new }
         ensures never_fails { IsOk result }
     {
-        carry_out(&mut self.crossbar, bytes, replies);
+        self.chips.carry_out(chip, bytes, replies);
         Ok(())
     }
 }

@@ -4,13 +4,14 @@ ghost use Rattle.std.specs.Prelude.{◌≡◌, ◌<◌, ◌↔◌, IsTrue};
 ghost use Rattle.std.specs.FinMap as map;
 ghost use Rattle.c004_commands.specs.Answers.{answer_byte};
 ghost use Rattle.crossbar.specs.Switch.{after, answer, idle};
-ghost use Rattle.crossbar.specs.Modules.{AreJoined};
+ghost use Rattle.crossbar.specs.Modules.{AreJoined, AreJoinedWide};
 
 use c004_commands::{CONNECTED, Command, PORTS, PortNo};
 use std::marker::Model;
 
 /// How many modules one switch joins: link 0 of module m is on switch link m, and its link 3 on
-/// switch link `JOINED_MODULES` + m. This project's choice, which uses all links of the chip.
+/// switch link `JOINED_MODULES` + m. A rack with more has two switches. This project's choice, which uses all
+/// links of the chip.
 pub const JOINED_MODULES: u8 = 16;
 
 const LATCHES: usize = PORTS as usize;
@@ -123,6 +124,23 @@ impl Crossbar {
     {
         self.latches[output.get() as usize] = None;
     }
+}
+
+/// Whether link 0 of module `m` and link 3 of module `n` feed each other over the two switches of a wider rack,
+/// link 0 over `a` and link 3 over `b`, and both are ready. Both modules are below [`PORTS`]. Which links a module
+/// is on is this project's choice.
+pub fn joined_wide(a: &Crossbar, b: &Crossbar, m: u8, n: u8) -> bool
+    requires initiator { m < PORTS }
+    requires responder { n < PORTS }
+    ensures { IsTrue result ↔ AreJoinedWide a.now b.now m n }
+{
+    let (Some(link0), Some(link3)) = (PortNo::new(m), PortNo::new(n)) else {
+        unreachable!();
+    };
+    a.is_ready()
+        && b.is_ready()
+        && a.source_of(link3) == Some(link0)
+        && b.source_of(link0) == Some(link3)
 }
 
 // The byte that says which input feeds an output.

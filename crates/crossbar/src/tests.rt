@@ -1,6 +1,9 @@
 ghost use Rattle.std.specs.Prelude.{◌≡◌, ◌<◌, ◌≤◌, ◌+◌, ◌∷◌, [], IsTrue, IfOk, OnOk, OnErr};
 
-use crate::{ConfigPort, Crossbar, FusePort, JOINED_MODULES, MemoryPort, PortFault};
+use crate::{
+    Chip, ConfigPort, Crossbar, FusePort, JOINED_MODULES, MemoryPort, PortFault, Wiring,
+    joined_wide,
+};
 use c004_commands::{CommandFault, CommandReader, PortNo};
 use std::test::Fail;
 
@@ -13,9 +16,9 @@ fn answers_of_a_join<P: ConfigPort>(port: &mut P) -> Result<[u8; 2], PortFault>
     ensures fault { OnErr result (P.failures port.old < P.failures port.new) }
     ensures unfailed { OnOk result (P.failures port.new ≡ P.failures port.old) }
 {
-    port.exchange(&[0x04, 0x01, 0x00, 0x11, 0x03], &mut [])?;
+    port.exchange(Chip::A, &[0x04, 0x01, 0x00, 0x11, 0x03], &mut [])?;
     let mut replies = [0; 2];
-    port.exchange(&[0x02, 0x11, 0x02, 0x00], &mut replies)?;
+    port.exchange(Chip::A, &[0x02, 0x11, 0x02, 0x00], &mut replies)?;
     Ok(replies)
 }
 
@@ -25,9 +28,9 @@ fn reset_at_last<P: ConfigPort>(port: &mut P) -> Result<(), PortFault>
     ensures counted { P.failures port.old ≤ P.failures port.new }
     ensures twice { OnErr result (P.failures port.old + 2 ≤ P.failures port.new) }
 {
-    match port.exchange(&[0x04], &mut []) {
+    match port.exchange(Chip::A, &[0x04], &mut []) {
         Ok(()) => Ok(()),
-        Err(PortFault) => port.exchange(&[0x04], &mut []),
+        Err(PortFault) => port.exchange(Chip::A, &[0x04], &mut []),
     }
 }
 
@@ -51,15 +54,16 @@ fn join_and_enquire(rt: HostRuntime) -> Result<(), Fail> {
     let mut port = MemoryPort::new();
     let mut replies = [0; 2];
     port.exchange(
+        Chip::A,
         &[0x01, 0x00, 0x11, 0x03, 0x02, 0x11, 0x02, 0x00],
         &mut replies,
     )?;
     assert_eq!(rt; replies, [0x80, 0x91]);
-    assert!(rt; port.crossbar().is_ready());
-    assert!(rt; port.crossbar().joined(0, 1));
-    assert!(rt; !port.crossbar().joined(1, 0));
+    assert!(rt; port.crossbar(Chip::A).is_ready());
+    assert!(rt; port.crossbar(Chip::A).joined(0, 1));
+    assert!(rt; !port.crossbar(Chip::A).joined(1, 0));
     let output = PortNo::new(JOINED_MODULES + 1).ok_or("a port")?;
-    assert_eq!(rt; port.crossbar().source_of(output), PortNo::new(0));
+    assert_eq!(rt; port.crossbar(Chip::A).source_of(output), PortNo::new(0));
     Ok(())
 }
 
@@ -202,17 +206,21 @@ fn a_fused_port_answers(rt: HostRuntime) {
     let mut port = FusePort::new(9);
     assert_eq!(rt; answers_of_a_join(&mut port), Ok([0x80, 0x91]));
     assert_eq!(rt; reset_at_last(&mut port), Err(PortFault));
-    assert!(rt; port.crossbar().joined(0, 1));
+    assert!(rt; port.crossbar(Chip::A).joined(0, 1));
 }
 
 // Joins module 0 to module 1 and module 1 to module 2, on a switch where nothing else is joined.
 fn join_two<P: ConfigPort>(port: &mut P) -> Result<(), PortFault> {
-    port.exchange(&[0x04, 0x01, 0x00, 0x11, 0x01, 0x01, 0x12, 0x03], &mut [])
+    port.exchange(
+        Chip::A,
+        &[0x04, 0x01, 0x00, 0x11, 0x01, 0x01, 0x12, 0x03],
+        &mut [],
+    )
 }
 
 // Sends no command.
 fn send_nothing<P: ConfigPort>(port: &mut P) -> Result<(), PortFault> {
-    port.exchange(&[], &mut [])
+    port.exchange(Chip::A, &[], &mut [])
 }
 
 #[test]
@@ -222,9 +230,9 @@ fn fuse_blows_before_the_last_byte(rt: HostRuntime) -> Result<(), Fail> {
     // Both joins are whole within seven bytes.
     let output1 = PortNo::new(JOINED_MODULES + 1).ok_or("a port")?;
     let output2 = PortNo::new(JOINED_MODULES + 2).ok_or("a port")?;
-    assert_eq!(rt; port.crossbar().source_of(output1), PortNo::new(0));
-    assert_eq!(rt; port.crossbar().source_of(output2), PortNo::new(1));
-    assert!(rt; !port.crossbar().is_ready());
+    assert_eq!(rt; port.crossbar(Chip::A).source_of(output1), PortNo::new(0));
+    assert_eq!(rt; port.crossbar(Chip::A).source_of(output2), PortNo::new(1));
+    assert!(rt; !port.crossbar(Chip::A).is_ready());
     assert_eq!(rt; send_nothing(&mut port), Err(PortFault));
     Ok(())
 }
@@ -235,8 +243,67 @@ fn fuse_holds_for_its_bytes(rt: HostRuntime) {
     assert_eq!(rt; join_two(&mut port), Ok(()));
     assert_eq!(rt; send_nothing(&mut port), Ok(()));
     assert_eq!(rt; join_two(&mut port), Err(PortFault));
-    assert!(rt; port.crossbar().joined(0, 1));
-    assert!(rt; port.crossbar().joined(1, 2));
+    assert!(rt; port.crossbar(Chip::A).joined(0, 1));
+    assert!(rt; port.crossbar(Chip::A).joined(1, 2));
+}
+
+// On two switches, joins module 0 to module 16 and module 16 to module 0: row wide_rack.
+fn join_two_wide<P: ConfigPort>(port: &mut P) -> Result<(), PortFault> {
+    port.exchange(
+        Chip::A,
+        &[0x04, 0x00, 0x00, 0x10, 0x00, 0x10, 0x00, 0x03],
+        &mut [],
+    )?;
+    port.exchange(
+        Chip::B,
+        &[0x04, 0x00, 0x10, 0x00, 0x00, 0x00, 0x10, 0x03],
+        &mut [],
+    )
+}
+
+#[test]
+fn two_switches_join(rt: HostRuntime) {
+    let mut port = MemoryPort::new();
+    assert_eq!(rt; join_two_wide(&mut port), Ok(()));
+    let (a, b) = (port.crossbar(Chip::A), port.crossbar(Chip::B));
+    assert!(rt; joined_wide(a, b, 0, 16));
+    assert!(rt; joined_wide(a, b, 16, 0));
+    assert!(rt; !joined_wide(a, b, 0, 0));
+}
+
+// Neither way is enough, nor a switch that isn't ready.
+#[test]
+fn both_ways_join(rt: HostRuntime) -> Result<(), Fail> {
+    let mut forth = Crossbar::new();
+    let mut back = Crossbar::new();
+    let connection = [0x00, 0x10, 0x00, 0x03];
+    feed_all(&mut CommandReader::new(), &mut forth, &connection)?;
+    assert!(rt; !joined_wide(&forth, &back, 16, 0));
+    feed_all(&mut CommandReader::new(), &mut back, &connection)?;
+    assert!(rt; !joined_wide(&forth, &back, 16, 0));
+    feed_all(&mut CommandReader::new(), &mut back, &[0x00, 0x00, 0x10])?;
+    assert!(rt; !joined_wide(&forth, &back, 16, 0));
+    feed_all(&mut CommandReader::new(), &mut back, &[0x03])?;
+    assert!(rt; joined_wide(&forth, &back, 16, 0));
+    Ok(())
+}
+
+#[test]
+fn fuse_counts_over_both(rt: HostRuntime) {
+    let mut port = FusePort::new(16);
+    assert_eq!(rt; join_two_wide(&mut port), Ok(()));
+    assert_eq!(rt; send_nothing(&mut port), Ok(()));
+    let mut port = FusePort::new(15);
+    assert_eq!(rt; join_two_wide(&mut port), Err(PortFault));
+    assert!(rt; port.crossbar(Chip::A).is_ready());
+    assert!(rt; !port.crossbar(Chip::B).is_ready());
+    assert_eq!(rt; send_nothing(&mut port), Err(PortFault));
+}
+
+#[test]
+fn wirings_of_chips(rt: HostRuntime) {
+    assert_eq!(rt; Wiring::of_wide(Chip::A), Wiring::Forth);
+    assert_eq!(rt; Wiring::of_wide(Chip::B), Wiring::Back);
 }
 
 #[test]

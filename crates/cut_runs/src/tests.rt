@@ -5,3 +5,4 @@ mod cuts;
 mod lies;
 mod rows;
 mod session_cuts;
+mod wide_cuts;

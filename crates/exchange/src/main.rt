@@ -1,4 +1,4 @@
-//! The controller of a rack of transputer modules whose links meet in one crossbar switch.
+//! The controller of a rack of transputer modules whose links meet in one crossbar switch or two.
 //!
 //! The commands of the program: each reads the files that its words name and prints one answer.
 #![tactic(auto)]

@@ -9,6 +9,7 @@ use crate::rows::{
     FOUR, ONE_PULL, THREE_BY_THREE, TWO_PUSHES, TWO_PUSHES_SHAPE, are_same, batch, marked,
     marked_but, plan,
 };
+use crossbar::Chip;
 use link_graph::Schedule;
 use module_memory::Rack;
 use schedule_certificate::{MAX_WORKERS, OpenGate, Planned, first_fit, schedule};
@@ -117,6 +118,6 @@ pub fn run_plan<R: AllocGlobal + Eprint + Threads + Sync>(rt: &R, workers: usize
     begin(rt);
     let (rack, outcome) = run(rt, rt.alloc(), rack, &mut plant, &planned, &mut told);
     end(rt);
-    let is_joined = plant.port.crossbar().joined(0, 1);
+    let is_joined = plant.port.crossbar(Chip::A).joined(0, 1);
     Some(met_by_run(&rack, &outcome, told, &before, &wanted, is_joined))
 }

@@ -1,4 +1,4 @@
--- The links of the modules, and their order. Link 0 and link 3 of each module go to the switch: this project's choice.
+-- The links of the modules, and their order. Link 0 and link 3 of each module go to the switches: this project's choice.
 use Rattle.std.specs.Prelude.{ℕ, ◌≡◌, ◌<◌, ◌+◌, ◌⊎◌}
 use Rattle.batch.specs.declared.limits.TheConstants.{MAX_MODULES}
 use Rattle.link_graph.specs.declared.link.End.{End}

@@ -247,7 +247,7 @@ fn bad_certificate_lines_are_named(rt: HostRuntime) -> Result<(), Fail> {
             2,
         ),
         (
-            b"settings 0\nbusiest link 0 module 16\nnamed 0\n".as_slice(),
+            b"settings 0\nbusiest link 0 module 32\nnamed 0\n".as_slice(),
             2,
         ),
         (
@@ -387,11 +387,11 @@ fn faults_are_printed(rt: HostRuntime) -> Result<(), Fail> {
 fn links_are_counted(rt: HostRuntime) {
     let last = Link {
         end: End::Three,
-        module: 15,
+        module: 31,
     };
-    assert_eq!(rt; LINKS, 32);
+    assert_eq!(rt; LINKS, 64);
     assert_eq!(rt; FIRST.index(), 0);
-    assert_eq!(rt; last.index(), 31);
+    assert_eq!(rt; last.index(), 63);
     assert_eq!(rt; End::Zero.number(), 0);
     assert_eq!(rt; End::Three.number(), 3);
 }
@@ -400,7 +400,7 @@ fn links_are_counted(rt: HostRuntime) {
 fn links_are_ordered(rt: HostRuntime) {
     let last_start = Link {
         end: End::Zero,
-        module: 15,
+        module: 31,
     };
     let first_answer = Link {
         end: End::Three,

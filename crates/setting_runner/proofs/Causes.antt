@@ -17,13 +17,13 @@ all_zero [] = λ k d l. absurd (omega arith)
 all_zero (t ∷ ts) = All-cons (λ (m : ℕ × ℕ). m.1 ≡ 0) (t, 0) (all_moved ts 0) refl (all_zero ts)
 
 -- a switch that can't be set stops the setting before a word has moved
-pub set_fault_stops : (given : Given) (cause : StopCause) (ms : List (ℕ × ℕ)) → IsSetFault given.before given.after given.honest cause → All (λ (m : ℕ × ℕ). m.1 ≡ 0) ms → IsStopCause given cause ms
+pub set_fault_stops : (given : Given) (cause : StopCause) (ms : List (ℕ × ℕ)) → IsSetFault given.shape.modules given.before given.after given.honest cause → All (λ (m : ℕ × ℕ). m.1 ≡ 0) ms → IsStopCause given cause ms
 set_fault_stops given Port ms f z = record { failed = f; unmoved = z }
 set_fault_stops given (SwitchDisagrees output) ms f z = record { dishonest = f.0; known = f.1; unmoved = z; unfailed = f.2 }
 set_fault_stops given (Wire t) ms f z = absurd f
 
-pub no_wire : (before after : ℕ) (honest : Bool) (cause : StopCause) (t : ℕ) → IsSetFault before after honest cause → cause ≡ Wire t → ⊥
-no_wire before after honest cause t f e = subst (IsSetFault before after honest) e f
+pub no_wire : (modules before after : ℕ) (honest : Bool) (cause : StopCause) (t : ℕ) → IsSetFault modules before after honest cause → cause ≡ Wire t → ⊥
+no_wire modules before after honest cause t f e = subst (IsSetFault modules before after honest) e f
 
 -- those whose wires never fail have moved all words
 pub sure_moved : (sure : ℕ → Type 0) (rest : Store) (batch : List Transfer) (ts : List ℕ) (os ns : List BlockAt) (ms : List (ℕ × ℕ)) → HaveMoved sure rest batch ts os ns ms → All (λ (m : ℕ × ℕ). sure m.0 → m.1 ≡ rest.shape.words) ms

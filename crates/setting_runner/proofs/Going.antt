@@ -21,7 +21,12 @@ use Rattle.module_memory.proofs.StepLists.{counts_are_reached}
 use Rattle.link_graph.proofs.Once.{is_once}
 use Rattle.schedule_certificate.specs.Plans.{Plan}
 use Rattle.setting_runner.specs.Moves.{AreMovable, HaveMoved, none_sure, all_moved}
-use Rattle.setting_runner.specs.Runs.{IsPrepared, IsCompleted, IsStopped, HasOwnBays, numbers_of, words_of}
+use Rattle.crossbar.specs.Chips.{Switches}
+use Rattle.crossbar.specs.Pairs.{AreSwitchesOf, room_of, switch_of}
+use Rattle.crossbar.specs.declared.chip.Wiring.{Wiring}
+use Rattle.crossbar.specs.declared.pair.Pair.{Pair}
+use Rattle.setting_runner.specs.Runs.{AreSettingSwitches, IsPrepared, IsCompleted, IsStopped, HasOwnBays, numbers_of, setting_pairs, words_of}
+use Rattle.setting_runner.proofs.Joined.{same_switches}
 use Rattle.setting_runner.proofs.Causes.{names_moved, most_moved}
 use Rattle.setting_runner.proofs.Moves.{HaveMoved-length}
 use Rattle.setting_runner.proofs.Parts.{are_filled, length_part, movable_from, no_bay, part_at}
@@ -197,6 +202,20 @@ going_stops rest first bays part plan k a n ms b g h ea en moves =
       },
       w.rejoins,
     )
+
+-- the rack has the modules and blocks of the plan's batch
+pub rack_fits : (rest : Store) (first : List BlockAt) (plan : Plan) (batch : List Transfer) → IsPrepared rest first plan → batch ≡ plan.batch → FitsIn rest.shape batch
+rack_fits rest first plan batch b same =
+    subst (λ (x : List Transfer). FitsIn rest.shape x) (sym same) (subst (λ (x : Extent). FitsIn x plan.batch) (shape-joined rest first) b.ready.places)
+
+-- switches that are set to pairs which join what those of a setting do are the setting's
+pub setting_switches : (rest : Store) (first : List BlockAt) (plan : Plan) (k : ℕ) (batch : List Transfer) (numbers : List ℕ) (pairs : List Pair) (s : Switches) → IsPrepared rest first plan → batch ≡ plan.batch → numbers ≡ numbers_of plan k
+    → ((w : Wiring) → rest.shape.modules ≤ room_of w → switch_of w pairs ≡ switch_of w (setting_pairs batch numbers)) → AreSwitchesOf rest.shape.modules pairs s → AreSettingSwitches rest.shape plan k s
+setting_switches rest first plan k batch numbers pairs s b eb en joins is =
+    let modules : (joined rest first).shape.modules ≡ rest.shape.modules = ap (λ (x : Extent). x.modules) (shape-joined rest first) in
+    subst (λ (x : List Transfer). AreSwitchesOf rest.shape.modules (setting_pairs x (numbers_of plan k)) s) eb
+    (subst (λ (x : List ℕ). AreSwitchesOf rest.shape.modules (setting_pairs batch x) s) en
+    (same_switches rest.shape.modules pairs (setting_pairs batch numbers) s (omega (arith, modules, b.ready.whole.within.few_modules)) joins is))
 
 -- all settings are done
 pub going_completes : (rest : Store) (first bays : List BlockAt) (plan : Plan) (k : ℕ) → IsPrepared rest first plan → Going rest first bays plan k → length plan.settings ≤ k → (words : ℕ) → words ≡ length (concat (take k plan.settings)) * rest.shape.words

@@ -1,10 +1,14 @@
 -- The pairs of a setting: as the list of its transfers, and as a table by initiators.
-use Rattle.std.proofs.Common.{◌≡◌, ◌≢◌, ◌<◌, ◌≤◌, ◌+◌, ◌⊎◌, inl, inr, ℕ, true, cond, eqb, zero, suc, List, [], ◌∷◌, ◌++◌, map, length, take, get_or, set, replicate, length-set, refl, sym, ap, ap₂, ◌∙◌, subst, arith, Option, Some, None, get_or-set_same, get_or-set_other}
+use Rattle.std.proofs.Common.{◌≡◌, ◌≢◌, ◌<◌, ◌≤◌, ◌+◌, ◌⊎◌, inl, inr, ℕ, true, zero, suc, List, [], ◌∷◌, ◌++◌, map, length, take, get_or, set, replicate, length-set, refl, sym, ap, ap₂, ◌∙◌, subst, arith, Option, Some, None, get_or-set_same, get_or-set_other}
 use Rattle.std.specs.Prelude.{All}
 use Rattle.std.specs.Ordering.{nat_cmp}
-use Rattle.std.specs.Cmp.{nat_cmp_total, unsigned_tied}
+use Rattle.std.specs.Cmp.{nat_cmp_total}
 use Rattle.std.specs.List.{flat_map, AllByRecursion, slice_get}
 use Rattle.std.specs.FinMap.{find, get-from_entries}
+use Rattle.std.specs.Option.{option_or}
+use Rattle.c004_commands.specs.declared.port.TheConstants.{PORTS}
+use Rattle.module_memory.specs.Core.{FitsIn}
+use Rattle.setting_runner.proofs.Sources.{find_here, find_not, found_append}
 use Rattle.std.specs.Prelude.{sum_by}
 use Rattle.std.specs.List.{range_with_len}
 use Rattle.std.proofs.lemmas.Bool.{cases_eq, cases_lt}
@@ -17,14 +21,20 @@ use Rattle.std.proofs.lemmas.List.{take_more, length-map}
 use Rattle.std.proofs.lemmas.List.Elements.{All-head, All-tail, All-cons}
 use Rattle.batch.specs.declared.transfer.Transfer.{Transfer}
 use Rattle.batch.specs.Overlap.{transfer_at}
-use Rattle.batch.specs.Extent.{widest}
+use Rattle.batch.specs.Places.{HasPlace, source_of, destination_of}
+use Rattle.batch.specs.declared.transfer.Kind.{Kind}
+use Rattle.batch.specs.declared.transfer.Kind.TheVariants.{Push, Pull}
+use Rattle.batch.specs.Extent.{Extent, widest}
 use Rattle.batch.specs.Batches.{IsBatch}
 use Rattle.batch.specs.Text.{IsWithin}
 use Rattle.crossbar.specs.declared.switch.TheConstants.{JOINED_MODULES}
 use Rattle.crossbar.specs.Switch.{Sources}
-use Rattle.crossbar.specs.Pairs.{ArePairs, ends, switch_of}
+use Rattle.crossbar.specs.Chips.{Switches}
+use Rattle.crossbar.specs.Pairs.{ArePairs, AreSwitchesOf, room_of, ends, switch_of}
+use Rattle.crossbar.specs.declared.chip.Wiring.{Wiring}
+use Rattle.crossbar.specs.declared.chip.Wiring.TheVariants.{Both, Forth, Back}
 use Rattle.crossbar.specs.declared.pair.Pair.{Pair}
-use Rattle.crossbar.proofs.Latches.{same_sources, eqb_yes, eqb_no}
+use Rattle.crossbar.proofs.Latches.{same_sources}
 use Rattle.link_graph.specs.Uses.{AreApart, IsMatching, start_link, answer_link}
 use Rattle.link_graph.proofs.Sums.{later, first_with, hit, swap, sum_ones, sum_at_most}
 use Rattle.setting_runner.specs.Runs.{joined_pair, setting_pairs}
@@ -39,89 +49,109 @@ In p [] = ⊥
 In p (q ∷ qs) = (q ≡ p) ⊎ In p qs
 
 -- a pair gives an output its input
-abbrev Gives : Pair → ℕ → ℕ → Type 0
-Gives p o v = ((o ≡ p.initiator) × (v ≡ JOINED_MODULES + p.responder)) ⊎ ((o ≡ JOINED_MODULES + p.responder) × (v ≡ p.initiator))
+abbrev Gives : Wiring → Pair → ℕ → ℕ → Type 0
+Gives Both p o v = ((o ≡ p.initiator) × (v ≡ JOINED_MODULES + p.responder)) ⊎ ((o ≡ JOINED_MODULES + p.responder) × (v ≡ p.initiator))
+Gives Forth p o v = (o ≡ p.responder) × (v ≡ p.initiator)
+Gives Back p o v = (o ≡ p.initiator) × (v ≡ p.responder)
 
 -- ---- what is found among the ends of pairs
 
-found : List Pair → ℕ → Option ℕ
-found ps o = find nat_cmp o (flat_map ends ps)
+found : Wiring → List Pair → ℕ → Option ℕ
+found w ps o = find nat_cmp o (flat_map (ends w) ps)
 
-found_more : (p : Pair) (ps : List Pair) (o : ℕ) → found (p ∷ ps) o ≡ cond (eqb o p.initiator) (Some (JOINED_MODULES + p.responder)) (cond (eqb o (JOINED_MODULES + p.responder)) (Some p.initiator) (found ps o))
+found_more : (w : Wiring) (p : Pair) (ps : List Pair) (o : ℕ) → found w (p ∷ ps) o ≡ option_or (find nat_cmp o (ends w p)) (found w ps o)
 unfolding found
-found_more p ps o = ap₂ (λ a b. cond a (Some (JOINED_MODULES + p.responder)) (cond b (Some p.initiator) (find nat_cmp o (flat_map ends ps)))) (unsigned_tied o p.initiator) (unsigned_tied o (JOINED_MODULES + p.responder))
-
-found_first : (p : Pair) (ps : List Pair) (o : ℕ) → o ≡ p.initiator → found (p ∷ ps) o ≡ Some (JOINED_MODULES + p.responder)
-found_first p ps o e = found_more p ps o ∙ ap (λ b. cond b (Some (JOINED_MODULES + p.responder)) (cond (eqb o (JOINED_MODULES + p.responder)) (Some p.initiator) (found ps o))) (eqb_yes o p.initiator e)
-
-found_second : (p : Pair) (ps : List Pair) (o : ℕ) → o ≢ p.initiator → o ≡ JOINED_MODULES + p.responder → found (p ∷ ps) o ≡ Some p.initiator
-found_second p ps o n e =
-    found_more p ps o ∙ ap₂ (λ a b. cond a (Some (JOINED_MODULES + p.responder)) (cond b (Some p.initiator) (found ps o))) (eqb_no o p.initiator n) (eqb_yes o (JOINED_MODULES + p.responder) e)
-
-found_past : (p : Pair) (ps : List Pair) (o : ℕ) → o ≢ p.initiator → o ≢ JOINED_MODULES + p.responder → found (p ∷ ps) o ≡ found ps o
-found_past p ps o n m =
-    found_more p ps o ∙ ap₂ (λ a b. cond a (Some (JOINED_MODULES + p.responder)) (cond b (Some p.initiator) (found ps o))) (eqb_no o p.initiator n) (eqb_no o (JOINED_MODULES + p.responder) m)
+found_more w p ps o = found_append o (ends w p) (flat_map (ends w) ps)
 
 some_inj : (x y : ℕ) → Some x ≡ Some y → x ≡ y
 some_inj x y e = cc
 
-found_in : (ps : List Pair) (o v : ℕ) → found ps o ≡ Some v → (p : Pair) × In p ps × Gives p o v
-unfolding found
-found_in [] o v e = absurd cc
-found_in (p ∷ ps) o v e = elim (cases_eq o p.initiator) [
-  | inl a ↦ (p, inl refl, inl (a, some_inj _ _ (sym e ∙ found_first p ps o a)))
+none_some : (x : ℕ) → None ≡ Some x → ⊥
+none_some x e = absurd cc
+
+-- what is found among a pair's own ends it gives
+own_gives : (w : Wiring) (p : Pair) (o v : ℕ) → find nat_cmp o (ends w p) ≡ Some v → Gives w p o v
+own_gives Both p o v e = elim (cases_eq o p.initiator) [
+  | inl a ↦ inl (a, some_inj _ _ (sym e ∙ find_here o p.initiator (JOINED_MODULES + p.responder) ((JOINED_MODULES + p.responder, p.initiator) ∷ []) a))
   | inr a ↦ elim (cases_eq o (JOINED_MODULES + p.responder)) [
-    | inl b ↦ (p, inl refl, inr (b, some_inj _ _ (sym e ∙ found_second p ps o a b)))
-    | inr b ↦ let r = found_in ps o v (sym (found_past p ps o a b) ∙ e) in (r.0, inr r.1, r.2)
+    | inl b ↦ inr (b, some_inj _ _ (sym e ∙ find_not o p.initiator (JOINED_MODULES + p.responder) ((JOINED_MODULES + p.responder, p.initiator) ∷ []) a ∙ find_here o (JOINED_MODULES + p.responder) p.initiator [] b))
+    | inr b ↦ absurd (none_some v (sym (find_not o p.initiator (JOINED_MODULES + p.responder) ((JOINED_MODULES + p.responder, p.initiator) ∷ []) a ∙ find_not o (JOINED_MODULES + p.responder) p.initiator [] b) ∙ e))
   ]
 ]
+own_gives Forth p o v e = elim (cases_eq o p.responder) [
+  | inl a ↦ (a, some_inj _ _ (sym e ∙ find_here o p.responder p.initiator [] a))
+  | inr a ↦ absurd (none_some v (sym (find_not o p.responder p.initiator [] a) ∙ e))
+]
+own_gives Back p o v e = elim (cases_eq o p.initiator) [
+  | inl a ↦ (a, some_inj _ _ (sym e ∙ find_here o p.initiator p.responder [] a))
+  | inr a ↦ absurd (none_some v (sym (find_not o p.initiator p.responder [] a) ∙ e))
+]
+
+-- where it gives an output an input, something is found
+gives_some : (w : Wiring) (p : Pair) (o v : ℕ) → Gives w p o v → find nat_cmp o (ends w p) ≡ None → ⊥
+gives_some Both p o v g e = elim g [
+  | inl x ↦ none_some _ (sym e ∙ find_here o p.initiator (JOINED_MODULES + p.responder) ((JOINED_MODULES + p.responder, p.initiator) ∷ []) x.0)
+  | inr x ↦ elim (cases_eq o p.initiator) [
+    | inl a ↦ none_some _ (sym e ∙ find_here o p.initiator (JOINED_MODULES + p.responder) ((JOINED_MODULES + p.responder, p.initiator) ∷ []) a)
+    | inr a ↦ none_some _ (sym e ∙ find_not o p.initiator (JOINED_MODULES + p.responder) ((JOINED_MODULES + p.responder, p.initiator) ∷ []) a ∙ find_here o (JOINED_MODULES + p.responder) p.initiator [] x.0)
+  ]
+]
+gives_some Forth p o v g e = none_some _ (sym e ∙ find_here o p.responder p.initiator [] g.0)
+gives_some Back p o v g e = none_some _ (sym e ∙ find_here o p.initiator p.responder [] g.0)
+
+found_in : (w : Wiring) (ps : List Pair) (o v : ℕ) → found w ps o ≡ Some v → (p : Pair) × In p ps × Gives w p o v
+unfolding found
+found_in w [] o v e = absurd cc
+found_in w (p ∷ ps) o v e = elim (find nat_cmp o (ends w p)) as (λ r. find nat_cmp o (ends w p) ≡ r → (q : Pair) × In q (p ∷ ps) × Gives w q o v) [
+  | None ↦ λ none. let r = found_in w ps o v (sym (found_more w p ps o ∙ ap (λ x. option_or x (found w ps o)) none) ∙ e) in (r.0, inr r.1, r.2)
+  | Some x ↦ λ some. (p, inl refl, own_gives w p o v (some ∙ sym (found_more w p ps o ∙ ap (λ x. option_or x (found w ps o)) some) ∙ e))
+] refl
 
 -- pairs that agree on an output give it what one of them does
-in_found : (ps : List Pair) (o v : ℕ) (p : Pair) → In p ps → Gives p o v → ((q : Pair) (w : ℕ) → In q ps → Gives q o w → w ≡ v) → found ps o ≡ Some v
-in_found [] o v p i h one = absurd i
-in_found (q ∷ qs) o v p i h one = elim (cases_eq o q.initiator) [
-  | inl a ↦ found_first q qs o a ∙ ap (λ (x : ℕ). Some x) (one q (JOINED_MODULES + q.responder) (inl refl) (inl (a, refl)))
-  | inr a ↦ elim (cases_eq o (JOINED_MODULES + q.responder)) [
-    | inl b ↦ found_second q qs o a b ∙ ap (λ (x : ℕ). Some x) (one q q.initiator (inl refl) (inr (b, refl)))
-    | inr b ↦ elim i [
-      | inl e ↦ absurd (elim (subst (λ (x : Pair). Gives x o v) (sym e) h) [ inl c ↦ a c.0 | inr c ↦ b c.0 ])
-      | inr k ↦ found_past q qs o a b ∙ in_found qs o v p k h (λ x w y. one x w (inr y))
-    ]
+in_found : (w : Wiring) (ps : List Pair) (o v : ℕ) (p : Pair) → In p ps → Gives w p o v → ((q : Pair) (x : ℕ) → In q ps → Gives w q o x → x ≡ v) → found w ps o ≡ Some v
+in_found w [] o v p i h one = absurd i
+in_found w (q ∷ qs) o v p i h one = elim (find nat_cmp o (ends w q)) as (λ r. find nat_cmp o (ends w q) ≡ r → found w (q ∷ qs) o ≡ Some v) [
+  | Some x ↦ λ some. found_more w q qs o ∙ ap (λ y. option_or y (found w qs o)) some ∙ ap (λ (y : ℕ). Some y) (one q x (inl refl) (own_gives w q o x some))
+  | None ↦ λ none. found_more w q qs o ∙ ap (λ y. option_or y (found w qs o)) none ∙ elim i [
+    | inl e ↦ absurd (gives_some w q o v (subst (λ (x : Pair). Gives w x o v) (sym e) h) none)
+    | inr k ↦ in_found w qs o v p k h (λ x y j. one x y (inr j))
   ]
-]
+] refl
 
--- pairs that a switch can have joined at once, in any order
-pub record AreJoinable (ps : List Pair) : Type 0 where
-  pub low : (p : Pair) → In p ps → (p.initiator < JOINED_MODULES) × (p.responder < JOINED_MODULES)
+-- pairs among so many modules that can be joined at once, in any order
+pub record AreJoinable (modules : ℕ) (ps : List Pair) : Type 0 where
+  pub low : (p : Pair) → In p ps → (p.initiator < modules) × (p.responder < modules)
   pub one_responder : (p q : Pair) → In p ps → In q ps → p.initiator ≡ q.initiator → p.responder ≡ q.responder
   pub one_initiator : (p q : Pair) → In p ps → In q ps → p.responder ≡ q.responder → p.initiator ≡ q.initiator
 
-one_given : (ps : List Pair) (o v w : ℕ) (p q : Pair) → AreJoinable ps → In p ps → In q ps → Gives p o v → Gives q o w → w ≡ v
-one_given ps o v w p q a i j g h = elim g [
-  | inl x ↦ elim h [
-    | inl y ↦ omega (arith, x.0, x.1, y.0, y.1, a.one_responder p q i j (sym x.0 ∙ y.0))
-    | inr y ↦ absurd (omega (arith, x.0, y.0, (a.low p i).0))
+one_given : (w : Wiring) (m : ℕ) (ps : List Pair) (o v x : ℕ) (p q : Pair) → m ≤ room_of w → AreJoinable m ps → In p ps → In q ps → Gives w p o v → Gives w q o x → x ≡ v
+one_given Both m ps o v x p q fits a i j g h = elim g [
+  | inl y ↦ elim h [
+    | inl z ↦ omega (arith, y.0, y.1, z.0, z.1, a.one_responder p q i j (sym y.0 ∙ z.0))
+    | inr z ↦ absurd (omega (arith, y.0, z.0, (a.low p i).0))
   ]
-  | inr x ↦ elim h [
-    | inl y ↦ absurd (omega (arith, x.0, y.0, (a.low q j).0))
-    | inr y ↦ let same : p.responder ≡ q.responder = omega (arith, x.0, y.0) in omega (arith, x.1, y.1, a.one_initiator p q i j same)
+  | inr y ↦ elim h [
+    | inl z ↦ absurd (omega (arith, y.0, z.0, (a.low q j).0))
+    | inr z ↦ let same : p.responder ≡ q.responder = omega (arith, y.0, z.0) in omega (arith, y.1, z.1, a.one_initiator p q i j same)
   ]
 ]
+one_given Forth m ps o v x p q fits a i j g h = h.1 ∙ sym (a.one_initiator p q i j (sym g.0 ∙ h.0)) ∙ sym g.1
+one_given Back m ps o v x p q fits a i j g h = h.1 ∙ sym (a.one_responder p q i j (sym g.0 ∙ h.0)) ∙ sym g.1
 
-same_found : (ps qs : List Pair) (o : ℕ) → AreJoinable ps → AreJoinable qs → ((p : Pair) → In p ps → In p qs) → ((p : Pair) → In p qs → In p ps) → found ps o ≡ found qs o
-same_found ps qs o a b to from = elim (found ps o) as (λ r. found ps o ≡ r → r ≡ found qs o) [
-  | None ↦ λ e. elim (found qs o) as (λ r. found qs o ≡ r → None ≡ r) [
+same_found : (w : Wiring) (m : ℕ) (ps qs : List Pair) (o : ℕ) → m ≤ room_of w → AreJoinable m ps → AreJoinable m qs → ((p : Pair) → In p ps → In p qs) → ((p : Pair) → In p qs → In p ps) → found w ps o ≡ found w qs o
+same_found w m ps qs o fits a b to from = elim (found w ps o) as (λ r. found w ps o ≡ r → r ≡ found w qs o) [
+  | None ↦ λ e. elim (found w qs o) as (λ r. found w qs o ≡ r → None ≡ r) [
     | None ↦ λ f. refl
-    | Some w ↦ λ f. let x = found_in qs o w f in sym e ∙ in_found ps o w x.0 (from x.0 x.1) x.2 (λ q v i g. one_given ps o w v x.0 q a (from x.0 x.1) i x.2 g)
+    | Some y ↦ λ f. let x = found_in w qs o y f in sym e ∙ in_found w ps o y x.0 (from x.0 x.1) x.2 (λ q v i g. one_given w m ps o y v x.0 q fits a (from x.0 x.1) i x.2 g)
   ] refl
-  | Some v ↦ λ e. let x = found_in ps o v e in sym (in_found qs o v x.0 (to x.0 x.1) x.2 (λ q w i g. one_given qs o v w x.0 q b (to x.0 x.1) i x.2 g))
+  | Some v ↦ λ e. let x = found_in w ps o v e in sym (in_found w qs o v x.0 (to x.0 x.1) x.2 (λ q y i g. one_given w m qs o v y x.0 q fits b (to x.0 x.1) i x.2 g))
 ] refl
 
 -- pairs in another order join the same
-pub same_switch : (ps qs : List Pair) → AreJoinable ps → AreJoinable qs → ((p : Pair) → In p ps → In p qs) → ((p : Pair) → In p qs → In p ps) → switch_of ps ≡ switch_of qs
+pub same_switch : (w : Wiring) (m : ℕ) (ps qs : List Pair) → m ≤ room_of w → AreJoinable m ps → AreJoinable m qs → ((p : Pair) → In p ps → In p qs) → ((p : Pair) → In p qs → In p ps) → switch_of w ps ≡ switch_of w qs
 unfolding found
-same_switch ps qs a b to from =
-    ap (λ (m : Sources). record { sources = m; ready = true }) (same_sources _ _ (λ o. get-from_entries nat_cmp_total (flat_map ends ps) o ∙ same_found ps qs o a b to from ∙ sym (get-from_entries nat_cmp_total (flat_map ends qs) o)))
+same_switch w m ps qs fits a b to from =
+    ap (λ (m : Sources). record { sources = m; ready = true }) (same_sources _ _ (λ o. get-from_entries nat_cmp_total (flat_map (ends w) ps) o ∙ same_found w m ps qs o fits a b to from ∙ sym (get-from_entries nat_cmp_total (flat_map (ends w) qs) o)))
 
 -- ---- the pairs of a setting
 
@@ -196,16 +226,33 @@ one_initiator batch (t ∷ ts) p q k m i j e =
       ]
     ]
 
-low_pairs : (batch : List Transfer) (ts : List ℕ) (p : Pair) → IsBatch batch → All (λ u. u < length batch) ts → In p (setting_pairs batch ts) → (p.initiator < JOINED_MODULES) × (p.responder < JOINED_MODULES)
-low_pairs batch [] p b k i = absurd i
-low_pairs batch (t ∷ ts) p b k i = elim i [
-  | inl e ↦ subst (λ (x : Pair). (x.initiator < JOINED_MODULES) × (x.responder < JOINED_MODULES)) e (within_at batch t b (All-head (λ u. u < length batch) t ts k)).0
-  | inr more ↦ low_pairs batch ts p b (All-tail (λ u. u < length batch) t ts k) more
+-- a transfer names modules below a limit
+abbrev NamesBelow : ℕ → Transfer → Type 0
+NamesBelow modules x = (x.initiator < modules) × (x.responder < modules)
+
+names_within : (batch : List Transfer) → IsBatch batch → (t : ℕ) → t < length batch → NamesBelow MAX_MODULES (transfer_at batch t)
+names_within batch b t h = (within_at batch t b h).0
+
+names_by : (kind : Kind) (shape : Extent) (i b r c : ℕ) → HasPlace shape (source_of (record { kind = kind; initiator = i; own_block = b; responder = r; far_block = c }))
+    → HasPlace shape (destination_of (record { kind = kind; initiator = i; own_block = b; responder = r; far_block = c })) → (i < shape.modules) × (r < shape.modules)
+names_by Push shape i b r c source destination = (source.in_modules, destination.in_modules)
+names_by Pull shape i b r c source destination = (destination.in_modules, source.in_modules)
+
+names_fit : (shape : Extent) (batch : List Transfer) → FitsIn shape batch → (t : ℕ) → t < length batch → NamesBelow shape.modules (transfer_at batch t)
+names_fit shape batch fits t h =
+    let x = transfer_at batch t in
+    names_by x.kind shape x.initiator x.own_block x.responder x.far_block (fits t h).0 (fits t h).1
+
+low_pairs : (m : ℕ) (batch : List Transfer) (ts : List ℕ) (p : Pair) → ((t : ℕ) → t < length batch → NamesBelow m (transfer_at batch t)) → All (λ u. u < length batch) ts → In p (setting_pairs batch ts) → (p.initiator < m) × (p.responder < m)
+low_pairs m batch [] p b k i = absurd i
+low_pairs m batch (t ∷ ts) p b k i = elim i [
+  | inl e ↦ subst (λ (x : Pair). (x.initiator < m) × (x.responder < m)) e (b t (All-head (λ u. u < length batch) t ts k))
+  | inr more ↦ low_pairs m batch ts p b (All-tail (λ u. u < length batch) t ts k) more
 ]
 
-pub setting_joinable : (batch : List Transfer) (ts : List ℕ) → IsBatch batch → All (λ u. u < length batch) ts → IsMatching batch ts → AreJoinable (setting_pairs batch ts)
-setting_joinable batch ts b k m = record {
-  low = λ p i. low_pairs batch ts p b k i;
+setting_joinable : (shape : Extent) (batch : List Transfer) (ts : List ℕ) → FitsIn shape batch → All (λ u. u < length batch) ts → IsMatching batch ts → AreJoinable shape.modules (setting_pairs batch ts)
+setting_joinable shape batch ts fits k m = record {
+  low = λ p i. low_pairs shape.modules batch ts p (names_fit shape batch fits) k i;
   one_responder = λ p q i j e. one_responder batch ts p q k m i j e;
   one_initiator = λ p q i j e. one_initiator batch ts p q k m i j e;
 }
@@ -214,7 +261,7 @@ setting_joinable batch ts b k m = record {
 
 -- the table has the pairs of these transfers
 pub record IsTableOf (batch : List Transfer) (ts : List ℕ) (table : List (Option ℕ)) : Type 0 where
-  pub size : length table ≡ JOINED_MODULES
+  pub size : length table ≡ MAX_MODULES
   pub sound : (i r : ℕ) → get_or table i None ≡ Some r → In (joined i r) (setting_pairs batch ts)
   pub whole : (i r : ℕ) → In (joined i r) (setting_pairs batch ts) → get_or table i None ≡ Some r
 
@@ -247,7 +294,7 @@ table_more batch ts k t table x b known matching h et ex is =
     let now : setting_pairs batch (take (k + 1) ts) ≡ setting_pairs batch (take k ts) ++ p ∷ [] =
     ap (setting_pairs batch) (take_more ts k 0 h) ∙ pairs_push batch (take k ts) (get_or ts k 0) ∙ ap (λ (u : ℕ). setting_pairs batch (take k ts) ++ joined_pair (transfer_at batch u) ∷ []) et ∙ ap (λ (y : Transfer). setting_pairs batch (take k ts) ++ joined_pair y ∷ []) ex in
     let last : In p (setting_pairs batch (take (k + 1) ts)) = subst (In p) (sym now) (push_in (setting_pairs batch (take k ts)) p p (inr refl)) in
-    let low : x.initiator < JOINED_MODULES = (low_pairs batch ts p b known (in_front batch ts (k + 1) p last)).0 in
+    let low : x.initiator < MAX_MODULES = (low_pairs MAX_MODULES batch ts p (names_within batch b) known (in_front batch ts (k + 1) p last)).0 in
     let room : x.initiator < length table = omega (arith, is.size) in
     record {
       size = length-set table x.initiator (Some x.responder) ∙ is.size;
@@ -300,10 +347,10 @@ all_in P [] f = tt
 all_in P (p ∷ ps) f = (f p (inl refl), all_in P ps (λ q i. f q (inr i)))
 
 -- the pairs of a table ascend
-ascending : (m : ℕ) (table : List (Option ℕ)) → AreJoinable (table_pairs m table) → ArePairs (table_pairs m table)
-ascending m [] a = tt
-ascending m (None ∷ table) a = ascending (m + 1) table a
-ascending m (Some v ∷ table) a =
+ascending : (n m : ℕ) (table : List (Option ℕ)) → AreJoinable n (table_pairs m table) → ArePairs n (table_pairs m table)
+ascending n m [] a = tt
+ascending n m (None ∷ table) a = ascending n (m + 1) table a
+ascending n m (Some v ∷ table) a =
     let first = joined m v in
     let rest = table_pairs (m + 1) table in
     let low = a.low first (inl refl) in (
@@ -311,7 +358,7 @@ ascending m (Some v ∷ table) a =
       low.1,
       all_above m (m + 1) table (omega arith),
       all_in (λ q. v ≢ q.responder) rest (λ q i e. (let same = a.one_initiator first q (inl refl) (inr i) e in let r = table_in (m + 1) table q i in omega (arith, same, r.1))),
-      ascending (m + 1) table (record {
+      ascending n (m + 1) table (record {
         low = λ p i. a.low p (inr i);
         one_responder = λ p q i j e. a.one_responder p q (inr i) (inr j) e;
         one_initiator = λ p q i j e. a.one_initiator p q (inr i) (inr j) e;
@@ -327,19 +374,32 @@ table_members batch ts table p is i =
 setting_members : (batch : List Transfer) (ts : List ℕ) (table : List (Option ℕ)) (p : Pair) → IsTableOf batch ts table → In p (setting_pairs batch ts) → In p (table_pairs 0 table)
 setting_members batch ts table p is i = in_table 0 table p.initiator p.initiator p.responder (omega arith) (is.whole p.initiator p.responder i)
 
-table_joinable : (batch : List Transfer) (ts : List ℕ) (table : List (Option ℕ)) → IsTableOf batch ts table → AreJoinable (setting_pairs batch ts) → AreJoinable (table_pairs 0 table)
-table_joinable batch ts table is a = record {
+table_joinable : (m : ℕ) (batch : List Transfer) (ts : List ℕ) (table : List (Option ℕ)) → IsTableOf batch ts table → AreJoinable m (setting_pairs batch ts) → AreJoinable m (table_pairs 0 table)
+table_joinable m batch ts table is a = record {
   low = λ p i. a.low p (table_members batch ts table p is i);
   one_responder = λ p q i j e. a.one_responder p q (table_members batch ts table p is i) (table_members batch ts table q is j) e;
   one_initiator = λ p q i j e. a.one_initiator p q (table_members batch ts table p is i) (table_members batch ts table q is j) e;
 }
 
-pub table_is_pairs : (batch : List Transfer) (ts : List ℕ) (table : List (Option ℕ)) → IsTableOf batch ts table → AreJoinable (setting_pairs batch ts) → ArePairs (table_pairs 0 table)
-table_is_pairs batch ts table is a = ascending 0 table (table_joinable batch ts table is a)
+-- in a rack that has the batch's modules, the pairs of a table of a setting are pairs of that rack
+pub table_is_pairs : (shape : Extent) (batch : List Transfer) (ts : List ℕ) (table : List (Option ℕ)) → IsTableOf batch ts table → All (λ u. u < length batch) ts → IsMatching batch ts → FitsIn shape batch → ArePairs shape.modules (table_pairs 0 table)
+table_is_pairs shape batch ts table is k m fits =
+    ascending shape.modules 0 table (table_joinable shape.modules batch ts table is (setting_joinable shape batch ts fits k m))
 
-pub table_is_switch : (batch : List Transfer) (ts : List ℕ) (table : List (Option ℕ)) → IsTableOf batch ts table → AreJoinable (setting_pairs batch ts) → switch_of (table_pairs 0 table) ≡ switch_of (setting_pairs batch ts)
-table_is_switch batch ts table is a =
-    same_switch (table_pairs 0 table) (setting_pairs batch ts) (table_joinable batch ts table is a) a (λ p i. table_members batch ts table p is i) (λ p i. setting_members batch ts table p is i)
+-- and they join what the setting's pairs do
+pub table_is_switch : (shape : Extent) (w : Wiring) (batch : List Transfer) (ts : List ℕ) (table : List (Option ℕ)) → IsTableOf batch ts table → All (λ u. u < length batch) ts → IsMatching batch ts → FitsIn shape batch → shape.modules ≤ room_of w
+    → switch_of w (table_pairs 0 table) ≡ switch_of w (setting_pairs batch ts)
+table_is_switch shape w batch ts table is k m fits room =
+    let a = setting_joinable shape batch ts fits k m in
+    same_switch w shape.modules (table_pairs 0 table) (setting_pairs batch ts) room (table_joinable shape.modules batch ts table is a) a (λ p i. table_members batch ts table p is i) (λ p i. setting_members batch ts table p is i)
+
+-- the switches of one list of pairs are those of another that joins the same
+pub same_switches : (m : ℕ) (ps qs : List Pair) (s : Switches) → m ≤ PORTS → ((w : Wiring) → m ≤ room_of w → switch_of w ps ≡ switch_of w qs) → AreSwitchesOf m ps s → AreSwitchesOf m qs s
+same_switches m ps qs s few same is = record {
+  narrow = λ h. is.narrow h ∙ same Both h;
+  wide_a = λ h. is.wide_a h ∙ same Forth few;
+  wide_b = λ h. is.wide_b h ∙ same Back few;
+}
 
 -- an empty table
 pub table_none : (batch : List Transfer) (n i r : ℕ) → get_or (replicate n None) i None ≡ Some r → ⊥

@@ -1,5 +1,5 @@
 -- What an honest port replies to the enquiries.
-use Rattle.std.proofs.Common.{◌≡◌, ◌<◌, ◌≤◌, ◌+◌, ℕ, Bool, true, false, IsTrue, zero, suc, List, map, get_or, refl, sym, ap, ◌∙◌, arith, Option, Some, None}
+use Rattle.std.proofs.Common.{◌≡◌, ◌<◌, ◌≤◌, ◌+◌, ℕ, Bool, true, false, IsTrue, zero, suc, List, [], ◌∷◌, map, get_or, refl, sym, ap, ◌∙◌, arith, Option, Some, None}
 use Rattle.std.specs.List.{range_with_len}
 use Rattle.std.specs.Option.{IfSome, option_eq}
 use Rattle.std.specs.Prelude.{◌↔◌}
@@ -12,7 +12,11 @@ use Rattle.c004_commands.specs.declared.command.Command.TheVariants.{Enquire}
 use Rattle.c004_commands.specs.Commands.{AreCommands, text}
 use Rattle.c004_commands.specs.Answers.{answer_byte}
 use Rattle.crossbar.specs.Switch.{Switch, after_all, answers}
-use Rattle.crossbar.specs.Port.{CarriesOut}
+use Rattle.crossbar.specs.Chips.{Switches, switch_at, put_switch, CarriesOutAt}
+use Rattle.crossbar.specs.Pairs.{ArePairs}
+use Rattle.crossbar.specs.declared.chip.Chip.{Chip}
+use Rattle.crossbar.specs.declared.chip.Chip.TheVariants.{A, B}
+use Rattle.crossbar.specs.declared.pair.Pair.{Pair}
 use Rattle.setting_runner.specs.Pairs.{Turns, all_enquiries}
 use Rattle.setting_runner.specs.Answers.{Reports, Agrees}
 use Rattle.c004_commands.specs.declared.port.TheConstants.{PORTS}
@@ -44,21 +48,29 @@ pub all_report : (s : Switch) (output : ℕ) (replies : List ℕ) → output < P
 all_report s output replies h e =
     reports (finmap.get s.sources output) (get_or replies output 0) (ap (λ (r : List ℕ). get_or r output 0) e ∙ some_answers 0 PORTS output s h ∙ ap (λ i. answer_byte (finmap.get s.sources i)) (omega arith))
 
-pub not_honest : (b : Bool) → (IsTrue b → ⊥) → b ≡ false
-not_honest true h = absurd (h refl)
-not_honest false h = refl
-
 pub some_too : {X : Type 0} (P Q : X → Type 0) (o : Option X) → ((x : X) → P x → Q x) → IfSome o P → IfSome o Q
 some_too P Q None f h = tt
 some_too P Q (Some x) f h = f x h
 
--- a port that carried out the bytes that turn a switch, and then the enquiries
-pub carried : (bytes : List ℕ) (old mid new goal_switch : Switch) (none replies enquiries : List ℕ) → Turns bytes old goal_switch → CarriesOut bytes old mid none → enquiries ≡ text all_enquiries → CarriesOut enquiries mid new replies → (new ≡ goal_switch) × (replies ≡ answers all_enquiries goal_switch)
-carried bytes old mid new goal_switch none replies enquiries t first e second =
-    let a = first t.commands t.ports t.whole in
-    let is : mid ≡ goal_switch = a.0 ∙ t.turned in
-    let b = second all_enquiries all_ports e in
-    (b.0 ∙ enquiries_leave mid ∙ is, b.1 ∙ ap (answers all_enquiries) is)
+put_same : (chip : Chip) (s : Switches) → put_switch chip (switch_at chip s) s ≡ s
+put_same A s = refl
+put_same B s = refl
+
+-- a port that carried out the bytes that turn a switch
+pub sent : (chip : Chip) (bytes : List ℕ) (old new : Switches) (goal_switch : Switch) (replies : List ℕ) → Turns bytes (switch_at chip old) goal_switch → CarriesOutAt chip bytes old new replies → new ≡ put_switch chip goal_switch old
+sent chip bytes old new goal_switch replies t did = (did t.commands t.ports t.whole).0 ∙ ap (λ (s : Switch). put_switch chip s old) t.turned
+
+-- a port that carried out the enquiries
+pub asked : (chip : Chip) (bytes : List ℕ) (old new : Switches) (replies : List ℕ) → bytes ≡ text all_enquiries → CarriesOutAt chip bytes old new replies → (new ≡ old) × (replies ≡ answers all_enquiries (switch_at chip old))
+asked chip bytes old new replies e did =
+    let b = did all_enquiries all_ports e in
+    (b.0 ∙ ap (λ (s : Switch). put_switch chip s old) (enquiries_leave (switch_at chip old)) ∙ put_same chip old, b.1)
+
+-- ---- the switches of a rack
+
+pub more_pairs : (m n : ℕ) (ps : List Pair) → m ≤ n → ArePairs m ps → ArePairs n ps
+more_pairs m n [] h a = tt
+more_pairs m n (p ∷ ps) h a = (omega (arith, a.0), omega (arith, a.1), a.2, a.3, more_pairs m n ps h a.4)
 
 -- ---- a reply that was read
 

@@ -1,19 +1,17 @@
 -- The input that pairs give to an output.
-use Rattle.std.proofs.Common.{◌≡◌, ◌≢◌, ◌<◌, ◌≤◌, ◌+◌, ℕ, true, false, cond, eqb, List, ◌∷◌, length, get_or, drop, sym, ap, ap₂, ◌∙◌, arith, Option, Some, None}
+use Rattle.std.proofs.Common.{◌≡◌, ◌≢◌, ◌<◌, ◌≤◌, ◌+◌, ℕ, Bool, true, false, cond, eqb, List, [], ◌∷◌, ◌++◌, length, get_or, drop, refl, sym, ap, ◌∙◌, arith, Option, Some, None}
+use Rattle.std.specs.Option.{option_or}
 use Rattle.std.specs.Ordering.{nat_cmp}
 use Rattle.std.specs.Cmp.{nat_cmp_total, unsigned_tied}
 use Rattle.std.specs.List.{flat_map}
 use Rattle.std.specs.FinMap.{find, get, get-from_entries}
 use Rattle.crossbar.specs.Pairs.{ends, switch_of}
-use Rattle.crossbar.specs.declared.switch.TheConstants.{JOINED_MODULES}
+use Rattle.crossbar.specs.declared.chip.Wiring.{Wiring}
 use Rattle.std.proofs.lemmas.List.{drop_all, drop_more}
 use Rattle.crossbar.specs.declared.pair.Pair.{Pair}
 
-found : List Pair → ℕ → Option ℕ
-found ps o = find nat_cmp o (flat_map ends ps)
-
-pub found_is : (ps : List Pair) (o : ℕ) → find nat_cmp o (flat_map ends ps) ≡ get (switch_of ps).sources o
-found_is ps o = sym (get-from_entries nat_cmp_total (flat_map ends ps) o)
+pub found_is : (w : Wiring) (ps : List Pair) (o : ℕ) → find nat_cmp o (flat_map (ends w) ps) ≡ get (switch_of w ps).sources o
+found_is w ps o = sym (get-from_entries nat_cmp_total (flat_map (ends w) ps) o)
 
 yes : (a b : ℕ) → a ≡ b → eqb a b ≡ true
 yes a b e = grind arith
@@ -21,30 +19,25 @@ yes a b e = grind arith
 no : (a b : ℕ) → a ≢ b → eqb a b ≡ false
 no a b n = grind arith
 
-found_more : (p : Pair) (ps : List Pair) (o : ℕ) → found (p ∷ ps) o ≡ cond (eqb o p.initiator) (Some (JOINED_MODULES + p.responder)) (cond (eqb o (JOINED_MODULES + p.responder)) (Some p.initiator) (found ps o))
-unfolding found
-found_more p ps o = ap₂ (λ a b. cond a (Some (JOINED_MODULES + p.responder)) (cond b (Some p.initiator) (find nat_cmp o (flat_map ends ps)))) (unsigned_tied o p.initiator) (unsigned_tied o (JOINED_MODULES + p.responder))
+pub find_here : (q k v : ℕ) (es : List (ℕ × ℕ)) → q ≡ k → find nat_cmp q ((k, v) ∷ es) ≡ Some v
+find_here q k v es e = ap (λ b. cond b (Some v) (find nat_cmp q es)) (unsigned_tied q k ∙ yes q k e)
 
-pub found_initiator : (ps : List Pair) (i : ℕ) (d : Pair) (o : ℕ) → i < length ps → o ≡ (get_or ps i d).initiator → find nat_cmp o (flat_map ends (drop i ps)) ≡ Some (JOINED_MODULES + (get_or ps i d).responder)
-unfolding found
-found_initiator ps i d o h e =
-    let p : Pair = get_or ps i d in
-    ap (λ (x : List Pair). found x o) (drop_more ps i d h) ∙ found_more p (drop (i + 1) ps) o ∙ ap (λ b. cond b (Some (JOINED_MODULES + p.responder)) (cond (eqb o (JOINED_MODULES + p.responder)) (Some p.initiator) (found (drop (i + 1) ps) o))) (yes o p.initiator e)
+pub find_not : (q k v : ℕ) (es : List (ℕ × ℕ)) → q ≢ k → find nat_cmp q ((k, v) ∷ es) ≡ find nat_cmp q es
+find_not q k v es n = ap (λ b. cond b (Some v) (find nat_cmp q es)) (unsigned_tied q k ∙ no q k n)
 
-pub found_responder : (ps : List Pair) (i : ℕ) (d : Pair) (o : ℕ) → i < length ps → o ≢ (get_or ps i d).initiator → o ≡ JOINED_MODULES + (get_or ps i d).responder → find nat_cmp o (flat_map ends (drop i ps)) ≡ Some (get_or ps i d).initiator
-unfolding found
-found_responder ps i d o h n e =
-    let p : Pair = get_or ps i d in
-    ap (λ (x : List Pair). found x o) (drop_more ps i d h) ∙ found_more p (drop (i + 1) ps) o
-    ∙ ap₂ (λ a b. cond a (Some (JOINED_MODULES + p.responder)) (cond b (Some p.initiator) (found (drop (i + 1) ps) o))) (no o p.initiator n) (yes o (JOINED_MODULES + p.responder) e)
+some_first : (b : Bool) (x : ℕ) (f g h : Option ℕ) → f ≡ option_or g h → cond b (Some x) f ≡ option_or (cond b (Some x) g) h
+some_first true x f g h e = refl
+some_first false x f g h e = e
 
-pub found_later : (ps : List Pair) (i : ℕ) (d : Pair) (o : ℕ) → i < length ps → o ≢ (get_or ps i d).initiator → o ≢ JOINED_MODULES + (get_or ps i d).responder → find nat_cmp o (flat_map ends (drop i ps)) ≡ find nat_cmp o (flat_map ends ((drop (i + 1) ps)))
-unfolding found
-found_later ps i d o h n m =
-    let p : Pair = get_or ps i d in
-    ap (λ (x : List Pair). found x o) (drop_more ps i d h) ∙ found_more p (drop (i + 1) ps) o
-    ∙ ap₂ (λ a b. cond a (Some (JOINED_MODULES + p.responder)) (cond b (Some p.initiator) (found (drop (i + 1) ps) o))) (no o p.initiator n) (no o (JOINED_MODULES + p.responder) m)
+-- what is found among entries and others behind them
+pub found_append : (o : ℕ) (es fs : List (ℕ × ℕ)) → find nat_cmp o (es ++ fs) ≡ option_or (find nat_cmp o es) (find nat_cmp o fs)
+found_append o [] fs = refl
+found_append o (e ∷ es) fs = some_first _ e.1 _ _ _ (found_append o es fs)
 
-pub found_none : (ps : List Pair) (i o : ℕ) → length ps ≤ i → find nat_cmp o (flat_map ends (drop i ps)) ≡ None
-unfolding found
-found_none ps i o h = ap (λ (x : List Pair). found x o) (drop_all i ps h)
+-- what is found among the ends of the pairs from a place on
+pub found_at : (w : Wiring) (ps : List Pair) (i : ℕ) (d : Pair) (o : ℕ) → i < length ps → find nat_cmp o (flat_map (ends w) (drop i ps)) ≡ option_or (find nat_cmp o (ends w (get_or ps i d))) (find nat_cmp o (flat_map (ends w) (drop (i + 1) ps)))
+found_at w ps i d o h =
+    ap (λ (x : List Pair). find nat_cmp o (flat_map (ends w) x)) (drop_more ps i d h) ∙ found_append o (ends w (get_or ps i d)) (flat_map (ends w) (drop (i + 1) ps))
+
+pub found_none : (w : Wiring) (ps : List Pair) (i o : ℕ) → length ps ≤ i → find nat_cmp o (flat_map (ends w) (drop i ps)) ≡ None
+found_none w ps i o h = ap (λ (x : List Pair). find nat_cmp o (flat_map (ends w) x)) (drop_all i ps h)

@@ -1,11 +1,16 @@
--- What the outputs answer, and why a switch can't be set. Source of the answers: INMOS IMS C004 data sheet.
-use Rattle.std.specs.Prelude.{◌≡◌, ◌<◌, ℕ, Bool, false, slice_index, IsTrue, IfSome, List, Option, Some, None}
+-- What the outputs answer, and why the switches of a rack can't be set. Source of the answers: INMOS IMS C004 data sheet.
+use Rattle.std.specs.Prelude.{◌≡◌, ◌<◌, ◌+◌, ◌*◌, ◌⊎◌, ℕ, Bool, false, slice_index, IsTrue, IfSome, List, Option, Some, None}
 use Rattle.std.specs.FinMap as map
 use Rattle.c004_commands.specs.Answers.{answer_byte, IsAnswer}
 use Rattle.c004_commands.specs.declared.answer.Answer.TheVariants.{Loose}
 use Rattle.c004_commands.specs.declared.port.TheConstants.{PORTS}
 use Rattle.crossbar.specs.Switch.{Switch}
-use Rattle.crossbar.specs.Pairs.{ArePairs, switch_of}
+use Rattle.crossbar.specs.Chips.{Switches, switch_at}
+use Rattle.crossbar.specs.Pairs.{ArePairs, AreSwitchesOf, room_of, switch_of}
+use Rattle.crossbar.specs.declared.chip.Chip.{Chip}
+use Rattle.crossbar.specs.declared.chip.Chip.TheVariants.{A, B}
+use Rattle.crossbar.specs.declared.chip.Wiring.{Wiring}
+use Rattle.crossbar.specs.declared.switch.TheConstants.{JOINED_MODULES}
 use Rattle.crossbar.specs.declared.pair.Pair.{Pair}
 use Rattle.setting_runner.specs.Pairs.{Turns}
 use Rattle.setting_runner.specs.declared.outcome.StopCause.{StopCause}
@@ -20,17 +25,22 @@ Reports None reply = IsAnswer Loose reply
 abbrev pub Agrees : Switch → ℕ → ℕ → Type 0
 Agrees switch output reply = Reports (map.get switch.sources output) reply
 
--- at an honest port the switch is that of the pairs
-abbrev pub IsSetTo : Bool → Switch → List Pair → Type 0
-IsSetTo honest switch pairs = IsTrue honest → switch ≡ switch_of pairs
+-- at an honest port the switches of a rack of so many modules are those of the pairs
+abbrev pub AreSetTo : ℕ → Bool → Switches → List Pair → Type 0
+AreSetTo modules honest switches pairs = IsTrue honest → AreSwitchesOf modules pairs switches
 
--- the pairs that stand on the switch, where they are known
-abbrev pub AreStanding : Bool → Switch → Option (List Pair) → Type 0
-AreStanding honest switch known = IfSome known (λ pairs. ArePairs pairs × IsSetTo honest switch pairs)
+-- the pairs that stand on the switches, where they are known
+abbrev pub AreStanding : ℕ → Bool → Switches → Option (List Pair) → Type 0
+AreStanding modules honest switches known = IfSome known (λ pairs. ArePairs modules pairs × AreSetTo modules honest switches pairs)
+
+-- at an honest port one switch is that of the pairs that stand, where they are known
+abbrev pub IsStandingAt : Chip → Wiring → Bool → Switches → Option (List Pair) → Type 0
+IsStandingAt chip wiring honest switches known =
+    IfSome known (λ pairs. ArePairs (room_of wiring) pairs × (IsTrue honest → switch_at chip switches ≡ switch_of wiring pairs))
 
 -- the bytes turn the switch of the pairs that stand into that of the new ones, or any switch where none are known
-abbrev pub TurnFrom : Option (List Pair) → List ℕ → List Pair → Type 0
-TurnFrom known bytes pairs = (switch : Switch) → IfSome known (λ old. switch ≡ switch_of old) → Turns bytes switch (switch_of pairs)
+abbrev pub TurnFrom : Wiring → Option (List Pair) → List ℕ → List Pair → Type 0
+TurnFrom wiring known bytes pairs = (switch : Switch) → IfSome known (λ old. switch ≡ switch_of wiring old) → Turns bytes switch (switch_of wiring pairs)
 
 -- all outputs answer what the pairs call for
 abbrev pub AllAgree : Switch → List ℕ → Type 0
@@ -42,8 +52,27 @@ pub record IsFirstDisagreement (switch : Switch) (replies : List ℕ) (output : 
   pub differs : Agrees switch output (slice_index replies output) → ⊥
   pub agree : (before : ℕ) → before < output → Agrees switch before (slice_index replies before)
 
--- why a switch can't be set: a failure that was counted, or a port that isn't honest and hasn't failed
-abbrev pub IsSetFault : ℕ → ℕ → Bool → StopCause → Type 0
-IsSetFault before after honest Port = before < after
-IsSetFault before after honest (SwitchDisagrees output) = (honest ≡ false) × (output < PORTS) × (after ≡ before)
-IsSetFault before after honest (Wire transfer) = ⊥
+-- the number that a run gives to the first output of a switch: those of the second stand behind those of the first
+abbrev pub first_output : Chip → ℕ
+first_output A = 0
+first_output B = PORTS
+
+-- the output of a switch that has this number in a run is the first that doesn't answer what the pairs call for
+abbrev pub IsDisagreementAt : Chip → Switch → List ℕ → ℕ → Type 0
+IsDisagreementAt chip switch replies number = (output : ℕ) × (number ≡ first_output chip + output) × IsFirstDisagreement switch replies output
+
+-- an output of a switch that a rack of so many modules has, has this number
+abbrev pub HasOutput : ℕ → ℕ → Type 0
+HasOutput modules number = (number < PORTS) ⊎ ((JOINED_MODULES < modules) × (number < 2 * PORTS))
+
+-- why a switch isn't taken for that of the pairs: the output of this number is the first that doesn't answer what they call for
+abbrev pub IsMisset : Chip → Switch → List ℕ → StopCause → Type 0
+IsMisset chip switch replies (SwitchDisagrees number) = IsDisagreementAt chip switch replies number
+IsMisset chip switch replies Port = ⊥
+IsMisset chip switch replies (Wire transfer) = ⊥
+
+-- why switches can't be set: a failure that was counted, or a port that isn't honest and hasn't failed
+abbrev pub IsSetFault : ℕ → ℕ → ℕ → Bool → StopCause → Type 0
+IsSetFault modules before after honest Port = before < after
+IsSetFault modules before after honest (SwitchDisagrees number) = (honest ≡ false) × HasOutput modules number × (after ≡ before)
+IsSetFault modules before after honest (Wire transfer) = ⊥

@@ -5,9 +5,8 @@ use Rattle.batch.specs.Extent.{Extent}
 use Rattle.batch.specs.declared.transfer.Transfer.{Transfer}
 use Rattle.batch.specs.declared.transfer.Place.{Place}
 use Rattle.batch.specs.Overlap.{IsApart}
-use Rattle.c004_commands.specs.declared.port.TheConstants.{PORTS}
-use Rattle.crossbar.specs.Switch.{Switch}
-use Rattle.crossbar.specs.Pairs.{switch_of}
+use Rattle.crossbar.specs.Chips.{Switches}
+use Rattle.crossbar.specs.Pairs.{AreSwitchesOf}
 use Rattle.crossbar.specs.declared.pair.Pair.{Pair}
 use Rattle.module_memory.specs.Store.{Store}
 use Rattle.module_memory.specs.Bays.{AreBaysOf, destinations_of}
@@ -16,6 +15,7 @@ use Rattle.module_memory.specs.Lending.{BlockAt, Rejoins, joined}
 use Rattle.link_graph.specs.Schedules.{IsScheduleOf}
 use Rattle.module_memory.specs.Settings.{IsRun, IsStoppedRun, all_words}
 use Rattle.schedule_certificate.specs.Plans.{Plan}
+use Rattle.setting_runner.specs.Answers.{HasOutput}
 use Rattle.setting_runner.specs.declared.outcome.Outcome.{Outcome}
 use Rattle.setting_runner.specs.declared.outcome.Outcome.TheVariants.{Completed, Refused, Stopped}
 use Rattle.setting_runner.specs.declared.outcome.StopCause.{StopCause}
@@ -37,9 +37,9 @@ joined_pair t = record { initiator = t.initiator; responder = t.responder }
 abbrev pub setting_pairs : List Transfer → List ℕ → List Pair
 setting_pairs batch numbers = map joined_pair (setting_of batch numbers)
 
--- the switch of a setting
-abbrev pub setting_switch : List Transfer → List ℕ → Switch
-setting_switch batch numbers = switch_of (setting_pairs batch numbers)
+-- the switches of a setting, in a rack of this shape
+abbrev pub AreSettingSwitches : Extent → Plan → ℕ → Switches → Type 0
+AreSettingSwitches shape plan k switches = AreSwitchesOf shape.modules (setting_pairs plan.batch (numbers_of plan k)) switches
 
 -- the numbers of transfers with their words
 abbrev pub names_of : List (ℕ × ℕ) → List ℕ
@@ -104,8 +104,8 @@ pub record IsLeastShort (words transfer : ℕ) (moved : List (ℕ × ℕ)) : Typ
 pub record Given : Type 1 where
   -- the transfers whose wires never fail
   pub sure : ℕ → Type 0
-  -- the words of a block
-  pub words : ℕ
+  -- the shape of the rack
+  pub shape : Extent
   -- how often the port had failed before the run, and how often it has after it
   pub before : ℕ
   pub after : ℕ
@@ -120,14 +120,14 @@ pub record IsPortCause (given : Given) (moved : List (ℕ × ℕ)) : Type 0 wher
 -- an output disagreed, at a port that isn't honest and hasn't failed, and no word has moved
 pub record IsSwitchCause (given : Given) (output : ℕ) (moved : List (ℕ × ℕ)) : Type 0 where
   pub dishonest : given.honest ≡ false
-  pub known : output < PORTS
+  pub known : HasOutput given.shape.modules output
   pub unmoved : All (λ m. m.1 ≡ 0) moved
   pub unfailed : given.after ≡ given.before
 
 -- a wire failed: every transfer whose wire never fails has moved all words
 pub record IsWireCause (given : Given) (transfer : ℕ) (moved : List (ℕ × ℕ)) : Type 0 where
-  pub least : IsLeastShort given.words transfer moved
-  pub others : All (λ m. given.sure m.0 → m.1 ≡ given.words) moved
+  pub least : IsLeastShort given.shape.words transfer moved
+  pub others : All (λ m. given.sure m.0 → m.1 ≡ given.shape.words) moved
   pub unfailed : given.after ≡ given.before
 
 -- why a setting stops: the port has failed just where it is the cause
@@ -165,13 +165,13 @@ pub record NeedsMemory (shape : Extent) (batch : List Transfer) : Type 0 where
   pub fits : FitsIn shape batch
   pub some : 0 < length batch
 
--- ---- the switch
+-- ---- the switches
 
--- the switch is that of the last setting, or of the setting in which a wire failed
-abbrev pub LeavesSwitch : Plan → Outcome → Switch → Type 0
-LeavesSwitch plan (Completed settings words) switch = (k : ℕ) → k + 1 ≡ length plan.settings → switch ≡ setting_switch plan.batch (numbers_of plan k)
-LeavesSwitch plan (Refused refusal) switch = Unit {0}
-LeavesSwitch plan (Stopped setting cause moved) switch = (t : ℕ) → cause ≡ Wire t → switch ≡ setting_switch plan.batch (numbers_of plan setting)
+-- the switches of the rack are those of the last setting, or of the setting in which a wire failed
+abbrev pub LeavesSwitches : Extent → Plan → Outcome → Switches → Type 0
+LeavesSwitches shape plan (Completed settings words) switches = (k : ℕ) → k + 1 ≡ length plan.settings → AreSettingSwitches shape plan k switches
+LeavesSwitches shape plan (Refused refusal) switches = Unit {0}
+LeavesSwitches shape plan (Stopped setting cause moved) switches = (t : ℕ) → cause ≡ Wire t → AreSettingSwitches shape plan setting switches
 
 -- ---- what is told
 

@@ -1,21 +1,31 @@
-//! The bytes that go to the switch, and the bits that go over a line.
+//! The bytes that go to the switches, and the bits that go over a line.
 
-ghost use Rattle.std.specs.Prelude.{◌≡◌, ◌≤◌, ◌<◌, ◌+◌, ◌*◌, ◌++◌, length, take, map};
+ghost use Rattle.std.specs.Prelude.{◌≡◌, ◌≤◌, ◌<◌, ◌+◌, ◌++◌, length, take};
 ghost use Rattle.std.specs.List.{list_any};
 ghost use Rattle.c004_commands.specs.Commands.{row, text};
 ghost use Rattle.crossbar.specs.Switch.{Switch};
-ghost use Rattle.crossbar.specs.Pairs.{ArePairs, switch_of, setting, change, is_pair, without};
+ghost use Rattle.crossbar.specs.Chips.{wide_wiring};
+ghost use Rattle.crossbar.specs.Pairs.{ArePairs, room_of, switch_of, setting, change, is_pair};
+ghost use Rattle.crossbar.specs.declared.chip.Wiring.TheVariants.{Both};
 ghost use Rattle.setting_runner.specs.LineBits.{bits_of};
-ghost use Rattle.setting_runner.specs.Pairs.{command_of, commands_of, Turns, all_enquiries};
+ghost use Rattle.setting_runner.specs.Pairs.{command_of, commands_of, one_way_command, longest_setting, longest_change, Turns, all_enquiries};
 
 use batch::{MAX_TRANSFERS, MAX_WORDS};
 use c004_commands::{Command, LONGEST_COMMAND, PORTS, PortNo, write};
-use crossbar::{JOINED_MODULES, Pair, laws};
+use crossbar::{Chip, JOINED_MODULES, Pair, Wiring, laws};
 use peek_poke::POKE_BYTES;
 
-/// How many bytes the longest change of a switch has, 97: three for each pair that goes, three for each pair
-/// that comes, and one for the end of the sequence.
+/// How many bytes the longest change has where one switch joins all modules, 97: three for each pair that goes,
+/// three for each pair that comes, and one for the end of the sequence.
 pub const CHANGE_BYTES: usize = 2 * LONGEST_COMMAND * (JOINED_MODULES as usize) + 1;
+
+/// How many bytes the longest setting of a switch of a wider rack has, 98: three for each pair, one for the reset,
+/// and one for the end of the sequence.
+pub const WIDE_SETTING_BYTES: usize = LONGEST_COMMAND * (PORTS as usize) + 2;
+
+/// How many bytes the longest change of a switch of a wider rack has, 161: two for each pair that goes, three for
+/// each pair that comes, and one for the end of the sequence.
+pub const WIDE_CHANGE_BYTES: usize = (2 + LONGEST_COMMAND) * (PORTS as usize) + 1;
 
 /// How many bytes the enquiries of all outputs have, 64.
 pub const ENQUIRY_BYTES: usize = 2 * (PORTS as usize);
@@ -33,41 +43,103 @@ enum Way {
     Cut,
 }
 
-/// Writes the bytes that set any switch to the pairs, and gives their number, at most 50: a reset, the joins
-/// of the pairs in their order, and the end of the sequence (INMOS IMS C004 data sheet, configuration
-/// messages): `04`, a row `01 I 16+R` a pair, `03`. What stands in `out` behind them isn't said.
+/// Writes the bytes that set the one switch of a rack to the pairs, whatever it was, and gives their number, at
+/// most 50: a reset, the joins of the pairs in their order, and the end of the sequence (INMOS IMS C004 data sheet,
+/// configuration messages): `04`, a row `01 I 16+R` a pair, `03`. What stands in `out` behind them isn't said.
 ///
 /// The initiators have to ascend, the responders to be distinct, and all to be below 16. Takes time by the
 /// number of pairs.
 pub fn setting_bytes(pairs: &[Pair], out: &mut [u8; CHANGE_BYTES]) -> usize
-    requires { ArePairs pairs.now }
-    ensures bytes { take result out.new ≡ text (setting pairs.now) }
-    ensures sets { (switch : Switch) → Turns (take result out.new) switch (switch_of pairs.now) }
+    requires { ArePairs JOINED_MODULES pairs.now }
+    ensures bytes { take result out.new ≡ text (setting Both pairs.now) }
+    ensures sets { (switch : Switch) → Turns (take result out.new) switch (switch_of Both pairs.now) }
     ensures room { result ≤ CHANGE_BYTES }
 {
-    laws::setting();
-    let begun = put(out, 0, Command::Reset);
-    let joined = put_pairs(out, begun, Way::Join, pairs, &[]);
-    put(out, joined, Command::Settle)
+    put_setting(Wiring::Both, pairs, out)
 }
 
-/// Writes the bytes that set the switch of the old pairs to the new ones, and gives their number, at most 97:
-/// the cuts of the pairs that go, the joins of those that come, each in their order, and the end of the
+/// Writes the bytes that set the one switch of a rack from the old pairs to the new ones, and gives their number, at
+/// most 97: the cuts of the pairs that go, the joins of those that come, each in their order, and the end of the
 /// sequence (INMOS IMS C004 data sheet, configuration messages): a row `06 I 16+R` a cut, a row `01 I 16+R` a
 /// join, `03`. What stands in `out` behind them isn't said.
 ///
 /// Of both, the initiators have to ascend, the responders to be distinct, and all to be below 16. The time
 /// grows with the product of the numbers of pairs.
 pub fn change_bytes(old: &[Pair], new: &[Pair], out: &mut [u8; CHANGE_BYTES]) -> usize
-    requires old { ArePairs old.now }
-    requires new { ArePairs new.now }
-    ensures bytes { take result out.new ≡ text (change old.now new.now) }
-    ensures sets { Turns (take result out.new) (switch_of old.now) (switch_of new.now) }
+    requires old { ArePairs JOINED_MODULES old.now }
+    requires new { ArePairs JOINED_MODULES new.now }
+    ensures bytes { take result out.new ≡ text (change Both old.now new.now) }
+    ensures sets { Turns (take result out.new) (switch_of Both old.now) (switch_of Both new.now) }
     ensures room { result ≤ CHANGE_BYTES }
 {
+    put_change(Wiring::Both, old, new, out)
+}
+
+/// Writes the bytes that set a switch of a wider rack to the pairs, whatever it was, and gives their number, at most
+/// 98: a reset, a connection of each pair in their order, and the end of the sequence (INMOS IMS C004 data sheet,
+/// configuration messages): `04`, a row `00 I R` a pair for `A` or `00 R I` for `B`, `03`. What stands in `out`
+/// behind them isn't said.
+///
+/// The initiators have to ascend, the responders to be distinct, and all to be below 32. Takes time by the
+/// number of pairs.
+pub fn wide_bytes(chip: Chip, pairs: &[Pair], out: &mut [u8; WIDE_SETTING_BYTES]) -> usize
+    requires { ArePairs PORTS pairs.now }
+    ensures bytes { take result out.new ≡ text (setting (wide_wiring chip) pairs.now) }
+    ensures sets { (switch : Switch) → Turns (take result out.new) switch (switch_of (wide_wiring chip) pairs.now) }
+    ensures room { result ≤ WIDE_SETTING_BYTES }
+{
+    put_setting(Wiring::of_wide(chip), pairs, out)
+}
+
+/// Writes the bytes that set a switch of a wider rack from the old pairs to the new ones, and gives their number, at
+/// most 161: the cuts of the pairs that go, the connections of those that come, each in their order, and the end of
+/// the sequence (INMOS IMS C004 data sheet, configuration messages): a row `05 R` a cut for `A` or `05 I` for `B`, a
+/// row `00 I R` a connection for `A` or `00 R I` for `B`, `03`. What stands in `out` behind them isn't said.
+///
+/// Of both, the initiators have to ascend, the responders to be distinct, and all to be below 32. The time
+/// grows with the product of the numbers of pairs.
+pub fn wide_change(
+    chip: Chip,
+    old: &[Pair],
+    new: &[Pair],
+    out: &mut [u8; WIDE_CHANGE_BYTES],
+) -> usize
+    requires old { ArePairs PORTS old.now }
+    requires new { ArePairs PORTS new.now }
+    ensures bytes { take result out.new ≡ text (change (wide_wiring chip) old.now new.now) }
+    ensures sets { Turns (take result out.new)
+        (switch_of (wide_wiring chip) old.now) (switch_of (wide_wiring chip) new.now) }
+    ensures room { result ≤ WIDE_CHANGE_BYTES }
+{
+    put_change(Wiring::of_wide(chip), old, new, out)
+}
+
+/// Puts the bytes that set a switch of this wiring to the pairs, whatever it was, and says how many they are.
+pub fn put_setting(wiring: Wiring, pairs: &[Pair], out: &mut [u8]) -> usize
+    requires pairs { ArePairs (room_of wiring) pairs.now }
+    requires room { longest_setting wiring ≤ length out.old }
+    ensures bytes { take result out.new ≡ text (setting wiring pairs.now) }
+    ensures sets { (switch : Switch) → Turns (take result out.new) switch (switch_of wiring pairs.now) }
+    ensures room { result ≤ longest_setting wiring }
+{
+    laws::setting();
+    let begun = put(out, 0, Command::Reset);
+    let joined = put_pairs(out, begun, Way::Join, wiring, pairs, &[]);
+    put(out, joined, Command::Settle)
+}
+
+/// Puts the bytes that set a switch of this wiring from the old pairs to the new ones, and says how many they are.
+pub fn put_change(wiring: Wiring, old: &[Pair], new: &[Pair], out: &mut [u8]) -> usize
+    requires old { ArePairs (room_of wiring) old.now }
+    requires new { ArePairs (room_of wiring) new.now }
+    requires room { longest_change wiring ≤ length out.old }
+    ensures bytes { take result out.new ≡ text (change wiring old.now new.now) }
+    ensures sets { Turns (take result out.new) (switch_of wiring old.now) (switch_of wiring new.now) }
+    ensures room { result ≤ longest_change wiring }
+{
     laws::change();
-    let cut = put_pairs(out, 0, Way::Cut, old, new);
-    let changed = put_pairs(out, cut, Way::Join, new, old);
+    let cut = put_pairs(out, 0, Way::Cut, wiring, old, new);
+    let changed = put_pairs(out, cut, Way::Join, wiring, new, old);
     put(out, changed, Command::Settle)
 }
 
@@ -100,22 +172,23 @@ pub fn line_bits(words: u64) -> u64
 /// Puts the commands of those pairs that aren't among others behind the bytes that stand, and says how many
 /// stand then.
 fn put_pairs(
-    out: &mut [u8; CHANGE_BYTES],
+    out: &mut [u8],
     stand: usize,
     way: Way,
+    wiring: Wiring,
     pairs: &[Pair],
     others: &[Pair],
 ) -> usize
-    requires pairs { ArePairs pairs.now }
-    requires room { stand + LONGEST_COMMAND * length pairs.now ≤ CHANGE_BYTES }
+    requires pairs { ArePairs (room_of wiring) pairs.now }
+    requires room { stand + length (text (commands_of way wiring others.now pairs.now)) ≤ length out.old }
     ensures bytes { take result out.new ≡
-        take stand out.old ++ text (commands_of way others.now pairs.now) }
-    ensures room { result ≤ stand + LONGEST_COMMAND * length pairs.now }
+        take stand out.old ++ text (commands_of way wiring others.now pairs.now) }
+    ensures number { result ≡ stand + length (text (commands_of way wiring others.now pairs.now)) }
 {
     let mut count = stand;
     for pair in pairs {
         if !is_among(*pair, others) {
-            count = put(out, count, to_command(way, *pair));
+            count = put(out, count, to_command(way, wiring, *pair));
         }
     }
     count
@@ -134,16 +207,39 @@ fn is_among(pair: Pair, others: &[Pair]) -> bool
 }
 
 /// The command that joins or parts a pair.
-fn to_command(way: Way, pair: Pair) -> Command
+fn to_command(way: Way, wiring: Wiring, pair: Pair) -> Command
+    requires { (pair.initiator < room_of wiring) × (pair.responder < room_of wiring) }
+    ensures { result ≡ command_of way wiring pair }
+{
+    match wiring {
+        Wiring::Both => both_ways(way, pair),
+        Wiring::Forth => one_way(way, pair.initiator, pair.responder),
+        Wiring::Back => one_way(way, pair.responder, pair.initiator),
+    }
+}
+
+/// The command that joins or parts both ends of a pair.
+fn both_ways(way: Way, pair: Pair) -> Command
     requires { (pair.initiator < JOINED_MODULES) × (pair.responder < JOINED_MODULES) }
-    ensures command { result ≡ command_of way pair }
-    ensures number { length (row result) ≡ LONGEST_COMMAND }
+    ensures { result ≡ command_of way Both pair }
 {
     let link1 = port(pair.initiator);
     let link2 = port(JOINED_MODULES + pair.responder);
     match way {
         Way::Join => Command::Join { link1, link2 },
         Way::Cut => Command::CutPair { link1, link2 },
+    }
+}
+
+/// The command that connects an output to an input, or disconnects it.
+fn one_way(way: Way, input: u8, output: u8) -> Command
+    requires { (input < PORTS) × (output < PORTS) }
+    ensures { result ≡ one_way_command way input output }
+{
+    let (input, output) = (port(input), port(output));
+    match way {
+        Way::Join => Command::Connect { input, output },
+        Way::Cut => Command::Cut { output },
     }
 }
 

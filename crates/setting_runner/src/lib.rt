@@ -1,4 +1,4 @@
-//! A run of a planned batch: the switch is set, setting by setting, and the blocks are moved over the
+//! A run of a planned batch: the switches are set, setting by setting, and the blocks are moved over the
 //! links.
 #![tactic(auto)]
 
@@ -19,9 +19,10 @@ mod switching;
 mod work;
 
 pub use bytes::{
-    CHANGE_BYTES, ENQUIRY_BYTES, change_bytes, enquiry_bytes, line_bits, setting_bytes,
+    CHANGE_BYTES, ENQUIRY_BYTES, WIDE_CHANGE_BYTES, WIDE_SETTING_BYTES, change_bytes,
+    enquiry_bytes, line_bits, setting_bytes, wide_bytes, wide_change,
 };
-pub use crossbar::Pair;
+pub use crossbar::{Chip, Pair};
 pub use moved::Moved;
 pub use notice::Notice;
 pub use outcome::{Outcome, RunRefusal, StopCause};

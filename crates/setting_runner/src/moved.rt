@@ -44,7 +44,7 @@ impl Moved {
         }
     }
 
-    /// How many transfers there are, at most 16.
+    /// How many transfers there are, at most 32.
     pub fn len(&self) -> usize
         ensures number { result ≡ length self.now }
         ensures few { result ≤ MAX_MODULES }

@@ -20,10 +20,11 @@ pub enum RunRefusal {
 /// Why a run stopped. Where the cause isn't a wire, no word of the stopped setting has moved.
 #[derive(Clone, Copy, Debug, PartialEq, Eq)]
 pub enum StopCause {
-    /// The port to the switch failed, as the setting was sent or as the outputs were asked.
+    /// The port to the switches failed, as the setting was sent or as the outputs were asked.
     Port,
-    /// This output, from 0 to 31, doesn't answer what the setting calls for, and all before it do. An answer
-    /// that the switch never gives is no such answer.
+    /// This output doesn't answer what the setting calls for, and all before it do. It is from 0 to 31 for the first
+    /// switch, and in a wider rack 32 + its number for the second. An answer that a switch never gives is no such
+    /// answer.
     SwitchDisagrees(u8),
     /// The wire of this transfer failed before all its words had moved, and of none before it in the
     /// setting. All other transfers of the setting have moved as far as their wires went.

@@ -3,9 +3,12 @@
 ghost use Rattle.std.specs.Prelude.{◌≡◌, ◌≤◌, ◌<◌, ◌+◌, ◌++◌, ◌∷◌, ◌↔◌, [], IsTrue, length, All};
 ghost use Rattle.std.specs.Slice.Iter.{iter_rest};
 ghost use Rattle.batch.specs.Batches.{IsBatch};
-ghost use Rattle.crossbar.specs.Pairs.{ArePairs, switch_of};
+ghost use Rattle.batch.specs.Extent.{Extent};
+ghost use Rattle.crossbar.specs.Pairs.{ArePairs, room_of, switch_of};
+ghost use Rattle.crossbar.specs.declared.chip.Wiring.{Wiring};
 ghost use Rattle.link_graph.specs.Uses.{IsMatching};
-ghost use Rattle.setting_runner.specs.Runs.{setting_switch};
+ghost use Rattle.module_memory.specs.Core.{FitsIn};
+ghost use Rattle.setting_runner.specs.Runs.{setting_pairs};
 ghost use Rattle.setting_runner.specs.Tables.{table_pairs};
 
 use crate::numbers::transfer_of;
@@ -53,7 +56,7 @@ impl PairList {
         }
     }
 
-    /// How many pairs there are, at most 16.
+    /// How many pairs there are, at most 32.
     pub fn len(&self) -> usize
         ensures number { result ≡ length self.now }
         ensures few { result ≤ MAX_MODULES }
@@ -99,8 +102,8 @@ impl PairList {
         }
     }
 
-    /// The pairs of the transfers of a setting, by their initiators: what [`crate::setting_bytes`] and
-    /// [`crate::change_bytes`] take.
+    /// The pairs of the transfers of a setting, by their initiators: what [`crate::setting_bytes`],
+    /// [`crate::wide_bytes`] and their changes take.
     ///
     /// The numbers have to be those of transfers of the batch, of which no two want one end of a module's
     /// link, as those of each setting of a schedule. Takes time by their number.
@@ -108,8 +111,11 @@ impl PairList {
         requires batch { IsBatch batch.now }
         requires known { All (λ t. t < length batch.now) numbers.now }
         requires matching { IsMatching batch.now numbers.now }
-        ensures pairs { ArePairs result }
-        ensures switch { switch_of result ≡ setting_switch batch.now numbers.now }
+        // In a rack that has the batch's modules they are pairs of that rack, and a switch to which all of these can
+        // be wired joins by them what the transfers want joined.
+        ensures pairs { (shape : Extent) → FitsIn shape batch.now → ArePairs shape.modules result }
+        ensures switch { (shape : Extent) (wiring : Wiring) → FitsIn shape batch.now → shape.modules ≤ room_of wiring →
+            switch_of wiring result ≡ switch_of wiring (setting_pairs batch.now numbers.now) }
     {
         let responders = responders_of(batch, numbers);
         let mut pairs = PairList::none();
@@ -125,8 +131,9 @@ fn responders_of(batch: &Batch, numbers: &[usize]) -> [Option<u8>; MAX_MODULES]
     requires batch { IsBatch batch.now }
     requires known { All (λ t. t < length batch.now) numbers.now }
     requires matching { IsMatching batch.now numbers.now }
-    ensures pairs { ArePairs (table_pairs 0 result) }
-    ensures switch { switch_of (table_pairs 0 result) ≡ setting_switch batch.now numbers.now }
+    ensures pairs { (shape : Extent) → FitsIn shape batch.now → ArePairs shape.modules (table_pairs 0 result) }
+    ensures switch { (shape : Extent) (wiring : Wiring) → FitsIn shape batch.now → shape.modules ≤ room_of wiring →
+        switch_of wiring (table_pairs 0 result) ≡ switch_of wiring (setting_pairs batch.now numbers.now) }
 {
     let mut responders = [None; MAX_MODULES];
     for t in numbers {

@@ -1,7 +1,7 @@
 /// What a run works with. It may be used for one run after another.
 #[derive(Debug, Drop)]
 pub struct Plant<P, W, G> {
-    /// The port to the switch.
+    /// The port to the switches.
     pub port: P,
     /// The maker of a wire for each transfer.
     pub wires: W,

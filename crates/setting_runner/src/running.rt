@@ -5,7 +5,7 @@ ghost use Rattle.batch.specs.Overlap.{IsApart, IsFirstOverlap};
 ghost use Rattle.module_memory.specs.Lending.{joined, Rejoins};
 ghost use Rattle.setting_runner.specs.declared.outcome.RunRefusal.TheVariants.{Overlap, Shape, NoMemory};
 ghost use Rattle.setting_runner.specs.declared.outcome.Outcome.TheVariants.{Refused};
-ghost use Rattle.setting_runner.specs.Runs.{IsPrepared, LeavesMemories, HasCause, IsMisfit, IsRefused, CanMove, NeedsMemory, LeavesSwitch, TellsOutcome};
+ghost use Rattle.setting_runner.specs.Runs.{IsPrepared, LeavesMemories, HasCause, IsMisfit, IsRefused, CanMove, NeedsMemory, LeavesSwitches, TellsOutcome};
 
 use crate::notice::Notice;
 use crate::numbers::setting_numbers;
@@ -23,17 +23,17 @@ use std::thread::Threads;
 
 /// Runs a plan on a rack, and gives the rack back.
 ///
-/// First the plan is tested, and all memory is taken. Then, setting by setting, the switch is set, from any
-/// switch for the first setting and from the setting before for each later one. All its outputs are asked
-/// whether it stands so, and the words of the setting's transfers are moved over their wires, by as many
-/// workers as the plant may have, from 1 to 64. The notice is told 0 before the first setting, and after each
-/// setting how many are done.
+/// First the plan is tested, and all memory is taken. Then, setting by setting, the switches are set, whatever they
+/// were for the first setting and from the setting before for each later one. A rack of at most 16 modules has one
+/// switch, and a wider one has two. All their outputs are asked whether they stand so, and the words of the
+/// setting's transfers are moved over their wires, by as many workers as the plant may have, from 1 to 64. The
+/// notice is told 0 before the first setting, and after each setting how many are done.
 ///
 /// A run is refused where two transfers overlap, where the rack hasn't a block that a transfer names, and
 /// where there is no memory, tested in this order: then the rack is as it was, and neither the port nor the
 /// notice was called. A port that fails, a switch that doesn't stand as set and a wire that fails stop the
-/// run. A wire that fails lets the other transfers of its setting go on. After a run the switch stays as it
-/// was set last.
+/// run. A wire that fails lets the other transfers of its setting go on. After a run the switches stay as they
+/// were set last.
 ///
 /// Where a thread can't be had, the worker that wanted it does the work itself. After the notice has been told
 /// 0 the run takes no memory, a thread's start apart. Takes time that grows with the words moved, and with the square
@@ -52,13 +52,13 @@ pub fn run<R: Threads + Sync, P: ConfigPort, W: WireMaker + Sync, G: Gate + Sync
     ensures memories { LeavesMemories rack planned.now result.1 result.0 }
     ensures cause { HasCause (record {
       sure = W.is_sure plant.old.wires;
-      words = rack.shape.words;
+      shape = rack.shape;
       before = P.failures plant.old.port;
       after = P.failures plant.new.port;
       honest = P.honest plant.old.port;
     }) result.1 }
-    ensures switch { IsTrue (P.honest plant.old.port) →
-        LeavesSwitch planned.now result.1 (P.switch plant.new.port) }
+    ensures switches { IsTrue (P.honest plant.old.port) →
+        LeavesSwitches rack.shape planned.now result.1 (P.switches plant.new.port) }
     ensures told { TellsOutcome N.hears notice.old result.1 notice.new }
 
     // Each refusal comes just where its cause is there and none before it, want of memory aside.
@@ -117,13 +117,13 @@ fn run_settings<R: Threads + Sync, P: ConfigPort, W: WireMaker + Sync, G: Gate +
         (joined rest.now bays.old) planned.now result (joined rest.now bays.new) }
     ensures cause { HasCause (record {
       sure = W.is_sure plant.old.wires;
-      words = rest.now.shape.words;
+      shape = rest.now.shape;
       before = P.failures plant.old.port;
       after = P.failures plant.new.port;
       honest = P.honest plant.old.port;
     }) result }
-    ensures switch { IsTrue (P.honest plant.old.port) →
-        LeavesSwitch planned.now result (P.switch plant.new.port) }
+    ensures switches { IsTrue (P.honest plant.old.port) →
+        LeavesSwitches rest.now.shape planned.now result (P.switches plant.new.port) }
     ensures told { TellsOutcome N.hears notice.old result notice.new }
     ensures going { IsRefused result → ⊥ }
     ensures uncalled { planned.now.settings ≡ [] → plant.new ≡ plant.old }

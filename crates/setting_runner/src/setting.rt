@@ -4,14 +4,14 @@ ghost use Rattle.std.specs.Prelude.{◌≡◌, ◌≤◌, ◌<◌, ℕ, AllPairs
 ghost use Rattle.crossbar.specs.Pairs.{ArePairs};
 ghost use Rattle.setting_runner.specs.declared.outcome.StopCause.TheVariants.{Wire};
 ghost use Rattle.setting_runner.specs.Moves.{AreMovable, HaveMoved, none_sure, all_moved, AllWhole};
-ghost use Rattle.setting_runner.specs.Answers.{IsSetTo, AreStanding};
+ghost use Rattle.setting_runner.specs.Answers.{AreSetTo, AreStanding};
 ghost use Rattle.setting_runner.specs.Runs.{IsStopCause, IsLeastShort, names_of};
 
 use crate::moved::Moved;
 use crate::outcome::StopCause;
 use crate::pair_list::PairList;
 use crate::plant::Plant;
-use crate::switching::set_switch;
+use crate::switching::set_switches;
 use crate::work::{Work, move_all};
 use batch::{Batch, MAX_MODULES};
 use crossbar::ConfigPort;
@@ -27,7 +27,7 @@ pub struct Stop {
     pub moved: Moved,
 }
 
-/// A setting of a batch: the numbers of its transfers, their pairs, and the pairs that stand on the switch
+/// A setting of a batch: the numbers of its transfers, their pairs, and the pairs that stand on the switches
 /// before it, which are known but for the first setting of a run.
 #[derive(Clone, Copy)]
 pub struct Setting<'a> {
@@ -37,7 +37,7 @@ pub struct Setting<'a> {
     pub standing: Option<PairList>,
 }
 
-/// Sets the switch to the pairs of a setting, asks it whether it stands so, and moves the words of the
+/// Sets the switches to the pairs of a setting, asks them whether they stand so, and moves the words of the
 /// transfers into their bays.
 pub fn run_setting<R: Threads + Sync, P: ConfigPort, W: WireMaker + Sync, G: Gate + Sync>(
     rt: &R,
@@ -48,9 +48,9 @@ pub fn run_setting<R: Threads + Sync, P: ConfigPort, W: WireMaker + Sync, G: Gat
 ) -> Result<(), Stop>
     requires some { 1 ≤ plant.old.workers }
     requires few { plant.old.workers ≤ MAX_WORKERS }
-    requires standing { AreStanding
-        (P.honest plant.old.port) (P.switch plant.old.port) setting.now.standing }
-    requires pairs { ArePairs setting.now.pairs }
+    requires standing { AreStanding rest.now.shape.modules
+        (P.honest plant.old.port) (P.switches plant.old.port) setting.now.standing }
+    requires pairs { ArePairs rest.now.shape.modules setting.now.pairs }
     requires numbers { length setting.now.numbers.now ≤ MAX_MODULES }
     requires ascending { AllPairs (λ t u. t < u) setting.now.numbers.now }
     requires movable { AreMovable rest.now setting.now.batch.now setting.now.numbers.now bays.old }
@@ -60,27 +60,29 @@ pub fn run_setting<R: Threads + Sync, P: ConfigPort, W: WireMaker + Sync, G: Gat
         (λ stop. HaveMoved none_sure rest.now setting.now.batch.now setting.now.numbers.now bays.old bays.new stop.moved) }
     ensures cause { IfErr result (λ stop. IsStopCause (record {
       sure = W.is_sure plant.old.wires;
-      words = rest.now.shape.words;
+      shape = rest.now.shape;
       before = P.failures plant.old.port;
       after = P.failures plant.new.port;
       honest = P.honest plant.old.port;
     }) stop.cause stop.moved) }
     ensures set { OnOk result
-        (IsSetTo (P.honest plant.old.port) (P.switch plant.new.port) setting.now.pairs) }
+        (AreSetTo rest.now.shape.modules (P.honest plant.old.port) (P.switches plant.new.port) setting.now.pairs) }
     ensures wire { IfErr result (λ stop. (t : ℕ) → stop.cause ≡ Wire t →
-        IsSetTo (P.honest plant.old.port) (P.switch plant.new.port) setting.now.pairs) }
+        AreSetTo rest.now.shape.modules (P.honest plant.old.port) (P.switches plant.new.port) setting.now.pairs) }
     ensures plant { plant.new ≡ record plant.old { port = plant.new.port } }
     ensures counted { P.failures plant.old.port ≤ P.failures plant.new.port }
     ensures unfailed { OnOk result (P.failures plant.new.port ≡ P.failures plant.old.port) }
     ensures honesty { P.honest plant.new.port ≡ P.honest plant.old.port }
 {
-    if let Err(cause) = set_switch(&mut plant.port, setting.standing, setting.pairs.as_slice()) {
+    let shape = rest.shape();
+    let pairs = setting.pairs.as_slice();
+    if let Err(cause) = set_switches(&mut plant.port, shape.modules(), &setting.standing, pairs) {
         return Err(Stop {
             cause,
             moved: none_moved(setting.numbers),
         });
     }
-    let words = rest.shape().words();
+    let words = shape.words();
     let work = Work {
         gate: &plant.gate,
         wires: &plant.wires,

@@ -6,5 +6,6 @@ mod ports;
 mod recording;
 mod rows;
 mod runs;
+mod wide;
 mod wires;
 mod workers;

@@ -188,7 +188,7 @@ fn two_of_three_end_by_faults(rt: HostRuntime) -> Result<(), Fail> {
 
 #[test]
 fn shape_is_refused(rt: HostRuntime) -> Result<(), Fail> {
-    for shape in ["0x1x1", "17x1x1", "1x1", "", "01x1x1"] {
+    for shape in ["0x1x1", "33x1x1", "1x1", "", "01x1x1"] {
         assert!(rt;
             answers_one(&rt, shape, "bye\n", "refused shape\n", 1)?,
             "{shape}"

@@ -2,6 +2,7 @@
 
 use super::office::{FIRST, Office, PUSH, Said, batch, plan};
 use crate::{BatchState, Call, Refusal};
+use crossbar::Chip;
 use std::test::Fail;
 use std::thread::Threads;
 
@@ -106,6 +107,6 @@ fn a_full_history_takes_no_call(rt: HostRuntime) -> Result<(), Fail> {
     assert_eq!(rt; office.entries(), 65536);
     assert_eq!(rt; office.word(0, FIRST), Some(0));
     assert_eq!(rt; office.told.times, 0);
-    assert!(rt; !office.plant.port.crossbar().joined(0, 1));
+    assert!(rt; !office.plant.port.crossbar(Chip::A).joined(0, 1));
     Ok(())
 }

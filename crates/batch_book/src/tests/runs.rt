@@ -2,6 +2,7 @@
 
 use super::office::{FIRST, Office, PUSH, Said};
 use crate::{BatchState, Call, Refusal};
+use crossbar::Chip;
 use peek_poke::FuseWires;
 use setting_runner::{RunRefusal, StopCause};
 use std::test::Fail;
@@ -48,7 +49,7 @@ fn a_run_places_its_blocks(rt: HostRuntime) -> Result<(), Fail> {
     // Told 0, 1 and 2.
     assert!(rt; office.told.in_order);
     assert_eq!(rt; (office.told.times, office.told.last), (3, 2));
-    assert!(rt; office.plant.port.crossbar().joined(0, 2));
+    assert!(rt; office.plant.port.crossbar(Chip::A).joined(0, 2));
     Ok(())
 }
 
@@ -115,7 +116,7 @@ fn refuses<R: AllocGlobal + Threads + Sync>(rt: &R, text: &str, refusal: RunRefu
         && office.ask(rt, 0, Call::Run(1)) == Said::RunRefused(refusal)
         && office.word(1, FIRST) == Some(0)
         && office.told.times == 0
-        && !office.plant.port.crossbar().joined(0, 1)
+        && !office.plant.port.crossbar(Chip::A).joined(0, 1)
 }
 
 #[test]

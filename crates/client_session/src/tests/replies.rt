@@ -122,13 +122,14 @@ fn stops(rt: HostRuntime) -> Result<(), Fail> {
     let moved = [(3, 0), (14, 256)];
     let want = "stopped 7 run 2 setting 4095 port moved 3:0 14:256";
     assert!(rt; is_stopped(4095, StopCause::Port, &moved, want));
-    let want = "stopped 7 run 2 setting 1 switch 31 moved 3:0 14:256";
-    assert!(rt; is_stopped(1, StopCause::SwitchDisagrees(31), &moved, want));
+    let want = "stopped 7 run 2 setting 1 switch 63 moved 3:0 14:256";
+    assert!(rt; is_stopped(1, StopCause::SwitchDisagrees(63), &moved, want));
     Ok(())
 }
 
-/// Sixteen transfers with numbers of four digits, of which one has moved no word and the others a whole block.
-const LONGEST: [(usize, usize); 16] = [
+/// As many transfers with numbers of four digits as a setting may have, of which one has moved no word and the others
+/// a whole block.
+const LONGEST: [(usize, usize); 32] = [
     (1000, 256),
     (1234, 256),
     (1500, 256),
@@ -143,6 +144,22 @@ const LONGEST: [(usize, usize); 16] = [
     (3999, 256),
     (4000, 256),
     (4044, 256),
+    (4078, 256),
+    (4079, 256),
+    (4080, 256),
+    (4081, 256),
+    (4082, 256),
+    (4083, 256),
+    (4084, 256),
+    (4085, 256),
+    (4086, 256),
+    (4087, 256),
+    (4088, 256),
+    (4089, 256),
+    (4090, 256),
+    (4091, 256),
+    (4092, 256),
+    (4093, 256),
     (4094, 256),
     (4095, 256),
 ];
@@ -150,7 +167,7 @@ const LONGEST: [(usize, usize); 16] = [
 #[test]
 fn longest_stop(rt: HostRuntime) -> Result<(), Fail> {
     let want =
-        "stopped 7 run 2 setting 4095 wire 2222 moved 1000:256 1234:256 1500:256 1999:256 2000:256 2222:0 2500:256 2999:256 3000:256 3333:256 3500:256 3999:256 4000:256 4044:256 4094:256 4095:256";
+        "stopped 7 run 2 setting 4095 wire 2222 moved 1000:256 1234:256 1500:256 1999:256 2000:256 2222:0 2500:256 2999:256 3000:256 3333:256 3500:256 3999:256 4000:256 4044:256 4078:256 4079:256 4080:256 4081:256 4082:256 4083:256 4084:256 4085:256 4086:256 4087:256 4088:256 4089:256 4090:256 4091:256 4092:256 4093:256 4094:256 4095:256";
     assert!(rt; is_stopped(4095, StopCause::Wire(2222), &LONGEST, want));
     Ok(())
 }

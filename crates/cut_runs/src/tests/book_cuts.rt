@@ -6,7 +6,7 @@ use super::rows::{
     TWO_PUSHES, TWO_PUSHES_SHAPE, Told, are_same, batch, marked, plain, plan, with_port,
 };
 use batch_book::{BatchState, Book, Call, Entry, Refusal, Reply};
-use crossbar::{ConfigPort, FusePort};
+use crossbar::{Chip, ConfigPort, FusePort};
 use peek_poke::WireMaker;
 use schedule_certificate::{MAX_WORKERS, OpenGate};
 use setting_runner::{Plant, StopCause};
@@ -165,7 +165,8 @@ fn is_right_port<R: AllocGlobal + Threads + Sync>(rt: &R, bytes: usize) -> bool 
         End::Complete
     };
     let mut plant = with_port(FusePort::new(bytes), 1);
-    runs_to(rt, &mut plant, end) && plant.port.crossbar().joined(1, 2) == (bytes >= SETTING_BYTES)
+    runs_to(rt, &mut plant, end)
+        && plant.port.crossbar(Chip::A).joined(1, 2) == (bytes >= SETTING_BYTES)
 }
 
 #[test]

@@ -5,7 +5,7 @@ ghost use Rattle.std.specs.Prelude.{◌≤◌};
 use super::rows::{
     TWO_PUSHES, TWO_PUSHES_SHAPE, Told, are_same, marked, marked_but, plan, with_port,
 };
-use crossbar::{ConfigPort, FusePort, MemoryPort};
+use crossbar::{Chip, ConfigPort, FusePort, MemoryPort};
 use module_memory::Rack;
 use peek_poke::{FuseWires, PlainWires, WireMaker};
 use schedule_certificate::{MAX_WORKERS, OpenGate, Planned};
@@ -127,7 +127,7 @@ fn is_right_port<R: AllocGlobal + Threads + Sync>(
     let Some(ran) = run_row(rt, planned, &mut plant) else {
         return false;
     };
-    let switch = plant.port.crossbar();
+    let switch = plant.port.crossbar(Chip::A);
     let is_set = switch.joined(0, 1) && switch.joined(1, 2);
     let is_right = if bytes < PORT_BYTES {
         ran.has_stopped(rt.alloc(), StopCause::Port, [0, 0])

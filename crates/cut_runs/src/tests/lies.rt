@@ -2,7 +2,7 @@
 
 use super::cuts::{Ran, run_row};
 use super::rows::{TWO_PUSHES, plan, with_port};
-use crossbar::{ConfigPort, MemoryPort, PortFault};
+use crossbar::{Chip, ConfigPort, MemoryPort, PortFault};
 use schedule_certificate::Planned;
 use setting_runner::StopCause;
 use std::alloc::Global;
@@ -30,14 +30,14 @@ impl LyingPort {
 impl ConfigPort for LyingPort {
     ghost use Rattle.std.specs.Prelude.{false};
 
-    ghost switch = { λ p. p.memory };
+    ghost switches = { λ p. p.memory };
 
     ghost honest = { λ _. false };
 
     ghost failures = { λ _. 0 };
 
-    fn exchange(&mut self, bytes: &[u8], replies: &mut [u8]) -> Result<(), PortFault> {
-        let _ = self.memory.exchange(bytes, replies);
+    fn exchange(&mut self, chip: Chip, bytes: &[u8], replies: &mut [u8]) -> Result<(), PortFault> {
+        let _ = self.memory.exchange(chip, bytes, replies);
         if usize::from(self.output) < replies.len() {
             replies[usize::from(self.output)] = self.reply;
         }

@@ -5,7 +5,7 @@ use super::runs::{
     Block, MOVED, Stop, THREE_TRANSFERS, TWO_PUSHES, UNMOVED, completed, run_with, stop_of, stopped,
 };
 use crate::{Outcome, Plant, RunRefusal, StopCause};
-use crossbar::FusePort;
+use crossbar::{Chip, FusePort};
 use peek_poke::PlainWires;
 use schedule_certificate::OpenGate;
 use std::test::Fail;
@@ -89,7 +89,7 @@ fn switch_stops_failing_port(rt: HostRuntime) -> Result<(), Fail> {
 }
 
 /// A plant whose port takes so many bytes.
-fn fused(bytes: usize) -> Plant<FusePort, PlainWires, OpenGate> {
+pub fn fused(bytes: usize) -> Plant<FusePort, PlainWires, OpenGate> {
     Plant {
         port: FusePort::new(bytes),
         wires: PlainWires,
@@ -107,7 +107,10 @@ fn stops_after<R: AllocGlobal + Threads + Sync>(
     let mut plant = fused(bytes);
     let seen = run_with(rt, "3x2x2", TWO_PUSHES, &mut plant, &UNMOVED)?;
     let stops = stop_of(seen.outcome) == stopped(StopCause::Port, (0, 0), Some((1, 0)));
-    Ok((stops && seen.has_blocks, plant.port.crossbar().is_ready()))
+    Ok((
+        stops && seen.has_blocks,
+        plant.port.crossbar(Chip::A).is_ready(),
+    ))
 }
 
 /// Seven bytes are those of the setting but the last, and eight all of them.
@@ -152,7 +155,7 @@ fn stops_at_answer<R: AllocGlobal + Threads + Sync>(
     reply: u8,
 ) -> Result<bool, Fail> {
     let manner = Manner::Answers {
-        setting: 0,
+        round: 0,
         output: output as usize,
         reply,
     };
@@ -175,7 +178,7 @@ fn wrong_answers(rt: HostRuntime) -> Result<(), Fail> {
 #[test]
 fn loose_answers(rt: HostRuntime) -> Result<(), Fail> {
     let manner = Manner::Answers {
-        setting: 0,
+        round: 0,
         output: 5,
         reply: 0x7f,
     };
@@ -211,7 +214,7 @@ fn stops_in_setting_1<R: AllocGlobal + Threads + Sync>(
     reply: u8,
 ) -> Result<bool, Fail> {
     let manner = Manner::Answers {
-        setting: 1,
+        round: 1,
         output: output as usize,
         reply,
     };

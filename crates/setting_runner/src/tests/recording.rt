@@ -1,8 +1,8 @@
-//! A port that records what it is sent, and answers as it pleases.
+//! A port that records what it is sent and to which chip, and answers as it pleases.
 
 use super::runs::{Block, Seen, run_with};
 use crate::Plant;
-use crossbar::{ConfigPort, MemoryPort, PortFault};
+use crossbar::{Chip, ConfigPort, MemoryPort, PortFault};
 use failure_count::FailureCount;
 use peek_poke::PlainWires;
 use schedule_certificate::OpenGate;
@@ -10,7 +10,7 @@ use std::test::Fail;
 use std::thread::Threads;
 
 /// How many bytes a record keeps.
-const KEPT: usize = 256;
+const KEPT: usize = 512;
 
 /// The first bytes that went one way.
 #[derive(Clone, Copy)]
@@ -41,6 +41,13 @@ impl Record {
         }
     }
 
+    /// Keeps a byte this often.
+    fn keep_often(&mut self, byte: u8, times: usize) {
+        for _ in 0..times {
+            self.keep(byte);
+        }
+    }
+
     /// Whether it has kept nothing.
     pub fn is_empty(&self) -> bool {
         self.count == 0
@@ -63,6 +70,20 @@ impl Record {
         place <= self.count
     }
 
+    /// Whether it has kept as many bytes as these, of which each run is of the byte beside its length.
+    pub fn is_in_runs(&self, runs: &[(u8, usize)]) -> bool {
+        let mut place: usize = 0;
+        for (byte, length) in runs {
+            for _ in 0..*length {
+                if !self.has(place, &[*byte]) {
+                    return false;
+                }
+                place = place.saturating_add(1);
+            }
+        }
+        place == self.count
+    }
+
     /// Whether from this place on stand the enquiries of outputs 0 to 31: `02 00`, `02 01`, up to `02 1f`.
     fn has_enquiries(&self, from: usize) -> bool {
         for output in 0..32u8 {
@@ -74,20 +95,42 @@ impl Record {
         true
     }
 
-    /// Whether it has kept, for each setting, its bytes and then the enquiries, and nothing else.
-    pub fn is_of_settings(&self, settings: &[&[u8]]) -> bool {
-        let mut place: usize = 0;
-        for bytes in settings {
-            if !self.has(place, bytes) {
-                return false;
-            }
-            place = place.saturating_add(bytes.len());
+    /// The place behind these bytes and as many rounds of enquiries, where they stand from a place on.
+    fn behind_setting(&self, from: usize, bytes: &[u8], rounds: usize) -> Option<usize> {
+        if !self.has(from, bytes) {
+            return None;
+        }
+        let mut place = from.saturating_add(bytes.len());
+        for _ in 0..rounds {
             if !self.has_enquiries(place) {
-                return false;
+                return None;
             }
             place = place.saturating_add(64);
         }
+        Some(place)
+    }
+
+    /// Whether it has kept, for each setting, its bytes and then so many rounds of enquiries, and nothing else.
+    fn is_of_rounds(&self, settings: &[&[u8]], rounds: usize) -> bool {
+        let mut place: usize = 0;
+        for bytes in settings {
+            let Some(behind) = self.behind_setting(place, bytes, rounds) else {
+                return false;
+            };
+            place = behind;
+        }
         place == self.count
+    }
+
+    /// Whether it has kept, for each setting, its bytes and then the enquiries, and nothing else.
+    pub fn is_of_settings(&self, settings: &[&[u8]]) -> bool {
+        self.is_of_rounds(settings, 1)
+    }
+
+    /// Whether it has kept, for each setting, its bytes for both chips and then the enquiries of both, and nothing
+    /// else.
+    pub fn is_of_wide_settings(&self, settings: &[&[u8]]) -> bool {
+        self.is_of_rounds(settings, 2)
     }
 }
 
@@ -98,9 +141,12 @@ pub enum Manner {
     Fails,
     /// It answers every enquiry by 0.
     AnswersNothing,
-    /// In this setting it answers the enquiry of this output by this byte, and else rightly.
+    /// It answers every enquiry of a chip by 0, and else rightly.
+    Mutes(Chip),
+    /// In this round of enquiries it answers that of this output by this byte, and else rightly. A setting has a round
+    /// for each switch of the rack.
     Answers {
-        setting: usize,
+        round: usize,
         output: usize,
         reply: u8,
     },
@@ -108,13 +154,15 @@ pub enum Manner {
     Rightly,
 }
 
-/// A port to a switch in memory, which does as it pleases, and keeps what it is sent and what it replies.
+/// A port to switches in memory, which does as it pleases, and keeps what it is sent, to which chip each byte goes,
+/// 0 for the first and 1 for the second, and what it replies.
 #[derive(Drop)]
 struct OtherPort {
     memory: MemoryPort,
     manner: Manner,
     enquired: usize,
     sent: Record,
+    chips: Record,
     replied: Record,
     failed: FailureCount,
 }
@@ -126,43 +174,54 @@ impl OtherPort {
             manner,
             enquired: 0,
             sent: Record::nothing(),
+            chips: Record::nothing(),
             replied: Record::nothing(),
             failed: FailureCount::zero(),
         }
     }
 
     /// Replies as it pleases.
-    fn twist(&self, replies: &mut [u8]) {
+    fn twist(&self, chip: Chip, replies: &mut [u8]) {
         match self.manner {
             Manner::AnswersNothing => replies.fill(0),
+            Manner::Mutes(muted) if chip == muted => replies.fill(0),
             Manner::Answers {
-                setting,
+                round,
                 output,
                 reply,
-            } if setting == self.enquired && output < replies.len() => replies[output] = reply,
+            } if round == self.enquired && output < replies.len() => replies[output] = reply,
             _ => {}
         }
+    }
+}
+
+/// How a chip is recorded.
+fn number_of(chip: Chip) -> u8 {
+    match chip {
+        Chip::A => 0,
+        Chip::B => 1,
     }
 }
 
 impl ConfigPort for OtherPort {
     ghost use Rattle.std.specs.Prelude.{false};
 
-    ghost switch = { λ p. p.memory };
+    ghost switches = { λ p. p.memory };
 
     ghost honest = { λ _. false };
 
     ghost failures = { λ p. p.failed };
 
-    fn exchange(&mut self, bytes: &[u8], replies: &mut [u8]) -> Result<(), PortFault> {
+    fn exchange(&mut self, chip: Chip, bytes: &[u8], replies: &mut [u8]) -> Result<(), PortFault> {
         if self.manner == Manner::Fails {
             self.failed.raise();
             return Err(PortFault);
         }
-        let _ = self.memory.exchange(bytes, replies);
+        let _ = self.memory.exchange(chip, bytes, replies);
         self.sent.keep_all(bytes);
+        self.chips.keep_often(number_of(chip), bytes.len());
         if !replies.is_empty() {
-            self.twist(replies);
+            self.twist(chip, replies);
             self.enquired = self.enquired.saturating_add(1);
             self.replied.keep_all(replies);
         }
@@ -175,6 +234,7 @@ impl ConfigPort for OtherPort {
 pub struct Recorded {
     pub seen: Seen,
     pub sent: Record,
+    pub chips: Record,
     pub replied: Record,
 }
 
@@ -188,9 +248,9 @@ fn with_port(manner: Manner) -> Plant<OtherPort, PlainWires, OpenGate> {
     }
 }
 
-/// What the port of a plant was sent and replied.
-fn records_of(plant: Plant<OtherPort, PlainWires, OpenGate>) -> (Record, Record) {
-    (plant.port.sent, plant.port.replied)
+/// What the port of a plant was sent, to which chips, and what it replied.
+fn records_of(plant: Plant<OtherPort, PlainWires, OpenGate>) -> (Record, Record, Record) {
+    (plant.port.sent, plant.port.chips, plant.port.replied)
 }
 
 /// Runs a batch text with a port of this manner.
@@ -203,10 +263,11 @@ pub fn run_recorded<R: AllocGlobal + Threads + Sync>(
 ) -> Result<Recorded, Fail> {
     let mut plant = with_port(manner);
     let ran = run_with(rt, shape, text, &mut plant, blocks);
-    let (sent, replied) = records_of(plant);
+    let (sent, chips, replied) = records_of(plant);
     Ok(Recorded {
         seen: ran?,
         sent,
+        chips,
         replied,
     })
 }

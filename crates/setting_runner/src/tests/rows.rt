@@ -3,7 +3,7 @@
 use super::runs::{
     Block, MOVED, TWO_PUSHES, UNMOVED, block_of, completed, plain, run_plain, run_with,
 };
-use crate::{Outcome, RunRefusal, line_bits};
+use crate::{Chip, Outcome, RunRefusal, line_bits};
 use std::test::Fail;
 use std::thread::Threads;
 
@@ -11,7 +11,7 @@ use std::thread::Threads;
 fn two_pushes_by<R: AllocGlobal + Threads + Sync>(rt: &R, workers: usize) -> Result<bool, Fail> {
     let mut plant = plain(workers);
     let seen = run_with(rt, "3x2x2", TWO_PUSHES, &mut plant, &MOVED)?;
-    let switch = plant.port.crossbar();
+    let switch = plant.port.crossbar(Chip::A);
     Ok(
         seen.outcome == completed(1, 4)
             && seen.has_blocks

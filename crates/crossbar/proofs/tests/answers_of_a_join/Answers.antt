@@ -3,6 +3,7 @@ use Rattle.c004_commands.specs.Commands.{AreCommands}
 use Rattle.c004_commands.specs.declared.command.Command.{Command}
 use Rattle.c004_commands.specs.declared.command.Command.TheVariants.{Reset, Join, Settle, Enquire}
 use Rattle.crossbar.specs.Switch.{answers}
+use Rattle.crossbar.specs.Chips.{Switches}
 use Rattle.crossbar.proofs.Latches.{get-put}
 use Rattle.crossbar.proofs.tests.answers_of_a_join.Goals as goal
 
@@ -35,4 +36,4 @@ unfolding set asked
 returns-clause-answers g c =
     let honest = subst IsTrue (sym c.in_ok-exchange.ensures.honesty) c.requires in
     let joined = (c.in_ok-exchange.ensures.done c.requires set set_ports refl).0 in
-    (c.in_ok-exchange-2.ensures.done honest asked asked_ports refl).1 ∙ ap (answers asked) joined ∙ simp get-put
+    (c.in_ok-exchange-2.ensures.done honest asked asked_ports refl).1 ∙ ap (λ (s : Switches). answers asked s.a) joined ∙ simp get-put

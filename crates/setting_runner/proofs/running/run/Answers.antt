@@ -1,4 +1,4 @@
-use Rattle.std.proofs.Common.{◌≡◌, ◌<◌, ℕ, List, length, rules, arith, refl, sym, ap, ◌∙◌, subst}
+use Rattle.std.proofs.Common.{◌≡◌, ◌<◌, List, length, rules, arith, refl, sym, ap, ◌∙◌, subst}
 use Rattle.std.specs.List.{concat}
 use Rattle.std.proofs.lemmas.Bool.{false≢true}
 use Rattle.std.proofs.lemmas.List.{length-map}
@@ -10,7 +10,7 @@ use Rattle.module_memory.specs.Core.{FitsIn, IsReady}
 use Rattle.module_memory.specs.Lending.{AreLendable, BlockAt, bays_of, joined, without}
 use Rattle.module_memory.specs.Store.{Store}
 use Rattle.module_memory.proofs.PartLaws.{shape-without}
-use Rattle.setting_runner.specs.Runs.{Given, HasCause, HasOwnBays, plan_destinations}
+use Rattle.setting_runner.specs.Runs.{Given, HasCause, HasOwnBays, LeavesSwitches, plan_destinations}
 use Rattle.setting_runner.proofs.Schedules.{all_settings, numbers_are_counted}
 use Rattle.setting_runner.proofs.Starting.{overlap_is, no_overlap, overlap_no_shape, shape_no_overlap, lend_fault_is, plan_lendable, plan_bays}
 use Rattle.setting_runner.proofs.running.run.Goals as goal
@@ -57,9 +57,15 @@ run_settings-outcome-requires-clause-prepared g c κs within =
 
 pub returns-in-Ok-part-clause-cause : goal.returns-in-Ok-part-clause-cause
 returns-in-Ok-part-clause-cause g c =
-    let same : c.in-Ok-part.parted.rest.shape.words ≡ c.args.rack.shape.words = ap (λ (s : Store). s.shape.words) c.in-Ok-part.ensures.rest ∙ ap (λ (x : Extent). x.words) (shape-without c.args.rack c.as_slice.result.now) in
-    let given : ℕ → Given = λ w. record { sure = g.W.WireMaker.is_sure c.args.plant.now.wires; words = w; before = g.P.ConfigPort.failures c.args.plant.now.port; after = g.P.ConfigPort.failures c.run_settings-outcome.new.plant.port; honest = g.P.ConfigPort.honest c.args.plant.now.port } in
-    subst (λ (w : ℕ). HasCause (given w) c.run_settings-outcome.result) same c.run_settings-outcome.ensures.cause
+    let same : c.in-Ok-part.parted.rest.shape ≡ c.args.rack.shape = ap (λ (s : Store). s.shape) c.in-Ok-part.ensures.rest ∙ shape-without c.args.rack c.as_slice.result.now in
+    let given : Extent → Given = λ x. record { sure = g.W.WireMaker.is_sure c.args.plant.now.wires; shape = x; before = g.P.ConfigPort.failures c.args.plant.now.port; after = g.P.ConfigPort.failures c.run_settings-outcome.new.plant.port; honest = g.P.ConfigPort.honest c.args.plant.now.port } in
+    subst (λ (x : Extent). HasCause (given x) c.run_settings-outcome.result) same c.run_settings-outcome.ensures.cause
+
+pub returns-in-Ok-part-clause-switches : goal.returns-in-Ok-part-clause-switches
+returns-in-Ok-part-clause-switches g c = λ honest.
+    let same : c.in-Ok-part.parted.rest.shape ≡ c.args.rack.shape = ap (λ (s : Store). s.shape) c.in-Ok-part.ensures.rest ∙ shape-without c.args.rack c.as_slice.result.now in
+    let switches = g.P.ConfigPort.switches c.run_settings-outcome.new.plant.port in
+    subst (λ (x : Extent). LeavesSwitches x c.args.planned.now c.run_settings-outcome.result switches) same (c.run_settings-outcome.ensures.switches honest)
 
 pub returns-in-Ok-part-clause-free : goal.returns-in-Ok-part-clause-free
 returns-in-Ok-part-clause-free g c = λ going. record {

@@ -4,8 +4,8 @@ use Rattle.batch.specs.declared.limits.TheConstants.{MAX_TRANSFERS, MAX_WORDS}
 use Rattle.batch.specs.declared.transfer.Transfer.{Transfer}
 use Rattle.module_memory.specs.Lending.{joined}
 use Rattle.setting_runner.specs.Moves.{AreMovable, HaveMoved, none_sure, all_moved}
-use Rattle.setting_runner.specs.Runs.{numbers_of, setting_switch, Told, IsCompleted}
-use Rattle.setting_runner.proofs.Going.{going_next, going_stops, going_completes, next_begins, part_movable}
+use Rattle.setting_runner.specs.Runs.{numbers_of, AreSettingSwitches, Told, IsCompleted}
+use Rattle.setting_runner.proofs.Going.{rack_fits, setting_switches, going_next, going_stops, going_completes, next_begins, part_movable}
 use Rattle.setting_runner.proofs.Schedules.{front_few, numbers_are_counted}
 use Rattle.setting_runner.proofs.running.run_settings.Goals as goal
 
@@ -66,15 +66,18 @@ returns-in-Err-clause-memories g c =
     (subst (λ (b : List Transfer). HaveMoved none_sure c.args.rest.now b numbers part new ms) c.batch-batch.ensures.batch c.in-Err.ensures.moved) in
     (going_stops c.args.rest.now c.args.bays.now c.loop-number.bays new plan n a k ms begun inv.going below inv.from count moves).0
 
-pub returns-in-Err-clause-switch : goal.returns-in-Err-clause-switch
-returns-in-Err-clause-switch g c = λ honest t is.
+pub run_setting-requires-clause-pairs : goal.run_setting-requires-clause-pairs
+run_setting-requires-clause-pairs g c κs within = c.of_setting-pairs.ensures.pairs c.args.rest.now.shape (rack_fits c.args.rest.now c.args.bays.now c.args.planned.now c.batch-batch.result.now c.requires.prepared c.batch-batch.ensures.batch)
+
+pub returns-in-Err-clause-switches : goal.returns-in-Err-clause-switches
+returns-in-Err-clause-switches g c = λ honest t is.
     let n = c.loop-number.number in
     let plan = c.args.planned.now in
     let inv = c.loop-number.invariant in
-    let numbers = c.setting_numbers-numbers.result.now in
-    let e : numbers_of plan n ≡ numbers = sym c.setting_numbers-numbers.ensures.numbers in
-    c.in-Err.ensures.wire t is (subst IsTrue (sym inv.honesty) honest) ∙ c.of_setting-pairs.ensures.switch
-    ∙ ap₂ (λ (b : List Transfer) (x : List ℕ). setting_switch b x) c.batch-batch.ensures.batch (sym e)
+    let fits = rack_fits c.args.rest.now c.args.bays.now plan c.batch-batch.result.now c.requires.prepared c.batch-batch.ensures.batch in
+    setting_switches c.args.rest.now c.args.bays.now plan n c.batch-batch.result.now c.setting_numbers-numbers.result.now c.of_setting-pairs.result (g.P.ConfigPort.switches c.run_setting.new.plant.port)
+    c.requires.prepared c.batch-batch.ensures.batch c.setting_numbers-numbers.ensures.numbers (λ w. c.of_setting-pairs.ensures.switch c.args.rest.now.shape w fits)
+    (c.in-Err.ensures.wire t is (subst IsTrue (sym inv.honesty) honest))
 
 pub loop-number-preserved : goal.loop-number-preserved
 loop-number-preserved g c =
@@ -94,16 +97,18 @@ loop-number-preserved g c =
     let moves : HaveMoved none_sure c.args.rest.now plan.batch (numbers_of plan n) part new (all_moved (numbers_of plan n) words) =
     subst (λ (x : List ℕ). HaveMoved none_sure c.args.rest.now plan.batch x part new (all_moved x words)) (sym e)
     (subst (λ (b : List Transfer). HaveMoved none_sure c.args.rest.now b numbers part new (all_moved numbers words)) c.batch-batch.ensures.batch c.in_default.ensures.moved) in
-    let same = ap₂ (λ (b : List Transfer) (x : List ℕ). setting_switch b x) c.batch-batch.ensures.batch (sym e) in
+    let fits = rack_fits c.args.rest.now c.args.bays.now plan c.batch-batch.result.now begun c.batch-batch.ensures.batch in
     record {
       from = omega (arith, next_begins plan n a k below inv.from count);
       going = going_next c.args.rest.now c.args.bays.now c.loop-number.bays new plan n a k begun inv.going below inv.from count moves;
       told = subst (λ (x : ℕ). Told g.N.Notice.hears c.args.notice.now x c.done-in-loop-number.new.self) (sym (add-one n)) (c.loop-number.notice, inv.told, subst (λ (x : ℕ). g.N.Notice.hears c.loop-number.notice x c.done-in-loop-number.new.self) (add-one n) c.done-in-loop-number.ensures);
-      standing = (c.of_setting-pairs.ensures.pairs, λ honest. c.in_default.ensures.set (subst IsTrue (sym inv.honesty) honest));
-      switch = λ j last honest.
+      standing = (c.of_setting-pairs.ensures.pairs c.args.rest.now.shape fits, λ honest. c.in_default.ensures.set (subst IsTrue (sym inv.honesty) honest));
+      switches = λ j last honest.
           let at : n ≡ j = omega arith in
-          c.in_default.ensures.set (subst IsTrue (sym inv.honesty) honest) ∙ c.of_setting-pairs.ensures.switch ∙ same
-          ∙ ap (λ (x : ℕ). setting_switch plan.batch (numbers_of plan x)) at;
+          subst (λ (x : ℕ). AreSettingSwitches c.args.rest.now.shape plan x (g.P.ConfigPort.switches c.run_setting.new.plant.port)) at
+          (setting_switches c.args.rest.now c.args.bays.now plan n c.batch-batch.result.now numbers c.of_setting-pairs.result (g.P.ConfigPort.switches c.run_setting.new.plant.port)
+          begun c.batch-batch.ensures.batch c.setting_numbers-numbers.ensures.numbers (λ w. c.of_setting-pairs.ensures.switch c.args.rest.now.shape w fits)
+          (c.in_default.ensures.set (subst IsTrue (sym inv.honesty) honest)));
       uncalled = λ none. absurd (omega arith);
       plant = search rules;
       unfailed = c.in_default.ensures.unfailed ∙ inv.unfailed;

@@ -1,6 +1,7 @@
 use Rattle.std.proofs.Common.{◌≡◌, ◌<◌, ℕ, List, sym, subst, rules}
 use Rattle.std.specs.Prelude.{All, AllPairs}
 use Rattle.setting_runner.specs.Moves.{HaveMoved, none_sure, AllWhole}
+use Rattle.setting_runner.specs.Answers.{IsSetFault}
 use Rattle.setting_runner.specs.Runs.{Given, IsLeastShort}
 use Rattle.setting_runner.proofs.Moves.{HaveMoved-forget, none_have_moved, whole_moves}
 use Rattle.setting_runner.proofs.Causes.{all_zero, set_fault_stops, no_wire, sure_moved, names_moved}
@@ -12,12 +13,13 @@ returns-in-Err-clause-moved g c =
 
 pub returns-in-Err-clause-cause : goal.returns-in-Err-clause-cause
 returns-in-Err-clause-cause g c =
-    let given : Given = record { sure = g.W.WireMaker.is_sure c.args.plant.now.wires; words = c.args.rest.now.shape.words; before = g.P.ConfigPort.failures c.args.plant.now.port; after = g.P.ConfigPort.failures c.set_switch.new.port; honest = g.P.ConfigPort.honest c.args.plant.now.port } in
-    set_fault_stops given c.in-Err.cause c.none_moved.result c.in-Err.ensures.fault
+    let given : Given = record { sure = g.W.WireMaker.is_sure c.args.plant.now.wires; shape = c.args.rest.now.shape; before = g.P.ConfigPort.failures c.args.plant.now.port; after = g.P.ConfigPort.failures c.set_switches.new.port; honest = g.P.ConfigPort.honest c.args.plant.now.port } in
+    let same : c.modules.result ≡ c.args.rest.now.shape.modules = search rules in
+    set_fault_stops given c.in-Err.cause c.none_moved.result (subst (λ (m : ℕ). IsSetFault m given.before given.after given.honest c.in-Err.cause) same c.in-Err.ensures.fault)
     (subst (λ (ms : List (ℕ × ℕ)). All (λ (m : ℕ × ℕ). m.1 ≡ 0) ms) (sym c.none_moved.ensures) (all_zero c.args.setting.now.numbers.now))
 
 pub returns-in-Err-clause-wire : goal.returns-in-Err-clause-wire
-returns-in-Err-clause-wire g c = λ t is. absurd (no_wire _ _ _ c.in-Err.cause t c.in-Err.ensures.fault is)
+returns-in-Err-clause-wire g c = λ t is. absurd (no_wire _ _ _ _ c.in-Err.cause t c.in-Err.ensures.fault is)
 
 pub returns-in-Some-clause-moved : goal.returns-in-Some-clause-moved
 returns-in-Some-clause-moved g c = HaveMoved-forget _ _ _ _ _ _ _ c.move_all-moved.ensures

@@ -4,4 +4,4 @@ use Rattle.setting_runner.specs.Answers.{Agrees}
 use Rattle.setting_runner.proofs.switching.first_disagreement.Given as goal
 
 abbrev pub invariant-loop-output : goal.invariant-loop-output
-invariant-loop-output l = (before : ℕ) → before < l.output → Agrees (switch_of l.pairs) before (get_or l.replies before 0)
+invariant-loop-output l = (before : ℕ) → before < l.output → Agrees (switch_of l.wiring l.pairs) before (get_or l.replies before 0)

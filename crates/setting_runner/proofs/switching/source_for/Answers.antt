@@ -1,31 +1,27 @@
-use Rattle.std.proofs.Common.{sym, ◌∙◌, arith}
+use Rattle.std.proofs.Common.{◌+◌, ℕ, Option, drop, sym, ap, ◌∙◌}
+use Rattle.std.specs.Ordering.{nat_cmp}
+use Rattle.std.specs.List.{flat_map}
+use Rattle.std.specs.FinMap.{find}
+use Rattle.crossbar.specs.Pairs.{ends}
+use Rattle.std.specs.Option.{option_or}
 use Rattle.setting_runner.proofs.PairCommands.{pair_at}
-use Rattle.setting_runner.proofs.Sources.{found_is, found_initiator, found_responder, found_later, found_none}
+use Rattle.setting_runner.proofs.Sources.{found_is, found_at, found_none}
 use Rattle.setting_runner.proofs.switching.source_for.Goals as goal
 
-pub overflow_add-result : goal.overflow_add-result
-overflow_add-result c = omega (arith, (pair_at c.args.pairs.now c.loop-pair.pair-index (record { initiator = 0; responder = 0 }) c.requires c.loop-pair-test.true).1)
+pub input_of-requires : goal.input_of-requires
+input_of-requires c = pair_at _ c.args.pairs.now c.loop-pair.pair-index (record { initiator = 0; responder = 0 }) c.requires c.loop-pair-test.true
 
-pub overflow_add-pair : goal.overflow_add-pair
-overflow_add-pair c = omega (arith, (pair_at c.args.pairs.now c.loop-pair.pair-index (record { initiator = 0; responder = 0 }) c.requires c.loop-pair-test.true).1)
-
-pub returns-then-output-pair-clause-range : goal.returns-then-output-pair-clause-range
-returns-then-output-pair-clause-range c = omega (arith, (pair_at c.args.pairs.now c.loop-pair.pair-index (record { initiator = 0; responder = 0 }) c.requires c.loop-pair-test.true).1)
-
-pub returns-then-output-pair-2-clause-range : goal.returns-then-output-pair-2-clause-range
-returns-then-output-pair-2-clause-range c = omega (arith, (pair_at c.args.pairs.now c.loop-pair.pair-index (record { initiator = 0; responder = 0 }) c.requires c.loop-pair-test.true).0)
-
-pub returns-then-output-pair-clause-source : goal.returns-then-output-pair-clause-source
-returns-then-output-pair-clause-source c =
-    sym (found_initiator c.args.pairs.now c.loop-pair.pair-index _ c.args.output c.loop-pair-test.true c.if-output-pair.true) ∙ c.loop-pair.invariant ∙ found_is c.args.pairs.now c.args.output
-
-pub returns-then-output-pair-2-clause-source : goal.returns-then-output-pair-2-clause-source
-returns-then-output-pair-2-clause-source c =
-    sym (found_responder c.args.pairs.now c.loop-pair.pair-index _ c.args.output c.loop-pair-test.true c.if-output-pair.false c.if-output-pair-2.true) ∙ c.loop-pair.invariant ∙ found_is c.args.pairs.now c.args.output
+pub returns-in-Some-clause-source : goal.returns-in-Some-clause-source
+returns-in-Some-clause-source c =
+    let at = found_at c.args.wiring c.args.pairs.now c.loop-pair.pair-index (record { initiator = 0; responder = 0 }) c.args.output c.loop-pair-test.true in
+    let later = find nat_cmp c.args.output (flat_map (ends c.args.wiring) (drop (c.loop-pair.pair-index + 1) c.args.pairs.now)) in
+    sym (at ∙ ap (λ (x : Option ℕ). option_or x later) (sym c.in-Some.ensures.source)) ∙ c.loop-pair.invariant ∙ found_is c.args.wiring c.args.pairs.now c.args.output
 
 pub loop-pair-preserved : goal.loop-pair-preserved
 loop-pair-preserved c =
-    sym (found_later c.args.pairs.now c.loop-pair.pair-index (record { initiator = 0; responder = 0 }) c.args.output c.loop-pair-test.true c.if-output-pair.false c.if-output-pair-2.false) ∙ c.loop-pair.invariant
+    let at = found_at c.args.wiring c.args.pairs.now c.loop-pair.pair-index (record { initiator = 0; responder = 0 }) c.args.output c.loop-pair-test.true in
+    let later = find nat_cmp c.args.output (flat_map (ends c.args.wiring) (drop (c.loop-pair.pair-index + 1) c.args.pairs.now)) in
+    sym (at ∙ ap (λ (x : Option ℕ). option_or x later) (sym c.in_default.ensures.source)) ∙ c.loop-pair.invariant
 
 pub returns-clause-source : goal.returns-clause-source
-returns-clause-source c = sym (found_none c.args.pairs.now c.loop-pair.pair-index c.args.output c.loop-pair-test.false) ∙ c.loop-pair.invariant ∙ found_is c.args.pairs.now c.args.output
+returns-clause-source c = sym (found_none c.args.wiring c.args.pairs.now c.loop-pair.pair-index c.args.output c.loop-pair-test.false) ∙ c.loop-pair.invariant ∙ found_is c.args.wiring c.args.pairs.now c.args.output

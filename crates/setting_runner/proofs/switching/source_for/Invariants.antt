@@ -6,4 +6,4 @@ use Rattle.crossbar.specs.Pairs.{ends}
 use Rattle.setting_runner.proofs.switching.source_for.Given as goal
 
 abbrev pub invariant-loop-pair : goal.invariant-loop-pair
-invariant-loop-pair l = find nat_cmp l.output (flat_map ends (drop l.pair-index l.pairs)) ≡ find nat_cmp l.output (flat_map ends l.pairs)
+invariant-loop-pair l = find nat_cmp l.output (flat_map (ends l.wiring) (drop l.pair-index l.pairs)) ≡ find nat_cmp l.output (flat_map (ends l.wiring) l.pairs)

@@ -2,7 +2,7 @@ use Rattle.std.proofs.Common.{rules, ◌≡◌, Some, sym, ap, ◌∙◌}
 use Rattle.std.specs.Option.{unwrap_or, option_copied}
 use Rattle.batch_book.specs.Holdings.{no_store}
 use Rattle.batch_book.specs.Machine.{batch_of}
-use Rattle.setting_runner.specs.Runs.{HasCause, LeavesSwitch, TellsOutcome}
+use Rattle.setting_runner.specs.Runs.{HasCause, LeavesSwitches, TellsOutcome}
 use Rattle.batch_book.proofs.Runs.{AreRefusals, worded, ended, ran_step, as_told}
 use Rattle.batch_book.proofs.holdings.Holdings.run.Goals as goal
 
@@ -20,8 +20,8 @@ returns-in-Waiting-clause-step g c = search rules
 pub returns-clause-cause : goal.returns-clause-cause
 returns-clause-cause g c = as_told (HasCause _) (worded c.args.self.now c.run-rack.result.0) c.args.id c.run-rack.result.1 c.end.result c.end.new.self (λ why other same. same) (rw (← c.self.view_is) c.end.ensures) (search rules)
 
-pub returns-clause-switch : goal.returns-clause-switch
-returns-clause-switch g c = λ honest plan is. as_told (λ o. LeavesSwitch plan o (g.P.ConfigPort.switch c.run-rack.new.plant.port)) (worded c.args.self.now c.run-rack.result.0) c.args.id c.run-rack.result.1 c.end.result c.end.new.self (λ why other same. same) (rw (← c.self.view_is) c.end.ensures) (search rules)
+pub returns-clause-switches : goal.returns-clause-switches
+returns-clause-switches g c = λ honest plan is. as_told (λ o. LeavesSwitches c.args.self.now.store.shape plan o (g.P.ConfigPort.switches c.run-rack.new.plant.port)) (worded c.args.self.now c.run-rack.result.0) c.args.id c.run-rack.result.1 c.end.result c.end.new.self (λ why other same. same) (rw (← c.self.view_is) c.end.ensures) (search rules)
 
 pub returns-clause-told : goal.returns-clause-told
 returns-clause-told g c = as_told (λ o. TellsOutcome g.N.Notice.hears c.args.notice.now o c.run-rack.new.notice) (worded c.args.self.now c.run-rack.result.0) c.args.id c.run-rack.result.1 c.end.result c.end.new.self (λ why other same. same) (rw (← c.self.view_is) c.end.ensures) c.run-rack.ensures.told

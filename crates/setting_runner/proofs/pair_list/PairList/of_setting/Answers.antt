@@ -1,9 +1,16 @@
-use Rattle.std.proofs.Common.{◌<◌, ◌++◌, ◌∷◌, [], List, None, length, take, get_or, arith, sym, ap, ◌∙◌}
-use Rattle.std.proofs.lemmas.List.{take_more, length-take-le}
+use Rattle.std.proofs.Common.{◌≡◌, ◌<◌, ◌++◌, ◌∷◌, [], List, None, length, take, get_or, arith, sym, ap, ◌∙◌}
+use Rattle.std.proofs.lemmas.List.{take_more, take_all, length-take-le}
+use Rattle.crossbar.specs.Pairs.{switch_of}
 use Rattle.crossbar.specs.declared.pair.Pair.{Pair}
 use Rattle.setting_runner.specs.Tables.{table_pairs}
 use Rattle.setting_runner.proofs.Joined.{table_push}
 use Rattle.setting_runner.proofs.pair_list.PairList.of_setting.Goals as goal
+
+pub returns-clause-switch : goal.returns-clause-switch
+returns-clause-switch c = λ shape wiring fits room.
+    let table = c.responders_of-responders.result in
+    let all : take c.loop-initiator.initiator table ≡ table = take_all c.loop-initiator.initiator table (omega arith) in
+    ap (switch_of wiring) (c.loop-initiator.invariant.built ∙ ap (table_pairs 0) all) ∙ c.responders_of-responders.ensures.switch shape wiring fits room
 
 pub loop-initiator-preserved : goal.loop-initiator-preserved
 loop-initiator-preserved c =

@@ -1,0 +1,38 @@
+//! The switches of a rack, and what each carries.
+
+ghost use Rattle.std.specs.Prelude.{◌≡◌};
+ghost use Rattle.crossbar.specs.Chips.{wide_wiring};
+
+/// A switch of a rack. A rack of at most [`crate::JOINED_MODULES`] modules has `A` alone, and a wider one has
+/// both. That there are two is this project's choice.
+#[derive(Clone, Copy, Debug, PartialEq, Eq)]
+pub enum Chip {
+    A,
+    B,
+}
+
+/// Which ends of the modules' links are on a switch. This project's choice, which uses all inputs and outputs of
+/// the chip.
+#[derive(Clone, Copy, Debug, PartialEq, Eq)]
+pub enum Wiring {
+    /// Both directions of link 0 and of link 3 of each module, of at most [`crate::JOINED_MODULES`].
+    Both,
+    /// The way forth: an input comes from link 0 of the module of its number, and an output goes to link 3 of the
+    /// module of its number.
+    Forth,
+    /// The way back: an input comes from link 3 of the module of its number, and an output goes to link 0 of the
+    /// module of its number.
+    Back,
+}
+
+impl Wiring {
+    /// What a switch of a wider rack carries: `A` the way forth, and `B` the way back.
+    pub fn of_wide(chip: Chip) -> Wiring
+        ensures { result ≡ wide_wiring chip }
+    {
+        match chip {
+            Chip::A => Wiring::Forth,
+            Chip::B => Wiring::Back,
+        }
+    }
+}
