@@ -1,18 +1,17 @@
 -- The commands of pairs and their bytes.
-use Rattle.std.proofs.Common.{◌≡◌, ◌<◌, ◌≤◌, ◌+◌, ℕ, Bool, true, false, not, cond, zero, suc, List, [], ◌∷◌, ◌++◌, map, length, get_or, refl, sym, ap, ap₂, ◌∙◌, ◌*◌, arith, subst, append_assoc, drop}
+use Rattle.std.proofs.Common.{◌≡◌, ◌<◌, ◌≤◌, ◌+◌, ℕ, Bool, true, false, not, cond, zero, suc, List, [], ◌∷◌, ◌++◌, map, length, get_or, refl, sym, ap, ap₂, ◌∙◌, ◌*◌, arith, subst, append_assoc}
 use Rattle.std.specs.List.{AllByRecursion, list_any, range_with_len}
 use Rattle.c004_commands.specs.declared.command.Command.{Command}
 use Rattle.c004_commands.specs.declared.command.Command.TheVariants.{Settle, Enquire}
 use Rattle.c004_commands.specs.Commands.{row, text, AreCommands}
 use Rattle.c004_commands.specs.declared.command.TheConstants.{LONGEST_COMMAND}
 use Rattle.c004_commands.specs.declared.port.TheConstants.{PORTS}
-use Rattle.std.proofs.lemmas.List.{drop_more}
 use Rattle.crossbar.specs.Switch.{enquiries}
 use Rattle.crossbar.specs.declared.chip.Wiring.{Wiring}
 use Rattle.crossbar.specs.declared.chip.Wiring.TheVariants.{Both, Forth, Back}
 use Rattle.crossbar.specs.declared.switch.TheConstants.{JOINED_MODULES}
 use Rattle.crossbar.specs.Pairs.{ArePairs, room_of, is_pair, without, join, cut, setting, change}
-use Rattle.setting_runner.specs.Pairs.{command_of, commands_of, longest_setting, longest_change}
+use Rattle.setting_runner.specs.Pairs.{command_of, longest_setting, longest_change}
 use Rattle.crossbar.specs.declared.pair.Pair.{Pair}
 use Rattle.setting_runner.specs.declared.bytes.Way.{Way}
 use Rattle.setting_runner.specs.declared.bytes.Way.TheVariants.{Join, Cut}
@@ -131,16 +130,6 @@ change_fits Forth old new a b = omega (arith, cut_rows_forth (without new old), 
 change_fits Back old new a b = omega (arith, cut_rows_back (without new old), few_kept new old, pairs_few PORTS old a, join_rows Back (without old new), few_kept old new, pairs_few PORTS new b)
 
 -- ---- the bytes pair by pair
-
-kept_text : (b : Bool) (way : Way) (w : Wiring) (p : Pair) (ps : List Pair) → text (map (command_of way w) (cond b (p ∷ ps) ps)) ≡ cond b (row (command_of way w p)) [] ++ text (map (command_of way w) ps)
-kept_text true way w p ps = refl
-kept_text false way w p ps = refl
-
--- the bytes of the pairs from a place on are those of the pair there, unless it is among the others, and those of the pairs behind it
-pub text_at : (way : Way) (w : Wiring) (others ps : List Pair) (i : ℕ) (d : Pair) → i < length ps
-    → text (commands_of way w others (drop i ps)) ≡ cond (not (list_any (is_pair (get_or ps i d)) others)) (row (command_of way w (get_or ps i d))) [] ++ text (commands_of way w others (drop (i + 1) ps))
-text_at way w others ps i d h =
-    ap (λ (x : List Pair). text (commands_of way w others x)) (drop_more ps i d h) ∙ kept_text (not (list_any (is_pair (get_or ps i d)) others)) way w (get_or ps i d) (without others (drop (i + 1) ps))
 
 -- ---- the enquiries
 
