@@ -5,6 +5,7 @@ pub mod Faults
 pub mod Batches
 pub mod Equal
 pub mod Overlap
+pub mod Held
 pub mod Written
 pub mod ShapeText
 pub mod Rows

@@ -1,5 +1,5 @@
--- Which transfers of a batch overlap: the order in which these move their words may show. This project's choice.
-use Rattle.std.specs.Prelude.{ℕ, ◌≡◌, ◌≢◌, ◌≤◌, ◌<◌, ◌⊎◌, List, length, slice_index_or}
+-- Which transfers of a batch overlap: they write one block, and which of them moves its words last would show. This project's choice.
+use Rattle.std.specs.Prelude.{ℕ, ◌≡◌, ◌≤◌, ◌<◌, ◌⊎◌, List, length, slice_index_or}
 use Rattle.batch.specs.declared.transfer.Kind.TheVariants.{Push}
 use Rattle.batch.specs.declared.transfer.Place.{Place}
 use Rattle.batch.specs.declared.transfer.Transfer.{Transfer}
@@ -21,15 +21,11 @@ source_at ts i = source_of (transfer_at ts i)
 abbrev pub destination_at : List Transfer → ℕ → Place
 destination_at ts i = destination_of (transfer_at ts i)
 
--- one writes what the other reads, or they are two and write one block
-abbrev pub Collide : List Transfer → ℕ → ℕ → Type 0
-Collide ts i j = (destination_at ts i ≡ source_at ts j) ⊎ ((destination_at ts j ≡ source_at ts i) ⊎ ((i ≢ j) × (destination_at ts i ≡ destination_at ts j)))
-
--- transfers i and j of the list, i at most j, overlap
+-- transfers i and j of the list, i less than j, overlap: they write one block
 pub record Overlap (ts : List Transfer) (i j : ℕ) : Type 0 where
-  pub ordered : i ≤ j
+  pub ordered : i < j
   pub within : j < length ts
-  pub collide : Collide ts i j
+  pub one_destination : destination_at ts i ≡ destination_at ts j
 
 -- no transfers of the list overlap
 abbrev pub IsApart : List Transfer → Type 0

@@ -7,6 +7,7 @@
 
 mod batch;
 mod fault;
+mod held;
 pub mod laws;
 mod limits;
 mod overlap;

@@ -148,8 +148,9 @@ fn overlap(alloc: Global, text: &str) -> Result<Option<(usize, usize)>, BatchFau
 #[test]
 fn transfers_overlap(rt: HostRuntime) {
     let rows = [
-        ("batch 2\npush 0 0 1 0\npush 1 0 2 0\n", Some((0, 1))),
-        ("batch 1\npush 5 0 5 0\n", Some((0, 0))),
+        ("batch 2\npush 0 0 1 0\npush 1 0 2 0\n", None),
+        ("batch 1\npush 5 0 5 0\n", None),
+        ("batch 2\npush 0 0 2 0\npush 1 0 2 0\n", Some((0, 1))),
         (
             "batch 3\npush 0 0 1 0\npush 0 0 1 0\npush 0 0 1 0\n",
             Some((0, 1)),
@@ -158,6 +159,37 @@ fn transfers_overlap(rt: HostRuntime) {
     ];
     for (text, pair) in rows {
         assert_eq!(rt; overlap(rt.alloc(), text), Ok(pair), "{text:?}");
+    }
+}
+
+/// How many held sources the batch of a text has, and the first of them.
+fn held(alloc: Global, text: &str) -> Result<(usize, Option<Place>), BatchFault> {
+    let batch = Batch::read(alloc, text.as_bytes(), Shape::WIDEST)?;
+    let held = batch.held_sources(alloc)?;
+    Ok((held.len(), held.first().copied()))
+}
+
+fn place(module: usize, block: usize) -> Option<Place> {
+    Some(Place { module, block })
+}
+
+#[test]
+fn sources_are_held(rt: HostRuntime) {
+    let rows = [
+        ("batch 2\npush 0 0 1 0\npush 1 0 2 0\n", (1, place(1, 0))),
+        ("batch 1\npush 5 0 5 0\n", (1, place(5, 0))),
+        ("batch 2\npush 0 0 1 0\npush 1 0 0 0\n", (2, place(0, 0))),
+        (
+            "batch 3\npush 0 0 1 0\npush 1 0 2 0\npush 1 0 3 0\n",
+            (1, place(1, 0)),
+        ),
+        (
+            "batch 3\npush 0 0 1 0\npush 0 1 2 0\npush 1 1 2 1\n",
+            (0, None),
+        ),
+    ];
+    for (text, places) in rows {
+        assert_eq!(rt; held(rt.alloc(), text), Ok(places), "{text:?}");
     }
 }
 

@@ -1,7 +1,7 @@
 use Rattle.std.proofs.Common.{◌≡◌, length}
 use Rattle.batch.specs.declared.overlap.TheConstants.{MAX_PLACES}
-use Rattle.batch.specs.Written.{AreFlags}
-use Rattle.batch.proofs.overlap.written_once.Given as goal
+use Rattle.batch.proofs.Flags.{AreFlags}
+use Rattle.batch.proofs.overlap.are_apart.Given as goal
 
 abbrev pub invariant-loop-transfer : goal.invariant-loop-transfer
 invariant-loop-transfer l = record {

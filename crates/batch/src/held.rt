@@ -1,0 +1,50 @@
+//! Which blocks a batch both reads and writes.
+
+ghost use Rattle.std.specs.Prelude.{All, IfOk, IfErr};
+ghost use Rattle.batch.specs.Extent.{widest};
+ghost use Rattle.batch.specs.Held.{AreHeldSources, HasHeldSource};
+ghost use Rattle.batch.specs.Text.{IsWithin};
+ghost use Rattle.batch.specs.Written.{AreWritten};
+
+use crate::batch::Batch;
+use crate::overlap::{MAX_PLACES, widest_index};
+use crate::transfer::{Place, Transfer};
+use std::alloc::{AllocError, Global};
+
+impl Batch {
+    /// The held sources: the blocks that a transfer of the batch reads and one, the same or another, writes.
+    /// Each stands once, in the order of the first transfers that read them. That such a block is copied
+    /// before any word moves is this project's choice.
+    ///
+    /// Want of memory is answered only where there is such a block. The time grows with the number of
+    /// transfers and of blocks.
+    pub fn held_sources(&self, alloc: Global) -> Result<Vec<Place>, AllocError>
+        ensures held { IfOk result (λ held. AreHeldSources self.now held.items) }
+        ensures memory { IfErr result (λ _. HasHeldSource self.now) }
+    {
+        let transfers = self.as_slice();
+        let mut unheld = written_blocks(transfers);
+        let mut held = Vec::new(alloc);
+        for transfer in transfers {
+            let source = transfer.source();
+            let index = widest_index(source);
+            if unheld[index] {
+                held.push(source)?;
+                unheld[index] = false;
+            }
+        }
+        Ok(held)
+    }
+}
+
+/// A flag for each block of the widest shape, which is up where one of the transfers writes the block.
+fn written_blocks(transfers: &[Transfer]) -> [bool; MAX_PLACES]
+    requires { All (IsWithin widest) transfers.now }
+    ensures { AreWritten transfers.now result }
+{
+    let mut written = [false; MAX_PLACES];
+    for transfer in transfers {
+        written[widest_index(transfer.destination())] = true;
+    }
+    written
+}
