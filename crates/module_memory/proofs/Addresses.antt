@@ -29,11 +29,11 @@ both true true e = (refl, refl)
 both true false e = absurd (cc)
 both false c e = absurd (cc)
 
-pub by_four : (x : ℕ) → (WINDOW_START + WORD_BYTES * x - WINDOW_START) / WORD_BYTES ≡ x
-by_four x = omega arith
+pub by_four : (start x : ℕ) → (start + WORD_BYTES * x - start) / WORD_BYTES ≡ x
+by_four start x = omega arith
 
-pub four_divides : (x : ℕ) → (WINDOW_START + WORD_BYTES * x) % WORD_BYTES ≡ 0
-four_divides x = omega arith
+pub four_divides : (start x : ℕ) → start % WORD_BYTES ≡ 0 → (start + WORD_BYTES * x) % WORD_BYTES ≡ 0
+four_divides start x e = omega arith
 
 back_by_four : (a : ℕ) → WINDOW_START ≤ a → a % WORD_BYTES ≡ 0 → a ≡ WINDOW_START + WORD_BYTES * word_number a
 back_by_four a h e = omega arith
@@ -56,11 +56,11 @@ windows_are_whole s m a h e =
 pub addresses_are_known : AddressesAreKnown
 addresses_are_known s m a j p h d =
     let n = p.block * s.words + j in
-    let number : word_number a ≡ n = ap word_number d.address ∙ by_four n in
+    let number : word_number a ≡ n = ap word_number d.address ∙ by_four WINDOW_START n in
     let row : word_number a / s.words ≡ p.block = ap (λ (x : ℕ). x / s.words) number ∙ div-mul-add p.block s.words j d.word in
     let column : word_number a % s.words ≡ j = ap (λ (x : ℕ). x % s.words) number ∙ mod-mul-add p.block s.words j d.word in
     let some : nat_lt m s.modules ≡ true = lt-ltb m s.modules (subst (λ (x : ℕ). x < s.modules) d.number d.place.in_modules) in
-    let aligned : (a % WORD_BYTES == 0) ≡ true = eq-eqb (a % WORD_BYTES) 0 (ap (λ (x : ℕ). x % WORD_BYTES) d.address ∙ four_divides n) in
+    let aligned : (a % WORD_BYTES == 0) ≡ true = eq-eqb (a % WORD_BYTES) 0 (ap (λ (x : ℕ). x % WORD_BYTES) d.address ∙ four_divides WINDOW_START n refl) in
     let from : nat_le WINDOW_START a ≡ true = le-leb WINDOW_START a (omega (arith, d.address)) in
     let below : nat_lt (word_number a) (s.blocks * s.words) ≡ true = lt-ltb (word_number a) (s.blocks * s.words) (omega (arith, number, mul-add-lt p.block s.words j s.blocks d.place.in_blocks d.word)) in
     (rw (some, aligned, from, below) refl, place_from_parts (place_of s m a) p (sym d.number) row, column)

@@ -8,9 +8,9 @@ use Rattle.batch.specs.declared.transfer.Transfer.{Transfer}
 use Rattle.batch.specs.Places.{HasPlace, place_index}
 use Rattle.batch.specs.Overlap.{source_at, destination_at}
 use Rattle.module_memory.specs.Store.{Store, block_of, set_block}
-use Rattle.module_memory.specs.Core.{IsMoved}
+use Rattle.module_memory.specs.Core.{IsMovedFrom}
 use Rattle.module_memory.specs.Lending.{BlockAt, place_in, bay_in, places_of, AreLendable, joined}
-use Rattle.module_memory.specs.Bays.{AreLent, AreSamePlaces, BaysHoldTheCounts, BaysStayLent, BaysStayWhole, BlocksAreWide, LentBlockIsGone, LentBlockIsItsBay, OtherBlockIsTheRest, SetIsOneWord}
+use Rattle.module_memory.specs.Bays.{AreLent, AreFound, AreSamePlaces, BaysHoldTheCounts, BaysStayLent, BaysStayWhole, BaysAreWide, LentBlockIsGone, LentBlockIsItsBay, OtherBlockIsTheRest, SetIsOneWord}
 use Rattle.batch.specs.Extent.{IsShape}
 use Rattle.batch.proofs.Places.{place_at, place_index-place_at, HasPlace-place_at}
 use Rattle.module_memory.proofs.Blocks.{block_at, block_length}
@@ -42,7 +42,7 @@ find_bay s (b ∷ bays) p =
     ]
 
 -- what is known of bays in which a setting's words have moved
-record Moves (rest : Store) (bays new : List BlockAt) (first : ℕ) (ts : List Transfer) (moved : ℕ → ℕ) : Type 0 where
+record Moves (find : Place → List ℕ) (opening rest : Store) (bays new : List BlockAt) (first : ℕ) (ts : List Transfer) (moved : ℕ → ℕ) : Type 0 where
   once : IsOnce rest.shape (places_of bays)
   exist : (k : ℕ) → k < length bays → HasPlace rest.shape (bay_in bays k).place
   all_blocks : length rest.blocks ≡ rest.shape.modules * rest.shape.blocks
@@ -50,8 +50,8 @@ record Moves (rest : Store) (bays new : List BlockAt) (first : ℕ) (ts : List T
   same_places : (k : ℕ) → k < length bays → (bay_in new k).place ≡ (bay_in bays k).place
   within : first + length ts ≤ length bays
   destinations : (i : ℕ) → i < length ts → destination_at ts i ≡ (bay_in bays (first + i)).place
-  sources : (i : ℕ) → i < length ts → IsOff rest.shape (places_of bays) (source_at ts i)
-  filled : (i : ℕ) → i < length ts → (bay_in new (first + i)).words ≡ take (moved i) (block_of rest (source_at ts i)) ++ drop (moved i) (bay_in bays (first + i)).words
+  found : AreFound find opening ts
+  filled : (i : ℕ) → i < length ts → (bay_in new (first + i)).words ≡ take (moved i) (find (source_at ts i)) ++ drop (moved i) (bay_in bays (first + i)).words
   others : (k : ℕ) → k < length bays → (k < first) ⊎ (first + length ts ≤ k) → (bay_in new k).words ≡ (bay_in bays k).words
 
 -- bays that stand where they stood have the same places
@@ -67,15 +67,15 @@ at_bay : (rest : Store) (bays : List BlockAt) (k : ℕ) → IsOnce rest.shape (p
 at_bay rest bays k once all l hp = block_of-joined_bay rest bays k once l (omega (arith, place_index_below rest.shape (bay_in bays k).place hp))
 
 -- a block that is no destination of the setting
-other_block : (rest : Store) (bays new : List BlockAt) (first : ℕ) (ts : List Transfer) (moved : ℕ → ℕ) → Moves rest bays new first ts moved → (p : Place) → HasPlace (joined rest bays).shape p → ((i : ℕ) → i < length ts → destination_at ts i ≢ p)
+other_block : (find : Place → List ℕ) (opening rest : Store) (bays new : List BlockAt) (first : ℕ) (ts : List Transfer) (moved : ℕ → ℕ) → Moves find opening rest bays new first ts moved → (p : Place) → HasPlace (joined rest bays).shape p → ((i : ℕ) → i < length ts → destination_at ts i ≢ p)
     → ((k : ℕ) × (k < length bays) × (place_index rest.shape (bay_in bays k).place ≡ place_index rest.shape p)) ⊎ IsOff rest.shape (places_of bays) p
     → ((k : ℕ) → k < length bays → block_of (joined rest bays) (bay_in bays k).place ≡ (bay_in bays k).words)
     → ((k : ℕ) → k < length bays → block_of (joined rest new) (bay_in bays k).place ≡ (bay_in new k).words)
     → places_of new ≡ places_of bays
     → block_of (joined rest new) p ≡ block_of (joined rest bays) p
-other_block rest bays new first ts moved h p hp none (inr off) old_bay new_bay places =
+other_block find opening rest bays new first ts moved h p hp none (inr off) old_bay new_bay places =
     block_of-joined_off rest new p (subst (λ (ps : List Place). IsOff rest.shape ps p) (sym places) off) ∙ sym (block_of-joined_off rest bays p off)
-other_block rest bays new first ts moved h p hp none (inl f) old_bay new_bay places =
+other_block find opening rest bays new first ts moved h p hp none (inl f) old_bay new_bay places =
     let k = f.0 in
     let at : (bay_in bays k).place ≡ p = same_place_from_index rest.shape (bay_in bays k).place p (h.exist k f.1) (subst (λ (x : Extent). HasPlace x p) (shape-joined rest bays) hp) f.2 in
     let out : (k < first) ⊎ (first + length ts ≤ k) = elim (cases_lt k first) [
@@ -87,8 +87,8 @@ other_block rest bays new first ts moved h p hp none (inl f) old_bay new_bay pla
     ] in
     subst (λ (q : Place). block_of (joined rest new) q ≡ block_of (joined rest bays) q) at (new_bay k f.1 ∙ h.others k f.1 out ∙ sym (old_bay k f.1))
 
-setting_moved : (rest : Store) (bays new : List BlockAt) (first : ℕ) (ts : List Transfer) (moved : ℕ → ℕ) → Moves rest bays new first ts moved → IsMoved (joined rest bays) ts moved (joined rest new)
-setting_moved rest bays new first ts moved h =
+setting_moved : (find : Place → List ℕ) (opening rest : Store) (bays new : List BlockAt) (first : ℕ) (ts : List Transfer) (moved : ℕ → ℕ) → Moves find opening rest bays new first ts moved → IsMovedFrom opening (joined rest bays) ts moved (joined rest new)
+setting_moved find opening rest bays new first ts moved h =
     let places = places_same bays new h.same_length h.same_places in
     let once_new : IsOnce rest.shape (places_of new) = subst (IsOnce rest.shape) (sym places) h.once in
     let old_bay = λ (k : ℕ) (l : k < length bays). at_bay rest bays k h.once h.all_blocks l (h.exist k l) in
@@ -100,10 +100,10 @@ setting_moved rest bays new first ts moved h =
           let k = first + i in
           let below : k < length bays = omega (arith, h.within) in
           let d = h.destinations i l in
-          let src = sym (block_of-joined_off rest bays (source_at ts i) (h.sources i l)) in
+          let src = h.found i l in
           ap (block_of (joined rest new)) d ∙ new_bay k below ∙ h.filled i l
           ∙ ap₂ (λ (x y : List ℕ). take (moved i) x ++ drop (moved i) y) src (sym (old_bay k below) ∙ ap (block_of (joined rest bays)) (sym d));
-      others = λ p hp none. other_block rest bays new first ts moved h p hp none (find_bay rest.shape bays p) old_bay new_bay places;
+      others = λ p hp none. other_block find opening rest bays new first ts moved h p hp none (find_bay rest.shape bays p) old_bay new_bay places;
     }
 
 -- the place of a bay
@@ -143,8 +143,8 @@ pub set_one_word : SetIsOneWord
 set_one_word rest bays k j w h l = joined-set_word rest bays k j w (once_of rest bays h) l (room_of rest bays h k l)
 
 pub hold_the_counts : BaysHoldTheCounts
-hold_the_counts rest old new first ts moved h f =
-    setting_moved rest old new first ts moved (record {
+hold_the_counts find opening rest old new first ts moved h found f =
+    setting_moved find opening rest old new first ts moved (record {
       once = once_of rest old h.lent;
       exist = exist_of rest old h.lent;
       all_blocks = h.lent.all_blocks;
@@ -152,7 +152,7 @@ hold_the_counts rest old new first ts moved h f =
       same_places = f.places.same_places;
       within = h.within;
       destinations = λ i l. sym (h.destinations i l);
-      sources = λ i l. off_of rest old (source_at ts i) h.lent (h.exist i l) (λ k m. h.sources i k l m);
+      found = found;
       filled = f.filled;
       others = f.others;
     })
@@ -168,10 +168,6 @@ stay_lent rest old new first ts h s = record {
   lent = lent_still rest old new h.lent s;
   within = omega (arith, h.within, s.same_length);
   destinations = λ i l. s.same_places (first + i) (omega (arith, h.within)) ∙ h.destinations i l;
-  exist = h.exist;
-  sources = λ i k l m e.
-      let below : k < length old = omega (arith, s.same_length) in
-      h.sources i k l below (sym (s.same_places k below) ∙ e);
 }
 
 -- the words of a block, in a store of bays and in another
@@ -210,15 +206,12 @@ stay_whole rest old new h s w r = record {
   };
 }
 
-pub blocks_are_wide : BlocksAreWide
-blocks_are_wide rest bays first ts i h r l =
-    let p = source_at ts i in
+pub bays_are_wide : BaysAreWide
+bays_are_wide rest bays first ts i h r l =
     let k = first + i in
     let below : k < length bays = omega (arith, h.within) in
     let q = (bay_in bays k).place in
     let whole = joined rest bays in
     let wide = λ (x : Place) (hp : HasPlace rest.shape x).
-    block_length whole x r.whole (subst (λ (e : Extent). HasPlace e x) (sym (shape-joined rest bays)) hp) ∙ ap (λ (e : Extent). e.words) (shape-joined rest bays) in (
-      ap (λ (x : List ℕ). length x) (sym (other_rest rest bays p h.lent (h.exist i l) (λ n m. h.sources i n l m))) ∙ wide p (h.exist i l),
-      ap (λ (x : List ℕ). length x) (sym (lent_block rest bays k h.lent below)) ∙ wide q (exist_of rest bays h.lent k below),
-    )
+    block_length whole x r.whole (subst (λ (e : Extent). HasPlace e x) (sym (shape-joined rest bays)) hp) ∙ ap (λ (e : Extent). e.words) (shape-joined rest bays) in
+    ap (λ (x : List ℕ). length x) (sym (lent_block rest bays k h.lent below)) ∙ wide q (exist_of rest bays h.lent k below)

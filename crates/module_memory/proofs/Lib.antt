@@ -7,3 +7,5 @@ pub mod BayLaws
 pub mod SettingLaws
 pub mod StepLists
 pub mod PartedSettings
+pub mod Held
+pub mod Copies

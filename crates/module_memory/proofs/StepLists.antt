@@ -5,10 +5,10 @@ use Rattle.std.proofs.lemmas.List.{get_or-replicate, length-replicate, length-ma
 use Rattle.std.proofs.lemmas.List.Elements.{All-append}
 use Rattle.std.proofs.lemmas.List.Sums.{sum_by-append}
 use Rattle.batch.specs.Overlap.{transfer_at}
-use Rattle.module_memory.specs.Core.{times, at_start, run, IsStepList, setting_of}
+use Rattle.module_memory.specs.Core.{times, at_start, run, IsStepList, found, setting_of}
 use Rattle.module_memory.specs.Settings.{CountsAreReached}
 use Rattle.module_memory.proofs.Blocks.{all_blocks}
-use Rattle.module_memory.proofs.CoreLaw.{IsMoved-same, each_prefix, one_moved, times_same, times_other}
+use Rattle.module_memory.proofs.CoreLaw.{IsMoved-same, each_prefix, one_moved_from, times_same, times_other}
 
 -- first all steps of the first transfer, then all of the next
 abbrev steps_of : (ℕ → ℕ) → ℕ → List ℕ
@@ -47,11 +47,11 @@ known m (suc n) =
     (λ k d l. omega (arith, get_or-replicate (m n) k n d (omega (arith, length-replicate (m n) n))))
 
 pub counts_are_reached : CountsAreReached
-counts_are_reached s t batch numbers moved r few h =
+counts_are_reached opening s t batch numbers moved r few h =
     let ts = setting_of batch numbers in
     let n = length ts in
     let long = length-map numbers (transfer_at batch) in
     let steps = steps_of moved n in
     let list : IsStepList ts s.shape.words steps = record { known = known moved n; bounded = λ i l. omega (arith, times-steps_of moved n i l, few i (omega (arith, long))) } in
-    let there = IsMoved-same s ts _ moved (run ts (at_start s ts) steps).store (λ i l. times-steps_of moved n i l) (each_prefix s batch numbers r steps list) in
-    (steps, list, (λ i l. times-steps_of moved n i (omega (arith, long))), one_moved s t (run ts (at_start s ts) steps).store ts moved (all_blocks s r.whole) h there)
+    let there = IsMoved-same opening s ts _ moved (run (found batch opening) ts (at_start s ts) steps).store (λ i l. times-steps_of moved n i l) (each_prefix opening s batch numbers r steps list) in
+    (steps, list, (λ i l. times-steps_of moved n i (omega (arith, long))), one_moved_from opening s t (run (found batch opening) ts (at_start s ts) steps).store ts moved (all_blocks s r.whole) h there)

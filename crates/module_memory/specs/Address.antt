@@ -9,13 +9,21 @@ use Rattle.module_memory.specs.declared.fault.MemoryFault.{MemoryFault}
 use Rattle.module_memory.specs.declared.fault.MemoryFault.TheVariants.{NoModule, Misaligned, Outside}
 use Rattle.module_memory.specs.Store.{Store, word, set_word, IsWhole}
 
+-- the address of word j of block b, in a window that begins at an address
+abbrev pub address_from : ℕ → Extent → ℕ → ℕ → ℕ
+address_from start shape b j = start + WORD_BYTES * (b * shape.words + j)
+
+-- which word of such a window an address is, counted over all blocks
+abbrev pub number_from : ℕ → ℕ → ℕ
+number_from start a = (a - start) / WORD_BYTES
+
 -- the address of word j of block b
 abbrev pub address_of : Extent → ℕ → ℕ → ℕ
-address_of shape b j = WINDOW_START + WORD_BYTES * (b * shape.words + j)
+address_of shape b j = address_from WINDOW_START shape b j
 
--- which word of its module an address is, counted over all blocks
+-- which word of its module an address is
 abbrev pub word_number : ℕ → ℕ
-word_number a = (a - WINDOW_START) / WORD_BYTES
+word_number a = number_from WINDOW_START a
 
 -- the block of a module's address, if it has that address
 abbrev pub place_of : Extent → ℕ → ℕ → Place

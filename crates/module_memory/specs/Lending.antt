@@ -1,10 +1,10 @@
 -- A rack of which some blocks are lent: bays that own the words of their blocks, and the rest. This project's choice.
-use Rattle.std.specs.Prelude.{ℕ, ◌≡◌, ◌≢◌, ◌<◌, List, [], ◌∷◌, length, map, slice_index_or, slice_set, All}
+use Rattle.std.specs.Prelude.{ℕ, ◌≡◌, ◌≢◌, ◌<◌, ◌⊎◌, List, [], ◌∷◌, length, map, slice_index_or, slice_set, All}
 use Rattle.batch.specs.Extent.{Extent}
 use Rattle.batch.specs.declared.transfer.Place.{Place}
-use Rattle.batch.specs.Places.{HasPlace}
+use Rattle.batch.specs.Places.{HasPlace, place_index}
 use Rattle.module_memory.specs.declared.fault.LendFault.{LendFault}
-use Rattle.module_memory.specs.declared.fault.LendFault.TheVariants.{SamePlace, NoPlace, NoMemory}
+use Rattle.module_memory.specs.declared.fault.LendFault.TheVariants.{SamePlace, NoPlace, NoHeld, NoMemory}
 use Rattle.module_memory.specs.Store.{Store, IsWhole, block_of, set_block}
 
 -- a block: where it stands, and its words
@@ -65,12 +65,13 @@ pub record AreLendable (shape : Extent) (places : List Place) : Type 0 where
   pub exist : ExistBefore shape places (length places)
   pub distinct : DifferBefore places (length places)
 
--- The first place at fault. That a place doesn't exist is looked at first, over all places, and memory is asked for last, where
--- there is something to lend.
-abbrev pub IsLendFault : Extent → List Place → LendFault → Type 0
-IsLendFault shape places (NoPlace i) = IsFirstMissing shape places i
-IsLendFault shape places (SamePlace i) = ExistBefore shape places (length places) × IsFirstRepeated places i
-IsLendFault shape places NoMemory = AreLendable shape places × (0 < length places)
+-- The first place at fault. That a place doesn't exist is looked at first, over all places and then over all held places, and memory is
+-- asked for last, where there is something to lend or to copy.
+abbrev pub IsLendFault : Extent → List Place → List Place → LendFault → Type 0
+IsLendFault shape places held (NoPlace i) = IsFirstMissing shape places i
+IsLendFault shape places held (NoHeld i) = ExistBefore shape places (length places) × IsFirstMissing shape held i
+IsLendFault shape places held (SamePlace i) = ExistBefore shape places (length places) × ExistBefore shape held (length held) × IsFirstRepeated places i
+IsLendFault shape places held NoMemory = AreLendable shape places × ExistBefore shape held (length held) × ((0 < length places) ⊎ (0 < length held))
 
 -- the bays of these places
 abbrev pub bays_of : Store → List Place → List BlockAt
@@ -85,6 +86,47 @@ without s (p ∷ places) = without (set_block s p []) places
 abbrev pub joined : Store → List BlockAt → Store
 joined rest [] = rest
 joined rest (b ∷ bays) = joined (set_block rest b.place b.words) bays
+
+-- ---- what is held
+
+-- what is left of a rack: the blocks, of which those that are lent have no words, and copies of the blocks that are held, of which those that
+-- aren't held have none
+pub record Left : Type 0 where
+  pub store : Store
+  pub held : List (List ℕ)
+
+-- the copy of a block among copies by where the blocks stand: it is empty where the block isn't held
+abbrev pub copy_in : Extent → List (List ℕ) → Place → List ℕ
+copy_in shape copies p = slice_index_or copies (place_index shape p) []
+
+-- the copy of a block
+abbrev pub copy_of : Left → Place → List ℕ
+copy_of rest p = copy_in rest.store.shape rest.held p
+
+-- the first of two lists, if it has anything, else the second
+abbrev pub or_else : List ℕ → List ℕ → List ℕ
+or_else [] ys = ys
+or_else (x ∷ xs) ys = x ∷ xs
+
+-- what a transfer finds at a place of the rest: the copy of a held block, else the block
+abbrev pub found_in : Left → Place → List ℕ
+found_in rest p = or_else (copy_of rest p) (block_of rest.store p)
+
+-- the copies of these places have the words that the store has there, and there is no other copy
+pub record AreCopies (s : Store) (held : List Place) (copies : List (List ℕ)) : Type 0 where
+  pub copied : (i : ℕ) → i < length held → copy_in s.shape copies (place_in held i) ≡ block_of s (place_in held i)
+  pub others : (p : Place) → HasPlace s.shape p → ((i : ℕ) → i < length held → place_in held i ≢ p) → copy_in s.shape copies p ≡ []
+
+-- the rack has the block, and a copy of it with these words, as many as a block has
+pub record HasCopy (rest : Left) (p : Place) (words : List ℕ) : Type 0 where
+  pub exists : HasPlace rest.store.shape p
+  pub words_are : words ≡ copy_of rest p
+  pub all_words : length words ≡ rest.store.shape.words
+  pub some : 0 < length words
+
+-- each copy has all words of a block, or none
+abbrev pub AreWholeCopies : Extent → List (List ℕ) → Type 0
+AreWholeCopies shape copies = (p : Place) → HasPlace shape p → (copy_in shape copies p ≡ []) ⊎ (length (copy_in shape copies p) ≡ shape.words)
 
 -- the bays have places of the rack, and nothing is missing
 pub record Rejoins (rest : Store) (bays : List BlockAt) : Type 0 where

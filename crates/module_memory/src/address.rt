@@ -14,6 +14,10 @@ use batch::{Place, Shape};
 /// project's choice.
 pub const WINDOW_START: u32 = 0x8000_0800;
 
+/// The address at which the hold window of each module begins: a copy of a held block has its words there, during a run
+/// alone. That it begins here is this project's choice.
+pub const HOLD_START: u32 = 0x8001_0800;
+
 /// How many bytes a word has (IMS T414 data sheet).
 pub const WORD_BYTES: u32 = 4;
 

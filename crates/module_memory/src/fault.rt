@@ -29,7 +29,10 @@ pub enum LendFault {
     /// The rack has no place as at this position. It is the first such position.
     #[error("place {0} does not exist")]
     NoPlace(usize),
-    /// There was no memory for the list of bays.
+    /// The rack has no held place as at this position. It is the first such position.
+    #[error("held place {0} does not exist")]
+    NoHeld(usize),
+    /// There was no memory for the list of bays or for the copies.
     #[error("no memory")]
     NoMemory,
 }

@@ -1,7 +1,7 @@
 //! Laws of a rack's memories and of the machine that moves their words. They make no call.
 
 ghost use Rattle.module_memory.specs.Address.{AddressesAreKnown, WindowsAreWhole, WritesAreApart, WritesAreKept};
-ghost use Rattle.module_memory.specs.Bays.{BaysHoldTheCounts, BaysStayLent, BaysStayWhole, BlocksAreWide, LentBlockIsGone, LentBlockIsItsBay, OtherBlockIsTheRest, SetIsOneWord, SettingsHaveBays};
+ghost use Rattle.module_memory.specs.Bays.{BaysAreWide, BaysHoldTheCounts, BaysStayLent, BaysStayWhole, LentBlockIsGone, LentBlockIsItsBay, OtherBlockIsTheRest, SetIsOneWord, SettingsHaveBays, SourcesAreFound};
 ghost use Rattle.module_memory.specs.Core.{EachPrefix, EndIsPlaced, OneEnd, OneMoved, OnePlaced};
 ghost use Rattle.module_memory.specs.Mark.{OneMarked};
 ghost use Rattle.module_memory.specs.Settings.{AllMovedIsPlaced, CountsAreReached, OneAfterAnother, OthersStayReady, RunIsPlaced, StopIsMoved, WholeBatchIsPlaced};
@@ -38,7 +38,8 @@ pub fn bays()
 /// bays of a setting is the store of their counts.
 pub fn setting_bays()
     ensures parted { SettingsHaveBays }
-    ensures wide { BlocksAreWide }
+    ensures found { SourcesAreFound }
+    ensures wide { BaysAreWide }
     ensures counts { BaysHoldTheCounts }
     ensures stay_lent { BaysStayLent }
 {}

@@ -48,12 +48,17 @@ fn first_repeated(places: &[Place]) -> Option<usize>
     None
 }
 
-/// Why these places can't be lent, memory aside.
-pub fn lend_fault(shape: Shape, places: &[Place]) -> Option<LendFault>
-    ensures { MatchOption result (AreLendable shape places.now) (IsLendFault shape places.now) }
+/// Why these places can't be lent while others are held, memory aside.
+pub fn lend_fault(shape: Shape, places: &[Place], held: &[Place]) -> Option<LendFault>
+    ensures { MatchOption result
+        (AreLendable shape places.now × ExistBefore shape held.now (length held.now))
+        (IsLendFault shape places.now held.now) }
 {
     if let Some(i) = first_missing(shape, places) {
         return Some(LendFault::NoPlace(i));
+    }
+    if let Some(i) = first_missing(shape, held) {
+        return Some(LendFault::NoHeld(i));
     }
     if let Some(i) = first_repeated(places) {
         return Some(LendFault::SamePlace(i));

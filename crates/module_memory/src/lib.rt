@@ -15,7 +15,7 @@ mod rack;
 #[cfg(test)]
 mod tests;
 
-pub use address::{WINDOW_START, WORD_BYTES};
+pub use address::{HOLD_START, WINDOW_START, WORD_BYTES};
 pub use fault::{LendFault, MemoryFault};
 pub use lending::{Bay, Parted, Rest};
 pub use rack::{BLOCK_MARK, MODULE_MARK, Rack};

@@ -1,11 +1,11 @@
 //! The memories of all modules.
 
-ghost use Rattle.std.specs.Prelude.{◌≡◌, IfOk, IfErr, MatchOption, MatchResult};
+ghost use Rattle.std.specs.Prelude.{◌≡◌, ◌<◌, length, IfOk, IfErr, MatchOption, MatchResult};
 ghost use Rattle.batch.specs.Places.{HasPlace};
 ghost use Rattle.module_memory.specs.Store.{IsWhole, block_of, zeros_of};
 ghost use Rattle.module_memory.specs.Address.{IsMemoryFault, IsWordAt, IsWrittenAt};
 ghost use Rattle.module_memory.specs.Mark.{IsMarked};
-ghost use Rattle.module_memory.specs.Lending.{AreLendable, IsLendFault, bays_of, without, joined, Rejoins};
+ghost use Rattle.module_memory.specs.Lending.{AreCopies, AreLendable, AreWholeCopies, ExistBefore, IsLendFault, bays_of, without, joined, Rejoins};
 ghost use Rattle.module_memory.specs.Bays.{AreLent};
 
 use crate::address::{block_index, find_block, site_of};
@@ -136,29 +136,60 @@ impl Rack {
         Ok(())
     }
 
+    /// Copies of these blocks, by where all blocks stand, and no words for the others. No memory is asked for where
+    /// there are no such blocks.
+    fn copies(&self, held: &[Place]) -> Result<Vec<Block>, AllocError>
+        requires { ExistBefore self.now.shape held.now (length held.now) }
+        ensures copies { IfOk result (λ copies. AreCopies self.now held.now copies.items) }
+        ensures whole { IfOk result (λ copies. AreWholeCopies self.now.shape copies.items) }
+        ensures memory { IfErr result (λ _. 0 < length held.now) }
+    {
+        let alloc = *self.blocks.allocator();
+        if held.is_empty() {
+            return Ok(Vec::new(alloc));
+        }
+        let mut copies = Vec::with_capacity(alloc, self.blocks.len())?;
+        for block in &self.blocks {
+            copies.push(block.empty())?;
+        }
+        for place in held {
+            let index = block_index(self.shape, *place);
+            let block = &self.blocks[index];
+            let copy = block.copy()?;
+            copies[index] = copy;
+        }
+        Ok(copies)
+    }
+
     /// Parts the rack: the block at each of the places becomes a bay that owns its words, and the rest
-    /// stays behind. Words are moved and not copied. Where a fault is answered the rack comes back as it
-    /// was.
+    /// stays behind. Words are moved and not copied, but for the held blocks: before any block becomes a bay, each
+    /// of these is copied into the rest. A held place may stand twice. Where a fault is answered the rack comes
+    /// back as it was.
     ///
-    /// Takes memory for the list of bays. The time may grow with the square of the number of places.
-    pub fn part(self, places: &[Place]) -> Result<Parted, (Rack, LendFault)>
+    /// Takes memory for the list of bays, and for the copies. The time may grow with the square of the number of
+    /// places, and with the words of the held ones.
+    pub fn part(self, places: &[Place], held: &[Place]) -> Result<Parted, (Rack, LendFault)>
         ensures lendable { IfOk result (λ _. AreLendable self.shape places.now) }
         ensures bays { IfOk result (λ parted. parted.bays.items ≡ bays_of self places.now) }
-        ensures rest { IfOk result (λ parted. parted.rest ≡ without self places.now) }
-        ensures store { IfOk result (λ parted. joined parted.rest parted.bays.items ≡ self) }
-        ensures lent { IfOk result (λ parted. AreLent parted.rest parted.bays.items) }
-        ensures rejoins { IfOk result (λ parted. Rejoins parted.rest parted.bays.items) }
+        ensures rest { IfOk result (λ parted. parted.rest.store ≡ without self places.now) }
+        ensures held { IfOk result (λ parted. AreCopies self held.now parted.rest.held) }
+        ensures store { IfOk result (λ parted. joined parted.rest.store parted.bays.items ≡ self) }
+        ensures lent { IfOk result (λ parted. AreLent parted.rest.store parted.bays.items) }
+        ensures rejoins { IfOk result (λ parted. Rejoins parted.rest.store parted.bays.items) }
         ensures unchanged { IfErr result (λ refused. refused.0 ≡ self) }
-        ensures fault { IfErr result (λ refused. IsLendFault self.shape places.now refused.1) }
+        ensures fault { IfErr result (λ refused. IsLendFault self.shape places.now held.now refused.1) }
     {
-        if let Some(fault) = lend_fault(self.shape, places) {
+        if let Some(fault) = lend_fault(self.shape, places, held) {
             return Err((self, fault));
         }
         let Ok(mut bays) = Vec::with_capacity(*self.blocks.allocator(), places.len()) else {
             return Err((self, LendFault::NoMemory));
         };
+        let Ok(copies) = self.copies(held) else {
+            return Err((self, LendFault::NoMemory));
+        };
         let Rack { shape, blocks } = self;
-        let mut rest = Rest::of(shape, blocks);
+        let mut rest = Rest::of(shape, blocks, copies);
         for place in places {
             let _ = bays.push(rest.lend(*place));
         }

@@ -1,8 +1,7 @@
 use Rattle.std.proofs.Common.{◌≡◌, ◌∷◌, ◌∙◌, sym, ap, subst, suc, List, All, arith}
 use Rattle.std.specs.Vec.Iter.{into_iter_items}
 use Rattle.batch.specs.Places.{HasPlace}
-use Rattle.module_memory.specs.Store.{Store}
-use Rattle.module_memory.specs.Lending.{BlockAt, joined}
+use Rattle.module_memory.specs.Lending.{Left, BlockAt, joined}
 use Rattle.module_memory.proofs.lending.Parted.rejoin.Goals as goal
 
 pub loop-bay-preserved : goal.loop-bay-preserved
@@ -10,10 +9,10 @@ loop-bay-preserved c =
     let bay = c.in-Some.bay in
     let more = into_iter_items c.next.new.self in
     let e : into_iter_items c.loop-bay.bay-iterator ≡ bay ∷ more = c.in-Some.ensures.steps.0 in
-    let all : All (λ (b : BlockAt). HasPlace c.args.self.rest.shape b.place) (bay ∷ more) = subst (λ (xs : List BlockAt). All (λ (b : BlockAt). HasPlace c.args.self.rest.shape b.place) xs) e c.loop-bay.invariant.4 in (
+    let all : All (λ (b : BlockAt). HasPlace c.args.self.rest.store.shape b.place) (bay ∷ more) = subst (λ (xs : List BlockAt). All (λ (b : BlockAt). HasPlace c.args.self.rest.store.shape b.place) xs) e c.loop-bay.invariant.4 in (
       tt,
       tt,
-      ap (λ (s : Store). joined s more) c.take_back.ensures ∙ (ap (λ (xs : List BlockAt). joined c.loop-bay.rest xs) (sym e) ∙ c.loop-bay.invariant.2),
-      ap (λ (s : Store). s.shape) c.take_back.ensures ∙ c.loop-bay.invariant.3,
+      ap (λ (s : Left). joined s.store more) c.take_back.ensures ∙ (ap (λ (xs : List BlockAt). joined c.loop-bay.rest.store xs) (sym e) ∙ c.loop-bay.invariant.2),
+      ap (λ (s : Left). s.store.shape) c.take_back.ensures ∙ c.loop-bay.invariant.3,
       λ k d l. all (suc k) d (omega arith),
     )

@@ -8,6 +8,6 @@ abbrev pub invariant-loop-bay : goal.invariant-loop-bay
 invariant-loop-bay l =
     (goal.iterator-loop-bay).can_next l.bay-iterator ×
     (goal.iterator-loop-bay).is_finite l.bay-iterator ×
-    (joined l.rest (into_iter_items l.bay-iterator) ≡ joined l.fn.self.rest l.fn.self.bays.items) ×
-    (l.rest.shape ≡ l.fn.self.rest.shape) ×
-    All (λ (b : BlockAt). HasPlace l.fn.self.rest.shape b.place) (into_iter_items l.bay-iterator)
+    (joined l.rest.store (into_iter_items l.bay-iterator) ≡ joined l.fn.self.rest.store l.fn.self.bays.items) ×
+    (l.rest.store.shape ≡ l.fn.self.rest.store.shape) ×
+    All (λ (b : BlockAt). HasPlace l.fn.self.rest.store.shape b.place) (into_iter_items l.bay-iterator)

@@ -5,7 +5,7 @@ use Rattle.batch.specs.declared.transfer.Place.{Place}
 use Rattle.batch.specs.Places.{HasPlace}
 use Rattle.module_memory.specs.Store.{IsWhole, Store, set_block, block_of}
 use Rattle.module_memory.specs.Bays.{AreLent}
-use Rattle.module_memory.specs.Lending.{BlockAt, AreLendable, place_in, bays_of, without, joined, Rejoins}
+use Rattle.module_memory.specs.Lending.{Left, AreCopies, BlockAt, AreLendable, place_in, bays_of, without, joined, Rejoins}
 use Rattle.module_memory.proofs.PartLaws.{AreLent-parted, shape-without, without_push, block_of-without, off_earlier, joined-without, Rejoins-parted}
 use Rattle.module_memory.proofs.rack.Rack.part.Goals as goal
 
@@ -13,7 +13,7 @@ pub lend-requires : goal.lend-requires
 lend-requires c =
     let h : AreLendable c.args.self.shape c.args.places.now = search rules in
     let i = c.loop-place.place-index in
-    let same : c.loop-place.rest.shape ≡ c.args.self.shape = ap (λ (s : Store). s.shape) c.loop-place.invariant.rest ∙ shape-without c.args.self (take i c.args.places.now) in
+    let same : c.loop-place.rest.store.shape ≡ c.args.self.shape = ap (λ (s : Store). s.shape) c.loop-place.invariant.rest ∙ shape-without c.args.self (take i c.args.places.now) in
     subst (λ (s : Extent). HasPlace s (place_in c.args.places.now i)) (sym same) (h.exist i (omega arith))
 
 abbrev bay_with : Place → List ℕ → BlockAt
@@ -31,7 +31,7 @@ loop-place-preserved c =
     let below : i < length ps = omega arith in
     let next : take (i + 1) ps ≡ front ++ p ∷ [] = take_more ps i _ below in
     let ok : is_ok c.push.result ≡ true = c.push.ensures.succeeds (omega (arith, inv.count, inv.room)) in
-    let words : block_of c.loop-place.rest p ≡ block_of s p =
+    let words : block_of c.loop-place.rest.store p ≡ block_of s p =
     ap (λ (t : Store). block_of t p) inv.rest ∙ block_of-without s front p (off_earlier s.shape ps i h below) in
     let bay = c.lend.ensures.bay ∙ ap (λ (ws : List ℕ). bay_with p ws) words in
     record {
@@ -40,7 +40,8 @@ loop-place-preserved c =
           ∙ ap₂ (λ (xs : List BlockAt) (x : BlockAt). xs ++ x ∷ []) inv.bays bay
           ∙ sym (map_push (λ (q : Place). bay_with q (block_of s q)) front p)
           ∙ ap (bays_of s) (sym next);
-      rest = c.lend.ensures.rest
+      held = subst (λ (x : Left). AreCopies s c.args.held.now x.held) (sym c.lend.ensures.rest) inv.held;
+      rest = ap (λ (x : Left). x.store) c.lend.ensures.rest
           ∙ ap (λ (t : Store). set_block t p []) inv.rest
           ∙ sym (without_push s front p)
           ∙ ap (without s) (sym next);
