@@ -7,6 +7,7 @@ mod bit_line;
 mod block;
 mod fault;
 mod fuse;
+mod held_store;
 pub mod laws;
 mod message;
 mod plain;
@@ -21,6 +22,7 @@ pub use answerer::Answerer;
 pub use block::RestStore;
 pub use fault::{AnswerFault, StoreFault, WireFault};
 pub use fuse::{FuseLine, FuseWire, FuseWires};
+pub use held_store::HeldStore;
 pub use message::{
     Message, PEEK, PEEK_BYTES, POKE, POKE_BYTES, REPLY_BYTES, peek_bytes, poke_bytes,
 };

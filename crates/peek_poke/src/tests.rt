@@ -4,9 +4,9 @@ ghost use Rattle.std.specs.Prelude.{◌≡◌, ◌<◌, ◌≤◌, length, IfOk,
 ghost use Rattle.batch.specs.Extent.{extent};
 
 use crate::{
-    AnswerFault, Answerer, FuseWire, FuseWires, PEEK, PEEK_BYTES, POKE, POKE_BYTES, PlainWire,
-    PlainWires, REPLY_BYTES, RestStore, StoreFault, Window, Wire, WireFault, WireMaker, WordStore,
-    laws, peek_bytes, poke_bytes, pull_word, push_word,
+    AnswerFault, Answerer, FuseWire, FuseWires, HeldStore, PEEK, PEEK_BYTES, POKE, POKE_BYTES,
+    PlainWire, PlainWires, REPLY_BYTES, RestStore, StoreFault, Window, Wire, WireFault, WireMaker,
+    WordStore, laws, peek_bytes, poke_bytes, pull_word, push_word,
 };
 use batch::{Place, Shape};
 use module_memory::{Bay, Parted, Rack, Rest, WINDOW_START, WORD_BYTES};
@@ -222,7 +222,7 @@ const MOVED: [(usize, usize); 4] = [(8, 0), (9, 1), (17, 1), (18, 2)];
 fn parted(alloc: Global) -> Result<Parted, Fail> {
     let mut rack = Rack::new(alloc, Shape::new(2, 2, 2)?)?;
     rack.mark();
-    match rack.part(&[place(1, 1)]) {
+    match rack.part(&[place(1, 1)], &[]) {
         Ok(parted) => Ok(parted),
         Err(_) => Err(Fail::from("not parted")),
     }
@@ -395,5 +395,35 @@ fn faults_are_printed(rt: HostRuntime) -> Result<(), Fail> {
         WireFault.to_string(rt.alloc())?.as_str(),
         "the wire failed"
     );
+    Ok(())
+}
+
+#[test]
+fn a_held_block_is_read_in_the_hold_window(rt: HostRuntime) -> Result<(), Fail> {
+    let mut rack = Rack::new(rt.alloc(), Shape::new(2, 1, 1)?)?;
+    rack.mark();
+    let Ok(Parted { rest, .. }) = rack.part(&[place(1, 0)], &[place(1, 0)]) else {
+        return Err(Fail::from("not parted"));
+    };
+    assert!(rt; HeldStore::of(&rest, place(0, 0)).is_none());
+    assert!(rt; HeldStore::of(&rest, place(2, 0)).is_none());
+    let Some(mut store) = HeldStore::of(&rest, place(1, 0)) else {
+        return Err(Fail::from("not held"));
+    };
+    let mut answerer = Answerer::new();
+    for byte in [1, 0x00, 0x08, 0x01] {
+        assert_eq!(rt; answerer.feed(&mut store, byte), Ok(None));
+    }
+    assert_eq!(rt; answerer.feed(&mut store, 0x80), Ok(Some([0, 0, 1, 0])));
+    let mut answerer = Answerer::new();
+    for byte in [1, 0x00, 0x08, 0x00] {
+        assert_eq!(rt; answerer.feed(&mut store, byte), Ok(None));
+    }
+    assert_eq!(rt; answerer.feed(&mut store, 0x80), Err(AnswerFault::Outside));
+    assert_eq!(rt; store.read_word(0x8001_07fc), Err(StoreFault::Outside));
+    assert_eq!(rt; store.read_word(0x8001_0801), Err(StoreFault::Outside));
+    assert_eq!(rt; store.read_word(0x8001_0804), Err(StoreFault::Outside));
+    assert_eq!(rt; store.write_word(0x8001_0800, 7), Err(StoreFault::Outside));
+    assert_eq!(rt; store.read_word(0x8001_0800), Ok(0x0001_0000));
     Ok(())
 }
