@@ -25,6 +25,7 @@ CALLS = f"{TOP}/crates/hostile_use/out/hostile_use"
 THREE_TRANSFERS = "batch 3\npush 0 0 1 0\npush 0 1 2 0\npush 1 1 2 1\n"
 SCHEDULE = "settings 2\nsetting 0 2\nsetting 1\nbusiest link 0 module 0\nnamed 0 1\n"
 TWO_PUSHES = "batch 2\npush 0 0 1 0\npush 1 1 2 0\n"
+SWAP = "batch 2\npush 0 0 1 0\npush 1 0 0 0\n"
 SCRIPT = "poke 1 80000808 000000ff\nbatch 1\npull 0 0 1 1\nplan 1\nrun 1\nprogress\npeek 0 80000800\nbye\n"
 REFUSALS = (
     "plan 1\nbatch 1\npush 0 0 1 0\nrun 1\nplan 1\nplan 1\nshow 1\nrun 1\nrun 1\ndrop 1\nshow 1\n"
@@ -34,13 +35,13 @@ PUSHES = TWO_PUSHES + "plan 1\nrun 1\nprogress\npeek 1 80000804\npeek 2 80000800
 FILES = {
     "three": THREE_TRANSFERS, "two": TWO_PUSHES, "schedule": SCHEDULE, "wrong": "batch 01\n",
     "script": SCRIPT, "other": "show 1\n", "refusals": REFUSALS,
-    "pushes": PUSHES,
+    "pushes": PUSHES, "swap": SWAP,
 }  # fmt: skip
 
 COMMANDS = [
     ["plan", "three"], ["plan", "three", "--workers", "2"], ["plan", "wrong"], ["plan", "missing"],
     ["check", "three", "schedule"], ["check", "three", "three"], ["run", "3x2x2", "two"], ["run", "3x2x2", "two", "--workers", "2"],
-    ["run", "3x2", "two"], ["serve", "2x2x2", "script", "other"], ["serve", "2x2x2", "script", "other", "--workers", "2"],
+    ["run", "2x1x1", "swap"], ["run", "3x2", "two"], ["serve", "2x2x2", "script", "other"], ["serve", "2x2x2", "script", "other", "--workers", "2"],
     ["serve", "3x2x2", "pushes", "--workers", "2"], ["serve", "2x1x1", "refusals"], ["serve", "2x2", "script"], ["--help"], ["help", "run"], ["plan", "--help"], ["chart", "three"], [], ["plan", "three", "--workers", "65"],
 ]  # fmt: skip
 

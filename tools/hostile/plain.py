@@ -168,13 +168,10 @@ def destination(transfer):
 
 
 def first_overlap(transfers):
-    """The first two transfers of which one writes what the other reads or writes, if there are any."""
+    """The first two transfers that write one block, if there are any."""
     for i, first in enumerate(transfers):
-        for j in range(i, len(transfers)):
-            other = transfers[j]
-            if destination(first) == source(other) or source(first) == destination(other):
-                return i, j
-            if i != j and destination(first) == destination(other):
+        for j in range(i + 1, len(transfers)):
+            if destination(first) == destination(transfers[j]):
                 return i, j
     return None
 

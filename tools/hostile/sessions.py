@@ -80,10 +80,11 @@ class Exchange:
         overlap = plain.first_overlap(transfers)
         if overlap:
             raise Refused("overlap {} {}".format(*overlap))
-        for transfer in transfers:
-            for j in range(self.shape[2]):
-                word = self.words.get((*plain.source(transfer), j), 0)
-                self.words[(*plain.destination(transfer), j)] = word
+        self.words |= {
+            (*plain.destination(transfer), j): self.words.get((*plain.source(transfer), j), 0)
+            for transfer in transfers
+            for j in range(self.shape[2])
+        }
         self.runs += 1
         batch["state"] = "ran"
         settings = len(plain.busiest(transfers)[1])

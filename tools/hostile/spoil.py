@@ -13,21 +13,18 @@ BYTES = b"0123456789 \n\r\t\x00\xff-+xabefghiklmnprstuPUSH"
 
 
 def batch(draw, shape, most):
-    """A batch text whose transfers all fit the shape. In half of the batches blocks that are read aren't written."""
+    """A batch text whose transfers all fit the shape. In half of the batches no block is written twice; blocks that are read may be
+    written in any."""
     modules, blocks, _ = shape
     count = draw.randint(0, most)
     apart = draw.random() < 0.5
-    free = [(m, b) for m in range(modules) for b in range(blocks // 2)]
+    free = [(m, b) for m in range(modules) for b in range(blocks)]
     draw.shuffle(free)
     lines = []
     while len(lines) < count and (free or not apart):
         kind = draw.choice(["push", "pull"])
-        if apart:
-            reads = (draw.randrange(modules), draw.randrange(blocks // 2, blocks))
-            writes = free.pop()
-        else:
-            reads = (draw.randrange(modules), draw.randrange(blocks))
-            writes = (draw.randrange(modules), draw.randrange(blocks))
+        reads = (draw.randrange(modules), draw.randrange(blocks))
+        writes = free.pop() if apart else (draw.randrange(modules), draw.randrange(blocks))
         own, far = (reads, writes) if kind == "push" else (writes, reads)
         lines.append(f"{kind} {own[0]} {own[1]} {far[0]} {far[1]}\n")
     return f"batch {len(lines)}\n".encode() + "".join(lines).encode()

@@ -17,7 +17,7 @@ pub enum RunningFault {
     /// The batch text has this fault.
     #[error("the batch: {0}")]
     Batch(BatchFault),
-    /// These two transfers overlap, the first two of the batch; or this one with itself.
+    /// These two transfers write one block, the first two of the batch that do.
     #[error("overlap of {0} and {1}")]
     Overlap(usize, usize),
     /// There was no memory.

@@ -294,7 +294,40 @@ fn runs_report(rt: HostRuntime) -> Result<(), Fail> {
     Ok(())
 }
 
-/// Rows thrice-the-same and overlaps-and-fuses, and what is refused before transfers are compared: first
+/// Rows relay, onto-itself, swap and ring.
+#[test]
+fn held_sources_are_moved(rt: HostRuntime) -> Result<(), Fail> {
+    let rows = [
+        (
+            "3x1x1",
+            "batch 2\npush 0 0 1 0\npush 1 0 2 0\n",
+            "ran settings 1 words 2 bits 234\nblock 1 0 00000000\nblock 2 0 00010000\n",
+        ),
+        (
+            "6x1x1",
+            "batch 1\npush 5 0 5 0\n",
+            "ran settings 1 words 1 bits 117\nblock 5 0 00050000\n",
+        ),
+        (
+            "2x1x1",
+            "batch 2\npush 0 0 1 0\npush 1 0 0 0\n",
+            "ran settings 1 words 2 bits 234\nblock 0 0 00010000\nblock 1 0 00000000\n",
+        ),
+        (
+            "3x1x1",
+            "batch 3\npush 0 0 1 0\npush 1 0 2 0\npush 2 0 0 0\n",
+            "ran settings 1 words 3 bits 351\nblock 0 0 00020000\nblock 1 0 00000000\nblock 2 0 00010000\n",
+        ),
+    ];
+    for (shape, batch, report) in rows {
+        let answer = run(&rt, shape, batch, 2)?;
+        assert_eq!(rt; answer.text(), report.as_bytes(), "{shape} {batch:?}");
+        assert_eq!(rt; answer.status(), 0);
+    }
+    Ok(())
+}
+
+/// Rows thrice-the-same and two-writers, and what is refused before transfers are compared: first
 /// the shape, then the batch.
 #[test]
 fn run_refusals(rt: HostRuntime) -> Result<(), Fail> {
@@ -306,10 +339,9 @@ fn run_refusals(rt: HostRuntime) -> Result<(), Fail> {
         ),
         (
             "3x1x1",
-            "batch 2\npush 0 0 1 0\npush 1 0 2 0\n",
+            "batch 2\npush 0 0 2 0\npush 1 0 2 0\n",
             "refused overlap 0 1\n",
         ),
-        ("6x1x1", "batch 1\npush 5 0 5 0\n", "refused overlap 0 0\n"),
         ("0x1x1", "batch 1\n", "refused shape\n"),
         ("3x2", "batch 0\n", "refused shape\n"),
         ("3x2x2", "batch 1\npush 3 0 1 0\n", "refused no module 0\n"),

@@ -68,10 +68,9 @@ Else nothing is run, and the answer is the first of these that is wrong:
   refused file          BATCH can't be read
   refused shape         SHAPE is no shape
   refused ..            BATCH, as `exchange plan --help` shows, in this rack
-  refused overlap I J   transfer I writes a block that J reads or writes, or
-                        reads one that J writes; I and J may be one
-With an overlap the order of the transfers might show. The first I is told,
-and its first J.
+  refused overlap I J   transfers I and J write one block
+Which of the two came last would show. The first I is told, and its first J. A
+block may be read and written: moved is what it held before the run.
 
 Status: 0 the batch was run, 1 it was refused or there was no memory, 2 the
 words fit no command, 3 the answer couldn't be written.";

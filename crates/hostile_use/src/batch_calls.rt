@@ -2,7 +2,7 @@
 
 use crate::marks::{begin, end};
 use crate::met::Met;
-use crate::rows::{LINK, ONE_PULL, THREE_TRANSFERS, THREE_TRANSFERS_PLAN, batch};
+use crate::rows::{LINK, ONE_PULL, SWAP, SWAPPED, THREE_TRANSFERS, THREE_TRANSFERS_PLAN, batch};
 use batch::{Batch, BatchFault, Shape};
 use link_graph::{Certificate, CheckFault, Schedule, ScheduleFault, Shortest, check_schedule};
 use std::alloc::Global;
@@ -49,6 +49,20 @@ pub fn copy_batch<R: AllocGlobal + Eprint>(rt: &R) -> Option<Met> {
     let is_as_before = is_written(&batch, ONE_PULL);
     Some(match copy {
         Ok(copy) => Met::row_if(is_as_before && copy == batch),
+        Err(_) => Met::no_memory_if(is_as_before),
+    })
+}
+
+/// `Batch::held_sources` on row swap.
+pub fn list_held<R: AllocGlobal + Eprint>(rt: &R) -> Option<Met> {
+    let batch = batch(rt.alloc(), SWAP)?;
+    let before = batch.copy().ok()?;
+    begin(rt);
+    let held = batch.held_sources(rt.alloc());
+    end(rt);
+    let is_as_before = batch == before;
+    Some(match held {
+        Ok(held) => Met::row_if(is_as_before && held.as_slice() == SWAPPED.as_slice()),
         Err(_) => Met::no_memory_if(is_as_before),
     })
 }

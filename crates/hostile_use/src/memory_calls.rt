@@ -2,7 +2,7 @@
 
 use crate::marks::{begin, end};
 use crate::met::Met;
-use crate::rows::{TWO_PUSHES_SHAPE, WRITTEN, are_same, marked};
+use crate::rows::{SWAP_SHAPE, SWAPPED, TWO_PUSHES_SHAPE, WRITTEN, are_same, marked};
 use batch::{Place, Shape};
 use module_memory::{Bay, LendFault, Parted, Rack};
 use peek_poke::{Answerer, Window};
@@ -77,10 +77,34 @@ pub fn part_rack<R: AllocGlobal + Eprint>(rt: &R) -> Option<Met> {
     let rack = marked(rt.alloc(), TWO_PUSHES_SHAPE)?;
     let before = marked(rt.alloc(), TWO_PUSHES_SHAPE)?;
     begin(rt);
-    let parted = rack.part(&WRITTEN);
+    let parted = rack.part(&WRITTEN, &[]);
     end(rt);
     Some(match parted {
         Ok(parted) => Met::row_if(is_parted(&parted) && are_same(&parted.rejoin(), &before)),
+        Err((rack, fault)) => {
+            Met::no_memory_if(fault == LendFault::NoMemory && are_same(&rack, &before))
+        }
+    })
+}
+
+/// Whether the rack is parted as row swap wants it: both blocks are lent, and both are held.
+fn is_held(parted: &Parted) -> bool {
+    parted.bays.len() == 2
+        && parted.rest.held(SWAPPED[0], 0) == Some(0)
+        && parted.rest.held(SWAPPED[1], 0) == Some(0x0001_0000)
+        && parted.rest.word(SWAPPED[0], 0).is_none()
+        && parted.rest.word(SWAPPED[1], 0).is_none()
+}
+
+/// `Rack::part` on row swap.
+pub fn part_held<R: AllocGlobal + Eprint>(rt: &R) -> Option<Met> {
+    let rack = marked(rt.alloc(), SWAP_SHAPE)?;
+    let before = marked(rt.alloc(), SWAP_SHAPE)?;
+    begin(rt);
+    let parted = rack.part(&SWAPPED, &SWAPPED);
+    end(rt);
+    Some(match parted {
+        Ok(parted) => Met::row_if(is_held(&parted) && are_same(&parted.rejoin(), &before)),
         Err((rack, fault)) => {
             Met::no_memory_if(fault == LendFault::NoMemory && are_same(&rack, &before))
         }

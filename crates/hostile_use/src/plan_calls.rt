@@ -6,8 +6,8 @@ use crate::marks::{begin, end};
 use crate::met::Met;
 use crate::plants::{Told, plain};
 use crate::rows::{
-    FOUR, ONE_PULL, THREE_BY_THREE, TWO_PUSHES, TWO_PUSHES_SHAPE, are_same, batch, marked,
-    marked_but, plan,
+    FIRST, FOUR, ONE_PULL, SWAP, SWAP_SHAPE, THREE_BY_THREE, TWO_PUSHES, TWO_PUSHES_SHAPE,
+    are_same, batch, marked, marked_but, marked_with, plan,
 };
 use crossbar::Chip;
 use link_graph::Schedule;
@@ -78,29 +78,26 @@ pub fn copy_plan<R: AllocGlobal + Eprint + Threads + Sync>(rt: &R) -> Option<Met
     })
 }
 
-/// What was met by a run of row two-pushes that left the rack, given the rack before it and the one that the row wants.
+/// What was met by a run of a row of one setting that left the rack, given the outcome, the rack before it and the one that the row
+/// wants.
 fn met_by_run(
     rack: &Rack,
     outcome: &Outcome,
+    words: usize,
     told: Told,
     before: &Rack,
     wanted: &Rack,
     is_joined: bool,
 ) -> Met {
-    match outcome {
-        Outcome::Completed {
-            settings: 1,
-            words: 4,
-        } => {
-            let is_told = told == Told { times: 2, last: 1 };
-            Met::row_if(is_told && is_joined && are_same(rack, wanted))
-        }
-        Outcome::Refused(RunRefusal::NoMemory) => {
-            let is_untold = told == Told::nothing();
-            Met::no_memory_if(is_untold && !is_joined && are_same(rack, before))
-        }
-        _ => Met::Other,
+    if *outcome == (Outcome::Completed { settings: 1, words }) {
+        let is_told = told == Told { times: 2, last: 1 };
+        return Met::row_if(is_told && is_joined && are_same(rack, wanted));
     }
+    if *outcome == Outcome::Refused(RunRefusal::NoMemory) {
+        let is_untold = told == Told::nothing();
+        return Met::no_memory_if(is_untold && !is_joined && are_same(rack, before));
+    }
+    Met::Other
 }
 
 /// `run` on row two-pushes, with so many workers.
@@ -119,5 +116,21 @@ pub fn run_plan<R: AllocGlobal + Eprint + Threads + Sync>(rt: &R, workers: usize
     let (rack, outcome) = run(rt, rt.alloc(), rack, &mut plant, &planned, &mut told);
     end(rt);
     let is_joined = plant.port.crossbar(Chip::A).joined(0, 1);
-    Some(met_by_run(&rack, &outcome, told, &before, &wanted, is_joined))
+    Some(met_by_run(&rack, &outcome, 4, told, &before, &wanted, is_joined))
+}
+
+/// `run` on row swap, which holds both blocks.
+pub fn run_swap<R: AllocGlobal + Eprint + Threads + Sync>(rt: &R) -> Option<Met> {
+    let planned = plan(rt, SWAP)?;
+    let rack = marked(rt.alloc(), SWAP_SHAPE)?;
+    let before = marked(rt.alloc(), SWAP_SHAPE)?;
+    let words = [(0, FIRST, 0x0001_0000), (1, FIRST, 0)];
+    let wanted = marked_with(rt.alloc(), SWAP_SHAPE, &words)?;
+    let mut plant = plain(1);
+    let mut told = Told::nothing();
+    begin(rt);
+    let (rack, outcome) = run(rt, rt.alloc(), rack, &mut plant, &planned, &mut told);
+    end(rt);
+    let is_joined = plant.port.crossbar(Chip::A).joined(0, 1);
+    Some(met_by_run(&rack, &outcome, 2, told, &before, &wanted, is_joined))
 }

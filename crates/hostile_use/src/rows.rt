@@ -50,6 +50,24 @@ pub const WRITTEN: [Place; 2] = [
     },
 ];
 
+/// Row swap: both blocks are held sources.
+pub const SWAP: &str = "batch 2\npush 0 0 1 0\npush 1 0 0 0\n";
+
+/// The shape on which row swap is run.
+pub const SWAP_SHAPE: &str = "2x1x1";
+
+/// The blocks that row swap reads and writes, as its transfers read them.
+pub const SWAPPED: [Place; 2] = [
+    Place {
+        module: 0,
+        block: 0,
+    },
+    Place {
+        module: 1,
+        block: 0,
+    },
+];
+
 /// What a run of row two-pushes reports.
 pub const TWO_PUSHES_REPORT: &str = "\
 ran settings 1 words 4 bits 468

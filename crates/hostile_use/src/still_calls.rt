@@ -10,8 +10,8 @@ use crate::marks::{begin, end};
 use crate::met::Met;
 use crate::plants::plain;
 use crate::rows::{
-    FIRST, FOUR, THREE_TRANSFERS, TWO_PUSHES, TWO_PUSHES_SHAPE, WRITTEN, are_same, batch, graph,
-    marked, plan,
+    FIRST, FOUR, SWAP, SWAP_SHAPE, THREE_TRANSFERS, TWO_PUSHES, TWO_PUSHES_SHAPE, WRITTEN,
+    are_same, batch, graph, marked, plan,
 };
 use alternating_path::Table;
 use batch::{Batch, Place};
@@ -40,7 +40,7 @@ pub fn insert<R: AllocGlobal + Eprint>(rt: &R) -> Option<Met> {
 pub fn rejoin<R: AllocGlobal + Eprint>(rt: &R) -> Option<Met> {
     let rack = marked(rt.alloc(), TWO_PUSHES_SHAPE)?;
     let before = marked(rt.alloc(), TWO_PUSHES_SHAPE)?;
-    let Ok(parted) = rack.part(&WRITTEN) else {
+    let Ok(parted) = rack.part(&WRITTEN, &[]) else {
         return None;
     };
     begin(rt);
@@ -64,20 +64,33 @@ impl<'a, R: Eprint> Notice for Marking<'a, R> {
     }
 }
 
-/// `run` behind its beginning, on row three-transfers, which has two settings.
-pub fn run_on<R: AllocGlobal + Eprint + Threads + Sync>(rt: &R) -> Option<Met> {
-    let planned = plan(rt, THREE_TRANSFERS)?;
-    let rack = marked(rt.alloc(), "3x2x1")?;
+/// `run` behind its beginning, on a row of so many settings and words.
+fn run_begun<R: AllocGlobal + Eprint + Threads + Sync>(
+    rt: &R,
+    text: &str,
+    shape: &str,
+    settings: usize,
+    words: usize,
+) -> Option<Met> {
+    let planned = plan(rt, text)?;
+    let rack = marked(rt.alloc(), shape)?;
     let mut plant = plain(1);
     let mut notice = Marking { rt };
     let (_rack, outcome) = run(rt, rt.alloc(), rack, &mut plant, &planned, &mut notice);
     end(rt);
     let Marking { rt: _ } = notice;
-    let all = Outcome::Completed {
-        settings: 2,
-        words: 3,
-    };
+    let all = Outcome::Completed { settings, words };
     Some(Met::row_if(outcome == all))
+}
+
+/// `run` behind its beginning, on row three-transfers, which has two settings.
+pub fn run_on<R: AllocGlobal + Eprint + Threads + Sync>(rt: &R) -> Option<Met> {
+    run_begun(rt, THREE_TRANSFERS, "3x2x1", 2, 3)
+}
+
+/// `run` behind its beginning, on row swap, whose blocks are held by then.
+pub fn swap_on<R: AllocGlobal + Eprint + Threads + Sync>(rt: &R) -> Option<Met> {
+    run_begun(rt, SWAP, SWAP_SHAPE, 1, 2)
 }
 
 /// One call of session 0.

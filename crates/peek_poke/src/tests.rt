@@ -399,7 +399,7 @@ fn faults_are_printed(rt: HostRuntime) -> Result<(), Fail> {
 }
 
 #[test]
-fn a_held_block_is_read_in_the_hold_window(rt: HostRuntime) -> Result<(), Fail> {
+fn hold_window(rt: HostRuntime) -> Result<(), Fail> {
     let mut rack = Rack::new(rt.alloc(), Shape::new(2, 1, 1)?)?;
     rack.mark();
     let Ok(Parted { rest, .. }) = rack.part(&[place(1, 0)], &[place(1, 0)]) else {

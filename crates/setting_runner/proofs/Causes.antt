@@ -5,7 +5,7 @@ use Rattle.std.proofs.lemmas.List.Elements.{All-cons, All-head}
 use Rattle.link_graph.proofs.Sums.{later, first_with}
 use Rattle.batch.specs.declared.transfer.Transfer.{Transfer}
 use Rattle.module_memory.specs.Store.{Store}
-use Rattle.module_memory.specs.Lending.{BlockAt}
+use Rattle.module_memory.specs.Lending.{Left, found_in, BlockAt}
 use Rattle.setting_runner.specs.declared.outcome.StopCause.{StopCause}
 use Rattle.setting_runner.specs.declared.outcome.StopCause.TheVariants.{Port, SwitchDisagrees, Wire}
 use Rattle.setting_runner.specs.Answers.{IsSetFault}
@@ -26,10 +26,10 @@ pub no_wire : (modules before after : ℕ) (honest : Bool) (cause : StopCause) (
 no_wire modules before after honest cause t f e = subst (IsSetFault modules before after honest) e f
 
 -- those whose wires never fail have moved all words
-pub sure_moved : (sure : ℕ → Type 0) (rest : Store) (batch : List Transfer) (ts : List ℕ) (os ns : List BlockAt) (ms : List (ℕ × ℕ)) → HaveMoved sure rest batch ts os ns ms → All (λ (m : ℕ × ℕ). sure m.0 → m.1 ≡ rest.shape.words) ms
+pub sure_moved : (sure : ℕ → Type 0) (rest : Left) (batch : List Transfer) (ts : List ℕ) (os ns : List BlockAt) (ms : List (ℕ × ℕ)) → HaveMoved sure rest batch ts os ns ms → All (λ (m : ℕ × ℕ). sure m.0 → m.1 ≡ rest.store.shape.words) ms
 sure_moved sure rest batch [] [] [] [] a = λ k d l. absurd (omega arith)
 sure_moved sure rest batch (t ∷ ts) (o ∷ os) (n ∷ ns) (m ∷ ms) a =
-    All-cons (λ (x : ℕ × ℕ). sure x.0 → x.1 ≡ rest.shape.words) m ms (λ h. a.0.all_words (subst sure a.0.named h)) (sure_moved sure rest batch ts os ns ms a.1)
+    All-cons (λ (x : ℕ × ℕ). sure x.0 → x.1 ≡ rest.store.shape.words) m ms (λ h. a.0.all_words (subst sure a.0.named h)) (sure_moved sure rest batch ts os ns ms a.1)
 sure_moved sure rest batch [] [] [] (m ∷ ms) a = absurd a
 sure_moved sure rest batch [] [] (n ∷ ns) ms a = absurd a
 sure_moved sure rest batch [] (o ∷ os) ns ms a = absurd a
@@ -38,7 +38,7 @@ sure_moved sure rest batch (t ∷ ts) (o ∷ os) [] ms a = absurd a
 sure_moved sure rest batch (t ∷ ts) (o ∷ os) (n ∷ ns) [] a = absurd a
 
 -- the names are the setting's
-pub names_moved : (sure : ℕ → Type 0) (rest : Store) (batch : List Transfer) (ts : List ℕ) (os ns : List BlockAt) (ms : List (ℕ × ℕ)) → HaveMoved sure rest batch ts os ns ms → names_of ms ≡ ts
+pub names_moved : (sure : ℕ → Type 0) (rest : Left) (batch : List Transfer) (ts : List ℕ) (os ns : List BlockAt) (ms : List (ℕ × ℕ)) → HaveMoved sure rest batch ts os ns ms → names_of ms ≡ ts
 names_moved sure rest batch [] [] [] [] a = refl
 names_moved sure rest batch (t ∷ ts) (o ∷ os) (n ∷ ns) (m ∷ ms) a =
     ap (λ (x : ℕ). x ∷ map (λ (m : ℕ × ℕ). m.0) ms) a.0.named ∙ ap (λ (xs : List ℕ). t ∷ xs) (names_moved sure rest batch ts os ns ms a.1)
@@ -49,9 +49,9 @@ names_moved sure rest batch (t ∷ ts) [] ns ms a = absurd a
 names_moved sure rest batch (t ∷ ts) (o ∷ os) [] ms a = absurd a
 names_moved sure rest batch (t ∷ ts) (o ∷ os) (n ∷ ns) [] a = absurd a
 
-pub most_moved : (sure : ℕ → Type 0) (rest : Store) (batch : List Transfer) (ts : List ℕ) (os ns : List BlockAt) (ms : List (ℕ × ℕ)) → HaveMoved sure rest batch ts os ns ms → All (λ (m : ℕ × ℕ). m.1 ≤ rest.shape.words) ms
+pub most_moved : (sure : ℕ → Type 0) (rest : Left) (batch : List Transfer) (ts : List ℕ) (os ns : List BlockAt) (ms : List (ℕ × ℕ)) → HaveMoved sure rest batch ts os ns ms → All (λ (m : ℕ × ℕ). m.1 ≤ rest.store.shape.words) ms
 most_moved sure rest batch [] [] [] [] a = λ k d l. absurd (omega arith)
-most_moved sure rest batch (t ∷ ts) (o ∷ os) (n ∷ ns) (m ∷ ms) a = All-cons (λ (x : ℕ × ℕ). x.1 ≤ rest.shape.words) m ms a.0.at_most (most_moved sure rest batch ts os ns ms a.1)
+most_moved sure rest batch (t ∷ ts) (o ∷ os) (n ∷ ns) (m ∷ ms) a = All-cons (λ (x : ℕ × ℕ). x.1 ≤ rest.store.shape.words) m ms a.0.at_most (most_moved sure rest batch ts os ns ms a.1)
 most_moved sure rest batch [] [] [] (m ∷ ms) a = absurd a
 most_moved sure rest batch [] [] (n ∷ ns) ms a = absurd a
 most_moved sure rest batch [] (o ∷ os) ns ms a = absurd a

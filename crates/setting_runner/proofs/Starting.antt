@@ -1,17 +1,20 @@
 -- Before a run begins.
-use Rattle.std.proofs.Common.{◌≡◌, ◌<◌, ◌+◌, inl, inr, ℕ, List, [], ◌++◌, length, take, drop, sym, ap₂, arith, subst, append-nil}
+use Rattle.std.proofs.Common.{◌⊎◌, ◌≡◌, ◌<◌, ◌+◌, inl, inr, ℕ, List, [], ◌++◌, length, take, drop, sym, ap₂, arith, subst, append-nil}
 use Rattle.std.specs.Prelude.{◌↔◌}
 use Rattle.std.specs.List.{concat}
 use Rattle.batch.specs.Extent.{Extent}
 use Rattle.batch.specs.declared.transfer.Place.{Place}
 use Rattle.batch.specs.declared.transfer.Transfer.{Transfer}
+use Rattle.batch.specs.Held.{AreHeldSources}
 use Rattle.batch.specs.Overlap.{IsApart, IsFirstOverlap}
+use Rattle.batch.specs.Places.{HasPlace}
+use Rattle.std.proofs.lemmas.List.Elements.{Contains-get_or}
 use Rattle.module_memory.specs.Store.{Store}
-use Rattle.module_memory.specs.Core.{IsReady, setting_of}
+use Rattle.module_memory.specs.Core.{FitsIn, IsReady, setting_of}
 use Rattle.module_memory.specs.Bays.{AreBaysOf, destinations_of}
-use Rattle.module_memory.specs.Lending.{AreLendable, IsLendFault, bays_of, without}
+use Rattle.module_memory.specs.Lending.{AreLendable, ExistBefore, IsLendFault, bays_of, place_in, without}
 use Rattle.module_memory.specs.declared.fault.LendFault.{LendFault}
-use Rattle.module_memory.specs.declared.fault.LendFault.TheVariants.{SamePlace, NoPlace, NoMemory as NoBays}
+use Rattle.module_memory.specs.declared.fault.LendFault.TheVariants.{SamePlace, NoPlace, NoHeld, NoMemory as NoBays}
 use Rattle.module_memory.proofs.PartedSettings.{settings_have_bays}
 use Rattle.schedule_certificate.specs.Plans.{Plan}
 use Rattle.setting_runner.specs.declared.outcome.Outcome.{Outcome}
@@ -50,23 +53,35 @@ pub shape_no_overlap : (i j : ℕ) → refused Shape ≡ refused (Overlap i j) �
 shape_no_overlap i j e = absurd cc
 
 -- what can be lent isn't refused but for want of memory
-pub lend_fault_is : (shape : Extent) (places : List Place) (f : LendFault) → AreLendable shape places → IsLendFault shape places f → 0 < length places
-lend_fault_is shape places (SamePlace i) a f = absurd (a.distinct f.1.again.0 i f.1.again.1 f.1.within f.1.again.2)
-lend_fault_is shape places (NoPlace i) a f = absurd (f.missing (a.exist i f.within))
-lend_fault_is shape places NoBays a f = f.1
+pub lend_fault_is : (shape : Extent) (places held : List Place) (f : LendFault) → AreLendable shape places → ExistBefore shape held (length held) → IsLendFault shape places held f → (0 < length places) ⊎ (0 < length held)
+lend_fault_is shape places held (SamePlace i) a h f = absurd (a.distinct f.2.again.0 i f.2.again.1 f.2.within f.2.again.2)
+lend_fault_is shape places held (NoHeld i) a h f = absurd (f.1.missing (h i f.1.within))
+lend_fault_is shape places held (NoPlace i) a h f = absurd (f.missing (a.exist i f.within))
+lend_fault_is shape places held NoBays a h f = f.2
 
 -- the destinations of a plan can be lent
-pub plan_lendable : (s : Store) (batch : List Transfer) (numbers : List ℕ) → IsReady s batch numbers → AreLendable s.shape (destinations_of batch numbers)
+pub plan_lendable : (s : Store) (batch : List Transfer) (numbers : List ℕ) → IsReady s s batch numbers → AreLendable s.shape (destinations_of batch numbers)
 plan_lendable s batch numbers r =
     let e : numbers ≡ [] ++ numbers ++ [] = sym (append-nil numbers) in
-    subst (λ (xs : List ℕ). AreLendable s.shape (destinations_of batch xs)) (sym e) (settings_have_bays s batch [] numbers [] (subst (IsReady s batch) e r)).0
+    subst (λ (xs : List ℕ). AreLendable s.shape (destinations_of batch xs)) (sym e) (settings_have_bays s batch [] numbers [] (subst (IsReady s s batch) e r)).0
 
 -- and each setting has its bays then
-pub plan_bays : (s : Store) (plan : Plan) (k : ℕ) → IsReady s plan.batch (concat plan.settings) → k < length plan.settings
+pub plan_bays : (s : Store) (plan : Plan) (k : ℕ) → IsReady s s plan.batch (concat plan.settings) → k < length plan.settings
     → HasOwnBays (without s (plan_destinations plan)) (bays_of s (plan_destinations plan)) plan k
 plan_bays s plan k r h =
     let before = concat (take k plan.settings) in
     let after = concat (drop (k + 1) plan.settings) in
     let e = split_concat plan.settings k h in
     subst (λ (xs : List ℕ). AreBaysOf (without s (destinations_of plan.batch xs)) (bays_of s (destinations_of plan.batch xs)) (length before) (setting_of plan.batch (numbers_of plan k))) (sym e)
-    (settings_have_bays s plan.batch before (numbers_of plan k) after (subst (IsReady s plan.batch) e r)).1
+    (settings_have_bays s plan.batch before (numbers_of plan k) after (subst (IsReady s s plan.batch) e r)).1
+
+-- held sources are blocks of the rack
+pub held_places : (shape : Extent) (batch : List Transfer) (held : List Place) → AreHeldSources batch held → FitsIn shape batch → ExistBefore shape held (length held)
+held_places shape batch held h fits k l =
+    let read = ((h.each (place_in held k)).0 (Contains-get_or held k _ l)).0 in
+    subst (HasPlace shape) read.2 (fits read.0 read.1).0
+
+-- and where there is one, there is a transfer
+pub held_is_read : (batch : List Transfer) (held : List Place) → AreHeldSources batch held → 0 < length held → 0 < length batch
+held_is_read batch held h l =
+    let read = ((h.each (place_in held 0)).0 (Contains-get_or held 0 _ l)).0 in omega (arith, read.1)

@@ -1,10 +1,13 @@
 -- What goes over the wire of a transfer. Source of the messages: INMOS IMS T414 data sheet.
-use Rattle.std.specs.Prelude.{◌≡◌, ◌<◌, ◌++◌, ℕ, List, slice_index}
+use Rattle.std.specs.Prelude.{◌≡◌, ◌<◌, ◌++◌, ℕ, List, [], ◌∷◌, slice_index}
 use Rattle.std.specs.List.{flat_map, range_with_len}
 use Rattle.batch.specs.Extent.{Extent}
 use Rattle.batch.specs.declared.transfer.Kind.{Kind}
 use Rattle.batch.specs.declared.transfer.Kind.TheVariants.{Push, Pull}
-use Rattle.module_memory.specs.Address.{address_of}
+use Rattle.batch.specs.declared.transfer.Place.{Place}
+use Rattle.module_memory.specs.declared.address.TheConstants.{HOLD_START, WINDOW_START}
+use Rattle.module_memory.specs.Address.{address_from, address_of}
+use Rattle.module_memory.specs.Lending.{Left, copy_of}
 use Rattle.peek_poke.specs.declared.message.Message.TheVariants.{Peek, Poke}
 use Rattle.peek_poke.specs.Messages.{spell, word_bytes}
 use Rattle.peek_poke.specs.Sending.{IsCut}
@@ -13,14 +16,23 @@ use Rattle.peek_poke.specs.Sending.{IsCut}
 abbrev pub pushed : Extent → ℕ → List ℕ → ℕ → List ℕ
 pushed shape block words j = spell (Poke (address_of shape block j) (slice_index words j))
 
--- or as a peek of its address in the block that is read, and the bytes of the word that come back
-abbrev pub pulled : Extent → ℕ → List ℕ → ℕ → List ℕ
-pulled shape block words j = spell (Peek (address_of shape block j)) ++ word_bytes (slice_index words j)
+-- where the window begins in which a block is peeked that has this copy: a held block is peeked in the hold window
+abbrev pub window_for : List ℕ → ℕ
+window_for [] = WINDOW_START
+window_for (x ∷ xs) = HOLD_START
+
+-- where the window begins in which a transfer peeks its source
+abbrev pub window_of : Left → Place → ℕ
+window_of rest p = window_for (copy_of rest p)
+
+-- or as a peek of its address in the block that is read, in that window, and the bytes of the word that come back
+abbrev pub pulled : ℕ → Extent → ℕ → List ℕ → ℕ → List ℕ
+pulled window shape block words j = spell (Peek (address_from window shape block j)) ++ word_bytes (slice_index words j)
 
 -- a word of a transfer goes as its kind says
-abbrev pub sent : Kind → Extent → ℕ → ℕ → List ℕ → ℕ → List ℕ
-sent Push shape written read words j = pushed shape written words j
-sent Pull shape written read words j = pulled shape read words j
+abbrev pub sent : Kind → ℕ → Extent → ℕ → ℕ → List ℕ → ℕ → List ℕ
+sent Push window shape written read words j = pushed shape written words j
+sent Pull window shape written read words j = pulled window shape read words j
 
 -- the bytes of the first so many words
 abbrev pub first_sent : (ℕ → List ℕ) → ℕ → List ℕ

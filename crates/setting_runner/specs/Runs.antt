@@ -9,9 +9,9 @@ use Rattle.crossbar.specs.Chips.{Switches}
 use Rattle.crossbar.specs.Pairs.{AreSwitchesOf}
 use Rattle.crossbar.specs.declared.pair.Pair.{Pair}
 use Rattle.module_memory.specs.Store.{Store}
-use Rattle.module_memory.specs.Bays.{AreBaysOf, destinations_of}
+use Rattle.module_memory.specs.Bays.{AreBaysOf, AreFound, destinations_of}
 use Rattle.module_memory.specs.Core.{FitsIn, IsMoved, IsPlaced, IsReady, setting_of, times}
-use Rattle.module_memory.specs.Lending.{BlockAt, Rejoins, joined}
+use Rattle.module_memory.specs.Lending.{BlockAt, Left, Rejoins, found_in, joined}
 use Rattle.link_graph.specs.Schedules.{IsScheduleOf}
 use Rattle.module_memory.specs.Settings.{IsRun, IsStoppedRun, all_words}
 use Rattle.schedule_certificate.specs.Plans.{Plan}
@@ -56,11 +56,13 @@ abbrev pub plan_destinations : Plan → List Place
 plan_destinations plan = destinations_of plan.batch (concat plan.settings)
 
 -- the bays of all settings are lent, setting by setting, from a rack that is ready for the plan
-pub record IsPrepared (rest : Store) (bays : List BlockAt) (plan : Plan) : Type 0 where
+pub record IsPrepared (rest : Left) (bays : List BlockAt) (plan : Plan) : Type 0 where
   pub schedule : IsScheduleOf plan.batch plan.settings
-  pub ready : IsReady (joined rest bays) plan.batch (concat plan.settings)
-  pub settings : (k : ℕ) → k < length plan.settings → HasOwnBays rest bays plan k
-  pub rejoins : Rejoins rest bays
+  pub ready : IsReady (joined rest.store bays) (joined rest.store bays) plan.batch (concat plan.settings)
+  pub settings : (k : ℕ) → k < length plan.settings → HasOwnBays rest.store bays plan k
+  pub rejoins : Rejoins rest.store bays
+  -- transfers find what their sources have before the first setting
+  pub found : AreFound (found_in rest) (joined rest.store bays) plan.batch
 
 -- ---- the memories
 
@@ -68,7 +70,7 @@ pub record IsPrepared (rest : Store) (bays : List BlockAt) (plan : Plan) : Type 
 pub record IsCompleted (old : Store) (plan : Plan) (settings words : ℕ) (new : Store) : Type 0 where
   pub all_settings : settings ≡ length plan.settings
   pub all_moved : words ≡ length plan.batch * old.shape.words
-  pub machine : IsRun old plan.batch plan.settings new
+  pub machine : IsRun old old plan.batch plan.settings new
   pub placed : IsPlaced old plan.batch new
 
 -- the transfers of the settings before one, and its own
@@ -83,7 +85,7 @@ pub record IsStopped (old : Store) (plan : Plan) (setting : ℕ) (moved : List (
   pub at_most : All (λ m. m.1 ≤ old.shape.words) moved
   pub steps : List ℕ
   pub counted : (i : ℕ) → i < length moved → times i steps ≡ slice_index (words_of moved) i
-  pub machine : IsStoppedRun old plan.batch (take setting plan.settings) (numbers_of plan setting) steps new
+  pub machine : IsStoppedRun old old plan.batch (take setting plan.settings) (numbers_of plan setting) steps new
   pub store : IsMoved old (up_to plan setting) (slice_index (all_words old (take setting plan.settings) ++ words_of moved)) new
 
 abbrev pub LeavesMemories : Store → Plan → Outcome → Store → Type 0

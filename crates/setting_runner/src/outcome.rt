@@ -5,8 +5,8 @@ use thiserror::Error;
 /// order, which is this project's choice.
 #[derive(Clone, Copy, Debug, PartialEq, Eq, Error)]
 pub enum RunRefusal {
-    /// These two transfers overlap, and no pair before them. The first number is at most the second, and
-    /// both are one where a transfer writes the block that it reads.
+    /// These two transfers write one block, and no pair before them does. The first number is less than the
+    /// second.
     #[error("overlap {0} {1}")]
     Overlap(usize, usize),
     /// A transfer names a module or a block that the rack hasn't.

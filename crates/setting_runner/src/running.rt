@@ -23,13 +23,16 @@ use std::thread::Threads;
 
 /// Runs a plan on a rack, and gives the rack back.
 ///
-/// First the plan is tested, and all memory is taken. Then, setting by setting, the switches are set, whatever they
-/// were for the first setting and from the setting before for each later one. A rack of at most 16 modules has one
-/// switch, and a wider one has two. All their outputs are asked whether they stand so, and the words of the
-/// setting's transfers are moved over their wires, by as many workers as the plant may have, from 1 to 64. The
-/// notice is told 0 before the first setting, and after each setting how many are done.
+/// First the plan is tested, and all memory is taken: a list of the blocks that are written, and copies of those
+/// that the batch both reads and writes. Their transfers move the words that they had then; no other block is copied.
 ///
-/// A run is refused where two transfers overlap, where the rack hasn't a block that a transfer names, and
+/// Then, setting by setting, the switches are set, whatever they were for the first setting and from the setting
+/// before for each later one. A rack of at most 16 modules has one switch, and a wider one has two. All their outputs
+/// are asked whether they stand so, and the words of the setting's transfers are moved over their wires, by as many
+/// workers as the plant may have, from 1 to 64. The notice is told 0 before the first setting, and after each setting
+/// how many are done.
+///
+/// A run is refused where two transfers write one block, where the rack hasn't a block that a transfer names, and
 /// where there is no memory, tested in this order: then the rack is as it was, and neither the port nor the
 /// notice was called. A port that fails, a switch that doesn't stand as set and a wire that fails stop the
 /// run. A wire that fails lets the other transfers of its setting go on. After a run the switches stay as they
@@ -88,7 +91,10 @@ pub fn run<R: Threads + Sync, P: ConfigPort, W: WireMaker + Sync, G: Gate + Sync
     let Ok(places) = destinations(alloc, planned) else {
         return (rack, Outcome::Refused(RunRefusal::NoMemory));
     };
-    match rack.part(places.as_slice()) {
+    let Ok(held) = batch.held_sources(alloc) else {
+        return (rack, Outcome::Refused(RunRefusal::NoMemory));
+    };
+    match rack.part(places.as_slice(), held.as_slice()) {
         Ok(parted) => {
             let Parted { rest, mut bays } = parted;
             let outcome = run_settings(rt, &rest, bays.as_mut_slice(), plant, planned, notice);
@@ -112,18 +118,18 @@ fn run_settings<R: Threads + Sync, P: ConfigPort, W: WireMaker + Sync, G: Gate +
     requires few { plant.old.workers ≤ MAX_WORKERS }
     requires prepared { IsPrepared rest.now bays.old planned.now }
 
-    ensures rejoins { Rejoins rest.now bays.new }
+    ensures rejoins { Rejoins rest.now.store bays.new }
     ensures memories { LeavesMemories
-        (joined rest.now bays.old) planned.now result (joined rest.now bays.new) }
+        (joined rest.now.store bays.old) planned.now result (joined rest.now.store bays.new) }
     ensures cause { HasCause (record {
       sure = W.is_sure plant.old.wires;
-      shape = rest.now.shape;
+      shape = rest.now.store.shape;
       before = P.failures plant.old.port;
       after = P.failures plant.new.port;
       honest = P.honest plant.old.port;
     }) result }
     ensures switches { IsTrue (P.honest plant.old.port) →
-        LeavesSwitches rest.now.shape planned.now result (P.switches plant.new.port) }
+        LeavesSwitches rest.now.store.shape planned.now result (P.switches plant.new.port) }
     ensures told { TellsOutcome N.hears notice.old result notice.new }
     ensures going { IsRefused result → ⊥ }
     ensures uncalled { planned.now.settings ≡ [] → plant.new ≡ plant.old }

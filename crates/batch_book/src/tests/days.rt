@@ -37,12 +37,11 @@ enum Work {
 
 // ---- the mixture
 
-/// One transfer; two in two settings, of which the second is cut; two of which each writes what the other reads;
-/// and none.
+/// One transfer; two in two settings, of which the second is cut; two that write one block; and none.
 const TEXTS: [&str; 4] = [
     "batch 1\npush 0 0 1 0\n",
     "batch 2\npush 0 0 1 0\npush 0 1 1 1\n",
-    "batch 2\npush 0 0 1 0\npush 1 0 0 0\n",
+    "batch 2\npush 0 0 1 0\npull 1 0 0 0\n",
     "batch 0\n",
 ];
 

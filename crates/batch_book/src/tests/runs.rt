@@ -11,8 +11,11 @@ use std::thread::Threads;
 /// Two transfers that can't be in one setting.
 const TWO_SETTINGS: &str = "batch 2\npush 0 0 1 0\npush 0 0 2 0\n";
 
-/// Two transfers of which each writes what the other reads.
-const ROUND: &str = "batch 2\npush 0 0 1 0\npush 1 0 0 0\n";
+/// Row swap: two transfers of which each writes what the other reads.
+const SWAP: &str = "batch 2\npush 0 0 1 0\npush 1 0 0 0\n";
+
+/// Two transfers that write one block.
+const TWO_WRITERS: &str = "batch 2\npush 0 0 1 0\npull 1 0 0 0\n";
 
 /// A transfer to a module that a rack of two hasn't.
 const FAR: &str = "batch 1\npush 0 0 5 0\n";
@@ -50,6 +53,21 @@ fn a_run_places_its_blocks(rt: HostRuntime) -> Result<(), Fail> {
     assert!(rt; office.told.in_order);
     assert_eq!(rt; (office.told.times, office.told.last), (3, 2));
     assert!(rt; office.plant.port.crossbar(Chip::A).joined(0, 2));
+    Ok(())
+}
+
+#[test]
+fn swap(rt: HostRuntime) -> Result<(), Fail> {
+    let mut office = settled(&rt, "2x1x2", SWAP).ok_or("no memory")?;
+    assert_eq!(rt; office.ask(&rt, 0, Call::Run(1)), Said::Ran(1, 1, 4));
+    assert_eq!(rt;
+        (office.word(1, FIRST), office.word(1, FIRST + 4)),
+        (Some(7), Some(8))
+    );
+    assert_eq!(rt;
+        (office.word(0, FIRST), office.word(0, FIRST + 4)),
+        (Some(0), Some(0))
+    );
     Ok(())
 }
 
@@ -121,7 +139,7 @@ fn refuses<R: AllocGlobal + Threads + Sync>(rt: &R, text: &str, refusal: RunRefu
 
 #[test]
 fn a_refused_run_leaves_its_batch_planned(rt: HostRuntime) {
-    assert!(rt; refuses(&rt, ROUND, RunRefusal::Overlap(0, 1)));
+    assert!(rt; refuses(&rt, TWO_WRITERS, RunRefusal::Overlap(0, 1)));
     assert!(rt; refuses(&rt, FAR, RunRefusal::Shape));
 }
 

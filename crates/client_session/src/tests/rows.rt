@@ -60,7 +60,7 @@ fn session_refusals(rt: HostRuntime) -> Result<(), Fail> {
 #[test]
 fn refusals_of_batches(rt: HostRuntime) -> Result<(), Fail> {
     let script =
-        "batch 4097\nbatch 01\nbatch 2\nbye\npush 0 0 1 0\nbatch 1\npush 2 0 1 0\nbatch 1\npush 0 1 1 0\nbatch 2\npush 0 0 1 0\npush 1 0 0 0\nplan 1\nrun 1\nprogress\nbatch 0\nshow 2\n";
+        "batch 4097\nbatch 01\nbatch 2\nbye\npush 0 0 1 0\nbatch 1\npush 2 0 1 0\nbatch 1\npush 0 1 1 0\nbatch 2\npush 0 0 1 0\npull 1 0 0 0\nplan 1\nrun 1\nprogress\nbatch 0\nshow 2\n";
     let want =
         "refused too many\nrefused line\nrefused batch line 2\nrefused no module 0\nrefused no block 0\naccepted 1\nplanned 1 settings 1\nrefused overlap 0 1\nprogress run 0 done 0\naccepted 2\nbatch 2 transfers 0 waiting\n";
     assert!(rt; is_answered(&rt, "2x1x1", script, want, None, 6));

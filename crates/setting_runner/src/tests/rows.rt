@@ -110,27 +110,6 @@ fn empty_batch(rt: HostRuntime) -> Result<(), Fail> {
     Ok(())
 }
 
-/// Row overlaps-and-fuses: the memories stay as they were.
-#[test]
-fn overlaps_and_fuses_overlap(rt: HostRuntime) -> Result<(), Fail> {
-    let text = "batch 2\npush 0 0 1 0\npush 1 0 2 0\n";
-    let unmoved = [
-        block_of(1, 0, &[0x0001_0000]),
-        block_of(2, 0, &[0x0002_0000]),
-    ];
-    let seen = run_plain(&rt, "3x1x1", text, 1, &unmoved)?;
-    assert_eq!(rt; seen.outcome, Outcome::Refused(RunRefusal::Overlap(0, 1)));
-    assert!(rt; seen.has_blocks);
-    Ok(())
-}
-
-#[test]
-fn overlaps_and_fuses_own_block(rt: HostRuntime) -> Result<(), Fail> {
-    let seen = run_plain(&rt, "6x1x1", "batch 1\npush 5 0 5 0\n", 1, &[])?;
-    assert_eq!(rt; seen.outcome, Outcome::Refused(RunRefusal::Overlap(0, 0)));
-    Ok(())
-}
-
 /// Both blocks of row two-pushes are of two words, which its refusals leave as they are.
 #[test]
 fn two_pushes_on_a_narrow_rack(rt: HostRuntime) -> Result<(), Fail> {

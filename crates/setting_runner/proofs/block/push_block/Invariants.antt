@@ -1,5 +1,5 @@
 use Rattle.std.proofs.Common.{◌≡◌, ◌++◌, length}
-use Rattle.module_memory.specs.Store.{block_of}
+use Rattle.module_memory.specs.Lending.{found_in}
 use Rattle.peek_poke.specs.Messages.{IsAtRest}
 use Rattle.setting_runner.specs.Carried.{first_sent, pushed}
 use Rattle.setting_runner.specs.Moves.{moved_into}
@@ -7,14 +7,15 @@ use Rattle.setting_runner.proofs.block.push_block.Given as goal
 
 abbrev pub invariant-loop-j : goal.invariant-loop-j
 invariant-loop-j g l = record {
-  shape : l.shape ≡ l.fn.rest.shape;
-  end : l.j-end ≡ l.fn.rest.shape.words;
+  shape : l.shape ≡ l.fn.rest.store.shape;
+  end : l.j-end ≡ l.fn.rest.store.shape.words;
   block : l.block ≡ l.fn.bay.place.block;
+  found : l.words ≡ found_in l.fn.rest l.fn.source;
   place : l.bay.place ≡ l.fn.bay.place;
-  width : length l.bay.words ≡ l.fn.rest.shape.words;
-  words : l.bay.words ≡ moved_into l.j (block_of l.rest l.source) l.fn.bay.words;
+  width : length l.bay.words ≡ l.fn.rest.store.shape.words;
+  words : l.bay.words ≡ moved_into l.j (found_in l.fn.rest l.fn.source) l.fn.bay.words;
   rest : IsAtRest l.answerer;
-  carried : g.W.Wire.carried l.wire ≡ g.W.Wire.carried l.fn.wire ++ first_sent (pushed l.rest.shape l.fn.bay.place.block (block_of l.rest l.source)) l.j;
+  carried : g.W.Wire.carried l.wire ≡ g.W.Wire.carried l.fn.wire ++ first_sent (pushed l.fn.rest.store.shape l.fn.bay.place.block (found_in l.fn.rest l.fn.source)) l.j;
   failures : g.W.Wire.failures l.wire ≡ g.W.Wire.failures l.fn.wire;
   sure : g.W.Wire.never_fails l.fn.wire → g.W.Wire.never_fails l.wire;
 }

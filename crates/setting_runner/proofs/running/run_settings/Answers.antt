@@ -67,7 +67,7 @@ returns-in-Err-clause-memories g c =
     (going_stops c.args.rest.now c.args.bays.now c.loop-number.bays new plan n a k ms begun inv.going below inv.from count moves).0
 
 pub run_setting-requires-clause-pairs : goal.run_setting-requires-clause-pairs
-run_setting-requires-clause-pairs g c κs within = c.of_setting-pairs.ensures.pairs c.args.rest.now.shape (rack_fits c.args.rest.now c.args.bays.now c.args.planned.now c.batch-batch.result.now c.requires.prepared c.batch-batch.ensures.batch)
+run_setting-requires-clause-pairs g c κs within = c.of_setting-pairs.ensures.pairs c.args.rest.now.store.shape (rack_fits c.args.rest.now c.args.bays.now c.args.planned.now c.batch-batch.result.now c.requires.prepared c.batch-batch.ensures.batch)
 
 pub returns-in-Err-clause-switches : goal.returns-in-Err-clause-switches
 returns-in-Err-clause-switches g c = λ honest t is.
@@ -76,7 +76,7 @@ returns-in-Err-clause-switches g c = λ honest t is.
     let inv = c.loop-number.invariant in
     let fits = rack_fits c.args.rest.now c.args.bays.now plan c.batch-batch.result.now c.requires.prepared c.batch-batch.ensures.batch in
     setting_switches c.args.rest.now c.args.bays.now plan n c.batch-batch.result.now c.setting_numbers-numbers.result.now c.of_setting-pairs.result (g.P.ConfigPort.switches c.run_setting.new.plant.port)
-    c.requires.prepared c.batch-batch.ensures.batch c.setting_numbers-numbers.ensures.numbers (λ w. c.of_setting-pairs.ensures.switch c.args.rest.now.shape w fits)
+    c.requires.prepared c.batch-batch.ensures.batch c.setting_numbers-numbers.ensures.numbers (λ w. c.of_setting-pairs.ensures.switch c.args.rest.now.store.shape w fits)
     (c.in-Err.ensures.wire t is (subst IsTrue (sym inv.honesty) honest))
 
 pub loop-number-preserved : goal.loop-number-preserved
@@ -93,7 +93,7 @@ loop-number-preserved g c =
     let count : k ≡ length (numbers_of plan n) = omega (arith, ap (length {A = ℕ}) e) in
     let part = take k (drop a c.loop-number.bays) in
     let new = c.run_setting.new.bays in
-    let words = c.args.rest.now.shape.words in
+    let words = c.args.rest.now.store.shape.words in
     let moves : HaveMoved none_sure c.args.rest.now plan.batch (numbers_of plan n) part new (all_moved (numbers_of plan n) words) =
     subst (λ (x : List ℕ). HaveMoved none_sure c.args.rest.now plan.batch x part new (all_moved x words)) (sym e)
     (subst (λ (b : List Transfer). HaveMoved none_sure c.args.rest.now b numbers part new (all_moved numbers words)) c.batch-batch.ensures.batch c.in_default.ensures.moved) in
@@ -102,12 +102,12 @@ loop-number-preserved g c =
       from = omega (arith, next_begins plan n a k below inv.from count);
       going = going_next c.args.rest.now c.args.bays.now c.loop-number.bays new plan n a k begun inv.going below inv.from count moves;
       told = subst (λ (x : ℕ). Told g.N.Notice.hears c.args.notice.now x c.done-in-loop-number.new.self) (sym (add-one n)) (c.loop-number.notice, inv.told, subst (λ (x : ℕ). g.N.Notice.hears c.loop-number.notice x c.done-in-loop-number.new.self) (add-one n) c.done-in-loop-number.ensures);
-      standing = (c.of_setting-pairs.ensures.pairs c.args.rest.now.shape fits, λ honest. c.in_default.ensures.set (subst IsTrue (sym inv.honesty) honest));
+      standing = (c.of_setting-pairs.ensures.pairs c.args.rest.now.store.shape fits, λ honest. c.in_default.ensures.set (subst IsTrue (sym inv.honesty) honest));
       switches = λ j last honest.
           let at : n ≡ j = omega arith in
-          subst (λ (x : ℕ). AreSettingSwitches c.args.rest.now.shape plan x (g.P.ConfigPort.switches c.run_setting.new.plant.port)) at
+          subst (λ (x : ℕ). AreSettingSwitches c.args.rest.now.store.shape plan x (g.P.ConfigPort.switches c.run_setting.new.plant.port)) at
           (setting_switches c.args.rest.now c.args.bays.now plan n c.batch-batch.result.now numbers c.of_setting-pairs.result (g.P.ConfigPort.switches c.run_setting.new.plant.port)
-          begun c.batch-batch.ensures.batch c.setting_numbers-numbers.ensures.numbers (λ w. c.of_setting-pairs.ensures.switch c.args.rest.now.shape w fits)
+          begun c.batch-batch.ensures.batch c.setting_numbers-numbers.ensures.numbers (λ w. c.of_setting-pairs.ensures.switch c.args.rest.now.store.shape w fits)
           (c.in_default.ensures.set (subst IsTrue (sym inv.honesty) honest)));
       uncalled = λ none. absurd (omega arith);
       plant = search rules;
@@ -129,9 +129,9 @@ returns-clause-memories g c =
     let begun = c.requires.prepared in
     let size : length plan.settings ≡ c.settings.result = search rules in
     let done : length plan.settings ≤ c.loop-number.number = omega (arith, c.settings-number-end.ensures, ap (length {A = List ℕ}) c.schedule-schedule.ensures.schedule) in
-    let wide : c.words.result ≡ c.args.rest.now.shape.words = search rules in
+    let wide : c.words.result ≡ c.args.rest.now.store.shape.words = search rules in
     let completed = going_completes c.args.rest.now c.args.bays.now c.loop-number.bays plan c.loop-number.number begun c.loop-number.invariant.going done (c.loop-number.from * c.words.result) (ap₂ (λ (x y : ℕ). x * y) c.loop-number.invariant.from wide) in
-    subst (λ (x : ℕ). IsCompleted (joined c.args.rest.now c.args.bays.now) plan x (c.loop-number.from * c.words.result) (joined c.args.rest.now c.loop-number.bays)) size completed
+    subst (λ (x : ℕ). IsCompleted (joined c.args.rest.now.store c.args.bays.now) plan x (c.loop-number.from * c.words.result) (joined c.args.rest.now.store c.loop-number.bays)) size completed
 
 pub returns-clause-uncalled : goal.returns-clause-uncalled
 returns-clause-uncalled g c = λ empty.

@@ -13,8 +13,8 @@ returns-in-Err-clause-moved g c =
 
 pub returns-in-Err-clause-cause : goal.returns-in-Err-clause-cause
 returns-in-Err-clause-cause g c =
-    let given : Given = record { sure = g.W.WireMaker.is_sure c.args.plant.now.wires; shape = c.args.rest.now.shape; before = g.P.ConfigPort.failures c.args.plant.now.port; after = g.P.ConfigPort.failures c.set_switches.new.port; honest = g.P.ConfigPort.honest c.args.plant.now.port } in
-    let same : c.modules.result ≡ c.args.rest.now.shape.modules = search rules in
+    let given : Given = record { sure = g.W.WireMaker.is_sure c.args.plant.now.wires; shape = c.args.rest.now.store.shape; before = g.P.ConfigPort.failures c.args.plant.now.port; after = g.P.ConfigPort.failures c.set_switches.new.port; honest = g.P.ConfigPort.honest c.args.plant.now.port } in
+    let same : c.modules.result ≡ c.args.rest.now.store.shape.modules = search rules in
     set_fault_stops given c.in-Err.cause c.none_moved.result (subst (λ (m : ℕ). IsSetFault m given.before given.after given.honest c.in-Err.cause) same c.in-Err.ensures.fault)
     (subst (λ (ms : List (ℕ × ℕ)). All (λ (m : ℕ × ℕ). m.1 ≡ 0) ms) (sym c.none_moved.ensures) (all_zero c.args.setting.now.numbers.now))
 
@@ -29,7 +29,7 @@ least_short-requires g c = subst (λ (ts : List ℕ). AllPairs (λ a b. a < b) t
 
 pub returns-in-Some-clause-cause : goal.returns-in-Some-clause-cause
 returns-in-Some-clause-cause g c =
-    let e : c.words-words.result ≡ c.args.rest.now.shape.words = search rules in
+    let e : c.words-words.result ≡ c.args.rest.now.store.shape.words = search rules in
     record {
       least = subst (λ (w : ℕ). IsLeastShort w c.in-Some.transfer c.move_all-moved.result) e c.in-Some.ensures;
       others = sure_moved _ _ _ _ _ _ _ c.move_all-moved.ensures;
@@ -38,6 +38,6 @@ returns-in-Some-clause-cause g c =
 
 pub returns-in-None-clause-moved : goal.returns-in-None-clause-moved
 returns-in-None-clause-moved g c =
-    let e : c.words-words.result ≡ c.args.rest.now.shape.words = search rules in
+    let e : c.words-words.result ≡ c.args.rest.now.store.shape.words = search rules in
     let ms = whole_moves _ _ _ _ _ _ _ c.move_all-moved.ensures (subst (λ (w : ℕ). AllWhole w c.move_all-moved.result) e c.in-None.ensures) in
     subst (λ (m : List (ℕ × ℕ)). HaveMoved none_sure c.args.rest.now c.args.setting.now.batch.now c.args.setting.now.numbers.now c.args.bays.now c.move_all-moved.new.bays m) ms (HaveMoved-forget _ _ _ _ _ _ _ c.move_all-moved.ensures)

@@ -3,8 +3,7 @@ use Rattle.std.proofs.lemmas.List.{take_more_set, drop-set-lt, drop_more}
 use Rattle.batch.specs.declared.transfer.Transfer.{Transfer}
 use Rattle.batch.specs.Places.{HasPlace, source_of}
 use Rattle.batch.specs.Overlap.{transfer_at}
-use Rattle.module_memory.specs.Store.{block_of}
-use Rattle.module_memory.specs.Lending.{BlockAt}
+use Rattle.module_memory.specs.Lending.{BlockAt, found_in}
 use Rattle.setting_runner.specs.Moves.{HasMoved}
 use Rattle.setting_runner.proofs.Moves.{AreMovable-at, AreMovable-length, Completes-next, Completes-end, same_there, same_after}
 use Rattle.setting_runner.proofs.work.move_in_turn.Goals as goal
@@ -23,7 +22,7 @@ move_block-words-requires-clause-source_exists g c =
     let x : Transfer = c.transfer_of-transfer.result in
     let e : transfer_at c.args.work.now.batch.now (get_or c.args.numbers.now i 0) ≡ x = sym c.transfer_of-transfer.ensures in
     let m = AreMovable-at c.args.work.now.rest.now c.args.work.now.batch.now c.args.numbers.now c.args.bays.now i 0 c.index-bays-i.result c.requires.movable c.loop-i-test.true in
-    subst (λ (y : Transfer). HasPlace c.args.work.now.rest.now.shape (source_of y)) e m.source_exists
+    subst (λ (y : Transfer). HasPlace c.args.work.now.rest.now.store.shape (source_of y)) e m.source_exists
 
 pub move_block-words-requires-clause-source_here : goal.move_block-words-requires-clause-source_here
 move_block-words-requires-clause-source_here g c =
@@ -31,14 +30,14 @@ move_block-words-requires-clause-source_here g c =
     let x : Transfer = c.transfer_of-transfer.result in
     let e : transfer_at c.args.work.now.batch.now (get_or c.args.numbers.now i 0) ≡ x = sym c.transfer_of-transfer.ensures in
     let m = AreMovable-at c.args.work.now.rest.now c.args.work.now.batch.now c.args.numbers.now c.args.bays.now i 0 c.index-bays-i.result c.requires.movable c.loop-i-test.true in
-    ap (λ (y : Transfer). length (block_of c.args.work.now.rest.now (source_of y))) (sym e) ∙ m.source_here
+    ap (λ (y : Transfer). length (found_in c.args.work.now.rest.now (source_of y))) (sym e) ∙ m.source_here
 
 pub move_block-words-requires-clause-bay_exists : goal.move_block-words-requires-clause-bay_exists
 move_block-words-requires-clause-bay_exists g c =
     let i = c.loop-i.i in
     let d = c.index-bays-i.result in
     let m = AreMovable-at c.args.work.now.rest.now c.args.work.now.batch.now c.args.numbers.now c.args.bays.now i 0 d c.requires.movable c.loop-i-test.true in
-    subst (λ (b : BlockAt). HasPlace c.args.work.now.rest.now.shape b.place) (sym (same_there c.loop-i.bays c.args.bays.now i d c.loop-i.invariant.left)) m.bay_exists
+    subst (λ (b : BlockAt). HasPlace c.args.work.now.rest.now.store.shape b.place) (sym (same_there c.loop-i.bays c.args.bays.now i d c.loop-i.invariant.left)) m.bay_exists
 
 pub move_block-words-requires-clause-bay_width : goal.move_block-words-requires-clause-bay_width
 move_block-words-requires-clause-bay_width g c =
@@ -65,7 +64,7 @@ loop-i-preserved g c =
       named = refl;
       at_most = c.move_block-words.ensures.at_most;
       place = c.move_block-words.ensures.place ∙ ap (λ (b : BlockAt). b.place) (sym c.index-bays-i.is);
-      words = c.move_block-words.ensures.words ∙ ap₂ (λ (y : Transfer) (b : BlockAt). take count (block_of c.args.work.now.rest.now (source_of y)) ++ drop count b.words) (sym e) (sym c.index-bays-i.is);
+      words = c.move_block-words.ensures.words ∙ ap₂ (λ (y : Transfer) (b : BlockAt). take count (found_in c.args.work.now.rest.now (source_of y)) ++ drop count b.words) (sym e) (sym c.index-bays-i.is);
       all_words = λ h. c.move_block-words.ensures.sure (c.line-wire.ensures.sure h);
     } in
     record {
