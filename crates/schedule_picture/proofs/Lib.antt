@@ -1,0 +1,4 @@
+pub mod Texts
+pub mod Table
+pub mod Few
+pub mod Overlaps

@@ -1,0 +1,12 @@
+use Rattle.std.proofs.Common.{append_assoc}
+use Rattle.schedule_picture.specs.Cells.{title_text}
+use Rattle.schedule_picture.proofs.Texts.{two}
+use Rattle.schedule_picture.proofs.cells.push_title.Goals as goal
+
+pub returns : goal.returns
+unfolding title_text
+returns c =
+    two c.write-2.result _ _ _ _ _ (title_text c.args.number c.args.transfer.now)
+    c.in_ok-write.ensures.bytes
+    c.write-2.ensures.bytes
+    (simp (append_assoc, c.kind_word-word.ensures))

@@ -1,0 +1,11 @@
+use Rattle.std.proofs.Common.{rules}
+use Rattle.schedule_picture.specs.Places.{panel_place}
+use Rattle.schedule_picture.proofs.layout.panel_left.Goals as goal
+
+pub returns-clause-value : goal.returns-clause-value
+unfolding panel_place
+returns-clause-value c = search rules
+
+pub returns-clause-small : goal.returns-clause-small
+unfolding panel_place
+returns-clause-small c = search rules

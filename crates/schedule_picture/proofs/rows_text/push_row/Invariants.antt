@@ -1,0 +1,11 @@
+use Rattle.std.proofs.Common.{◌≡◌, ◌++◌, string_bytes}
+use Rattle.std.specs.List.{flat_map, range_with_len}
+use Rattle.schedule_picture.specs.Places.{panels_of}
+use Rattle.schedule_picture.specs.RowsText.{part_text}
+use Rattle.schedule_picture.proofs.rows_text.push_row.Given as goal
+
+abbrev pub invariant-loop-panel : goal.invariant-loop-panel
+invariant-loop-panel l = record {
+  so_far : string_bytes l.text ≡ string_bytes l.initial.text ++ flat_map (part_text l.rows l.settings l.busiest l.«module») (range_with_len 0 l.panel);
+  all : l.panel-end ≡ panels_of l.settings;
+}

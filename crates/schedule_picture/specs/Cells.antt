@@ -1,0 +1,60 @@
+-- The cells of a picture. A transfer has two, in the column of its setting: one in the row of its initiator, in the half of link 0, and one in
+-- the row of its responder, in the half of link 3. Each has the number and the colour of the module at the other end.
+use Rattle.std.specs.Prelude.{ℕ, ◌+◌, ◌-◌, List, ◌++◌, codes}
+use Rattle.std.specs.Fmt.{decimal}
+use Rattle.std.specs.List.{flat_map}
+use Rattle.batch.specs.declared.transfer.Kind.{Kind}
+use Rattle.batch.specs.declared.transfer.Kind.TheVariants.{Push, Pull}
+use Rattle.batch.specs.declared.transfer.Transfer.{Transfer}
+use Rattle.batch.specs.Overlap.{transfer_at}
+use Rattle.link_graph.specs.declared.link.End.{End}
+use Rattle.link_graph.specs.declared.link.End.TheVariants.{Zero, Three}
+use Rattle.link_graph.specs.Links.{other_end}
+use Rattle.link_graph.specs.Counts.{module_at}
+use Rattle.schedule_picture.specs.declared.layout.TheConstants.{TOP}
+use Rattle.schedule_picture.specs.Places.{row_place, half_place, column_place}
+use Rattle.schedule_picture.specs.Elements.{coloured_box, text_start}
+
+abbrev pub word_of : Kind → List ℕ
+word_of Push = codes "push"
+word_of Pull = codes "pull"
+
+-- the title, `transfer T: push I b R c` or `transfer T: pull I b R c`
+unfoldable pub title_text : ℕ → Transfer → List ℕ
+title_text t x = codes "<g><title>transfer " ++ decimal t ++ codes ": " ++ word_of x.kind ++ codes " " ++ decimal x.initiator ++ codes " " ++ decimal x.own_block ++ codes " " ++ decimal x.responder ++ codes " " ++ decimal x.far_block ++ codes "</title>"
+
+abbrev pub to_partner : List ℕ
+to_partner = codes "&#8594;"
+
+abbrev pub from_partner : List ℕ
+from_partner = codes "&#8592;"
+
+-- whether the words leave the module at this end: a push moves them from the initiator to the responder, a pull the other way
+abbrev pub arrow_of : Kind → End → List ℕ
+arrow_of Push Zero = to_partner
+arrow_of Push Three = from_partner
+arrow_of Pull Zero = from_partner
+arrow_of Pull Three = to_partner
+
+-- where the cell at an end of a transfer stands, from the top
+abbrev pub cell_place : List Transfer → Transfer → End → ℕ
+cell_place batch x end = row_place batch (module_at end x) + half_place end
+
+-- the module at the other end
+abbrev pub partner_of : Transfer → End → ℕ
+partner_of x end = module_at (other_end end) x
+
+-- the cell at an end of transfer t, in the column of setting k
+unfoldable pub cell_text : List Transfer → ℕ → ℕ → Transfer → End → List ℕ
+cell_text batch k t x end = title_text t x
+    ++ coloured_box (partner_of x end) (column_place k + 2) (cell_place batch x end + 2) 28 16
+    ++ text_start (column_place k + 16) (cell_place batch x end + 14) ++ arrow_of x.kind end ++ decimal (partner_of x end) ++ codes "</text></g>\n"
+
+-- both cells of transfer t
+unfoldable pub transfer_cells : List Transfer → ℕ → ℕ → List ℕ
+transfer_cells batch k t = cell_text batch k t (transfer_at batch t) Zero ++ cell_text batch k t (transfer_at batch t) Three
+
+-- the number of setting k above its column, and the cells of its transfers
+unfoldable pub column_text : List Transfer → ℕ → List ℕ → List ℕ
+column_text batch k setting = codes "<text class='number' x='" ++ decimal (column_place k + 16) ++ codes "' y='" ++ decimal (TOP - 10) ++ codes "'>" ++ decimal k ++ codes "</text>\n"
+    ++ flat_map (λ t. transfer_cells batch k t) setting

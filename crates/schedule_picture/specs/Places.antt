@@ -1,0 +1,67 @@
+-- Which module has which row of a picture, which setting which column, and where these stand. The layout is this project's choice.
+use Rattle.std.specs.Prelude.{ℕ, ◌≡◌, ◌<◌, ◌+◌, ◌-◌, ◌*◌, ◌/◌, min, max, Bool, false, ◌==◌, ◌||◌, List, slice_index_or}
+use Rattle.std.specs.List.{list_any}
+use Rattle.batch.specs.declared.limits.TheConstants.{MAX_MODULES}
+use Rattle.batch.specs.declared.transfer.Transfer.{Transfer}
+use Rattle.link_graph.specs.declared.link.End.{End}
+use Rattle.link_graph.specs.declared.link.End.TheVariants.{Zero, Three}
+use Rattle.link_graph.specs.Counts.{count_below}
+use Rattle.schedule_picture.specs.declared.layout.TheConstants.{MARGIN, TOP, PANEL, LABELS, COLUMN, ROW, HALF, LEGEND, LEAST}
+
+-- ---- rows
+
+-- the module starts one of the transfers, or answers one
+abbrev pub takes_part : List Transfer → ℕ → Bool
+takes_part batch m = list_any (λ (x : Transfer). x.initiator == m || x.responder == m) batch
+
+-- Only modules that take part have rows, in the order of their numbers: the place of a module's row is how many modules before it take part.
+abbrev pub row_of : List Transfer → ℕ → ℕ
+row_of batch m = count_below m (takes_part batch)
+
+-- where the row of a module begins, from the top
+unfoldable pub row_place : List Transfer → ℕ → ℕ
+row_place batch m = TOP + row_of batch m * ROW
+
+-- a row has two halves: that of link 0 above, and that of link 3 below it
+abbrev pub half_place : End → ℕ
+half_place Zero = 0
+half_place Three = HALF
+
+-- how many modules a rack may have; a name for the number, so that nothing counts up to it
+unfoldable pub rack_modules : ℕ
+rack_modules = MAX_MODULES
+
+-- where the legend begins, below the rows
+unfoldable pub legend_place : List Transfer → ℕ
+legend_place batch = row_place batch rack_modules
+
+abbrev pub height_of : List Transfer → ℕ
+height_of batch = legend_place batch + LEGEND
+
+-- ---- columns
+
+-- Settings have columns, in their order. Before the first of them, and before each further one that begins a panel, the labels of the rows stand.
+unfoldable pub column_place : ℕ → ℕ
+column_place k = MARGIN + (k / PANEL + 1) * LABELS + k * COLUMN
+
+-- how many panels so many settings fill, the last of them perhaps in part
+abbrev pub panels_of : ℕ → ℕ
+panels_of settings = (settings + PANEL - 1) / PANEL
+
+-- where the labels of a panel begin
+unfoldable pub panel_place : ℕ → ℕ
+panel_place panel = MARGIN + panel * (LABELS + PANEL * COLUMN)
+
+-- how wide its columns are together
+unfoldable pub panel_width : ℕ → ℕ → ℕ
+panel_width settings panel = COLUMN * min PANEL (settings - panel * PANEL)
+
+-- the panels, or the legend where that is wider
+unfoldable pub width_of : ℕ → ℕ
+width_of settings = max LEAST (2 * MARGIN + panels_of settings * LABELS + settings * COLUMN)
+
+-- ---- the table of rows
+
+-- at the place of each module, whether it takes part
+abbrev pub AreParts : List Transfer → List Bool → Type 0
+AreParts batch parts = (m : ℕ) → m < MAX_MODULES → slice_index_or parts m false ≡ takes_part batch m

@@ -1,0 +1,120 @@
+//! The columns of a picture: the cells of the transfers that a setting holds.
+
+ghost use Rattle.std.specs.Prelude.{◌≡◌, ◌<◌, ◌≤◌, List, length, All, OnOk, Some, slice_get, codes};
+ghost use Rattle.batch.specs.Overlap.{transfer_at};
+ghost use Rattle.link_graph.specs.declared.link.End.{End};
+ghost use Rattle.link_graph.specs.Counts.{module_at as module_of};
+ghost use Rattle.schedule_picture.specs.Elements.{Adds};
+ghost use Rattle.schedule_picture.specs.Cells.{word_of, arrow_of, title_text, cell_text, transfer_cells, column_text};
+
+use crate::elements::{push_coloured, push_text_start};
+use crate::layout::{TOP, column_left, half_below};
+use crate::rows::Rows;
+use batch::{Kind, MAX_MODULES, MAX_TRANSFERS, Transfer};
+use link_graph::End;
+use std::alloc::AllocError;
+
+/// The word of a kind of transfers.
+fn kind_word(kind: Kind) -> &'static str
+    ensures { result.now ≡ word_of kind }
+{
+    match kind {
+        Kind::Push => "push",
+        Kind::Pull => "pull",
+    }
+}
+
+/// The arrow in the cell at an end of a transfer: whether its words leave the module of that end.
+fn arrow(kind: Kind, end: End) -> &'static str
+    ensures { result.now ≡ arrow_of kind end }
+{
+    match (kind, end) {
+        (Kind::Push, End::Zero) | (Kind::Pull, End::Three) => "&#8594;",
+        (Kind::Push, End::Three) | (Kind::Pull, End::Zero) => "&#8592;",
+    }
+}
+
+/// The transfer's module at an end.
+fn module_at(end: End, transfer: &Transfer) -> usize
+    ensures { result ≡ module_of end transfer.now }
+{
+    match end {
+        End::Zero => transfer.initiator,
+        End::Three => transfer.responder,
+    }
+}
+
+/// Puts the beginning of a cell at the end of the text: its title, which says the transfer.
+fn push_title(text: &mut String, number: usize, transfer: &Transfer) -> Result<(), AllocError>
+    ensures { OnOk result (Adds text.old text.new (title_text number transfer.now)) }
+{
+    let word = kind_word(transfer.kind);
+    let (initiator, own_block) = (transfer.initiator, transfer.own_block);
+    let (responder, far_block) = (transfer.responder, transfer.far_block);
+    write!(text, "<g><title>transfer {number}: {word}")?;
+    write!(
+        text,
+        " {initiator} {own_block} {responder} {far_block}</title>"
+    )
+}
+
+/// Puts the cell at an end of a transfer at the end of the text, in the column of a setting.
+fn push_cell(
+    text: &mut String,
+    rows: &Rows<'_>,
+    setting: usize,
+    number: usize,
+    transfer: &Transfer,
+    end: End,
+) -> Result<(), AllocError>
+    requires setting { setting ≤ MAX_TRANSFERS }
+    requires in_rack { module_of end transfer.now < MAX_MODULES }
+    ensures { OnOk result (Adds text.old text.new (cell_text rows.now setting number transfer.now end)) }
+{
+    let partner = module_at(end.other(), transfer);
+    let left = column_left(setting);
+    let top = rows.top(module_at(end, transfer)) + half_below(end);
+    push_title(text, number, transfer)?;
+    push_coloured(text, partner, left + 2, top + 2, 28, 16)?;
+    push_text_start(text, left + 16, top + 14)?;
+    text.push_str(arrow(transfer.kind, end))?;
+    write!(text, "{partner}</text></g>\n")
+}
+
+/// Puts the two cells of a transfer at the end of the text, in the column of a setting.
+fn push_transfer(
+    text: &mut String,
+    rows: &Rows<'_>,
+    setting: usize,
+    number: usize,
+) -> Result<(), AllocError>
+    requires setting { setting ≤ MAX_TRANSFERS }
+    requires known { number < length rows.now }
+    ensures { OnOk result (Adds text.old text.new (transfer_cells rows.now setting number)) }
+{
+    let transfer = &rows.transfers()[number];
+    push_cell(text, rows, setting, number, transfer, End::Zero)?;
+    push_cell(text, rows, setting, number, transfer, End::Three)
+}
+
+/// Puts the column of a setting at the end of the text: its number, and the cells of its transfers.
+pub(crate) fn push_column(
+    text: &mut String,
+    rows: &Rows<'_>,
+    setting: usize,
+    numbers: &[usize],
+) -> Result<(), AllocError>
+    requires setting { setting ≤ MAX_TRANSFERS }
+    requires known { All (λ t. t < length rows.now) numbers.now }
+    ensures { OnOk result (Adds text.old text.new (column_text rows.now setting numbers.now)) }
+{
+    let (middle, above) = (column_left(setting) + 16, TOP - 10);
+    write!(
+        text,
+        "<text class='number' x='{middle}' y='{above}'>{setting}</text>\n"
+    )?;
+    for number in numbers {
+        push_transfer(text, rows, setting, *number)?;
+    }
+    Ok(())
+}

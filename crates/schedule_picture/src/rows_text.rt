@@ -1,0 +1,144 @@
+//! The rows of a picture: the labels of the modules, and the ground on which their cells stand.
+
+ghost use Rattle.std.specs.Prelude.{◌≡◌, ◌<◌, ◌≤◌, ◌^◌, Option, OnOk};
+ghost use Rattle.link_graph.specs.declared.link.Link.{Link};
+ghost use Rattle.schedule_picture.specs.Places.{panels_of};
+ghost use Rattle.schedule_picture.specs.Elements.{Adds};
+ghost use Rattle.schedule_picture.specs.RowsText.{marks, label_text, looks_of, lane_title, lane_text, half_text, part_text, row_text};
+
+use crate::elements::{push_box, push_coloured, push_link, push_text_start};
+use crate::layout::{HALF, LABELS, half_below, panel_columns, panel_left, panels};
+use crate::rows::Rows;
+use batch::{MAX_MODULES, MAX_TRANSFERS};
+use link_graph::{End, Link};
+use std::alloc::AllocError;
+
+/// Whether this is the busiest link.
+fn is_busiest(busiest: Option<Link>, link: Link) -> bool
+    ensures { result ≡ marks busiest link }
+{
+    match busiest {
+        None => false,
+        Some(other) => other.end.number() == link.end.number() && other.module == link.module,
+    }
+}
+
+/// Puts the label of a module at the end of the text, in its colour.
+fn push_label(text: &mut String, module: usize, left: usize, top: usize) -> Result<(), AllocError>
+    requires left { left < 2 ^ 24 }
+    requires top { top < 2 ^ 20 }
+    ensures { OnOk result (Adds text.old text.new (label_text «module» left top)) }
+{
+    push_coloured(text, module, left, top, 72, 40)?;
+    push_text_start(text, left + 36, top + 24)?;
+    write!(text, "module {module}</text>\n")
+}
+
+/// The beginning of a half of a row: whether it is marked.
+fn looks(marked: bool) -> &'static str
+    ensures { result.now ≡ looks_of marked }
+{
+    if marked {
+        "<g class='busiest'><title>busiest "
+    } else {
+        "<g class='lane'><title>"
+    }
+}
+
+/// Puts the beginning of a half of a row at the end of the text: whether it is marked, and its title.
+fn push_lane_title(text: &mut String, marked: bool, link: Link) -> Result<(), AllocError>
+    ensures { OnOk result (Adds text.old text.new (lane_title marked link)) }
+{
+    text.push_str(looks(marked))?;
+    push_link(text, link)?;
+    text.push_str("</title><rect")
+}
+
+/// Puts a half of a row at the end of the text: its ground, as wide as the columns, and the label of
+/// its link.
+fn push_lane(
+    text: &mut String,
+    marked: bool,
+    link: Link,
+    left: usize,
+    top: usize,
+    width: usize,
+) -> Result<(), AllocError>
+    requires left { left < 2 ^ 24 }
+    requires top { top < 2 ^ 20 }
+    ensures { OnOk result (Adds text.old text.new (lane_text marked link left top width)) }
+{
+    let end = link.end.number();
+    let below = top + half_below(link.end);
+    push_lane_title(text, marked, link)?;
+    push_box(text, left + LABELS, below, width, HALF)?;
+    push_text_start(text, left + 100, below + 14)?;
+    write!(text, "link {end}</text></g>\n")
+}
+
+/// Puts the half of a module's row that is one link's, in one panel, at the end of the text.
+fn push_half(
+    text: &mut String,
+    rows: &Rows<'_>,
+    settings: usize,
+    busiest: Option<Link>,
+    link: Link,
+    panel: usize,
+) -> Result<(), AllocError>
+    requires settings { settings ≤ MAX_TRANSFERS }
+    requires panel { panel < panels_of settings }
+    requires in_rack { link.«module» < MAX_MODULES }
+    ensures { OnOk result (Adds text.old text.new (half_text rows.now settings busiest link panel)) }
+{
+    let (left, top) = (panel_left(panel), rows.top(link.module));
+    let width = panel_columns(settings, panel);
+    push_lane(text, is_busiest(busiest, link), link, left, top, width)
+}
+
+/// Puts the part of a module's row that stands in one panel at the end of the text.
+fn push_part(
+    text: &mut String,
+    rows: &Rows<'_>,
+    settings: usize,
+    busiest: Option<Link>,
+    module: usize,
+    panel: usize,
+) -> Result<(), AllocError>
+    requires settings { settings ≤ MAX_TRANSFERS }
+    requires panel { panel < panels_of settings }
+    requires in_rack { «module» < MAX_MODULES }
+    ensures { OnOk result (Adds text.old text.new (part_text rows.now settings busiest «module» panel)) }
+{
+    let zero = Link {
+        end: End::Zero,
+        module,
+    };
+    let three = Link {
+        end: End::Three,
+        module,
+    };
+    push_label(text, module, panel_left(panel), rows.top(module))?;
+    push_half(text, rows, settings, busiest, zero, panel)?;
+    push_half(text, rows, settings, busiest, three, panel)
+}
+
+/// Puts the row of a module at the end of the text.
+pub(crate) fn push_row(
+    text: &mut String,
+    rows: &Rows<'_>,
+    settings: usize,
+    busiest: Option<Link>,
+    module: usize,
+) -> Result<(), AllocError>
+    requires settings { settings ≤ MAX_TRANSFERS }
+    requires in_rack { «module» < MAX_MODULES }
+    ensures { OnOk result (Adds text.old text.new (row_text rows.now settings busiest «module»)) }
+{
+    if !rows.has(module) {
+        return Ok(());
+    }
+    for panel in 0..panels(settings) {
+        push_part(text, rows, settings, busiest, module, panel)?;
+    }
+    Ok(())
+}
