@@ -1,5 +1,5 @@
 -- Cells that overlap are one: columns stand apart by their setting, halves of rows by their link, and a setting uses a link once.
-use Rattle.std.proofs.Common.{◌≡◌, ℕ, zero, suc, ◌+◌, ◌*◌, ◌<◌, ◌⊎◌, inl, inr, Bool, true, false, List, [], length, get_or, Some, slice_get, refl, sym, ap, subst, ◌∙◌, arith}
+use Rattle.std.proofs.Common.{◌≡◌, ℕ, zero, suc, ◌+◌, ◌*◌, ◌<◌, inl, inr, Bool, true, false, List, [], Some, slice_get, refl, sym, ap, subst, ◌∙◌, arith}
 use Rattle.std.specs.Prelude.{◌==◌, ◌||◌}
 use Rattle.std.proofs.lemmas.Bool.{cases_eq, cases_lt, eq-eqb}
 use Rattle.std.proofs.lemmas.List.Folds.{list_any_at}
@@ -15,7 +15,7 @@ use Rattle.schedule_picture.specs.declared.layout.TheConstants.{TOP, COLUMN, ROW
 use Rattle.schedule_picture.specs.Places.{takes_part, row_of, row_place, half_place, column_place}
 use Rattle.schedule_picture.specs.Cells.{cell_place}
 use Rattle.schedule_picture.specs.RowsText.{link_of}
-use Rattle.schedule_picture.specs.Laws.{Stands, Overlap, NothingOverlaps}
+use Rattle.schedule_picture.specs.Laws.{Stands, NothingOverlaps}
 
 same_column : (k l : ℕ) → column_place k < column_place l + COLUMN → column_place l < column_place k + COLUMN → k ≡ l
 unfolding column_place

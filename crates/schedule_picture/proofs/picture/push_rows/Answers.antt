@@ -1,4 +1,4 @@
-use Rattle.std.proofs.Common.{◌≡◌, ◌++◌, ap, ◌∙◌, List, ℕ, string_bytes, arith}
+use Rattle.std.proofs.Common.{◌++◌, ap, ◌∙◌, List, ℕ, string_bytes, arith}
 use Rattle.std.specs.List.{flat_map, range_with_len}
 use Rattle.schedule_picture.specs.RowsText.{row_text}
 use Rattle.schedule_picture.specs.Picture.{rows_text}
