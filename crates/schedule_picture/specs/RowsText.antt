@@ -18,7 +18,7 @@ marks (Some busiest) link = end_number busiest.end == end_number link.end && bus
 
 -- `module M` on the module's colour
 unfoldable pub label_text : ℕ → ℕ → ℕ → List ℕ
-label_text m left top = coloured_box m left top 72 40 ++ text_start (left + 36) (top + 24) ++ codes "module " ++ decimal m ++ codes "</text>\n"
+label_text m left top = coloured_box m (left + 8) top 72 40 ++ text_start (left + 44) (top + 24) ++ codes "module " ++ decimal m ++ codes "</text>\n"
 
 -- the looks of a half of a row
 abbrev pub looks_of : Bool → List ℕ
@@ -32,7 +32,7 @@ lane_title marked link = looks_of marked ++ link_words link ++ codes "</title><r
 -- the half of a link, whose row begins at the top: its ground, and the label `link E` before it
 unfoldable pub lane_text : Bool → Link → ℕ → ℕ → ℕ → List ℕ
 lane_text marked link left top width = lane_title marked link ++ box_text (left + LABELS) (top + half_place link.end) width HALF
-    ++ text_start (left + 100) (top + half_place link.end + 14) ++ codes "link " ++ decimal (end_number link.end) ++ codes "</text></g>\n"
+    ++ text_start (left + 104) (top + half_place link.end + 14) ++ codes "link " ++ decimal (end_number link.end) ++ codes "</text></g>\n"
 
 -- the link of an end and a module
 abbrev pub link_of : End → ℕ → Link

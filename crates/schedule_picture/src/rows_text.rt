@@ -29,8 +29,8 @@ fn push_label(text: &mut String, module: usize, left: usize, top: usize) -> Resu
     requires top { top < 2 ^ 20 }
     ensures { OnOk result (Adds text.old text.new (label_text «module» left top)) }
 {
-    push_coloured(text, module, left, top, 72, 40)?;
-    push_text_start(text, left + 36, top + 24)?;
+    push_coloured(text, module, left + 8, top, 72, 40)?;
+    push_text_start(text, left + 44, top + 24)?;
     write!(text, "module {module}</text>\n")
 }
 
@@ -72,7 +72,7 @@ fn push_lane(
     let below = top + half_below(link.end);
     push_lane_title(text, marked, link)?;
     push_box(text, left + LABELS, below, width, HALF)?;
-    push_text_start(text, left + 100, below + 14)?;
+    push_text_start(text, left + 104, below + 14)?;
     write!(text, "link {end}</text></g>\n")
 }
 

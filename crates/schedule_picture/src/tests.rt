@@ -86,7 +86,7 @@ fn three_transfers(rt: HostRuntime) -> Result<(), Fail> {
     for part in [
         "<svg xmlns='http://www.w3.org/2000/svg' width='760' height='344' viewBox='0 0 760 344'>\n",
         "<title>transfers 3, settings 2, busiest link 0 module 0</title>\n",
-        "<rect class='m2' x='16' y='184' width='72' height='40'/><text x='52' y='208'>module 2</text>\n",
+        "<rect class='m2' x='24' y='184' width='72' height='40'/><text x='60' y='208'>module 2</text>\n",
         "<g class='busiest'><title>busiest link 0 module 0</title><rect x='144' y='88' width='64' height='20'/>",
         "<g class='lane'><title>link 3 module 0</title><rect x='144' y='108' width='64' height='20'/>",
         "<text class='number' x='192' y='78'>1</text>\n",
@@ -137,13 +137,13 @@ fn nothing_to_draw(rt: HostRuntime) -> Result<(), Fail> {
     Ok(())
 }
 
-/// Row second-panel: setting 32 begins a panel, whose labels begin at 1168 and its columns at 1296.
+/// Row second-panel: setting 32 begins a panel, whose labels begin at 1176 and its columns at 1296.
 #[test]
 fn second_panel(rt: HostRuntime) -> Result<(), Fail> {
     let text = long_picture(rt.alloc(), 33)?;
     for part in [
         "width='1344' height='296'",
-        "<rect class='m1' x='1168' y='136' width='72' height='40'/>",
+        "<rect class='m1' x='1176' y='136' width='72' height='40'/>",
         "<title>busiest link 0 module 0</title><rect x='144' y='88' width='1024' height='20'/>",
         "<title>busiest link 0 module 0</title><rect x='1296' y='88' width='32' height='20'/>",
         "<title>transfer 31: push 0 0 1 0</title><rect class='m1' x='1138' y='90'",
@@ -184,7 +184,7 @@ fn all_modules(rt: HostRuntime) -> Result<(), Fail> {
     assert!(rt;
         has(
             &text,
-            "<rect class='m31' x='16' y='1576' width='72' height='40'/>"
+            "<rect class='m31' x='24' y='1576' width='72' height='40'/>"
         )
     );
     assert!(rt;
