@@ -4,3 +4,4 @@ pub mod OneReport
 pub mod Reporting
 pub mod Fewest
 pub mod Sessions
+pub mod OneDrawing

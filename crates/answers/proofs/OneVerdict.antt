@@ -42,7 +42,7 @@ one_certificate schedule xs ys named a b =
     absurd cc
 
 -- what a schedule text with its certificate part says of one list of transfers, it says of the list that the batch text denotes
-same_texts : (P : List Transfer → List (List ℕ) → Naming → Type 0) (shape : Extent) → IsShape shape → (batch schedule : List ℕ) (ts us : List Transfer) (xs ys : List (List ℕ)) (m n : Naming)
+pub same_texts : (P : List Transfer → List (List ℕ) → Naming → Type 0) (shape : Extent) → IsShape shape → (batch schedule : List ℕ) (ts us : List Transfer) (xs ys : List (List ℕ)) (m n : Naming)
     → Denotes shape batch ts → Denotes shape batch us → Says schedule (said xs (Some m)) → Says schedule (said ys (Some n)) → P us ys n → P ts xs m
 same_texts P shape valid batch schedule ts us xs ys m n a b c d p =
     let transfers : ts ≡ us = one_batch shape valid batch ts us a b in
@@ -53,7 +53,7 @@ same_texts P shape valid batch schedule ts us xs ys m n a b c d p =
     rw (transfers, settings, named) p
 
 -- what is shown has nothing wrong
-shown_right : (shape : Extent) → IsShape shape → (batch schedule : List ℕ) (count : ℕ) (fault : CheckingFault) → IsShown shape batch schedule count → IsFirstWrong shape batch schedule fault → ⊥
+pub shown_right : (shape : Extent) → IsShape shape → (batch schedule : List ℕ) (count : ℕ) (fault : CheckingFault) → IsShown shape batch schedule count → IsFirstWrong shape batch schedule fault → ⊥
 shown_right shape valid batch schedule count (Batch fault) shown wrong = apart shape valid batch shown.transfers fault shown.batch_read wrong
 shown_right shape valid batch schedule count (Schedule fault) shown wrong = none_bad schedule _ fault shown.schedule_read wrong.2
 shown_right shape valid batch schedule count NoCertificate shown wrong = one_certificate schedule _ _ _ shown.schedule_read wrong.3
@@ -62,7 +62,7 @@ shown_right shape valid batch schedule count (Check fault) shown wrong =
     (same_texts (λ ts xs m. IsFirstCheckFault ts xs m fault) shape valid batch schedule shown.transfers wrong.0 shown.settings wrong.1 shown.named wrong.2 shown.batch_read wrong.3 shown.schedule_read wrong.4 wrong.5)
 
 -- there is one first thing that is wrong
-one_wrong : (shape : Extent) → IsShape shape → (batch schedule : List ℕ) (f g : CheckingFault) → IsFirstWrong shape batch schedule f → IsFirstWrong shape batch schedule g → f ≡ g
+pub one_wrong : (shape : Extent) → IsShape shape → (batch schedule : List ℕ) (f g : CheckingFault) → IsFirstWrong shape batch schedule f → IsFirstWrong shape batch schedule g → f ≡ g
 one_wrong shape valid batch schedule (Batch f) (Batch g) a b = ap Batch (one_fault shape valid batch f g a b)
 one_wrong shape valid batch schedule (Batch f) (Schedule g) a b = absurd (apart shape valid batch b.0 f b.1 a)
 one_wrong shape valid batch schedule (Batch f) NoCertificate a b = absurd (apart shape valid batch b.0 f b.2 a)

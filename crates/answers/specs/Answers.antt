@@ -13,10 +13,11 @@ use Rattle.module_memory.specs.Mark.{IsMarked}
 use Rattle.module_memory.specs.Core.{IsPlaced}
 use Rattle.link_graph.specs.declared.schedule_fault.ScheduleFault.{ScheduleFault}
 use Rattle.link_graph.specs.declared.schedule_fault.ScheduleFault.TheVariants as schedule_fault
-use Rattle.link_graph.specs.Certificates.{Naming, IsShortest, IsCertificate}
+use Rattle.link_graph.specs.Certificates.{Naming, IsShortest, IsCertificate, IsCertified}
 use Rattle.link_graph.specs.Checks.{IsFirstCheckFault}
 use Rattle.link_graph.specs.ScheduleText.{said, Says}
 use Rattle.link_graph.specs.ScheduleFaults.{IsFirstBadLine}
+use Rattle.schedule_picture.specs.Picture.{picture_of}
 use Rattle.schedule_certificate.specs.Plans.{Plan, IsPlan, HasFewReinsertions}
 use Rattle.schedule_certificate.specs.Parts.{IsDegree}
 use Rattle.answers.specs.declared.limits.TheConstants.{DONE}
@@ -44,6 +45,12 @@ pub data IsPlanned (shape : Extent) (batch : List ℕ) (printed : Printed) : Typ
   refused : (fault : BatchFault) → IsFirstFault shape batch fault → IsRefused (batch_words fault) printed → IsPlanned shape batch printed
 
 -- ---- `check`
+
+-- The texts are those of this batch and of this schedule of it, with a certificate that shows that none is shorter.
+pub record IsJudged (shape : Extent) (batch schedule : List ℕ) (transfers : List Transfer) (settings : List (List ℕ)) (named : Naming) : Type 0 where
+  pub batch_read : Denotes shape batch transfers
+  pub schedule_read : Says schedule (said settings (Some named))
+  pub certified : IsCertified transfers settings named
 
 -- The texts are those of a batch and of a shortest schedule of it, which has so many settings, with a certificate that shows it.
 pub record IsShown (shape : Extent) (batch schedule : List ℕ) (count : ℕ) : Type 0 where
@@ -77,6 +84,21 @@ shortest_line count = codes "shortest " ++ decimal count ++ codes "\n"
 pub data IsChecked (shape : Extent) (batch schedule : List ℕ) (printed : Printed) : Type 0 where
   shortest : (count : ℕ) → IsShown shape batch schedule count → printed.text ≡ shortest_line count → printed.status ≡ DONE → IsChecked shape batch schedule printed
   refused : (fault : CheckingFault) → IsFirstWrong shape batch schedule fault → IsRefused (checking_words fault) printed → IsChecked shape batch schedule printed
+
+-- ---- `draw`
+
+-- the texts are those of a batch and of a shortest schedule of it, and this is the picture of that
+pub record IsDrawing (shape : Extent) (batch schedule text : List ℕ) : Type 0 where
+  pub transfers : List Transfer
+  pub settings : List (List ℕ)
+  pub named : Naming
+  pub judged : IsJudged shape batch schedule transfers settings named
+  pub drawing : text ≡ picture_of transfers settings named.link
+
+-- the picture, or the refusal of what `check` refuses, each under its status
+pub data IsDrawn (shape : Extent) (batch schedule : List ℕ) (printed : Printed) : Type 0 where
+  drawn : IsDrawing shape batch schedule printed.text → printed.status ≡ DONE → IsDrawn shape batch schedule printed
+  undrawn : (fault : CheckingFault) → IsFirstWrong shape batch schedule fault → IsRefused (checking_words fault) printed → IsDrawn shape batch schedule printed
 
 -- ---- `run`
 

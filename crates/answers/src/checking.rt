@@ -1,17 +1,26 @@
 ghost use Rattle.std.specs.Prelude.{IfOk, IfErr};
 ghost use Rattle.batch.specs.Extent.{widest};
-ghost use Rattle.answers.specs.Answers.{IsOnly, IsShown, IsFirstWrong, IsChecked};
+ghost use Rattle.answers.specs.Answers.{IsOnly, IsJudged, IsFirstWrong, IsChecked};
 ghost use Rattle.answers.specs.Refusals.{IsRealChecking};
 
 use crate::answer::Answer;
 use crate::checking_fault::CheckingFault;
 use batch::{Batch, Shape};
-use link_graph::{Schedule, Shortest, check_schedule};
+use link_graph::{Certificate, Schedule, check_schedule};
 use std::alloc::{AllocError, Global};
 
-/// How many settings the shortest schedule has, or what is first wrong.
-fn judge(alloc: Global, batch: &[u8], schedule: &[u8]) -> Result<Shortest, CheckingFault>
-    ensures shown { IfOk result (λ found. IsShown widest batch.now schedule.now found.settings) }
+/// A batch, and a schedule of it with a certificate that shows that none is shorter.
+#[derive(Drop)]
+pub(crate) struct Judged {
+    pub(crate) batch: Batch,
+    pub(crate) schedule: Schedule,
+    pub(crate) certificate: Certificate,
+}
+
+/// The batch and the shortest schedule of it that the texts say, or what is first wrong.
+pub(crate) fn judge(alloc: Global, batch: &[u8], schedule: &[u8]) -> Result<Judged, CheckingFault>
+    ensures judged { IfOk result (λ found.
+        IsJudged widest batch.now schedule.now found.batch found.schedule found.certificate) }
     ensures wrong { IfErr result (λ fault. IsRealChecking fault
         → IsFirstWrong widest batch.now schedule.now fault) }
 {
@@ -20,7 +29,12 @@ fn judge(alloc: Global, batch: &[u8], schedule: &[u8]) -> Result<Shortest, Check
     let Some(certificate) = certificate else {
         return Err(CheckingFault::NoCertificate);
     };
-    Ok(check_schedule(alloc, &batch, &schedule, &certificate)?)
+    check_schedule(alloc, &batch, &schedule, &certificate)?;
+    Ok(Judged {
+        batch,
+        schedule,
+        certificate,
+    })
 }
 
 /// The answer of `exchange check`: `shortest S` where the schedule text says a shortest schedule, of
@@ -35,8 +49,8 @@ pub fn answer_check(alloc: Global, batch: &[u8], schedule: &[u8]) -> Result<Answ
     ensures one { IfOk result (IsOnly (IsChecked widest batch.now schedule.now)) }
 {
     match judge(alloc, batch, schedule) {
-        Ok(shortest) => {
-            let count = shortest.settings;
+        Ok(judged) => {
+            let count = judged.schedule.settings();
             let line = format!(in alloc; "shortest {count}\n")?;
             Ok(Answer::done(line.into_bytes()))
         }

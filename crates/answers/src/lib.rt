@@ -9,6 +9,7 @@
 mod answer;
 mod checking;
 mod checking_fault;
+mod drawing;
 mod frames;
 mod limits;
 mod planning;
@@ -23,6 +24,7 @@ pub use answer::Answer;
 pub use checking::answer_check;
 pub use checking_fault::CheckingFault;
 pub use client_session::{LINE_BYTES, MAX_READS};
+pub use drawing::answer_draw;
 pub use limits::{DONE, REFUSED};
 pub use planning::answer_plan;
 pub use running::answer_run;

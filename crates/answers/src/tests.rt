@@ -5,6 +5,7 @@ mod side_by_side;
 
 use crate::answer::Answer;
 use crate::checking::answer_check;
+use crate::drawing::answer_draw;
 use crate::planning::answer_plan;
 use crate::running::answer_run;
 use schedule_certificate::MAX_WORKERS;
@@ -159,7 +160,28 @@ fn check_refusals(rt: HostRuntime) -> Result<(), Fail> {
     for (batch, schedule, line) in rows {
         let answer = answer_check(rt.alloc(), batch.as_bytes(), schedule.as_bytes())?;
         assert_eq!(rt; answer.text(), line.as_bytes());
+        let drawing = answer_draw(rt.alloc(), batch.as_bytes(), schedule.as_bytes())?;
+        assert_eq!(rt; drawing.status(), answer.status());
+        assert!(rt; drawing.status() == 0 || drawing.text() == line.as_bytes());
     }
+    Ok(())
+}
+
+/// What `draw` answers to row three-transfers: its picture, in which each transfer has two cells.
+#[test]
+fn draw_of_three_transfers(rt: HostRuntime) -> Result<(), Fail> {
+    let batch = b"batch 3\npush 0 0 1 0\npush 0 1 2 0\npush 1 1 2 1\n";
+    let schedule = b"settings 2\nsetting 0 2\nsetting 1\nbusiest link 0 module 0\nnamed 0 1\n";
+    let answer = answer_draw(rt.alloc(), batch, schedule)?;
+    assert_eq!(rt; answer.status(), 0);
+    let text = str::from_utf8(answer.text()).map_err(|_| "no text")?;
+    assert!(rt; text.starts_with("<svg "));
+    assert!(rt; text.ends_with("</svg>\n"));
+    let mut cells = 0usize;
+    for _ in text.matches("<g><title>transfer ") {
+        cells = cells.saturating_add(1);
+    }
+    assert_eq!(rt; cells, 6);
     Ok(())
 }
 

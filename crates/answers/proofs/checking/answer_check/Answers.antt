@@ -3,6 +3,7 @@ use Rattle.std.proofs.lemmas.Result.{IfOk-weaker}
 use Rattle.batch.specs.Extent.{widest, IsShape}
 use Rattle.answers.specs.Answers.{IsChecked, IsOnly, shortest, refused}
 use Rattle.answers.specs.Refusals.{IsRefused, checking_words}
+use Rattle.answers.proofs.OneDrawing.{shown_from}
 use Rattle.answers.proofs.OneVerdict.{one_verdict}
 use Rattle.answers.proofs.checking.answer_check.Goals as goal
 
@@ -11,7 +12,7 @@ widest_fits = record { some_module = omega arith; few_modules = omega arith; som
 
 pub returns-in_ok-line-in-Ok-clause-checked : goal.returns-in_ok-line-in-Ok-clause-checked
 returns-in_ok-line-in-Ok-clause-checked c =
-    shortest c.in-Ok.shortest.settings c.in-Ok.ensures.shown (c.done.ensures.text ∙ ap (λ v. v.items) c.into_bytes.ensures.value ∙ c.in_ok-line-in-Ok.ensures.ok) c.done.ensures.status
+    shortest c.settings-count.result (shown_from widest c.args.batch.now c.args.schedule.now c.in-Ok.judged.batch c.in-Ok.judged.schedule c.in-Ok.judged.certificate c.settings-count.result c.in-Ok.ensures.judged c.settings-count.ensures) (c.done.ensures.text ∙ ap (λ v. v.items) c.into_bytes.ensures.value ∙ c.in_ok-line-in-Ok.ensures.ok) c.done.ensures.status
 
 pub returns-in_ok-line-in-Ok-clause-one : goal.returns-in_ok-line-in-Ok-clause-one
 returns-in_ok-line-in-Ok-clause-one c other = one_verdict widest widest_fits c.args.batch.now c.args.schedule.now c.done.result other (returns-in_ok-line-in-Ok-clause-checked c)
