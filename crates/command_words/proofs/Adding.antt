@@ -1,9 +1,9 @@
 -- What clap's commands are that are built part by part.
-use Rattle.std.proofs.Common.{◌≡◌, Bool, true, false, ◌||◌, Result, IfOk, ap, ap₂, ◌∙◌, refl}
+use Rattle.std.proofs.Common.{◌≡◌, Bool, true, false, codes, ◌||◌, Result, IfOk, ap, ap₂, ◌∙◌, refl}
 use Rattle.clap.specs.Words.{App, Rule, app_of, rule_of, with_rule, with_subcommand, AddsArg}
 use Rattle.clap.specs.declared.builder.arg.Arg.{Arg}
 use Rattle.clap.specs.declared.builder.command.Command.{Command}
-use Rattle.command_words.specs.Program.{IsCommand, AddsRule, AddsCommand}
+use Rattle.command_words.specs.Program.{IsCommand, AddsRule, AddsTexts, AddsCommand, word}
 
 or_none : (x y : Bool) → y ≡ false → (x || y) ≡ x
 or_none true y e = refl
@@ -14,6 +14,13 @@ pub adds_rule : (old : Command) (arg : Arg) (rule : Rule) (new : Command) → ru
 adds_rule old arg rule new is local adds = record {
   app = adds.shape local ∙ ap (with_rule (app_of old)) is;
   local = adds.globals ∙ or_none _ arg.global local;
+}
+
+-- a word, and then one more, add the words of a batch and of a schedule
+pub adds_texts : (old middle new : Command) → AddsRule old (word (codes "BATCH")) middle → AddsRule middle (word (codes "SCHEDULE")) new → AddsTexts old new
+adds_texts old middle new one other = record {
+  app = other.app ∙ ap (λ (a : App). with_rule a (word (codes "SCHEDULE"))) one.app;
+  local = other.local ∙ one.local;
 }
 
 -- a known command is added to a known one

@@ -9,7 +9,7 @@ use Rattle.clap.specs.declared.error.kind.ErrorKind.TheVariants.{DisplayHelp, Di
 use Rattle.schedule_certificate.specs.declared.limits.TheConstants.{MAX_WORKERS}
 use Rattle.command_words.specs.declared.limits.TheConstants.{MAX_SCRIPTS}
 use Rattle.command_words.specs.declared.words.Job.{Job}
-use Rattle.command_words.specs.declared.words.Job.TheVariants.{Plan, Check, Run, Serve}
+use Rattle.command_words.specs.declared.words.Job.TheVariants.{Plan, Check, Draw, Run, Serve}
 use Rattle.command_words.specs.Program.{program}
 
 -- the number that the text of `--workers` reads as
@@ -19,6 +19,10 @@ HasWorkers rows n = (text : Text) × (one_of (codes "workers") rows ≡ Some tex
 -- the text of a rack's shape
 abbrev pub HasShape : List Row → Text → Type 0
 HasShape rows shape = first_of (codes "SHAPE") rows ≡ Some shape
+
+-- the texts of a batch and of a schedule
+abbrev pub HasTexts : List Row → Text → Text → Type 0
+HasTexts rows batch schedule = (first_of (codes "BATCH") rows ≡ Some batch) × (first_of (codes "SCHEDULE") rows ≡ Some schedule)
 
 -- so many scripts may be served
 abbrev pub AreScripts : List Text → Type 0
@@ -31,7 +35,8 @@ HasScripts rows scripts = (all_of (codes "SCRIPT") rows ≡ Some scripts) × Are
 -- the command by its name, with its texts and its number of workers where it takes one
 abbrev pub IsJob : Text → List Row → Job → Type 0
 IsJob name rows (Plan file workers) = (name ≡ codes "plan") × (first_of (codes "FILE") rows ≡ Some file) × HasWorkers rows workers
-IsJob name rows (Check batch schedule) = (name ≡ codes "check") × (first_of (codes "BATCH") rows ≡ Some batch) × (first_of (codes "SCHEDULE") rows ≡ Some schedule)
+IsJob name rows (Check batch schedule) = (name ≡ codes "check") × HasTexts rows batch schedule
+IsJob name rows (Draw batch schedule) = (name ≡ codes "draw") × HasTexts rows batch schedule
 IsJob name rows (Run shape batch workers) = (name ≡ codes "run") × HasShape rows shape × (first_of (codes "BATCH") rows ≡ Some batch) × HasWorkers rows workers
 IsJob name rows (Serve shape scripts workers) = (name ≡ codes "serve") × HasShape rows shape × HasScripts rows scripts × HasWorkers rows workers
 
@@ -51,6 +56,7 @@ Holds words job = MatchOption (subcommand_of program words) ⊥ (λ p. IsJob p.0
 abbrev pub IsWithinLimits : Job → Type 0
 IsWithinLimits (Plan file workers) = (1 ≤ workers) × (workers ≤ MAX_WORKERS)
 IsWithinLimits (Check batch schedule) = ⊤
+IsWithinLimits (Draw batch schedule) = ⊤
 IsWithinLimits (Run shape batch workers) = (1 ≤ workers) × (workers ≤ MAX_WORKERS)
 IsWithinLimits (Serve shape scripts workers) = AreScripts scripts × (1 ≤ workers) × (workers ≤ MAX_WORKERS)
 

@@ -32,6 +32,10 @@ plan = with_rule (with_rule (new_app (codes "plan")) (word (codes "FILE"))) work
 abbrev pub check : App
 check = with_rule (with_rule (new_app (codes "check")) (word (codes "BATCH"))) (word (codes "SCHEDULE"))
 
+-- `draw BATCH SCHEDULE`
+abbrev pub draw : App
+draw = with_rule (with_rule (new_app (codes "draw")) (word (codes "BATCH"))) (word (codes "SCHEDULE"))
+
 -- `run SHAPE BATCH [--workers N]`
 abbrev pub run : App
 run = with_rule (with_rule (with_rule (new_app (codes "run")) (word (codes "SHAPE"))) (word (codes "BATCH"))) workers
@@ -46,7 +50,7 @@ top = record (new_app (codes "exchange")) { top = record (new_app (codes "exchan
 
 -- the program with the commands that need no rack
 abbrev pub planner : App
-planner = with_subcommand (with_subcommand top plan.top) check.top
+planner = with_subcommand (with_subcommand (with_subcommand top plan.top) check.top) draw.top
 
 -- the whole program
 abbrev pub program : App
@@ -64,6 +68,11 @@ pub record IsCommand (wanted : App) (command : Command) : Type 0 where
 -- clap's command, with one more argument
 pub record AddsRule (old : Command) (rule : Rule) (new : Command) : Type 0 where
   pub app : app_of new ≡ with_rule (app_of old) rule
+  pub local : (fields_of new).has_globals ≡ (fields_of old).has_globals
+
+-- clap's command, with the words of a batch and of a schedule
+pub record AddsTexts (old new : Command) : Type 0 where
+  pub app : app_of new ≡ with_rule (with_rule (app_of old) (word (codes "BATCH"))) (word (codes "SCHEDULE"))
   pub local : (fields_of new).has_globals ≡ (fields_of old).has_globals
 
 -- clap's command, with one more below it, which was to be had and has no argument to share

@@ -52,6 +52,26 @@ BATCH is looked at, then SCHEDULE, and then what it says:
 Status: 0 it is shortest, 1 it was refused or there was no memory, 2 the
 words fit no command, 3 the answer couldn't be written.";
 
+/// What `draw --help` says below its options.
+pub const DRAW_NOTES: &str = "\
+BATCH is a batch text and SCHEDULE a schedule text with the certificate part,
+in the form that `exchange plan --help` shows.
+
+The answer is a picture of the schedule, the text of an SVG file for a browser:
+  exchange draw BATCH SCHEDULE > schedule.svg
+Each module that takes part has a row, and each setting a column. The upper half
+of a row shows the transfers that link 0 of the module starts, the lower half
+those that link 3 answers. A cell has the number and the colour of the module at
+the other end, and an arrow to the right where words go there, or to the left
+where they come from there. Point at a cell, and the browser shows its transfer.
+The half of the link that SCHEDULE names as the busiest is framed.
+
+The texts are judged as `exchange check --help` shows, and what that refuses
+isn't drawn: the answer is the same refusal.
+
+Status: 0 a picture was printed, 1 it was refused or there was no memory, 2 the
+words fit no command, 3 the answer couldn't be written.";
+
 /// What `run --help` says below its options.
 pub const RUN_NOTES: &str = "\
 SHAPE is MxKxW: M modules, from 1 to 32, each of K blocks, from 1 to 64, each

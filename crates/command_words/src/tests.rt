@@ -40,6 +40,16 @@ fn is_check(job: Result<Job, WordsFault>, batch_name: &str, schedule_name: &str)
     }
 }
 
+/// Whether the words ask to draw the schedule of a file of the batch of another.
+fn is_draw(job: Result<Job, WordsFault>, batch_name: &str, schedule_name: &str) -> bool {
+    match job {
+        Ok(Job::Draw { batch, schedule }) => {
+            batch.as_str() == batch_name && schedule.as_str() == schedule_name
+        }
+        _ => false,
+    }
+}
+
 /// Whether the words ask to run the batch of a file on a rack of the shape with so many workers.
 fn is_run(job: Result<Job, WordsFault>, wanted: &str, name: &str, count: usize) -> bool {
     match job {
@@ -99,6 +109,7 @@ fn words_name_jobs(rt: HostRuntime) {
         )
     );
     assert!(rt; is_check(read(alloc, "exchange check B S"), "B", "S"));
+    assert!(rt; is_draw(read(alloc, "exchange draw B S"), "B", "S"));
     assert!(rt; is_plan(read(alloc, "exchange plan F --workers +5"), "F", 5));
     assert!(rt; is_plan(read(alloc, "exchange plan F --workers 007"), "F", 7));
     assert!(rt; is_run(read(alloc, "exchange run S B"), "S", "B", 1));
@@ -116,6 +127,9 @@ fn words_name_jobs(rt: HostRuntime) {
         "exchange check F",
         "exchange check F G H",
         "exchange check F G --workers 1",
+        "exchange draw F",
+        "exchange draw F G H",
+        "exchange draw F G --workers 1",
         "exchange chart F",
         "exchange plan F --workers 0",
         "exchange plan F --workers 65",

@@ -2,12 +2,12 @@
 
 ghost use Rattle.std.specs.Prelude.{◌≡◌, IfOk, false, Some, codes};
 ghost use Rattle.clap.specs.Words.{new_app, app_of, rule_of, first_of, rows_of, found_of};
-ghost use Rattle.command_words.specs.Program.{IsLocal, IsCommand, AddsRule, AddsCommand, word, words, workers};
+ghost use Rattle.command_words.specs.Program.{IsLocal, IsCommand, AddsRule, AddsTexts, AddsCommand, word, words, workers};
 ghost use Rattle.command_words.specs.Program.{top, planner, program};
-ghost use Rattle.command_words.specs.Program.{plan as plan_app, check as check_app, run as run_app, serve as serve_app};
-ghost use Rattle.command_words.specs.Jobs.{Holds, HasShape, HasScripts, HasWorkers, IsJob, IsWithinLimits, AreMatchesOf, texts_of};
+ghost use Rattle.command_words.specs.Program.{plan as plan_app, check as check_app, draw as draw_app, run as run_app, serve as serve_app};
+ghost use Rattle.command_words.specs.Jobs.{Holds, HasShape, HasTexts, HasScripts, HasWorkers, IsJob, IsWithinLimits, AreMatchesOf, texts_of};
 
-use crate::help::{CHECK_NOTES, PLAN_NOTES, RUN_NOTES, SERVE_NOTES, WORKERS_HELP};
+use crate::help::{CHECK_NOTES, DRAW_NOTES, PLAN_NOTES, RUN_NOTES, SERVE_NOTES, WORKERS_HELP};
 use crate::limits::MAX_SCRIPTS;
 use crate::text::Text;
 use crate::text_list::TextList;
@@ -27,6 +27,11 @@ pub enum Job {
     },
     /// Judge the schedule of a file against the batch of another.
     Check {
+        batch: Text,
+        schedule: Text,
+    },
+    /// Draw the schedule of a file, which is one of the batch of another.
+    Draw {
         batch: Text,
         schedule: Text,
     },
@@ -106,6 +111,14 @@ fn with_shape<'a>(alloc: Global, command: Command<'a>) -> Result<Command<'a>, Al
     with_word(alloc, command, "SHAPE", "The shape of the rack, as 3x2x2")
 }
 
+/// The command with the words of a batch and of a schedule.
+fn with_texts<'a>(alloc: Global, command: Command<'a>) -> Result<Command<'a>, AllocError>
+    ensures { IfOk result (AddsTexts command.entry) }
+{
+    let command = with_word(alloc, command, "BATCH", "The file of the batch")?;
+    with_word(alloc, command, "SCHEDULE", "The file of the schedule")
+}
+
 /// The word of the scripts, which has to be there, up to [`MAX_SCRIPTS`] times.
 fn scripts<'a>(alloc: Global) -> Arg<'a>
     ensures rule { rule_of result ≡ words }
@@ -157,8 +170,16 @@ fn check<'a>(alloc: Global) -> Result<Command<'a>, AllocError>
 {
     let about = "Judges a schedule of a batch: whether its certificate shows that none is shorter";
     let check = command(alloc, "check", about, CHECK_NOTES);
-    let check = with_word(alloc, check, "BATCH", "The file of the batch")?;
-    with_word(alloc, check, "SCHEDULE", "The file of the schedule")
+    with_texts(alloc, check)
+}
+
+/// `draw BATCH SCHEDULE`.
+fn draw<'a>(alloc: Global) -> Result<Command<'a>, AllocError>
+    ensures { IfOk result (IsCommand draw_app) }
+{
+    let about = "Draws a schedule of a batch: a picture in SVG, to be looked at in a browser";
+    let draw = command(alloc, "draw", about, DRAW_NOTES);
+    with_texts(alloc, draw)
 }
 
 /// `run SHAPE BATCH [--workers N]`.
@@ -207,7 +228,8 @@ fn planner<'a>(alloc: Global) -> Result<Command<'a>, AllocError>
     ensures { IfOk result (IsCommand planner) }
 {
     let planner = with_command(top(alloc), plan(alloc))?;
-    with_command(planner, check(alloc))
+    let checker = with_command(planner, check(alloc))?;
+    with_command(checker, draw(alloc))
 }
 
 /// All commands.
@@ -254,6 +276,15 @@ fn shape_of(alloc: Global, matches: &ArgMatches<'_>) -> Result<Text, WordsFault>
     text_of(alloc, matches, "SHAPE")
 }
 
+/// The texts of a batch and of a schedule.
+fn texts_named(alloc: Global, matches: &ArgMatches<'_>) -> Result<(Text, Text), WordsFault>
+    ensures { IfOk result (λ texts. HasTexts (rows_of (found_of matches.now)) texts.0 texts.1) }
+{
+    let batch = text_of(alloc, matches, "BATCH")?;
+    let schedule = text_of(alloc, matches, "SCHEDULE")?;
+    Ok((batch, schedule))
+}
+
 /// The texts of the scripts.
 fn scripts_of(alloc: Global, matches: &ArgMatches<'_>) -> Result<TextList, WordsFault>
     ensures { IfOk result (λ texts. HasScripts (rows_of (found_of matches.now)) texts) }
@@ -287,8 +318,7 @@ fn job_of(alloc: Global, name: &str, found: &ArgMatches<'_>) -> Result<Job, Word
         return Ok(Job::Plan { file, workers });
     }
     if name == "check" {
-        let batch = text_of(alloc, found, "BATCH")?;
-        let schedule = text_of(alloc, found, "SCHEDULE")?;
+        let (batch, schedule) = texts_named(alloc, found)?;
         return Ok(Job::Check { batch, schedule });
     }
     if name == "run" {
@@ -310,6 +340,10 @@ fn job_of(alloc: Global, name: &str, found: &ArgMatches<'_>) -> Result<Job, Word
             scripts,
             workers,
         });
+    }
+    if name == "draw" {
+        let (batch, schedule) = texts_named(alloc, found)?;
+        return Ok(Job::Draw { batch, schedule });
     }
     Err(missing(alloc))
 }

@@ -2,12 +2,12 @@
 use Rattle.std.specs.Prelude.{◌≡◌, ◌⊎◌, ℕ, List, Option, Result, Ok, Err, IfOk, codes, length}
 use Rattle.std.specs.Io.KnownBytes.{Appends}
 use Rattle.answers.specs.Extent.{widest}
-use Rattle.answers.specs.Answers.{IsPlanned, IsChecked, IsRunAnswer}
+use Rattle.answers.specs.Answers.{IsPlanned, IsChecked, IsDrawn, IsRunAnswer}
 use Rattle.answers.specs.Refusals.{Printed}
 use Rattle.answers.specs.Serving.{IsServeAnswer}
 use Rattle.answers.specs.declared.limits.TheConstants.{DONE, REFUSED}
 use Rattle.command_words.specs.declared.words.Job.{Job}
-use Rattle.command_words.specs.declared.words.Job.TheVariants.{Plan, Check, Run, Serve}
+use Rattle.command_words.specs.declared.words.Job.TheVariants.{Plan, Check, Draw, Run, Serve}
 use Rattle.command_words.specs.declared.words.WordsFault.{WordsFault}
 use Rattle.command_words.specs.declared.words.WordsFault.TheVariants as words_fault
 use Rattle.command_words.specs.Jobs.{Holds, AsksForHelp}
@@ -23,6 +23,10 @@ IsSomePlan answer = (batch : List ℕ) × IsPlanned widest batch answer
 abbrev pub IsSomeCheck : Printed → Type 0
 IsSomeCheck answer = (batch schedule : List ℕ) × IsChecked widest batch schedule answer
 
+-- an answer of `draw` to some bytes
+abbrev pub IsSomeDraw : Printed → Type 0
+IsSomeDraw answer = (batch schedule : List ℕ) × IsDrawn widest batch schedule answer
+
 -- an answer of `run` to this shape's text and some bytes
 abbrev pub IsSomeRun : List ℕ → Printed → Type 0
 IsSomeRun shape answer = (batch : List ℕ) × IsRunAnswer shape batch answer
@@ -35,6 +39,7 @@ IsSomeServe shape count answer = (scripts : List (List ℕ)) × (length scripts 
 abbrev pub IsAnswerTo : Job → Printed → Type 0
 IsAnswerTo (Plan file workers) answer = IsSomePlan answer
 IsAnswerTo (Check batch schedule) answer = IsSomeCheck answer
+IsAnswerTo (Draw batch schedule) answer = IsSomeDraw answer
 IsAnswerTo (Run shape batch workers) answer = IsSomeRun shape answer
 IsAnswerTo (Serve shape scripts workers) answer = IsSomeServe shape (length scripts) answer
 

@@ -4,12 +4,14 @@ ghost use Rattle.std.specs.Prelude.{◌≡◌, ◌⊎◌, ◌≤◌, IfOk, OnErr
 ghost use Rattle.std.specs.Process.{exit_status};
 ghost use Rattle.answers.specs.Refusals.{Printed};
 ghost use Rattle.command_words.specs.Jobs.{AreScripts, IsWithinLimits, texts_of};
-ghost use Rattle.exchange.specs.Responses.{IsSomePlan, IsSomeCheck, IsSomeRun, IsSomeServe, IsAnswerTo, IsResponseTo, IsPrinted};
+ghost use Rattle.exchange.specs.Responses.{IsSomePlan, IsSomeCheck, IsSomeDraw, IsSomeRun, IsSomeServe, IsAnswerTo, IsResponseTo, IsPrinted};
 ghost use Rattle.exchange.specs.Responses.{unanswered, IsEndFor, IsEndForWords, IsEndWithoutWords};
 
 use crate::limits::{MISUSED, UNWRITTEN};
 use crate::unanswered::Unanswered;
-use answers::{Answer, DONE, REFUSED, answer_check, answer_plan, answer_run, answer_serve};
+use answers::{
+    Answer, DONE, REFUSED, answer_check, answer_draw, answer_plan, answer_run, answer_serve,
+};
 use command_words::{Job, MAX_WORKERS, Text, TextList, WordsFault, read_words};
 use std::alloc::AllocError;
 use std::io::{ErrorKind, Write};
@@ -116,6 +118,7 @@ fn answer_to<R: AllocGlobal + Files + Threads + Wait + Sync>(
     match job {
         Job::Plan { file, workers } => plan(rt, &file, workers),
         Job::Check { batch, schedule } => check(rt, &batch, &schedule),
+        Job::Draw { batch, schedule } => draw(rt, &batch, &schedule),
         Job::Run {
             shape,
             batch,
@@ -154,6 +157,15 @@ fn check<R: AllocGlobal + Files>(
     let batch = fs::read(rt, batch.as_str())?;
     let schedule = fs::read(rt, schedule.as_str())?;
     Ok(answer_check(rt.alloc(), batch.as_slice(), schedule.as_slice())?)
+}
+
+/// The answer of `exchange draw BATCH SCHEDULE`. The batch's file is read first.
+fn draw<R: AllocGlobal + Files>(rt: &R, batch: &Text, schedule: &Text) -> Result<Answer, Unanswered>
+    ensures { IfOk result IsSomeDraw }
+{
+    let batch = fs::read(rt, batch.as_str())?;
+    let schedule = fs::read(rt, schedule.as_str())?;
+    Ok(answer_draw(rt.alloc(), batch.as_slice(), schedule.as_slice())?)
 }
 
 /// The answer of `exchange run SHAPE BATCH`. The batch's file is read before the shape is looked at.

@@ -56,6 +56,44 @@ fn plan_of_a_file(rt: HostRuntime) -> Result<(), Fail> {
     Ok(())
 }
 
+/// Whether the program prints a picture for the words of a line, with the part in it, nothing on standard
+/// error, and ends with status 0.
+fn draws<R: AllocGlobal + Files + Threads + Wait + Sync>(
+    rt: &R,
+    line: &str,
+    part: &str,
+) -> Result<bool, AllocError> {
+    let words = words(rt.alloc(), line)?;
+    let mut out = Vec::new(rt.alloc());
+    let mut err = Vec::new(rt.alloc());
+    let code = respond(rt, Ok(words), &mut out, &mut err);
+    let Ok(text) = str::from_utf8(out.as_slice()) else {
+        return Ok(false);
+    };
+    let is_picture = text.starts_with("<svg ") && text.ends_with("</svg>\n");
+    Ok(code == ExitCode::from(0) && err.is_empty() && is_picture && text.contains(part))
+}
+
+/// The first file is the batch, and the second the schedule.
+#[test]
+fn draw_of_two_files(rt: HostRuntime) -> Result<(), Fail> {
+    fs::write(&rt, "draw.batch", BATCH.as_bytes())?;
+    fs::write(&rt, "draw.schedule", SCHEDULE.as_bytes())?;
+    let title = "<title>transfer 2: push 1 1 2 1</title>";
+    let right = draws(&rt, "exchange draw draw.batch draw.schedule", title)?;
+    let exchanged = prints(
+        &rt,
+        "exchange draw draw.schedule draw.batch",
+        "refused batch line 1\n",
+        1,
+    )?;
+    fs::remove_file(&rt, "draw.batch")?;
+    fs::remove_file(&rt, "draw.schedule")?;
+    assert!(rt; right);
+    assert!(rt; exchanged);
+    Ok(())
+}
+
 /// The first file is the batch, and the second the schedule.
 #[test]
 fn check_of_two_files(rt: HostRuntime) -> Result<(), Fail> {

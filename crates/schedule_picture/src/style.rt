@@ -6,21 +6,21 @@ pub const STYLE: &str = "\
 <style>\n\
 text{font:12px sans-serif;text-anchor:middle}\n\
 .heading{font:bold 16px sans-serif;text-anchor:start}\n\
-.number{fill:#595959}\n\
+.number{fill:#595959;font-size:10px}\n\
 .note{text-anchor:start}\n\
 .paper{fill:#fff}\n\
 .lane rect{fill:#eee}\n\
 .lane text{fill:#595959}\n\
 .busiest rect{fill:#000}\n\
 .busiest text{font-weight:bold}\n\
-.m0{fill:#56b4e9}.m1{fill:#e69f00}.m2{fill:#cc79a7}.m3{fill:#2bb08a}\n\
-.m4{fill:#f0e442}.m5{fill:#e0784a}.m6{fill:#8f9bd6}.m7{fill:#b3b3b3}\n\
-.m8{fill:#b5ddf5}.m9{fill:#f7d58c}.m10{fill:#ecc9dd}.m11{fill:#a3e0cc}\n\
-.m12{fill:#faf6b8}.m13{fill:#f5c3ab}.m14{fill:#cdd3f0}.m15{fill:#dedede}\n\
-.m16{fill:#3d9ad1}.m17{fill:#c48a0c}.m18{fill:#b8689a}.m19{fill:#2d9c7b}\n\
-.m20{fill:#c4ba2c}.m21{fill:#cc6a40}.m22{fill:#7a86cb}.m23{fill:#999999}\n\
-.m24{fill:#7fd6d6}.m25{fill:#c6e377}.m26{fill:#e8a0a0}.m27{fill:#c9a06a}\n\
-.m28{fill:#b58be0}.m29{fill:#8fd08f}.m30{fill:#ff9fd0}.m31{fill:#9fb8c9}\n\
+.m0{fill:#56b4e9}.m1{fill:#e69f00}.m2{fill:#7070ff}.m3{fill:#e85858}\n\
+.m4{fill:#d0ff88}.m5{fill:#a07088}.m6{fill:#70b888}.m7{fill:#ffe858}\n\
+.m8{fill:#7088e8}.m9{fill:#d0d088}.m10{fill:#b870b8}.m11{fill:#70b8b8}\n\
+.m12{fill:#e8a058}.m13{fill:#a0ffb8}.m14{fill:#e8d0ff}.m15{fill:#ff8888}\n\
+.m16{fill:#ff88b8}.m17{fill:#588840}.m18{fill:#ffb8b8}.m19{fill:#b87070}\n\
+.m20{fill:#d0d058}.m21{fill:#b858d0}.m22{fill:#40b840}.m23{fill:#e888e8}\n\
+.m24{fill:#b8ffd0}.m25{fill:#b8a0d0}.m26{fill:#88e8d0}.m27{fill:#d0e888}\n\
+.m28{fill:#e858a0}.m29{fill:#d0b8d0}.m30{fill:#40b870}.m31{fill:#58d070}\n\
 </style>\n\
 ";
 
