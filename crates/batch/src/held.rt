@@ -13,8 +13,8 @@ use std::alloc::{AllocError, Global};
 
 impl Batch {
     /// The held sources: the blocks that a transfer of the batch reads and one, the same or another, writes.
-    /// Each stands once, in the order of the first transfers that read them. That such a block is copied
-    /// before any word moves is this project's choice.
+    /// Each stands once; their order isn't said. That such a block is copied before any word moves is this
+    /// project's choice.
     ///
     /// Want of memory is answered only where there is such a block. The time grows with the number of
     /// transfers and of blocks.

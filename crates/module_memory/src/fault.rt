@@ -17,10 +17,10 @@ pub enum MemoryFault {
     Outside,
 }
 
-/// Why blocks can't be lent. Positions in the list of places are counted from 0.
+/// Why blocks can't be lent. Positions in a list are counted from 0.
 ///
-/// A missing place is looked for in the whole list before any repeated one. This is the project's
-/// choice.
+/// A missing place is looked for first, in the whole list; then a missing held place, in the whole list
+/// of these; then a repeated place. Memory is asked for last. This is the project's choice.
 #[derive(Clone, Copy, Debug, PartialEq, Eq, Error)]
 pub enum LendFault {
     /// The place at this position stands before it too. It is the first such position.

@@ -162,12 +162,12 @@ impl Rack {
     }
 
     /// Parts the rack: the block at each of the places becomes a bay that owns its words, and the rest
-    /// stays behind. Words are moved and not copied, but for the held blocks: before any block becomes a bay, each
-    /// of these is copied into the rest. A held place may stand twice. Where a fault is answered the rack comes
-    /// back as it was.
+    /// stays behind. Words are moved and not copied, but for the held blocks: before any block becomes a bay,
+    /// each of these is copied into the rest. One place may be held more than once. Where a fault is answered the
+    /// rack comes back as it was.
     ///
     /// Takes memory for the list of bays, and for the copies. The time may grow with the square of the number of
-    /// places, and with the words of the held ones.
+    /// places and, where something is held, with the number of the rack's blocks and of the held words.
     pub fn part(self, places: &[Place], held: &[Place]) -> Result<Parted, (Rack, LendFault)>
         ensures lendable { IfOk result (λ _. AreLendable self.shape places.now) }
         ensures bays { IfOk result (λ parted. parted.bays.items ≡ bays_of self places.now) }

@@ -81,6 +81,8 @@ fn held_places_are_refused(rt: HostRuntime) -> Result<(), Fail> {
     rack.mark();
     let (rack, fault) = hold_fault(rack, &[], &[place(9, 0)])?;
     assert_eq!(rt; fault, LendFault::NoHeld(0));
+    let (rack, fault) = hold_fault(rack, &[place(1, 0)], &[place(9, 0)])?;
+    assert_eq!(rt; fault, LendFault::NoHeld(0));
     let (rack, fault) = hold_fault(rack, &[place(2, 0)], &[place(9, 0)])?;
     assert_eq!(rt; fault, LendFault::NoPlace(0));
     let twice = [place(0, 0), place(0, 0)];

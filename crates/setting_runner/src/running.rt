@@ -23,8 +23,9 @@ use std::thread::Threads;
 
 /// Runs a plan on a rack, and gives the rack back.
 ///
-/// First the plan is tested, and all memory is taken: a list of the blocks that are written, and copies of those
-/// that the batch both reads and writes. Their transfers move the words that they had then; no other block is copied.
+/// First the plan is tested, and all memory is taken: lists of the blocks that are written and of those that the batch
+/// both reads and writes, and copies of the latter. Their transfers move the words that they had then; no other
+/// block is copied.
 ///
 /// Then, setting by setting, the switches are set, whatever they were for the first setting and from the setting
 /// before for each later one. A rack of at most 16 modules has one switch, and a wider one has two. All their outputs
