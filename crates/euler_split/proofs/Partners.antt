@@ -7,7 +7,7 @@ use Rattle.std.proofs.lemmas.Bool.Decides.{eqb_tells}
 use Rattle.batch.specs.declared.limits.TheConstants.{MAX_MODULES}
 use Rattle.batch.specs.declared.transfer.Transfer.{Transfer}
 use Rattle.link_graph.specs.declared.link.End.{End}
-use Rattle.euler_split.specs.Pairs.{ArePairs, Tells, module_in, passing, AreBalanced}
+use Rattle.euler_split.specs.Pairs.{ArePairs, Tells, module_in, passing, AreBalanced, HasCome}
 
 -- a passing and b failing places, of which one may have no partner yet
 abbrev pub Evens : Option ℕ → (ℕ → Bool) → ℕ → ℕ → Type 0
@@ -146,6 +146,15 @@ module _ (g : List Transfer) (members : List ℕ) (e : End) (i : ℕ) (ws ps : L
                   evens_by _ _ p _ _ _ _ (sym (get_or-set_other ws l₀ l None None apart)) (sym (passing_away g members e l i p away)) (sym (passing_away g members e l i (λ j. not (p j)) away)) before
             ];
       }
+
+  -- it comes to its link
+  pub come_paired : (waiting partners : List (Option ℕ)) → HasCome l₀ i ws ps waiting partners → ArePaired g members e (suc i) waiting partners
+  come_paired waiting partners come =
+      let go : (o : Option ℕ) → get_or ws l₀ None ≡ o → ArePaired g members e (suc i) waiting partners = λ o. elim o as (λ o. get_or ws l₀ None ≡ o → ArePaired g members e (suc i) waiting partners) [
+        | None ↦ λ is. let now = come.waits is in rw (now.0, now.1) (waits_now is)
+        | Some w ↦ λ is. let now = come.paired w is in rw (now.0, now.1) (paired_now w is)
+      ] in
+      go (get_or ws l₀ None) refl
 
 at_most_one : (o : Option ℕ) (p : ℕ → Bool) (a b : ℕ) → Evens o p a b → (a ≤ b + 1) × (b ≤ a + 1)
 at_most_one None p a b h = (omega arith, omega arith)

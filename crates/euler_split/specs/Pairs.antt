@@ -1,5 +1,5 @@
 -- Places of a list of transfers, paired at each link of one end.
-use Rattle.std.specs.Prelude.{◌≡◌, ◌≢◌, ◌==◌, ℕ, ◌+◌, ◌≤◌, List, length, map, Option, Some, None, Bool, ◌&&◌, not, slice_index, slice_index_or}
+use Rattle.std.specs.Prelude.{◌≡◌, ◌≢◌, ◌==◌, ℕ, ◌+◌, ◌≤◌, List, length, map, Option, Some, None, Bool, ◌&&◌, not, slice_index, slice_index_or, set}
 use Rattle.batch.specs.declared.transfer.Transfer.{Transfer}
 use Rattle.link_graph.specs.declared.link.End.{End}
 use Rattle.link_graph.specs.Counts.{count_below, module_at}
@@ -26,3 +26,8 @@ pub record AreBalanced (batch : List Transfer) (whole : List ℕ) (end : End) (p
   pub sized : length partners ≡ length whole
   pub pairs : ArePairs partners
   pub even : (test : ℕ → Bool) → Tells partners test → (m : ℕ) → (passing batch whole end m (length whole) test ≤ passing batch whole end m (length whole) (λ i. not (test i)) + 1) × (passing batch whole end m (length whole) (λ i. not (test i)) ≤ passing batch whole end m (length whole) test + 1)
+
+-- A place comes to a link. Where none waits there, it waits; else it and the one that waits are partners.
+pub record HasCome (link place : ℕ) (waiting partners waiting_now partners_now : List (Option ℕ)) : Type 0 where
+  pub waits : slice_index_or waiting link None ≡ None → (waiting_now ≡ set waiting link (Some place)) × (partners_now ≡ partners)
+  pub paired : (w : ℕ) → slice_index_or waiting link None ≡ Some w → (waiting_now ≡ set waiting link None) × (partners_now ≡ set (set partners w (Some place)) place (Some w))

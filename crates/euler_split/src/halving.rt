@@ -6,10 +6,10 @@ ghost use Rattle.euler_split.specs.Split.{IsSplit};
 ghost use Rattle.euler_split.specs.Walks.{half_at};
 ghost use Rattle.euler_split.specs.Deals.{AreDealt};
 
-use crate::pairing::pair_at;
+use crate::pairing::pair;
 use crate::walking::halve;
 use batch::{MAX_MODULES, MAX_TRANSFERS};
-use link_graph::{End, LinkGraph};
+use link_graph::LinkGraph;
 use std::alloc::{AllocError, Global};
 
 /// Of how many members at most the places are kept on the stack.
@@ -60,8 +60,7 @@ fn split_by(
     requires halves_empty { (place : ℕ) → half_at halves.old place ≡ None }
     ensures { IfOk result (λ halves. IsSplit graph.now members.now halves.0.items halves.1.items) }
 {
-    pair_at(graph, members, End::Zero, zero);
-    pair_at(graph, members, End::Three, three);
+    pair(graph, members, zero, three);
     halve(zero, three, halves);
     deal(alloc, members, halves)
 }

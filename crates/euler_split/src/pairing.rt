@@ -1,46 +1,59 @@
 //! Pairing the places of a list of transfers at each link.
 
-ghost use Rattle.std.specs.Prelude.{◌≡◌, ℕ, ◌<◌, ◌≤◌, length, All, None, slice_index_or};
+ghost use Rattle.std.specs.Prelude.{◌≡◌, ℕ, ◌<◌, ◌≤◌, length, All, None, Some, slice_index_or};
 ghost use Rattle.batch.specs.Batches.{IsBatch};
-ghost use Rattle.euler_split.specs.Pairs.{module_in, AreBalanced};
+ghost use Rattle.link_graph.specs.declared.link.End.TheVariants.{Zero, Three};
+ghost use Rattle.euler_split.specs.Pairs.{AreBalanced, HasCome};
 
 use batch::{MAX_MODULES, MAX_TRANSFERS};
-use link_graph::{End, LinkGraph};
+use link_graph::LinkGraph;
 
-/// The module that transfer `t` has at an end.
-fn module_of(graph: &LinkGraph, t: usize, end: End) -> usize
-    requires known { t < length graph.now }
-    requires batch { IsBatch graph.now }
-    ensures module { result ≡ module_in graph.now end t }
-    ensures below { result < MAX_MODULES }
+/// Lets a place wait at a module's link, or pairs it with the one that waits there.
+fn come(
+    waiting: &mut [Option<u16>; MAX_MODULES],
+    partners: &mut [Option<u16>],
+    module: usize,
+    place: usize,
+)
+    requires link { «module» < MAX_MODULES }
+    requires within { place < length partners.old }
+    requires few { length partners.old ≤ MAX_TRANSFERS }
+    requires earlier { (w : ℕ) → slice_index_or waiting.old «module» None ≡ Some w → w < place }
+    ensures { HasCome «module» place waiting.old partners.old waiting.new partners.new }
 {
-    let (start, answer) = graph.ends(t).unwrap();
-    match end {
-        End::Zero => start.module,
-        End::Three => answer.module,
+    match waiting[module] {
+        None => waiting[module] = Some(place as u16),
+        Some(earlier) => {
+            partners[usize::from(earlier)] = Some(place as u16);
+            partners[place] = Some(earlier);
+            waiting[module] = None;
+        }
     }
 }
 
-/// Pairs the places of `members` at each link of one end, two by two in their order. Where a link has
-/// an odd number of them, the last has no partner.
-pub(crate) fn pair_at(graph: &LinkGraph, members: &[usize], end: End, partners: &mut [Option<u16>])
+/// Pairs the places of `members` at each link, two by two in their order. Where a link has an odd
+/// number of them, the last has no partner.
+pub(crate) fn pair(
+    graph: &LinkGraph,
+    members: &[usize],
+    zero: &mut [Option<u16>],
+    three: &mut [Option<u16>],
+)
     requires batch { IsBatch graph.now }
     requires known { All (λ t. t < length graph.now) members.now }
     requires few { length members.now ≤ MAX_TRANSFERS }
-    requires sized { length partners.old ≡ length members.now }
-    requires none_yet { (place : ℕ) → slice_index_or partners.old place None ≡ None }
-    ensures { AreBalanced graph.now members.now end partners.new }
+    requires zero_sized { length zero.old ≡ length members.now }
+    requires three_sized { length three.old ≡ length members.now }
+    requires zero_empty { (place : ℕ) → slice_index_or zero.old place None ≡ None }
+    requires three_empty { (place : ℕ) → slice_index_or three.old place None ≡ None }
+    ensures zero { AreBalanced graph.now members.now Zero zero.new }
+    ensures three { AreBalanced graph.now members.now Three three.new }
 {
-    let mut waiting = [None; MAX_MODULES];
+    let mut at_zero = [None; MAX_MODULES];
+    let mut at_three = [None; MAX_MODULES];
     for place in 0..members.len() {
-        let module = module_of(graph, members[place], end);
-        match waiting[module] {
-            None => waiting[module] = Some(place as u16),
-            Some(earlier) => {
-                partners[usize::from(earlier)] = Some(place as u16);
-                partners[place] = Some(earlier);
-                waiting[module] = None;
-            }
-        }
+        let (start, answer) = graph.ends(members[place]).unwrap();
+        come(&mut at_zero, zero, start.module, place);
+        come(&mut at_three, three, answer.module, place);
     }
 }
