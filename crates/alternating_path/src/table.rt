@@ -1,6 +1,6 @@
 //! Tables of edge colourings, and the insertion of an edge.
 
-ghost use Rattle.std.specs.Prelude.{◌≡◌, ℕ, ◌+◌, ◌<◌, ◌≤◌, ◌↔◌, min, length, set, All, Contains, Some, None, Err, IfOk, OnOk, OnErr, MatchOption, IfSome, IfNone, OnSome};
+ghost use Rattle.std.specs.Prelude.{◌≡◌, ℕ, ◌+◌, ◌*◌, ◌<◌, ◌≤◌, ◌↔◌, min, length, replicate, set, All, Contains, Some, None, Err, IfOk, OnOk, OnErr, MatchOption, IfSome, IfNone, OnSome};
 ghost use Rattle.batch.specs.Batches.{IsBatch};
 ghost use Rattle.link_graph.specs.declared.link.End.TheVariants.{Zero, Three};
 ghost use Rattle.link_graph.specs.Uses.{Uses, IsMatching};
@@ -50,14 +50,22 @@ impl<'a> Table<'a> {
     pub fn new(alloc: Global, graph: &'a LinkGraph, colours: usize) -> Result<Table<'a>, AllocError>
         ensures { IfOk result (λ table. table ≡ nothing_placed graph.now colours) }
     {
-        prove!(graph.len() <= MAX_TRANSFERS);
         let cells = vec![in alloc; None; colours.saturating_mul(LINKS)]?;
-        Ok(Table {
+        Ok(Table::empty(graph, colours, cells))
+    }
+
+    /// The table of these colours whose cells hold nothing.
+    fn empty(graph: &'a LinkGraph, colours: usize, cells: Vec<Option<u16>>) -> Table<'a>
+        requires { cells.items ≡ replicate (colours * LINKS) None }
+        ensures { result ≡ nothing_placed graph.now colours }
+    {
+        prove!(graph.len() <= MAX_TRANSFERS);
+        Table {
             graph,
             colours,
             cells,
             inserted: 0,
-        })
+        }
     }
 
     /// A table with one colour, in which just the members are placed: distinct numbers of transfers of
@@ -77,7 +85,28 @@ impl<'a> Table<'a> {
         ensures inserted { IfOk result (λ table. table.inserted ≡ 0) }
         ensures proper { IfOk result IsProperTable }
     {
-        let mut table = Table::new(alloc, graph, 1)?;
+        Table::one_with_room(alloc, graph, members, 1)
+    }
+
+    /// As [`one`](Table::one), with room for this many colours: so many can be joined to the one
+    /// before the table's cells have to be moved.
+    pub fn one_with_room(
+        alloc: Global,
+        graph: &'a LinkGraph,
+        members: &[usize],
+        colours: usize,
+    ) -> Result<Table<'a>, AllocError>
+        requires known { All (λ t. t < length graph.now) members.now }
+        requires matching { IsMatching graph.now members.now }
+        ensures batch { IfOk result (λ table. table.batch ≡ graph.now) }
+        ensures colours { IfOk result (λ table. table.colours ≡ 1) }
+        ensures placed { IfOk result (λ table. PlacesOnly table.colour members.now) }
+        ensures inserted { IfOk result (λ table. table.inserted ≡ 0) }
+        ensures proper { IfOk result IsProperTable }
+    {
+        let mut cells = Vec::with_capacity(alloc, colours.saturating_mul(LINKS))?;
+        cells.extend_from_slice(&[None; LINKS])?;
+        let mut table = Table::empty(graph, 1, cells);
         for t in members {
             table.put_in(*t, 0);
         }

@@ -31,7 +31,8 @@ fn put_back(table: &mut Table<'_>, class: &[usize])
 }
 
 /// Colours a part with as many colours as its busiest link has uses, its degree, and with one where
-/// that is 0. The degree may be known.
+/// that is 0. The degree may be known. Room for this many colours is taken at once, so that others
+/// can be joined to these without a move.
 ///
 /// The part is halved so that the uses of each link are, each half is coloured by itself, and the two
 /// tables are joined. Where the degree is odd, that may be one colour too many: then a smallest class
@@ -45,17 +46,20 @@ pub(crate) fn colour_part<'a, R: Threads + Sync, G: Gate>(
     graph: &'a LinkGraph,
     part: &[usize],
     known: Option<usize>,
+    room: usize,
 ) -> Result<Table<'a>, AllocError>
     requires { IsPartBy graph.now part.now known }
     ensures { IfOk result (IsColouredPart graph.now part.now) }
 {
     let degree = degree_of(graph, part, known);
+    // Two halves may have a colour too many.
+    let room = room.max(degree.saturating_add(1));
     if degree <= 1 {
-        return Table::one(alloc, graph, part);
+        return Table::one_with_room(alloc, graph, part, room);
     }
     let (left, right) = split(alloc, graph, part)?;
     let half = half_of(degree);
-    let (left, right) = colour_halves(rt, gate, workers, alloc, graph, &left, &right, half)?;
+    let (left, right) = colour_halves(rt, gate, workers, alloc, graph, &left, &right, half, room)?;
     let joined = Table::join(left, right)?;
     if joined.colours() <= degree {
         return Ok(joined);
@@ -66,7 +70,7 @@ pub(crate) fn colour_part<'a, R: Threads + Sync, G: Gate>(
 }
 
 /// Colours two parts, of a degree that may be known: both at once where there are two workers or
-/// more.
+/// more. Room for this many colours is taken with the left one.
 #[cycle(halves)]
 fn colour_halves<'a, R: Threads + Sync, G: Gate>(
     rt: &R,
@@ -77,6 +81,7 @@ fn colour_halves<'a, R: Threads + Sync, G: Gate>(
     left: &[usize],
     right: &[usize],
     known: Option<usize>,
+    room: usize,
 ) -> Result<(Table<'a>, Table<'a>), AllocError>
     requires left { IsPartBy graph.now left.now known }
     requires right { IsPartBy graph.now right.now known }
@@ -84,8 +89,8 @@ fn colour_halves<'a, R: Threads + Sync, G: Gate>(
     ensures right { IfOk result (λ tables. IsColouredPart graph.now right.now tables.1) }
 {
     if workers.count < 2 {
-        let left = colour_part(rt, gate, workers, alloc, graph, left, known)?;
-        let right = colour_part(rt, gate, workers, alloc, graph, right, known)?;
+        let left = colour_part(rt, gate, workers, alloc, graph, left, known, room)?;
+        let right = colour_part(rt, gate, workers, alloc, graph, right, known, 0)?;
         return Ok((left, right));
     }
     let (first, rest) = workers.halves();
@@ -96,14 +101,14 @@ fn colour_halves<'a, R: Threads + Sync, G: Gate>(
             ensures { IfOk result (IsColouredPart graph.entry.now left.entry.now) }
         {
             gate.arrive(first.least);
-            colour_part(rt, gate, first, alloc, graph, left, known)
+            colour_part(rt, gate, first, alloc, graph, left, known, room)
         },
         || -> Result<Table, AllocError>
             requires { IsSync R.row × IsSync G.row × IsPartBy graph.now right.now known }
             ensures { IfOk result (IsColouredPart graph.entry.now right.entry.now) }
         {
             gate.arrive(rest.least);
-            colour_part(rt, gate, rest, alloc, graph, right, known)
+            colour_part(rt, gate, rest, alloc, graph, right, known, 0)
         },
     );
     Ok((left?, right?))

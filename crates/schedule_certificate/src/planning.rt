@@ -33,7 +33,7 @@ fn colour_all<R: Threads + Sync, G: Gate>(
     ensures { IfOk result (λ coloured. IsColoured graph.now coloured) }
 {
     let all = all_transfers(alloc, graph)?;
-    let table = colour_part(rt, gate, workers, alloc, graph, &all, None)?;
+    let table = colour_part(rt, gate, workers, alloc, graph, &all, None, 0)?;
     let coloured = table.into_schedule()?;
     Ok(coloured)
 }

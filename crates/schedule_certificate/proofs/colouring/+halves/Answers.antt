@@ -5,8 +5,8 @@ use Rattle.schedule_certificate.specs.Parts.{IsPart, IsDegree, IsColouredPart}
 use Rattle.schedule_certificate.proofs.Parts.{single_matching, left_part, right_part, both_less, known_halves, apart, joined_coloured, has_room, put_back_coloured}
 use Rattle.schedule_certificate.proofs.colouring.+halves.Goals as goal
 
-pub colour_part-one-requires-clause-matching : goal.colour_part-one-requires-clause-matching
-colour_part-one-requires-clause-matching g t c = single_matching c.args.graph.now c.args.part.now c.degree_of-degree.result c.degree_of-degree.ensures (omega arith)
+pub colour_part-one_with_room-requires-clause-matching : goal.colour_part-one_with_room-requires-clause-matching
+colour_part-one_with_room-requires-clause-matching g t c = single_matching c.args.graph.now c.args.part.now c.degree_of-degree.result c.degree_of-degree.ensures (omega arith)
 
 pub colour_part-colour_halves-requires : goal.colour_part-colour_halves-requires
 colour_part-colour_halves-requires g t c κs within =

@@ -1,17 +1,5 @@
-use Rattle.std.proofs.Common.{◌≡◌, ◌*◌, None, length, replicate, rules, ap}
-use Rattle.link_graph.specs.declared.limits.TheConstants.{LINKS}
-use Rattle.alternating_path.specs.Colouring.{Colouring}
-use Rattle.alternating_path.specs.Cells.{shown_colours}
-use Rattle.alternating_path.proofs.Shown.{empty_cells, show, shown-is}
+use Rattle.std.proofs.Common.{rules}
 use Rattle.alternating_path.proofs.table.Table.new.Goals as goal
 
-pub invariant_of-result : goal.invariant_of-result
-invariant_of-result c =
-    let cells : c.in_ok-cells.cells.items ≡ replicate (c.args.colours * LINKS) None = search (rules, c.in_ok-cells.ensures) in
-    rw cells (show _ _ _ _ (empty_cells c.args.graph.now c.args.colours c.len.ensures.batch))
-
-pub returns : goal.returns
-returns c =
-    let cells : c.in_ok-cells.cells.items ≡ replicate (c.args.colours * LINKS) None = search (rules, c.in_ok-cells.ensures) in
-    let shown : shown_colours c.args.graph.now c.args.colours c.in_ok-cells.cells.items ≡ replicate (length c.args.graph.now) None = rw cells (shown-is _ _ _ _ (empty_cells c.args.graph.now c.args.colours c.len.ensures.batch)) in
-    ap (λ (f : _). let s : Colouring = record { batch = c.args.graph.now; colours = c.args.colours; colour = f; inserted = 0 } in s) shown
+pub empty-requires : goal.empty-requires
+empty-requires c = search (rules, c.in_ok-cells.ensures)

@@ -1,5 +1,5 @@
 use Rattle.alternating_path.proofs.Singles.{HoldsJust}
-use Rattle.alternating_path.proofs.table.Table.one.Given as goal
+use Rattle.alternating_path.proofs.table.Table.one_with_room.Given as goal
 
 abbrev pub invariant-loop-t : goal.invariant-loop-t
 invariant-loop-t l = HoldsJust l.graph l.members l.t-index l.table

@@ -2,10 +2,10 @@ use Rattle.std.proofs.Common.{◌≡◌, take, arith}
 use Rattle.std.proofs.lemmas.List.{take_all}
 use Rattle.link_graph.specs.declared.link.End.TheVariants.{Zero, Three}
 use Rattle.alternating_path.proofs.Singles.{none_held, next_out, next_free, next_held}
-use Rattle.alternating_path.proofs.table.Table.one.Goals as goal
+use Rattle.alternating_path.proofs.table.Table.one_with_room.Goals as goal
 
 pub loop-t-init : goal.loop-t-init
-loop-t-init c = rw c.in_ok-table.ensures (none_held _ _)
+loop-t-init c = rw c.empty-table.ensures (none_held _ _)
 
 pub put_in-requires-clause-out : goal.put_in-requires-clause-out
 put_in-requires-clause-out c = next_out c.args.graph.now c.args.members.now c.loop-t.t-index c.loop-t.table c.requires.known c.requires.matching c.loop-t-test.true c.loop-t.invariant
