@@ -13,7 +13,6 @@ use Rattle.link_graph.specs.Uses.{Uses, IsMatching}
 use Rattle.link_graph.specs.Schedules.{IsScheduleOf}
 use Rattle.schedule_picture.specs.declared.layout.TheConstants.{TOP, COLUMN, ROW, HALF}
 use Rattle.schedule_picture.specs.Places.{takes_part, row_of, row_place, half_place, column_place}
-use Rattle.schedule_picture.specs.Cells.{cell_place}
 use Rattle.schedule_picture.specs.RowsText.{link_of}
 use Rattle.schedule_picture.specs.Laws.{Stands, NothingOverlaps}
 
@@ -91,7 +90,7 @@ one_cell batch settings k i j x y e s here there same =
     same_position batch here.setting i j here.number there.number (link_of e (module_at e x)) (matching_at batch settings k here.setting here.in_schedule s) here.in_setting at (uses_own batch here.number x e here.in_batch) used
 
 pub overlapping : NothingOverlaps
-unfolding cell_place row_place
+unfolding row_place
 overlapping batch settings s k i x e l j y f here there over =
     let setting = same_column k l over.not_right over.not_left in
     let half = same_half (row_of batch (module_at e x)) (row_of batch (module_at f y)) e f over.not_below over.not_above in

@@ -1,4 +1,3 @@
-use Rattle.std.proofs.Common.{append_assoc}
 use Rattle.schedule_picture.specs.Cells.{transfer_cells}
 use Rattle.schedule_picture.proofs.Texts.{two}
 use Rattle.schedule_picture.proofs.cells.push_transfer.Goals as goal
@@ -9,4 +8,4 @@ returns c =
     two c.push_cell-2.result _ _ _ _ _ (transfer_cells c.args.rows.now c.args.setting c.args.number)
     c.in_ok-push_cell.ensures
     c.push_cell-2.ensures
-    (simp (append_assoc, c.transfers.ensures.value))
+    (simp c.transfers.ensures.value)
