@@ -6,7 +6,9 @@ ghost use Rattle.module_memory.specs.Core.{EachPrefix, EndIsPlaced, OneEnd, OneM
 ghost use Rattle.module_memory.specs.Mark.{OneMarked};
 ghost use Rattle.module_memory.specs.Settings.{AllMovedIsPlaced, CountsAreReached, OneAfterAnother, OthersStayReady, RunIsPlaced, StopIsMoved, WholeBatchIsPlaced};
 
-/// Where a batch doesn't overlap, the order in which the words of a setting move doesn't matter.
+/// Where a batch doesn't overlap, the order in which the words of a setting move doesn't matter. A source that
+/// the batch writes is found in an opening store, and any other in the store as it is; as the setting begins, these
+/// two agree on the sources that the batch doesn't write.
 pub fn any_order()
     ensures one_end { OneEnd }
     ensures placed { EndIsPlaced }

@@ -111,7 +111,7 @@ fn carries<R: AllocGlobal + Threads + Sync>(
 }
 
 /// Held blocks are peeked at 80010808 and 8001080c hex, in the hold window, and another block at 80000800 and 80000804.
-/// The copying uses no line.
+/// Nothing of the copying is seen on a wire.
 #[test]
 fn held_blocks_are_peeked_in_the_hold_window(rt: HostRuntime) -> Result<(), Fail> {
     let text = "batch 3\npull 0 1 1 1\npull 1 1 0 1\npull 1 0 0 0\n";
