@@ -1,0 +1,14 @@
+#!/usr/bin/env bash
+# Measures what workers gain where wires take time: a run of 8 settings of 16 pairs, a block of 256 words each, by one
+# worker, two, four and sixteen, over wires that keep a processor busy 6 microseconds a word and over wires that sleep
+# 100 microseconds a word. The former want four processors that nothing else is at. The program slow_wires.rattle is
+# proved and built first (../copy.sh).
+set -eu
+here=$(cd "$(dirname "${BASH_SOURCE[0]}")" && pwd)
+top=$here/../..
+. "$here/../copy.sh"
+
+begin_copy setting_runner
+enter_program slow_wires passed_bytes batch crossbar module_memory peek_poke link_graph schedule_certificate \
+    setting_runner
+rt run
