@@ -5,3 +5,4 @@ pub mod Reporting
 pub mod Fewest
 pub mod Sessions
 pub mod OneDrawing
+pub mod Switches

@@ -19,6 +19,7 @@ mod running;
 mod running_fault;
 mod serving;
 mod session;
+mod switching;
 
 pub use answer::Answer;
 pub use checking::answer_check;
@@ -31,6 +32,7 @@ pub use running::answer_run;
 pub use running_fault::RunningFault;
 pub use schedule_certificate::MAX_WORKERS;
 pub use serving::answer_serve;
+pub use switching::answer_switch;
 
 #[cfg(test)]
 mod tests;

@@ -2,6 +2,7 @@ ghost use Rattle.std.specs.Prelude.{◌≤◌};
 
 mod serving;
 mod side_by_side;
+mod switching;
 
 use crate::answer::Answer;
 use crate::checking::answer_check;

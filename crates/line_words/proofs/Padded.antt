@@ -4,7 +4,7 @@ use Rattle.std.specs.Fmt.{digits, digits_onto}
 use Rattle.std.proofs.Math.Nat.{pow-suc}
 use Rattle.std.proofs.lemmas.Bool.{cases_lt, eq-eqb, ne_eqb}
 use Rattle.std.proofs.lemmas.List.{replicate-append-replicate}
-use Rattle.line_words.specs.HexWords.{IsWord, hex_digit, hex_digits, hex8}
+use Rattle.line_words.specs.HexWords.{IsWord, hex_digit, hex_digits, hex8, hex2}
 
 -- the digits of 0 are zeros
 zeros : (m : ℕ) → hex_digits m 0 ≡ replicate m 48
@@ -48,3 +48,7 @@ padded_digits (suc (suc m)) (suc k) n others some fits small = elim (cases_lt 0 
 pub padded_is : (w : ℕ) → IsWord w → replicate (8 - length (digits 16 false w)) 48 ++ digits 16 false w ≡ hex8 w
 unfolding digits hex8
 padded_is w fits = padded_digits 8 64 w [] (omega arith) (omega arith) (omega (arith, fits)) ∙ append-nil (hex_digits 8 w)
+
+pub padded_byte : (b : ℕ) → b < 2 ^ 8 → replicate (2 - length (digits 16 false b)) 48 ++ digits 16 false b ≡ hex2 b
+unfolding digits hex2
+padded_byte b fits = padded_digits 2 64 b [] (omega arith) (omega arith) (omega (arith, fits)) ∙ append-nil (hex_digits 2 b)

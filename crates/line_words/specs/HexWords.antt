@@ -19,6 +19,10 @@ hex_digits (suc n) w = hex_digits n (w / 16) ++ hex_digit (w % 16) ∷ []
 unfoldable pub hex8 : ℕ → List ℕ
 hex8 w = hex_digits HEX_DIGITS w
 
+-- the two digits of a byte
+unfoldable pub hex2 : ℕ → List ℕ
+hex2 b = hex_digits 2 b
+
 -- the text begins with no such digits that this byte ends
 abbrev pub BeginsWithNoHex8 : List ℕ → ℕ → Type 0
 BeginsWithNoHex8 text end = (w : ℕ) (rest : List ℕ) → IsWord w → text ≢ hex8 w ++ end ∷ rest

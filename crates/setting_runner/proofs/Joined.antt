@@ -167,7 +167,7 @@ same_answer : (x y : Transfer) → x.responder ≡ y.responder → answer_link x
 same_answer x y e = ap (λ (m : ℕ). answer_link (record { kind = x.kind; initiator = 0; own_block = 0; responder = m; far_block = 0 })) e
 
 -- a transfer shares no module's link with those of a matching
-no_initiator : (batch : List Transfer) (t : ℕ) (us : List ℕ) (q : Pair) → t < length batch → All (λ u. u < length batch) us → All (AreApart batch t) us → In q (setting_pairs batch us) → (transfer_at batch t).initiator ≡ q.initiator → ⊥
+pub no_initiator : (batch : List Transfer) (t : ℕ) (us : List ℕ) (q : Pair) → t < length batch → All (λ u. u < length batch) us → All (AreApart batch t) us → In q (setting_pairs batch us) → (transfer_at batch t).initiator ≡ q.initiator → ⊥
 no_initiator batch t [] q h k a i e = absurd i
 no_initiator batch t (u ∷ us) q h k a i e = elim i [
   | inl here ↦

@@ -12,4 +12,5 @@ pub mod Schedules
 pub mod Tellings
 pub mod Going
 pub mod Joined
+pub mod InOrder
 pub mod Starting

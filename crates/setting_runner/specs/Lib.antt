@@ -6,4 +6,5 @@ pub mod Moves
 pub mod Carried
 pub mod Tables
 pub mod Runs
+pub mod Sending
 pub mod LineBits

@@ -22,13 +22,15 @@ pub use bytes::{
     CHANGE_BYTES, ENQUIRY_BYTES, WIDE_CHANGE_BYTES, WIDE_SETTING_BYTES, change_bytes,
     enquiry_bytes, line_bits, setting_bytes, wide_bytes, wide_change,
 };
-pub use crossbar::{Chip, Pair};
+pub use crossbar::{Chip, Pair, Wiring};
 pub use moved::Moved;
 pub use notice::Notice;
+pub use numbers::setting_numbers;
 pub use outcome::{Outcome, RunRefusal, StopCause};
 pub use pair_list::PairList;
 pub use plant::Plant;
 pub use running::run;
+pub use switching::bytes_for;
 
 #[cfg(test)]
 mod tests;

@@ -16,7 +16,8 @@ pub fn transfer_of(batch: &Batch, number: usize) -> Transfer
     batch.as_slice()[number]
 }
 
-/// The numbers of a setting's transfers.
+/// The numbers of the transfers of a plan's setting, ascending. The setting has to be below the number of the plan's
+/// settings.
 pub fn setting_numbers(planned: &Planned, setting: usize) -> &[usize]
     requires { setting < length planned.now.settings }
     ensures numbers { result.now ≡ numbers_of planned.now setting }

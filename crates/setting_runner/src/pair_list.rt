@@ -9,6 +9,7 @@ ghost use Rattle.crossbar.specs.declared.chip.Wiring.{Wiring};
 ghost use Rattle.link_graph.specs.Uses.{IsMatching};
 ghost use Rattle.module_memory.specs.Core.{FitsIn};
 ghost use Rattle.setting_runner.specs.Runs.{setting_pairs};
+ghost use Rattle.setting_runner.specs.Sending.{in_order};
 ghost use Rattle.setting_runner.specs.Tables.{table_pairs};
 
 use crate::numbers::transfer_of;
@@ -111,6 +112,7 @@ impl PairList {
         requires batch { IsBatch batch.now }
         requires known { All (λ t. t < length batch.now) numbers.now }
         requires matching { IsMatching batch.now numbers.now }
+        ensures members { result ≡ in_order (setting_pairs batch.now numbers.now) }
         // In a rack that has the batch's modules they are pairs of that rack, and a switch to which all of these can
         // be wired joins by them what the transfers want joined.
         ensures pairs { (shape : Extent) → FitsIn shape batch.now → ArePairs shape.modules result }
@@ -131,6 +133,7 @@ fn responders_of(batch: &Batch, numbers: &[usize]) -> [Option<u8>; MAX_MODULES]
     requires batch { IsBatch batch.now }
     requires known { All (λ t. t < length batch.now) numbers.now }
     requires matching { IsMatching batch.now numbers.now }
+    ensures members { table_pairs 0 result ≡ in_order (setting_pairs batch.now numbers.now) }
     ensures pairs { (shape : Extent) → FitsIn shape batch.now → ArePairs shape.modules (table_pairs 0 result) }
     ensures switch { (shape : Extent) (wiring : Wiring) → FitsIn shape batch.now → shape.modules ≤ room_of wiring →
         switch_of wiring (table_pairs 0 result) ≡ switch_of wiring (setting_pairs batch.now numbers.now) }

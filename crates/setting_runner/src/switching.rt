@@ -3,12 +3,14 @@
 ghost use Rattle.std.specs.Prelude.{◌≡◌, ◌≤◌, ◌<◌, ◌↔◌, ◌∷◌, [], IsTrue, length, take, OnOk, IfOk, IfErr, IfSome, MatchOption};
 ghost use Rattle.std.specs.FinMap as map;
 ghost use Rattle.std.specs.Ordering.{nat_cmp};
+ghost use Rattle.c004_commands.specs.Commands.{text};
 ghost use Rattle.crossbar.specs.Chips.{put_switch, switch_at};
 ghost use Rattle.crossbar.specs.Port.{IsExchange};
 ghost use Rattle.crossbar.specs.Pairs.{ArePairs, room_of, ends, switch_of};
 ghost use Rattle.crossbar.specs.declared.chip.Wiring.TheVariants.{Both};
 ghost use Rattle.setting_runner.specs.Answers.{Agrees, AllAgree, IsFirstDisagreement, IsDisagreementAt, IsMisset, AreSetTo, IsSetFault, IsStandingAt, AreStanding, TurnFrom};
 ghost use Rattle.setting_runner.specs.Pairs.{longest_change};
+ghost use Rattle.setting_runner.specs.Sending.{turning};
 ghost use Rattle.setting_runner.specs.declared.outcome.StopCause.TheVariants.{Port};
 
 use crate::bytes::{WIDE_CHANGE_BYTES, enquiry_bytes, put_change, put_setting};
@@ -113,12 +115,25 @@ fn judge(
     }
 }
 
-/// The bytes that set a switch to the pairs: from the pairs that stand if they are known, else from any
-/// switch.
-fn bytes_for(wiring: Wiring, standing: &Option<PairList>, pairs: &[Pair], out: &mut [u8]) -> usize
+/// Writes the bytes that a run sends to a switch of this wiring to set it to the pairs, and gives their number: the
+/// change from the pairs that stand if they are known ([`change_bytes`](crate::change_bytes) and
+/// [`wide_change`](crate::wide_change) say which these are), else the setting of any switch
+/// ([`setting_bytes`](crate::setting_bytes), [`wide_bytes`](crate::wide_bytes)). What stands in `out` behind them isn't
+/// said.
+///
+/// Of both, the initiators have to ascend, the responders to be distinct, and all to be below the number of modules
+/// that can be wired so; `out` has to have room for the longest change, at most [`WIDE_CHANGE_BYTES`]. The time grows
+/// with the product of the numbers of pairs.
+pub fn bytes_for(
+    wiring: Wiring,
+    standing: &Option<PairList>,
+    pairs: &[Pair],
+    out: &mut [u8],
+) -> usize
     requires pairs { ArePairs (room_of wiring) pairs.now }
     requires standing { IfSome standing.now (λ old. ArePairs (room_of wiring) old) }
     requires room { longest_change wiring ≤ length out.old }
+    ensures bytes { take result out.new ≡ text (turning wiring standing.now pairs.now) }
     ensures quiet { IsExchange (take result out.new) 0 }
     ensures sets { TurnFrom wiring standing.now (take result out.new) pairs.now }
     ensures room { result ≤ length out.new }

@@ -2,6 +2,7 @@ use Rattle.std.proofs.Common.{ℕ, List, get_or, refl, sym, subst}
 use Rattle.std.proofs.lemmas.List.{take_all}
 use Rattle.batch.specs.declared.limits.TheConstants.{MAX_MODULES}
 use Rattle.setting_runner.proofs.Joined.{IsTableOf, table_none, table_more, table_is_pairs, table_is_switch}
+use Rattle.setting_runner.proofs.InOrder.{table_in_order}
 use Rattle.setting_runner.proofs.pair_list.responders_of.Goals as goal
 
 pub loop-t-init : goal.loop-t-init
@@ -11,6 +12,12 @@ pub loop-t-preserved : goal.loop-t-preserved
 loop-t-preserved c =
     let t = get_or c.args.numbers.now c.loop-t.t-index 0 in
     table_more c.args.batch.now c.args.numbers.now c.loop-t.t-index t c.loop-t.responders c.transfer_of-transfer.result c.requires.batch c.requires.known c.requires.matching c.loop-t-test.true refl (sym c.transfer_of-transfer.ensures) c.loop-t.invariant
+
+pub returns-clause-members : goal.returns-clause-members
+returns-clause-members c =
+    let all = take_all c.loop-t.t-index c.args.numbers.now c.loop-t-test.false in
+    let is = subst (λ (ts : List ℕ). IsTableOf c.args.batch.now ts c.loop-t.responders) all c.loop-t.invariant in
+    table_in_order c.args.batch.now c.args.numbers.now c.loop-t.responders is c.requires.known c.requires.matching
 
 pub returns-clause-pairs : goal.returns-clause-pairs
 returns-clause-pairs c = λ shape fits.

@@ -6,6 +6,12 @@ use Rattle.setting_runner.specs.Tables.{table_pairs}
 use Rattle.setting_runner.proofs.Joined.{table_push}
 use Rattle.setting_runner.proofs.pair_list.PairList.of_setting.Goals as goal
 
+pub returns-clause-members : goal.returns-clause-members
+returns-clause-members c =
+    let table = c.responders_of-responders.result in
+    let all : take c.loop-initiator.initiator table ≡ table = take_all c.loop-initiator.initiator table (omega arith) in
+    c.loop-initiator.invariant.built ∙ ap (table_pairs 0) all ∙ c.responders_of-responders.ensures.members
+
 pub returns-clause-switch : goal.returns-clause-switch
 returns-clause-switch c = λ shape wiring fits room.
     let table = c.responders_of-responders.result in

@@ -1,0 +1,61 @@
+-- What `switch` answers: what a run sends the switches of a rack, setting by setting. The texts are this project's choice.
+use Rattle.std.specs.Prelude.{◌≡◌, ℕ, ◌++◌, ◌||◌, Bool, List, [], Option, if◌then◌else◌, codes, length, nat_le}
+use Rattle.std.specs.Fmt.{decimal}
+use Rattle.std.specs.List.{flat_map, list_any, range_with_len}
+use Rattle.batch.specs.declared.fault.BatchFault.{BatchFault}
+use Rattle.batch.specs.declared.transfer.Transfer.{Transfer}
+use Rattle.batch.specs.Extent.{Extent}
+use Rattle.batch.specs.Text.{Denotes}
+use Rattle.batch.specs.Faults.{IsFirstFault}
+use Rattle.c004_commands.specs.Commands.{text}
+use Rattle.c004_commands.specs.declared.port.TheConstants.{PORTS}
+use Rattle.crossbar.specs.declared.chip.Wiring.{Wiring}
+use Rattle.crossbar.specs.declared.chip.Wiring.TheVariants.{Both, Forth, Back}
+use Rattle.crossbar.specs.declared.pair.Pair.{Pair}
+use Rattle.crossbar.specs.declared.switch.TheConstants.{JOINED_MODULES}
+use Rattle.schedule_certificate.specs.Plans.{Plan, IsPlan, HasFewReinsertions}
+use Rattle.setting_runner.specs.Sending.{turning, pairs_at, standing_before}
+use Rattle.line_words.specs.BatchFaults.{batch_words}
+use Rattle.line_words.specs.HexWords.{hex2}
+use Rattle.answers.specs.declared.limits.TheConstants.{DONE}
+use Rattle.answers.specs.Refusals.{Printed, IsRefused}
+
+-- the transfer names a module that one switch doesn't join
+abbrev pub is_far : Transfer → Bool
+is_far t = nat_le JOINED_MODULES t.initiator || nat_le JOINED_MODULES t.responder
+
+-- a rack that has the modules of these transfers has two switches
+abbrev pub is_wide : List Transfer → Bool
+is_wide batch = list_any is_far batch
+
+-- how many modules the switches of such a rack join
+abbrev pub joined_by : Bool → ℕ
+joined_by wide = if wide then PORTS else JOINED_MODULES
+
+-- bytes of two hexadecimal digits each, with a space before each
+abbrev pub bytes_text : List ℕ → List ℕ
+bytes_text bytes = flat_map (λ byte. codes " " ++ hex2 byte) bytes
+
+-- `setting S`, behind it the name of a switch where the rack has two, and the bytes that set this switch from the pairs that stand
+abbrev pub switch_line : ℕ → List ℕ → Wiring → Option (List Pair) → List Pair → List ℕ
+switch_line setting name wiring known pairs = codes "setting " ++ decimal setting ++ name ++ bytes_text (text (turning wiring known pairs)) ++ codes "\n"
+
+-- the line of a setting where the rack has one switch, else the lines of both
+abbrev pub lines_for : Bool → ℕ → Option (List Pair) → List Pair → List ℕ
+lines_for wide setting known pairs =
+    if wide
+    then switch_line setting (codes " a") Forth known pairs ++ switch_line setting (codes " b") Back known pairs
+    else switch_line setting [] Both known pairs
+
+-- the lines of a plan's setting: the first sets any switch, and each later one changes that of the setting before
+abbrev pub setting_lines : Plan → ℕ → List ℕ
+setting_lines plan k = lines_for (is_wide plan.batch) k (standing_before plan k) (pairs_at plan k)
+
+-- the lines of all settings, in their order
+abbrev pub switch_text : Plan → List ℕ
+switch_text plan = flat_map (setting_lines plan) (range_with_len 0 (length plan.settings))
+
+-- what a run of a plan of the batch that the batch text denotes sends, or the refusal of that text's first fault, each under its status
+pub data IsSwitched (shape : Extent) (batch : List ℕ) (printed : Printed) : Type 0 where
+  switched : (plan : Plan) → Denotes shape batch plan.batch → IsPlan plan → HasFewReinsertions plan → printed.text ≡ switch_text plan → printed.status ≡ DONE → IsSwitched shape batch printed
+  unplanned : (fault : BatchFault) → IsFirstFault shape batch fault → IsRefused (batch_words fault) printed → IsSwitched shape batch printed
