@@ -40,7 +40,7 @@ FILES = {
 
 COMMANDS = [
     ["plan", "three"], ["plan", "three", "--workers", "2"], ["plan", "wrong"], ["plan", "missing"],
-    ["check", "three", "schedule"], ["check", "three", "three"], ["run", "3x2x2", "two"], ["run", "3x2x2", "two", "--workers", "2"],
+    ["check", "three", "schedule"], ["check", "three", "three"], ["draw", "three", "schedule"], ["draw", "three", "three"], ["run", "3x2x2", "two"], ["run", "3x2x2", "two", "--workers", "2"],
     ["run", "2x1x1", "swap"], ["run", "3x2", "two"], ["serve", "2x2x2", "script", "other"], ["serve", "2x2x2", "script", "other", "--workers", "2"],
     ["serve", "3x2x2", "pushes", "--workers", "2"], ["serve", "2x1x1", "refusals"], ["serve", "2x2", "script"], ["--help"], ["help", "run"], ["plan", "--help"], ["chart", "three"], [], ["plan", "three", "--workers", "65"],
 ]  # fmt: skip

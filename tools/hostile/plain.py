@@ -116,9 +116,16 @@ def users(transfers, link):
     return [t for t, transfer in enumerate(transfers) if link in links_of(transfer)]
 
 
+def busiest_links(transfers):
+    """The links that have most uses, each with all its transfers."""
+    uses = [(link, users(transfers, link)) for link in all_links()]
+    most = max(len(named) for _, named in uses)
+    return [it for it in uses if len(it[1]) == most]
+
+
 def busiest(transfers):
-    """The link with most uses, the first among equals, and all its transfers."""
-    return max(((link, users(transfers, link)) for link in all_links()), key=lambda it: len(it[1]))
+    """The first of them."""
+    return busiest_links(transfers)[0]
 
 
 def first_repeated(found):
@@ -208,13 +215,18 @@ def is_plan(text, answer):
     return ascending and in_order and certificate == (link, named) and len(settings) == len(named)
 
 
+def read_both(batch, schedule):
+    """The transfers of a batch text, and the settings and the certificate of a schedule text."""
+    transfers = read_batch(batch, WIDEST)
+    settings, certificate = read_schedule(schedule)
+    if certificate is None:
+        raise Refused("no certificate")
+    return transfers, settings, certificate
+
+
 def answer_check(batch, schedule):
     try:
-        transfers = read_batch(batch, WIDEST)
-        settings, certificate = read_schedule(schedule)
-        if certificate is None:
-            raise Refused("no certificate")
-        return f"shortest {check(transfers, settings, certificate)}\n".encode()
+        return f"shortest {check(*read_both(batch, schedule))}\n".encode()
     except Refused as why:
         return f"refused {why}\n".encode()
 

@@ -8,6 +8,7 @@ import sys
 import tempfile
 import threading
 
+import picture
 from program import EXCHANGE, Ended, ask, end, start
 
 THREE_TRANSFERS = b"batch 3\npush 0 0 1 0\npush 0 1 2 0\npush 1 1 2 1\n"
@@ -55,7 +56,7 @@ def files(room):
 
 def unreadable_files(room):
     for what, name in files(room):
-        for words in [("plan", name), ("check", name, "plan"), ("check", "three", name), ("run", "3x2x2", name), ("run", "0", name), ("serve", "2x2x2", "script", name), ("serve", "0", name)]:
+        for words in [("plan", name), ("check", name, "plan"), ("check", "three", name), ("draw", name, "plan"), ("draw", "three", name), ("run", "3x2x2", name), ("run", "0", name), ("serve", "2x2x2", "script", name), ("serve", "0", name)]:
             expect(f"{what}: {words[0]}", ask(*words, seconds=LIMIT), REFUSED_FILE)
 
 
@@ -75,7 +76,7 @@ def forbidden_file(room):
 def endless_files():
     """What never ends wants more memory than there is."""
     limit = "ulimit -v 400000;"
-    for words in [("plan", "/dev/zero"), ("check", "/dev/zero", "plan"), ("check", "three", "/dev/zero"), ("run", "3x2x2", "/dev/zero"), ("serve", "2x2x2", "script", "/dev/zero")]:
+    for words in [("plan", "/dev/zero"), ("check", "/dev/zero", "plan"), ("check", "three", "/dev/zero"), ("draw", "/dev/zero", "plan"), ("draw", "three", "/dev/zero"), ("run", "3x2x2", "/dev/zero"), ("serve", "2x2x2", "script", "/dev/zero")]:
         expect(f"an endless file: {words[0]}", under(limit, *words), NO_MEMORY)
     with open("large", "wb") as file:
         file.truncate(1 << 30)
@@ -103,10 +104,26 @@ def pipes():
         writer.join()
 
 
+def many_settings():
+    """A batch with as many transfers as there may be, all of module 0, and its schedule, whose picture has 3 MB."""
+    numbers = range(4096)
+    batch = "".join(f"push 0 {t % 64} {1 + t % 31} 0\n" for t in numbers)
+    settings = "".join(f"setting {t}\n" for t in numbers)
+    schedule = f"settings {len(numbers)}\n{settings}busiest link 0 module 0\nnamed {' '.join(map(str, numbers))}\n"
+    return f"batch {len(numbers)}\n{batch}".encode(), schedule.encode()
+
+
+def long_picture():
+    """A picture of 3 MB is written whole."""
+    ended = ask("draw", "settings", "settings.plan", seconds=LIMIT)
+    expect("a long picture", ended == Ended(picture.answer_draw(*many_settings()), b"", 0), True)
+
+
 COMMANDS = {
     "an answer": ("plan", "three"),
     "a refusal": ("plan", "missing"),
     "a long answer": ("run", "16x64x256", "many"),
+    "a long picture": ("draw", "settings", "settings.plan"),
     "a help": ("--help",),
     "a session": ("serve", "2x2x2", "script"),
 }
@@ -149,7 +166,7 @@ def readers_that_go_away():
                 os.close(reader)
             ended = end(process, None, err, LIMIT)
             # What fits into the pipe before the reader goes is written.
-            is_short = taken and what != "a long answer"
+            is_short = taken and not what.startswith("a long ")
             expect(f"{what}, a reader that goes after {taken} bytes", ended, lambda it: is_unwritten(it) or is_short and it.status in (0, 1))
 
 
@@ -158,7 +175,8 @@ def main():
         os.chdir(room)
         many = [f"push {m} {b} {(m + 1) % 16} {b + 32}\n" for m in range(16) for b in range(32)]
         many = f"batch {len(many)}\n{''.join(many)}".encode()
-        for name, text in [("three", THREE_TRANSFERS), ("plan", PLAN), ("many", many), ("script", b"peek 0 80000800\nbye\n")]:
+        texts = [("three", THREE_TRANSFERS), ("plan", PLAN), ("many", many), ("script", b"peek 0 80000800\nbye\n")]
+        for name, text in texts + list(zip(("settings", "settings.plan"), many_settings())):
             with open(name, "wb") as file:
                 file.write(text)
         unreadable_files(room)
@@ -166,6 +184,7 @@ def main():
         endless_files()
         pipes()
         many_reads()
+        long_picture()
         closed_and_full_output()
         readers_that_go_away()
         os.chdir("/")

@@ -14,6 +14,7 @@ import sys
 import tempfile
 from collections import Counter
 
+import picture
 import plain
 import sessions
 import spoil
@@ -63,11 +64,12 @@ def try_run(draw):
     return is_answer(answer, wanted), wanted, [words.encode(), text], answer
 
 
-def try_check(draw):
-    """A spoilt schedule text of a good batch, put to `check`. Now and then the batch is spoilt too."""
-    batch = spoil.batch(draw, plain.WIDEST, draw.choice([0, 3, 10, 30]))
+def spoilt_schedule(draw, shape, most, certify):
+    """The texts of a good batch and of a spoilt schedule of it, whose certificate is made of the transfers. Now and then the batch is
+    spoilt too."""
+    batch = spoil.batch(draw, shape, most)
     transfers = plain.read_batch(batch, plain.WIDEST)
-    certificate = plain.busiest(transfers) if transfers else (None, [])
+    certificate = certify(transfers) if transfers else (None, [])
     settings, certificate = spoil.schedule(draw, transfers, certificate)
     while draw.random() < 0.5:
         settings, certificate = spoil.bend(draw, settings, certificate, len(transfers))
@@ -76,8 +78,23 @@ def try_check(draw):
         text = spoil.spoil(draw, text)
     if draw.random() < 0.05:
         batch = spoil.spoil(draw, batch)
+    return batch, text
+
+
+def try_check(draw):
+    """A spoilt schedule text, put to `check`."""
+    batch, text = spoilt_schedule(draw, plain.WIDEST, draw.choice([0, 3, 10, 30]), plain.busiest)
     answer = ask("check", keep("batch", batch), keep("schedule", text))
     wanted = plain.answer_check(batch, text)
+    return is_answer(answer, wanted), wanted, [batch, text], answer
+
+
+def try_draw(draw):
+    """A spoilt schedule text, put to `draw`, whose certificate names any of the busiest links. Few modules have many settings."""
+    shape = (draw.choice([1, 2, 3, 8, plain.MODULES]), plain.BLOCKS, plain.WORDS)
+    batch, text = spoilt_schedule(draw, shape, draw.choice([3, 10, 40, 120]), lambda it: draw.choice(plain.busiest_links(it)))
+    answer = ask("draw", keep("batch", batch), keep("schedule", text))
+    wanted = picture.answer_draw(batch, text)
     return is_answer(answer, wanted), wanted, [batch, text], answer
 
 
@@ -143,6 +160,7 @@ KINDS = {
     "batches to plan": try_plan,
     "batches to run": try_run,
     "schedules to check": try_check,
+    "schedules to draw": try_draw,
     "shapes to run": try_shape,
     "scripts to serve": try_script,
     "sixteen scripts side by side": try_scripts,
@@ -150,7 +168,10 @@ KINDS = {
 
 
 def class_of(wanted):
-    """The kind of an answer, by its words without its numbers."""
+    """The kind of an answer: its words without its numbers, or for a picture how often its labels come."""
+    if wanted.startswith(b"<svg "):
+        panels = max(wanted.count(b">module %d</text>" % module) for module in range(plain.MODULES))
+        return "a picture of " + ("nothing", "one panel", "several panels")[min(panels, 2)]
     words = wanted.split(b"\n")[0].decode().split()
     return " ".join(word for word in words if not word.isdigit())
 
