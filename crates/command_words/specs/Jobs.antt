@@ -1,5 +1,5 @@
 -- The job that the words of the command line name.
-use Rattle.std.specs.Prelude.{◌≡◌, ◌⊎◌, ℕ, ◌≤◌, List, Some, String, codes, length, map, string_bytes, MatchOption, ⊤}
+use Rattle.std.specs.Prelude.{◌≡◌, ◌≢◌, ◌⊎◌, ℕ, ◌≤◌, List, [], ◌∷◌, Some, String, codes, length, map, string_bytes, AllPairs, MatchOption, ⊤}
 use Rattle.std.specs.Str.Parse.{digits_value, without_leading_plus}
 use Rattle.clap.specs.Words.{Row, Text, all_of, first_of, one_of, subcommand_of, subcommand_rows_of}
 use Rattle.clap.specs.declared.parser.matches.ArgMatches.{ArgMatches}
@@ -9,7 +9,7 @@ use Rattle.clap.specs.declared.error.kind.ErrorKind.TheVariants.{DisplayHelp, Di
 use Rattle.schedule_certificate.specs.declared.limits.TheConstants.{MAX_WORKERS}
 use Rattle.command_words.specs.declared.limits.TheConstants.{MAX_SCRIPTS}
 use Rattle.command_words.specs.declared.words.Job.{Job}
-use Rattle.command_words.specs.declared.words.Job.TheVariants.{Plan, Check, Draw, Run, Serve}
+use Rattle.command_words.specs.declared.words.Job.TheVariants.{Plan, Check, Draw, Switch, Run, Serve}
 use Rattle.command_words.specs.Program.{program}
 
 -- the number that the text of `--workers` reads as
@@ -37,6 +37,7 @@ abbrev pub IsJob : Text → List Row → Job → Type 0
 IsJob name rows (Plan file workers) = (name ≡ codes "plan") × (first_of (codes "FILE") rows ≡ Some file) × HasWorkers rows workers
 IsJob name rows (Check batch schedule) = (name ≡ codes "check") × HasTexts rows batch schedule
 IsJob name rows (Draw batch schedule) = (name ≡ codes "draw") × HasTexts rows batch schedule
+IsJob name rows (Switch batch workers) = (name ≡ codes "switch") × (first_of (codes "BATCH") rows ≡ Some batch) × HasWorkers rows workers
 IsJob name rows (Run shape batch workers) = (name ≡ codes "run") × HasShape rows shape × (first_of (codes "BATCH") rows ≡ Some batch) × HasWorkers rows workers
 IsJob name rows (Serve shape scripts workers) = (name ≡ codes "serve") × HasShape rows shape × HasScripts rows scripts × HasWorkers rows workers
 
@@ -57,8 +58,26 @@ abbrev pub IsWithinLimits : Job → Type 0
 IsWithinLimits (Plan file workers) = (1 ≤ workers) × (workers ≤ MAX_WORKERS)
 IsWithinLimits (Check batch schedule) = ⊤
 IsWithinLimits (Draw batch schedule) = ⊤
+IsWithinLimits (Switch batch workers) = (1 ≤ workers) × (workers ≤ MAX_WORKERS)
 IsWithinLimits (Run shape batch workers) = (1 ≤ workers) × (workers ≤ MAX_WORKERS)
 IsWithinLimits (Serve shape scripts workers) = AreScripts scripts × (1 ≤ workers) × (workers ≤ MAX_WORKERS)
+
+-- the name of a file that stands for standard input
+abbrev pub input_name : Text
+input_name = codes "-"
+
+-- the names of a job's files, in the order in which they are read
+abbrev pub files_of : Job → List Text
+files_of (Plan file workers) = file ∷ []
+files_of (Check batch schedule) = batch ∷ schedule ∷ []
+files_of (Draw batch schedule) = batch ∷ schedule ∷ []
+files_of (Switch batch workers) = batch ∷ []
+files_of (Run shape batch workers) = batch ∷ []
+files_of (Serve shape scripts workers) = scripts
+
+-- no two of these names stand for standard input
+abbrev pub NameInputOnce : List Text → Type 0
+NameInputOnce names = AllPairs (λ name later. name ≡ input_name → later ≢ input_name) names
 
 -- the words ask for a text that helps, and make no mistake
 abbrev pub AsksForHelp : Error → Type 0

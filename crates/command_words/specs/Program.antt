@@ -44,13 +44,17 @@ run = with_rule (with_rule (with_rule (new_app (codes "run")) (word (codes "SHAP
 abbrev pub serve : App
 serve = with_rule (with_rule (with_rule (new_app (codes "serve")) (word (codes "SHAPE"))) words) workers
 
--- the program's name, which a command has to follow
+-- `switch BATCH [--workers N]`
+abbrev pub switch : App
+switch = with_rule (with_rule (new_app (codes "switch")) (word (codes "BATCH"))) workers
+
+-- the program's name, which a command has to follow, or `--version`
 abbrev pub top : App
-top = record (new_app (codes "exchange")) { top = record (new_app (codes "exchange")).top { subcommand_required = true } }
+top = record (new_app (codes "exchange")) { top = record (new_app (codes "exchange")).top { subcommand_required = true; has_version = true } }
 
 -- the program with the commands that need no rack
 abbrev pub planner : App
-planner = with_subcommand (with_subcommand (with_subcommand top plan.top) check.top) draw.top
+planner = with_subcommand (with_subcommand (with_subcommand (with_subcommand top plan.top) check.top) draw.top) switch.top
 
 -- the whole program
 abbrev pub program : App

@@ -72,6 +72,29 @@ isn't drawn: the answer is the same refusal.
 Status: 0 a picture was printed, 1 it was refused or there was no memory, 2 the
 words fit no command, 3 the answer couldn't be written.";
 
+/// What `switch --help` says below its options.
+pub const SWITCH_NOTES: &str = "\
+BATCH is a batch text, in the form that `exchange plan --help` shows.
+
+The answer tells which bytes a run of BATCH sends over the configuration link
+of an INMOS C004, setting by setting, as pairs of hexadecimal digits:
+  setting S 04 ..   the first setting's set a switch, whatever it was, and each
+                    later one's change the switch of the setting before
+Link 0 of module m is on link m of the switch, and link 3 on link 16+m. Where
+BATCH names a module above 15, there are two switches, with both links of module
+m on link m of each, and each setting has two lines:
+  setting S a ..    the switch of the way from link 0 to link 3
+  setting S b ..    the switch of the way back
+A run has two switches where its rack has more than 16 modules, whatever BATCH
+names. Behind each setting it also enquires all outputs, which isn't told here.
+
+Else it is the first of these that is wrong:
+  refused file   BATCH can't be read
+  refused ..     BATCH, as `exchange plan --help` shows
+
+Status: 0 the bytes were printed, 1 the batch was refused or there was no
+memory, 2 the words fit no command, 3 the answer couldn't be written.";
+
 /// What `run --help` says below its options.
 pub const RUN_NOTES: &str = "\
 SHAPE is MxKxW: M modules, from 1 to 32, each of K blocks, from 1 to 64, each
@@ -151,6 +174,20 @@ Else nothing is served, and the answer is the first of these that is wrong:
 Status: 0 each session ended with its script or by `bye`, 1 one of them didn't,
 or the logs disagree, or nothing was served, or there was no memory, 2 the words
 fit no command, 3 the answer couldn't be written.";
+
+/// What `--help` says below the commands.
+pub const TOP_NOTES: &str = "\
+`exchange plan --help` shows the form of a batch. Where a file's name is `-`,
+standard input is read; of a command's files one may be.";
+
+/// What is said of a batch's file.
+pub const BATCH_HELP: &str = "The file of the batch, or - for standard input";
+
+/// What is said of a schedule's file.
+pub const SCHEDULE_HELP: &str = "The file of the schedule, or - for standard input";
+
+/// What is said of a script.
+pub const SCRIPT_HELP: &str = "A file of session lines, or - for standard input";
 
 /// What is said of `--workers`.
 pub const WORKERS_HELP: &str = "How many workers there may be, from 1 to 64";

@@ -2,12 +2,13 @@
 #![tactic(auto)]
 
 mod help;
+mod input;
 mod limits;
 mod text;
 mod text_list;
 mod words;
 
-pub use limits::MAX_SCRIPTS;
+pub use limits::{MAX_SCRIPTS, VERSION};
 pub use schedule_certificate::MAX_WORKERS;
 pub use text::Text;
 pub use text_list::TextList;

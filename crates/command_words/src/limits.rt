@@ -1,6 +1,10 @@
-//! The limits of the command line.
+//! The limits of the command line, and the program's version.
 
 use progress_word::ALL_PARTS;
 
 /// The most scripts of `serve`: each is a session, and an exchange has as many at most.
 pub const MAX_SCRIPTS: usize = ALL_PARTS;
+
+/// The program's version, and the kit that it is proved and built with, as `rt version` tells it. The script that starts
+/// the program builds it with no other kit.
+pub const VERSION: &str = "1.0.0 (rattle-kit-13b logic dac8208d650f15bf)";

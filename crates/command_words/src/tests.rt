@@ -1,4 +1,4 @@
-use crate::help::{CHECK_NOTES, PLAN_NOTES, RUN_NOTES, SERVE_NOTES, WORKERS_HELP};
+use crate::help::{CHECK_NOTES, PLAN_NOTES, RUN_NOTES, SERVE_NOTES, SWITCH_NOTES, WORKERS_HELP};
 use crate::limits::MAX_SCRIPTS;
 use crate::text_list::TextList;
 use crate::words::{Job, WordsFault, read_words};
@@ -46,6 +46,14 @@ fn is_draw(job: Result<Job, WordsFault>, batch_name: &str, schedule_name: &str) 
         Ok(Job::Draw { batch, schedule }) => {
             batch.as_str() == batch_name && schedule.as_str() == schedule_name
         }
+        _ => false,
+    }
+}
+
+/// Whether the words ask for the switch bytes of the batch of a file with so many workers.
+fn is_switch(job: Result<Job, WordsFault>, name: &str, count: usize) -> bool {
+    match job {
+        Ok(Job::Switch { batch, workers }) => batch.as_str() == name && workers == count,
         _ => false,
     }
 }
@@ -110,6 +118,8 @@ fn words_name_jobs(rt: HostRuntime) {
     );
     assert!(rt; is_check(read(alloc, "exchange check B S"), "B", "S"));
     assert!(rt; is_draw(read(alloc, "exchange draw B S"), "B", "S"));
+    assert!(rt; is_switch(read(alloc, "exchange switch B --workers 3"), "B", 3));
+    assert!(rt; is_check(read(alloc, "exchange check - S"), "-", "S"));
     assert!(rt; is_plan(read(alloc, "exchange plan F --workers +5"), "F", 5));
     assert!(rt; is_plan(read(alloc, "exchange plan F --workers 007"), "F", 7));
     assert!(rt; is_run(read(alloc, "exchange run S B"), "S", "B", 1));
@@ -130,6 +140,10 @@ fn words_name_jobs(rt: HostRuntime) {
         "exchange draw F",
         "exchange draw F G H",
         "exchange draw F G --workers 1",
+        "exchange switch",
+        "exchange switch B S",
+        "exchange check - -",
+        "exchange draw - -",
         "exchange chart F",
         "exchange plan F --workers 0",
         "exchange plan F --workers 65",
@@ -180,6 +194,7 @@ fn words_name_scripts(rt: HostRuntime) {
         "exchange serve S A --workers 0",
         "exchange serve S A --workers 65",
         "exchange serve S A --workers",
+        "exchange serve S - A -",
     ] {
         assert!(rt; is_misused(read(alloc, line)), "{line}");
     }
@@ -291,6 +306,7 @@ fn refusals_in_help(rt: HostRuntime) {
             ]
         )
     );
+    assert!(rt; are_in_order(SWITCH_NOTES, &["file", ".."]));
     assert!(rt; are_in_order(RUN_NOTES, &["file", "shape", "..", "overlap I J"]));
     assert!(rt;
         are_in_order(

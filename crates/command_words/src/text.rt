@@ -1,4 +1,5 @@
-ghost use Rattle.std.specs.Prelude.{◌≡◌, IfOk};
+ghost use Rattle.std.specs.Prelude.{◌≡◌, ◌↔◌, IfOk, IsTrue};
+ghost use Rattle.command_words.specs.Jobs.{input_name};
 
 use std::alloc::{AllocError, Global};
 use std::marker::Model;
@@ -31,5 +32,12 @@ impl Text {
         ensures { result.now ≡ self.now }
     {
         self.text.as_str()
+    }
+
+    /// Whether the text is the name of a file that stands for standard input, `-`.
+    pub fn is_input(&self) -> bool
+        ensures { IsTrue result ↔ (self.now ≡ input_name) }
+    {
+        self.as_str() == "-"
     }
 }

@@ -1,14 +1,18 @@
 //! The words of the command line.
 
-ghost use Rattle.std.specs.Prelude.{◌≡◌, IfOk, false, Some, codes};
+ghost use Rattle.std.specs.Prelude.{◌≡◌, ◌↔◌, IfOk, IsTrue, false, Some, codes};
 ghost use Rattle.clap.specs.Words.{new_app, app_of, rule_of, first_of, rows_of, found_of};
 ghost use Rattle.command_words.specs.Program.{IsLocal, IsCommand, AddsRule, AddsTexts, AddsCommand, word, words, workers};
 ghost use Rattle.command_words.specs.Program.{top, planner, program};
-ghost use Rattle.command_words.specs.Program.{plan as plan_app, check as check_app, draw as draw_app, run as run_app, serve as serve_app};
-ghost use Rattle.command_words.specs.Jobs.{Holds, HasShape, HasTexts, HasScripts, HasWorkers, IsJob, IsWithinLimits, AreMatchesOf, texts_of};
+ghost use Rattle.command_words.specs.Program.{plan as plan_app, check as check_app, draw as draw_app, switch as switch_app, run as run_app, serve as serve_app};
+ghost use Rattle.command_words.specs.Jobs.{Holds, HasShape, HasTexts, HasScripts, HasWorkers, IsJob, IsWithinLimits, AreMatchesOf, NameInputOnce, files_of, texts_of};
 
-use crate::help::{CHECK_NOTES, DRAW_NOTES, PLAN_NOTES, RUN_NOTES, SERVE_NOTES, WORKERS_HELP};
-use crate::limits::MAX_SCRIPTS;
+use crate::help::{
+    BATCH_HELP, CHECK_NOTES, DRAW_NOTES, PLAN_NOTES, RUN_NOTES, SCHEDULE_HELP, SCRIPT_HELP,
+    SERVE_NOTES, SWITCH_NOTES, TOP_NOTES, WORKERS_HELP,
+};
+use crate::input::name_input_once;
+use crate::limits::{MAX_SCRIPTS, VERSION};
 use crate::text::Text;
 use crate::text_list::TextList;
 use clap::error::ErrorKind;
@@ -34,6 +38,11 @@ pub enum Job {
     Draw {
         batch: Text,
         schedule: Text,
+    },
+    /// Tell what a run of the batch of a file sends the switches, with 1 to [`MAX_WORKERS`] workers.
+    Switch {
+        batch: Text,
+        workers: usize,
     },
     /// Run the batch of a file on a rack of the shape, with 1 to [`MAX_WORKERS`] workers.
     Run {
@@ -115,8 +124,8 @@ fn with_shape<'a>(alloc: Global, command: Command<'a>) -> Result<Command<'a>, Al
 fn with_texts<'a>(alloc: Global, command: Command<'a>) -> Result<Command<'a>, AllocError>
     ensures { IfOk result (AddsTexts command.entry) }
 {
-    let command = with_word(alloc, command, "BATCH", "The file of the batch")?;
-    with_word(alloc, command, "SCHEDULE", "The file of the schedule")
+    let command = with_word(alloc, command, "BATCH", BATCH_HELP)?;
+    with_word(alloc, command, "SCHEDULE", SCHEDULE_HELP)
 }
 
 /// The word of the scripts, which has to be there, up to [`MAX_SCRIPTS`] times.
@@ -124,7 +133,7 @@ fn scripts<'a>(alloc: Global) -> Arg<'a>
     ensures rule { rule_of result ≡ words }
     ensures local { result.global ≡ false }
 {
-    required(alloc, "SCRIPT", "A file of session lines").num_args(1..=MAX_SCRIPTS)
+    required(alloc, "SCRIPT", SCRIPT_HELP).num_args(1..=MAX_SCRIPTS)
 }
 
 /// `--workers N`.
@@ -160,7 +169,7 @@ fn plan<'a>(alloc: Global) -> Result<Command<'a>, AllocError>
 {
     let about = "Prints a schedule of a batch: which transfers move in which switch setting";
     let plan = command(alloc, "plan", about, PLAN_NOTES);
-    let plan = with_word(alloc, plan, "FILE", "The file of the batch")?;
+    let plan = with_word(alloc, plan, "FILE", BATCH_HELP)?;
     with_workers(alloc, plan)
 }
 
@@ -182,6 +191,17 @@ fn draw<'a>(alloc: Global) -> Result<Command<'a>, AllocError>
     with_texts(alloc, draw)
 }
 
+/// `switch BATCH [--workers N]`.
+fn switch<'a>(alloc: Global) -> Result<Command<'a>, AllocError>
+    ensures { IfOk result (IsCommand switch_app) }
+{
+    let about =
+        "Tells a real switch's bytes: what a run of a batch sends over the configuration link";
+    let switch = command(alloc, "switch", about, SWITCH_NOTES);
+    let switch = with_word(alloc, switch, "BATCH", BATCH_HELP)?;
+    with_workers(alloc, switch)
+}
+
 /// `run SHAPE BATCH [--workers N]`.
 fn run<'a>(alloc: Global) -> Result<Command<'a>, AllocError>
     ensures { IfOk result (IsCommand run_app) }
@@ -189,7 +209,7 @@ fn run<'a>(alloc: Global) -> Result<Command<'a>, AllocError>
     let about = "Runs a batch on a rack: sets the switches, moves the blocks and reports";
     let run = command(alloc, "run", about, RUN_NOTES);
     let run = with_shape(alloc, run)?;
-    let run = with_word(alloc, run, "BATCH", "The file of the batch")?;
+    let run = with_word(alloc, run, "BATCH", BATCH_HELP)?;
     with_workers(alloc, run)
 }
 
@@ -219,8 +239,9 @@ fn top<'a>(alloc: Global) -> Command<'a>
     ensures { IsCommand top result }
 {
     let about = "Plans block transfers between transputer modules that one C004 crossbar joins";
-    let notes = "`exchange plan --help` shows the form of a batch.";
-    command(alloc, "exchange", about, notes).subcommand_required(true)
+    command(alloc, "exchange", about, TOP_NOTES)
+        .version(VERSION)
+        .subcommand_required(true)
 }
 
 /// The program with the commands that need no rack.
@@ -229,7 +250,8 @@ fn planner<'a>(alloc: Global) -> Result<Command<'a>, AllocError>
 {
     let planner = with_command(top(alloc), plan(alloc))?;
     let checker = with_command(planner, check(alloc))?;
-    with_command(checker, draw(alloc))
+    let drawer = with_command(checker, draw(alloc))?;
+    with_command(drawer, switch(alloc))
 }
 
 /// All commands.
@@ -248,15 +270,30 @@ fn matches_of<'a>(alloc: Global, words: &'a [String]) -> Result<ArgMatches<'a>, 
     Ok(program(alloc)?.try_get_matches_from(words)?)
 }
 
-/// The fault of a word that is missing. Clap has refused such words before.
-fn missing(alloc: Global) -> WordsFault {
+/// The fault of words that clap has let through.
+fn misused(alloc: Global, kind: ErrorKind, message: &str) -> WordsFault {
     let Ok(mut program) = program(alloc) else {
         return WordsFault::NoMemory;
     };
-    match program.error(ErrorKind::MissingRequiredArgument, "a word is missing") {
+    match program.error(kind, message) {
         Ok(error) => WordsFault::from(error),
         Err(_) => WordsFault::NoMemory,
     }
+}
+
+/// The fault of a word that is missing. Clap has refused such words before.
+fn missing(alloc: Global) -> WordsFault {
+    misused(
+        alloc,
+        ErrorKind::MissingRequiredArgument,
+        "a word is missing",
+    )
+}
+
+/// The fault of words of which several name standard input.
+fn named_twice(alloc: Global) -> WordsFault {
+    let message = "standard input, `-`, can be one file only";
+    misused(alloc, ErrorKind::ArgumentConflict, message)
 }
 
 /// The text of a word.
@@ -345,14 +382,16 @@ fn job_of(alloc: Global, name: &str, found: &ArgMatches<'_>) -> Result<Job, Word
         let (batch, schedule) = texts_named(alloc, found)?;
         return Ok(Job::Draw { batch, schedule });
     }
+    if name == "switch" {
+        let batch = text_of(alloc, found, "BATCH")?;
+        let workers = workers_of(alloc, found)?;
+        return Ok(Job::Switch { batch, workers });
+    }
     Err(missing(alloc))
 }
 
-/// Reads the program's words, the first of which is its own name.
-///
-/// Gives the job that clap finds in them: its command, its texts, and its number of workers. Words
-/// that fit no command are clap's error, which holds the text to print, and so is a demand for help.
-pub fn read_words(alloc: Global, words: &[String]) -> Result<Job, WordsFault>
+/// The job of the words, whatever files it names.
+fn job_named(alloc: Global, words: &[String]) -> Result<Job, WordsFault>
     ensures job { IfOk result (λ job. Holds (texts_of words.now) job) }
     ensures limits { IfOk result (λ job. IsWithinLimits job) }
 {
@@ -361,4 +400,35 @@ pub fn read_words(alloc: Global, words: &[String]) -> Result<Job, WordsFault>
         Some((name, found)) => job_of(alloc, name, found),
         None => Err(missing(alloc)),
     }
+}
+
+/// Whether at most one of a job's files is standard input.
+fn reads_input_once(job: &Job) -> bool
+    ensures { IsTrue result ↔ NameInputOnce (files_of job.now) }
+{
+    match job {
+        Job::Plan { .. } => true,
+        Job::Check { batch, schedule } => !(batch.is_input() && schedule.is_input()),
+        Job::Draw { batch, schedule } => !(batch.is_input() && schedule.is_input()),
+        Job::Switch { .. } => true,
+        Job::Run { .. } => true,
+        Job::Serve { scripts, .. } => name_input_once(scripts.as_slice()),
+    }
+}
+
+/// Reads the program's words, the first of which is its own name.
+///
+/// Gives the job that clap finds in them: its command, its texts, and its number of workers. Words
+/// that fit no command are clap's error, which holds the text to print, and so is a demand for help or for
+/// the program's version, and a job of which several files are `-`, standard input.
+pub fn read_words(alloc: Global, words: &[String]) -> Result<Job, WordsFault>
+    ensures job { IfOk result (λ job. Holds (texts_of words.now) job) }
+    ensures limits { IfOk result (λ job. IsWithinLimits job) }
+    ensures input { IfOk result (λ job. NameInputOnce (files_of job)) }
+{
+    let job = job_named(alloc, words)?;
+    if !reads_input_once(&job) {
+        return Err(named_twice(alloc));
+    }
+    Ok(job)
 }

@@ -1,20 +1,22 @@
 //! From the words of the command line to what is printed, and the status that the program ends with.
 
-ghost use Rattle.std.specs.Prelude.{◌≡◌, ◌⊎◌, ◌≤◌, IfOk, OnErr, length, vec_len};
+ghost use Rattle.std.specs.Prelude.{◌≡◌, ◌≢◌, ◌⊎◌, ◌≤◌, ◌∷◌, [], IfOk, OnErr, map};
 ghost use Rattle.std.specs.Process.{exit_status};
 ghost use Rattle.answers.specs.Refusals.{Printed};
-ghost use Rattle.command_words.specs.Jobs.{AreScripts, IsWithinLimits, texts_of};
-ghost use Rattle.exchange.specs.Responses.{IsSomePlan, IsSomeCheck, IsSomeDraw, IsSomeRun, IsSomeServe, IsAnswerTo, IsResponseTo, IsPrinted};
+ghost use Rattle.command_words.specs.Jobs.{AreScripts, IsWithinLimits, NameInputOnce, files_of, input_name, texts_of};
+ghost use Rattle.exchange.specs.Responses.{IsHeld, AreHeld, IsSomePlan, IsSomeCheck, IsSomeDraw, IsSomeSwitch, IsSomeRun, IsSomeServe};
+ghost use Rattle.exchange.specs.Responses.{IsAnswerTo, IsResponseTo, IsPrinted};
 ghost use Rattle.exchange.specs.Responses.{unanswered, IsEndFor, IsEndForWords, IsEndWithoutWords};
 
 use crate::limits::{MISUSED, UNWRITTEN};
 use crate::unanswered::Unanswered;
 use answers::{
     Answer, DONE, REFUSED, answer_check, answer_draw, answer_plan, answer_run, answer_serve,
+    answer_switch,
 };
 use command_words::{Job, MAX_WORKERS, Text, TextList, WordsFault, read_words};
 use std::alloc::AllocError;
-use std::io::{ErrorKind, Write};
+use std::io::{ErrorKind, Read, Write};
 use std::process::ExitCode;
 use std::rt::Files;
 use std::sync::Wait;
@@ -24,19 +26,21 @@ use std::{fs, io};
 /// Does what the words ask for, prints what there is to say of it, and gives the status that the program
 /// ends with: [`UNWRITTEN`] where that can't be printed.
 ///
-/// Answers, refusals and the texts of help go to `out`; words that fit no command are answered on `err`.
-pub fn respond<R: AllocGlobal + Files + Threads + Wait + Sync, O: Write, E: Write>(
+/// A file that is `-` is read from `input`. Answers, refusals and the texts of help go to `out`; words that fit no
+/// command are answered on `err`.
+pub fn respond<R: AllocGlobal + Files + Threads + Wait + Sync, I: Read, O: Write, E: Write>(
     rt: &R,
     words: io::Result<Vec<String>>,
+    input: &mut I,
     out: &mut O,
     err: &mut E,
 ) -> ExitCode
     ensures words { IfOk words (λ w. (exit_status result ≡ UNWRITTEN)
-        ⊎ IsEndForWords (texts_of w.items) (O.contents out.old) (O.contents out.new) (exit_status result)) }
+        ⊎ IsEndForWords (texts_of w.items) (I.remaining input.old) (O.contents out.old) (O.contents out.new) (exit_status result)) }
     ensures none { OnErr words ((exit_status result ≡ UNWRITTEN)
         ⊎ IsEndWithoutWords (O.contents out.old) (O.contents out.new) (exit_status result)) }
 {
-    match respond_to_words(rt, words, out, err) {
+    match respond_to_words(rt, words, input, out, err) {
         Ok(status) => ExitCode::from(status),
         Err(error) => {
             let _ = err.writeln(format_args!("exchange: the answer can't be written: {error}"));
@@ -46,19 +50,23 @@ pub fn respond<R: AllocGlobal + Files + Threads + Wait + Sync, O: Write, E: Writ
 }
 
 /// Does what the words ask for. The error is that of writing.
-fn respond_to_words<R: AllocGlobal + Files + Threads + Wait + Sync, O: Write, E: Write>(
+fn respond_to_words<R: AllocGlobal + Files + Threads + Wait + Sync, I: Read, O: Write, E: Write>(
     rt: &R,
     words: io::Result<Vec<String>>,
+    input: &mut I,
     out: &mut O,
     err: &mut E,
 ) -> io::Result<u8>
     ensures words { IfOk words (λ w. IfOk result
-        (IsEndForWords (texts_of w.items) (O.contents out.old) (O.contents out.new))) }
+        (IsEndForWords (texts_of w.items) (I.remaining input.old) (O.contents out.old) (O.contents out.new))) }
     ensures none { OnErr words (IfOk result
         (IsEndWithoutWords (O.contents out.old) (O.contents out.new))) }
 {
     match words {
-        Ok(words) => respond_to(rt, read_words(rt.alloc(), words.as_slice()), out, err),
+        Ok(words) => {
+            let job = read_words(rt.alloc(), words.as_slice());
+            respond_to(rt, job, input, out, err)
+        }
         Err(error) if error.kind() == ErrorKind::OutOfMemory => refuse(Unanswered::NoMemory, out),
         Err(_) => {
             err.write_all(b"error: a word isn't UTF-8 text\n")?;
@@ -68,17 +76,20 @@ fn respond_to_words<R: AllocGlobal + Files + Threads + Wait + Sync, O: Write, E:
 }
 
 /// Does a job, or prints why there is none. The error is that of writing.
-pub fn respond_to<R: AllocGlobal + Files + Threads + Wait + Sync, O: Write, E: Write>(
+pub fn respond_to<R: AllocGlobal + Files + Threads + Wait + Sync, I: Read, O: Write, E: Write>(
     rt: &R,
     job: Result<Job, WordsFault>,
+    input: &mut I,
     out: &mut O,
     err: &mut E,
 ) -> io::Result<u8>
-    requires { IfOk job IsWithinLimits }
-    ensures { IfOk result (IsEndFor job (O.contents out.old) (O.contents out.new)) }
+    requires limits { IfOk job IsWithinLimits }
+    requires input { IfOk job (λ j. NameInputOnce (files_of j)) }
+    ensures { IfOk result
+        (IsEndFor (I.remaining input.old) job (O.contents out.old) (O.contents out.new)) }
 {
     match job {
-        Ok(job) => carry_out(rt, job, out),
+        Ok(job) => carry_out(rt, job, input, out),
         Err(WordsFault::NoMemory) => refuse(Unanswered::NoMemory, out),
         Err(WordsFault::Clap(error)) if error.use_stderr() => {
             write!(err, "{error}")?;
@@ -92,126 +103,194 @@ pub fn respond_to<R: AllocGlobal + Files + Threads + Wait + Sync, O: Write, E: W
 }
 
 /// Does a job, and prints its answer, or why it has none. The error is that of writing.
-fn carry_out<R: AllocGlobal + Files + Threads + Wait + Sync, O: Write>(
+fn carry_out<R: AllocGlobal + Files + Threads + Wait + Sync, I: Read, O: Write>(
     rt: &R,
     job: Job,
+    input: &mut I,
     out: &mut O,
 ) -> io::Result<u8>
-    requires { IsWithinLimits job }
-    ensures { IfOk result (λ status. (p : Printed) × IsResponseTo job p
+    requires limits { IsWithinLimits job }
+    requires input { NameInputOnce (files_of job) }
+    ensures { IfOk result (λ status. (p : Printed) × IsResponseTo (I.remaining input.old) job p
         × IsPrinted (O.contents out.old) (O.contents out.new) p status) }
 {
-    match answer_to(rt, job) {
+    match answer_to(rt, job, input) {
         Ok(answer) => print(&answer, out),
         Err(why) => refuse(why, out),
     }
 }
 
 /// The answer to a job, or why it has none.
-fn answer_to<R: AllocGlobal + Files + Threads + Wait + Sync>(
+fn answer_to<R: AllocGlobal + Files + Threads + Wait + Sync, I: Read>(
     rt: &R,
     job: Job,
+    input: &mut I,
 ) -> Result<Answer, Unanswered>
-    requires { IsWithinLimits job }
-    ensures { IfOk result (IsAnswerTo job) }
+    requires limits { IsWithinLimits job }
+    requires input { NameInputOnce (files_of job) }
+    ensures { IfOk result (IsAnswerTo (I.remaining input.old) job) }
 {
     match job {
-        Job::Plan { file, workers } => plan(rt, &file, workers),
-        Job::Check { batch, schedule } => check(rt, &batch, &schedule),
-        Job::Draw { batch, schedule } => draw(rt, &batch, &schedule),
+        Job::Plan { file, workers } => plan(rt, &file, workers, input),
+        Job::Check { batch, schedule } => check(rt, &batch, &schedule, input),
+        Job::Draw { batch, schedule } => draw(rt, &batch, &schedule, input),
+        Job::Switch { batch, workers } => switch(rt, &batch, workers, input),
         Job::Run {
             shape,
             batch,
             workers,
-        } => run(rt, &shape, &batch, workers),
+        } => run(rt, &shape, &batch, workers, input),
         Job::Serve {
             shape,
             scripts,
             workers,
-        } => serve(rt, &shape, &scripts, workers),
+        } => serve(rt, &shape, &scripts, workers, input),
     }
 }
 
 /// The answer of `exchange plan FILE`.
-fn plan<R: AllocGlobal + Files + Threads + Sync>(
+fn plan<R: AllocGlobal + Files + Threads + Sync, I: Read>(
     rt: &R,
     file: &Text,
     workers: usize,
+    input: &mut I,
 ) -> Result<Answer, Unanswered>
     requires some { 1 ≤ workers }
     requires few { workers ≤ MAX_WORKERS }
-    ensures { IfOk result IsSomePlan }
+    ensures { IfOk result (IsSomePlan (I.remaining input.old) file.now) }
 {
-    let batch = fs::read(rt, file.as_str())?;
+    let batch = read_file(rt, file, input)?;
     Ok(answer_plan(rt, rt.alloc(), batch.as_slice(), workers)?)
 }
 
-/// The answer of `exchange check BATCH SCHEDULE`. The batch's file is read first.
-fn check<R: AllocGlobal + Files>(
+/// The answer of `exchange check BATCH SCHEDULE`.
+fn check<R: AllocGlobal + Files, I: Read>(
     rt: &R,
     batch: &Text,
     schedule: &Text,
+    input: &mut I,
 ) -> Result<Answer, Unanswered>
-    ensures { IfOk result IsSomeCheck }
+    requires { NameInputOnce (batch.now ∷ schedule.now ∷ []) }
+    ensures { IfOk result (IsSomeCheck (I.remaining input.old) batch.now schedule.now) }
 {
-    let batch = fs::read(rt, batch.as_str())?;
-    let schedule = fs::read(rt, schedule.as_str())?;
+    let (batch, schedule) = read_texts(rt, batch, schedule, input)?;
     Ok(answer_check(rt.alloc(), batch.as_slice(), schedule.as_slice())?)
 }
 
-/// The answer of `exchange draw BATCH SCHEDULE`. The batch's file is read first.
-fn draw<R: AllocGlobal + Files>(rt: &R, batch: &Text, schedule: &Text) -> Result<Answer, Unanswered>
-    ensures { IfOk result IsSomeDraw }
+/// The answer of `exchange draw BATCH SCHEDULE`.
+fn draw<R: AllocGlobal + Files, I: Read>(
+    rt: &R,
+    batch: &Text,
+    schedule: &Text,
+    input: &mut I,
+) -> Result<Answer, Unanswered>
+    requires { NameInputOnce (batch.now ∷ schedule.now ∷ []) }
+    ensures { IfOk result (IsSomeDraw (I.remaining input.old) batch.now schedule.now) }
 {
-    let batch = fs::read(rt, batch.as_str())?;
-    let schedule = fs::read(rt, schedule.as_str())?;
+    let (batch, schedule) = read_texts(rt, batch, schedule, input)?;
     Ok(answer_draw(rt.alloc(), batch.as_slice(), schedule.as_slice())?)
 }
 
+/// The answer of `exchange switch BATCH`.
+fn switch<R: AllocGlobal + Files + Threads + Sync, I: Read>(
+    rt: &R,
+    batch: &Text,
+    workers: usize,
+    input: &mut I,
+) -> Result<Answer, Unanswered>
+    requires some { 1 ≤ workers }
+    requires few { workers ≤ MAX_WORKERS }
+    ensures { IfOk result (IsSomeSwitch (I.remaining input.old) batch.now) }
+{
+    let batch = read_file(rt, batch, input)?;
+    Ok(answer_switch(rt, rt.alloc(), batch.as_slice(), workers)?)
+}
+
 /// The answer of `exchange run SHAPE BATCH`. The batch's file is read before the shape is looked at.
-fn run<R: AllocGlobal + Files + Threads + Sync>(
+fn run<R: AllocGlobal + Files + Threads + Sync, I: Read>(
     rt: &R,
     shape: &Text,
     batch: &Text,
     workers: usize,
+    input: &mut I,
 ) -> Result<Answer, Unanswered>
     requires some { 1 ≤ workers }
     requires few { workers ≤ MAX_WORKERS }
-    ensures { IfOk result (IsSomeRun shape.now) }
+    ensures { IfOk result (IsSomeRun (I.remaining input.old) shape.now batch.now) }
 {
-    let batch = fs::read(rt, batch.as_str())?;
+    let batch = read_file(rt, batch, input)?;
     let shape = shape.as_str().as_bytes();
     Ok(answer_run(rt, rt.alloc(), shape, batch.as_slice(), workers)?)
 }
 
 /// The answer of `exchange serve SHAPE SCRIPT..`. The scripts' files are read in the order of the words, and
 /// before the shape is looked at.
-fn serve<R: AllocGlobal + Files + Threads + Wait + Sync>(
+fn serve<R: AllocGlobal + Files + Threads + Wait + Sync, I: Read>(
     rt: &R,
     shape: &Text,
     scripts: &TextList,
     workers: usize,
+    input: &mut I,
 ) -> Result<Answer, Unanswered>
     requires scripts { AreScripts scripts.now }
+    requires input { NameInputOnce scripts.now }
     requires some { 1 ≤ workers }
     requires few { workers ≤ MAX_WORKERS }
-    ensures { IfOk result (IsSomeServe shape.now (length scripts.now)) }
+    ensures { IfOk result (IsSomeServe (I.remaining input.old) shape.now scripts.now) }
 {
-    let files = read_files(rt, scripts.as_slice())?;
+    let files = read_files(rt, scripts.as_slice(), input)?;
     let shape = shape.as_str().as_bytes();
     Ok(answer_serve(rt, rt.alloc(), shape, workers, files.as_slice())?)
 }
 
 /// What the files hold, in the order of their names: the first that can't be read is the error.
-fn read_files<R: AllocGlobal + Files>(rt: &R, names: &[Text]) -> Result<Vec<Vec<u8>>, Unanswered>
-    ensures { IfOk result (λ files. vec_len files ≡ length names.now) }
+fn read_files<R: AllocGlobal + Files, I: Read>(
+    rt: &R,
+    names: &[Text],
+    input: &mut I,
+) -> Result<Vec<Vec<u8>>, Unanswered>
+    requires { NameInputOnce names.now }
+    ensures { IfOk result (λ files. AreHeld (I.remaining input.old) names.now (map (λ file. file.items) files.items)) }
 {
     let mut files = Vec::new(rt.alloc());
     for name in names {
-        let file = fs::read(rt, name.as_str())?;
+        let file = read_file(rt, name, input)?;
         files.push(file).map_err(|_| AllocError)?;
     }
     Ok(files)
+}
+
+/// What the files of a batch and of a schedule hold. The batch's is read first.
+fn read_texts<R: AllocGlobal + Files, I: Read>(
+    rt: &R,
+    batch: &Text,
+    schedule: &Text,
+    input: &mut I,
+) -> Result<(Vec<u8>, Vec<u8>), Unanswered>
+    requires { NameInputOnce (batch.now ∷ schedule.now ∷ []) }
+    ensures first { IfOk result (λ texts. IsHeld (I.remaining input.old) batch.now texts.0.items) }
+    ensures second { IfOk result (λ texts. IsHeld (I.remaining input.old) schedule.now texts.1.items) }
+{
+    let first = read_file(rt, batch, input)?;
+    let second = read_file(rt, schedule, input)?;
+    Ok((first, second))
+}
+
+/// What a file holds: standard input to its end, where its name is `-`.
+fn read_file<R: AllocGlobal + Files, I: Read>(
+    rt: &R,
+    name: &Text,
+    input: &mut I,
+) -> Result<Vec<u8>, Unanswered>
+    ensures held { IfOk result (λ file. IsHeld (I.remaining input.old) name.now file.items) }
+    ensures unread { name.now ≢ input_name → I.remaining input.new ≡ I.remaining input.old }
+{
+    if !name.is_input() {
+        return Ok(fs::read(rt, name.as_str())?);
+    }
+    let mut file = Vec::new(rt.alloc());
+    input.read_to_end(&mut file)?;
+    Ok(file)
 }
 
 /// Prints an answer, and gives its status.

@@ -14,7 +14,13 @@ use std::{env, io};
 
 fn main(rt: HostRuntime) -> ExitCode {
     let words = command_line(&rt);
-    respond(&rt, words, &mut io::writer(&rt), &mut rt.stderr())
+    respond(
+        &rt,
+        words,
+        &mut rt.reader(),
+        &mut io::writer(&rt),
+        &mut rt.stderr(),
+    )
 }
 
 /// The words of the command line, the first of which is the program's name.

@@ -4,7 +4,7 @@
 use crate::dispatch::{respond, respond_to};
 use crate::unanswered::Unanswered;
 use answers::{LINE_BYTES, MAX_READS};
-use command_words::WordsFault;
+use command_words::{VERSION, WordsFault};
 use std::alloc::{AllocError, Global};
 use std::io::{ErrorKind, Write};
 use std::process::ExitCode;
@@ -29,19 +29,49 @@ fn words(alloc: Global, line: &str) -> Result<Vec<String>, AllocError> {
     Ok(words)
 }
 
-/// Whether the program prints the text for the words of a line, nothing on standard error, and ends with
-/// the status.
+/// What the program prints and says, and how it ends.
+#[derive(Drop)]
+struct Seen {
+    out: Vec<u8>,
+    err: Vec<u8>,
+    code: ExitCode,
+}
+
+/// What is seen of the program for the words of a line, where standard input has this text.
+fn see<R: AllocGlobal + Files + Threads + Wait + Sync>(
+    rt: &R,
+    line: &str,
+    input: &str,
+) -> Result<Seen, AllocError> {
+    let words = words(rt.alloc(), line)?;
+    let mut out = Vec::new(rt.alloc());
+    let mut err = Vec::new(rt.alloc());
+    let code = respond(rt, Ok(words), &mut input.as_bytes(), &mut out, &mut err);
+    Ok(Seen { out, err, code })
+}
+
+/// Whether the program prints the text for the words of a line and standard input, nothing on standard error,
+/// and ends with the status.
+fn prints_for<R: AllocGlobal + Files + Threads + Wait + Sync>(
+    rt: &R,
+    line: &str,
+    input: &str,
+    text: &str,
+    status: u8,
+) -> Result<bool, AllocError> {
+    let seen = see(rt, line, input)?;
+    let is_said = seen.out.as_slice() == text.as_bytes() && seen.err.is_empty();
+    Ok(seen.code == ExitCode::from(status) && is_said)
+}
+
+/// The same where standard input is empty.
 fn prints<R: AllocGlobal + Files + Threads + Wait + Sync>(
     rt: &R,
     line: &str,
     text: &str,
     status: u8,
 ) -> Result<bool, AllocError> {
-    let words = words(rt.alloc(), line)?;
-    let mut out = Vec::new(rt.alloc());
-    let mut err = Vec::new(rt.alloc());
-    let code = respond(rt, Ok(words), &mut out, &mut err);
-    Ok(code == ExitCode::from(status) && out.as_slice() == text.as_bytes() && err.is_empty())
+    prints_for(rt, line, "", text, status)
 }
 
 #[test]
@@ -63,15 +93,13 @@ fn draws<R: AllocGlobal + Files + Threads + Wait + Sync>(
     line: &str,
     part: &str,
 ) -> Result<bool, AllocError> {
-    let words = words(rt.alloc(), line)?;
-    let mut out = Vec::new(rt.alloc());
-    let mut err = Vec::new(rt.alloc());
-    let code = respond(rt, Ok(words), &mut out, &mut err);
-    let Ok(text) = str::from_utf8(out.as_slice()) else {
+    let seen = see(rt, line, "")?;
+    let Ok(text) = str::from_utf8(seen.out.as_slice()) else {
         return Ok(false);
     };
     let is_picture = text.starts_with("<svg ") && text.ends_with("</svg>\n");
-    Ok(code == ExitCode::from(0) && err.is_empty() && is_picture && text.contains(part))
+    let is_answer = seen.code == ExitCode::from(0) && seen.err.is_empty();
+    Ok(is_answer && is_picture && text.contains(part))
 }
 
 /// The first file is the batch, and the second the schedule.
@@ -144,6 +172,69 @@ fn check_of_a_file_that_is_missing(rt: HostRuntime) -> Result<(), Fail> {
     assert!(rt; first);
     assert!(rt; second);
     assert!(rt; both);
+    Ok(())
+}
+
+/// Row recorded-change.
+#[test]
+fn switch_of_a_file(rt: HostRuntime) -> Result<(), Fail> {
+    let lines = "\
+setting 0 04 01 00 11 01 01 12 03
+setting 1 06 00 11 06 01 12 01 00 12 03
+";
+    fs::write(&rt, "switch.batch", BATCH.as_bytes())?;
+    let alone = prints(&rt, "exchange switch switch.batch", lines, 0)?;
+    let many = prints(&rt, "exchange switch switch.batch --workers 2", lines, 0)?;
+    fs::remove_file(&rt, "switch.batch")?;
+    assert!(rt; alone);
+    assert!(rt; many);
+    assert!(rt; prints(&rt, "exchange switch switch.batch", "refused file\n", 1)?);
+    Ok(())
+}
+
+/// The file `-` is standard input.
+#[test]
+fn standard_input_is_a_file(rt: HostRuntime) -> Result<(), Fail> {
+    fs::write(&rt, "input.batch", BATCH.as_bytes())?;
+    fs::write(&rt, "input.schedule", SCHEDULE.as_bytes())?;
+    let plan = prints_for(&rt, "exchange plan -", BATCH, SCHEDULE, 0)?;
+    let line = "exchange check - input.schedule";
+    let batch = prints_for(&rt, line, BATCH, "shortest 2\n", 0)?;
+    let line = "exchange check input.batch -";
+    let schedule = prints_for(&rt, line, SCHEDULE, "shortest 2\n", 0)?;
+    let line = "exchange draw input.batch -";
+    let drawn = prints_for(&rt, line, "settings 0\n", "refused no certificate\n", 1)?;
+    fs::remove_file(&rt, "input.batch")?;
+    fs::remove_file(&rt, "input.schedule")?;
+    assert!(rt; plan);
+    assert!(rt; batch);
+    assert!(rt; schedule);
+    assert!(rt; drawn);
+    let one = "batch 1\npush 0 0 1 0\n";
+    assert!(rt;
+        prints_for(
+            &rt,
+            "exchange switch -",
+            one,
+            "setting 0 04 01 00 11 03\n",
+            0
+        )?
+    );
+    let report = "ran settings 1 words 1 bits 117\nblock 1 0 00000000\n";
+    assert!(rt; prints_for(&rt, "exchange run 2x1x1 -", one, report, 0)?);
+    assert!(rt; prints(&rt, "exchange plan ./-", "refused file\n", 1)?);
+    Ok(())
+}
+
+/// One of the scripts may be standard input, wherever it stands.
+#[test]
+fn standard_input_is_a_script(rt: HostRuntime) -> Result<(), Fail> {
+    let told = "session 0\nbye\nsession 1\nword 00000000\nsession 2\nbye\n";
+    fs::write(&rt, "input.bye", b"bye\n")?;
+    let line = "exchange serve 1x1x1 input.bye - input.bye";
+    let served = prints_for(&rt, line, "peek 0 80000800\n", told, 0)?;
+    fs::remove_file(&rt, "input.bye")?;
+    assert!(rt; served);
     Ok(())
 }
 
@@ -358,11 +449,9 @@ fn helps<R: AllocGlobal + Files + Threads + Wait + Sync>(
     line: &str,
     begin: &str,
 ) -> Result<bool, AllocError> {
-    let words = words(rt.alloc(), line)?;
-    let mut out = Vec::new(rt.alloc());
-    let mut err = Vec::new(rt.alloc());
-    let code = respond(rt, Ok(words), &mut out, &mut err);
-    Ok(code == ExitCode::from(0) && out.as_slice().starts_with(begin.as_bytes()) && err.is_empty())
+    let seen = see(rt, line, "")?;
+    let is_begun = seen.out.as_slice().starts_with(begin.as_bytes());
+    Ok(seen.code == ExitCode::from(0) && is_begun && seen.err.is_empty())
 }
 
 /// Help goes to standard output, under status 0.
@@ -373,6 +462,8 @@ fn help_is_an_answer(rt: HostRuntime) -> Result<(), Fail> {
         ("exchange help", "Plans block transfers"),
         ("exchange plan --help", "Prints a schedule of a batch"),
         ("exchange check --help", "Judges a schedule of a batch"),
+        ("exchange draw --help", "Draws a schedule of a batch"),
+        ("exchange switch --help", "Tells a real switch's bytes"),
         ("exchange run --help", "Runs a batch on a rack"),
         (
             "exchange serve --help",
@@ -384,17 +475,23 @@ fn help_is_an_answer(rt: HostRuntime) -> Result<(), Fail> {
     Ok(())
 }
 
+/// The version names the kit.
+#[test]
+fn version_is_an_answer(rt: HostRuntime) -> Result<(), Fail> {
+    let line = format!(in rt.alloc(); "exchange {VERSION}\n")?;
+    assert!(rt; line.as_str().contains("(rattle-kit-"));
+    assert!(rt; prints(&rt, "exchange --version", line.as_str(), 0)?);
+    Ok(())
+}
+
 /// Whether the help of `serve` has the phrase.
 fn serve_says<R: AllocGlobal + Files + Threads + Wait + Sync>(
     rt: &R,
     phrase: Result<String, AllocError>,
 ) -> Result<bool, AllocError> {
     let phrase = phrase?;
-    let words = words(rt.alloc(), "exchange serve --help")?;
-    let mut out = Vec::new(rt.alloc());
-    let mut err = Vec::new(rt.alloc());
-    respond(rt, Ok(words), &mut out, &mut err);
-    match str::from_utf8(out.as_slice()) {
+    let seen = see(rt, "exchange serve --help", "")?;
+    match str::from_utf8(seen.out.as_slice()) {
         Ok(text) => Ok(text.contains(phrase.as_str())),
         Err(_) => Ok(false),
     }
@@ -419,11 +516,8 @@ fn is_misused<R: AllocGlobal + Files + Threads + Wait + Sync>(
     rt: &R,
     line: &str,
 ) -> Result<bool, AllocError> {
-    let words = words(rt.alloc(), line)?;
-    let mut out = Vec::new(rt.alloc());
-    let mut err = Vec::new(rt.alloc());
-    let code = respond(rt, Ok(words), &mut out, &mut err);
-    Ok(code == ExitCode::from(2) && out.is_empty() && !err.is_empty())
+    let seen = see(rt, line, "batch 0\n")?;
+    Ok(seen.code == ExitCode::from(2) && seen.out.is_empty() && !seen.err.is_empty())
 }
 
 /// Words that fit no command are answered on standard error, under status 2.
@@ -435,6 +529,9 @@ fn misuse_is_an_error(rt: HostRuntime) -> Result<(), Fail> {
         "exchange chart F",
         "exchange run S B --workers 65",
         "exchange serve S",
+        "exchange check - -",
+        "exchange draw - -",
+        "exchange serve 1x1x1 - A -",
     ] {
         assert!(rt; is_misused(&rt, line)?, "{line}");
     }
@@ -452,7 +549,8 @@ fn ends_without_words<R: AllocGlobal + Files + Threads + Wait + Sync>(
 ) -> bool {
     let mut out = Vec::new(rt.alloc());
     let mut err = Vec::new(rt.alloc());
-    let code = respond(rt, Err(io::Error::new(why, "no words")), &mut out, &mut err);
+    let words = Err(io::Error::new(why, "no words"));
+    let code = respond(rt, words, &mut b"".as_slice(), &mut out, &mut err);
     code == ExitCode::from(status)
         && out.as_slice() == printed.as_bytes()
         && err.as_slice() == said.as_bytes()
@@ -472,7 +570,8 @@ fn refuses_without_memory<R: AllocGlobal + Files + Threads + Wait + Sync>(
 ) -> io::Result<bool> {
     let mut out = Vec::new(rt.alloc());
     let mut err = Vec::new(rt.alloc());
-    let status = respond_to(rt, Err(WordsFault::NoMemory), &mut out, &mut err)?;
+    let none = Err(WordsFault::NoMemory);
+    let status = respond_to(rt, none, &mut b"".as_slice(), &mut out, &mut err)?;
     Ok(status == 1 && out.as_slice() == b"refused no memory\n".as_slice() && err.is_empty())
 }
 
@@ -522,7 +621,8 @@ fn is_unwritten<R: AllocGlobal + Files + Threads + Wait + Sync>(
 ) -> Result<bool, AllocError> {
     let words = words(rt.alloc(), line)?;
     let mut err = Vec::new(rt.alloc());
-    let code = respond(rt, Ok(words), &mut Full { room }, &mut err);
+    let input = &mut b"".as_slice();
+    let code = respond(rt, Ok(words), input, &mut Full { room }, &mut err);
     let said = b"exchange: the answer can't be written: no room\n".as_slice();
     Ok(code == ExitCode::from(3) && err.as_slice() == said)
 }

@@ -15,3 +15,6 @@ returns-then-eq-4-clause-job c = search rules
 
 pub returns-then-eq-5-clause-job : goal.returns-then-eq-5-clause-job
 returns-then-eq-5-clause-job c = search rules
+
+pub returns-then-eq-6-clause-job : goal.returns-then-eq-6-clause-job
+returns-then-eq-6-clause-job c = search rules
