@@ -1,6 +1,6 @@
 //! The end of a module's link 3, which answers peek and poke.
 
-ghost use Rattle.std.specs.Prelude.{◌≡◌, ◌↔◌, [], ◌∷◌, ◌++◌, IsTrue, MatchResult};
+ghost use Rattle.std.specs.Prelude.{◌≡◌, ◌↔◌, [], ◌∷◌, ◌++◌, false, IsTrue, MatchResult};
 ghost use Rattle.peek_poke.specs.Messages.{IsAtRest, IsPartial, rest_after};
 ghost use Rattle.peek_poke.specs.Effects.{Continues, Does, Feeds, IsRefused};
 
@@ -136,5 +136,21 @@ impl Answerer {
                 Err(AnswerFault::from(fault))
             }
         }
+    }
+
+    /// Takes a byte that its message goes on behind, as [`feed`](Answerer::feed) does.
+    #[inline]
+    pub(crate) fn keep(&mut self, arrived: u8)
+        requires alive { self.old.failed ≡ false }
+        requires goes_on { IsPartial (self.old.bytes ++ arrived ∷ []) }
+        ensures { self.new ≡ record {
+          failed = false;
+          bytes = self.old.bytes ++ arrived ∷ [];
+          taken = self.old.taken ++ arrived ∷ [];
+        } }
+    {
+        self.taken.add(arrived);
+        self.bytes[self.len] = arrived;
+        self.len += 1;
     }
 }

@@ -12,12 +12,7 @@ use crate::store::WordStore;
 use crate::wire::Wire;
 
 /// Sends less than a whole message.
-fn send_front<W: Wire, S: WordStore>(
-    wire: &mut W,
-    answerer: &mut Answerer,
-    store: &mut S,
-    bytes: &[u8],
-) -> Result<(), WireFault>
+fn send_front<W: Wire>(wire: &mut W, answerer: &mut Answerer, bytes: &[u8]) -> Result<(), WireFault>
     requires rest { IsAtRest answerer.old }
     requires partial { IsPartial bytes.now }
     ensures sent { OnOk result
@@ -29,7 +24,6 @@ fn send_front<W: Wire, S: WordStore>(
     ensures carried { OnOk result (W.carried wire.new ≡ W.carried wire.old ++ bytes.now) }
     ensures broken { OnErr result
         (IsBrokenOff W.carried bytes.now [] wire.old wire.new answerer.old answerer.new) }
-    ensures unchanged { store.new ≡ store.old }
     ensures fault { OnErr result (W.failures wire.old < W.failures wire.new) }
     ensures counted { W.failures wire.old ≤ W.failures wire.new }
     ensures unfailed { OnOk result (W.failures wire.new ≡ W.failures wire.old) }
@@ -38,10 +32,7 @@ fn send_front<W: Wire, S: WordStore>(
 {
     for byte in bytes {
         let arrived = wire.carry(*byte)?;
-        match answerer.feed(store, arrived) {
-            Ok(_) => {}
-            Err(_) => unreachable!(),
-        }
+        answerer.keep(arrived);
     }
     Ok(())
 }
@@ -98,7 +89,7 @@ pub fn push_word<W: Wire, S: WordStore>(
     ensures stays_sure { W.never_fails wire.old → W.never_fails wire.new }
 {
     let bytes = poke_bytes(address, word);
-    send_front(wire, answerer, store, &bytes[..POKE_BYTES - 1])?;
+    send_front(wire, answerer, &bytes[..POKE_BYTES - 1])?;
     let last = wire.carry(bytes[POKE_BYTES - 1])?;
     match answerer.feed(store, last) {
         Ok(_) => Ok(()),
@@ -136,7 +127,7 @@ pub fn pull_word<W: Wire, S: WordStore>(
     ensures stays_sure { W.never_fails wire.old → W.never_fails wire.new }
 {
     let bytes = peek_bytes(address);
-    send_front(wire, answerer, store, &bytes[..PEEK_BYTES - 1])?;
+    send_front(wire, answerer, &bytes[..PEEK_BYTES - 1])?;
     let tail = wire.carry(bytes[PEEK_BYTES - 1])?;
     match answerer.feed(store, tail) {
         Ok(Some(reply)) => {

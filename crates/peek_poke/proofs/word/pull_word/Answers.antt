@@ -1,4 +1,4 @@
-use Rattle.std.proofs.Common.{rules, ◌≡◌, ◌++◌, ◌∷◌, ◌-◌, [], ap, ◌∙◌, sym, ℕ, Ok, arith, subst, List, append_assoc}
+use Rattle.std.proofs.Common.{rules, ◌≡◌, ◌++◌, ◌∷◌, ◌-◌, [], ap, ◌∙◌, ℕ, Ok, arith, subst, List, append_assoc}
 use Rattle.std.proofs.lemmas.Result.{err_from_is_err_and}
 use Rattle.peek_poke.specs.declared.message.TheConstants.{PEEK_BYTES}
 use Rattle.peek_poke.specs.declared.message.Message.TheVariants.{Peek}
@@ -17,10 +17,9 @@ returns-clause-read g c =
     let read = g.S.WordStore.read_gives in
     let f = rw c.in-Ok-Some.field-0-is at c.in-Ok-Some.ensures.step in
     let text : c.send_front.new.answerer.bytes ++ c.in_ok-tail.tail ∷ [] ≡ spell (Peek a) = search rules in
-    let same : c.send_front.new.store ≡ c.args.store.now = search rules in
     let word : from_le_bytes w32 c.in-Ok-Some.reply ≡ c.from_le_bytes.result = search rules in
-    let e = peeked read g.S.WordStore.write_gives c.send_front.new.answerer c.feed.new.self c.send_front.new.store c.feed.new.store c.in_ok-tail.tail a c.in-Ok-Some.reply c.ranges.address.fits f text in
-    ap (λ (x : _). read x a) (sym same) ∙ e ∙ ap (λ (n : ℕ). Ok n) word
+    let e = peeked read g.S.WordStore.write_gives c.send_front.new.answerer c.feed.new.self c.args.store.now c.feed.new.store c.in_ok-tail.tail a c.in-Ok-Some.reply c.ranges.address.fits f text in
+    e ∙ ap (λ (n : ℕ). Ok n) word
 
 pub returns-in_err-tail-clause-broken : goal.returns-in_err-tail-clause-broken
 returns-in_err-tail-clause-broken g c =
@@ -35,10 +34,9 @@ returns-in_err-arrived-in-Ok-Some-clause-broken g c =
     let read = g.S.WordStore.read_gives in
     let f = rw c.in-Ok-Some.field-0-is at c.in-Ok-Some.ensures.step in
     let text : c.send_front.new.answerer.bytes ++ c.in_ok-tail.tail ∷ [] ≡ spell (Peek a) = search rules in
-    let same : c.send_front.new.store ≡ c.args.store.now = search rules in
     let carried : g.W.Wire.carried c.carry.new.self ≡ g.W.Wire.carried c.args.wire.now ++ spell (Peek a) = search (rules, append_assoc) in
     let taken : c.feed.new.self.taken ≡ c.args.answerer.now.taken ++ spell (Peek a) = search (rules, append_assoc) in
-    let reply = replied read g.S.WordStore.write_gives c.send_front.new.answerer c.feed.new.self c.send_front.new.store c.feed.new.store c.in_ok-tail.tail a c.in-Ok-Some.reply c.ranges.address.fits f text in
+    let reply = replied read g.S.WordStore.write_gives c.send_front.new.answerer c.feed.new.self c.args.store.now c.feed.new.store c.in_ok-tail.tail a c.in-Ok-Some.reply c.ranges.address.fits f text in
     rw (p.1) (λ word is.
-    let bytes = reply word (ap (λ (x : _). read x a) same ∙ is) in
+    let bytes = reply word is in
     within_reply g.W.Wire.carried _ _ _ _ (spell (Peek a)) (word_bytes word) (g.W.Wire.carried c.carry.new.self) carried (subst (λ (xs : List ℕ). IsCut xs (g.W.Wire.carried c.carry.new.self) (g.W.Wire.carried c.carry_back.new.wire)) bytes c.in_err-arrived-in-Ok-Some.ensures.broken) taken)
