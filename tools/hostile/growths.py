@@ -9,6 +9,7 @@ handed back as before, or the row's own answer. Then each start of a thread is r
 that it takes none meets no growth.
 
 Command line: the same with whole runs of the program. It prints what it prints with memory, or the one line `refused no memory`.
+A file is its standard input.
 """
 
 import multiprocessing
@@ -26,6 +27,7 @@ THREE_TRANSFERS = "batch 3\npush 0 0 1 0\npush 0 1 2 0\npush 1 1 2 1\n"
 SCHEDULE = "settings 2\nsetting 0 2\nsetting 1\nbusiest link 0 module 0\nnamed 0 1\n"
 TWO_PUSHES = "batch 2\npush 0 0 1 0\npush 1 1 2 0\n"
 SWAP = "batch 2\npush 0 0 1 0\npush 1 0 0 0\n"
+WIDE = "batch 2\npush 16 0 0 0\npush 16 1 1 0\n"
 SCRIPT = "poke 1 80000808 000000ff\nbatch 1\npull 0 0 1 1\nplan 1\nrun 1\nprogress\npeek 0 80000800\nbye\n"
 REFUSALS = (
     "plan 1\nbatch 1\npush 0 0 1 0\nrun 1\nplan 1\nplan 1\nshow 1\nrun 1\nrun 1\ndrop 1\nshow 1\n"
@@ -35,14 +37,19 @@ PUSHES = TWO_PUSHES + "plan 1\nrun 1\nprogress\npeek 1 80000804\npeek 2 80000800
 FILES = {
     "three": THREE_TRANSFERS, "two": TWO_PUSHES, "schedule": SCHEDULE, "wrong": "batch 01\n",
     "script": SCRIPT, "other": "show 1\n", "refusals": REFUSALS,
-    "pushes": PUSHES, "swap": SWAP,
+    "pushes": PUSHES, "swap": SWAP, "wide": WIDE,
 }  # fmt: skip
+# The one that is standard input.
+INPUT = "three"
 
 COMMANDS = [
-    ["plan", "three"], ["plan", "three", "--workers", "2"], ["plan", "wrong"], ["plan", "missing"],
-    ["check", "three", "schedule"], ["check", "three", "three"], ["draw", "three", "schedule"], ["draw", "three", "three"], ["run", "3x2x2", "two"], ["run", "3x2x2", "two", "--workers", "2"],
+    ["plan", "three"], ["plan", "three", "--workers", "2"], ["plan", "wrong"], ["plan", "missing"], ["plan", "-"],
+    ["switch", "three"], ["switch", "three", "--workers", "2"], ["switch", "wide"], ["switch", "wide", "--workers", "2"], ["switch", "wrong"], ["switch", "-"],
+    ["check", "three", "schedule"], ["check", "three", "three"], ["check", "-", "schedule"], ["check", "-", "-"],
+    ["draw", "three", "schedule"], ["draw", "three", "three"], ["run", "3x2x2", "two"], ["run", "3x2x2", "two", "--workers", "2"],
     ["run", "2x1x1", "swap"], ["run", "3x2", "two"], ["serve", "2x2x2", "script", "other"], ["serve", "2x2x2", "script", "other", "--workers", "2"],
-    ["serve", "3x2x2", "pushes", "--workers", "2"], ["serve", "2x1x1", "refusals"], ["serve", "2x2", "script"], ["--help"], ["help", "run"], ["plan", "--help"], ["chart", "three"], [], ["plan", "three", "--workers", "65"],
+    ["serve", "3x2x2", "pushes", "--workers", "2"], ["serve", "2x1x1", "refusals"], ["serve", "2x2", "script"], ["serve", "3x2x2", "other", "-"],
+    ["--help"], ["help", "run"], ["plan", "--help"], ["chart", "three"], [], ["plan", "three", "--workers", "65"],
 ]  # fmt: skip
 
 
@@ -58,7 +65,7 @@ def run(which, program, words, between):
     env = {"LD_PRELOAD": LIBRARY, "REFUSE": which, "REFUSE_LOG": log}
     if between:
         env["REFUSE_BETWEEN"] = "1"
-    ended = ask(*words, program=program, env=env)
+    ended = ask(*words, program=program, env=env, given=INPUT)
     with open(log) as file:
         return ended, *(int(n) for n in file.read().split())
 
@@ -104,7 +111,8 @@ def judge_of_command(words, wanted):
 
 def is_served(words, ended):
     """Whether sessions were told of the want of memory: each up to there as ever, and from there on as if that command weren't."""
-    scripts = [FILES[name].encode() for name in words[2:] if name in FILES]
+    names = [INPUT if word == "-" else word for word in words[2:]]
+    scripts = [FILES[name].encode() for name in names if name in FILES]
     status = int(b"\nended " in ended.out)
     well = sessions.is_told_without_memory(words[1].encode(), scripts, ended.out)
     return well and ended.status == status and ended.err == b""
@@ -123,7 +131,7 @@ def sweep_call(name):
 
 
 def sweep_command(words):
-    return sweep(" ".join(["exchange", *words]), EXCHANGE, words, False, judge_of_command(words, ask(*words)))
+    return sweep(" ".join(["exchange", *words]), EXCHANGE, words, False, judge_of_command(words, ask(*words, given=INPUT)))
 
 
 def tell(swept):

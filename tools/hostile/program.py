@@ -13,15 +13,15 @@ EXCHANGE = f"{TOP}/crates/exchange/out/exchange"
 Ended = namedtuple("Ended", "out err status")
 
 
-def start(words, env=None, out=None, before=None):
-    """Starts a program with these words and nothing on standard input: its process, and the ends of its standard output, which is
-    None where `out` names a descriptor for it, and of its standard error."""
-    nothing = os.open("/dev/null", os.O_RDONLY)
+def start(words, env=None, out=None, given=os.devnull):
+    """Starts a program with these words, and with the file `given` on standard input: its process, and the ends of its standard output,
+    which is None where `out` names a descriptor for it, and of its standard error."""
+    read = os.open(given, os.O_RDONLY)
     err_end, err = os.pipe()
     out_end, ours = (None, out) if out is not None else os.pipe()
-    moves = [(os.POSIX_SPAWN_DUP2, nothing, 0), (os.POSIX_SPAWN_DUP2, ours, 1), (os.POSIX_SPAWN_DUP2, err, 2)]
+    moves = [(os.POSIX_SPAWN_DUP2, read, 0), (os.POSIX_SPAWN_DUP2, ours, 1), (os.POSIX_SPAWN_DUP2, err, 2)]
     process = os.posix_spawn(words[0], words, env or {}, file_actions=moves, setsigdef=[signal.SIGPIPE])
-    for it in [nothing, err] + ([ours] if out is None else []):
+    for it in [read, err] + ([ours] if out is None else []):
         os.close(it)
     return process, out_end, err_end
 
@@ -58,6 +58,6 @@ def end(process, out_end, err_end, seconds=30):
     return Ended(*texts, os.waitstatus_to_exitcode(status))
 
 
-def ask(*words, program=EXCHANGE, env=None, seconds=30):
-    """Runs the program to its end."""
-    return end(*start([program, *words], env), seconds)
+def ask(*words, program=EXCHANGE, env=None, seconds=30, given=os.devnull):
+    """Runs the program to its end, with the file `given` on standard input."""
+    return end(*start([program, *words], env, given=given), seconds)

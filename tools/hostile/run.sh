@@ -1,7 +1,7 @@
 #!/usr/bin/env bash
 # Hostile use of the built program: tools/hostile/run.sh [COUNT]
 #
-#   streams   files that can't be read, and streams that can't be written
+#   streams   files and streams that can't be read, and streams that can't be written
 #   growths   each growth of memory refused in turn, of each call that may want memory and of the command line
 #   texts     COUNT spoilt texts of each kind, 10000 where it isn't said, judged by a second implementation as well
 #   clients   COUNT / 50 rounds of sixteen clients at once, whose history the second implementation replays

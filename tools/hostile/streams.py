@@ -1,6 +1,6 @@
 #!/usr/bin/env python3
-"""Files that can't be read and streams that can't be written: one line on the right stream, the status that README.md names, and
-nothing hangs."""
+"""Files and streams that can't be read, and streams that can't be written: one line on the right stream, the status that README.md
+names, and nothing hangs."""
 
 import os
 import shutil
@@ -9,10 +9,13 @@ import tempfile
 import threading
 
 import picture
+import plain
+import switching
 from program import EXCHANGE, Ended, ask, end, start
 
 THREE_TRANSFERS = b"batch 3\npush 0 0 1 0\npush 0 1 2 0\npush 1 1 2 1\n"
 PLAN = b"settings 2\nsetting 0 2\nsetting 1\nbusiest link 0 module 0\nnamed 0 1\n"
+SWITCHED = b"setting 0 04 01 00 11 01 01 12 03\nsetting 1 06 00 11 06 01 12 01 00 12 03\n"
 REFUSED_FILE = Ended(b"refused file\n", b"", 1)
 NO_MEMORY = Ended(b"refused no memory\n", b"", 1)
 UNWRITTEN = b"exchange: the answer can't be written: "
@@ -56,7 +59,7 @@ def files(room):
 
 def unreadable_files(room):
     for what, name in files(room):
-        for words in [("plan", name), ("check", name, "plan"), ("check", "three", name), ("draw", name, "plan"), ("draw", "three", name), ("run", "3x2x2", name), ("run", "0", name), ("serve", "2x2x2", "script", name), ("serve", "0", name)]:
+        for words in [("plan", name), ("switch", name), ("check", name, "plan"), ("check", "three", name), ("draw", name, "plan"), ("draw", "three", name), ("run", "3x2x2", name), ("run", "0", name), ("serve", "2x2x2", "script", name), ("serve", "0", name)]:
             expect(f"{what}: {words[0]}", ask(*words, seconds=LIMIT), REFUSED_FILE)
 
 
@@ -76,7 +79,7 @@ def forbidden_file(room):
 def endless_files():
     """What never ends wants more memory than there is."""
     limit = "ulimit -v 400000;"
-    for words in [("plan", "/dev/zero"), ("check", "/dev/zero", "plan"), ("check", "three", "/dev/zero"), ("draw", "/dev/zero", "plan"), ("draw", "three", "/dev/zero"), ("run", "3x2x2", "/dev/zero"), ("serve", "2x2x2", "script", "/dev/zero")]:
+    for words in [("plan", "/dev/zero"), ("switch", "/dev/zero"), ("check", "/dev/zero", "plan"), ("check", "three", "/dev/zero"), ("draw", "/dev/zero", "plan"), ("draw", "three", "/dev/zero"), ("run", "3x2x2", "/dev/zero"), ("serve", "2x2x2", "script", "/dev/zero")]:
         expect(f"an endless file: {words[0]}", under(limit, *words), NO_MEMORY)
     with open("large", "wb") as file:
         file.truncate(1 << 30)
@@ -98,10 +101,64 @@ def pipes():
         ("cut in a line", [THREE_TRANSFERS[:24]], Ended(b"refused batch line 3\n", b"", 1)),
         ("nothing", [], Ended(b"refused batch line 1\n", b"", 1)),
     ]:
-        writer = threading.Thread(target=pieces, args=("pipe", parts))
-        writer.start()
-        expect(f"a pipe: {what}", ask("plan", "pipe", seconds=LIMIT), wanted)
-        writer.join()
+        for name, given in [("pipe", os.devnull), ("-", "pipe")]:
+            writer = threading.Thread(target=pieces, args=("pipe", parts))
+            writer.start()
+            expect(f"a pipe: {what}, as {name}", ask("plan", name, given=given, seconds=LIMIT), wanted)
+            writer.join()
+
+
+# The words of each command with standard input for each of its files in turn, and the answers where that is the right file.
+INPUTS = [
+    (("plan", "-"), "three", PLAN),
+    (("switch", "-"), "three", SWITCHED),
+    (("check", "-", "plan"), "three", b"shortest 2\n"),
+    (("check", "three", "-"), "plan", b"shortest 2\n"),
+    (("draw", "-", "plan"), "three", picture.answer_draw(THREE_TRANSFERS, PLAN)),
+    (("draw", "three", "-"), "plan", picture.answer_draw(THREE_TRANSFERS, PLAN)),
+    (("run", "3x2x2", "-"), "three", plain.answer_run(b"3x2x2", THREE_TRANSFERS)),
+    (("serve", "2x2x2", "-"), "script", b"session 0\nword 00000000\nbye\n"),
+    (("serve", "2x2x2", "script", "-"), "script", b"session 0\nword 00000000\nbye\nsession 1\nword 00000000\nbye\n"),
+]
+
+# Streams that can't be read.
+UNREADABLE = {
+    "a closed input": "exec <&-;",
+    "an input that is only written": "exec 0>/dev/null;",
+    "a folder": "exec <.;",
+}
+
+
+def inputs():
+    """Standard input as a file: what it has is answered, and one that can't be read is a file that can't be read."""
+    for words, given, answer in INPUTS:
+        line = " ".join(words)
+        expect(f"{line}: its file", ask(*words, given=given, seconds=LIMIT), Ended(answer, b"", 0))
+        expect(f"{line}: another name", ask(*("./-" if it == "-" else it for it in words), seconds=LIMIT), REFUSED_FILE)
+        for what, line_before in UNREADABLE.items():
+            expect(f"{line}: {what}", under(line_before, *words), REFUSED_FILE)
+        expect(f"{line}: an endless input", under("ulimit -v 400000; exec </dev/zero;", *words), NO_MEMORY)
+    expect("plan -: nothing", ask("plan", "-", seconds=LIMIT), Ended(b"refused batch line 1\n", b"", 1))
+    expect("switch -: nothing", ask("switch", "-", seconds=LIMIT), Ended(b"refused batch line 1\n", b"", 1))
+    expect("serve -: nothing", ask("serve", "2x2x2", "-", seconds=LIMIT), Ended(b"session 0\n", b"", 0))
+    expect("a shape isn't a file", ask("run", "-", "-", given="three", seconds=LIMIT), Ended(b"refused shape\n", b"", 1))
+    expect("the rest of an input", under("exec <behind; read line;", "switch", "-"), Ended(SWITCHED, b"", 0))
+
+
+def is_misused(ended):
+    """A text on standard error that says what is wrong, nothing on standard output, and status 2."""
+    return ended.out == b"" and b"standard input" in ended.err and ended.err.endswith(b"\n") and ended.status == 2
+
+
+def inputs_named_twice():
+    """Standard input can be one file only, and where it is two it isn't read."""
+    for words in [("check", "-", "-"), ("draw", "-", "-"), ("serve", "2x2x2", "-", "-"), ("serve", "0", "-", "script", "-", "missing")]:
+        line = " ".join(words)
+        expect(f"{line}: twice", ask(*words, given="three", seconds=LIMIT), is_misused)
+        expect(f"{line}: twice, closed", under("exec <&-;", *words), is_misused)
+        expect(f"{line}: twice, endless", under("ulimit -v 400000; exec </dev/zero;", *words), is_misused)
+        behind = ask("-c", '"$@" 2>/dev/null; exec cat', "sh", EXCHANGE, *words, program="/bin/sh", given="three", seconds=LIMIT)
+        expect(f"{line}: what is behind", behind, Ended(THREE_TRANSFERS, b"", 0))
 
 
 def many_settings():
@@ -113,10 +170,13 @@ def many_settings():
     return f"batch {len(numbers)}\n{batch}".encode(), schedule.encode()
 
 
-def long_picture():
-    """A picture of 3 MB is written whole."""
+def long_answers():
+    """A picture of 3 MB is written whole, and so are the bytes of as many settings."""
     ended = ask("draw", "settings", "settings.plan", seconds=LIMIT)
     expect("a long picture", ended == Ended(picture.answer_draw(*many_settings()), b"", 0), True)
+    ended, plan = ask("switch", "settings", seconds=LIMIT), ask("plan", "settings", seconds=LIMIT)
+    well = ended.status == 0 and ended.err == b"" and switching.is_switched(many_settings()[0], plan.out, ended.out)
+    expect("a long list of bytes", well, True)
 
 
 COMMANDS = {
@@ -124,6 +184,8 @@ COMMANDS = {
     "a refusal": ("plan", "missing"),
     "a long answer": ("run", "16x64x256", "many"),
     "a long picture": ("draw", "settings", "settings.plan"),
+    "a switch's bytes": ("switch", "three"),
+    "a long list of bytes": ("switch", "settings"),
     "a help": ("--help",),
     "a session": ("serve", "2x2x2", "script"),
 }
@@ -176,6 +238,7 @@ def main():
         many = [f"push {m} {b} {(m + 1) % 16} {b + 32}\n" for m in range(16) for b in range(32)]
         many = f"batch {len(many)}\n{''.join(many)}".encode()
         texts = [("three", THREE_TRANSFERS), ("plan", PLAN), ("many", many), ("script", b"peek 0 80000800\nbye\n")]
+        texts.append(("behind", b"a line that the shell reads\n" + THREE_TRANSFERS))
         for name, text in texts + list(zip(("settings", "settings.plan"), many_settings())):
             with open(name, "wb") as file:
                 file.write(text)
@@ -183,8 +246,10 @@ def main():
         forbidden_file(room)
         endless_files()
         pipes()
+        inputs()
+        inputs_named_twice()
         many_reads()
-        long_picture()
+        long_answers()
         closed_and_full_output()
         readers_that_go_away()
         os.chdir("/")

@@ -3,8 +3,8 @@
 
     texts.py [COUNT]        COUNT texts of each kind, 10000 where it isn't said; of scripts side by side a twentieth
 
-Text number n of a kind is the same each time. A plan isn't the only one of its batch, so `plan` is judged by what a plan is; all
-other answers are compared byte by byte.
+Text number n of a kind is the same each time. A plan isn't the only one of its batch, so `plan` is judged by what a plan is, and `switch`
+by the plan that `plan` gives; all other answers are compared byte by byte. In a quarter of the runs one of the files is standard input.
 """
 
 import multiprocessing
@@ -18,6 +18,7 @@ import picture
 import plain
 import sessions
 import spoil
+import switching
 from program import ask
 
 SCRIPTS = 16
@@ -27,6 +28,14 @@ def keep(name, text):
     with open(name, "wb") as file:
         file.write(text)
     return name
+
+
+def ask_of(draw, words, files):
+    """Runs the program with these words and then these files, one of which may be standard input, and with some number of workers, if it
+    is a command that has them."""
+    workers = [] if words[0] in ("check", "draw") else workers_of(draw)
+    given = draw.choice(files) if draw.random() < 0.25 else os.devnull
+    return ask(*words, *("-" if file == given else file for file in files), *workers, given=given)
 
 
 def is_refusal(answer, line):
@@ -44,12 +53,35 @@ def workers_of(draw):
 def try_plan(draw):
     """A spoilt batch text, put to `plan`."""
     text = spoil.spoil(draw, spoil.batch(draw, plain.WIDEST, draw.choice([3, 10, 40])))
-    answer = ask("plan", keep("batch", text), *workers_of(draw))
+    answer = ask_of(draw, ["plan"], [keep("batch", text)])
     refusal = plain.answer_plan(text)
     if refusal:
         return is_refusal(answer, refusal), refusal, [text], answer
     well = answer.status == 0 and answer.err == b"" and plain.is_plan(text, answer.out)
     return well, b"a plan", [text], answer
+
+
+def try_switch(draw):
+    """A batch text, put to `switch`, which is spoilt in half of the cases. Few modules have many settings, and pairs that stay from one
+    to the next."""
+    shape = (draw.choice([1, 2, 3, 8, 16, 17, plain.MODULES]), plain.BLOCKS, plain.WORDS)
+    text = spoil.batch(draw, shape, draw.choice([3, 10, 40, 120]))
+    if draw.random() < 0.5:
+        text = spoil.spoil(draw, text)
+    answer = ask_of(draw, ["switch"], [keep("batch", text)])
+    refusal = plain.answer_plan(text)
+    if refusal:
+        return is_refusal(answer, refusal), refusal, [text], answer
+    plan = ask_of(draw, ["plan"], ["batch"])
+    well = answer.status == 0 and answer.err == b"" and switching.is_switched(text, plan.out, answer.out)
+    return well, kind_of_bytes(text, plan.out), [text, plan.out], answer
+
+
+def kind_of_bytes(batch, plan):
+    """How many switches and settings the bytes of a plan are for, in words."""
+    switches = ("one switch", "two switches")[len(switching.switches_for(plain.read_batch(batch, plain.WIDEST))) - 1]
+    settings = ("no setting", "one setting", "several settings")[min(plan.count(b"setting "), 2)]
+    return f"bytes of {switches}, {settings}".encode()
 
 
 def try_run(draw):
@@ -59,7 +91,7 @@ def try_run(draw):
     if draw.random() < 0.1:
         shape = spoil.shape(draw)
     words = "{}x{}x{}".format(*shape)
-    answer = ask("run", words, keep("batch", text), *workers_of(draw))
+    answer = ask_of(draw, ["run", words], [keep("batch", text)])
     wanted = plain.answer_run(words.encode(), text)
     return is_answer(answer, wanted), wanted, [words.encode(), text], answer
 
@@ -84,7 +116,7 @@ def spoilt_schedule(draw, shape, most, certify):
 def try_check(draw):
     """A spoilt schedule text, put to `check`."""
     batch, text = spoilt_schedule(draw, plain.WIDEST, draw.choice([0, 3, 10, 30]), plain.busiest)
-    answer = ask("check", keep("batch", batch), keep("schedule", text))
+    answer = ask_of(draw, ["check"], [keep("batch", batch), keep("schedule", text)])
     wanted = plain.answer_check(batch, text)
     return is_answer(answer, wanted), wanted, [batch, text], answer
 
@@ -93,7 +125,7 @@ def try_draw(draw):
     """A spoilt schedule text, put to `draw`, whose certificate names any of the busiest links. Few modules have many settings."""
     shape = (draw.choice([1, 2, 3, 8, plain.MODULES]), plain.BLOCKS, plain.WORDS)
     batch, text = spoilt_schedule(draw, shape, draw.choice([3, 10, 40, 120]), lambda it: draw.choice(plain.busiest_links(it)))
-    answer = ask("draw", keep("batch", batch), keep("schedule", text))
+    answer = ask_of(draw, ["draw"], [keep("batch", batch), keep("schedule", text)])
     wanted = picture.answer_draw(batch, text)
     return is_answer(answer, wanted), wanted, [batch, text], answer
 
@@ -103,7 +135,7 @@ def try_shape(draw):
     shape = spoil.shape(draw)
     batch = spoil.batch(draw, (shape[0], min(shape[1], 6), 1), 5)
     text = spoil.spoil(draw, b"%dx%dx%d" % shape).replace(b"\0", b"")
-    answer = ask("run", os.fsdecode(text), keep("batch", batch))
+    answer = ask_of(draw, ["run", os.fsdecode(text)], [keep("batch", batch)])
     if is_no_word(text):
         well = answer.status == 2 and answer.out == b"" and answer.err != b""
         return well, b"no word for a shape", [text, batch], answer
@@ -138,7 +170,7 @@ def try_script(draw):
     elif chance < 0.003:
         text = b"batch 0\n" * 250 + text + b"batch 0\n" * 8
     words = "{}x{}x{}".format(*shape)
-    answer = ask("serve", words, keep("script", text), *workers_of(draw))
+    answer = ask_of(draw, ["serve", words], [keep("script", text)])
     wanted, status = sessions.answer_serve(words.encode(), [text])
     return is_served(answer, wanted, status), last_line(wanted), [words.encode(), text], answer
 
@@ -150,14 +182,14 @@ def try_scripts(draw):
     leader = draw.choice(modules)
     scripts = [spoil.own_script(draw, shape, module, module == leader) for module in modules]
     words = "{}x{}x{}".format(*shape)
-    names = [keep(f"script{number}", text) for number, text in enumerate(scripts)]
-    answer = ask("serve", words, *names, *workers_of(draw))
+    answer = ask_of(draw, ["serve", words], [keep(f"script{number}", text) for number, text in enumerate(scripts)])
     wanted, status = sessions.answer_serve(words.encode(), scripts)
     return is_served(answer, wanted, status), b"sessions side by side", [words.encode(), *scripts], answer
 
 
 KINDS = {
     "batches to plan": try_plan,
+    "batches to switch": try_switch,
     "batches to run": try_run,
     "schedules to check": try_check,
     "schedules to draw": try_draw,

@@ -1,0 +1,115 @@
+"""What `switch` tells, a second time: plain Python, as plain.py, that shares no code with the product. It was written from the rules as
+README.md and docs/DECISIONS.md state them, and from the commands of the C004's configuration link."""
+
+import plain
+
+# The modules that one switch joins.
+JOINED = 16
+# How many ports follow each command byte that sets something.
+PORTS = {0: 2, 1: 2, 3: 0, 4: 0, 5: 1, 6: 2}
+
+
+def switches_for(transfers):
+    """The names of the switches of a rack that has the modules of these transfers: one, which has no name, or A, on the way from links 0
+    to links 3, and B, on the way back."""
+    is_wide = any(module >= JOINED for transfer in transfers for module in (transfer[1], transfer[3]))
+    return ["a", "b"] if is_wide else [""]
+
+
+def pairs_of(transfers, setting):
+    """Each initiator of a setting with its responder, by ascending initiators."""
+    return sorted((transfers[t][1], transfers[t][3]) for t in setting)
+
+
+def join(switch, initiator, responder):
+    """The bytes that join link 0 of a module and link 3 of another: on one switch both ways at once, on two one way on each."""
+    return {"": [1, initiator, JOINED + responder], "a": [0, initiator, responder], "b": [0, responder, initiator]}[switch]
+
+
+def cut(switch, initiator, responder):
+    """The bytes that part them: on one switch the two links, on two the output of the way."""
+    return {"": [6, initiator, JOINED + responder], "a": [5, responder], "b": [5, initiator]}[switch]
+
+
+def sent(switch, before, pairs):
+    """The bytes that set a switch to pairs. Where none are known to have stood before they are a reset and the joins, else the cuts of
+    the pairs that go and the joins of those that come; then the sequence ends."""
+    if before is None:
+        commands = [[4]] + [join(switch, *pair) for pair in pairs]
+    else:
+        commands = [cut(switch, *pair) for pair in before if pair not in pairs]
+        commands += [join(switch, *pair) for pair in pairs if pair not in before]
+    return [byte for command in [*commands, [3]] for byte in command]
+
+
+def told(transfers, settings):
+    """What is told of a batch's settings, in order: of each its number, its pairs, and the name and the bytes of each switch."""
+    before = None
+    for number, setting in enumerate(settings):
+        pairs = pairs_of(transfers, setting)
+        yield number, pairs, [(switch, sent(switch, before, pairs)) for switch in switches_for(transfers)]
+        before = pairs
+
+
+def switch_text(transfers, settings):
+    """The text of it: for each setting a line, or two where there are two switches."""
+    lines = []
+    for number, _, switches in told(transfers, settings):
+        for switch, sent_bytes in switches:
+            name = f" {switch}" if switch else ""
+            lines.append(f"setting {number}{name} {bytes(sent_bytes).hex(' ')}\n")
+    return "".join(lines).encode()
+
+
+class Switch:
+    """A C004: the input that each connected output has, and whether it passes data on. At first it stands anyhow."""
+
+    def __init__(self):
+        self.inputs, self.is_ready = {output: (7 * output + 3) % 32 for output in range(32)}, False
+
+    def send(self, sent_bytes):
+        """Does what bytes command, one command after another."""
+        left = list(sent_bytes)
+        while left:
+            command, *ports = [left.pop(0) for _ in range(1 + PORTS[left[0]])]
+            self.obey(command, ports)
+
+    def obey(self, command, ports):
+        if command == 0:
+            self.inputs[ports[1]] = ports[0]
+        if command == 1:
+            self.inputs[ports[0]], self.inputs[ports[1]] = ports[1], ports[0]
+        if command == 4:
+            self.inputs = {}
+        if command in (5, 6):
+            for port in ports:
+                self.inputs.pop(port, None)
+        self.is_ready = command in (3, 4) or self.is_ready and command not in (0, 1)
+
+
+def wanted_inputs(switch, pairs):
+    """The input of each output where just these pairs are joined."""
+    forth = {responder: initiator for initiator, responder in pairs}
+    back = {initiator: responder for initiator, responder in pairs}
+    if switch:
+        return {"a": forth, "b": back}[switch]
+    return {JOINED + output: it for output, it in forth.items()} | {output: JOINED + it for output, it in back.items()}
+
+
+def are_set(transfers, settings):
+    """Whether these bytes set switches that stood anyhow to the pairs of each setting in turn, ready, and to nothing else."""
+    chips = {switch: Switch() for switch in switches_for(transfers)}
+    for _, pairs, switches in told(transfers, settings):
+        for switch, sent_bytes in switches:
+            chips[switch].send(sent_bytes)
+            if not chips[switch].is_ready or chips[switch].inputs != wanted_inputs(switch, pairs):
+                return False
+    return True
+
+
+def is_switched(batch, plan, answer):
+    """Whether `switch` has to answer so to a batch text to which `plan` gives this answer."""
+    if not plain.is_plan(batch, plan):
+        return False
+    transfers, (settings, _) = plain.read_batch(batch, plain.WIDEST), plain.read_schedule(plan)
+    return answer == switch_text(transfers, settings) and are_set(transfers, settings)
