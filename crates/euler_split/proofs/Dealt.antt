@@ -1,11 +1,11 @@
 -- Halves of places in which partners are apart are halves of the transfers.
-use Rattle.std.proofs.Common.{◌≡◌, ◌==◌, ℕ, ◌+◌, ◌<◌, ◌≤◌, List, [], ◌∷◌, ◌++◌, length, get_or, take, count_by, All, Option, Some, Bool, true, false, not, ◌&&◌, cond, refl, sym, ap, ◌∙◌, arith, add-one, append_assoc}
+use Rattle.std.proofs.Common.{◌≡◌, ◌==◌, ℕ, ◌+◌, ◌<◌, ◌≤◌, List, [], ◌∷◌, ◌++◌, length, get_or, set, take, count_by, All, Option, Some, Bool, true, false, not, ◌&&◌, cond, refl, sym, ap, ◌∙◌, arith, add-one, append_assoc, length-set, get_or-set_other}
 use Rattle.std.proofs.Math.Seq.{take-length}
 use Rattle.std.specs.List.Sorted.{IsPermutation}
 use Rattle.std.specs.Option.{unwrap_or}
-use Rattle.std.proofs.lemmas.List.{take_more}
+use Rattle.std.proofs.lemmas.List.{take_more, take_more_set}
 use Rattle.std.proofs.lemmas.List.Elements.{All-head, All-tail}
-use Rattle.std.proofs.lemmas.List.Sorted.{IsPermutation-sym, IsPermutation-middle, IsPermutation-to_front, IsPermutation-push_more, All-permutation, sum_by-IsPermutation}
+use Rattle.std.proofs.lemmas.List.Sorted.{IsPermutation-refl, IsPermutation-sym, IsPermutation-middle, IsPermutation-to_front, IsPermutation-push_more, All-permutation, sum_by-IsPermutation}
 use Rattle.std.proofs.lemmas.List.Sums.{sum_by-cons, sum_by-append, sum_by_push}
 use Rattle.batch.specs.declared.transfer.Transfer.{Transfer}
 use Rattle.link_graph.specs.declared.link.End.{End}
@@ -82,6 +82,54 @@ module _ (whole : List ℕ) (n : ℕ) (test : ℕ → Bool) (left right : List �
         let here : one (not (test n) && q x) ≡ one (q x) = rw no' refl in
         omega (arith, sum_by_push (λ y. cond (q y) 1 0) right x, so_far.right_is q, count_more n (λ i. not (test i) && q (get_or whole i 0)), here);
     parts = rw (take_more whole n 0 n_in) (IsPermutation-push_more (take n whole) (left ++ right) (left ++ (right ++ x ∷ [])) x so_far.parts (rw (← append_assoc) (IsPermutation-sym _ _ (IsPermutation-to_front (left ++ right) x))));
+  }
+
+-- ---- in place
+
+-- those of the first n places: so many in front, and so many beside
+pub record AreDealing (whole : List ℕ) (n : ℕ) (test : ℕ → Bool) (now others : List ℕ) (left right : ℕ) : Type 0 where
+  pub counted : left + right ≡ n
+  pub sized : length now ≡ length whole
+  pub room : length others ≡ length whole
+  pub dealt : IsDealt whole n test (take left now) (take right others)
+  pub rest : (i : ℕ) → n ≤ i → get_or now i 0 ≡ get_or whole i 0
+
+pub none_dealt : (whole others : List ℕ) (test : ℕ → Bool) → length others ≡ length whole → AreDealing whole 0 test whole others 0 0
+none_dealt whole others test room = record {
+  counted = refl;
+  sized = refl;
+  room = room;
+  dealt = record { left_is = λ q. refl; right_is = λ q. refl; parts = IsPermutation-refl [] };
+  rest = λ i _. refl;
+}
+
+module _ (whole : List ℕ) (n : ℕ) (test : ℕ → Bool) (now others : List ℕ) (left right : ℕ) (so_far : AreDealing whole n test now others left right) (n_in : n < length whole) where
+  abbrev m : ℕ
+  m = get_or now n 0
+
+  same : m ≡ get_or whole n 0
+  same = so_far.rest n (omega arith)
+
+  pub dealing_left : test n ≡ true → AreDealing whole (n + 1) test (set now left m) others (left + 1) right
+  dealing_left yes' = record {
+    counted = omega (arith, so_far.counted);
+    sized = length-set now left m ∙ so_far.sized;
+    room = so_far.room;
+    dealt =
+        let grown : take (left + 1) (set now left m) ≡ take left now ++ get_or whole n 0 ∷ [] = take_more_set now left m (omega (arith, so_far.counted, so_far.sized)) ∙ ap (λ (y : ℕ). take left now ++ y ∷ []) same in
+        rw grown (dealt_left whole n test (take left now) (take right others) n_in so_far.dealt yes');
+    rest = λ i past. get_or-set_other now left i m 0 (λ at. omega (arith, so_far.counted)) ∙ so_far.rest i (omega arith);
+  }
+
+  pub dealing_right : test n ≡ false → AreDealing whole (n + 1) test now (set others right m) left (right + 1)
+  dealing_right no' = record {
+    counted = omega (arith, so_far.counted);
+    sized = so_far.sized;
+    room = length-set others right m ∙ so_far.room;
+    dealt =
+        let grown : take (right + 1) (set others right m) ≡ take right others ++ get_or whole n 0 ∷ [] = take_more_set others right m (omega (arith, so_far.counted, so_far.room)) ∙ ap (λ (y : ℕ). take right others ++ y ∷ []) same in
+        rw grown (dealt_right whole n test (take left now) (take right others) n_in so_far.dealt no');
+    rest = λ i past. so_far.rest i (omega arith);
   }
 
 -- ---- the halves

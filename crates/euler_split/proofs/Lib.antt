@@ -4,4 +4,4 @@ pub mod Turns
 pub mod Partners
 pub mod Numbers
 pub mod Dealt
-pub mod Scratch
+pub mod Cells

@@ -8,9 +8,11 @@
 
 mod halving;
 mod pairing;
+mod scratch;
 mod walking;
 
-pub use halving::split;
+pub use halving::{split, split_in_place};
+pub use scratch::Scratch;
 
 #[cfg(test)]
 mod tests;

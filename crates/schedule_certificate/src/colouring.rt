@@ -8,7 +8,7 @@ use crate::degree::{degree_of, half_of};
 use crate::gate::Gate;
 use crate::workers::Workers;
 use alternating_path::{InsertFault, Table};
-use euler_split::split;
+use euler_split::{Scratch, split_in_place};
 use link_graph::LinkGraph;
 use std::alloc::{AllocError, Global};
 use std::thread::{Threads, join};
@@ -34,9 +34,9 @@ fn put_back(table: &mut Table<'_>, class: &[usize])
 /// that is 0. The degree may be known. Room for this many colours is taken at once, so that others
 /// can be joined to these without a move.
 ///
-/// The part is halved so that the uses of each link are, each half is coloured by itself, and the two
-/// tables are joined. Where the degree is odd, that may be one colour too many: then a smallest class
-/// is given up, and its transfers are put into the other colours (Gabow 1976).
+/// The part is halved, in place, so that the uses of each link are, each half is coloured by itself,
+/// and the two tables are joined. Where the degree is odd, that may be one colour too many: then a
+/// smallest class is given up, and its transfers are put into the other colours (Gabow 1976).
 #[cycle(halves)]
 pub(crate) fn colour_part<'a, R: Threads + Sync, G: Gate>(
     rt: &R,
@@ -44,22 +44,28 @@ pub(crate) fn colour_part<'a, R: Threads + Sync, G: Gate>(
     workers: Workers,
     alloc: Global,
     graph: &'a LinkGraph,
-    part: &[usize],
+    part: &mut [usize],
+    scratch: &mut Scratch,
     known: Option<usize>,
     room: usize,
 ) -> Result<Table<'a>, AllocError>
-    requires { IsPartBy graph.now part.now known }
-    ensures { IfOk result (IsColouredPart graph.now part.now) }
+    requires part { IsPartBy graph.now part.old known }
+    requires places { length part.old ≤ scratch.old }
+    ensures coloured { IfOk result (IsColouredPart graph.now part.old) }
+    ensures places { scratch.new ≡ scratch.old }
 {
     let degree = degree_of(graph, part, known);
-    // Two halves may have a colour too many.
-    let room = room.max(degree.saturating_add(1));
     if degree <= 1 {
-        return Table::one_with_room(alloc, graph, part, room);
+        return Table::one_with_room(alloc, graph, part, room.max(1));
     }
-    let (left, right) = split(alloc, graph, part)?;
+    let middle = split_in_place(graph, part, scratch);
+    let (left, right) = part.split_at_mut(middle);
     let half = half_of(degree);
-    let (left, right) = colour_halves(rt, gate, workers, alloc, graph, &left, &right, half, room)?;
+    // The halves may have one colour too many.
+    let room = room.max(degree.saturating_add(1));
+    let (left, right) = colour_halves(
+        rt, gate, workers, alloc, graph, left, right, scratch, half, room,
+    )?;
     let joined = Table::join(left, right)?;
     if joined.colours() <= degree {
         return Ok(joined);
@@ -78,6 +84,36 @@ fn colour_halves<'a, R: Threads + Sync, G: Gate>(
     workers: Workers,
     alloc: Global,
     graph: &'a LinkGraph,
+    left: &mut [usize],
+    right: &mut [usize],
+    scratch: &mut Scratch,
+    known: Option<usize>,
+    room: usize,
+) -> Result<(Table<'a>, Table<'a>), AllocError>
+    requires left { IsPartBy graph.now left.old known }
+    requires right { IsPartBy graph.now right.old known }
+    requires left_places { length left.old ≤ scratch.old }
+    requires right_places { length right.old ≤ scratch.old }
+    ensures left { IfOk result (λ tables. IsColouredPart graph.now left.old tables.0) }
+    ensures right { IfOk result (λ tables. IsColouredPart graph.now right.old tables.1) }
+    ensures places { scratch.new ≡ scratch.old }
+{
+    if workers.count < 2 {
+        let left = colour_part(rt, gate, workers, alloc, graph, left, scratch, known, room)?;
+        let right = colour_part(rt, gate, workers, alloc, graph, right, scratch, known, 0)?;
+        return Ok((left, right));
+    }
+    colour_both(rt, gate, workers, alloc, graph, left, right, known, room)
+}
+
+/// Colours two parts at once.
+#[cycle(halves)]
+fn colour_both<'a, R: Threads + Sync, G: Gate>(
+    rt: &R,
+    gate: &G,
+    workers: Workers,
+    alloc: Global,
+    graph: &'a LinkGraph,
     left: &[usize],
     right: &[usize],
     known: Option<usize>,
@@ -88,11 +124,6 @@ fn colour_halves<'a, R: Threads + Sync, G: Gate>(
     ensures left { IfOk result (λ tables. IsColouredPart graph.now left.now tables.0) }
     ensures right { IfOk result (λ tables. IsColouredPart graph.now right.now tables.1) }
 {
-    if workers.count < 2 {
-        let left = colour_part(rt, gate, workers, alloc, graph, left, known, room)?;
-        let right = colour_part(rt, gate, workers, alloc, graph, right, known, 0)?;
-        return Ok((left, right));
-    }
     let (first, rest) = workers.halves();
     let (left, right) = join(
         rt,
@@ -101,15 +132,45 @@ fn colour_halves<'a, R: Threads + Sync, G: Gate>(
             ensures { IfOk result (IsColouredPart graph.entry.now left.entry.now) }
         {
             gate.arrive(first.least);
-            colour_part(rt, gate, first, alloc, graph, left, known, room)
+            colour_copy(rt, gate, first, alloc, graph, left, known, room)
         },
         || -> Result<Table, AllocError>
             requires { IsSync R.row × IsSync G.row × IsPartBy graph.now right.now known }
             ensures { IfOk result (IsColouredPart graph.entry.now right.entry.now) }
         {
             gate.arrive(rest.least);
-            colour_part(rt, gate, rest, alloc, graph, right, known, 0)
+            colour_copy(rt, gate, rest, alloc, graph, right, known, 0)
         },
     );
     Ok((left?, right?))
+}
+
+/// Colours a part by a copy of it, with a scratch of its own.
+#[cycle(halves)]
+pub(crate) fn colour_copy<'a, R: Threads + Sync, G: Gate>(
+    rt: &R,
+    gate: &G,
+    workers: Workers,
+    alloc: Global,
+    graph: &'a LinkGraph,
+    part: &[usize],
+    known: Option<usize>,
+    room: usize,
+) -> Result<Table<'a>, AllocError>
+    requires { IsPartBy graph.now part.now known }
+    ensures { IfOk result (IsColouredPart graph.now part.now) }
+{
+    let mut scratch = Scratch::new(alloc, part.len())?;
+    let mut part = Vec::from_slice(alloc, part)?;
+    colour_part(
+        rt,
+        gate,
+        workers,
+        alloc,
+        graph,
+        &mut part,
+        &mut scratch,
+        known,
+        room,
+    )
 }

@@ -4,7 +4,7 @@ ghost use Rattle.std.specs.Prelude.{◌≡◌, ◌≤◌, ◌<◌, ℕ, IfOk, le
 ghost use Rattle.std.specs.List.{range_with_len};
 ghost use Rattle.schedule_certificate.specs.Plans.{NamesBusiest, IsPlan, IsColoured, HasFewReinsertions};
 
-use crate::colouring::colour_part;
+use crate::colouring::colour_copy;
 use crate::gate::Gate;
 use crate::limits::MAX_WORKERS;
 use crate::planned::Planned;
@@ -33,7 +33,7 @@ fn colour_all<R: Threads + Sync, G: Gate>(
     ensures { IfOk result (λ coloured. IsColoured graph.now coloured) }
 {
     let all = all_transfers(alloc, graph)?;
-    let table = colour_part(rt, gate, workers, alloc, graph, &all, None, 0)?;
+    let table = colour_copy(rt, gate, workers, alloc, graph, &all, None, 0)?;
     let coloured = table.into_schedule()?;
     Ok(coloured)
 }

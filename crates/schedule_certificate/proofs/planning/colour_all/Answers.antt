@@ -1,8 +1,8 @@
 use Rattle.schedule_certificate.proofs.Whole.{all_part, all_coloured}
 use Rattle.schedule_certificate.proofs.planning.colour_all.Goals as goal
 
-pub colour_part-requires-after_bounds : goal.colour_part-requires-after_bounds
-colour_part-requires-after_bounds g c κs within = (rw (c.deref.ensures.value, c.in_ok-all.ensures) (all_part c.args.graph.now), tt)
+pub colour_copy-requires-after_bounds : goal.colour_copy-requires-after_bounds
+colour_copy-requires-after_bounds g c κs within = (rw (c.deref.ensures.value, c.in_ok-all.ensures) (all_part c.args.graph.now), tt)
 
 pub returns : goal.returns
 returns g c = all_coloured c.args.graph.now c.in_ok-table.table c.in_ok-coloured.coloured (rw (c.deref.ensures.value, c.in_ok-all.ensures) at c.in_ok-table.ensures) c.in_ok-coloured.ensures.classes c.in_ok-coloured.ensures.inserted c.in_ok-coloured.ensures.count c.in_ok-coloured.ensures.schedule
