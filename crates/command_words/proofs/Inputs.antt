@@ -2,8 +2,6 @@
 use Rattle.std.proofs.Common.{◌≡◌, ◌<◌, ◌+◌, ℕ, List, [], ◌∷◌, ◌++◌, length, take, get_or, sym, ap, ◌∙◌, subst, arith}
 use Rattle.std.specs.Prelude.{◌≢◌, All}
 use Rattle.std.proofs.lemmas.List.{take_more}
-use Rattle.std.proofs.lemmas.List.Elements.{All-cons}
-use Rattle.std.proofs.lemmas.List.Kept.{AllPairs-cons}
 use Rattle.std.proofs.lemmas.List.Quantifiers.{all_pairs_push}
 use Rattle.clap.specs.Words.{Text}
 use Rattle.command_words.specs.Jobs.{NameInputOnce, input_name}
@@ -11,12 +9,6 @@ use Rattle.command_words.specs.Jobs.{NameInputOnce, input_name}
 -- not both names stand for standard input
 abbrev pub NotBoth : Text → Text → Type 0
 NotBoth name later = name ≡ input_name → later ≢ input_name
-
-pub one_name : (a : Text) → NameInputOnce (a ∷ [])
-one_name a i j d before within = absurd (omega arith)
-
-pub two_names : (a b : Text) → NotBoth a b → NameInputOnce (a ∷ b ∷ [])
-two_names a b not = AllPairs-cons NotBoth a (b ∷ []) (All-cons (NotBoth a) b [] not (λ k d within. absurd (omega arith))) (one_name b)
 
 pub not_both : (a b : Text) → NameInputOnce (a ∷ b ∷ []) → NotBoth a b
 not_both a b once = once 0 1 a (omega arith) (omega arith)

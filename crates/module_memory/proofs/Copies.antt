@@ -1,5 +1,5 @@
 -- Copies of held blocks.
-use Rattle.std.proofs.Common.{zero, suc, ℕ, ◌≡◌, ◌≢◌, ◌<◌, ◌+◌, ◌⊎◌, inl, inr, List, [], ◌∷◌, length, get_or, set, replicate, refl, sym, ap, ◌∙◌, subst, arith, length-set, get_or-set_same, get_or-set_other}
+use Rattle.std.proofs.Common.{zero, suc, ℕ, ◌≡◌, ◌≢◌, ◌<◌, ◌+◌, ◌⊎◌, inl, inr, List, [], ◌∷◌, length, get_or, set, sym, ap, ◌∙◌, subst, arith, length-set, get_or-set_same, get_or-set_other}
 use Rattle.std.proofs.lemmas.Bool.{cases_eq}
 use Rattle.batch.specs.declared.transfer.Place.{Place}
 use Rattle.batch.specs.Places.{HasPlace, place_index}
@@ -29,18 +29,6 @@ pub record AreCopiesUpTo (s : Store) (held : List Place) (n : ℕ) (copies : Lis
   pub size : length copies ≡ length s.blocks
   pub copied : (k : ℕ) → k < n → copy_in s.shape copies (place_in held k) ≡ block_of s (place_in held k)
   pub others : (p : Place) → HasPlace s.shape p → ((k : ℕ) → k < n → place_in held k ≢ p) → copy_in s.shape copies p ≡ []
-
-none_in : (n k : ℕ) → get_or {A = List ℕ} (replicate n []) k [] ≡ []
-none_in zero k = refl
-none_in (suc n) zero = refl
-none_in (suc n) (suc k) = none_in n k
-
-pub copies_none : (s : Store) (held : List Place) (n : ℕ) (copies : List (List ℕ)) → copies ≡ replicate n [] → length copies ≡ length s.blocks → AreCopiesUpTo s held 0 copies
-copies_none s held n copies e long = record {
-  size = long;
-  copied = λ k l. absurd (omega arith);
-  others = λ p hp none. ap (λ (x : List (List ℕ)). copy_in s.shape x p) e ∙ none_in n (place_index s.shape p);
-}
 
 pub copies_more : (s : Store) (held : List Place) (n index : ℕ) (copies : List (List ℕ)) → IsWhole s → (p : Place) → p ≡ place_in held n → HasPlace s.shape p → ((k : ℕ) → k < n → HasPlace s.shape (place_in held k)) → index ≡ place_index s.shape p → AreCopiesUpTo s held n copies → AreCopiesUpTo s held (n + 1) (set copies index (block_of s p))
 copies_more s held n index copies whole p at hp before e h =
@@ -72,9 +60,3 @@ copies_whole s held copies whole h p hp =
       | inl f ↦ inr (ap (length {A = ℕ}) (subst (λ (q : Place). copy_in s.shape copies q ≡ block_of s q) f.2 (h.copied f.0 f.1)) ∙ block_length s p whole hp)
       | inr none ↦ inl (h.others p hp none)
     ]
-
-pub no_copies : (s : Store) (held : List Place) (copies : List (List ℕ)) → length held ≡ 0 → copies ≡ [] → AreCopies s held copies
-no_copies s held copies e f = record {
-  copied = λ k l. absurd (omega arith);
-  others = λ p hp none. ap (λ (x : List (List ℕ)). copy_in s.shape x p) f;
-}

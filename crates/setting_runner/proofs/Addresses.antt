@@ -4,9 +4,9 @@ use Rattle.batch.specs.Extent.{Extent}
 use Rattle.batch.specs.declared.transfer.Place.{Place}
 use Rattle.module_memory.specs.Lending.{BlockAt, Left, copy_of, found_in, with_word}
 use Rattle.module_memory.specs.Store.{block_of}
-use Rattle.module_memory.specs.declared.address.TheConstants.{HOLD_START, WINDOW_START, WORD_BYTES}
+use Rattle.module_memory.specs.declared.address.TheConstants.{HOLD_START, WORD_BYTES}
 use Rattle.module_memory.specs.Address.{address_from}
-use Rattle.module_memory.proofs.PartedSettings.{copy_first, else_block}
+use Rattle.module_memory.proofs.PartedSettings.{copy_first}
 use Rattle.peek_poke.specs.Blocks.{IsHeldStore, block_read, block_write, held_read, or_outside, WordsAreRead, WordsAreWritten}
 use Rattle.setting_runner.specs.Carried.{window_for, window_of}
 use Rattle.setting_runner.specs.Moves.{ReadsFound}
@@ -50,14 +50,3 @@ window_some (x ∷ xs) l = refl
 
 pub held_window : (rest : Left) (p : Place) (b : BlockAt) → IsHeldStore rest p b → window_of rest p ≡ HOLD_START
 held_window rest p b h = ap window_for (sym h.1.words_are) ∙ window_some b.words h.1.some
-
--- a store of a block that isn't held
-pub found_rest : (rest : Left) (p : Place) → copy_of rest p ≡ [] → found_in rest p ≡ block_of rest.store p
-found_rest rest p e = else_block (copy_of rest p) (block_of rest.store p) e
-
-pub rest_reads : WordsAreRead → (rest : Left) (p : Place) (b : BlockAt) → copy_of rest p ≡ [] → b ≡ record { place = p; words = block_of rest.store p } → length (found_in rest p) ≡ rest.store.shape.words → ReadsFound (block_read WINDOW_START b) WINDOW_START rest p
-rest_reads law rest p b e is long j l =
-    let block : BlockAt = record { place = p; words = block_of rest.store p } in
-    ap (λ (x : BlockAt). block_read WINDOW_START x (address_from WINDOW_START rest.store.shape p.block j)) is
-    ∙ law WINDOW_START rest.store.shape block j refl (ap (length {A = ℕ}) (sym (found_rest rest p e)) ∙ long) l
-    ∙ ap (λ (xs : List ℕ). reads (get_or xs j 0)) (sym (found_rest rest p e))

@@ -4,8 +4,7 @@ use Rattle.std.specs.Prelude.{All, AllPairs}
 use Rattle.std.proofs.lemmas.List.Elements.{All-cons, All-head}
 use Rattle.link_graph.proofs.Sums.{later, first_with}
 use Rattle.batch.specs.declared.transfer.Transfer.{Transfer}
-use Rattle.module_memory.specs.Store.{Store}
-use Rattle.module_memory.specs.Lending.{Left, found_in, BlockAt}
+use Rattle.module_memory.specs.Lending.{Left, BlockAt}
 use Rattle.setting_runner.specs.declared.outcome.StopCause.{StopCause}
 use Rattle.setting_runner.specs.declared.outcome.StopCause.TheVariants.{Port, SwitchDisagrees, Wire}
 use Rattle.setting_runner.specs.Answers.{IsSetFault}

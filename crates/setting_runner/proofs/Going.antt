@@ -8,7 +8,6 @@ use Rattle.batch.specs.Extent.{Extent}
 use Rattle.batch.specs.Places.{HasPlace, source_of, destination_of}
 use Rattle.batch.specs.Overlap.{transfer_at, source_at, destination_at}
 use Rattle.batch.specs.declared.transfer.Transfer.{Transfer}
-use Rattle.batch.specs.declared.transfer.Place.{Place}
 use Rattle.module_memory.specs.Store.{Store, block_of}
 use Rattle.module_memory.specs.Core.{AgreesAtSources, FitsIn, IsComplete, IsMovedFrom, IsReady, IsStepList, setting_of}
 use Rattle.module_memory.specs.Lending.{BlockAt, Left, found_in, bay_in, joined, Rejoins}

@@ -2,8 +2,7 @@
 use Rattle.std.proofs.Common.{◌≡◌, ◌<◌, ◌≤◌, ◌+◌, ℕ, zero, suc, List, [], ◌∷◌, ◌++◌, length, take, drop, get_or, refl, sym, ap, ap₂, ◌∙◌, arith, subst, add-one, append-nil}
 use Rattle.std.proofs.lemmas.List.{drop_all, take_all}
 use Rattle.batch.specs.declared.transfer.Transfer.{Transfer}
-use Rattle.module_memory.specs.Store.{Store}
-use Rattle.module_memory.specs.Lending.{Left, found_in, BlockAt}
+use Rattle.module_memory.specs.Lending.{Left, BlockAt}
 use Rattle.setting_runner.specs.Moves.{IsMovable, AreMovable, HasMoved, HaveMoved, none_sure, all_moved, AllWhole}
 
 pub HaveMoved-append : (sure : ℕ → Type 0) (rest : Left) (batch : List Transfer) (ts us : List ℕ) (os ps ns qs : List BlockAt) (ms ws : List (ℕ × ℕ)) → HaveMoved sure rest batch ts os ns ms → HaveMoved sure rest batch us ps qs ws → HaveMoved sure rest batch (ts ++ us) (os ++ ps) (ns ++ qs) (ms ++ ws)

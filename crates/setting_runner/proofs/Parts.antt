@@ -7,7 +7,6 @@ use Rattle.batch.specs.declared.transfer.Transfer.{Transfer}
 use Rattle.batch.specs.declared.transfer.Place.{Place}
 use Rattle.batch.specs.Places.{source_of}
 use Rattle.batch.specs.Overlap.{transfer_at, source_at}
-use Rattle.module_memory.specs.Store.{Store, block_of}
 use Rattle.module_memory.specs.Core.{setting_of}
 use Rattle.module_memory.specs.Lending.{Left, found_in, BlockAt, bay_in}
 use Rattle.module_memory.specs.Bays.{AreFilled}

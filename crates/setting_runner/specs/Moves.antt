@@ -5,7 +5,6 @@ use Rattle.batch.specs.declared.transfer.Transfer.{Transfer}
 use Rattle.batch.specs.declared.transfer.Place.{Place}
 use Rattle.batch.specs.Places.{HasPlace}
 use Rattle.batch.specs.Overlap.{source_at, destination_at}
-use Rattle.module_memory.specs.Store.{Store}
 use Rattle.module_memory.specs.Address.{address_from}
 use Rattle.peek_poke.specs.declared.fault.StoreFault.{StoreFault}
 use Rattle.module_memory.specs.Lending.{Left, BlockAt, found_in}

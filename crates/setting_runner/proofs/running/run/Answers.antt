@@ -1,14 +1,13 @@
-use Rattle.std.proofs.Common.{inl, inr, ◌≡◌, ◌<◌, List, length, rules, arith, refl, sym, ap, ◌∙◌, subst}
+use Rattle.std.proofs.Common.{inl, inr, ◌≡◌, List, length, rules, arith, refl, sym, ap, ◌∙◌, subst}
 use Rattle.std.specs.List.{concat}
 use Rattle.std.proofs.lemmas.Bool.{false≢true}
 use Rattle.std.proofs.lemmas.List.{length-map}
 use Rattle.batch.specs.Extent.{Extent}
 use Rattle.batch.specs.Overlap.{IsApart, IsFirstOverlap, destination_at}
-use Rattle.batch.specs.Places.{HasPlace}
 use Rattle.batch.specs.declared.transfer.Place.{Place}
 use Rattle.batch.specs.declared.transfer.Transfer.{Transfer}
 use Rattle.module_memory.specs.Core.{FitsIn, IsReady}
-use Rattle.module_memory.specs.Lending.{AreLendable, BlockAt, ExistBefore, Left, bays_of, found_in, joined, place_in, without}
+use Rattle.module_memory.specs.Lending.{AreLendable, BlockAt, bays_of, found_in, joined, without}
 use Rattle.module_memory.specs.Store.{Store}
 use Rattle.module_memory.proofs.PartLaws.{shape-without}
 use Rattle.module_memory.proofs.PartedSettings.{sources_are_found}
