@@ -1,4 +1,5 @@
-//! What the commands say of themselves. Where a text names a limit, a test holds it to the constant.
+//! What the commands say of themselves. Where a text names a limit of batches, racks or workers, a test holds it to the constant.
+//! How many modules one switch joins is of the chip, which no test of this crate knows.
 
 /// What `plan --help` says below its options.
 pub const PLAN_NOTES: &str = "\

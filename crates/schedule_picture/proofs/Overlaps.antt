@@ -11,16 +11,17 @@ use Rattle.link_graph.specs.declared.link.Link.{Link}
 use Rattle.link_graph.specs.Counts.{count_below, module_at}
 use Rattle.link_graph.specs.Uses.{Uses, IsMatching}
 use Rattle.link_graph.specs.Schedules.{IsScheduleOf}
-use Rattle.schedule_picture.specs.declared.layout.TheConstants.{TOP, COLUMN, ROW, HALF}
+use Rattle.schedule_picture.specs.declared.layout.TheConstants.{TOP, ROW, INSET, CELL_WIDTH, CELL_HEIGHT}
 use Rattle.schedule_picture.specs.Places.{takes_part, row_of, row_place, half_place, column_place}
+use Rattle.schedule_picture.specs.Cells.{cell_left}
 use Rattle.schedule_picture.specs.RowsText.{link_of}
 use Rattle.schedule_picture.specs.Laws.{Stands, NothingOverlaps}
 
-same_column : (k l : ℕ) → column_place k < column_place l + COLUMN → column_place l < column_place k + COLUMN → k ≡ l
+same_column : (k l : ℕ) → cell_left k < cell_left l + CELL_WIDTH → cell_left l < cell_left k + CELL_WIDTH → k ≡ l
 unfolding column_place
 same_column k l one other = omega arith
 
-same_half : (r s : ℕ) (e f : End) → TOP + r * ROW + half_place e < TOP + s * ROW + half_place f + HALF → TOP + s * ROW + half_place f < TOP + r * ROW + half_place e + HALF → (r ≡ s) × (e ≡ f)
+same_half : (r s : ℕ) (e f : End) → TOP + r * ROW + half_place e + INSET < TOP + s * ROW + half_place f + INSET + CELL_HEIGHT → TOP + s * ROW + half_place f + INSET < TOP + r * ROW + half_place e + INSET + CELL_HEIGHT → (r ≡ s) × (e ≡ f)
 same_half r s Zero Zero one other = (omega arith, refl)
 same_half r s Zero Three one other = absurd (omega arith)
 same_half r s Three Zero one other = absurd (omega arith)
@@ -30,7 +31,7 @@ step_up : (p : ℕ → Bool) (n : ℕ) → p n ≡ true → count_below (suc n) 
 step_up p n up = rw up refl
 
 -- a module that takes part has its row before those of all later ones
-rows_grow : (p : ℕ → Bool) (m n : ℕ) → m < n → p m ≡ true → count_below m p < count_below n p
+pub rows_grow : (p : ℕ → Bool) (m n : ℕ) → m < n → p m ≡ true → count_below m p < count_below n p
 rows_grow p m zero lt up = absurd (omega arith)
 rows_grow p m (suc n) lt up = elim (cases_eq m n) [
   | inl e ↦ omega (arith, step_up p n (ap p (sym e) ∙ up), ap (λ (i : ℕ). count_below i p) e)
@@ -54,7 +55,7 @@ touches : (x : Transfer) (e : End) → (x.initiator == module_at e x || x.respon
 touches x Zero = rw (eq-eqb x.initiator x.initiator refl) refl
 touches x Three = ap (λ (b : Bool). x.initiator == x.responder || b) (eq-eqb x.responder x.responder refl) ∙ or_true (x.initiator == x.responder)
 
-has_row : (batch : List Transfer) (t : ℕ) (x : Transfer) (e : End) → slice_get batch t ≡ Some x → takes_part batch (module_at e x) ≡ true
+pub has_row : (batch : List Transfer) (t : ℕ) (x : Transfer) (e : End) → slice_get batch t ≡ Some x → takes_part batch (module_at e x) ≡ true
 has_row batch t x e at =
     let test = λ (y : Transfer). y.initiator == module_at e x || y.responder == module_at e x in
     list_any_at test batch t x (slice_get_within batch t x at) (ap test (get_or_from_slice_get batch t x x at) ∙ touches x e)

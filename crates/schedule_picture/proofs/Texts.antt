@@ -1,11 +1,9 @@
 -- What calls that put something at the end of a text put there together.
-use Rattle.std.proofs.Common.{◌≡◌, ℕ, ◌+◌, ◌<◌, List, [], length, get_or, take, ◌∷◌, ◌++◌, sym, ap, ◌∙◌, append_assoc, arith, Result, Ok, Err}
+use Rattle.std.proofs.Common.{◌≡◌, ℕ, ◌+◌, ◌<◌, List, length, get_or, take, ◌++◌, sym, ap, ◌∙◌, append_assoc, Result, Ok, Err}
 use Rattle.std.specs.Prelude.{OnOk, is_ok, if◌then◌else◌}
 use Rattle.std.proofs.lemmas.Result.{on_ok_weaker}
-use Rattle.std.specs.List.{flat_map, range_with_len}
+use Rattle.std.specs.List.{flat_map}
 use Rattle.std.proofs.lemmas.List.{flat_map_more, take_more}
-use Rattle.std.proofs.lemmas.List.FromFn.{map-range_with_len_more}
-use mathlib.Core.List.{map-id}
 
 -- two parts, one behind the other
 next : (a b c x y : List ℕ) → b ≡ a ++ x → c ≡ b ++ y → c ≡ a ++ (x ++ y)
@@ -39,14 +37,6 @@ five r a b c d e f x y v w u z p q = four r a c d e f (x ++ y) v w u z (next a b
 pub put : {T E : Type 0} (r : Result T E) (s x y : List ℕ) → s ≡ (if is_ok r then x else y) → OnOk r (s ≡ x)
 put (Ok v) s x y e = e
 put (Err v) s x y e = tt
-
--- one more number
-range_more : (n : ℕ) → range_with_len 0 (n + 1) ≡ range_with_len 0 n ++ n ∷ []
-range_more n = sym (map-id (range_with_len 0 (n + 1))) ∙ map-range_with_len_more (λ (k : ℕ). k) 0 n n (omega arith) ∙ ap (λ (xs : List ℕ). xs ++ n ∷ []) (map-id (range_with_len 0 n))
-
--- one more part of a text
-pub more_parts : (f : ℕ → List ℕ) (before : List ℕ) (i : ℕ) → (before ++ flat_map f (range_with_len 0 i)) ++ f i ≡ before ++ flat_map f (range_with_len 0 (i + 1))
-more_parts f before i = flat_map_more f before (range_with_len 0 i) i ∙ ap (λ (x : List ℕ). before ++ flat_map f x) (sym (range_more i))
 
 -- one more part, for one more of a list
 pub more_items : (f : ℕ → List ℕ) (before xs : List ℕ) (i : ℕ) → i < length xs → (before ++ flat_map f (take i xs)) ++ f (get_or xs i 0) ≡ before ++ flat_map f (take (i + 1) xs)

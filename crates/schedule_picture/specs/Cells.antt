@@ -11,7 +11,7 @@ use Rattle.link_graph.specs.declared.link.End.{End}
 use Rattle.link_graph.specs.declared.link.End.TheVariants.{Zero, Three}
 use Rattle.link_graph.specs.Links.{other_end}
 use Rattle.link_graph.specs.Counts.{module_at}
-use Rattle.schedule_picture.specs.declared.layout.TheConstants.{TOP}
+use Rattle.schedule_picture.specs.declared.layout.TheConstants.{TOP, INSET, CELL_WIDTH, CELL_HEIGHT}
 use Rattle.schedule_picture.specs.Places.{row_place, half_place, column_place}
 use Rattle.schedule_picture.specs.Elements.{coloured_box, text_start}
 
@@ -36,9 +36,17 @@ arrow_of Push Three = from_partner
 arrow_of Pull Zero = from_partner
 arrow_of Pull Three = to_partner
 
--- where the cell at an end of a transfer stands, from the top
-abbrev pub cell_place : List Transfer → Transfer → End → ℕ
-cell_place batch x end = row_place batch (module_at end x) + half_place end
+-- where the half of a row stands that is for an end of a transfer, from the top
+abbrev pub half_top : List Transfer → Transfer → End → ℕ
+half_top batch x end = row_place batch (module_at end x) + half_place end
+
+-- where the cells of setting k begin, from the left
+abbrev pub cell_left : ℕ → ℕ
+cell_left k = column_place k + INSET
+
+-- where the cell at an end of a transfer begins, from the top
+abbrev pub cell_top : List Transfer → Transfer → End → ℕ
+cell_top batch x end = half_top batch x end + INSET
 
 -- the module at the other end
 abbrev pub partner_of : Transfer → End → ℕ
@@ -47,8 +55,8 @@ partner_of x end = module_at (other_end end) x
 -- the cell at an end of transfer t, in the column of setting k
 unfoldable pub cell_text : List Transfer → ℕ → ℕ → Transfer → End → List ℕ
 cell_text batch k t x end = title_text t x
-    ++ coloured_box (partner_of x end) (column_place k + 2) (cell_place batch x end + 2) 28 16
-    ++ text_start (column_place k + 16) (cell_place batch x end + 14) ++ arrow_of x.kind end ++ decimal (partner_of x end) ++ codes "</text></g>\n"
+    ++ coloured_box (partner_of x end) (cell_left k) (cell_top batch x end) CELL_WIDTH CELL_HEIGHT
+    ++ text_start (column_place k + 16) (half_top batch x end + 14) ++ arrow_of x.kind end ++ decimal (partner_of x end) ++ codes "</text></g>\n"
 
 -- both cells of transfer t
 unfoldable pub transfer_cells : List Transfer → ℕ → ℕ → List ℕ

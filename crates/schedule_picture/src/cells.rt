@@ -8,7 +8,7 @@ ghost use Rattle.schedule_picture.specs.Elements.{Adds};
 ghost use Rattle.schedule_picture.specs.Cells.{word_of, arrow_of, title_text, cell_text, transfer_cells, column_text};
 
 use crate::elements::{push_coloured, push_text_start};
-use crate::layout::{TOP, column_left, half_below};
+use crate::layout::{CELL_HEIGHT, CELL_WIDTH, INSET, TOP, column_left, half_below};
 use crate::rows::Rows;
 use batch::{Kind, MAX_MODULES, MAX_TRANSFERS, Transfer};
 use link_graph::End;
@@ -75,7 +75,14 @@ fn push_cell(
     let left = column_left(setting);
     let top = rows.top(module_at(end, transfer)) + half_below(end);
     push_title(text, number, transfer)?;
-    push_coloured(text, partner, left + 2, top + 2, 28, 16)?;
+    push_coloured(
+        text,
+        partner,
+        left + INSET,
+        top + INSET,
+        CELL_WIDTH,
+        CELL_HEIGHT,
+    )?;
     push_text_start(text, left + 16, top + 14)?;
     text.push_str(arrow(transfer.kind, end))?;
     write!(text, "{partner}</text></g>\n")

@@ -29,6 +29,15 @@ pub const ROW: usize = 48;
 /// The height of one half of a row.
 pub const HALF: usize = 20;
 
+/// How far a cell stands from the left side of its column, and from the top of its half of a row.
+pub const INSET: usize = 2;
+
+/// The width of a cell.
+pub const CELL_WIDTH: usize = 28;
+
+/// The height of a cell.
+pub const CELL_HEIGHT: usize = 16;
+
 /// The height of what stands below the rows.
 pub const LEGEND: usize = 112;
 

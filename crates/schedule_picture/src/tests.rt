@@ -7,7 +7,7 @@ ghost use Rattle.std.specs.Prelude.{false};
 ghost use Rattle.batch.specs.declared.transfer.Kind.TheVariants.{Pull, Push};
 
 use crate::draw;
-use crate::style::STYLE;
+use crate::style::{EXPLAINED, STYLE};
 use batch::{Batch, MAX_MODULES, Shape};
 use link_graph::{Schedule, check_schedule};
 use std::alloc::{AllocError, Global};
@@ -193,6 +193,28 @@ fn all_modules(rt: HostRuntime) -> Result<(), Fail> {
             "<title>transfer 31: push 31 0 31 1</title><rect class='m31' x='146' y='1598'"
         )
     );
+    Ok(())
+}
+
+/// Whether the legend, or the looks of the parts, have this.
+fn explains(part: &str) -> bool {
+    EXPLAINED.contains(part) || STYLE.contains(part)
+}
+
+/// The legend says where the words of a cell go, what the frame means, and which link is above.
+#[test]
+fn legend_tells_what_is_drawn(rt: HostRuntime) -> Result<(), Fail> {
+    for part in [
+        "<text x='16' y='22'>&#8594;1</text><text class='note' x='44' y='22'>The words go to module \
+         1 (&#8592;1: they come from there). A cell has its partner's colour",
+        "<g class='busiest'><rect y='36' width='32' height='20'/></g>",
+        "<text class='note' x='44' y='50'>Framed: the busiest link. ",
+        "link 0 above starts transfers, and link 3 below answers them.",
+        "Columns are settings of the switch. ",
+        ".lane rect{fill:#eee}\n.lane text{fill:#595959}\n.busiest rect{fill:#000}\n.busiest text{font-weight:bold}\n",
+    ] {
+        assert!(rt; explains(part), "{part}");
+    }
     Ok(())
 }
 

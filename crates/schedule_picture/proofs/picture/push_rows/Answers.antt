@@ -3,7 +3,7 @@ use Rattle.std.specs.List.{flat_map, range_with_len}
 use Rattle.schedule_picture.specs.RowsText.{row_text}
 use Rattle.schedule_picture.specs.Picture.{rows_text}
 use Rattle.schedule_picture.proofs.Table.{all_modules}
-use Rattle.schedule_picture.proofs.Texts.{more_parts}
+use Rattle.batch.proofs.Lists.{more_parts}
 use Rattle.schedule_picture.proofs.picture.push_rows.Goals as goal
 
 pub loop-module-preserved : goal.loop-module-preserved

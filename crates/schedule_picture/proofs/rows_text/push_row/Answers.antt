@@ -1,6 +1,6 @@
 use Rattle.std.proofs.Common.{◌++◌, ap, ◌∙◌, List, ℕ, string_bytes}
 use Rattle.schedule_picture.specs.RowsText.{part_text}
-use Rattle.schedule_picture.proofs.Texts.{more_parts}
+use Rattle.batch.proofs.Lists.{more_parts}
 use Rattle.schedule_picture.proofs.rows_text.push_row.Goals as goal
 
 pub loop-panel-preserved : goal.loop-panel-preserved

@@ -1,0 +1,52 @@
+-- Each cell stands beside the labels, within the width, and above the legend.
+use Rattle.std.proofs.Common.{◌≡◌, ℕ, ◌+◌, ◌*◌, ◌/◌, ◌<◌, ◌≤◌, List, length, Some, slice_get, subst, arith}
+use Rattle.std.proofs.Math.Nat.{le-max_right}
+use Rattle.std.proofs.lemmas.Option.{slice_get_within, get_or_from_slice_get}
+use Rattle.batch.specs.declared.transfer.Transfer.{Transfer}
+use Rattle.batch.specs.Batches.{IsBatch}
+use Rattle.batch.specs.Extent.{widest}
+use Rattle.batch.specs.Text.{HasModules, IsWithin}
+use Rattle.link_graph.specs.declared.link.End.{End}
+use Rattle.link_graph.specs.declared.link.End.TheVariants.{Zero, Three}
+use Rattle.link_graph.specs.Counts.{module_at}
+use Rattle.schedule_picture.specs.declared.layout.TheConstants.{MARGIN, PANEL, LABELS, COLUMN, CELL_WIDTH, HALF, LEAST}
+use Rattle.schedule_picture.specs.Places.{takes_part, half_place, rack_modules, column_place, panels_of, panel_place, width_of, row_place, legend_place}
+use Rattle.schedule_picture.specs.Cells.{cell_left}
+use Rattle.schedule_picture.specs.Laws.{AllIsInView}
+use Rattle.schedule_picture.proofs.Overlaps.{rows_grow, has_row}
+
+behind : (k : ℕ) → panel_place (k / PANEL) + LABELS ≤ cell_left k
+unfolding panel_place column_place
+behind k = omega arith
+
+before : (k : ℕ) → cell_left k + CELL_WIDTH ≤ panel_place (k / PANEL + 1)
+unfolding panel_place column_place
+before k = omega arith
+
+within : (k settings : ℕ) → k < settings → cell_left k + CELL_WIDTH ≤ width_of settings
+unfolding column_place width_of
+within k settings lt = omega (arith, le-max_right LEAST (2 * MARGIN + panels_of settings * LABELS + settings * COLUMN))
+
+half_below : (e : End) → half_place e ≤ HALF
+half_below Zero = omega arith
+half_below Three = omega arith
+
+has_modules : (batch : List Transfer) (t : ℕ) (x : Transfer) → IsBatch batch → slice_get batch t ≡ Some x → HasModules widest x
+has_modules batch t x b at = (subst (IsWithin widest) (get_or_from_slice_get batch t x x at) (b.within t x (slice_get_within batch t x at))).0
+
+in_rack : (batch : List Transfer) (t : ℕ) (x : Transfer) (e : End) → IsBatch batch → slice_get batch t ≡ Some x → module_at e x < rack_modules
+unfolding rack_modules
+in_rack batch t x Zero b at = omega (arith, (has_modules batch t x b at).0)
+in_rack batch t x Three b at = omega (arith, (has_modules batch t x b at).1)
+
+pub in_view : AllIsInView
+unfolding row_place legend_place
+in_view batch settings b k i x e s =
+    let grows = rows_grow (takes_part batch) (module_at e x) rack_modules (in_rack batch s.number x e b s.in_batch) (has_row batch s.number x e s.in_batch) in
+    record {
+      behind_labels = behind k;
+      before_labels = before k;
+      within_width = within k (length settings) (slice_get_within settings k s.setting s.in_schedule);
+      below_top = omega arith;
+      above_legend = omega (arith, grows, half_below e);
+    }
