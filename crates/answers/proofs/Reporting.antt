@@ -1,10 +1,7 @@
 -- The lines of a report, one more at a time.
-use Rattle.std.proofs.Common.{◌≡◌, ℕ, ◌<◌, ◌+◌, ◌^◌, Bool, true, false, List, [], ◌∷◌, ◌++◌, length, get_or, slice_get, Some, refl, sym, ap, ◌∙◌, take, ◌==◌, ◌&&◌, ◌-◌, replicate, codes, arith}
+use Rattle.std.proofs.Common.{◌≡◌, ℕ, ◌<◌, ◌+◌, ◌^◌, Bool, true, false, List, [], ◌++◌, length, get_or, slice_get, Some, refl, sym, ap, ◌∙◌, take, ◌==◌, ◌&&◌, ◌-◌, replicate, codes, arith}
 use Rattle.std.specs.Fmt.{digits, padded_integral, char_count, format_spec}
-use Rattle.std.specs.List.{flat_map, range_with_len}
 use Rattle.std.proofs.lemmas.List.{take_more, flat_map_more, append-nil}
-use Rattle.std.proofs.lemmas.List.FromFn.{map-range_with_len_more}
-use mathlib.Core.List.{map-id}
 use Rattle.std.proofs.lemmas.List.Folds.{list_any_at, list_any_more}
 use Rattle.std.proofs.lemmas.Option.{get_or_from_slice_get}
 use Rattle.batch.specs.declared.transfer.Place.{Place}
@@ -29,14 +26,6 @@ hex8_is word fits = append_nil_at (digits 16 false word) ∙ padded_is word fits
 pub more_words : (before : List ℕ) (words : List ℕ) (i : ℕ) → i < length words → (before ++ words_text (take i words)) ++ (codes " " ++ hex8 (get_or words i 0)) ≡ before ++ words_text (take (i + 1) words)
 more_words before words i below =
     flat_map_more (λ word. codes " " ++ hex8 word) before (take i words) (get_or words i 0) ∙ ap (λ (x : List ℕ). before ++ words_text x) (sym (take_more words i 0 below))
-
--- one more number
-range_more : (n : ℕ) → range_with_len 0 (n + 1) ≡ range_with_len 0 n ++ n ∷ []
-range_more n = sym (map-id (range_with_len 0 (n + 1))) ∙ map-range_with_len_more (λ (k : ℕ). k) 0 n n (omega arith) ∙ ap (λ (xs : List ℕ). xs ++ n ∷ []) (map-id (range_with_len 0 n))
-
--- one more part of a text
-pub more_parts : (f : ℕ → List ℕ) (before : List ℕ) (i : ℕ) → (before ++ flat_map f (range_with_len 0 i)) ++ f i ≡ before ++ flat_map f (range_with_len 0 (i + 1))
-more_parts f before i = flat_map_more f before (range_with_len 0 i) i ∙ ap (λ (x : List ℕ). before ++ flat_map f x) (sym (range_more i))
 
 -- the transfer writes the block
 abbrev pub writes_there : Place → Transfer → Bool

@@ -20,7 +20,7 @@ use Rattle.setting_runner.specs.Sending.{in_order, pairs_at, standing_before}
 use Rattle.line_words.specs.HexWords.{hex2}
 use Rattle.line_words.proofs.Padded.{padded_byte}
 use Rattle.answers.specs.Switching.{is_far, is_wide, joined_by, bytes_text, lines_for, setting_lines}
-use Rattle.answers.proofs.Reporting.{more_parts}
+use Rattle.batch.proofs.Lists.{more_parts}
 
 -- the fill on both sides, of which there is none behind the digits
 append_nil_at : (ds : List ℕ) → replicate (2 - length ds - 0 - 0) 48 ++ (ds ++ []) ≡ replicate (2 - length ds) 48 ++ ds

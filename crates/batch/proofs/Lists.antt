@@ -1,12 +1,14 @@
 -- Lists of numbers, whatever they count: for the proofs of this crate and of those above it.
 use Rattle.std.proofs.Common.{◌≡◌, ◌≢◌, ℕ, zero, suc, ◌+◌, ◌<◌, ◌⊎◌, inl, inr, cond, List, [], ◌∷◌, ◌++◌, length, map, get_or, set, take, refl, sym, ap, ◌∙◌, arith}
 use Rattle.std.specs.Prelude.{Contains, count_by, sum_by, ◌==◌}
-use Rattle.std.specs.List.{concat}
+use Rattle.std.specs.List.{concat, flat_map, range_with_len}
 use Rattle.std.specs.Global.{Vec}
 use Rattle.std.proofs.lemmas.Bool.Decides.{eqb_tells}
-use Rattle.std.proofs.lemmas.List.{append-nil, map-set, map_push, take_more, get_or-map}
+use Rattle.std.proofs.lemmas.List.{append-nil, flat_map_more, map-set, map_push, take_more, get_or-map}
 use Rattle.std.proofs.lemmas.List.Folds.{concat-append}
+use Rattle.std.proofs.lemmas.List.FromFn.{map-range_with_len_more}
 use Rattle.std.proofs.lemmas.List.Sums.{sum_by-set, sum_by_push}
+use mathlib.Core.List.{map-id}
 
 -- what stands in a list is its first, or stands behind it
 pub at_cons : {X : Type 0} (x t : X) (xs : List X) → Contains (x ∷ xs) t → (x ≡ t) ⊎ Contains xs t
@@ -17,6 +19,15 @@ at_cons x t xs (suc k, lt, at) = inr (k, omega arith, at)
 pub concat_more : (lists : List (List ℕ)) (k : ℕ) → k < length lists → concat (take (k + 1) lists) ≡ concat (take k lists) ++ get_or lists k []
 concat_more lists k lt =
     ap concat (take_more lists k [] lt) ∙ concat-append (take k lists) (get_or lists k [] ∷ []) ∙ ap (λ (xs : List ℕ). concat (take k lists) ++ xs) (append-nil (get_or lists k []))
+
+-- ---- lists of numbered parts, one behind the other
+
+range_more : (n : ℕ) → range_with_len 0 (n + 1) ≡ range_with_len 0 n ++ n ∷ []
+range_more n = sym (map-id (range_with_len 0 (n + 1))) ∙ map-range_with_len_more (λ (k : ℕ). k) 0 n n (omega arith) ∙ ap (λ (xs : List ℕ). xs ++ n ∷ []) (map-id (range_with_len 0 n))
+
+-- one part more
+pub more_parts : (f : ℕ → List ℕ) (before : List ℕ) (i : ℕ) → (before ++ flat_map f (range_with_len 0 i)) ++ f i ≡ before ++ flat_map f (range_with_len 0 (i + 1))
+more_parts f before i = flat_map_more f before (range_with_len 0 i) i ∙ ap (λ (x : List ℕ). before ++ flat_map f x) (sym (range_more i))
 
 -- ---- how often a number stands, after one was put at an end
 

@@ -1,6 +1,6 @@
 use Rattle.std.proofs.Common.{◌++◌, ap, ◌∙◌, List, ℕ, string_bytes}
 use Rattle.answers.specs.Reports.{block_text}
-use Rattle.answers.proofs.Reporting.{more_parts}
+use Rattle.batch.proofs.Lists.{more_parts}
 use Rattle.answers.proofs.report.push_module.Goals as goal
 
 pub loop-block-preserved : goal.loop-block-preserved

@@ -1,6 +1,6 @@
 use Rattle.std.proofs.Common.{◌++◌, ap, ◌∙◌, List, ℕ, string_bytes, rules}
 use Rattle.answers.specs.Reports.{module_text}
-use Rattle.answers.proofs.Reporting.{more_parts}
+use Rattle.batch.proofs.Lists.{more_parts}
 use Rattle.answers.proofs.report.report.Goals as goal
 
 pub loop-module-preserved : goal.loop-module-preserved
