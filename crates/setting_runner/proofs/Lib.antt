@@ -14,3 +14,4 @@ pub mod Going
 pub mod Joined
 pub mod InOrder
 pub mod Starting
+pub mod Turning

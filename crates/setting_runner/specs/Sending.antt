@@ -1,12 +1,15 @@
 -- What the switches of a rack are sent, setting by setting. Which commands these are is this project's choice.
-use Rattle.std.specs.Prelude.{◌==◌, ℕ, zero, suc, List, filter, Option, Some, None}
+use Rattle.std.specs.Prelude.{◌≡◌, ◌<◌, ◌≤◌, ◌+◌, ◌==◌, ℕ, zero, suc, List, length, filter, Option, Some, None}
 use Rattle.std.specs.List.{flat_map, range_with_len}
 use Rattle.batch.specs.declared.limits.TheConstants.{MAX_MODULES}
+use Rattle.batch.specs.Extent.{Extent}
 use Rattle.c004_commands.specs.declared.command.Command.{Command}
-use Rattle.crossbar.specs.Pairs.{setting, change}
+use Rattle.crossbar.specs.Pairs.{room_of, switch_of, setting, change}
+use Rattle.crossbar.specs.Switch.{Switch, after_all}
 use Rattle.crossbar.specs.declared.chip.Wiring.{Wiring}
 use Rattle.crossbar.specs.declared.pair.Pair.{Pair}
-use Rattle.schedule_certificate.specs.Plans.{Plan}
+use Rattle.module_memory.specs.Core.{FitsIn}
+use Rattle.schedule_certificate.specs.Plans.{Plan, IsPlan}
 use Rattle.setting_runner.specs.Runs.{numbers_of, setting_pairs}
 
 -- the pairs that a module starts
@@ -30,3 +33,17 @@ pairs_at plan k = in_order (setting_pairs plan.batch (numbers_of plan k))
 abbrev pub standing_before : Plan → ℕ → Option (List Pair)
 standing_before plan zero = None
 standing_before plan (suc k) = Some (pairs_at plan k)
+
+-- what a switch is sent for a setting of a plan
+abbrev pub sent_for : Wiring → Plan → ℕ → List Command
+sent_for wiring plan k = turning wiring (standing_before plan k) (pairs_at plan k)
+
+-- what it is sent for the first settings of a plan, so many of them
+abbrev pub sent_for_first : Wiring → Plan → ℕ → List Command
+sent_for_first wiring plan count = flat_map (sent_for wiring plan) (range_with_len 0 count)
+
+-- Behind what is sent up to a setting of a plan, a switch to which all of a rack's modules can be wired joins just what the setting's transfers want
+-- joined, whatever it was before.
+abbrev pub PlansTurn : Type 0
+PlansTurn = (plan : Plan) (shape : Extent) (wiring : Wiring) (switch : Switch) (k : ℕ) → IsPlan plan → FitsIn shape plan.batch → shape.modules ≤ room_of wiring → k < length plan.settings
+    → after_all (sent_for_first wiring plan (k + 1)) switch ≡ switch_of wiring (setting_pairs plan.batch (numbers_of plan k))

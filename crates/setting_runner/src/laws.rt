@@ -1,7 +1,8 @@
-//! Laws of what a notice is told. They make no call.
+//! Laws of what a notice is told, and of what switches are sent. They make no call.
 
 ghost use Rattle.std.specs.Prelude.{◌≡◌, Bool, true, ℕ, suc};
 ghost use Rattle.setting_runner.specs.Runs.{Told};
+ghost use Rattle.setting_runner.specs.Sending.{PlansTurn};
 
 use crate::notice::Notice;
 
@@ -14,4 +15,10 @@ pub fn told<N: Notice>()
         ((b c : N) (k : ℕ) → holds b k ≡ true → N.hears b (suc k) c → holds c (suc k) ≡ true) →
         (b : N) (k : ℕ) → Told N.hears a k b → holds b k ≡ true }
     ensures last { (a b : N) (k : ℕ) → Told N.hears a k b → (m : N) × N.hears m k b }
+{}
+
+/// What a switch is sent for the first settings of a plan, one after the other, turns it into that of the last of
+/// these settings, whatever it was. What each command does is the INMOS IMS C004 data sheet's.
+pub fn plans_turn()
+    ensures { PlansTurn }
 {}
