@@ -1,5 +1,5 @@
-//! What the commands say of themselves. Where a text names a limit of batches, racks or workers, a test holds it to the constant.
-//! How many modules one switch joins is of the chip, which no test of this crate knows.
+//! What the commands say of themselves. Where a text names a limit of batches, racks or workers, a test holds it to the
+//! constant; how many modules one switch joins is of the chip, and a test holds the words.
 
 /// What `plan --help` says below its options.
 pub const PLAN_NOTES: &str = "\
@@ -88,6 +88,7 @@ m on link m of each, and each setting has two lines:
   setting S b ..    the switch of the way back
 A run has two switches where its rack has more than 16 modules, whatever BATCH
 names. Behind each setting it also enquires all outputs, which isn't told here.
+Whether two transfers write one block, which a run refuses, isn't looked at.
 
 Else it is the first of these that is wrong:
   refused file   BATCH can't be read

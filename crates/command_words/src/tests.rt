@@ -1,4 +1,6 @@
-use crate::help::{CHECK_NOTES, PLAN_NOTES, RUN_NOTES, SERVE_NOTES, SWITCH_NOTES, WORKERS_HELP};
+use crate::help::{
+    CHECK_NOTES, DRAW_NOTES, PLAN_NOTES, RUN_NOTES, SERVE_NOTES, SWITCH_NOTES, WORKERS_HELP,
+};
 use crate::limits::MAX_SCRIPTS;
 use crate::text_list::TextList;
 use crate::words::{Job, WordsFault, read_words};
@@ -270,6 +272,26 @@ fn script_limits_in_help(rt: HostRuntime) -> Result<(), Fail> {
     assert!(rt; says(SERVE_NOTES, scripts)?);
     assert!(rt; says(SERVE_NOTES, format!(in alloc; "N up to {MAX_TRANSFERS}: "))?);
     Ok(())
+}
+
+/// The help of `switch` says which link is where, and that of `draw` which half and which arrow is what.
+#[test]
+fn signs_in_help(rt: HostRuntime) {
+    for phrase in [
+        "\nLink 0 of module m is on link m of the switch, and link 3 on link 16+m. Where\n\
+         BATCH names a module above 15, there are two switches,",
+        "  setting S a ..    the switch of the way from link 0 to link 3\n",
+        "  setting S b ..    the switch of the way back\n",
+        "rack has more than 16 modules, whatever BATCH\n",
+    ] {
+        assert!(rt; SWITCH_NOTES.contains(phrase), "{phrase}");
+    }
+    for phrase in [
+        "The upper half\nof a row shows the transfers that link 0 of the module starts,",
+        "an arrow to the right where words go there, or to the left\n",
+    ] {
+        assert!(rt; DRAW_NOTES.contains(phrase), "{phrase}");
+    }
 }
 
 /// The refusals that a command has stand in its help in the order in which they are looked for.

@@ -238,7 +238,7 @@ fn with_command<'a>(
 fn top<'a>(alloc: Global) -> Command<'a>
     ensures { IsCommand top result }
 {
-    let about = "Plans block transfers between transputer modules that one C004 crossbar joins";
+    let about = "Plans block transfers between transputer modules that C004 crossbars join";
     command(alloc, "exchange", about, TOP_NOTES)
         .version(VERSION)
         .subcommand_required(true)

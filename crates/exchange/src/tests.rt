@@ -479,7 +479,7 @@ fn help_is_an_answer(rt: HostRuntime) -> Result<(), Fail> {
 #[test]
 fn version_is_an_answer(rt: HostRuntime) -> Result<(), Fail> {
     let line = format!(in rt.alloc(); "exchange {VERSION}\n")?;
-    assert!(rt; line.as_str().contains("(rattle-kit-"));
+    assert!(rt; line.as_str().starts_with("exchange 1.0.0 (rattle-kit-"));
     assert!(rt; prints(&rt, "exchange --version", line.as_str(), 0)?);
     Ok(())
 }

@@ -3,8 +3,8 @@
 ghost use Rattle.std.specs.Prelude.{◌≡◌};
 
 use crate::{
-    CHANGE_BYTES, Chip, ENQUIRY_BYTES, Pair, WIDE_CHANGE_BYTES, WIDE_SETTING_BYTES, change_bytes,
-    enquiry_bytes, line_bits, setting_bytes, wide_bytes, wide_change,
+    CHANGE_BYTES, Chip, ENQUIRY_BYTES, Pair, WIDE_CHANGE_BYTES, WIDE_SETTING_BYTES, Wiring,
+    bytes_for, change_bytes, enquiry_bytes, line_bits, setting_bytes, wide_bytes, wide_change,
 };
 
 fn pair(initiator: u8, responder: u8) -> Pair
@@ -34,6 +34,18 @@ fn change_of_pairs(rt: HostRuntime) {
         [0x04, 0x01, 0x00, 0x11, 0x01, 0x01, 0x12, 0x03].as_slice()
     );
     assert_eq!(rt; &enquiry_bytes()[60..], [0x02, 0x1e, 0x02, 0x1f].as_slice());
+}
+
+/// Row two-pushes: what a run sends first.
+#[test]
+fn first_bytes_of_a_run(rt: HostRuntime) {
+    let mut out = [0; WIDE_CHANGE_BYTES];
+    let pairs = [pair(0, 1), pair(1, 2)];
+    let count = bytes_for(Wiring::Both, &None, &pairs, &mut out);
+    assert_eq!(rt;
+        &out[..count],
+        [0x04, 0x01, 0x00, 0x11, 0x01, 0x01, 0x12, 0x03].as_slice()
+    );
 }
 
 /// Row wide_rack.
