@@ -3,6 +3,7 @@ pub mod Writes
 pub mod Agreement
 pub mod AlternatingPath
 pub mod Shown
+pub mod Noted
 pub mod Held
 pub mod Placed
 pub mod Step

@@ -1,5 +1,5 @@
 -- The colouring that the cells show, and the cells after a transfer was put in or taken out.
-use Rattle.std.proofs.Common.{◌≡◌, ◌≢◌, ℕ, zero, suc, ◌+◌, ◌*◌, ◌/◌, ◌%◌, ◌<◌, ◌≤◌, ◌⊎◌, inl, inr, List, length, get_or, set, replicate, Option, Some, None, MatchOption, Bool, true, false, is_some, refl, sym, ap, ◌∙◌, subst, arith, get_or-set_same, get_or-set_other, length-set, eq-eqb}
+use Rattle.std.proofs.Common.{◌≡◌, ◌≢◌, ℕ, zero, suc, ◌+◌, ◌*◌, ◌<◌, ◌⊎◌, inl, inr, List, length, get_or, set, replicate, Option, Some, None, MatchOption, Bool, true, false, is_some, refl, sym, ap, ◌∙◌, subst, arith, get_or-set_same, get_or-set_other, length-set, eq-eqb}
 use Rattle.std.proofs.lemmas.List.{get_or_past, get_or-replicate, get_or_read, length-replicate, ext_get_or}
 use Rattle.std.proofs.lemmas.List.FromFn.{length-map-range_with_len, get_or-map-range_with_len}
 use Rattle.std.proofs.lemmas.Option.{same_Some, none-some}
@@ -224,76 +224,3 @@ not_shown g k f h t x nowhere =
 pub none_from : (o : Option ℕ) → is_some o ≡ false → o ≡ None
 none_from None h = refl
 none_from (Some w) h = absurd (true≢false h)
-
--- ---- the colours as a list, after the first n cells
-
-pub record AreListed (g : List Transfer) (f list : List (Option ℕ)) (n : ℕ) : Type 0 where
-  pub sized : length list ≡ length g
-  pub right : (t c : ℕ) → colour_at list t ≡ Some c → colour_at f t ≡ Some c
-  pub listed : (t c : ℕ) → colour_at f t ≡ Some c → c * LINKS + place_at g t Zero < n → colour_at list t ≡ Some c
-
-pub none_listed : (g : List Transfer) (f : List (Option ℕ)) → AreListed g f (replicate (length g) None) 0
-none_listed g f = record {
-  sized = length-replicate (length g) None;
-  right = λ t c at. absurd (none-some c (sym (nothing_at (length g) t) ∙ at));
-  listed = λ t c at less. absurd (omega arith);
-}
-
-module _ (g : List Transfer) (k : ℕ) (f h list : List (Option ℕ)) (n : ℕ) (x : AreCellsOf g k f h) (so_far : AreListed g f list n) (n_in : n < length h) where
-  -- an empty cell tells nothing
-  pub empty_cell : get_or h n None ≡ None → AreListed g f list (n + 1)
-  empty_cell none = record {
-    sized = so_far.sized;
-    right = so_far.right;
-    listed = λ t c at less. elim (cases_eq (c * LINKS + place_at g t Zero) n) [
-      | inl here ↦ absurd (none-some t (sym none ∙ (ap (λ i. get_or h i None) (sym here) ∙ x.held t c Zero at)))
-      | inr other ↦ so_far.listed t c at (omega arith)
-    ];
-  }
-
-  -- the cell of a transfer tells its colour
-  pub held_cell : (u : ℕ) → get_or h n None ≡ Some u → (u < length g) × AreListed g f (set list u (Some (n / LINKS))) (n + 1)
-  held_cell u held =
-      let place : ℕ = n % LINKS in
-      let at_n : (n / LINKS) * LINKS + place ≡ n = omega arith in
-      let low : place < LINKS = omega arith in
-      let back = x.back (n / LINKS) place u low (ap (λ i. get_or h i None) at_n ∙ held) in
-      let colour : colour_at f u ≡ Some (n / LINKS) = back.0 in
-      let u_f : u < length f = some_within f u (n / LINKS) colour in
-      let u_in : u < length g = omega (arith, x.sized) in
-      let u_list : u < length list = omega (arith, so_far.sized) in (
-        u_in,
-        record {
-          sized = length-set list u (Some (n / LINKS)) ∙ so_far.sized;
-          right = λ t c at. elim (after_put list u t (n / LINKS) c u_list at) [
-            | inl is ↦ ap (colour_at f) is.0 ∙ (colour ∙ ap Some is.1)
-            | inr other ↦ so_far.right t c other.1
-          ];
-          listed = λ t c at less. elim (cases_eq t u) [
-            | inl same ↦
-                let cd : n / LINKS ≡ c = same_Some (n / LINKS) c (sym colour ∙ (ap (colour_at f) (sym same) ∙ at)) in
-                ap (colour_at (set list u (Some (n / LINKS)))) same ∙ (get_or-set_same list u (Some (n / LINKS)) None u_list ∙ ap Some cd)
-            | inr apart ↦ get_or-set_other list u t (Some (n / LINKS)) None apart ∙ elim (cases_eq (c * LINKS + place_at g t Zero) n) [
-              | inl here ↦ absurd (apart (same_Some t u (sym (x.held t c Zero at) ∙ (ap (λ i. get_or h i None) here ∙ held))))
-              | inr other ↦ so_far.listed t c at (omega arith)
-            ]
-          ];
-        },
-      )
-
--- after all cells
-pub all_listed : (g : List Transfer) (k : ℕ) (f h list : List (Option ℕ)) (n : ℕ) → AreCellsOf g k f h → AreListed g f list n → length h ≤ n → list ≡ f
-all_listed g k f h list n x all past =
-    ext_get_or None list f (all.sized ∙ sym x.sized) (λ t within.
-    let go : (o : Option ℕ) → colour_at f t ≡ o → colour_at list t ≡ colour_at f t = λ o. elim o as (λ o. colour_at f t ≡ o → colour_at list t ≡ colour_at f t) [
-      | None ↦ λ is.
-          let back : (r : Option ℕ) → colour_at list t ≡ r → colour_at list t ≡ colour_at f t = λ r. elim r as (λ r. colour_at list t ≡ r → colour_at list t ≡ colour_at f t) [
-            | None ↦ λ at. at ∙ sym is
-            | Some c ↦ λ at. absurd (none-some c (sym is ∙ all.right t c at))
-          ] in
-          back (colour_at list t) refl
-      | Some c ↦ λ is.
-          let cell : c * LINKS + place_at g t Zero < length h = some_within h _ t (x.held t c Zero is) in
-          all.listed t c is (omega arith) ∙ sym is
-    ] in
-    go (colour_at f t) refl)

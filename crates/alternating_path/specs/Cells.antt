@@ -1,5 +1,5 @@
 -- How the cells of a table show a colouring: each colour has a row, with a cell for each link, which has the transfer of that colour that uses the link.
-use Rattle.std.specs.Prelude.{◌≡◌, ℕ, zero, suc, ◌+◌, ◌*◌, ◌<◌, ◌≤◌, List, length, map, Option, Some, None, Bool, false, ◌==◌, cond, slice_index_or}
+use Rattle.std.specs.Prelude.{◌≡◌, ◌≢◌, ℕ, zero, suc, ◌+◌, ◌*◌, ◌<◌, ◌≤◌, List, length, map, Option, Some, None, Bool, false, ◌==◌, cond, slice_index_or}
 use Rattle.std.specs.List.{range_with_len}
 use Rattle.batch.specs.Batches.{IsBatch}
 use Rattle.batch.specs.declared.limits.TheConstants.{MAX_MODULES}
@@ -66,3 +66,9 @@ pub record AreStarts (s : Colouring) (c : ℕ) (row : List (Option ℕ)) : Type 
   pub sized : length row ≡ MAX_MODULES
   pub held : (t : ℕ) → colour_at s.colour t ≡ Some c → slice_index_or row (place_at s.batch t Zero) None ≡ Some t
   pub back : (m t : ℕ) → slice_index_or row m None ≡ Some t → (colour_at s.colour t ≡ Some c) × (place_at s.batch t Zero ≡ m)
+
+-- in the list the transfers of the first n cells have the colour c now, and all others what they had
+pub record AreNoted (cells : List (Option ℕ)) (n c : ℕ) (old new : List (Option ℕ)) : Type 0 where
+  pub sized : length new ≡ length old
+  pub noted : (m t : ℕ) → m < n → slice_index_or cells m None ≡ Some t → colour_at new t ≡ Some c
+  pub rest : (t : ℕ) → ((m : ℕ) → m < n → slice_index_or cells m None ≢ Some t) → colour_at new t ≡ colour_at old t

@@ -5,6 +5,7 @@ ghost use Rattle.link_graph.specs.Schedules.{lists_of};
 ghost use Rattle.alternating_path.specs.Colouring.{colour_at};
 ghost use Rattle.alternating_path.specs.Classes.{AreClassesOf, EachStandsOnce, with_pushed};
 
+use batch::MAX_MODULES;
 use std::alloc::{AllocError, Global};
 
 /// Puts a transfer at the end of list `k`.
@@ -16,17 +17,24 @@ fn push_into(lists: &mut Vec<Vec<usize>>, k: usize, t: usize) -> Result<(), Allo
     Ok(())
 }
 
-/// Puts a transfer into a new list behind the others.
-fn push_alone(alloc: Global, lists: &mut Vec<Vec<usize>>, t: usize) -> Result<(), AllocError>
+/// Puts a transfer into a new list behind the others, with room for this many.
+fn push_alone(
+    alloc: Global,
+    lists: &mut Vec<Vec<usize>>,
+    t: usize,
+    room: usize,
+) -> Result<(), AllocError>
     ensures { OnOk result (lists_of lists.new.items ≡ lists_of lists.old.items ++ (t ∷ []) ∷ []) }
 {
-    let mut alone = Vec::new(alloc);
+    let mut alone = Vec::with_capacity(alloc, room)?;
     alone.push(t)?;
     lists.push(alone)?;
     Ok(())
 }
 
 /// The classes that hold something. Each stands where its least number comes first.
+///
+/// Each list has room for twice as many as a class has on average, so that few have to be moved.
 pub(crate) fn classes(
     alloc: Global,
     colour: &[Option<usize>],
@@ -37,6 +45,7 @@ pub(crate) fn classes(
     ensures once { IfOk result (λ lists. EachStandsOnce colour.now (lists_of lists.items)) }
     ensures count { IfOk result (λ lists. length (lists_of lists.items) ≤ colours) }
 {
+    let room = MAX_MODULES.min(2 * colour.len() / colours.max(1));
     let mut lists = Vec::new(alloc);
     let mut list_of_colour = vec![in alloc; None; colours]?;
     for t in 0..colour.len() {
@@ -48,7 +57,7 @@ pub(crate) fn classes(
             continue;
         }
         list_of_colour[c] = Some(lists.len());
-        push_alone(alloc, &mut lists, t)?;
+        push_alone(alloc, &mut lists, t, room)?;
     }
     Ok(lists)
 }

@@ -1,8 +1,8 @@
 //! Rows of a table's cells.
 
-ghost use Rattle.std.specs.Prelude.{◌≡◌, ◌+◌, ◌*◌, ◌≤◌, length, is_some, count_by, IfOk};
+ghost use Rattle.std.specs.Prelude.{◌≡◌, ℕ, ◌+◌, ◌*◌, ◌<◌, ◌≤◌, length, is_some, count_by, Some, None, IfOk, slice_index_or};
 ghost use Rattle.std.specs.List.{filter_map};
-ghost use Rattle.alternating_path.specs.Cells.{KeepsRowsBelow, MovesRowsUp};
+ghost use Rattle.alternating_path.specs.Cells.{AreNoted, KeepsRowsBelow, MovesRowsUp};
 
 use link_graph::LINKS;
 use std::alloc::{AllocError, Global};
@@ -25,6 +25,18 @@ pub(crate) fn class_of(alloc: Global, starts: &[Option<u16>]) -> Result<Vec<usiz
         }
     }
     Ok(class)
+}
+
+/// Notes the colour of the transfers of these cells in the list.
+pub(crate) fn note_class(list: &mut [Option<usize>], starts: &[Option<u16>], colour: usize)
+    requires { (m t : ℕ) → slice_index_or starts.now m None ≡ Some t → t < length list.old }
+    ensures { AreNoted starts.now (length starts.now) colour list.old list.new }
+{
+    for holder in starts {
+        if let Some(t) = *holder {
+            list[usize::from(t)] = Some(colour);
+        }
+    }
 }
 
 /// Takes a colour's row out. The rows behind it move up.

@@ -12,7 +12,7 @@ ghost use Rattle.alternating_path.specs.Cells.{place_at, AreStarts};
 use crate::classes::classes;
 use crate::coloured::Coloured;
 use crate::fault::InsertFault;
-use crate::rows::{class_of, class_size, remove_row};
+use crate::rows::{class_of, class_size, note_class, remove_row};
 use batch::{MAX_MODULES, MAX_TRANSFERS};
 use link_graph::{End, LINKS, LinkGraph};
 use std::alloc::{AllocError, Global};
@@ -287,11 +287,8 @@ impl<'a> Table<'a> {
     {
         let count = self.graph.len();
         let mut list = vec![in alloc; None; count]?;
-        for (cell, holder) in self.cells.iter().enumerate() {
-            let Some(t) = *holder else {
-                continue;
-            };
-            list[usize::from(t)] = Some(cell / LINKS);
+        for colour in 0..self.colours {
+            note_class(&mut list, self.starts(colour), colour);
         }
         Ok(list)
     }

@@ -1,39 +1,29 @@
-use Rattle.std.proofs.Common.{◌≡◌, ◌<◌, None, Some, length, get_or, replicate, rules, arith}
-use Rattle.alternating_path.proofs.Shown.{none_listed, empty_cell, held_cell, all_listed}
+use Rattle.std.proofs.Common.{◌≡◌, ◌<◌, None, length, replicate, ap, ◌∙◌, rules, arith}
+use Rattle.std.proofs.lemmas.List.{take_at}
+use Rattle.alternating_path.specs.Colouring.{Colouring, IsProper}
+use Rattle.alternating_path.proofs.Noted.{none_listed, next_listed, all_listed}
+use Rattle.alternating_path.proofs.Shown.{cells_proper}
+use Rattle.alternating_path.proofs.Writes.{some_within}
 use Rattle.alternating_path.proofs.table.Table.colour_list.Goals as goal
 
-pub loop-cell-init : goal.loop-cell-init
-loop-cell-init c =
+pub loop-colour-init : goal.loop-colour-init
+loop-colour-init c =
     let list : c.in_ok-list.list.items ≡ replicate c.len-count.result None = search (rules, c.in_ok-list.ensures) in
-    rw (← c.self.view_is, list, c.len-count.ensures.value) (none_listed _ _)
+    rw (← c.self.view_is, list, c.len-count.ensures.value) (none_listed _ _ c.self.invariant.sized)
 
-pub index_mut-requires : goal.index_mut-requires
-index_mut-requires c =
-    let s = c.self.inside in
-    let inv = rw (← c.self.view_is) at c.loop-cell.invariant in
-    let within : c.loop-cell.cell < length s.cells.items = omega (arith, c.deref-holder-items.ensures.len) in
-    let held : get_or s.cells.items c.loop-cell.cell None ≡ Some c.in-Some.t = rw (← c.deref-holder-items.ensures.value) c.in-Some.is in
-    let cell = held_cell s.graph.now s.colours _ s.cells.items c.loop-cell.list.items c.loop-cell.cell c.self.invariant inv within c.in-Some.t held in
-    omega (arith, cell.0, inv.sized, c.from.ensures, c.loop-cell.list.ok.0)
+pub note_class-requires : goal.note_class-requires
+note_class-requires c = λ m t at.
+    let within : t < length c.args.self.now.colour = some_within _ t _ (c.starts.ensures.back m t at).0 in
+    rw (c.deref_mut.ensures.value, c.loop-colour.invariant.sized) within
 
-pub loop-cell-preserved-in_default : goal.loop-cell-preserved-in_default
-loop-cell-preserved-in_default c =
-    let s = c.self.inside in
-    let inv = rw (← c.self.view_is) at c.loop-cell.invariant in
-    let within : c.loop-cell.cell < length s.cells.items = omega (arith, c.deref-holder-items.ensures.len) in
-    let none : get_or s.cells.items c.loop-cell.cell None ≡ None = rw (← c.deref-holder-items.ensures.value) c.in_default.is in
-    rw (← c.self.view_is) (empty_cell s.graph.now s.colours _ s.cells.items c.loop-cell.list.items c.loop-cell.cell c.self.invariant inv within none)
-
-pub loop-cell-preserved : goal.loop-cell-preserved
-loop-cell-preserved c =
-    let s = c.self.inside in
-    let inv = rw (← c.self.view_is) at c.loop-cell.invariant in
-    let within : c.loop-cell.cell < length s.cells.items = omega (arith, c.deref-holder-items.ensures.len) in
-    let held : get_or s.cells.items c.loop-cell.cell None ≡ Some c.in-Some.t = rw (← c.deref-holder-items.ensures.value) c.in-Some.is in
-    rw (← c.self.view_is, c.from.ensures) (held_cell s.graph.now s.colours _ s.cells.items c.loop-cell.list.items c.loop-cell.cell c.self.invariant inv within c.in-Some.t held).1
+pub loop-colour-preserved : goal.loop-colour-preserved
+loop-colour-preserved c =
+    let sized : length c.note_class.new.list ≡ c.loop-colour.list.len = c.note_class.ensures.sized ∙ c.deref_mut.ensures.len in
+    let noted = rw c.deref_mut.ensures.value at c.note_class.ensures in
+    rw (take_at c.note_class.new.list _ _ sized) (next_listed c.args.self.now c.loop-colour.colour c.starts.result.now c.loop-colour.list.items c.note_class.new.list c.starts.ensures c.loop-colour.invariant noted)
 
 pub returns : goal.returns
 returns c =
-    let s = c.self.inside in
-    let inv = rw (← c.self.view_is) at c.loop-cell.invariant in
-    rw (← c.self.view_is) (all_listed s.graph.now s.colours _ s.cells.items _ c.loop-cell.cell c.self.invariant inv (omega (arith, c.deref-holder-items.ensures.len)))
+    let proper : IsProper c.args.self.now.batch c.args.self.now.colours c.args.self.now.colour = rw (← c.self.view_is) (cells_proper _ _ _ _ c.self.invariant) in
+    let colours : c.self.inside.colours ≡ c.args.self.now.colours = ap (λ (s : Colouring). s.colours) c.self.view_is in
+    all_listed c.args.self.now _ c.loop-colour.colour proper c.loop-colour.invariant (omega (arith, colours))

@@ -1,5 +1,5 @@
-use Rattle.alternating_path.proofs.Shown.{AreListed}
+use Rattle.alternating_path.proofs.Noted.{AreListed}
 use Rattle.alternating_path.proofs.table.Table.colour_list.Given as goal
 
-abbrev pub invariant-loop-cell : goal.invariant-loop-cell
-invariant-loop-cell l = AreListed l.self.batch l.self.colour l.list.items l.cell
+abbrev pub invariant-loop-colour : goal.invariant-loop-colour
+invariant-loop-colour l = AreListed l.self.colour l.list.items l.colour

@@ -1,0 +1,5 @@
+use Rattle.alternating_path.specs.Cells.{AreNoted}
+use Rattle.alternating_path.proofs.rows.note_class.Given as goal
+
+abbrev pub invariant-loop-holder : goal.invariant-loop-holder
+invariant-loop-holder l = AreNoted l.starts l.holder-index l.colour l.initial.list l.list
