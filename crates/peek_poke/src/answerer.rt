@@ -1,6 +1,6 @@
 //! The end of a module's link 3, which answers peek and poke.
 
-ghost use Rattle.std.specs.Prelude.{◌≡◌, ◌↔◌, [], ◌∷◌, ◌++◌, false, IsTrue, MatchResult};
+ghost use Rattle.std.specs.Prelude.{◌≡◌, ◌↔◌, [], ◌∷◌, ◌++◌, length, false, IsTrue, MatchResult};
 ghost use Rattle.peek_poke.specs.Messages.{IsAtRest, IsPartial, rest_after};
 ghost use Rattle.peek_poke.specs.Effects.{Continues, Does, Feeds, IsRefused};
 
@@ -138,10 +138,12 @@ impl Answerer {
         }
     }
 
-    /// Takes a byte that its message goes on behind, as [`feed`](Answerer::feed) does.
+    /// Takes a byte that its message goes on behind, as [`feed`](Answerer::feed) does: `count` bytes of the
+    /// message came before it.
     #[inline]
-    pub(crate) fn keep(&mut self, arrived: u8)
+    pub(crate) fn keep(&mut self, count: usize, arrived: u8)
         requires alive { self.old.failed ≡ false }
+        requires count { length self.old.bytes ≡ count }
         requires goes_on { IsPartial (self.old.bytes ++ arrived ∷ []) }
         ensures { self.new ≡ record {
           failed = false;
@@ -150,7 +152,7 @@ impl Answerer {
         } }
     {
         self.taken.add(arrived);
-        self.bytes[self.len] = arrived;
-        self.len += 1;
+        self.bytes[count] = arrived;
+        self.len = count + 1;
     }
 }

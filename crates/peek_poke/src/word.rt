@@ -30,9 +30,9 @@ fn send_front<W: Wire>(wire: &mut W, answerer: &mut Answerer, bytes: &[u8]) -> R
     ensures sure { W.never_fails wire.old → IsOk result }
     ensures stays_sure { W.never_fails wire.old → W.never_fails wire.new }
 {
-    for byte in bytes {
+    for (count, byte) in bytes.iter().enumerate() {
         let arrived = wire.carry(*byte)?;
-        answerer.keep(arrived);
+        answerer.keep(count, arrived);
     }
     Ok(())
 }

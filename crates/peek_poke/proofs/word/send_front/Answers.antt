@@ -2,5 +2,5 @@ use Rattle.std.proofs.Common.{arith}
 use Rattle.std.proofs.lemmas.Grind.{common_steps}
 use Rattle.peek_poke.proofs.word.send_front.Goals as goal
 
-pub loop-byte-preserved : goal.loop-byte-preserved
-loop-byte-preserved g c = grind (arith, common_steps)
+pub loop-count-preserved : goal.loop-count-preserved
+loop-count-preserved g c = grind (arith, common_steps)
