@@ -5,10 +5,11 @@ ghost use Rattle.std.specs.Prelude.{◌≤◌};
 use crate::marks::{begin, end};
 use crate::met::Met;
 use crate::rows::{
-    THREE_TRANSFERS, THREE_TRANSFERS_PLAN, TWO_PUSHES, TWO_PUSHES_REPORT, TWO_PUSHES_SHAPE,
+    THREE_TRANSFERS, THREE_TRANSFERS_BYTES, THREE_TRANSFERS_PICTURE, THREE_TRANSFERS_PLAN,
+    TWO_PUSHES, TWO_PUSHES_REPORT, TWO_PUSHES_SHAPE,
 };
-use answers::{Answer, answer_check, answer_plan, answer_run};
-use command_words::{Job, WordsFault, read_words};
+use answers::{Answer, answer_check, answer_draw, answer_plan, answer_run, answer_switch};
+use command_words::{Job, TextList, WordsFault, read_words};
 use schedule_certificate::MAX_WORKERS;
 use std::alloc::{AllocError, Global};
 use std::thread::Threads;
@@ -41,6 +42,38 @@ pub fn check<R: AllocGlobal + Eprint>(rt: &R) -> Option<Met> {
     Some(met(answer, "shortest 2\n"))
 }
 
+/// `answer_draw` on row three-transfers: the picture begins as its row says, and is the one that is drawn where nothing is refused.
+pub fn draw<R: AllocGlobal + Eprint>(rt: &R) -> Option<Met> {
+    let (batch, schedule) = (THREE_TRANSFERS.as_bytes(), THREE_TRANSFERS_PLAN.as_bytes());
+    let wanted = answer_draw(rt.alloc(), batch, schedule).ok()?;
+    begin(rt);
+    let answer = answer_draw(rt.alloc(), batch, schedule);
+    end(rt);
+    Some(match answer {
+        Ok(answer) => Met::row_if(is_picture(&answer) && answer.text() == wanted.text()),
+        Err(_) => Met::NoMemory,
+    })
+}
+
+/// Whether the answer begins as the picture of row three-transfers.
+fn is_picture(answer: &Answer) -> bool {
+    answer.status() == 0
+        && answer
+            .text()
+            .starts_with(THREE_TRANSFERS_PICTURE.as_bytes())
+}
+
+/// `answer_switch` on row three-transfers, with so many workers.
+pub fn switch<R: AllocGlobal + Eprint + Threads + Sync>(rt: &R, workers: usize) -> Option<Met>
+    requires some { 1 ≤ workers }
+    requires few { workers ≤ MAX_WORKERS }
+{
+    begin(rt);
+    let answer = answer_switch(rt, rt.alloc(), THREE_TRANSFERS.as_bytes(), workers);
+    end(rt);
+    Some(met(answer, THREE_TRANSFERS_BYTES))
+}
+
 /// `answer_run` on row two-pushes, with so many workers.
 pub fn run<R: AllocGlobal + Eprint + Threads + Sync>(rt: &R, workers: usize) -> Option<Met>
     requires some { 1 ≤ workers }
@@ -60,6 +93,25 @@ fn words(alloc: Global, line: &str) -> Result<Vec<String>, AllocError> {
         words.push(String::from_str(alloc, word)?)?;
     }
     Ok(words)
+}
+
+/// `TextList::of` on two words.
+pub fn list<R: AllocGlobal + Eprint>(rt: &R) -> Option<Met> {
+    begin(rt);
+    let list = TextList::of(rt.alloc(), &["F", "-"]);
+    end(rt);
+    Some(match list {
+        Ok(list) => Met::row_if(is_list(&list)),
+        Err(_) => Met::NoMemory,
+    })
+}
+
+/// Whether these are a file's name and that of standard input.
+fn is_list(list: &TextList) -> bool {
+    let [file, input] = list.as_slice() else {
+        return false;
+    };
+    file.as_str() == "F" && !file.is_input() && input.is_input()
 }
 
 /// `read_words` of `plan F --workers 64`.

@@ -2,9 +2,13 @@
 
 use crate::marks::{begin, end};
 use crate::met::Met;
-use crate::rows::{LINK, ONE_PULL, SWAP, SWAPPED, THREE_TRANSFERS, THREE_TRANSFERS_PLAN, batch};
+use crate::rows::{
+    LINK, ONE_PULL, SWAP, SWAPPED, THREE_TRANSFERS, THREE_TRANSFERS_PICTURE, THREE_TRANSFERS_PLAN,
+    batch,
+};
 use batch::{Batch, BatchFault, Shape};
 use link_graph::{Certificate, CheckFault, Schedule, ScheduleFault, Shortest, check_schedule};
+use schedule_picture::draw as draw_picture;
 use std::alloc::Global;
 
 /// Whether writing a batch gives the text.
@@ -125,5 +129,23 @@ pub fn check<R: AllocGlobal + Eprint>(rt: &R) -> Option<Met> {
     Some(match judged {
         Ok(shortest) => Met::row_if(is_as_before && shortest == Shortest { settings: 2 }),
         Err(fault) => Met::no_memory_if(is_as_before && fault == CheckFault::NoMemory),
+    })
+}
+
+/// `draw` on row three-transfers: the picture begins as its row says.
+pub fn draw<R: AllocGlobal + Eprint>(rt: &R) -> Option<Met> {
+    let batch = batch(rt.alloc(), THREE_TRANSFERS)?;
+    let (schedule, certificate) = row_checker(rt.alloc())?;
+    check_schedule(rt.alloc(), &batch, &schedule, &certificate).ok()?;
+    begin(rt);
+    let drawn = draw_picture(rt.alloc(), &batch, &schedule, &certificate);
+    end(rt);
+    let is_as_before = is_written(&batch, THREE_TRANSFERS)
+        && is_row_checker(&schedule, Some(&certificate));
+    Some(match drawn {
+        Ok(text) => {
+            Met::row_if(is_as_before && text.as_str().starts_with(THREE_TRANSFERS_PICTURE))
+        }
+        Err(_) => Met::no_memory_if(is_as_before),
     })
 }

@@ -155,6 +155,29 @@ pub fn make_one<R: AllocGlobal + Eprint>(rt: &R) -> Option<Met> {
     one(rt, &graph)
 }
 
+/// The table of transfers 0 and 2 with room for a second colour, where the graph is that of the four.
+fn one_with_room<R: AllocGlobal + Eprint>(rt: &R, graph: &LinkGraph) -> Option<Met>
+    requires known { 3 < length graph.now }
+    requires left { AreApart graph.now 0 2 }
+{
+    begin(rt);
+    let made = Table::one_with_room(rt.alloc(), graph, &[0, 2], 2);
+    end(rt);
+    Some(match made {
+        Ok(table) => Met::row_if(is_one(&table)),
+        Err(_) => Met::no_memory_if(is_of_four(rt.alloc(), graph)),
+    })
+}
+
+/// `Table::one_with_room` on row table-of-four.
+pub fn make_one_with_room<R: AllocGlobal + Eprint>(rt: &R) -> Option<Met> {
+    let graph = graph(rt.alloc(), FOUR)?;
+    if graph.len() != 4 || !apart(&graph, 0, 2) {
+        return None;
+    }
+    one_with_room(rt, &graph)
+}
+
 /// The table of `0 2`, and behind it that of `1 3`. Where that is the call that is tried, the marks stand around it.
 fn joined<'a, R: AllocGlobal + Eprint>(
     rt: &R,

@@ -14,6 +14,18 @@ pub const THREE_TRANSFERS: &str = "batch 3\npush 0 0 1 0\npush 0 1 2 0\npush 1 1
 pub const THREE_TRANSFERS_PLAN: &str =
     "settings 2\nsetting 0 2\nsetting 1\nbusiest link 0 module 0\nnamed 0 1\n";
 
+/// The bytes of row three-transfers, those of row recorded-change.
+pub const THREE_TRANSFERS_BYTES: &str = "\
+setting 0 04 01 00 11 01 01 12 03
+setting 1 06 00 11 06 01 12 01 00 12 03
+";
+
+/// How the picture of row three-transfers begins.
+pub const THREE_TRANSFERS_PICTURE: &str = "\
+<svg xmlns='http://www.w3.org/2000/svg' width='760' height='344' viewBox='0 0 760 344'>
+<title>transfers 3, settings 2, busiest link 0 module 0</title>
+";
+
 /// Row three-by-three.
 pub const THREE_BY_THREE: &str = "\
 batch 9

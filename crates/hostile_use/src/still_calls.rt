@@ -17,7 +17,8 @@ use alternating_path::Table;
 use batch::{Batch, Place};
 use batch_book::{Book, Call, MAX_ENTRIES, Refusal, Reply};
 use module_memory::Rack;
-use setting_runner::{Notice, Outcome, run};
+use schedule_certificate::Planned;
+use setting_runner::{Notice, Outcome, PairList, run, setting_numbers};
 use std::marker::Brand;
 use std::sync::Wait;
 use std::sync::ledger::{Blank, Ledger};
@@ -32,6 +33,27 @@ pub fn insert<R: AllocGlobal + Eprint>(rt: &R) -> Option<Met> {
     let table = Table::new(rt.alloc(), &graph, 2).ok()?;
     begin(rt);
     let is_right = takes_four(table);
+    end(rt);
+    Some(Met::row_if(is_right))
+}
+
+/// Whether the plan's one setting has the pairs of row two-pushes.
+fn has_pairs(planned: &Planned) -> bool {
+    if planned.schedule().settings() != 1 {
+        return false;
+    }
+    let pairs = PairList::of_setting(planned.batch(), setting_numbers(planned, 0));
+    let [one, two] = pairs.as_slice() else {
+        return false;
+    };
+    (one.initiator, one.responder) == (0, 1) && (two.initiator, two.responder) == (1, 2)
+}
+
+/// `PairList::of_setting` and `setting_numbers` on row two-pushes.
+pub fn pair<R: AllocGlobal + Eprint + Threads + Sync>(rt: &R) -> Option<Met> {
+    let planned = plan(rt, TWO_PUSHES)?;
+    begin(rt);
+    let is_right = has_pairs(&planned);
     end(rt);
     Some(Met::row_if(is_right))
 }
