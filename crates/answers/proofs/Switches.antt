@@ -16,7 +16,7 @@ use Rattle.crossbar.specs.declared.switch.TheConstants.{JOINED_MODULES}
 use Rattle.module_memory.specs.Core.{FitsIn}
 use Rattle.schedule_certificate.specs.Plans.{Plan}
 use Rattle.setting_runner.specs.Runs.{numbers_of, setting_pairs}
-use Rattle.setting_runner.specs.Sending.{in_order, pairs_at, standing_before}
+use Rattle.setting_runner.specs.Sending.{in_order, pairs_at, standing_before, turning}
 use Rattle.line_words.specs.HexWords.{hex2}
 use Rattle.line_words.proofs.Padded.{padded_byte}
 use Rattle.answers.specs.Switching.{is_far, is_wide, joined_by, bytes_text, lines_for, setting_lines}
@@ -66,7 +66,7 @@ pairs_is plan k batch numbers pairs b n is = is ∙ ap₂ (λ (ts : List Transfe
 
 -- one more setting
 pub more_lines : (plan : Plan) (n : ℕ) (wide : Bool) (known : Option (List Pair)) (pairs : List Pair) (before after : List ℕ) → wide ≡ is_wide plan.batch → known ≡ standing_before plan n → pairs ≡ pairs_at plan n
-    → before ≡ flat_map (setting_lines plan) (range_with_len 0 n) → after ≡ before ++ lines_for wide n known pairs → after ≡ flat_map (setting_lines plan) (range_with_len 0 (n + 1))
+    → before ≡ flat_map (setting_lines plan) (range_with_len 0 n) → after ≡ before ++ lines_for wide n (λ wiring. turning wiring known pairs) → after ≡ flat_map (setting_lines plan) (range_with_len 0 (n + 1))
 more_lines plan n wide known pairs before after w s p so_far more =
-    let lines : lines_for wide n known pairs ≡ setting_lines plan n = rw (w, s, p) refl in
+    let lines : lines_for wide n (λ wiring. turning wiring known pairs) ≡ setting_lines plan n = rw (w, s, p) refl in
     more ∙ ap₂ (λ (x y : List ℕ). x ++ y) so_far lines ∙ more_parts (setting_lines plan) [] n

@@ -1,5 +1,5 @@
 -- What `switch` answers: what a run sends the switches of a rack, setting by setting. The texts are this project's choice.
-use Rattle.std.specs.Prelude.{◌≡◌, ℕ, ◌++◌, ◌||◌, Bool, List, [], Option, if◌then◌else◌, codes, length, nat_le}
+use Rattle.std.specs.Prelude.{◌≡◌, ℕ, ◌++◌, ◌||◌, Bool, List, [], if◌then◌else◌, codes, length, nat_le}
 use Rattle.std.specs.Fmt.{decimal}
 use Rattle.std.specs.List.{flat_map, list_any, range_with_len}
 use Rattle.batch.specs.declared.fault.BatchFault.{BatchFault}
@@ -8,13 +8,13 @@ use Rattle.batch.specs.Extent.{Extent}
 use Rattle.batch.specs.Text.{Denotes}
 use Rattle.batch.specs.Faults.{IsFirstFault}
 use Rattle.c004_commands.specs.Commands.{text}
+use Rattle.c004_commands.specs.declared.command.Command.{Command}
 use Rattle.c004_commands.specs.declared.port.TheConstants.{PORTS}
 use Rattle.crossbar.specs.declared.chip.Wiring.{Wiring}
 use Rattle.crossbar.specs.declared.chip.Wiring.TheVariants.{Both, Forth, Back}
-use Rattle.crossbar.specs.declared.pair.Pair.{Pair}
 use Rattle.crossbar.specs.declared.switch.TheConstants.{JOINED_MODULES}
 use Rattle.schedule_certificate.specs.Plans.{Plan, IsPlan, HasFewReinsertions}
-use Rattle.setting_runner.specs.Sending.{turning, pairs_at, standing_before}
+use Rattle.setting_runner.specs.Sending.{sent_for}
 use Rattle.line_words.specs.BatchFaults.{batch_words}
 use Rattle.line_words.specs.HexWords.{hex2}
 use Rattle.answers.specs.declared.limits.TheConstants.{DONE}
@@ -36,20 +36,20 @@ joined_by wide = if wide then PORTS else JOINED_MODULES
 abbrev pub bytes_text : List ℕ → List ℕ
 bytes_text bytes = flat_map (λ byte. codes " " ++ hex2 byte) bytes
 
--- `setting S`, behind it the name of a switch where the rack has two, and the bytes that set this switch from the pairs that stand
-abbrev pub switch_line : ℕ → List ℕ → Wiring → Option (List Pair) → List Pair → List ℕ
-switch_line setting name wiring known pairs = codes "setting " ++ decimal setting ++ name ++ bytes_text (text (turning wiring known pairs)) ++ codes "\n"
+-- `setting S`, behind it the name of a switch where the rack has two, and the bytes of the commands that this switch is sent
+abbrev pub switch_line : ℕ → List ℕ → List Command → List ℕ
+switch_line setting name commands = codes "setting " ++ decimal setting ++ name ++ bytes_text (text commands) ++ codes "\n"
 
--- the line of a setting where the rack has one switch, else the lines of both
-abbrev pub lines_for : Bool → ℕ → Option (List Pair) → List Pair → List ℕ
-lines_for wide setting known pairs =
+-- the line of a setting where the rack has one switch, else the lines of both: each switch is sent what goes with its wiring
+abbrev pub lines_for : Bool → ℕ → (Wiring → List Command) → List ℕ
+lines_for wide setting sent =
     if wide
-    then switch_line setting (codes " a") Forth known pairs ++ switch_line setting (codes " b") Back known pairs
-    else switch_line setting [] Both known pairs
+    then switch_line setting (codes " a") (sent Forth) ++ switch_line setting (codes " b") (sent Back)
+    else switch_line setting [] (sent Both)
 
--- the lines of a plan's setting: the first sets any switch, and each later one changes that of the setting before
+-- the lines of a plan's setting: what a run sends for it
 abbrev pub setting_lines : Plan → ℕ → List ℕ
-setting_lines plan k = lines_for (is_wide plan.batch) k (standing_before plan k) (pairs_at plan k)
+setting_lines plan k = lines_for (is_wide plan.batch) k (λ wiring. sent_for wiring plan k)
 
 -- the lines of all settings, in their order
 abbrev pub switch_text : Plan → List ℕ

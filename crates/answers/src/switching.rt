@@ -3,6 +3,7 @@
 ghost use Rattle.std.specs.Prelude.{◌≡◌, ◌≤◌, IfOk, IfSome, OnOk, string_bytes};
 ghost use Rattle.batch.specs.Extent.{widest};
 ghost use Rattle.crossbar.specs.Pairs.{ArePairs, room_of};
+ghost use Rattle.setting_runner.specs.Sending.{turning};
 ghost use Rattle.answers.specs.Reports.{Adds};
 ghost use Rattle.answers.specs.Switching.{is_wide as needs_two, joined_by, bytes_text, switch_line, lines_for, switch_text, IsSwitched};
 
@@ -40,7 +41,7 @@ fn push_line(
     requires pairs { ArePairs (room_of wiring) pairs.now }
     requires standing { IfSome standing.now (λ old. ArePairs (room_of wiring) old) }
     ensures { OnOk result
-        (Adds text.old text.new (switch_line setting name.now wiring standing.now pairs.now)) }
+        (Adds text.old text.new (switch_line setting name.now (turning wiring standing.now pairs.now))) }
 {
     let mut bytes = [0; WIDE_CHANGE_BYTES];
     let number = bytes_for(wiring, standing, pairs, &mut bytes);
@@ -60,7 +61,8 @@ fn push_setting(
     requires pairs { ArePairs (joined_by wide) pairs.now }
     requires standing { IfSome standing.now (λ old. ArePairs (joined_by wide) old) }
     ensures { OnOk result
-        (Adds text.old text.new (lines_for wide setting standing.now pairs.now)) }
+        (Adds text.old text.new
+            (lines_for wide setting (λ wiring. turning wiring standing.now pairs.now))) }
 {
     if wide {
         push_line(text, setting, " a", Wiring::Forth, standing, pairs)?;

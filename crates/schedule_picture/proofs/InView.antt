@@ -44,6 +44,8 @@ unfolding row_place legend_place
 in_view batch settings b k i x e s =
     let grows = rows_grow (takes_part batch) (module_at e x) rack_modules (in_rack batch s.number x e b s.in_batch) (has_row batch s.number x e s.in_batch) in
     record {
+      in_column = (omega arith, omega arith);
+      in_half = (omega arith, omega arith);
       behind_labels = behind k;
       before_labels = before k;
       within_width = within k (length settings) (slice_get_within settings k s.setting s.in_schedule);

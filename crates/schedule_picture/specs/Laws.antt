@@ -4,9 +4,9 @@ use Rattle.batch.specs.declared.transfer.Transfer.{Transfer}
 use Rattle.batch.specs.Batches.{IsBatch}
 use Rattle.link_graph.specs.declared.link.End.{End}
 use Rattle.link_graph.specs.Schedules.{IsScheduleOf}
-use Rattle.schedule_picture.specs.declared.layout.TheConstants.{TOP, PANEL, LABELS, CELL_WIDTH, CELL_HEIGHT}
-use Rattle.schedule_picture.specs.Places.{panel_place, width_of, legend_place}
-use Rattle.schedule_picture.specs.Cells.{cell_left, cell_top}
+use Rattle.schedule_picture.specs.declared.layout.TheConstants.{TOP, PANEL, LABELS, COLUMN, HALF, CELL_WIDTH, CELL_HEIGHT}
+use Rattle.schedule_picture.specs.Places.{column_place, panel_place, width_of, legend_place}
+use Rattle.schedule_picture.specs.Cells.{half_top, cell_left, cell_top}
 
 -- the transfer stands at position i of setting k
 pub record Stands (batch : List Transfer) (settings : List (List ℕ)) (k i : ℕ) (x : Transfer) : Type 0 where
@@ -28,15 +28,17 @@ abbrev pub NothingOverlaps : Type 0
 NothingOverlaps = (batch : List Transfer) (settings : List (List ℕ)) → IsScheduleOf batch settings → (k i : ℕ) (x : Transfer) (e : End) (l j : ℕ) (y : Transfer) (f : End)
     → Stands batch settings k i x → Stands batch settings l j y → Overlap batch k x e l y f → (k ≡ l) × (i ≡ j) × (e ≡ f)
 
--- the cell at an end of a transfer in setting k stands between the labels of its panel and those of the next one, within the width of the picture, and between
--- the top of the rows and the legend
+-- the cell at an end of a transfer in setting k stands in the column of the setting and in the half of the row, between the labels of its panel and those of the
+-- next one, within the width of the picture, and between the top of the rows and the legend
 pub record IsInView (batch : List Transfer) (settings k : ℕ) (x : Transfer) (e : End) : Type 0 where
+  pub in_column : (column_place k ≤ cell_left k) × (cell_left k + CELL_WIDTH ≤ column_place k + COLUMN)
+  pub in_half : (half_top batch x e ≤ cell_top batch x e) × (cell_top batch x e + CELL_HEIGHT ≤ half_top batch x e + HALF)
   pub behind_labels : panel_place (k / PANEL) + LABELS ≤ cell_left k
   pub before_labels : cell_left k + CELL_WIDTH ≤ panel_place (k / PANEL + 1)
   pub within_width : cell_left k + CELL_WIDTH ≤ width_of settings
   pub below_top : TOP ≤ cell_top batch x e
   pub above_legend : cell_top batch x e + CELL_HEIGHT ≤ legend_place batch
 
--- each cell of a picture does
+-- so each cell of a picture stands
 abbrev pub AllIsInView : Type 0
 AllIsInView = (batch : List Transfer) (settings : List (List ℕ)) → IsBatch batch → (k i : ℕ) (x : Transfer) (e : End) → Stands batch settings k i x → IsInView batch (length settings) k x e

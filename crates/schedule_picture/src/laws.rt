@@ -7,7 +7,8 @@ pub fn nothing_overlaps()
     ensures { NothingOverlaps }
 {}
 
-/// Each cell of a picture stands in it whole, and neither on a label of a row nor on the legend.
+/// Each cell of a picture stands whole in its setting's column and its link's half of a row, and neither on a
+/// label of a row nor on the legend.
 pub fn all_is_in_view()
     ensures { AllIsInView }
 {}
