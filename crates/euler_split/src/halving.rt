@@ -1,8 +1,7 @@
-ghost use Rattle.std.specs.Prelude.{◌≡◌, ℕ, ◌<◌, ◌≤◌, length, take, drop, All, None, IfOk, slice_index_or};
+ghost use Rattle.std.specs.Prelude.{◌≡◌, ◌<◌, ◌≤◌, length, take, drop, All, None, IfOk};
 ghost use Rattle.batch.specs.Batches.{IsBatch};
 ghost use Rattle.link_graph.specs.Certificates.{AreDistinct};
 ghost use Rattle.euler_split.specs.Split.{IsSplit};
-ghost use Rattle.euler_split.specs.Walks.{half_at};
 ghost use Rattle.euler_split.specs.Deals.{AreDealt};
 
 use crate::pairing::pair;

@@ -139,7 +139,7 @@ impl Answerer {
     }
 
     /// Takes a byte that its message goes on behind, as [`feed`](Answerer::feed) does: `count` bytes of the
-    /// message came before it.
+    /// message came before it. The number is handed in so that the compiler knows where the byte stands.
     #[inline]
     pub(crate) fn keep(&mut self, count: usize, arrived: u8)
         requires alive { self.old.failed ≡ false }

@@ -106,7 +106,8 @@ fn colour_halves<'a, R: Threads + Sync, G: Gate>(
     colour_both(rt, gate, workers, alloc, graph, left, right, known, room)
 }
 
-/// Colours two parts at once.
+/// Colours two parts at once. Each is coloured by a copy, since no closure that holds a mutable slice beside
+/// what both share is proved.
 #[cycle(halves)]
 fn colour_both<'a, R: Threads + Sync, G: Gate>(
     rt: &R,
