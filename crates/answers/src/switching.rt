@@ -62,7 +62,7 @@ fn push_setting(
     requires standing { IfSome standing.now (λ old. ArePairs (joined_by wide) old) }
     ensures { OnOk result
         (Adds text.old text.new
-            (lines_for wide setting (λ wiring. turning wiring standing.now pairs.now))) }
+        (lines_for wide setting (λ wiring. turning wiring standing.now pairs.now))) }
 {
     if wide {
         push_line(text, setting, " a", Wiring::Forth, standing, pairs)?;
