@@ -140,7 +140,8 @@ impl Book {
           honest = P.honest plant.old.port;
         }) (outcome_of result) }
         ensures switches { IsTrue (P.honest plant.old.port) →
-            SetsSwitches self.old.machine.store.shape (plan_of self.old.machine session call) (outcome_of result) (P.switches plant.new.port) }
+            SetsSwitches self.old.machine.store.shape (plan_of self.old.machine session call)
+            (outcome_of result) (P.switches plant.new.port) }
         ensures told { TellsOutcome N.hears notice.old (outcome_of result) notice.new }
         ensures refused { IsRefused (outcome_of result) → plant.new ≡ plant.old }
         ensures uncalled { SparesEmpty (plan_of self.old.machine session call) plant.old plant.new }
@@ -182,7 +183,8 @@ impl Book {
           honest = P.honest plant.old.port;
         }) (outcome_in result) }
         ensures switches { IsTrue (P.honest plant.old.port) →
-            SetsSwitches self.old.machine.store.shape (plan_of self.old.machine session call) (outcome_in result) (P.switches plant.new.port) }
+            SetsSwitches self.old.machine.store.shape (plan_of self.old.machine session call)
+            (outcome_in result) (P.switches plant.new.port) }
         ensures told { TellsOutcome N.hears notice.old (outcome_in result) notice.new }
         ensures refused { IsRefused (outcome_in result) → plant.new ≡ plant.old }
         ensures uncalled { SparesEmpty (plan_of self.old.machine session call) plant.old plant.new }

@@ -243,7 +243,8 @@ impl Holdings {
           honest = P.honest plant.old.port;
         }) (outcome_in result) }
         ensures switches { IsTrue (P.honest plant.old.port) →
-            SetsSwitches self.old.store.shape (plan_in (batch_of self.old session id)) (outcome_in result) (P.switches plant.new.port) }
+            SetsSwitches self.old.store.shape (plan_in (batch_of self.old session id))
+            (outcome_in result) (P.switches plant.new.port) }
         ensures told { TellsOutcome N.hears notice.old (outcome_in result) notice.new }
         ensures refused { IsRefused (outcome_in result) → plant.new ≡ plant.old }
         ensures uncalled { SparesEmpty (plan_in (batch_of self.old session id))
@@ -337,7 +338,8 @@ impl Holdings {
           honest = P.honest plant.old.port;
         }) (outcome_in result) }
         ensures switches { IsTrue (P.honest plant.old.port) →
-            SetsSwitches self.old.store.shape (plan_of self.old session call) (outcome_in result) (P.switches plant.new.port) }
+            SetsSwitches self.old.store.shape (plan_of self.old session call)
+            (outcome_in result) (P.switches plant.new.port) }
         ensures told { TellsOutcome N.hears notice.old (outcome_in result) notice.new }
         ensures refused { IsRefused (outcome_in result) → plant.new ≡ plant.old }
         ensures uncalled { SparesEmpty (plan_of self.old session call) plant.old plant.new }

@@ -10,7 +10,8 @@ ghost use Rattle.crossbar.specs.Pairs.{ArePairs, room_of, switch_of, setting, ch
 /// A reset, the joins of the pairs and a settle turn any switch into the switch of the pairs. What each
 /// command does is the INMOS IMS C004 data sheet's; that a setting is these is this project's choice.
 pub fn setting()
-    ensures { (wiring : Wiring) (switch : Switch) (pairs : List Pair) → ArePairs (room_of wiring) pairs →
+    ensures { (wiring : Wiring) (switch : Switch) (pairs : List Pair) →
+        ArePairs (room_of wiring) pairs →
         after_all (setting wiring pairs) switch ≡ switch_of wiring pairs }
 {}
 
@@ -18,6 +19,7 @@ pub fn setting()
 /// new, and to settle: the result is the switch of the new pairs. What each command does is the INMOS IMS
 /// C004 data sheet's; that a change is these is this project's choice.
 pub fn change()
-    ensures { (wiring : Wiring) (old new : List Pair) → ArePairs (room_of wiring) old → ArePairs (room_of wiring) new →
+    ensures { (wiring : Wiring) (old new : List Pair) →
+        ArePairs (room_of wiring) old → ArePairs (room_of wiring) new →
         after_all (change wiring old new) (switch_of wiring old) ≡ switch_of wiring new }
 {}

@@ -36,7 +36,8 @@ pub fn respond<R: AllocGlobal + Files + Threads + Wait + Sync, I: Read, O: Write
     err: &mut E,
 ) -> ExitCode
     ensures words { IfOk words (λ w. (exit_status result ≡ UNWRITTEN)
-        ⊎ IsEndForWords (texts_of w.items) (I.remaining input.old) (O.contents out.old) (O.contents out.new) (exit_status result)) }
+        ⊎ IsEndForWords (texts_of w.items) (I.remaining input.old)
+        (O.contents out.old) (O.contents out.new) (exit_status result)) }
     ensures none { OnErr words ((exit_status result ≡ UNWRITTEN)
         ⊎ IsEndWithoutWords (O.contents out.old) (O.contents out.new) (exit_status result)) }
 {
@@ -58,7 +59,8 @@ fn respond_to_words<R: AllocGlobal + Files + Threads + Wait + Sync, I: Read, O: 
     err: &mut E,
 ) -> io::Result<u8>
     ensures words { IfOk words (λ w. IfOk result
-        (IsEndForWords (texts_of w.items) (I.remaining input.old) (O.contents out.old) (O.contents out.new))) }
+        (IsEndForWords (texts_of w.items) (I.remaining input.old)
+        (O.contents out.old) (O.contents out.new))) }
     ensures none { OnErr words (IfOk result
         (IsEndWithoutWords (O.contents out.old) (O.contents out.new))) }
 {
@@ -250,7 +252,8 @@ fn read_files<R: AllocGlobal + Files, I: Read>(
     input: &mut I,
 ) -> Result<Vec<Vec<u8>>, Unanswered>
     requires { NameInputOnce names.now }
-    ensures { IfOk result (λ files. AreHeld (I.remaining input.old) names.now (map (λ file. file.items) files.items)) }
+    ensures { IfOk result (λ files.
+        AreHeld (I.remaining input.old) names.now (map (λ file. file.items) files.items)) }
 {
     let mut files = Vec::new(rt.alloc());
     for name in names {

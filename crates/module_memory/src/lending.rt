@@ -92,7 +92,10 @@ impl Rest {
         requires within { IsShape shape }
         requires all { length blocks.items ≡ shape.modules * shape.blocks }
         requires whole { AreWholeCopies shape held.items }
-        ensures { result ≡ record { store = record { shape = shape; blocks = blocks.items }; held = held.items } }
+        ensures { result ≡ record {
+          store = record { shape = shape; blocks = blocks.items };
+          held = held.items;
+        } }
     {
         Rest {
             shape,
@@ -157,7 +160,10 @@ impl Rest {
     pub(crate) fn lend(&mut self, place: Place) -> Bay
         requires { HasPlace self.old.store.shape place }
         ensures bay { result ≡ record { place = place; words = block_of self.old.store place } }
-        ensures rest { self.new ≡ record { store = set_block self.old.store place []; held = self.old.held } }
+        ensures rest { self.new ≡ record {
+          store = set_block self.old.store place [];
+          held = self.old.held;
+        } }
     {
         let index = block_index(self.shape, place);
         let slot = &mut self.blocks[index];
@@ -169,7 +175,10 @@ impl Rest {
     /// Takes a block back.
     pub(crate) fn take_back(&mut self, bay: Bay)
         requires { HasPlace self.old.store.shape bay.place }
-        ensures { self.new ≡ record { store = set_block self.old.store bay.place bay.words; held = self.old.held } }
+        ensures { self.new ≡ record {
+          store = set_block self.old.store bay.place bay.words;
+          held = self.old.held;
+        } }
     {
         let Bay { place, block } = bay;
         let index = block_index(self.shape, place);

@@ -85,7 +85,8 @@ pub fn change_bytes(old: &[Pair], new: &[Pair], out: &mut [u8; CHANGE_BYTES]) ->
 pub fn wide_bytes(chip: Chip, pairs: &[Pair], out: &mut [u8; WIDE_SETTING_BYTES]) -> usize
     requires { ArePairs PORTS pairs.now }
     ensures bytes { take result out.new ≡ text (setting (wide_wiring chip) pairs.now) }
-    ensures sets { (switch : Switch) → Turns (take result out.new) switch (switch_of (wide_wiring chip) pairs.now) }
+    ensures sets { (switch : Switch) →
+        Turns (take result out.new) switch (switch_of (wide_wiring chip) pairs.now) }
     ensures room { result ≤ WIDE_SETTING_BYTES }
 {
     put_setting(Wiring::of_wide(chip), pairs, out)

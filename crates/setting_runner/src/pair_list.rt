@@ -116,7 +116,8 @@ impl PairList {
         // In a rack that has the batch's modules they are pairs of that rack, and a switch to which all of these can
         // be wired joins by them what the transfers want joined.
         ensures pairs { (shape : Extent) → FitsIn shape batch.now → ArePairs shape.modules result }
-        ensures switch { (shape : Extent) (wiring : Wiring) → FitsIn shape batch.now → shape.modules ≤ room_of wiring →
+        ensures switch { (shape : Extent) (wiring : Wiring) → FitsIn shape batch.now →
+            shape.modules ≤ room_of wiring →
             switch_of wiring result ≡ switch_of wiring (setting_pairs batch.now numbers.now) }
     {
         let responders = responders_of(batch, numbers);
@@ -134,9 +135,12 @@ fn responders_of(batch: &Batch, numbers: &[usize]) -> [Option<u8>; MAX_MODULES]
     requires known { All (λ t. t < length batch.now) numbers.now }
     requires matching { IsMatching batch.now numbers.now }
     ensures members { table_pairs 0 result ≡ in_order (setting_pairs batch.now numbers.now) }
-    ensures pairs { (shape : Extent) → FitsIn shape batch.now → ArePairs shape.modules (table_pairs 0 result) }
-    ensures switch { (shape : Extent) (wiring : Wiring) → FitsIn shape batch.now → shape.modules ≤ room_of wiring →
-        switch_of wiring (table_pairs 0 result) ≡ switch_of wiring (setting_pairs batch.now numbers.now) }
+    ensures pairs { (shape : Extent) → FitsIn shape batch.now →
+        ArePairs shape.modules (table_pairs 0 result) }
+    ensures switch { (shape : Extent) (wiring : Wiring) → FitsIn shape batch.now →
+        shape.modules ≤ room_of wiring →
+        switch_of wiring (table_pairs 0 result)
+        ≡ switch_of wiring (setting_pairs batch.now numbers.now) }
 {
     let mut responders = [None; MAX_MODULES];
     for t in numbers {

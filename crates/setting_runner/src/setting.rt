@@ -56,8 +56,10 @@ pub fn run_setting<R: Threads + Sync, P: ConfigPort, W: WireMaker + Sync, G: Gat
     requires movable { AreMovable rest.now setting.now.batch.now setting.now.numbers.now bays.old }
 
     ensures moved { MatchResult result
-        (λ _. HaveMoved none_sure rest.now setting.now.batch.now setting.now.numbers.now bays.old bays.new (all_moved setting.now.numbers.now rest.now.store.shape.words))
-        (λ stop. HaveMoved none_sure rest.now setting.now.batch.now setting.now.numbers.now bays.old bays.new stop.moved) }
+        (λ _. HaveMoved none_sure rest.now setting.now.batch.now setting.now.numbers.now
+        bays.old bays.new (all_moved setting.now.numbers.now rest.now.store.shape.words))
+        (λ stop. HaveMoved none_sure rest.now setting.now.batch.now setting.now.numbers.now
+        bays.old bays.new stop.moved) }
     ensures cause { IfErr result (λ stop. IsStopCause (record {
       sure = W.is_sure plant.old.wires;
       shape = rest.now.store.shape;
@@ -66,9 +68,11 @@ pub fn run_setting<R: Threads + Sync, P: ConfigPort, W: WireMaker + Sync, G: Gat
       honest = P.honest plant.old.port;
     }) stop.cause stop.moved) }
     ensures set { OnOk result
-        (AreSetTo rest.now.store.shape.modules (P.honest plant.old.port) (P.switches plant.new.port) setting.now.pairs) }
+        (AreSetTo rest.now.store.shape.modules (P.honest plant.old.port)
+        (P.switches plant.new.port) setting.now.pairs) }
     ensures wire { IfErr result (λ stop. (t : ℕ) → stop.cause ≡ Wire t →
-        AreSetTo rest.now.store.shape.modules (P.honest plant.old.port) (P.switches plant.new.port) setting.now.pairs) }
+        AreSetTo rest.now.store.shape.modules (P.honest plant.old.port)
+        (P.switches plant.new.port) setting.now.pairs) }
     ensures plant { plant.new ≡ record plant.old { port = plant.new.port } }
     ensures counted { P.failures plant.old.port ≤ P.failures plant.new.port }
     ensures unfailed { OnOk result (P.failures plant.new.port ≡ P.failures plant.old.port) }
