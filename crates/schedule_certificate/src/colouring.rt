@@ -106,8 +106,8 @@ fn colour_halves<'a, R: Threads + Sync, G: Gate>(
     colour_both(rt, gate, workers, alloc, graph, left, right, known, room)
 }
 
-/// Colours two parts at once. Each is coloured by a copy, since no closure that holds a mutable slice beside
-/// what both share is proved.
+/// Colours two parts at once. Each is coloured by a copy of it, with a scratch of its own, so that the two
+/// workers change nothing that both hold.
 #[cycle(halves)]
 fn colour_both<'a, R: Threads + Sync, G: Gate>(
     rt: &R,
