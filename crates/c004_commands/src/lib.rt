@@ -15,6 +15,3 @@ pub use answer::{Answer, AnswerFormat, CONNECTED};
 pub use command::{Command, LONGEST_COMMAND, write};
 pub use port::{PORTS, PortNo};
 pub use reader::{CommandFault, CommandReader};
-
-#[cfg(test)]
-mod tests;

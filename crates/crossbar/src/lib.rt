@@ -19,6 +19,3 @@ pub use fuse::FusePort;
 pub use pair::Pair;
 pub use port::{ConfigPort, MemoryPort, PortFault};
 pub use switch::{Crossbar, JOINED_MODULES, joined_wide};
-
-#[cfg(test)]
-mod tests;

@@ -6,7 +6,5 @@
 #![tactic(auto)]
 
 mod count;
-#[cfg(test)]
-mod tests;
 
 pub use count::FailureCount;

@@ -7,8 +7,6 @@ mod half_link;
 pub mod laws;
 mod packet;
 mod reader;
-#[cfg(test)]
-mod tests;
 
 pub use fault::LinkFault;
 pub use half_link::HalfLink;

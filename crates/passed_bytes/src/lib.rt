@@ -6,7 +6,5 @@
 #![tactic(auto)]
 
 mod bytes;
-#[cfg(test)]
-mod tests;
 
 pub use bytes::PassedBytes;

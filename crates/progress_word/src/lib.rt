@@ -13,6 +13,3 @@ mod word;
 pub use limits::ALL_PARTS;
 pub use rule::{Step, View};
 pub use word::{Lookout, ProgressWord};
-
-#[cfg(test)]
-mod tests;

@@ -1,10 +1,10 @@
 ghost use Rattle.std.specs.Prelude.{◌≡◌, ◌<◌, ◌≤◌, ◌+◌, ◌∷◌, [], IsTrue, IfOk, OnOk, OnErr};
 
-use crate::{
+use c004_commands::{CommandFault, CommandReader, PortNo};
+use crossbar::{
     Chip, ConfigPort, Crossbar, FusePort, JOINED_MODULES, MemoryPort, PortFault, Wiring,
     joined_wide,
 };
-use c004_commands::{CommandFault, CommandReader, PortNo};
 use std::test::Fail;
 
 // Resets the switch and joins module 0 to module 1, and then asks both ends. What is answered follows from

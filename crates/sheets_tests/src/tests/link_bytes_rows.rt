@@ -3,7 +3,7 @@
 ghost use Rattle.std.specs.Prelude.{◌≡◌};
 ghost use Rattle.link_bytes.specs.declared.packet.Packet.TheVariants.{Ack, Byte};
 
-use crate::{ACK, BitReader, DATA_BITS, FRAME_BITS, HalfLink, LinkFault, Packet, frame, laws};
+use link_bytes::{ACK, BitReader, DATA_BITS, FRAME_BITS, HalfLink, LinkFault, Packet, frame, laws};
 use std::test::Fail;
 
 #[test]

@@ -2,7 +2,7 @@
 
 ghost use Rattle.std.specs.Prelude.{◌≡◌, [], ◌∷◌};
 
-use crate::PassedBytes;
+use passed_bytes::PassedBytes;
 
 /// Five, and then six.
 fn two() -> PassedBytes

@@ -1,6 +1,6 @@
 use Rattle.std.proofs.Common.{[], ◌∷◌, refl, lit<}
 use Rattle.c004_commands.specs.declared.command.Command.TheVariants.{Reset, Connect, Settle}
-use Rattle.crossbar.proofs.tests.join_two_wide.Goals as goal
+use Rattle.sheets_tests.proofs.tests.crossbar_rows.join_two_wide.Goals as goal
 
 pub exchange-requires : goal.exchange-requires
 exchange-requires g c = record {

@@ -1,4 +1,4 @@
-use crate::{
+use c004_commands::{
     Answer, AnswerFormat, CONNECTED, Command, CommandFault, CommandReader, LONGEST_COMMAND, PORTS,
     PortNo, write,
 };

@@ -1,6 +1,6 @@
 use Rattle.std.proofs.Common.{[], ◌∷◌, refl}
 use Rattle.c004_commands.specs.declared.command.Command.TheVariants.{Reset}
-use Rattle.crossbar.proofs.tests.reset_at_last.Goals as goal
+use Rattle.sheets_tests.proofs.tests.crossbar_rows.reset_at_last.Goals as goal
 
 pub exchange-requires : goal.exchange-requires
 exchange-requires g c = record { commands = Reset ∷ []; ports = (tt, tt); whole = refl; count = refl }

@@ -5,7 +5,7 @@ use Rattle.link_bytes.specs.declared.packet.TheConstants.{FRAME_BITS}
 use Rattle.link_bytes.specs.declared.packet.Packet.{Packet}
 use Rattle.link_bytes.specs.declared.packet.Packet.TheVariants.{Byte}
 use Rattle.link_bytes.specs.Line.{packet_bits, IsLine}
-use Rattle.link_bytes.proofs.tests.carried.Goals as goal
+use Rattle.sheets_tests.proofs.tests.link_bytes_rows.carried.Goals as goal
 
 -- a bit of a packet before its last
 before_last : (packet : Packet) (bits : List Bool) (k n : ℕ) → bits ≡ packet_bits packet → length (packet_bits packet) ≡ n → k + 1 < n

@@ -5,7 +5,7 @@ use Rattle.c004_commands.specs.declared.command.Command.TheVariants.{Reset, Join
 use Rattle.crossbar.specs.Switch.{answers}
 use Rattle.crossbar.specs.Chips.{Switches}
 use Rattle.crossbar.proofs.Latches.{get-put}
-use Rattle.crossbar.proofs.tests.answers_of_a_join.Goals as goal
+use Rattle.sheets_tests.proofs.tests.crossbar_rows.answers_of_a_join.Goals as goal
 
 -- what the bytes of the first exchange spell
 set : List Command

@@ -2,7 +2,7 @@ use Rattle.std.proofs.Common.{◌≡◌, true, true≢false, [], ◌∷◌, Opti
 use Rattle.std.specs.Option.{is_some}
 use Rattle.link_bytes.specs.declared.packet.Packet.{Packet}
 use Rattle.link_bytes.specs.declared.packet.Packet.TheVariants.{Ack}
-use Rattle.link_bytes.proofs.tests.acknowledged.Goals as goal
+use Rattle.sheets_tests.proofs.tests.link_bytes_rows.acknowledged.Goals as goal
 
 pub returns-then-is_some : goal.returns-then-is_some
 returns-then-is_some c =

@@ -2,7 +2,7 @@
 
 ghost use Rattle.std.specs.Prelude.{◌≡◌};
 
-use crate::FailureCount;
+use failure_count::FailureCount;
 
 /// A count of two failures.
 fn two() -> FailureCount

@@ -1,6 +1,6 @@
 //! A word is raised from two lookouts, read, and its lookouts are joined.
 
-use crate::ProgressWord;
+use progress_word::ProgressWord;
 use std::alloc::Global;
 use std::test::Fail;
 

@@ -2,7 +2,7 @@ use Rattle.std.proofs.Common.{◌≡◌, take}
 use Rattle.link_bytes.specs.declared.packet.Packet.TheVariants.{Byte}
 use Rattle.link_bytes.specs.Line.{packet_bits}
 use Rattle.link_bytes.specs.Reading.{begun}
-use Rattle.link_bytes.proofs.tests.carried.Given as goal
+use Rattle.sheets_tests.proofs.tests.link_bytes_rows.carried.Given as goal
 
 -- the bits so far have been fed
 abbrev pub invariant-loop-k : goal.invariant-loop-k

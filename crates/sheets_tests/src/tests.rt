@@ -1,0 +1,8 @@
+//! A module for each crate that is tested here.
+
+mod c004_commands_rows;
+mod crossbar_rows;
+mod failure_count_rows;
+mod link_bytes_rows;
+mod passed_bytes_rows;
+mod progress_word_rows;
