@@ -281,13 +281,36 @@ fn misused(alloc: Global, kind: ErrorKind, message: &str) -> WordsFault {
     }
 }
 
-/// The fault of a word that is missing. Clap has refused such words before.
+/// What a job lacks whose words clap has let through.
+#[derive(Clone, Copy)]
+enum Lack {
+    /// A word that has to be there. Clap has refused such words before.
+    Word,
+    /// Memory.
+    Memory,
+}
+
+impl From<AllocError> for Lack {
+    fn from(_error: AllocError) -> Lack {
+        Lack::Memory
+    }
+}
+
+/// The fault of a word that is missing.
 fn missing(alloc: Global) -> WordsFault {
     misused(
         alloc,
         ErrorKind::MissingRequiredArgument,
         "a word is missing",
     )
+}
+
+/// The fault of what a job lacks.
+fn fault_of(alloc: Global, lack: Lack) -> WordsFault {
+    match lack {
+        Lack::Word => missing(alloc),
+        Lack::Memory => WordsFault::NoMemory,
+    }
 }
 
 /// The fault of words of which several name standard input.
@@ -297,24 +320,24 @@ fn named_twice(alloc: Global) -> WordsFault {
 }
 
 /// The text of a word.
-fn text_of(alloc: Global, matches: &ArgMatches<'_>, id: &str) -> Result<Text, WordsFault>
+fn text_of(alloc: Global, matches: &ArgMatches<'_>, id: &str) -> Result<Text, Lack>
     ensures { IfOk result (λ text. first_of id.now (rows_of (found_of matches.now)) ≡ Some text) }
 {
     match matches.get_str(id) {
         Some(text) => Ok(Text::of(alloc, text)?),
-        None => Err(missing(alloc)),
+        None => Err(Lack::Word),
     }
 }
 
 /// The text of the shape.
-fn shape_of(alloc: Global, matches: &ArgMatches<'_>) -> Result<Text, WordsFault>
+fn shape_of(alloc: Global, matches: &ArgMatches<'_>) -> Result<Text, Lack>
     ensures { IfOk result (λ shape. HasShape (rows_of (found_of matches.now)) shape) }
 {
     text_of(alloc, matches, "SHAPE")
 }
 
 /// The texts of a batch and of a schedule.
-fn texts_named(alloc: Global, matches: &ArgMatches<'_>) -> Result<(Text, Text), WordsFault>
+fn texts_named(alloc: Global, matches: &ArgMatches<'_>) -> Result<(Text, Text), Lack>
     ensures { IfOk result (λ texts. HasTexts (rows_of (found_of matches.now)) texts.0 texts.1) }
 {
     let batch = text_of(alloc, matches, "BATCH")?;
@@ -323,71 +346,119 @@ fn texts_named(alloc: Global, matches: &ArgMatches<'_>) -> Result<(Text, Text), 
 }
 
 /// The texts of the scripts.
-fn scripts_of(alloc: Global, matches: &ArgMatches<'_>) -> Result<TextList, WordsFault>
+fn scripts_of(alloc: Global, matches: &ArgMatches<'_>) -> Result<TextList, Lack>
     ensures { IfOk result (λ texts. HasScripts (rows_of (found_of matches.now)) texts) }
 {
     match matches.get_strs("SCRIPT") {
         Some(texts) if texts.len() >= 1 && texts.len() <= MAX_SCRIPTS => Ok(TextList::of(
             alloc, texts,
         )?),
-        _ => Err(missing(alloc)),
+        _ => Err(Lack::Word),
     }
 }
 
 /// The number of `--workers`.
-fn workers_of(alloc: Global, matches: &ArgMatches<'_>) -> Result<usize, WordsFault>
+fn workers_of(alloc: Global, matches: &ArgMatches<'_>) -> Result<usize, Lack>
     ensures { IfOk result (λ n. HasWorkers (rows_of (found_of matches.now)) n) }
 {
     match matches.get_one::<usize>("workers") {
         Some(n) if n >= 1 && n <= MAX_WORKERS => Ok(n),
-        _ => Err(missing(alloc)),
+        _ => Err(Lack::Word),
     }
 }
 
+/// The job of `plan`.
+fn plan_job(alloc: Global, found: &ArgMatches<'_>) -> Result<Job, Lack>
+    ensures job { IfOk result (λ job. IsJob (codes "plan") (rows_of (found_of found.now)) job) }
+    ensures limits { IfOk result (λ job. IsWithinLimits job) }
+{
+    let file = text_of(alloc, found, "FILE")?;
+    let workers = workers_of(alloc, found)?;
+    Ok(Job::Plan { file, workers })
+}
+
+/// The job of `check`.
+fn check_job(alloc: Global, found: &ArgMatches<'_>) -> Result<Job, Lack>
+    ensures job { IfOk result (λ job. IsJob (codes "check") (rows_of (found_of found.now)) job) }
+    ensures limits { IfOk result (λ job. IsWithinLimits job) }
+{
+    let (batch, schedule) = texts_named(alloc, found)?;
+    Ok(Job::Check { batch, schedule })
+}
+
+/// The job of `draw`.
+fn draw_job(alloc: Global, found: &ArgMatches<'_>) -> Result<Job, Lack>
+    ensures job { IfOk result (λ job. IsJob (codes "draw") (rows_of (found_of found.now)) job) }
+    ensures limits { IfOk result (λ job. IsWithinLimits job) }
+{
+    let (batch, schedule) = texts_named(alloc, found)?;
+    Ok(Job::Draw { batch, schedule })
+}
+
+/// The job of `switch`.
+fn switch_job(alloc: Global, found: &ArgMatches<'_>) -> Result<Job, Lack>
+    ensures job { IfOk result (λ job. IsJob (codes "switch") (rows_of (found_of found.now)) job) }
+    ensures limits { IfOk result (λ job. IsWithinLimits job) }
+{
+    let batch = text_of(alloc, found, "BATCH")?;
+    let workers = workers_of(alloc, found)?;
+    Ok(Job::Switch { batch, workers })
+}
+
+/// The job of `run`.
+fn run_job(alloc: Global, found: &ArgMatches<'_>) -> Result<Job, Lack>
+    ensures job { IfOk result (λ job. IsJob (codes "run") (rows_of (found_of found.now)) job) }
+    ensures limits { IfOk result (λ job. IsWithinLimits job) }
+{
+    let shape = shape_of(alloc, found)?;
+    let batch = text_of(alloc, found, "BATCH")?;
+    let workers = workers_of(alloc, found)?;
+    Ok(Job::Run {
+        shape,
+        batch,
+        workers,
+    })
+}
+
+/// The job of `serve`.
+fn serve_job(alloc: Global, found: &ArgMatches<'_>) -> Result<Job, Lack>
+    ensures job { IfOk result (λ job. IsJob (codes "serve") (rows_of (found_of found.now)) job) }
+    ensures limits { IfOk result (λ job. IsWithinLimits job) }
+{
+    let shape = shape_of(alloc, found)?;
+    let scripts = scripts_of(alloc, found)?;
+    let workers = workers_of(alloc, found)?;
+    Ok(Job::Serve {
+        shape,
+        scripts,
+        workers,
+    })
+}
+
 /// The job of a command by its name and matches.
-fn job_of(alloc: Global, name: &str, found: &ArgMatches<'_>) -> Result<Job, WordsFault>
+fn job_of(alloc: Global, name: &str, found: &ArgMatches<'_>) -> Result<Job, Lack>
     ensures job { IfOk result (λ job. IsJob name.now (rows_of (found_of found.now)) job) }
     ensures limits { IfOk result (λ job. IsWithinLimits job) }
 {
     if name == "plan" {
-        let file = text_of(alloc, found, "FILE")?;
-        let workers = workers_of(alloc, found)?;
-        return Ok(Job::Plan { file, workers });
+        return plan_job(alloc, found);
     }
     if name == "check" {
-        let (batch, schedule) = texts_named(alloc, found)?;
-        return Ok(Job::Check { batch, schedule });
+        return check_job(alloc, found);
     }
     if name == "run" {
-        let shape = shape_of(alloc, found)?;
-        let batch = text_of(alloc, found, "BATCH")?;
-        let workers = workers_of(alloc, found)?;
-        return Ok(Job::Run {
-            shape,
-            batch,
-            workers,
-        });
+        return run_job(alloc, found);
     }
     if name == "serve" {
-        let shape = shape_of(alloc, found)?;
-        let scripts = scripts_of(alloc, found)?;
-        let workers = workers_of(alloc, found)?;
-        return Ok(Job::Serve {
-            shape,
-            scripts,
-            workers,
-        });
+        return serve_job(alloc, found);
     }
     if name == "draw" {
-        let (batch, schedule) = texts_named(alloc, found)?;
-        return Ok(Job::Draw { batch, schedule });
+        return draw_job(alloc, found);
     }
     if name == "switch" {
-        let batch = text_of(alloc, found, "BATCH")?;
-        let workers = workers_of(alloc, found)?;
-        return Ok(Job::Switch { batch, workers });
+        return switch_job(alloc, found);
     }
-    Err(missing(alloc))
+    Err(Lack::Word)
 }
 
 /// The job of the words, whatever files it names.
@@ -397,7 +468,10 @@ fn job_named(alloc: Global, words: &[String]) -> Result<Job, WordsFault>
 {
     let matches = matches_of(alloc, words)?;
     match matches.subcommand() {
-        Some((name, found)) => job_of(alloc, name, found),
+        Some((name, found)) => match job_of(alloc, name, found) {
+            Ok(job) => Ok(job),
+            Err(lack) => Err(fault_of(alloc, lack)),
+        },
         None => Err(missing(alloc)),
     }
 }

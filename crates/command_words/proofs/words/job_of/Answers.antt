@@ -1,20 +1,35 @@
-use Rattle.std.proofs.Common.{rules}
+use Rattle.std.proofs.Common.{rules, ◌≡◌, IfOk, codes, subst, sym}
+use Rattle.clap.specs.Words.{Text, found_of, rows_of}
+use Rattle.command_words.specs.Jobs.{IsJob}
+use Rattle.command_words.specs.declared.words.Job.{Job}
 use Rattle.command_words.proofs.words.job_of.Goals as goal
 
 pub returns-then-eq-clause-job : goal.returns-then-eq-clause-job
-returns-then-eq-clause-job c = search rules
+returns-then-eq-clause-job c =
+    let named : c.args.name.now ≡ codes "plan" = search rules in
+    subst (λ (name : Text). IfOk c.plan_job.result (λ (job : Job). IsJob name (rows_of (found_of c.args.found.now)) job)) (sym named) c.plan_job.ensures.job
 
 pub returns-then-eq-2-clause-job : goal.returns-then-eq-2-clause-job
-returns-then-eq-2-clause-job c = search rules
+returns-then-eq-2-clause-job c =
+    let named : c.args.name.now ≡ codes "check" = search rules in
+    subst (λ (name : Text). IfOk c.check_job.result (λ (job : Job). IsJob name (rows_of (found_of c.args.found.now)) job)) (sym named) c.check_job.ensures.job
 
 pub returns-then-eq-3-clause-job : goal.returns-then-eq-3-clause-job
-returns-then-eq-3-clause-job c = search rules
+returns-then-eq-3-clause-job c =
+    let named : c.args.name.now ≡ codes "run" = search rules in
+    subst (λ (name : Text). IfOk c.run_job.result (λ (job : Job). IsJob name (rows_of (found_of c.args.found.now)) job)) (sym named) c.run_job.ensures.job
 
 pub returns-then-eq-4-clause-job : goal.returns-then-eq-4-clause-job
-returns-then-eq-4-clause-job c = search rules
+returns-then-eq-4-clause-job c =
+    let named : c.args.name.now ≡ codes "serve" = search rules in
+    subst (λ (name : Text). IfOk c.serve_job.result (λ (job : Job). IsJob name (rows_of (found_of c.args.found.now)) job)) (sym named) c.serve_job.ensures.job
 
 pub returns-then-eq-5-clause-job : goal.returns-then-eq-5-clause-job
-returns-then-eq-5-clause-job c = search rules
+returns-then-eq-5-clause-job c =
+    let named : c.args.name.now ≡ codes "draw" = search rules in
+    subst (λ (name : Text). IfOk c.draw_job.result (λ (job : Job). IsJob name (rows_of (found_of c.args.found.now)) job)) (sym named) c.draw_job.ensures.job
 
 pub returns-then-eq-6-clause-job : goal.returns-then-eq-6-clause-job
-returns-then-eq-6-clause-job c = search rules
+returns-then-eq-6-clause-job c =
+    let named : c.args.name.now ≡ codes "switch" = search rules in
+    subst (λ (name : Text). IfOk c.switch_job.result (λ (job : Job). IsJob name (rows_of (found_of c.args.found.now)) job)) (sym named) c.switch_job.ensures.job
