@@ -31,6 +31,3 @@ pub use pair_list::PairList;
 pub use plant::Plant;
 pub use running::run;
 pub use switching::bytes_for;
-
-#[cfg(test)]
-mod tests;

@@ -1,12 +1,9 @@
 //! A port that records what it is sent and to which chip, and answers as it pleases.
 
-use super::runs::{Block, Seen, run_with};
-use crate::Plant;
+use super::runs::{Block, Seen, run_with, with_port};
 use crossbar::{Chip, ConfigPort, MemoryPort, PortFault};
 use failure_count::FailureCount;
-use peek_poke::PlainWires;
-use schedule_certificate::OpenGate;
-use std::test::Fail;
+use setting_runner::Outcome;
 use std::thread::Threads;
 
 /// How many bytes a record keeps.
@@ -135,16 +132,18 @@ impl Record {
 }
 
 /// What a port of the tests does.
-#[derive(Clone, Copy, PartialEq, Eq)]
+#[derive(Clone, Copy)]
 pub enum Manner {
     /// It fails every call.
     Fails,
-    /// It answers every enquiry by 0.
-    AnswersNothing,
+    /// It fails one call, of which there are so many before, and answers the others rightly.
+    FailsOnce(usize),
+    /// From this round of enquiries on it answers each of them by 0, and else rightly.
+    SilentFrom(usize),
     /// It answers every enquiry of a chip by 0, and else rightly.
     Mutes(Chip),
-    /// In this round of enquiries it answers that of this output by this byte, and else rightly. A setting has a round
-    /// for each switch of the rack.
+    /// In this round of enquiries, counted from 0, it answers that of this output by this byte, and else rightly. A
+    /// setting has a round for each switch of the rack.
     Answers {
         round: usize,
         output: usize,
@@ -154,16 +153,34 @@ pub enum Manner {
     Rightly,
 }
 
-/// A port to switches in memory, which does as it pleases, and keeps what it is sent, to which chip each byte goes,
-/// 0 for the first and 1 for the second, and what it replies.
+/// The calls of a port: how often it was called, and, of the calls that didn't fail, what it was sent, to which chip
+/// each byte went, 0 for the first and 1 for the second, and what it replied.
+#[derive(Clone, Copy)]
+pub struct Calls {
+    pub count: usize,
+    pub sent: Record,
+    pub chips: Record,
+    pub replied: Record,
+}
+
+impl Calls {
+    fn none() -> Calls {
+        Calls {
+            count: 0,
+            sent: Record::nothing(),
+            chips: Record::nothing(),
+            replied: Record::nothing(),
+        }
+    }
+}
+
+/// A port to switches in memory, which does as it pleases, and keeps its calls.
 #[derive(Drop)]
 struct OtherPort {
     memory: MemoryPort,
     manner: Manner,
+    calls: Calls,
     enquired: usize,
-    sent: Record,
-    chips: Record,
-    replied: Record,
     failed: FailureCount,
 }
 
@@ -172,18 +189,25 @@ impl OtherPort {
         OtherPort {
             memory: MemoryPort::new(),
             manner,
+            calls: Calls::none(),
             enquired: 0,
-            sent: Record::nothing(),
-            chips: Record::nothing(),
-            replied: Record::nothing(),
             failed: FailureCount::zero(),
+        }
+    }
+
+    /// Whether it fails the call that has so many before it.
+    fn fails(&self, before: usize) -> bool {
+        match self.manner {
+            Manner::Fails => true,
+            Manner::FailsOnce(failing) => before == failing,
+            _ => false,
         }
     }
 
     /// Replies as it pleases.
     fn twist(&self, chip: Chip, replies: &mut [u8]) {
         match self.manner {
-            Manner::AnswersNothing => replies.fill(0),
+            Manner::SilentFrom(round) if round <= self.enquired => replies.fill(0),
             Manner::Mutes(muted) if chip == muted => replies.fill(0),
             Manner::Answers {
                 round,
@@ -213,44 +237,29 @@ impl ConfigPort for OtherPort {
     ghost failures = { λ p. p.failed };
 
     fn exchange(&mut self, chip: Chip, bytes: &[u8], replies: &mut [u8]) -> Result<(), PortFault> {
-        if self.manner == Manner::Fails {
+        let before = self.calls.count;
+        self.calls.count = before.saturating_add(1);
+        if self.fails(before) {
             self.failed.raise();
             return Err(PortFault);
         }
         let _ = self.memory.exchange(chip, bytes, replies);
-        self.sent.keep_all(bytes);
-        self.chips.keep_often(number_of(chip), bytes.len());
+        self.calls.sent.keep_all(bytes);
+        self.calls.chips.keep_often(number_of(chip), bytes.len());
         if !replies.is_empty() {
             self.twist(chip, replies);
             self.enquired = self.enquired.saturating_add(1);
-            self.replied.keep_all(replies);
+            self.calls.replied.keep_all(replies);
         }
         Ok(())
     }
 }
 
-/// What is seen of a run with such a port, and what the port was sent and replied.
+/// What is seen of a run with such a port, and its calls.
 #[derive(Clone, Copy)]
 pub struct Recorded {
     pub seen: Seen,
-    pub sent: Record,
-    pub chips: Record,
-    pub replied: Record,
-}
-
-/// A plant with a port of this manner.
-fn with_port(manner: Manner) -> Plant<OtherPort, PlainWires, OpenGate> {
-    Plant {
-        port: OtherPort::new(manner),
-        wires: PlainWires,
-        gate: OpenGate,
-        workers: 1,
-    }
-}
-
-/// What the port of a plant was sent, to which chips, and what it replied.
-fn records_of(plant: Plant<OtherPort, PlainWires, OpenGate>) -> (Record, Record, Record) {
-    (plant.port.sent, plant.port.chips, plant.port.replied)
+    pub calls: Calls,
 }
 
 /// Runs a batch text with a port of this manner.
@@ -260,14 +269,26 @@ pub fn run_recorded<R: AllocGlobal + Threads + Sync>(
     text: &str,
     manner: Manner,
     blocks: &[Block<'_>],
-) -> Result<Recorded, Fail> {
-    let mut plant = with_port(manner);
-    let ran = run_with(rt, shape, text, &mut plant, blocks);
-    let (sent, chips, replied) = records_of(plant);
-    Ok(Recorded {
-        seen: ran?,
-        sent,
-        chips,
-        replied,
-    })
+) -> Option<Recorded> {
+    let mut plant = with_port(OtherPort::new(manner));
+    let seen = run_with(rt, shape, text, &mut plant, blocks)?;
+    let calls = plant.port.calls;
+    Some(Recorded { seen, calls })
+}
+
+/// Whether a batch text run with a port of this manner has this outcome and leaves these blocks, and the port was sent just
+/// these settings, each with its enquiries.
+pub fn is_sent<R: AllocGlobal + Threads + Sync>(
+    rt: &R,
+    shape: &str,
+    text: &str,
+    manner: Manner,
+    outcome: Outcome,
+    settings: &[&[u8]],
+    blocks: &[Block<'_>],
+) -> bool {
+    match run_recorded(rt, shape, text, manner, blocks) {
+        Some(ran) => ran.seen.is_ended(outcome) && ran.calls.sent.is_of_settings(settings),
+        None => false,
+    }
 }

@@ -1,24 +1,11 @@
 //! Wires that fail.
 
-use super::runs::{Block, MOVED, TWO_PUSHES, block_of, run_with, stop_of, stopped};
-use crate::{Plant, StopCause};
-use crossbar::MemoryPort;
+use super::runs::{Block, TWO_PUSHES, block_of, run_with, stopped, stops_at_fuse, with_wires};
 use failure_count::FailureCount;
-use peek_poke::{FuseWires, PlainWire, Wire, WireFault, WireMaker};
-use schedule_certificate::OpenGate;
+use peek_poke::{PlainWire, Wire, WireFault, WireMaker};
+use setting_runner::StopCause;
 use std::sync::atomic::{AtomicUsize, Ordering};
-use std::test::Fail;
 use std::thread::Threads;
-
-/// A plant with these wires.
-fn with_wires<W>(wires: W) -> Plant<MemoryPort, W, OpenGate> {
-    Plant {
-        port: MemoryPort::new(),
-        wires,
-        gate: OpenGate,
-        workers: 1,
-    }
-}
 
 /// A stop at a transfer's wire.
 fn wire_stop(transfer: usize) -> StopCause {
@@ -27,31 +14,18 @@ fn wire_stop(transfer: usize) -> StopCause {
 
 /// Row overlaps-and-fuses: a wire of 14 bytes carries one word and five bytes of the next.
 #[test]
-fn overlaps_and_fuses_push(rt: HostRuntime) -> Result<(), Fail> {
-    let mut plant = with_wires(FuseWires {
-        transfer: 0,
-        bytes: 14,
-    });
+fn overlaps_and_fuses_push(rt: HostRuntime) {
     let blocks = [block_of(1, 0, &[0, 0x0001_0001])];
-    let seen = run_with(&rt, "2x1x2", "batch 1\npush 0 0 1 0\n", &mut plant, &blocks)?;
-    assert_eq!(rt; stop_of(seen.outcome), stopped(wire_stop(0), (0, 1), None));
-    assert!(rt; seen.has_blocks);
-    assert_eq!(rt; seen.told.last, Some(0));
-    Ok(())
+    let stop = stopped(wire_stop(0), (0, 1), None);
+    assert!(rt; stops_at_fuse(&rt, "2x1x2", "batch 1\npush 0 0 1 0\n", 14, stop, &blocks));
 }
 
 /// Row overlaps-and-fuses: a wire of seven bytes brings no word back.
 #[test]
-fn overlaps_and_fuses_pull(rt: HostRuntime) -> Result<(), Fail> {
-    let mut plant = with_wires(FuseWires {
-        transfer: 0,
-        bytes: 7,
-    });
+fn overlaps_and_fuses_pull(rt: HostRuntime) {
     let blocks = [block_of(0, 0, &[0, 1])];
-    let seen = run_with(&rt, "2x1x2", "batch 1\npull 0 0 1 0\n", &mut plant, &blocks)?;
-    assert_eq!(rt; stop_of(seen.outcome), stopped(wire_stop(0), (0, 0), None));
-    assert!(rt; seen.has_blocks);
-    Ok(())
+    let stop = stopped(wire_stop(0), (0, 0), None);
+    assert!(rt; stops_at_fuse(&rt, "2x1x2", "batch 1\npull 0 0 1 0\n", 7, stop, &blocks));
 }
 
 /// The blocks that row two-pushes writes, where of transfer 0 one word has moved, and of transfer 1 both.
@@ -69,18 +43,9 @@ const HALF_MOVED: [Block<'static>; 2] = [
 ];
 
 #[test]
-fn a_failed_wire_lets_the_others_go_on(rt: HostRuntime) -> Result<(), Fail> {
-    let mut plant = with_wires(FuseWires {
-        transfer: 0,
-        bytes: 9,
-    });
-    let seen = run_with(&rt, "3x2x2", TWO_PUSHES, &mut plant, &HALF_MOVED)?;
-    assert_eq!(rt;
-        stop_of(seen.outcome),
-        stopped(wire_stop(0), (0, 1), Some((1, 2)))
-    );
-    assert!(rt; seen.has_blocks);
-    Ok(())
+fn a_failed_wire_lets_the_others_go_on(rt: HostRuntime) {
+    let stop = stopped(wire_stop(0), (0, 1), Some((1, 2)));
+    assert!(rt; stops_at_fuse(&rt, "3x2x2", TWO_PUSHES, 9, stop, &HALF_MOVED));
 }
 
 /// A line of which one call fails, and the calls before it and behind it don't.
@@ -138,23 +103,23 @@ fn stops_with_one_word<R: AllocGlobal + Threads + Sync>(
     rt: &R,
     text: &str,
     written: Block<'_>,
-) -> Result<bool, Fail> {
+) -> bool {
     let made = AtomicUsize::new(0);
     let mut plant = with_wires(HoledLines {
         failing_call: 12,
         made: &made,
     });
-    let seen = run_with(rt, "2x1x2", text, &mut plant, &[written])?;
-    let stops = stop_of(seen.outcome) == stopped(wire_stop(0), (0, 1), None);
-    Ok(stops && seen.has_blocks && made.load(Ordering::SeqCst) == 1)
+    let Some(seen) = run_with(rt, "2x1x2", text, &mut plant, &[written]) else {
+        return false;
+    };
+    seen.is_stopped(stopped(wire_stop(0), (0, 1), None)) && made.load(Ordering::SeqCst) == 1
 }
 
 /// A wire that has failed isn't tried again, though it would carry the bytes then.
 #[test]
-fn a_failed_wire_is_not_tried_again(rt: HostRuntime) -> Result<(), Fail> {
+fn a_failed_wire_is_not_tried_again(rt: HostRuntime) {
     let pushed = block_of(1, 0, &[0, 0x0001_0001]);
-    assert!(rt; stops_with_one_word(&rt, "batch 1\npush 0 0 1 0\n", pushed)?);
+    assert!(rt; stops_with_one_word(&rt, "batch 1\npush 0 0 1 0\n", pushed));
     let pulled = block_of(0, 0, &[0x0001_0000, 1]);
-    assert!(rt; stops_with_one_word(&rt, "batch 1\npull 0 0 1 0\n", pulled)?);
-    Ok(())
+    assert!(rt; stops_with_one_word(&rt, "batch 1\npull 0 0 1 0\n", pulled));
 }

@@ -1,13 +1,12 @@
 //! Runs of batch texts, and what is seen of them.
 
-use crate::{Moved, Notice, Outcome, Plant, StopCause, run};
 use batch::{Batch, Place, Shape};
 use crossbar::{ConfigPort, MemoryPort};
 use module_memory::Rack;
-use peek_poke::{PlainWires, WireMaker};
+use peek_poke::{FuseWires, PlainWires, WireMaker};
 use schedule_certificate::{Gate, MAX_WORKERS, OpenGate, Planned, schedule};
+use setting_runner::{Moved, Notice, Outcome, Plant, StopCause, run};
 use std::alloc::Global;
-use std::test::Fail;
 use std::thread::Threads;
 
 /// Row two-pushes.
@@ -18,6 +17,43 @@ pub const THREE_TRANSFERS: &str = "batch 3\npush 0 0 1 0\npush 0 1 2 0\npush 1 1
 
 /// Four transfers of one setting.
 pub const FOUR_PUSHES: &str = "batch 4\npush 0 0 1 1\npush 1 0 2 1\npush 2 0 3 1\npush 3 0 0 1\n";
+
+/// Each module of the widest rack sends its block 0 into block 1 of the module that lies as far from the other end.
+pub const TURNED_ROUND: &str = "\
+batch 32\n\
+push 0 0 31 1\n\
+push 1 0 30 1\n\
+push 2 0 29 1\n\
+push 3 0 28 1\n\
+push 4 0 27 1\n\
+push 5 0 26 1\n\
+push 6 0 25 1\n\
+push 7 0 24 1\n\
+push 8 0 23 1\n\
+push 9 0 22 1\n\
+push 10 0 21 1\n\
+push 11 0 20 1\n\
+push 12 0 19 1\n\
+push 13 0 18 1\n\
+push 14 0 17 1\n\
+push 15 0 16 1\n\
+push 16 0 15 1\n\
+push 17 0 14 1\n\
+push 18 0 13 1\n\
+push 19 0 12 1\n\
+push 20 0 11 1\n\
+push 21 0 10 1\n\
+push 22 0 9 1\n\
+push 23 0 8 1\n\
+push 24 0 7 1\n\
+push 25 0 6 1\n\
+push 26 0 5 1\n\
+push 27 0 4 1\n\
+push 28 0 3 1\n\
+push 29 0 2 1\n\
+push 30 0 1 1\n\
+push 31 0 0 1\n\
+";
 
 /// The words that a block is expected to have after a run.
 #[derive(Clone, Copy)]
@@ -102,17 +138,17 @@ impl Notice for Told {
 }
 
 /// A rack of the shape, each of whose words tells where it stands.
-pub fn marked(alloc: Global, shape: &str) -> Result<Rack, Fail> {
-    let shape = Shape::read(shape.as_bytes())?;
-    let mut rack = Rack::new(alloc, shape)?;
+fn marked(alloc: Global, shape: &str) -> Option<Rack> {
+    let shape = Shape::read(shape.as_bytes()).ok()?;
+    let mut rack = Rack::new(alloc, shape).ok()?;
     rack.mark();
-    Ok(rack)
+    Some(rack)
 }
 
 /// The plan of a batch text.
-pub fn plan<R: AllocGlobal + Threads + Sync>(rt: &R, text: &str) -> Result<Planned, Fail> {
-    let batch = Batch::read(rt.alloc(), text.as_bytes(), Shape::WIDEST)?;
-    Ok(schedule(rt, rt.alloc(), batch, 1, &OpenGate)?)
+fn plan<R: AllocGlobal + Threads + Sync>(rt: &R, text: &str) -> Option<Planned> {
+    let batch = Batch::read(rt.alloc(), text.as_bytes(), Shape::WIDEST).ok()?;
+    schedule(rt, rt.alloc(), batch, 1, &OpenGate).ok()
 }
 
 /// Whether all these blocks have the words that are expected.
@@ -130,7 +166,7 @@ fn has_blocks(rack: &Rack, blocks: &[Block<'_>]) -> bool {
 }
 
 /// Runs a plan with a plant and a notice, and tells the outcome and whether the rack then has these blocks.
-pub fn run_planned<
+fn run_planned<
     R: AllocGlobal + Threads + Sync,
     P: ConfigPort,
     W: WireMaker + Sync,
@@ -163,17 +199,18 @@ pub fn run_with<
     text: &str,
     plant: &mut Plant<P, W, G>,
     blocks: &[Block<'_>],
-) -> Result<Seen, Fail> {
+) -> Option<Seen> {
     let mut told = Told::nothing();
     let (outcome, has_blocks) = run_told(rt, shape, text, plant, &mut told, blocks)?;
-    Ok(Seen {
+    Some(Seen {
         outcome,
         told,
         has_blocks,
     })
 }
 
-/// Runs a batch text on a marked rack with a plant and a notice.
+/// Runs a batch text on a marked rack with a plant and a notice, and tells the outcome and whether the rack then has
+/// these blocks.
 pub fn run_told<
     R: AllocGlobal + Threads + Sync,
     P: ConfigPort,
@@ -187,30 +224,29 @@ pub fn run_told<
     plant: &mut Plant<P, W, G>,
     notice: &mut N,
     blocks: &[Block<'_>],
-) -> Result<(Outcome, bool), Fail> {
+) -> Option<(Outcome, bool)> {
     let planned = plan(rt, text)?;
-    run_marked(rt, shape, &planned, plant, notice, blocks)
+    let rack = marked(rt.alloc(), shape)?;
+    run_planned(rt, rack, &planned, plant, notice, blocks)
 }
 
-/// Runs a plan on a marked rack with a plant and a notice.
-fn run_marked<
-    R: AllocGlobal + Threads + Sync,
-    P: ConfigPort,
-    W: WireMaker + Sync,
-    G: Gate + Sync,
-    N: Notice,
->(
-    rt: &R,
-    shape: &str,
-    planned: &Planned,
-    plant: &mut Plant<P, W, G>,
-    notice: &mut N,
-    blocks: &[Block<'_>],
-) -> Result<(Outcome, bool), Fail> {
-    let rack = marked(rt.alloc(), shape)?;
-    match run_planned(rt, rack, planned, plant, notice, blocks) {
-        Some(seen) => Ok(seen),
-        None => Err(Fail::from("no such number of workers")),
+/// A plant of one worker with this port, whose wires never fail.
+pub fn with_port<P>(port: P) -> Plant<P, PlainWires, OpenGate> {
+    Plant {
+        port,
+        wires: PlainWires,
+        gate: OpenGate,
+        workers: 1,
+    }
+}
+
+/// A plant of one worker with these wires.
+pub fn with_wires<W>(wires: W) -> Plant<MemoryPort, W, OpenGate> {
+    Plant {
+        port: MemoryPort::new(),
+        wires,
+        gate: OpenGate,
+        workers: 1,
     }
 }
 
@@ -224,15 +260,65 @@ pub fn plain(workers: usize) -> Plant<MemoryPort, PlainWires, OpenGate> {
     }
 }
 
-/// Runs a batch text with a port and wires that never fail.
-pub fn run_plain<R: AllocGlobal + Threads + Sync>(
+/// How often a run with this outcome tells its notice: once as it begins, and once for each setting.
+fn times_told(outcome: Outcome) -> usize {
+    match outcome {
+        Outcome::Completed { settings, .. } => settings.saturating_add(1),
+        Outcome::Stopped { setting, .. } => setting.saturating_add(1),
+        Outcome::Refused(_) => 0,
+    }
+}
+
+impl Seen {
+    /// Whether the run had this outcome, left the blocks that were expected, and told its notice as often as such a run
+    /// does, in order.
+    pub fn is_ended(self, outcome: Outcome) -> bool {
+        self.outcome == outcome && self.is_well()
+    }
+
+    /// The same of a run that stopped so.
+    pub fn is_stopped(self, stop: Stop) -> bool {
+        stop_of(self.outcome) == Some(stop) && self.is_well()
+    }
+
+    /// Whether the run left the blocks that were expected, and told its notice as often as its outcome says, in order.
+    fn is_well(self) -> bool {
+        let times = times_told(self.outcome);
+        let last = times.checked_sub(1);
+        self.has_blocks && self.told.in_order && self.told.times == times && self.told.last == last
+    }
+}
+
+/// Whether a batch text, run by so many workers with a port and wires that never fail, has this outcome and leaves these
+/// blocks.
+pub fn comes_to<R: AllocGlobal + Threads + Sync>(
     rt: &R,
     shape: &str,
     text: &str,
     workers: usize,
+    outcome: Outcome,
     blocks: &[Block<'_>],
-) -> Result<Seen, Fail> {
-    run_with(rt, shape, text, &mut plain(workers), blocks)
+) -> bool {
+    match run_with(rt, shape, text, &mut plain(workers), blocks) {
+        Some(seen) => seen.is_ended(outcome),
+        None => false,
+    }
+}
+
+/// Whether a batch text stops so and leaves these blocks, where the wire of transfer 0 carries so many bytes.
+pub fn stops_at_fuse<R: AllocGlobal + Threads + Sync>(
+    rt: &R,
+    shape: &str,
+    text: &str,
+    bytes: usize,
+    stop: Stop,
+    blocks: &[Block<'_>],
+) -> bool {
+    let wires = FuseWires { transfer: 0, bytes };
+    match run_with(rt, shape, text, &mut with_wires(wires), blocks) {
+        Some(seen) => seen.is_stopped(stop),
+        None => false,
+    }
 }
 
 /// The outcome of a run of all settings.
@@ -241,7 +327,7 @@ pub fn completed(settings: usize, words: usize) -> Outcome {
 }
 
 /// Where a run stopped and why, and what its first two transfers have moved.
-#[derive(Clone, Copy, Debug, PartialEq, Eq)]
+#[derive(Clone, Copy, PartialEq, Eq)]
 pub struct Stop {
     pub setting: usize,
     pub cause: StopCause,
@@ -249,20 +335,16 @@ pub struct Stop {
 }
 
 /// A stop in setting 0.
-pub fn stopped(
-    cause: StopCause,
-    first: (usize, usize),
-    second: Option<(usize, usize)>,
-) -> Option<Stop> {
-    Some(Stop {
+pub fn stopped(cause: StopCause, first: (usize, usize), second: Option<(usize, usize)>) -> Stop {
+    Stop {
         setting: 0,
         cause,
         moved: [Some(first), second],
-    })
+    }
 }
 
 /// Where and why a run stopped, if it did.
-pub fn stop_of(outcome: Outcome) -> Option<Stop> {
+fn stop_of(outcome: Outcome) -> Option<Stop> {
     match outcome {
         Outcome::Stopped {
             setting,

@@ -1,12 +1,11 @@
 //! Wires whose bytes are compared with those that are expected.
 
 use super::runs::{Block, block_of, completed, run_with};
-use crate::Plant;
 use crossbar::MemoryPort;
 use peek_poke::{PlainWire, Wire, WireFault, WireMaker};
 use schedule_certificate::OpenGate;
+use setting_runner::Plant;
 use std::sync::atomic::{AtomicUsize, Ordering};
-use std::test::Fail;
 use std::thread::Threads;
 
 /// What the wires of a run have carried: how many bytes were those that were expected, and how many not, and how many
@@ -79,7 +78,7 @@ impl<'a> WireMaker for ComparedLines<'a> {
     }
 }
 
-/// Whether a run on the rack `2x2x2` of a batch of so many settings leaves these blocks, and each transfer's wire
+/// Whether a run on the rack `2x2x2` of a batch of so many settings, if there is one, leaves these blocks, and each transfer's wire
 /// carries just these bytes, and there are no other wires.
 fn carries<R: AllocGlobal + Threads + Sync>(
     rt: &R,
@@ -87,7 +86,7 @@ fn carries<R: AllocGlobal + Threads + Sync>(
     settings: usize,
     expected: &[&[u8]],
     blocks: &[Block<'_>],
-) -> Result<bool, Fail> {
+) -> Option<bool> {
     let carried = Carried::nothing();
     let mut plant = Plant {
         port: MemoryPort::new(),
@@ -107,13 +106,13 @@ fn carries<R: AllocGlobal + Threads + Sync>(
     let right = carried.right.load(Ordering::SeqCst);
     let wrong = carried.wrong.load(Ordering::SeqCst);
     let wires = carried.wires.load(Ordering::SeqCst);
-    Ok(is_ran && seen.has_blocks && right == all && wrong == 0 && wires == expected.len())
+    Some(is_ran && seen.has_blocks && right == all && wrong == 0 && wires == expected.len())
 }
 
 /// Held blocks are peeked at 80010808 and 8001080c hex, in the hold window, and another block at 80000800 and 80000804.
 /// Nothing of the copying is seen on a wire.
 #[test]
-fn held_blocks_are_peeked_in_the_hold_window(rt: HostRuntime) -> Result<(), Fail> {
+fn held_blocks_are_peeked_in_the_hold_window(rt: HostRuntime) {
     let text = "batch 3\npull 0 1 1 1\npull 1 1 0 1\npull 1 0 0 0\n";
     let expected: [&[u8]; 3] = [
         &[
@@ -134,14 +133,13 @@ fn held_blocks_are_peeked_in_the_hold_window(rt: HostRuntime) -> Result<(), Fail
         block_of(1, 1, &[0x0100, 0x0101]),
         block_of(1, 0, &[0, 1]),
     ];
-    assert!(rt; carries(&rt, text, 2, &expected, &blocks)?);
-    Ok(())
+    assert!(rt; carries(&rt, text, 2, &expected, &blocks) == Some(true));
 }
 
 /// The words of held blocks are poked where their destinations stand, at 80000808 and 8000080c hex. The copying uses no
 /// line.
 #[test]
-fn held_blocks_are_poked_into_the_window(rt: HostRuntime) -> Result<(), Fail> {
+fn held_blocks_are_poked_into_the_window(rt: HostRuntime) {
     let text = "batch 2\npush 0 1 1 1\npush 1 1 0 1\n";
     let expected: [&[u8]; 2] = [
         &[
@@ -157,6 +155,5 @@ fn held_blocks_are_poked_into_the_window(rt: HostRuntime) -> Result<(), Fail> {
         block_of(0, 1, &[0x0001_0100, 0x0001_0101]),
         block_of(1, 1, &[0x0100, 0x0101]),
     ];
-    assert!(rt; carries(&rt, text, 1, &expected, &blocks)?);
-    Ok(())
+    assert!(rt; carries(&rt, text, 1, &expected, &blocks) == Some(true));
 }

@@ -1,12 +1,10 @@
 //! When a notice is told.
 
-use super::runs::{THREE_TRANSFERS, completed, run_told};
-use crate::{Notice, Plant};
-use crossbar::MemoryPort;
+use super::runs::{THREE_TRANSFERS, completed, run_told, with_wires};
 use peek_poke::{PlainWire, PlainWires, WireMaker};
-use schedule_certificate::OpenGate;
+use setting_runner::Notice;
 use std::sync::atomic::{AtomicBool, AtomicUsize, Ordering};
-use std::test::Fail;
+use std::thread::Threads;
 
 /// What a notice and a maker of wires share: how often the notice was told, how many wires were made, and
 /// whether one of them was made too early or too late.
@@ -66,20 +64,19 @@ impl<'a> WireMaker for TimedWires<'a> {
     }
 }
 
-#[test]
-fn each_setting_is_told_as_it_is_done(rt: HostRuntime) -> Result<(), Fail> {
+/// Whether row three-transfers makes three wires and tells its notice three times, each of them in time.
+fn is_told_in_time<R: AllocGlobal + Threads + Sync>(rt: &R) -> bool {
     let shared = Shared::new();
     let mut notice = CountingNotice { shared: &shared };
-    let mut plant = Plant {
-        port: MemoryPort::new(),
-        wires: TimedWires { shared: &shared },
-        gate: OpenGate,
-        workers: 1,
-    };
-    let seen = run_told(&rt, "3x2x1", THREE_TRANSFERS, &mut plant, &mut notice, &[])?;
-    assert_eq!(rt; seen.0, completed(2, 3));
-    assert_eq!(rt; shared.made.load(Ordering::SeqCst), 3);
-    assert_eq!(rt; shared.told.load(Ordering::SeqCst), 3);
-    assert!(rt; !shared.untimely.load(Ordering::SeqCst));
-    Ok(())
+    let mut plant = with_wires(TimedWires { shared: &shared });
+    let ran = run_told(rt, "3x2x1", THREE_TRANSFERS, &mut plant, &mut notice, &[]);
+    ran.is_some_and(|(outcome, _)| outcome == completed(2, 3))
+        && shared.made.load(Ordering::SeqCst) == 3
+        && shared.told.load(Ordering::SeqCst) == 3
+        && !shared.untimely.load(Ordering::SeqCst)
+}
+
+#[test]
+fn each_setting_is_told_as_it_is_done(rt: HostRuntime) {
+    assert!(rt; is_told_in_time(&rt));
 }
