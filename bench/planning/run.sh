@@ -11,7 +11,7 @@
 #   part        2731 transfers from module 0 to module 1
 #   wide        as scrambled, over 32 modules
 #
-# Needs valgrind. Build the program first: ./exchange --help
+# Needs valgrind. Build the program first: ./exchange prove
 set -eu
 here=$(cd "$(dirname "${BASH_SOURCE[0]}")" && pwd)
 top=$here/../..

@@ -15,7 +15,7 @@ work=$(mktemp -d)
 trap 'rm -rf "$work"' EXIT
 export PYTHONDONTWRITEBYTECODE=1
 
-"$top/exchange" --help >/dev/null
+"$top/exchange" prove
 calls=$top/crates/hostile_use/out/hostile_use
 if [ ! -x "$calls" ] || [ -n "$(find "$top/crates.txt" "$top"/crates/*/src "$top"/crates/*/specs -type f -newer "$calls" -print -quit)" ]; then
     echo "run.sh: proving and building hostile_use .." >&2
