@@ -101,7 +101,7 @@ means_another() {
 
 # Copies a file. Where it is a pipe with more than can be handed over, this ends, since nothing can read it again.
 copy_file() {
-    if copy_text "$1" "$2" -- "$1"; then
+    if copy_text "the file $1" "$2" -- "$1"; then
         return
     fi
     if [ -p "$1" ] && is_cut "$2"; then
@@ -162,7 +162,7 @@ only_said() {
 
 # Names the program as it is called once it is built. `rt try` calls it `program`.
 name_program() {
-    LC_ALL=C sed 's/^Usage: program\b/Usage: exchange/'
+    LC_ALL=C sed "s/^Usage: program\\b/Usage: exchange/; s/^error: 'program' requires/error: 'exchange' requires/"
 }
 
 # Puts the user's words back into what the program says of them.
