@@ -26,6 +26,7 @@ pub use checking::answer_check;
 pub use checking_fault::CheckingFault;
 pub use client_session::{LINE_BYTES, MAX_READS};
 pub use drawing::answer_draw;
+pub use frames::push_end;
 pub use limits::{DONE, REFUSED};
 pub use planning::answer_plan;
 pub use running::answer_run;
@@ -33,6 +34,3 @@ pub use running_fault::RunningFault;
 pub use schedule_certificate::MAX_WORKERS;
 pub use serving::answer_serve;
 pub use switching::answer_switch;
-
-#[cfg(test)]
-mod tests;

@@ -13,6 +13,3 @@ pub use schedule_certificate::MAX_WORKERS;
 pub use text::Text;
 pub use text_list::TextList;
 pub use words::{Job, WordsFault, read_words};
-
-#[cfg(test)]
-mod tests;

@@ -1,6 +1,6 @@
 //! Scripts that are served at once.
 
-use crate::serving::answer_serve;
+use answers::answer_serve;
 use std::alloc::{AllocError, Global};
 use std::sync::Wait;
 use std::test::Fail;

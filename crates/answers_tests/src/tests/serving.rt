@@ -1,7 +1,7 @@
 //! Sessions of scripts side by side, as they are printed.
 
-use crate::frames::push_end;
-use crate::serving::answer_serve;
+use super::answered::is_answer;
+use answers::{answer_serve, push_end};
 use client_session::ServeFault;
 use progress_word::ALL_PARTS;
 use std::alloc::{AllocError, Global};
@@ -19,18 +19,18 @@ fn bytes_of(alloc: Global, texts: &[&str]) -> Result<Vec<Vec<u8>>, AllocError> {
 }
 
 /// Whether `serve` answers this text under this status to scripts on a rack of the shape.
-fn is_answer<R: AllocGlobal + Threads + Wait + Sync>(
+fn serves<R: AllocGlobal + Threads + Wait + Sync>(
     rt: &R,
     shape: &str,
     scripts: &[Vec<u8>],
     text: &str,
     status: u8,
-) -> Result<bool, AllocError> {
+) -> bool {
     if scripts.is_empty() || scripts.len() > ALL_PARTS {
-        return Ok(false);
+        return false;
     }
-    let answer = answer_serve(rt, rt.alloc(), shape.as_bytes(), 1, scripts)?;
-    Ok(answer.text() == text.as_bytes() && answer.status() == status)
+    let answer = answer_serve(rt, rt.alloc(), shape.as_bytes(), 1, scripts);
+    is_answer(answer, text.as_bytes(), status)
 }
 
 /// Whether `serve` answers so to these texts.
@@ -40,9 +40,11 @@ fn answers<R: AllocGlobal + Threads + Wait + Sync>(
     scripts: &[&str],
     text: &str,
     status: u8,
-) -> Result<bool, AllocError> {
-    let scripts = bytes_of(rt.alloc(), scripts)?;
-    is_answer(rt, shape, scripts.as_slice(), text, status)
+) -> bool {
+    match bytes_of(rt.alloc(), scripts) {
+        Ok(scripts) => serves(rt, shape, scripts.as_slice(), text, status),
+        Err(_) => false,
+    }
 }
 
 /// Whether `serve` answers so to one text.
@@ -52,7 +54,7 @@ fn answers_one<R: AllocGlobal + Threads + Wait + Sync>(
     script: &str,
     text: &str,
     status: u8,
-) -> Result<bool, AllocError> {
+) -> bool {
     answers(rt, shape, &[script], text, status)
 }
 
@@ -69,7 +71,7 @@ bye
 ";
 
 #[test]
-fn one_script(rt: HostRuntime) -> Result<(), Fail> {
+fn one_script(rt: HostRuntime) {
     let text = "\
 session 0
 poked
@@ -82,12 +84,11 @@ bye
 session 1
 refused unknown
 ";
-    assert!(rt; answers(&rt, "2x2x2", &[ONE_SCRIPT, "show 1\n"], text, 0)?);
-    Ok(())
+    assert!(rt; answers(&rt, "2x2x2", &[ONE_SCRIPT, "show 1\n"], text, 0));
 }
 
 #[test]
-fn session_refusals(rt: HostRuntime) -> Result<(), Fail> {
+fn session_refusals(rt: HostRuntime) {
     let script = "\
 plan 1
 batch 1
@@ -122,19 +123,17 @@ refused memory misaligned
 refused memory outside
 refused line
 ";
-    assert!(rt; answers_one(&rt, "2x1x1", script, text, 0)?);
-    Ok(())
+    assert!(rt; answers_one(&rt, "2x1x1", script, text, 0));
 }
 
 /// The rack's words are 0 at first, wherever they stand.
 #[test]
-fn rack_of_zeros(rt: HostRuntime) -> Result<(), Fail> {
+fn rack_of_zeros(rt: HostRuntime) {
     let first = "session 0\nword 00000000\n";
-    assert!(rt; answers_one(&rt, "1x1x1", "peek 0 80000800\n", first, 0)?);
+    assert!(rt; answers_one(&rt, "1x1x1", "peek 0 80000800\n", first, 0));
     let script = "peek 0 80000804\npeek 0 80000808\npeek 2 8000080c\n";
     let others = "session 0\nword 00000000\nword 00000000\nword 00000000\n";
-    assert!(rt; answers_one(&rt, "3x2x2", script, others, 0)?);
-    Ok(())
+    assert!(rt; answers_one(&rt, "3x2x2", script, others, 0));
 }
 
 /// 81 letters.
@@ -143,7 +142,7 @@ const LONG: &str =
 
 /// Row session-ends, as it is printed.
 #[test]
-fn session_ends(rt: HostRuntime) -> Result<(), Fail> {
+fn session_ends(rt: HostRuntime) {
     let rows = [
         ("", "session 0\n", 0),
         ("bye\nxyz", "session 0\nbye\n", 0),
@@ -162,39 +161,35 @@ fn session_ends(rt: HostRuntime) -> Result<(), Fail> {
     ];
     for (script, text, status) in rows {
         assert!(rt;
-            answers_one(&rt, "1x1x1", script, text, status)?,
+            answers_one(&rt, "1x1x1", script, text, status),
             "{script:?}"
         );
     }
-    Ok(())
 }
 
 /// One session that ends by a fault gives the status, whichever it is; the others go on.
 #[test]
-fn one_of_three_is_cut(rt: HostRuntime) -> Result<(), Fail> {
+fn one_of_three_is_cut(rt: HostRuntime) {
     let whole = "peek 0 80000800\n";
     let text = "session 0\nword 00000000\nsession 1\nended cut\nsession 2\nword 00000000\n";
-    assert!(rt; answers(&rt, "1x1x1", &[whole, "bye", whole], text, 1)?);
-    Ok(())
+    assert!(rt; answers(&rt, "1x1x1", &[whole, "bye", whole], text, 1));
 }
 
 /// Each session is told of its own fault.
 #[test]
-fn two_of_three_end_by_faults(rt: HostRuntime) -> Result<(), Fail> {
+fn two_of_three_end_by_faults(rt: HostRuntime) {
     let text = "session 0\nended line too long\nsession 1\nbye\nsession 2\nended cut\n";
-    assert!(rt; answers(&rt, "1x1x1", &[LONG, "bye\n", "batch 1\n"], text, 1)?);
-    Ok(())
+    assert!(rt; answers(&rt, "1x1x1", &[LONG, "bye\n", "batch 1\n"], text, 1));
 }
 
 #[test]
-fn shape_is_refused(rt: HostRuntime) -> Result<(), Fail> {
+fn shape_is_refused(rt: HostRuntime) {
     for shape in ["0x1x1", "33x1x1", "1x1", "", "01x1x1"] {
         assert!(rt;
-            answers_one(&rt, shape, "bye\n", "refused shape\n", 1)?,
+            answers_one(&rt, shape, "bye\n", "refused shape\n", 1),
             "{shape}"
         );
     }
-    Ok(())
 }
 
 /// Sixteen scripts, each of which writes its own number into its own word and reads it.
@@ -222,7 +217,7 @@ fn sixteen_told(alloc: Global) -> Result<String, AllocError> {
 fn sixteen_scripts(rt: HostRuntime) -> Result<(), Fail> {
     let scripts = sixteen(rt.alloc())?;
     let told = sixteen_told(rt.alloc())?;
-    assert!(rt; is_answer(&rt, "1x1x16", scripts.as_slice(), told.as_str(), 0)?);
+    assert!(rt; serves(&rt, "1x1x16", scripts.as_slice(), told.as_str(), 0));
     Ok(())
 }
 
@@ -270,33 +265,26 @@ fn sixteen_fill_the_history(rt: HostRuntime) -> Result<(), Fail> {
     Ok(())
 }
 
-/// What is put behind what a session was told, where this fault ended it.
-fn end_of(alloc: Global, told: &str, fault: Option<ServeFault>) -> Result<Vec<u8>, AllocError> {
+/// Whether this is put behind what a session was told, where the fault ended it.
+fn is_end(alloc: Global, told: &str, fault: Option<ServeFault>, end: &str) -> bool {
     let mut text = Vec::new(alloc);
-    push_end(&mut text, told.as_bytes(), fault)?;
-    Ok(text)
+    push_end(&mut text, told.as_bytes(), fault).is_ok() && text.as_slice() == end.as_bytes()
 }
 
 /// The line of each fault begins a line.
 #[test]
-fn ends_are_framed(rt: HostRuntime) -> Result<(), Fail> {
-    let rows = [
-        ("bye\n", None, ""),
-        ("", Some(ServeFault::Read), "ended read\n"),
-        ("bye\n", Some(ServeFault::Write), "ended write\n"),
-        ("word 0000", Some(ServeFault::Write), "\nended write\n"),
-        (
-            "poked\n",
-            Some(ServeFault::LineTooLong),
-            "ended line too long\n",
-        ),
-        ("poked\n", Some(ServeFault::Cut), "ended cut\n"),
-        ("poked\n", Some(ServeFault::Turns), "ended turns\n"),
-        ("poked\n", Some(ServeFault::NoMemory), "ended no memory\n"),
-    ];
-    for (told, fault, text) in rows {
-        let end = end_of(rt.alloc(), told, fault)?;
-        assert_eq!(rt; end.as_slice(), text.as_bytes());
+fn ends_are_framed(rt: HostRuntime) {
+    let alloc = rt.alloc();
+    assert!(rt; is_end(alloc, "bye\n", None, ""));
+    for (told, fault, end) in [
+        ("", ServeFault::Read, "ended read\n"),
+        ("bye\n", ServeFault::Write, "ended write\n"),
+        ("word 0000", ServeFault::Write, "\nended write\n"),
+        ("poked\n", ServeFault::LineTooLong, "ended line too long\n"),
+        ("poked\n", ServeFault::Cut, "ended cut\n"),
+        ("poked\n", ServeFault::Turns, "ended turns\n"),
+        ("poked\n", ServeFault::NoMemory, "ended no memory\n"),
+    ] {
+        assert!(rt; is_end(alloc, told, Some(fault), end), "{end}");
     }
-    Ok(())
 }
