@@ -18,6 +18,3 @@ mod table;
 pub use coloured::Coloured;
 pub use fault::InsertFault;
 pub use table::Table;
-
-#[cfg(test)]
-mod tests;

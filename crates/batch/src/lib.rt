@@ -23,6 +23,3 @@ pub use limits::{MAX_BLOCKS, MAX_DIGITS, MAX_MODULES, MAX_TRANSFERS, MAX_WORDS};
 pub use reading::{number_from_digits, position_of};
 pub use shape::Shape;
 pub use transfer::{Kind, Place, Transfer};
-
-#[cfg(test)]
-mod tests;

@@ -13,6 +13,3 @@ mod walking;
 
 pub use halving::{split, split_in_place};
 pub use scratch::Scratch;
-
-#[cfg(test)]
-mod tests;

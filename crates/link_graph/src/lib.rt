@@ -28,6 +28,3 @@ pub use link::{End, Link};
 pub use schedule::Schedule;
 pub use schedule_fault::ScheduleFault;
 pub use settings::Settings;
-
-#[cfg(test)]
-mod tests;

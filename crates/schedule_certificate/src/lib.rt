@@ -16,6 +16,3 @@ pub use limits::MAX_WORKERS;
 pub use planned::Planned;
 pub use planning::schedule;
 pub use workers::Workers;
-
-#[cfg(test)]
-mod tests;

@@ -15,6 +15,3 @@ mod rows_text;
 mod style;
 
 pub use picture::draw;
-
-#[cfg(test)]
-mod tests;

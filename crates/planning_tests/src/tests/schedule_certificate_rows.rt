@@ -1,23 +1,15 @@
 ghost use Rattle.std.specs.Prelude.{◌≤◌};
 ghost use Rattle.schedule_certificate.specs.declared.limits.TheConstants.{MAX_WORKERS};
 
-use crate::{Gate, MAX_WORKERS, OpenGate, Planned, Workers, first_fit, schedule};
-use batch::{Batch, Shape};
+use super::texts::{FIRST_FIT_LOSES, THREE_TRANSFERS, all_to_all, equal_transfers, read};
 use link_graph::{End, Link, Schedule};
-use std::alloc::Global;
+use schedule_certificate::{Gate, MAX_WORKERS, OpenGate, Planned, Workers, first_fit, schedule};
 use std::fmt::Write;
 use std::sync::atomic::AtomicBool;
 use std::sync::atomic::Ordering::SeqCst;
 use std::test::Fail;
 use std::thread;
 use std::thread::Threads;
-
-/// Row first-fit-loses.
-const FIRST_FIT_LOSES: &str = "batch 4\npush 0 0 0 1\npush 1 0 1 1\npush 1 1 2 0\npush 0 2 2 1\n";
-
-fn read(alloc: Global, text: &str) -> Result<Batch, Fail> {
-    Ok(Batch::read(alloc, text.as_bytes(), Shape::WIDEST)?)
-}
 
 /// The plan of a batch text, by so many workers.
 fn plan_by<R: AllocGlobal + Threads + Sync>(
@@ -95,15 +87,14 @@ fn names_the_first_link(planned: &Planned, transfers: &[usize]) -> bool {
 
 #[test]
 fn three_transfers(rt: HostRuntime) -> Result<(), Fail> {
-    let text = "batch 3\npush 0 0 1 0\npush 0 1 2 0\npush 1 1 2 1\n";
-    let planned = plan_by(&rt, text, 1)?;
+    let planned = plan_by(&rt, THREE_TRANSFERS, 1)?;
     assert!(rt; has_settings(planned.schedule(), &[[0, 2].as_slice(), [1].as_slice()]));
     assert!(rt; names_the_first_link(&planned, &[0, 1]));
     assert_eq!(rt; planned.batch().len(), 3);
     assert_eq!(rt; planned.reinserted(), 0);
     let copy = planned.copy()?;
     assert!(rt; copy == planned);
-    assert!(rt; all_give(&rt, text, &planned)?);
+    assert!(rt; all_give(&rt, THREE_TRANSFERS, &planned)?);
     Ok(())
 }
 
@@ -139,8 +130,8 @@ fn first_fit_loses(rt: HostRuntime) -> Result<(), Fail> {
 
 #[test]
 fn thrice_the_same(rt: HostRuntime) -> Result<(), Fail> {
-    let text = "batch 3\npush 0 0 1 0\npush 0 0 1 0\npush 0 0 1 0\n";
-    let planned = plan_by(&rt, text, 1)?;
+    let text = equal_transfers(rt.alloc(), 3)?;
+    let planned = plan_by(&rt, text.as_str(), 1)?;
     assert!(rt;
         has_settings(
             planned.schedule(),
@@ -148,21 +139,8 @@ fn thrice_the_same(rt: HostRuntime) -> Result<(), Fail> {
         )
     );
     assert!(rt; names_the_first_link(&planned, &[0, 1, 2]));
-    assert!(rt; all_give(&rt, text, &planned)?);
+    assert!(rt; all_give(&rt, text.as_str(), &planned)?);
     Ok(())
-}
-
-/// The batch in which each of so many modules pushes a block to each of them.
-fn all_to_all(alloc: Global, modules: u8) -> Result<String, Fail> {
-    let count = usize::from(modules) * usize::from(modules);
-    let mut text = String::new(alloc);
-    writeln!(text, "batch {count}")?;
-    for i in 0..modules {
-        for r in 0..modules {
-            writeln!(text, "push {i} {modules} {r} {i}")?;
-        }
-    }
-    Ok(text)
 }
 
 #[test]
@@ -189,10 +167,7 @@ fn three_by_three(rt: HostRuntime) -> Result<(), Fail> {
 
 #[test]
 fn largest_batch(rt: HostRuntime) -> Result<(), Fail> {
-    let mut text = String::from_str(rt.alloc(), "batch 4096\n")?;
-    for _ in 0..4096 {
-        text.push_str("push 0 0 1 0\n")?;
-    }
+    let text = equal_transfers(rt.alloc(), 4096)?;
     let planned = plan_by(&rt, text.as_str(), 1)?;
     assert!(rt; has_shape(planned.schedule(), 4096, 1));
     assert_eq!(rt; planned.reinserted(), 0);

@@ -1,6 +1,6 @@
 use Rattle.std.proofs.Common.{refl}
 use Rattle.std.specs.Fmt.{digits}
-use Rattle.link_graph.proofs.tests.the_definitions_spell_the_rows.Goals as goal
+use Rattle.planning_tests.proofs.tests.link_graph_rows.the_definitions_spell_the_rows.Goals as goal
 
 pub returns-clause-three_transfers : goal.returns-clause-three_transfers
 unfolding digits

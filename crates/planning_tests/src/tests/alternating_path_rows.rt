@@ -1,17 +1,11 @@
 ghost use Rattle.std.specs.Prelude.{◌≡◌, ◌<◌, length, IsTrue, IfOk};
 ghost use Rattle.link_graph.specs.Uses.{AreApart};
 
-use crate::{Coloured, InsertFault, Table};
-use batch::{Batch, Shape};
+use super::texts::{FIRST_FIT_LOSES, THREE_TRANSFERS, graph};
+use alternating_path::{Coloured, InsertFault, Table};
 use link_graph::{LINKS, LinkGraph};
 use std::alloc::{AllocError, Global};
 use std::test::Fail;
-
-/// The graph of a batch text.
-fn graph(alloc: Global, text: &[u8]) -> Result<LinkGraph, Fail> {
-    let batch = Batch::read(alloc, text, Shape::WIDEST)?;
-    Ok(LinkGraph::of(&batch)?)
-}
 
 /// Setting `k`, where there is one.
 fn setting(coloured: &Coloured, k: usize) -> &[usize] {
@@ -23,15 +17,6 @@ fn is_row_of_four(coloured: &Coloured) -> bool {
     coloured.schedule().settings() == 2
         && setting(coloured, 0) == [0, 2].as_slice()
         && setting(coloured, 1) == [1, 3].as_slice()
-}
-
-/// The graph of four transfers of which 0 and 3 have a common link, and 3 and 2, and 2 and 1. So two
-/// colours leave no choice of the classes.
-fn graph_of_four(alloc: Global) -> Result<LinkGraph, Fail> {
-    graph(
-        alloc,
-        b"batch 4\npush 0 0 0 1\npush 1 0 1 1\npush 1 1 2 0\npush 0 2 2 1\n",
-    )
 }
 
 /// Whether the two transfers use no common link.
@@ -57,9 +42,10 @@ fn joined(alloc: Global, graph: &LinkGraph) -> Result<Table, AllocError>
     Ok(table)
 }
 
+/// Two colours leave no choice of the classes.
 #[test]
 fn table_of_four(rt: HostRuntime) -> Result<(), Fail> {
-    let graph = graph_of_four(rt.alloc())?;
+    let graph = graph(rt.alloc(), FIRST_FIT_LOSES)?;
     assert_eq!(rt; graph.len(), 4);
     let mut table = Table::new(rt.alloc(), &graph, 2)?;
     table.insert(0)?;
@@ -79,7 +65,7 @@ fn table_of_four(rt: HostRuntime) -> Result<(), Fail> {
 
 #[test]
 fn table_of_four_by_halves(rt: HostRuntime) -> Result<(), Fail> {
-    let graph = graph_of_four(rt.alloc())?;
+    let graph = graph(rt.alloc(), FIRST_FIT_LOSES)?;
     assert_eq!(rt; graph.len(), 4);
     assert!(rt; apart(&graph, 0, 2));
     assert!(rt; apart(&graph, 1, 3));
@@ -99,8 +85,7 @@ fn table_of_four_by_halves(rt: HostRuntime) -> Result<(), Fail> {
 
 #[test]
 fn three_transfers_in_one_colour(rt: HostRuntime) -> Result<(), Fail> {
-    let text = b"batch 3\npush 0 0 1 0\npush 0 1 2 0\npush 1 1 2 1\n";
-    let graph = graph(rt.alloc(), text)?;
+    let graph = graph(rt.alloc(), THREE_TRANSFERS)?;
     assert_eq!(rt; graph.len(), 3);
     let mut table = Table::new(rt.alloc(), &graph, 1)?;
     table.insert(0)?;
@@ -112,7 +97,7 @@ fn three_transfers_in_one_colour(rt: HostRuntime) -> Result<(), Fail> {
 
 #[test]
 fn more_colours_than_memory(rt: HostRuntime) -> Result<(), Fail> {
-    let graph = graph(rt.alloc(), b"batch 1\npush 0 0 1 0\n")?;
+    let graph = graph(rt.alloc(), "batch 1\npush 0 0 1 0\n")?;
     assert!(rt; Table::new(rt.alloc(), &graph, usize::MAX).is_err());
     assert!(rt; Table::new(rt.alloc(), &graph, usize::MAX / LINKS).is_err());
     Ok(())

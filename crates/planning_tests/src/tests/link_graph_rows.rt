@@ -5,12 +5,13 @@ ghost use Rattle.link_graph.specs.Certificates.{naming};
 ghost use Rattle.link_graph.specs.Rows.{two_settings, two_named, two_settings_text, certified_text, empty_text};
 ghost use Rattle.link_graph.specs.ScheduleText.{schedule_text, text_with};
 
-use crate::laws::link_order;
-use crate::{
+use super::texts::{THREE_TRANSFERS, graph, read};
+use batch::{Batch, BatchFault};
+use link_graph::laws::link_order;
+use link_graph::{
     Certificate, CheckFault, End, LINKS, Link, LinkGraph, Schedule, ScheduleFault, Shortest,
     check_schedule,
 };
-use batch::{Batch, BatchFault, Shape};
 use std::alloc::{AllocError, Global};
 use std::test::Fail;
 
@@ -36,12 +37,6 @@ const FIRST: Link = Link {
     module: 0,
 };
 
-/// The batch of three transfers, of which 0 and 1 use link 0 of module 0.
-fn three(alloc: Global) -> Result<Batch, BatchFault> {
-    let text = b"batch 3\npush 0 0 1 0\npush 0 1 2 0\npush 1 1 2 1\n";
-    Batch::read(alloc, text, Shape::WIDEST)
-}
-
 /// The schedule of these settings.
 fn schedule_of(alloc: Global, settings: &[&[usize]]) -> Result<Schedule, AllocError> {
     let mut lists = Vec::new(alloc);
@@ -57,21 +52,15 @@ fn certificate_of(alloc: Global, named: &[usize]) -> Result<Certificate, AllocEr
     Ok(certificate.unwrap_or(Certificate::none()))
 }
 
-/// The graph of the batch of three transfers.
-fn graph_of_three(alloc: Global) -> Result<LinkGraph, BatchFault> {
-    let batch = three(alloc)?;
-    Ok(LinkGraph::of(&batch)?)
-}
-
-/// The transfers of that graph that use a link.
+/// The transfers of row three-transfers that use a link.
 fn users_of(alloc: Global, link: Link) -> Result<Vec<usize>, BatchFault> {
-    let graph = graph_of_three(alloc)?;
+    let graph = graph(alloc, THREE_TRANSFERS)?;
     Ok(graph.transfers_of(link)?)
 }
 
 #[test]
 fn three_transfers(rt: HostRuntime) -> Result<(), Fail> {
-    let graph = graph_of_three(rt.alloc())?;
+    let graph = graph(rt.alloc(), THREE_TRANSFERS)?;
     assert_eq!(rt; graph.len(), 3);
     assert_eq!(rt; graph.busiest(), Some(FIRST));
     assert_eq!(rt; graph.uses(FIRST), 2);
@@ -142,7 +131,7 @@ fn a_certificate(rt: HostRuntime) -> Result<(), Fail> {
 
 #[test]
 fn empty_batch(rt: HostRuntime) -> Result<(), Fail> {
-    let batch = Batch::read(rt.alloc(), b"batch 0\n", Shape::WIDEST)?;
+    let batch = read(rt.alloc(), "batch 0\n")?;
     assert_eq!(rt; LinkGraph::of(&batch)?.busiest(), None);
     let schedule = schedule_of(rt.alloc(), &[])?;
     assert_eq!(rt;
@@ -302,7 +291,7 @@ fn checked(
 #[test]
 fn checker(rt: HostRuntime) -> Result<(), Fail> {
     let alloc = rt.alloc();
-    let batch = three(alloc)?;
+    let batch = read(alloc, THREE_TRANSFERS)?;
     assert_eq!(rt;
         checked(alloc, &batch, &[&[0, 2], &[1]], &[0, 1])?,
         Ok(Shortest { settings: 2 })
@@ -335,7 +324,7 @@ fn checker(rt: HostRuntime) -> Result<(), Fail> {
 #[test]
 fn checker_of_certificates(rt: HostRuntime) -> Result<(), Fail> {
     let alloc = rt.alloc();
-    let batch = three(alloc)?;
+    let batch = read(alloc, THREE_TRANSFERS)?;
     assert_eq!(rt;
         checked(alloc, &batch, &[&[0, 2], &[1]], &[0, 2])?,
         Err(CheckFault::WrongLink(2))

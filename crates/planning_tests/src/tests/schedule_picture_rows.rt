@@ -6,10 +6,10 @@ ghost use Rattle.schedule_picture.specs.Places.{row_of, takes_part};
 ghost use Rattle.std.specs.Prelude.{false};
 ghost use Rattle.batch.specs.declared.transfer.Kind.TheVariants.{Pull, Push};
 
-use crate::draw;
-use crate::style::{EXPLAINED, STYLE};
+use super::texts::equal_transfers;
 use batch::{Batch, MAX_MODULES, Shape};
 use link_graph::{Schedule, check_schedule};
+use schedule_picture::draw;
 use std::alloc::{AllocError, Global};
 use std::test::Fail;
 
@@ -47,15 +47,6 @@ fn has(text: &String, part: &str) -> bool {
     text.as_str().find(part).is_some()
 }
 
-/// A batch of so many equal transfers, which need as many settings.
-fn equal_transfers(alloc: Global, count: usize) -> Result<String, AllocError> {
-    let mut text = format!(in alloc; "batch {count}\n")?;
-    for _ in 0..count {
-        text.push_str("push 0 0 1 0\n")?;
-    }
-    Ok(text)
-}
-
 /// The schedule of so many equal transfers, one in each setting.
 fn one_by_one(alloc: Global, count: usize) -> Result<String, AllocError> {
     let mut text = format!(in alloc; "settings {count}\n")?;
@@ -75,6 +66,11 @@ fn long_picture(alloc: Global, count: usize) -> Result<String, Fail> {
     let batch = equal_transfers(alloc, count)?;
     let schedule = one_by_one(alloc, count)?;
     picture(alloc, batch.as_bytes(), schedule.as_bytes())
+}
+
+/// The picture of the empty batch.
+pub fn nothing_drawn(alloc: Global) -> Result<String, Fail> {
+    picture(alloc, b"batch 0\n", b"settings 0\nbusiest none\n")
 }
 
 /// Row three-transfers: rows begin at 88, 136 and 184, columns at 144 and 176.
@@ -129,7 +125,7 @@ fn far_pull(rt: HostRuntime) -> Result<(), Fail> {
 /// Row nothing-to-draw: no rows and no columns.
 #[test]
 fn nothing_to_draw(rt: HostRuntime) -> Result<(), Fail> {
-    let text = picture(rt.alloc(), b"batch 0\n", b"settings 0\nbusiest none\n")?;
+    let text = nothing_drawn(rt.alloc())?;
     assert!(rt; has(&text, "width='760' height='200'"));
     assert!(rt; has(&text, "<title>transfers 0, settings 0</title>"));
     assert!(rt; !has(&text, "module 0"));
@@ -196,14 +192,10 @@ fn all_modules(rt: HostRuntime) -> Result<(), Fail> {
     Ok(())
 }
 
-/// Whether the legend, or the looks of the parts, have this.
-fn explains(part: &str) -> bool {
-    EXPLAINED.contains(part) || STYLE.contains(part)
-}
-
 /// The legend says where the words of a cell go, what the frame means, and which link is above.
 #[test]
 fn legend_tells_what_is_drawn(rt: HostRuntime) -> Result<(), Fail> {
+    let text = nothing_drawn(rt.alloc())?;
     for part in [
         "<text x='16' y='22'>&#8594;1</text><text class='note' x='44' y='22'>The words go to module \
          1 (&#8592;1: they come from there). A cell has its partner's colour",
@@ -213,32 +205,7 @@ fn legend_tells_what_is_drawn(rt: HostRuntime) -> Result<(), Fail> {
         "Columns are settings of the switch. ",
         ".lane rect{fill:#eee}\n.lane text{fill:#595959}\n.busiest rect{fill:#000}\n.busiest text{font-weight:bold}\n",
     ] {
-        assert!(rt; explains(part), "{part}");
-    }
-    Ok(())
-}
-
-/// The colour of a module, where it has one.
-fn colour_of(alloc: Global, module: usize) -> Result<String, Fail> {
-    let class = format!(in alloc; ".m{module}{{fill:#")?;
-    let (_, behind) = STYLE.split_once(class.as_str()).ok_or("no colour")?;
-    let (colour, _) = behind.split_once("}").ok_or("no end")?;
-    Ok(String::from_str(alloc, colour)?)
-}
-
-/// Each module has a colour of its own, of six digits.
-#[test]
-fn colours_differ(rt: HostRuntime) -> Result<(), Fail> {
-    let alloc = rt.alloc();
-    for m in 0..MAX_MODULES {
-        let colour = colour_of(alloc, m)?;
-        assert_eq!(rt; colour.len(), 6);
-        for n in 0..m {
-            assert!(rt;
-                colour_of(alloc, n)?.as_str() != colour.as_str(),
-                "{m} and {n}"
-            );
-        }
+        assert!(rt; has(&text, part), "{part}");
     }
     Ok(())
 }

@@ -2,7 +2,7 @@ use Rattle.std.proofs.Common.{◌≡◌, ℕ, zero, suc, ◌⊎◌, inl, inr, Li
 use Rattle.std.specs.Prelude.{Contains}
 use Rattle.batch.specs.declared.transfer.Transfer.{Transfer}
 use Rattle.link_graph.specs.Uses.{AreApart, IsMatching}
-use Rattle.alternating_path.proofs.tests.joined.Goals as goal
+use Rattle.planning_tests.proofs.tests.alternating_path_rows.joined.Goals as goal
 
 -- two transfers that are apart are a matching
 two_apart : (g : List Transfer) (a b : ℕ) → AreApart g a b → IsMatching g (a ∷ b ∷ [])

@@ -5,11 +5,12 @@ ghost use Rattle.batch.specs.ShapeText.{shape_text};
 ghost use Rattle.batch.specs.Places.{source_of, destination_of};
 ghost use Rattle.batch.specs.Rows.{pull, three_transfers, three_transfers_text};
 
-use crate::{
-    Batch, BatchFault, MAX_BLOCKS, MAX_DIGITS, MAX_MODULES, MAX_TRANSFERS, MAX_WORDS, Place, Shape,
+use super::texts::{THREE_TRANSFERS, equal_transfers, read};
+use batch::{
+    BatchFault, MAX_BLOCKS, MAX_DIGITS, MAX_MODULES, MAX_TRANSFERS, MAX_WORDS, Place, Shape,
     ShapeFault, position_of,
 };
-use std::alloc::{AllocError, Global};
+use std::alloc::Global;
 use std::test::Fail;
 
 /// The definitions give the texts of worked rows.
@@ -23,26 +24,24 @@ fn the_definitions_spell_the_rows()
 
 #[test]
 fn three_transfers_are_written(rt: HostRuntime) -> Result<(), Fail> {
-    let text = b"batch 3\npush 0 0 1 0\npush 0 1 2 0\npush 1 1 2 1\n";
-    let batch = Batch::read(rt.alloc(), text, Shape::WIDEST)?;
-    assert_eq!(rt; batch.write()?.as_slice(), text.as_slice());
+    let batch = read(rt.alloc(), THREE_TRANSFERS)?;
+    assert_eq!(rt; batch.write()?.as_slice(), THREE_TRANSFERS.as_bytes());
     let copy = batch.copy()?;
     assert!(rt; copy == batch);
-    let other = Batch::read(rt.alloc(), b"batch 1\npull 0 0 1 0\n", Shape::WIDEST)?;
+    let other = read(rt.alloc(), "batch 1\npull 0 0 1 0\n")?;
     assert!(rt; copy != other);
     Ok(())
 }
 
 /// What the widest shape reads: how many transfers there are, or the fault.
 fn count(alloc: Global, text: &str) -> Result<usize, BatchFault> {
-    let batch = Batch::read(alloc, text.as_bytes(), Shape::WIDEST)?;
+    let batch = read(alloc, text)?;
     Ok(batch.len())
 }
 
 #[test]
 fn three_transfers(rt: HostRuntime) {
-    let text = "batch 3\npush 0 0 1 0\npush 0 1 2 0\npush 1 1 2 1\n";
-    assert_eq!(rt; count(rt.alloc(), text), Ok(3));
+    assert_eq!(rt; count(rt.alloc(), THREE_TRANSFERS), Ok(3));
     assert_eq!(rt; count(rt.alloc(), "batch 0\n"), Ok(0));
 }
 
@@ -72,18 +71,9 @@ fn batch_refusals(rt: HostRuntime) {
     }
 }
 
-/// So many times one line, and a first line that announces this many.
-fn repeated(alloc: Global, announced: usize, lines: usize) -> Result<String, AllocError> {
-    let mut text = format!(in alloc; "batch {announced}\n")?;
-    for _ in 0..lines {
-        text.push_str("push 0 0 1 0\n")?;
-    }
-    Ok(text)
-}
-
 #[test]
 fn largest_batch(rt: HostRuntime) -> Result<(), Fail> {
-    let text = repeated(rt.alloc(), MAX_TRANSFERS, MAX_TRANSFERS)?;
+    let text = equal_transfers(rt.alloc(), MAX_TRANSFERS)?;
     assert_eq!(rt; count(rt.alloc(), text.as_str()), Ok(4096));
     assert_eq!(rt; count(rt.alloc(), "batch 4097\n"), Err(BatchFault::TooMany));
     Ok(())
@@ -91,8 +81,7 @@ fn largest_batch(rt: HostRuntime) -> Result<(), Fail> {
 
 #[test]
 fn transfers_have_places(rt: HostRuntime) -> Result<(), Fail> {
-    let text = b"batch 2\npull 3 4 5 6\npush 3 4 5 6\n";
-    let batch = Batch::read(rt.alloc(), text, Shape::WIDEST)?;
+    let batch = read(rt.alloc(), "batch 2\npull 3 4 5 6\npush 3 4 5 6\n")?;
     let own = Place {
         module: 3,
         block: 4,
@@ -116,7 +105,7 @@ fn from_module(
     text: &str,
     module: usize,
 ) -> Result<(usize, usize, bool), BatchFault> {
-    let batch = Batch::read(alloc, text.as_bytes(), Shape::WIDEST)?;
+    let batch = read(alloc, text)?;
     let by_iter = batch.iter().filter(|t| t.initiator == module).count();
     let by_slice = batch
         .as_slice()
@@ -128,8 +117,10 @@ fn from_module(
 
 #[test]
 fn transfers_are_gone_over(rt: HostRuntime) {
-    let text = "batch 3\npush 0 0 1 0\npush 0 1 2 0\npush 1 1 2 1\n";
-    assert_eq!(rt; from_module(rt.alloc(), text, 0), Ok((2, 2, false)));
+    assert_eq!(rt;
+        from_module(rt.alloc(), THREE_TRANSFERS, 0),
+        Ok((2, 2, false))
+    );
     assert_eq!(rt; from_module(rt.alloc(), "batch 0\n", 0), Ok((0, 0, true)));
 }
 
@@ -141,7 +132,7 @@ fn bytes_have_positions(rt: HostRuntime) {
 
 /// The first two transfers of a batch text that overlap.
 fn overlap(alloc: Global, text: &str) -> Result<Option<(usize, usize)>, BatchFault> {
-    let batch = Batch::read(alloc, text.as_bytes(), Shape::WIDEST)?;
+    let batch = read(alloc, text)?;
     Ok(batch.first_overlap())
 }
 
@@ -155,7 +146,7 @@ fn transfers_overlap(rt: HostRuntime) {
             "batch 3\npush 0 0 1 0\npush 0 0 1 0\npush 0 0 1 0\n",
             Some((0, 1)),
         ),
-        ("batch 3\npush 0 0 1 0\npush 0 1 2 0\npush 1 1 2 1\n", None),
+        (THREE_TRANSFERS, None),
     ];
     for (text, pair) in rows {
         assert_eq!(rt; overlap(rt.alloc(), text), Ok(pair), "{text:?}");
@@ -164,7 +155,7 @@ fn transfers_overlap(rt: HostRuntime) {
 
 /// How many held sources the batch of a text has, and the first of them.
 fn held(alloc: Global, text: &str) -> Result<(usize, Option<Place>), BatchFault> {
-    let batch = Batch::read(alloc, text.as_bytes(), Shape::WIDEST)?;
+    let batch = read(alloc, text)?;
     let held = batch.held_sources(alloc)?;
     Ok((held.len(), held.first().copied()))
 }
@@ -183,10 +174,7 @@ fn sources_are_held(rt: HostRuntime) {
             "batch 3\npush 0 0 1 0\npush 1 0 2 0\npush 1 0 3 0\n",
             (1, place(1, 0)),
         ),
-        (
-            "batch 3\npush 0 0 1 0\npush 0 1 2 0\npush 1 1 2 1\n",
-            (0, None),
-        ),
+        (THREE_TRANSFERS, (0, None)),
     ];
     for (text, places) in rows {
         assert_eq!(rt; held(rt.alloc(), text), Ok(places), "{text:?}");
