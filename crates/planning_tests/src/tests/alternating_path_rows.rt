@@ -63,23 +63,44 @@ fn table_of_four(rt: HostRuntime) -> Result<(), Fail> {
     Ok(())
 }
 
+/// Whether the joined table has the settings `0 2` and `1 3`, none of them inserted.
+fn joins_to_row(alloc: Global, graph: &LinkGraph) -> Result<bool, AllocError>
+    requires known { 3 < length graph.now }
+    requires left { AreApart graph.now 0 2 }
+    requires right { AreApart graph.now 1 3 }
+{
+    let table = joined(alloc, graph)?;
+    let colours = table.colours();
+    let coloured = table.into_schedule()?;
+    Ok(colours == 2 && is_row_of_four(&coloured) && coloured.inserted() == 0)
+}
+
+/// Whether the table has `1 3` as its one colour, and 0 in none.
+fn has_right_alone(table: &Table<'_>) -> bool {
+    table.colours() == 1
+        && table.colour_of(1) == Some(0)
+        && table.colour_of(3) == Some(0)
+        && table.colour_of(0) == None
+}
+
+/// Whether `0 2` is taken back from the joined table, and `1 3` left.
+fn gives_back(alloc: Global, graph: &LinkGraph) -> Result<bool, AllocError>
+    requires known { 3 < length graph.now }
+    requires left { AreApart graph.now 0 2 }
+    requires right { AreApart graph.now 1 3 }
+{
+    let (table, class) = joined(alloc, graph)?.take_back()?;
+    Ok(class.as_slice() == [0, 2].as_slice() && has_right_alone(&table))
+}
+
 #[test]
 fn table_of_four_by_halves(rt: HostRuntime) -> Result<(), Fail> {
     let graph = graph(rt.alloc(), FIRST_FIT_LOSES)?;
     assert_eq!(rt; graph.len(), 4);
     assert!(rt; apart(&graph, 0, 2));
     assert!(rt; apart(&graph, 1, 3));
-    let table = joined(rt.alloc(), &graph)?;
-    assert_eq!(rt; table.colours(), 2);
-    let coloured = table.into_schedule()?;
-    assert!(rt; is_row_of_four(&coloured));
-    assert_eq!(rt; coloured.inserted(), 0);
-    let (table, class) = joined(rt.alloc(), &graph)?.take_back()?;
-    assert_eq!(rt; class.as_slice(), [0, 2].as_slice());
-    assert_eq!(rt; table.colours(), 1);
-    assert_eq!(rt; table.colour_of(1), Some(0));
-    assert_eq!(rt; table.colour_of(3), Some(0));
-    assert_eq!(rt; table.colour_of(0), None);
+    assert_eq!(rt; joins_to_row(rt.alloc(), &graph), Ok(true));
+    assert_eq!(rt; gives_back(rt.alloc(), &graph), Ok(true));
     Ok(())
 }
 

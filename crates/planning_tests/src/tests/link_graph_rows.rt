@@ -276,72 +276,75 @@ fn bad_certificate_lines_are_named(rt: HostRuntime) -> Result<(), Fail> {
     Ok(())
 }
 
-/// What the checker says of these settings, where the first link is named with these transfers.
+/// What the checker says of these settings of row three-transfers, where the first link is named with
+/// these transfers.
 fn checked(
     alloc: Global,
-    batch: &Batch,
     settings: &[&[usize]],
     named: &[usize],
-) -> Result<Result<Shortest, CheckFault>, AllocError> {
-    let schedule = schedule_of(alloc, settings)?;
-    let certificate = certificate_of(alloc, named)?;
-    Ok(check_schedule(alloc, batch, &schedule, &certificate))
+) -> Option<Result<Shortest, CheckFault>> {
+    let batch = read(alloc, THREE_TRANSFERS).ok()?;
+    let schedule = schedule_of(alloc, settings).ok()?;
+    let certificate = certificate_of(alloc, named).ok()?;
+    Some(check_schedule(alloc, &batch, &schedule, &certificate))
+}
+
+/// What the checker says of a schedule's text of that row, where it has a certificate.
+fn checked_text(alloc: Global, text: &[u8]) -> Option<Result<Shortest, CheckFault>> {
+    let batch = read(alloc, THREE_TRANSFERS).ok()?;
+    let (schedule, certificate) = Schedule::read(alloc, text).ok()?;
+    let certificate = certificate?;
+    Some(check_schedule(alloc, &batch, &schedule, &certificate))
 }
 
 #[test]
-fn checker(rt: HostRuntime) -> Result<(), Fail> {
+fn checker(rt: HostRuntime) {
     let alloc = rt.alloc();
-    let batch = read(alloc, THREE_TRANSFERS)?;
     assert_eq!(rt;
-        checked(alloc, &batch, &[&[0, 2], &[1]], &[0, 1])?,
-        Ok(Shortest { settings: 2 })
+        checked(alloc, &[&[0, 2], &[1]], &[0, 1]),
+        Some(Ok(Shortest { settings: 2 }))
     );
     assert_eq!(rt;
-        checked(alloc, &batch, &[&[0, 3], &[1]], &[0, 1])?,
-        Err(CheckFault::Unknown(3))
+        checked(alloc, &[&[0, 3], &[1]], &[0, 1]),
+        Some(Err(CheckFault::Unknown(3)))
     );
     assert_eq!(rt;
-        checked(alloc, &batch, &[&[0, 2], &[1, 2]], &[0, 1])?,
-        Err(CheckFault::Repeated(2))
+        checked(alloc, &[&[0, 2], &[1, 2]], &[0, 1]),
+        Some(Err(CheckFault::Repeated(2)))
     );
     assert_eq!(rt;
-        checked(alloc, &batch, &[&[0], &[1]], &[0, 1])?,
-        Err(CheckFault::Missing(2))
+        checked(alloc, &[&[0], &[1]], &[0, 1]),
+        Some(Err(CheckFault::Missing(2)))
     );
     assert_eq!(rt;
-        checked(alloc, &batch, &[&[0, 1], &[2]], &[0, 1])?,
-        Err(CheckFault::Clash(0, FIRST))
+        checked(alloc, &[&[0, 1], &[2]], &[0, 1]),
+        Some(Err(CheckFault::Clash(0, FIRST)))
     );
-    let (schedule, certificate) = Schedule::read(alloc, CERTIFIED)?;
-    let certificate = certificate.ok_or("no certificate")?;
     assert_eq!(rt;
-        check_schedule(alloc, &batch, &schedule, &certificate),
-        Ok(Shortest { settings: 2 })
+        checked_text(alloc, CERTIFIED),
+        Some(Ok(Shortest { settings: 2 }))
     );
-    Ok(())
 }
 
 #[test]
-fn checker_of_certificates(rt: HostRuntime) -> Result<(), Fail> {
+fn checker_of_certificates(rt: HostRuntime) {
     let alloc = rt.alloc();
-    let batch = read(alloc, THREE_TRANSFERS)?;
     assert_eq!(rt;
-        checked(alloc, &batch, &[&[0, 2], &[1]], &[0, 2])?,
-        Err(CheckFault::WrongLink(2))
+        checked(alloc, &[&[0, 2], &[1]], &[0, 2]),
+        Some(Err(CheckFault::WrongLink(2)))
     );
     assert_eq!(rt;
-        checked(alloc, &batch, &[&[0, 2], &[1]], &[0, 0])?,
-        Err(CheckFault::CertificateRepeats(0))
+        checked(alloc, &[&[0, 2], &[1]], &[0, 0]),
+        Some(Err(CheckFault::CertificateRepeats(0)))
     );
     assert_eq!(rt;
-        checked(alloc, &batch, &[&[0, 2], &[1]], &[0])?,
-        Err(CheckFault::NotTight(2, 1))
+        checked(alloc, &[&[0, 2], &[1]], &[0]),
+        Some(Err(CheckFault::NotTight(2, 1)))
     );
     assert_eq!(rt;
-        checked(alloc, &batch, &[&[0], &[1], &[2]], &[0, 1])?,
-        Err(CheckFault::NotTight(3, 2))
+        checked(alloc, &[&[0], &[1], &[2]], &[0, 1]),
+        Some(Err(CheckFault::NotTight(3, 2)))
     );
-    Ok(())
 }
 
 #[test]
