@@ -11,14 +11,43 @@
 #   part        2731 transfers from module 0 to module 1
 #   wide        as scrambled, over 32 modules
 #
-# Needs valgrind. Build the program first: ./exchange prove
+# With --check each ratio to plain Rust may be as large as `greatest` says, and what `switch` prints of one link may cost so
+# many times as much as of a quarter of the transfers as `greatest_growth` says; else the status is 1. Where valgrind or rustc
+# is missing, --check says so and counts nothing.
+#
+# Needs valgrind and rustc. Build the program first: ./exchange prove
 set -eu
+check=
+if [ "${1-}" = --check ]; then
+    check=yes
+fi
+for tool in valgrind rustc; do
+    if ! command -v $tool >/dev/null; then
+        echo "planning: $tool is missing, so nothing was counted"
+        [ "$check" ]
+        exit
+    fi
+done
 here=$(cd "$(dirname "${BASH_SOURCE[0]}")" && pwd)
 top=$here/../..
 . "$here/../copy.sh"
 program=$top/crates/exchange/out/exchange
 work=$(mktemp -d)
 trap 'rm -rf "$work"' EXIT
+
+# About a twelfth more than was counted last, since other versions of both compilers count a little differently
+declare -A greatest=(
+    [scrambled]=1.26 [scrambled-1024]=1.26 [one_link]=1.70 [one_link-1024]=1.63 [odd]=1.20 [star]=1.72 [two_by_two]=1.45 [part]=1.62 [wide]=1.25
+)
+greatest_growth=5
+
+# NAME FOUND GREATEST: tells what costs too much
+judge() {
+    if [ "$check" ] && awk -v found="$2" -v most="$3" 'BEGIN { exit !(found > most) }'; then
+        echo "planning: $1 has $2, and may have $3 at most"
+        failed=yes
+    fi
+}
 
 # COUNT MODULES
 scrambled() {
@@ -50,12 +79,23 @@ measure() {
     counts[$1]="$proved $plain"
     awk -v name="$1" -v proved="$proved" -v plain="$plain" -v head="$(head -1 "$work/answer")" \
         'BEGIN { printf "%-14s %-13s %9d of %8d instructions, ratio %.2f\n", name, head, proved, plain, proved / plain }'
+    judge "the ratio of $1" "$(awk "BEGIN { printf \"%.2f\", $proved / $plain }")" "${greatest[$1]}"
 }
 
 # NAME: how the counts grow from 1024 transfers to 4096
 growth() {
     echo "$1 ${counts[$1]} ${counts[$1-1024]}" \
         | awk '{ printf "%-14s from 1024 to 4096: times %.2f, of plain Rust times %.2f\n", $1, $2 / $4, $3 / $5 }'
+}
+
+# NAME: how the count of the bytes of switch grows from 1024 transfers to 4096
+switch_growth() {
+    local few many times
+    few=$(instructions "$program" switch "$work/$1-1024")
+    many=$(instructions "$program" switch "$work/$1")
+    times=$(awk "BEGIN { printf \"%.2f\", $many / $few }")
+    printf '%-14s switch from 1024 to 4096: times %s\n' "$1" "$times"
+    judge "switch's growth of $1" "$times" "$greatest_growth"
 }
 
 rustc --edition 2021 -O -o "$work/plain" "$here/plain_planner.rs"
@@ -74,3 +114,5 @@ for name in scrambled one_link odd star two_by_two part wide scrambled-1024 one_
 done
 growth scrambled
 growth one_link
+switch_growth one_link
+[ -z "${failed-}" ]
