@@ -1,7 +1,9 @@
 //! The same cuts behind a book: what it replies, what it holds then, and what its history has of it.
 
-use super::cuts::{PORT_BYTES, SETTING_BYTES, WIRE_BYTES, moved_rack, with_fuse, words_moved};
-use super::lies::{LyingPort, is_called_for};
+use super::cuts::{
+    End, PORT_BYTES, SETTING_BYTES, WIRE_BYTES, moved_rack, port_end, wire_end, with_fuse,
+};
+use super::lies::{LyingPort, answer_end};
 use super::rows::{
     TWO_PUSHES, TWO_PUSHES_SHAPE, Told, are_same, batch, marked, plain, plan, with_port,
 };
@@ -10,7 +12,6 @@ use crossbar::{Chip, ConfigPort, FusePort};
 use peek_poke::WireMaker;
 use schedule_certificate::{MAX_WORKERS, OpenGate};
 use setting_runner::{Plant, StopCause};
-use std::test::Fail;
 use std::thread::Threads;
 
 /// Whether the reply tells that the first run went to its end.
@@ -44,46 +45,19 @@ fn is_stopped(reply: &Reply, wanted: StopCause, words: [usize; 2]) -> bool {
     }
 }
 
-/// How a run of the row is expected to end.
-#[derive(Clone, Copy)]
-pub enum End {
-    /// At its end.
-    Complete,
-    /// In setting 0, for this cause, with so many words moved.
-    Stop(StopCause, [usize; 2]),
+/// Whether the reply, the first of a run, tells this end.
+fn is_told_by(end: End, reply: &Reply) -> bool {
+    match end {
+        End::Complete => is_ran(reply),
+        End::Stop(cause, words) => is_stopped(reply, cause, words),
+    }
 }
 
-impl End {
-    /// Whether the reply, the first of a run, tells so.
-    fn is_told_by(self, reply: &Reply) -> bool {
-        match self {
-            End::Complete => is_ran(reply),
-            End::Stop(cause, words) => is_stopped(reply, cause, words),
-        }
-    }
-
-    /// How far the batch has come then.
-    fn state(self) -> BatchState {
-        match self {
-            End::Complete => BatchState::Ran,
-            End::Stop(_, _) => BatchState::Stopped,
-        }
-    }
-
-    /// How many words each transfer has moved.
-    pub fn words(self) -> [usize; 2] {
-        match self {
-            End::Complete => [2, 2],
-            End::Stop(_, words) => words,
-        }
-    }
-
-    /// What a notice was told.
-    fn told(self) -> Told {
-        match self {
-            End::Complete => Told { times: 2, last: 1 },
-            End::Stop(_, _) => Told { times: 1, last: 0 },
-        }
+/// How far the batch has come then.
+fn state_of(end: End) -> BatchState {
+    match end {
+        End::Complete => BatchState::Ran,
+        End::Stop(_, _) => BatchState::Stopped,
     }
 }
 
@@ -109,13 +83,13 @@ fn is_entry(history: &[Entry], end: End) -> bool {
     history.len() == 3
         && entry.session == 0
         && matches!(entry.call, Call::Run(1))
-        && end.is_told_by(&entry.reply)
+        && is_told_by(end, &entry.reply)
 }
 
 /// Whether the book has the words that a run leaves which ends so, and those that it was opened with.
 fn has_words<R: AllocGlobal>(rt: &R, book: &Book, end: End) -> bool {
     let (Some(wanted), Some(before)) = (
-        moved_rack(rt.alloc(), end.words()),
+        moved_rack(rt.alloc(), TWO_PUSHES_SHAPE, end.words()),
         marked(rt.alloc(), TWO_PUSHES_SHAPE),
     ) else {
         return false;
@@ -127,7 +101,7 @@ fn has_words<R: AllocGlobal>(rt: &R, book: &Book, end: End) -> bool {
 fn is_done<R: Threads + Sync>(rt: &R, book: &mut Book, end: End) -> bool {
     let shown = matches!(
         ask(rt, book, Call::Show(1)),
-        Reply::Shown { transfers: 2, state } if state == end.state()
+        Reply::Shown { transfers: 2, state } if state == state_of(end)
     );
     shown
         && matches!(
@@ -150,7 +124,7 @@ fn runs_to<R: AllocGlobal + Threads + Sync, P: ConfigPort, W: WireMaker + Sync>(
     }
     let mut told = Told::nothing();
     let reply = book.apply(rt, 0, Call::Run(1), plant, &mut told);
-    end.is_told_by(&reply)
+    is_told_by(end, &reply)
         && told == end.told()
         && is_entry(book.history(), end)
         && has_words(rt, &book, end)
@@ -159,61 +133,72 @@ fn runs_to<R: AllocGlobal + Threads + Sync, P: ConfigPort, W: WireMaker + Sync>(
 
 /// Whether a book runs the row rightly with a port that takes so many bytes.
 fn is_right_port<R: AllocGlobal + Threads + Sync>(rt: &R, bytes: usize) -> bool {
-    let end = if bytes < PORT_BYTES {
-        End::Stop(StopCause::Port, [0, 0])
-    } else {
-        End::Complete
-    };
     let mut plant = with_port(FusePort::new(bytes), 1);
-    runs_to(rt, &mut plant, end)
+    runs_to(rt, &mut plant, port_end(bytes))
         && plant.port.crossbar(Chip::A).joined(1, 2) == (bytes >= SETTING_BYTES)
 }
 
-#[test]
-fn each_byte_of_a_port_behind_a_book(rt: HostRuntime) -> Result<(), Fail> {
+/// How many bytes a port takes where a book first runs the row wrongly.
+fn first_wrong_port<R: AllocGlobal + Threads + Sync>(rt: &R) -> Option<usize> {
     for bytes in 0..PORT_BYTES + 2 {
-        assert!(rt; is_right_port(&rt, bytes), "{bytes} bytes");
-    }
-    Ok(())
-}
-
-/// Whether a book runs the row rightly with a wire of a transfer that carries so many bytes.
-fn is_right_wire<R: AllocGlobal + Threads + Sync>(rt: &R, transfer: usize, bytes: usize) -> bool {
-    let end = if bytes < WIRE_BYTES {
-        End::Stop(StopCause::Wire(transfer), words_moved(transfer, bytes))
-    } else {
-        End::Complete
-    };
-    runs_to(rt, &mut with_fuse(transfer, bytes, 1), end)
-        && runs_to(rt, &mut with_fuse(transfer, bytes, 2), end)
-}
-
-#[test]
-fn each_byte_of_a_wire_behind_a_book(rt: HostRuntime) -> Result<(), Fail> {
-    for transfer in 0..2 {
-        for bytes in 0..WIRE_BYTES + 2 {
-            assert!(rt; is_right_wire(&rt, transfer, bytes), "{transfer} {bytes}");
+        if !is_right_port(rt, bytes) {
+            return Some(bytes);
         }
     }
-    Ok(())
-}
-
-/// Whether a book runs the row rightly where an output answers this byte.
-fn is_right_answer<R: AllocGlobal + Threads + Sync>(rt: &R, output: u8, reply: u8) -> bool {
-    let end = if is_called_for(output, reply) {
-        End::Complete
-    } else {
-        End::Stop(StopCause::SwitchDisagrees(output), [0, 0])
-    };
-    runs_to(rt, &mut with_port(LyingPort::new(output, reply), 1), end)
+    None
 }
 
 #[test]
-fn answers_behind_a_book(rt: HostRuntime) -> Result<(), Fail> {
+fn each_byte_of_a_port_behind_a_book(rt: HostRuntime) {
+    assert_eq!(rt; first_wrong_port(&rt), None);
+}
+
+/// How many bytes the wire of a transfer carries where a book first runs the row wrongly, by so many workers.
+fn first_wrong_wire<R: AllocGlobal + Threads + Sync>(
+    rt: &R,
+    transfer: usize,
+    workers: usize,
+) -> Option<usize> {
+    for bytes in 0..WIRE_BYTES + 2 {
+        let mut plant = with_fuse(transfer, bytes, workers);
+        if !runs_to(rt, &mut plant, wire_end(transfer, bytes)) {
+            return Some(bytes);
+        }
+    }
+    None
+}
+
+#[test]
+fn each_byte_of_a_wire_behind_a_book(rt: HostRuntime) {
+    assert_eq!(rt; first_wrong_wire(&rt, 0, 1), None);
+    assert_eq!(rt; first_wrong_wire(&rt, 0, 2), None);
+    assert_eq!(rt; first_wrong_wire(&rt, 1, 1), None);
+    assert_eq!(rt; first_wrong_wire(&rt, 1, 2), None);
+}
+
+/// The first output for which a book runs the row wrongly where the output answers this byte.
+fn first_wrong_output<R: AllocGlobal + Threads + Sync>(rt: &R, reply: u8) -> Option<u8> {
     for output in 0..32u8 {
-        for reply in [0x00, 0x1f, 0x7f, 0x80, 0x81, 0x91, 0x92, 0xa1, 0xff] {
-            assert!(rt; is_right_answer(&rt, output, reply), "{output} {reply}");
+        let mut plant = with_port(LyingPort::new(output, reply), 1);
+        if !runs_to(rt, &mut plant, answer_end(output, reply)) {
+            return Some(output);
         }
     }
-    Ok(())
+    None
+}
+
+/// The first of some answers for which a book runs the row wrongly, with the output that gives it.
+fn first_wrong_answer<R: AllocGlobal + Threads + Sync>(rt: &R, replies: &[u8]) -> Option<(u8, u8)> {
+    for reply in replies {
+        if let Some(output) = first_wrong_output(rt, *reply) {
+            return Some((output, *reply));
+        }
+    }
+    None
+}
+
+#[test]
+fn answers_behind_a_book(rt: HostRuntime) {
+    let replies = [0x00, 0x1f, 0x7f, 0x80, 0x81, 0x91, 0x92, 0xa1, 0xff];
+    assert_eq!(rt; first_wrong_answer(&rt, &replies), None);
 }

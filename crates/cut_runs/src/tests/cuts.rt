@@ -1,17 +1,14 @@
 //! Runs of row two-pushes whose port or wire is cut at each of its bytes.
 
-ghost use Rattle.std.specs.Prelude.{◌≤◌};
-
 use super::rows::{
-    TWO_PUSHES, TWO_PUSHES_SHAPE, Told, are_same, marked, marked_but, plan, with_port,
+    TWO_PUSHES, TWO_PUSHES_SHAPE, Told, are_same, marked, marked_but, plain, plan, with_port,
 };
 use crossbar::{Chip, ConfigPort, FusePort, MemoryPort};
 use module_memory::Rack;
-use peek_poke::{FuseWires, PlainWires, WireMaker};
+use peek_poke::{FuseWires, WireMaker};
 use schedule_certificate::{MAX_WORKERS, OpenGate, Planned};
 use setting_runner::{Outcome, Plant, StopCause, run};
 use std::alloc::Global;
-use std::test::Fail;
 use std::thread::Threads;
 
 /// How many bytes the row sends to its port: 8 set the switch, and 64 ask it.
@@ -24,10 +21,10 @@ pub const SETTING_BYTES: usize = 8;
 pub const WIRE_BYTES: usize = 18;
 
 /// How many bytes go over a wire for a word.
-pub const BYTES_OF_A_WORD: usize = 9;
+const BYTES_OF_A_WORD: usize = 9;
 
 /// The first words of those that transfer 0 moves.
-pub fn words_of_0(moved: usize) -> &'static [u32] {
+fn words_of_0(moved: usize) -> &'static [u32] {
     match moved {
         0 => &[],
         1 => &[0],
@@ -36,7 +33,7 @@ pub fn words_of_0(moved: usize) -> &'static [u32] {
 }
 
 /// The first words of those that transfer 1 moves.
-pub fn words_of_1(moved: usize) -> &'static [u32] {
+fn words_of_1(moved: usize) -> &'static [u32] {
     match moved {
         0 => &[],
         1 => &[0x0001_0100],
@@ -44,14 +41,60 @@ pub fn words_of_1(moved: usize) -> &'static [u32] {
     }
 }
 
-/// The rack of the row where its transfers have moved so many words.
-pub fn moved_rack(alloc: Global, moved: [usize; 2]) -> Option<Rack> {
+/// The rack of the row on a shape, where its transfers have moved so many words.
+pub fn moved_rack(alloc: Global, shape: &str, moved: [usize; 2]) -> Option<Rack> {
     let [zero, one] = moved;
-    marked_but(alloc, TWO_PUSHES_SHAPE, words_of_0(zero), words_of_1(one))
+    marked_but(alloc, shape, words_of_0(zero), words_of_1(one))
+}
+
+/// How a run of the row is expected to end.
+#[derive(Clone, Copy)]
+pub enum End {
+    /// At its end.
+    Complete,
+    /// In setting 0, for this cause, with so many words moved.
+    Stop(StopCause, [usize; 2]),
+}
+
+impl End {
+    /// How many words each transfer has moved.
+    pub fn words(self) -> [usize; 2] {
+        match self {
+            End::Complete => [2, 2],
+            End::Stop(_, words) => words,
+        }
+    }
+
+    /// What a notice was told.
+    pub fn told(self) -> Told {
+        match self {
+            End::Complete => Told { times: 2, last: 1 },
+            End::Stop(_, _) => Told { times: 1, last: 0 },
+        }
+    }
+
+    /// Whether a run with this outcome ended so.
+    fn is_of(self, outcome: &Outcome) -> bool {
+        match self {
+            End::Complete => is_complete(outcome),
+            End::Stop(cause, words) => is_stop(outcome, cause, words),
+        }
+    }
+}
+
+/// Whether a run completed its one setting and moved four words.
+fn is_complete(outcome: &Outcome) -> bool {
+    matches!(
+        outcome,
+        Outcome::Completed {
+            settings: 1,
+            words: 4,
+        }
+    )
 }
 
 /// Whether a run stopped in setting 0 for this cause, with so many words moved.
-pub fn is_stop(outcome: &Outcome, wanted: StopCause, words: [usize; 2]) -> bool {
+fn is_stop(outcome: &Outcome, wanted: StopCause, words: [usize; 2]) -> bool {
     let [zero, one] = words;
     match outcome {
         Outcome::Stopped {
@@ -63,60 +106,39 @@ pub fn is_stop(outcome: &Outcome, wanted: StopCause, words: [usize; 2]) -> bool 
     }
 }
 
-/// What a run came to.
-#[derive(Drop)]
-pub struct Ran {
-    outcome: Outcome,
-    told: Told,
-    rack: Rack,
-}
-
-/// Runs the row on its marked rack.
-pub fn run_row<R: AllocGlobal + Threads + Sync, P: ConfigPort, W: WireMaker + Sync>(
+/// Whether the row, run on a marked rack of this shape, comes to this end: its outcome, what its notice is told, and the words of
+/// the rack.
+pub fn runs_to<R: AllocGlobal + Threads + Sync, P: ConfigPort, W: WireMaker + Sync>(
     rt: &R,
+    shape: &str,
     planned: &Planned,
     plant: &mut Plant<P, W, OpenGate>,
-) -> Option<Ran> {
+    end: End,
+) -> bool {
     if plant.workers < 1 || plant.workers > MAX_WORKERS {
-        return None;
+        return false;
     }
-    let rack = marked(rt.alloc(), TWO_PUSHES_SHAPE)?;
+    let Some(rack) = marked(rt.alloc(), shape) else {
+        return false;
+    };
     let mut told = Told::nothing();
     let (rack, outcome) = run(rt, rt.alloc(), rack, plant, planned, &mut told);
-    Some(Ran {
-        outcome,
-        told,
-        rack,
-    })
+    let Some(wanted) = moved_rack(rt.alloc(), shape, end.words()) else {
+        return false;
+    };
+    end.is_of(&outcome) && told == end.told() && are_same(&rack, &wanted)
 }
 
-impl Ran {
-    /// Whether the run stopped in setting 0 for this cause, with so many words moved, and these alone.
-    pub fn has_stopped(&self, alloc: Global, cause: StopCause, words: [usize; 2]) -> bool {
-        let Some(wanted) = moved_rack(alloc, words) else {
-            return false;
-        };
-        is_stop(&self.outcome, cause, words)
-            && self.told == Told { times: 1, last: 0 }
-            && are_same(&self.rack, &wanted)
-    }
-
-    /// Whether the run went to its end.
-    pub fn has_completed(&self, alloc: Global) -> bool {
-        let Some(wanted) = moved_rack(alloc, [2, 2]) else {
-            return false;
-        };
-        let outcome = Outcome::Completed {
-            settings: 1,
-            words: 4,
-        };
-        self.outcome == outcome
-            && self.told == Told { times: 2, last: 1 }
-            && are_same(&self.rack, &wanted)
+/// How the row ends where its port takes so many bytes: before a word has moved, or, where it takes all, at its end.
+pub fn port_end(bytes: usize) -> End {
+    if bytes < PORT_BYTES {
+        End::Stop(StopCause::Port, [0, 0])
+    } else {
+        End::Complete
     }
 }
 
-/// Whether a port that takes so many bytes stops the row before a word has moved, or lets it through where it takes all.
+/// Whether a port that takes so many bytes ends the row as it should, and its switch is set just where it took the setting.
 fn is_right_port<R: AllocGlobal + Threads + Sync>(
     rt: &R,
     planned: &Planned,
@@ -124,30 +146,29 @@ fn is_right_port<R: AllocGlobal + Threads + Sync>(
     workers: usize,
 ) -> bool {
     let mut plant = with_port(FusePort::new(bytes), workers);
-    let Some(ran) = run_row(rt, planned, &mut plant) else {
-        return false;
-    };
+    let is_right = runs_to(rt, TWO_PUSHES_SHAPE, planned, &mut plant, port_end(bytes));
     let switch = plant.port.crossbar(Chip::A);
     let is_set = switch.joined(0, 1) && switch.joined(1, 2);
-    let is_right = if bytes < PORT_BYTES {
-        ran.has_stopped(rt.alloc(), StopCause::Port, [0, 0])
-    } else {
-        ran.has_completed(rt.alloc())
-    };
     is_right && is_set == (bytes >= SETTING_BYTES)
 }
 
-#[test]
-fn each_byte_of_a_port(rt: HostRuntime) -> Result<(), Fail> {
-    let planned = plan(&rt, TWO_PUSHES).ok_or("no plan")?;
+/// How many bytes a port takes where the row first ends as it shouldn't, by so many workers.
+fn first_wrong_port<R: AllocGlobal + Threads + Sync>(rt: &R, workers: usize) -> Option<usize> {
+    let Some(planned) = plan(rt, TWO_PUSHES) else {
+        return Some(0);
+    };
     for bytes in 0..PORT_BYTES + 2 {
-        assert!(rt; is_right_port(&rt, &planned, bytes, 1), "{bytes} bytes");
-        assert!(rt;
-            is_right_port(&rt, &planned, bytes, 2),
-            "{bytes} bytes, two workers"
-        );
+        if !is_right_port(rt, &planned, bytes, workers) {
+            return Some(bytes);
+        }
     }
-    Ok(())
+    None
+}
+
+#[test]
+fn each_byte_of_a_port(rt: HostRuntime) {
+    assert_eq!(rt; first_wrong_port(&rt, 1), None);
+    assert_eq!(rt; first_wrong_port(&rt, 2), None);
 }
 
 /// A plant whose wire of a transfer carries so many bytes.
@@ -164,68 +185,64 @@ pub fn with_fuse(
     }
 }
 
-/// How many words each transfer has moved where the wire of one carries so many bytes.
-pub fn words_moved(transfer: usize, bytes: usize) -> [usize; 2] {
+/// How the row ends where the wire of one transfer carries so many bytes: behind its whole words, or, where it carries all, at
+/// its end. The other transfer moves all its words.
+pub fn wire_end(transfer: usize, bytes: usize) -> End {
+    if bytes >= WIRE_BYTES {
+        return End::Complete;
+    }
     let words = bytes / BYTES_OF_A_WORD;
-    if transfer == 0 {
+    let moved = if transfer == 0 {
         [words, 2]
     } else {
         [2, words]
-    }
+    };
+    End::Stop(StopCause::Wire(transfer), moved)
 }
 
-/// Whether a wire of a transfer that carries so many bytes stops the row behind its whole words, or lets it through where it
-/// carries all. The other transfer moves all its words.
-fn is_right_wire<R: AllocGlobal + Threads + Sync>(
+/// How many bytes the wire of a transfer carries where the row first ends as it shouldn't, by so many workers.
+fn first_wrong_wire<R: AllocGlobal + Threads + Sync>(
     rt: &R,
-    planned: &Planned,
     transfer: usize,
-    bytes: usize,
     workers: usize,
-) -> bool {
-    let mut plant = with_fuse(transfer, bytes, workers);
-    let Some(ran) = run_row(rt, planned, &mut plant) else {
-        return false;
+) -> Option<usize> {
+    let Some(planned) = plan(rt, TWO_PUSHES) else {
+        return Some(0);
     };
-    if bytes < WIRE_BYTES {
-        let words = words_moved(transfer, bytes);
-        ran.has_stopped(rt.alloc(), StopCause::Wire(transfer), words)
-    } else {
-        ran.has_completed(rt.alloc())
+    for bytes in 0..WIRE_BYTES + 2 {
+        let mut plant = with_fuse(transfer, bytes, workers);
+        let end = wire_end(transfer, bytes);
+        if !runs_to(rt, TWO_PUSHES_SHAPE, &planned, &mut plant, end) {
+            return Some(bytes);
+        }
     }
+    None
 }
 
 #[test]
-fn each_byte_of_a_wire(rt: HostRuntime) -> Result<(), Fail> {
-    let planned = plan(&rt, TWO_PUSHES).ok_or("no plan")?;
-    for transfer in 0..2 {
-        for bytes in 0..WIRE_BYTES + 2 {
-            assert!(rt;
-                is_right_wire(&rt, &planned, transfer, bytes, 1),
-                "{transfer} {bytes}"
-            );
-            assert!(rt;
-                is_right_wire(&rt, &planned, transfer, bytes, 2),
-                "{transfer} {bytes}"
-            );
+fn each_byte_of_a_wire(rt: HostRuntime) {
+    assert_eq!(rt; first_wrong_wire(&rt, 0, 1), None);
+    assert_eq!(rt; first_wrong_wire(&rt, 0, 2), None);
+    assert_eq!(rt; first_wrong_wire(&rt, 1, 1), None);
+    assert_eq!(rt; first_wrong_wire(&rt, 1, 2), None);
+}
+
+/// The first number of workers by which the row doesn't go to its end, over a port and wires that never fail.
+fn first_stopped<R: AllocGlobal + Threads + Sync>(rt: &R) -> Option<usize> {
+    let Some(planned) = plan(rt, TWO_PUSHES) else {
+        return Some(0);
+    };
+    for workers in 1..MAX_WORKERS + 1 {
+        let mut plant = plain(workers);
+        if !runs_to(rt, TWO_PUSHES_SHAPE, &planned, &mut plant, End::Complete) {
+            return Some(workers);
         }
     }
-    Ok(())
+    None
 }
 
 /// Runs without a port or a wire that fails go to their end for each number of workers.
 #[test]
-fn no_cut(rt: HostRuntime) -> Result<(), Fail> {
-    let planned = plan(&rt, TWO_PUSHES).ok_or("no plan")?;
-    for workers in 1..MAX_WORKERS + 1 {
-        let mut plant = Plant {
-            port: MemoryPort::new(),
-            wires: PlainWires,
-            gate: OpenGate,
-            workers,
-        };
-        let ran = run_row(&rt, &planned, &mut plant).ok_or("no run")?;
-        assert!(rt; ran.has_completed(rt.alloc()), "{workers} workers");
-    }
-    Ok(())
+fn no_cut(rt: HostRuntime) {
+    assert_eq!(rt; first_stopped(&rt), None);
 }

@@ -1,12 +1,10 @@
 //! Runs of row two-pushes whose port answers one enquiry by any byte.
 
-use super::cuts::{Ran, run_row};
-use super::rows::{TWO_PUSHES, plan, with_port};
+use super::cuts::{End, runs_to};
+use super::rows::{TWO_PUSHES, TWO_PUSHES_SHAPE, plan, with_port};
 use crossbar::{Chip, ConfigPort, MemoryPort, PortFault};
 use schedule_certificate::Planned;
 use setting_runner::StopCause;
-use std::alloc::Global;
-use std::test::Fail;
 use std::thread::Threads;
 
 /// A port to a switch in memory that answers the enquiry of one output by its own byte, and all others rightly.
@@ -58,58 +56,54 @@ fn input_of(output: u8) -> Option<u8> {
 
 /// Whether the row's setting calls for this answer: the input with the top bit, or of an output that nothing feeds any byte without
 /// the top bit.
-pub fn is_called_for(output: u8, reply: u8) -> bool {
+fn is_called_for(output: u8, reply: u8) -> bool {
     match input_of(output) {
         Some(input) => reply == 0x80 | input,
         None => reply < 0x80,
     }
 }
 
-/// Whether a run with this answer ended as it should.
-fn is_right(alloc: Global, ran: &Ran, output: u8, reply: u8) -> bool {
+/// How the row ends where an output answers this byte.
+pub fn answer_end(output: u8, reply: u8) -> End {
     if is_called_for(output, reply) {
-        ran.has_completed(alloc)
+        End::Complete
     } else {
-        ran.has_stopped(alloc, StopCause::SwitchDisagrees(output), [0, 0])
+        End::Stop(StopCause::SwitchDisagrees(output), [0, 0])
     }
 }
 
-/// Whether a run ends as it should where an output answers this byte.
-fn is_right_answer<R: AllocGlobal + Threads + Sync>(
+/// The first answer of an output, of all bytes, that doesn't end the row as it should.
+fn first_wrong_answer<R: AllocGlobal + Threads + Sync>(
     rt: &R,
     planned: &Planned,
     output: u8,
-    reply: u8,
-) -> bool {
-    let mut plant = with_port(LyingPort::new(output, reply), 1);
-    match run_row(rt, planned, &mut plant) {
-        Some(ran) => is_right(rt.alloc(), &ran, output, reply),
-        None => false,
-    }
-}
-
-/// How many answers of an output end a run as they should, of all bytes.
-fn right_answers<R: AllocGlobal + Threads + Sync>(rt: &R, planned: &Planned, output: u8) -> usize {
-    let mut right: usize = 0;
+) -> Option<u8> {
     for reply in 0..=255u8 {
-        if is_right_answer(rt, planned, output, reply) {
-            right = right.saturating_add(1);
+        let mut plant = with_port(LyingPort::new(output, reply), 1);
+        let end = answer_end(output, reply);
+        if !runs_to(rt, TWO_PUSHES_SHAPE, planned, &mut plant, end) {
+            return Some(reply);
         }
     }
-    right
+    None
+}
+
+/// The first output of which an answer doesn't end the row as it should, with that answer.
+fn first_wrong_output<R: AllocGlobal + Threads + Sync>(rt: &R) -> Option<(u8, u8)> {
+    let Some(planned) = plan(rt, TWO_PUSHES) else {
+        return Some((0, 0));
+    };
+    for output in 0..32u8 {
+        if let Some(reply) = first_wrong_answer(rt, &planned, output) {
+            return Some((output, reply));
+        }
+    }
+    None
 }
 
 #[test]
-fn each_answer_of_each_output(rt: HostRuntime) -> Result<(), Fail> {
-    let planned = plan(&rt, TWO_PUSHES).ok_or("no plan")?;
-    for output in 0..32u8 {
-        assert_eq!(rt;
-            right_answers(&rt, &planned, output),
-            256,
-            "output {output}"
-        );
-    }
-    Ok(())
+fn each_answer_of_each_output(rt: HostRuntime) {
+    assert_eq!(rt; first_wrong_output(&rt), None);
 }
 
 /// A loose output's answer counts by its top bit alone, and an input is one of 32.

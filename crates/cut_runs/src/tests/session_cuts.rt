@@ -4,9 +4,8 @@ ghost use Rattle.std.specs.Prelude.{◌≡◌, ◌≤◌, IfSome, Some};
 ghost use Rattle.progress_word.specs.declared.limits.TheConstants.{ALL_PARTS};
 ghost use Rattle.client_session.specs.Sessions.{seat_back};
 
-use super::book_cuts::End;
-use super::cuts::{PORT_BYTES, WIRE_BYTES, moved_rack, with_fuse, words_moved};
-use super::lies::{LyingPort, is_called_for};
+use super::cuts::{End, PORT_BYTES, WIRE_BYTES, moved_rack, port_end, wire_end, with_fuse};
+use super::lies::{LyingPort, answer_end};
 use super::rows::{FIRST, Kept, TWO_PUSHES_SHAPE, are_same, marked, with_port};
 use batch_book::{Closed, Seat, Shared};
 use client_session::{ServeFault, serve};
@@ -18,7 +17,6 @@ use std::alloc::{AllocError, Global};
 use std::marker::Brand;
 use std::sync::Wait;
 use std::sync::ledger::{Blank, Ledger};
-use std::test::Fail;
 use std::thread::Threads;
 
 /// What the session reads: it runs the row, and then looks at what is left.
@@ -143,7 +141,7 @@ progress run 1 done 0
 
 /// The words that a session peeks behind a run which ends so.
 fn word_lines(alloc: Global, end: End) -> Option<String> {
-    let rack = moved_rack(alloc, end.words())?;
+    let rack = moved_rack(alloc, TWO_PUSHES_SHAPE, end.words())?;
     let words = [
         rack.read(1, FIRST).ok()?,
         rack.read(1, FIRST + 4).ok()?,
@@ -172,7 +170,7 @@ fn is_left<L: Ledger, P: Drop, W: Drop>(
     end: End,
 ) -> bool {
     let (Some(after), Some(before)) = (
-        moved_rack(alloc, end.words()),
+        moved_rack(alloc, TWO_PUSHES_SHAPE, end.words()),
         marked(alloc, TWO_PUSHES_SHAPE),
     ) else {
         return false;
@@ -218,62 +216,70 @@ fn runs_to<
     is_served::<Brand, R, P, W>(rt, Blank::new(16), plant, end) == Some(true)
 }
 
-/// Whether the session is told rightly of a port that takes so many bytes.
-fn is_right_port<R: AllocGlobal + Threads + Wait + Sync>(rt: &R, bytes: usize) -> bool {
-    let end = if bytes < PORT_BYTES {
-        End::Stop(StopCause::Port, [0, 0])
-    } else {
-        End::Complete
-    };
-    runs_to(rt, with_port(FusePort::new(bytes), 1), end)
+/// How many bytes a port takes where the session is first told wrongly.
+fn first_wrong_port<R: AllocGlobal + Threads + Wait + Sync>(rt: &R) -> Option<usize> {
+    for bytes in 0..PORT_BYTES + 2 {
+        if !runs_to(rt, with_port(FusePort::new(bytes), 1), port_end(bytes)) {
+            return Some(bytes);
+        }
+    }
+    None
 }
 
 #[test]
 fn each_byte_of_a_port_in_a_session(rt: HostRuntime) {
-    for bytes in 0..PORT_BYTES + 2 {
-        assert!(rt; is_right_port(&rt, bytes), "{bytes} bytes");
-    }
+    assert_eq!(rt; first_wrong_port(&rt), None);
 }
 
-/// Whether the session is told rightly of a wire of a transfer that carries so many bytes.
-fn is_right_wire<R: AllocGlobal + Threads + Wait + Sync>(
+/// How many bytes the wire of a transfer carries where the session is first told wrongly, by so many workers.
+fn first_wrong_wire<R: AllocGlobal + Threads + Wait + Sync>(
     rt: &R,
     transfer: usize,
-    bytes: usize,
-) -> bool {
-    let end = if bytes < WIRE_BYTES {
-        End::Stop(StopCause::Wire(transfer), words_moved(transfer, bytes))
-    } else {
-        End::Complete
-    };
-    runs_to(rt, with_fuse(transfer, bytes, 1), end)
-        && runs_to(rt, with_fuse(transfer, bytes, 2), end)
+    workers: usize,
+) -> Option<usize> {
+    for bytes in 0..WIRE_BYTES + 2 {
+        let plant = with_fuse(transfer, bytes, workers);
+        if !runs_to(rt, plant, wire_end(transfer, bytes)) {
+            return Some(bytes);
+        }
+    }
+    None
 }
 
 #[test]
 fn each_byte_of_a_wire_in_a_session(rt: HostRuntime) {
-    for transfer in 0..2 {
-        for bytes in 0..WIRE_BYTES + 2 {
-            assert!(rt; is_right_wire(&rt, transfer, bytes), "{transfer} {bytes}");
-        }
-    }
+    assert_eq!(rt; first_wrong_wire(&rt, 0, 1), None);
+    assert_eq!(rt; first_wrong_wire(&rt, 0, 2), None);
+    assert_eq!(rt; first_wrong_wire(&rt, 1, 1), None);
+    assert_eq!(rt; first_wrong_wire(&rt, 1, 2), None);
 }
 
-/// Whether the session is told rightly where an output answers this byte.
-fn is_right_answer<R: AllocGlobal + Threads + Wait + Sync>(rt: &R, output: u8, reply: u8) -> bool {
-    let end = if is_called_for(output, reply) {
-        End::Complete
-    } else {
-        End::Stop(StopCause::SwitchDisagrees(output), [0, 0])
-    };
-    runs_to(rt, with_port(LyingPort::new(output, reply), 1), end)
+/// The first output for which the session is told wrongly where the output answers this byte.
+fn first_wrong_output<R: AllocGlobal + Threads + Wait + Sync>(rt: &R, reply: u8) -> Option<u8> {
+    for output in 0..32u8 {
+        let plant = with_port(LyingPort::new(output, reply), 1);
+        if !runs_to(rt, plant, answer_end(output, reply)) {
+            return Some(output);
+        }
+    }
+    None
+}
+
+/// The first of some answers for which the session is told wrongly, with the output that gives it.
+fn first_wrong_answer<R: AllocGlobal + Threads + Wait + Sync>(
+    rt: &R,
+    replies: &[u8],
+) -> Option<(u8, u8)> {
+    for reply in replies {
+        if let Some(output) = first_wrong_output(rt, *reply) {
+            return Some((output, *reply));
+        }
+    }
+    None
 }
 
 #[test]
 fn answers_in_a_session(rt: HostRuntime) {
-    for output in 0..32u8 {
-        for reply in [0x00, 0x7f, 0x80, 0x81, 0x91, 0x92, 0xa1, 0xff] {
-            assert!(rt; is_right_answer(&rt, output, reply), "{output} {reply}");
-        }
-    }
+    let replies = [0x00, 0x7f, 0x80, 0x81, 0x91, 0x92, 0xa1, 0xff];
+    assert_eq!(rt; first_wrong_answer(&rt, &replies), None);
 }

@@ -1,12 +1,10 @@
 //! Runs of row two-pushes on a rack with two switches, whose port is cut at each of its bytes or answers anything for either.
 
-use super::cuts::{is_stop, words_of_0, words_of_1};
-use super::rows::{TWO_PUSHES, Told, are_same, marked, marked_but, plan, with_port};
+use super::cuts::{End, runs_to};
+use super::rows::{TWO_PUSHES, plan, with_port};
 use crossbar::{Chip, ConfigPort, FusePort, MemoryPort, PortFault, joined_wide};
-use peek_poke::PlainWires;
-use schedule_certificate::{OpenGate, Planned};
-use setting_runner::{Outcome, Plant, StopCause, run};
-use std::test::Fail;
+use schedule_certificate::Planned;
+use setting_runner::StopCause;
 use std::thread::Threads;
 
 /// A shape whose rack has two switches.
@@ -27,6 +25,17 @@ struct LyingPort {
     reply: u8,
 }
 
+impl LyingPort {
+    fn new(chip: Chip, output: u8, reply: u8) -> LyingPort {
+        LyingPort {
+            memory: MemoryPort::new(),
+            chip,
+            output,
+            reply,
+        }
+    }
+}
+
 impl ConfigPort for LyingPort {
     ghost use Rattle.std.specs.Prelude.{false};
 
@@ -45,43 +54,15 @@ impl ConfigPort for LyingPort {
     }
 }
 
-/// Whether the row ends as it should: stopped for the cause with no word moved and one notice, or, without a cause, completed.
-fn ends<R: AllocGlobal + Threads + Sync, P: ConfigPort>(
-    rt: &R,
-    planned: &Planned,
-    plant: &mut Plant<P, PlainWires, OpenGate>,
-    cause: Option<StopCause>,
-) -> bool {
-    if plant.workers != 1 {
-        return false;
-    }
-    let Some(rack) = marked(rt.alloc(), SHAPE) else {
-        return false;
-    };
-    let mut told = Told::nothing();
-    let (rack, outcome) = run(rt, rt.alloc(), rack, plant, planned, &mut told);
-    let words = if cause.is_some() { 0 } else { 2 };
-    let Some(wanted) = marked_but(rt.alloc(), SHAPE, words_of_0(words), words_of_1(words)) else {
-        return false;
-    };
-    is_end(&outcome, told, cause) && are_same(&rack, &wanted)
-}
-
-/// Whether an outcome and what was told are those of an end of the row before a word has moved, or of its completion.
-fn is_end(outcome: &Outcome, told: Told, cause: Option<StopCause>) -> bool {
+/// How the row ends before a word has moved, or, without a cause, at its end.
+fn end_of(cause: Option<StopCause>) -> End {
     match cause {
-        Some(cause) => is_stop(outcome, cause, [0, 0]) && told == Told { times: 1, last: 0 },
-        None => {
-            let completed = Outcome::Completed {
-                settings: 1,
-                words: 4,
-            };
-            *outcome == completed && told == Told { times: 2, last: 1 }
-        }
+        Some(cause) => End::Stop(cause, [0, 0]),
+        None => End::Complete,
     }
 }
 
-/// Whether a port that takes so many bytes stops the row before a word has moved, or lets it through where it takes all.
+/// Whether a port that takes so many bytes ends the row as it should, and its switches are set just where it took the setting.
 fn is_right_port<R: AllocGlobal + Threads + Sync>(rt: &R, planned: &Planned, bytes: usize) -> bool {
     let cause = if bytes < PORT_BYTES {
         Some(StopCause::Port)
@@ -89,19 +70,28 @@ fn is_right_port<R: AllocGlobal + Threads + Sync>(rt: &R, planned: &Planned, byt
         None
     };
     let mut plant = with_port(FusePort::new(bytes), 1);
-    let has_ended = ends(rt, planned, &mut plant, cause);
+    let has_ended = runs_to(rt, SHAPE, planned, &mut plant, end_of(cause));
     let (a, b) = (plant.port.crossbar(Chip::A), plant.port.crossbar(Chip::B));
     let is_set = joined_wide(a, b, 0, 1) && joined_wide(a, b, 1, 2);
     has_ended && is_set == (bytes >= SETTING_BYTES)
 }
 
-#[test]
-fn each_byte_of_a_port_to_two_switches(rt: HostRuntime) -> Result<(), Fail> {
-    let planned = plan(&rt, TWO_PUSHES).ok_or("no plan")?;
+/// How many bytes a port takes where the row first ends as it shouldn't.
+fn first_wrong_port<R: AllocGlobal + Threads + Sync>(rt: &R) -> Option<usize> {
+    let Some(planned) = plan(rt, TWO_PUSHES) else {
+        return Some(0);
+    };
     for bytes in 0..PORT_BYTES + 2 {
-        assert!(rt; is_right_port(&rt, &planned, bytes), "{bytes} bytes");
+        if !is_right_port(rt, &planned, bytes) {
+            return Some(bytes);
+        }
     }
-    Ok(())
+    None
+}
+
+#[test]
+fn each_byte_of_a_port_to_two_switches(rt: HostRuntime) {
+    assert_eq!(rt; first_wrong_port(&rt), None);
 }
 
 /// The input that feeds an output of a switch in the row's setting, of those that are fed.
@@ -128,56 +118,40 @@ fn cause_of(chip: Chip, output: u8, reply: u8) -> Option<StopCause> {
     }
 }
 
-/// Whether the row ends as it should where an output of a switch answers this byte.
-fn is_right_answer<R: AllocGlobal + Threads + Sync>(
+/// The first answer of an output of a switch, of all bytes, that doesn't end the row as it should.
+fn first_wrong_answer<R: AllocGlobal + Threads + Sync>(
     rt: &R,
     planned: &Planned,
     chip: Chip,
     output: u8,
-    reply: u8,
-) -> bool {
-    let port = LyingPort {
-        memory: MemoryPort::new(),
-        chip,
-        output,
-        reply,
-    };
-    let cause = cause_of(chip, output, reply);
-    ends(rt, planned, &mut with_port(port, 1), cause)
-}
-
-/// How many answers of an output end the row as they should, of all bytes.
-fn right_answers<R: AllocGlobal + Threads + Sync>(
-    rt: &R,
-    planned: &Planned,
-    chip: Chip,
-    output: u8,
-) -> usize {
-    let mut right: usize = 0;
+) -> Option<u8> {
     for reply in 0..=255u8 {
-        if is_right_answer(rt, planned, chip, output, reply) {
-            right = right.saturating_add(1);
+        let end = end_of(cause_of(chip, output, reply));
+        let mut plant = with_port(LyingPort::new(chip, output, reply), 1);
+        if !runs_to(rt, SHAPE, planned, &mut plant, end) {
+            return Some(reply);
         }
     }
-    right
+    None
 }
 
-/// Whether each answer of each output of a switch ends the row as it should.
-fn all_answers<R: AllocGlobal + Threads + Sync>(rt: &R, planned: &Planned, chip: Chip) -> bool {
+/// The first output of a switch of which an answer doesn't end the row as it should, with that answer.
+fn first_wrong_output<R: AllocGlobal + Threads + Sync>(rt: &R, chip: Chip) -> Option<(u8, u8)> {
+    let Some(planned) = plan(rt, TWO_PUSHES) else {
+        return Some((0, 0));
+    };
     for output in 0..32u8 {
-        if right_answers(rt, planned, chip, output) != 256 {
-            return false;
+        if let Some(reply) = first_wrong_answer(rt, &planned, chip, output) {
+            return Some((output, reply));
         }
     }
-    true
+    None
 }
 
 #[test]
-fn each_answer_of_each_output_of_two_switches(rt: HostRuntime) -> Result<(), Fail> {
-    let planned = plan(&rt, TWO_PUSHES).ok_or("no plan")?;
-    assert!(rt; all_answers(&rt, &planned, Chip::A));
-    assert!(rt; all_answers(&rt, &planned, Chip::B));
-    Ok(())
+fn each_answer_of_each_output_of_two_switches(rt: HostRuntime) {
+    assert_eq!(rt; first_wrong_output(&rt, Chip::A), None);
+    assert_eq!(rt; first_wrong_output(&rt, Chip::B), None);
 }
 
 /// Which answers the row calls for, and how another is told.
