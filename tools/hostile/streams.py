@@ -121,6 +121,22 @@ INPUTS = [
     (("serve", "2x2x2", "script", "-"), "script", b"session 0\nword 00000000\nbye\nsession 1\nword 00000000\nbye\n"),
 ]
 
+
+def pipes_as_files():
+    """Each file is read once, and standard input isn't read where it is none of them: a pipe has its text once, and an input that is held
+    open never ends."""
+    os.mkfifo("once")
+    os.mkfifo("held")
+    held = os.open("held", os.O_RDWR)
+    for words, given, answer in INPUTS:
+        with open(given, "rb") as file:
+            writer = threading.Thread(target=pieces, args=("once", [file.read()]), daemon=True)
+        writer.start()
+        ended = ask(*("once" if it == "-" else it for it in words), given="held", seconds=LIMIT)
+        expect(f"{' '.join(words)}: a pipe, beside an input that is held open", ended, Ended(answer, b"", 0))
+    os.close(held)
+
+
 # Streams that can't be read.
 UNREADABLE = {
     "a closed input": "exec <&-;",
@@ -246,6 +262,7 @@ def main():
         forbidden_file(room)
         endless_files()
         pipes()
+        pipes_as_files()
         inputs()
         inputs_named_twice()
         many_reads()

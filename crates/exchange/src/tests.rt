@@ -3,10 +3,9 @@
 
 use crate::dispatch::{respond, respond_to};
 use crate::unanswered::Unanswered;
-use answers::{LINE_BYTES, MAX_READS};
 use command_words::{VERSION, WordsFault};
 use std::alloc::{AllocError, Global};
-use std::io::{ErrorKind, Write};
+use std::io::{ErrorKind, Read, Write};
 use std::process::ExitCode;
 use std::rt::Files;
 use std::sync::Wait;
@@ -37,6 +36,21 @@ struct Seen {
     code: ExitCode,
 }
 
+impl Seen {
+    /// Whether nothing is on standard error, and the status is this one.
+    fn ends_well(&self, status: u8) -> bool {
+        self.err.is_empty() && self.code == ExitCode::from(status)
+    }
+
+    /// Whether standard output has a picture with the part in it.
+    fn has_picture(&self, part: &str) -> bool {
+        let Ok(text) = str::from_utf8(self.out.as_slice()) else {
+            return false;
+        };
+        text.starts_with("<svg ") && text.ends_with("</svg>\n") && text.contains(part)
+    }
+}
+
 /// What is seen of the program for the words of a line, where standard input has this text.
 fn see<R: AllocGlobal + Files + Threads + Wait + Sync>(
     rt: &R,
@@ -58,10 +72,11 @@ fn prints_for<R: AllocGlobal + Files + Threads + Wait + Sync>(
     input: &str,
     text: &str,
     status: u8,
-) -> Result<bool, AllocError> {
-    let seen = see(rt, line, input)?;
-    let is_said = seen.out.as_slice() == text.as_bytes() && seen.err.is_empty();
-    Ok(seen.code == ExitCode::from(status) && is_said)
+) -> bool {
+    match see(rt, line, input) {
+        Ok(seen) => seen.out.as_slice() == text.as_bytes() && seen.ends_well(status),
+        Err(_) => false,
+    }
 }
 
 /// The same where standard input is empty.
@@ -70,142 +85,142 @@ fn prints<R: AllocGlobal + Files + Threads + Wait + Sync>(
     line: &str,
     text: &str,
     status: u8,
-) -> Result<bool, AllocError> {
+) -> bool {
     prints_for(rt, line, "", text, status)
 }
 
+/// Writes a file, and says whether that went well.
+fn put<R: Files>(rt: &R, name: &str, text: &str) -> bool {
+    fs::write(rt, name, text.as_bytes()).is_ok()
+}
+
+/// Removes files, and says whether that went well.
+fn remove<R: Files>(rt: &R, names: &[&str]) -> bool {
+    for name in names {
+        if fs::remove_file(rt, *name).is_err() {
+            return false;
+        }
+    }
+    true
+}
+
 #[test]
-fn plan_of_a_file(rt: HostRuntime) -> Result<(), Fail> {
-    fs::write(&rt, "plan.batch", BATCH.as_bytes())?;
-    let alone = prints(&rt, "exchange plan plan.batch", SCHEDULE, 0)?;
-    let many = prints(&rt, "exchange plan --workers 16 plan.batch", SCHEDULE, 0)?;
-    fs::remove_file(&rt, "plan.batch")?;
+fn plan_of_a_file(rt: HostRuntime) {
+    assert!(rt; put(&rt, "plan.batch", BATCH));
+    let alone = prints(&rt, "exchange plan plan.batch", SCHEDULE, 0);
+    let many = prints(&rt, "exchange plan --workers 16 plan.batch", SCHEDULE, 0);
+    assert!(rt; remove(&rt, &["plan.batch"]));
     assert!(rt; alone);
     assert!(rt; many);
-    assert!(rt; prints(&rt, "exchange plan plan.batch", "refused file\n", 1)?);
-    Ok(())
+    assert!(rt; prints(&rt, "exchange plan plan.batch", "refused file\n", 1));
 }
 
 /// Whether the program prints a picture for the words of a line, with the part in it, nothing on standard
 /// error, and ends with status 0.
-fn draws<R: AllocGlobal + Files + Threads + Wait + Sync>(
-    rt: &R,
-    line: &str,
-    part: &str,
-) -> Result<bool, AllocError> {
-    let seen = see(rt, line, "")?;
-    let Ok(text) = str::from_utf8(seen.out.as_slice()) else {
-        return Ok(false);
-    };
-    let is_picture = text.starts_with("<svg ") && text.ends_with("</svg>\n");
-    let is_answer = seen.code == ExitCode::from(0) && seen.err.is_empty();
-    Ok(is_answer && is_picture && text.contains(part))
+fn draws<R: AllocGlobal + Files + Threads + Wait + Sync>(rt: &R, line: &str, part: &str) -> bool {
+    match see(rt, line, "") {
+        Ok(seen) => seen.has_picture(part) && seen.ends_well(0),
+        Err(_) => false,
+    }
 }
 
 /// The first file is the batch, and the second the schedule.
 #[test]
-fn draw_of_two_files(rt: HostRuntime) -> Result<(), Fail> {
-    fs::write(&rt, "draw.batch", BATCH.as_bytes())?;
-    fs::write(&rt, "draw.schedule", SCHEDULE.as_bytes())?;
+fn draw_of_two_files(rt: HostRuntime) {
+    assert!(rt; put(&rt, "draw.batch", BATCH));
+    assert!(rt; put(&rt, "draw.schedule", SCHEDULE));
     let title = "<title>transfer 2: push 1 1 2 1</title>";
-    let right = draws(&rt, "exchange draw draw.batch draw.schedule", title)?;
+    let right = draws(&rt, "exchange draw draw.batch draw.schedule", title);
     let exchanged = prints(
         &rt,
         "exchange draw draw.schedule draw.batch",
         "refused batch line 1\n",
         1,
-    )?;
-    fs::remove_file(&rt, "draw.batch")?;
-    fs::remove_file(&rt, "draw.schedule")?;
+    );
+    assert!(rt; remove(&rt, &["draw.batch", "draw.schedule"]));
     assert!(rt; right);
     assert!(rt; exchanged);
-    Ok(())
 }
 
 /// The first file is the batch, and the second the schedule.
 #[test]
-fn check_of_two_files(rt: HostRuntime) -> Result<(), Fail> {
-    fs::write(&rt, "check.batch", BATCH.as_bytes())?;
-    fs::write(&rt, "check.schedule", SCHEDULE.as_bytes())?;
+fn check_of_two_files(rt: HostRuntime) {
+    assert!(rt; put(&rt, "check.batch", BATCH));
+    assert!(rt; put(&rt, "check.schedule", SCHEDULE));
     let right = prints(
         &rt,
         "exchange check check.batch check.schedule",
         "shortest 2\n",
         0,
-    )?;
+    );
     let exchanged = prints(
         &rt,
         "exchange check check.schedule check.batch",
         "refused batch line 1\n",
         1,
-    )?;
-    fs::remove_file(&rt, "check.batch")?;
-    fs::remove_file(&rt, "check.schedule")?;
+    );
+    assert!(rt; remove(&rt, &["check.batch", "check.schedule"]));
     assert!(rt; right);
     assert!(rt; exchanged);
-    Ok(())
 }
 
 /// A file that isn't there is refused before any text is looked at.
 #[test]
-fn check_of_a_file_that_is_missing(rt: HostRuntime) -> Result<(), Fail> {
-    fs::write(&rt, "check.wrong", b"batch\n")?;
+fn check_of_a_file_that_is_missing(rt: HostRuntime) {
+    assert!(rt; put(&rt, "check.wrong", "batch\n"));
     let first = prints(
         &rt,
         "exchange check check.none check.wrong",
         "refused file\n",
         1,
-    )?;
+    );
     let second = prints(
         &rt,
         "exchange check check.wrong check.none",
         "refused file\n",
         1,
-    )?;
+    );
     let both = prints(
         &rt,
         "exchange check check.wrong check.wrong",
         "refused batch line 1\n",
         1,
-    )?;
-    fs::remove_file(&rt, "check.wrong")?;
+    );
+    assert!(rt; remove(&rt, &["check.wrong"]));
     assert!(rt; first);
     assert!(rt; second);
     assert!(rt; both);
-    Ok(())
 }
 
 /// Row recorded-change.
 #[test]
-fn switch_of_a_file(rt: HostRuntime) -> Result<(), Fail> {
+fn switch_of_a_file(rt: HostRuntime) {
     let lines = "\
 setting 0 04 01 00 11 01 01 12 03
 setting 1 06 00 11 06 01 12 01 00 12 03
 ";
-    fs::write(&rt, "switch.batch", BATCH.as_bytes())?;
-    let alone = prints(&rt, "exchange switch switch.batch", lines, 0)?;
-    let many = prints(&rt, "exchange switch switch.batch --workers 2", lines, 0)?;
-    fs::remove_file(&rt, "switch.batch")?;
+    assert!(rt; put(&rt, "switch.batch", BATCH));
+    let alone = prints(&rt, "exchange switch switch.batch", lines, 0);
+    let many = prints(&rt, "exchange switch switch.batch --workers 2", lines, 0);
+    assert!(rt; remove(&rt, &["switch.batch"]));
     assert!(rt; alone);
     assert!(rt; many);
-    assert!(rt; prints(&rt, "exchange switch switch.batch", "refused file\n", 1)?);
-    Ok(())
+    assert!(rt; prints(&rt, "exchange switch switch.batch", "refused file\n", 1));
 }
 
 /// The file `-` is standard input.
 #[test]
-fn standard_input_is_a_file(rt: HostRuntime) -> Result<(), Fail> {
-    fs::write(&rt, "input.batch", BATCH.as_bytes())?;
-    fs::write(&rt, "input.schedule", SCHEDULE.as_bytes())?;
-    let plan = prints_for(&rt, "exchange plan -", BATCH, SCHEDULE, 0)?;
+fn standard_input_is_a_file(rt: HostRuntime) {
+    assert!(rt; put(&rt, "input.batch", BATCH));
+    assert!(rt; put(&rt, "input.schedule", SCHEDULE));
+    let plan = prints_for(&rt, "exchange plan -", BATCH, SCHEDULE, 0);
     let line = "exchange check - input.schedule";
-    let batch = prints_for(&rt, line, BATCH, "shortest 2\n", 0)?;
+    let batch = prints_for(&rt, line, BATCH, "shortest 2\n", 0);
     let line = "exchange check input.batch -";
-    let schedule = prints_for(&rt, line, SCHEDULE, "shortest 2\n", 0)?;
+    let schedule = prints_for(&rt, line, SCHEDULE, "shortest 2\n", 0);
     let line = "exchange draw input.batch -";
-    let drawn = prints_for(&rt, line, "settings 0\n", "refused no certificate\n", 1)?;
-    fs::remove_file(&rt, "input.batch")?;
-    fs::remove_file(&rt, "input.schedule")?;
+    let drawn = prints_for(&rt, line, "settings 0\n", "refused no certificate\n", 1);
+    assert!(rt; remove(&rt, &["input.batch", "input.schedule"]));
     assert!(rt; plan);
     assert!(rt; batch);
     assert!(rt; schedule);
@@ -218,57 +233,98 @@ fn standard_input_is_a_file(rt: HostRuntime) -> Result<(), Fail> {
             one,
             "setting 0 04 01 00 11 03\n",
             0
-        )?
+        )
     );
     let report = "ran settings 1 words 1 bits 117\nblock 1 0 00000000\n";
-    assert!(rt; prints_for(&rt, "exchange run 2x1x1 -", one, report, 0)?);
-    assert!(rt; prints(&rt, "exchange plan ./-", "refused file\n", 1)?);
-    Ok(())
+    assert!(rt; prints_for(&rt, "exchange run 2x1x1 -", one, report, 0));
+    assert!(rt; prints(&rt, "exchange plan ./-", "refused file\n", 1));
 }
 
 /// One of the scripts may be standard input, wherever it stands.
 #[test]
-fn standard_input_is_a_script(rt: HostRuntime) -> Result<(), Fail> {
+fn standard_input_is_a_script(rt: HostRuntime) {
     let told = "session 0\nbye\nsession 1\nword 00000000\nsession 2\nbye\n";
-    fs::write(&rt, "input.bye", b"bye\n")?;
+    assert!(rt; put(&rt, "input.bye", "bye\n"));
     let line = "exchange serve 1x1x1 input.bye - input.bye";
-    let served = prints_for(&rt, line, "peek 0 80000800\n", told, 0)?;
-    fs::remove_file(&rt, "input.bye")?;
+    let served = prints_for(&rt, line, "peek 0 80000800\n", told, 0);
+    assert!(rt; remove(&rt, &["input.bye"]));
     assert!(rt; served);
-    Ok(())
+}
+
+/// An input that has nothing, and counts how often it is read.
+#[derive(Drop)]
+struct Counted {
+    reads: usize,
+}
+
+impl Read for Counted {
+    fn read(&mut self, _buf: &mut [u8]) -> io::Result<usize> {
+        self.reads = self.reads.saturating_add(1);
+        Ok(0)
+    }
+}
+
+/// Whether standard input is read for the words of a line.
+fn reads_input<R: AllocGlobal + Files + Threads + Wait + Sync>(rt: &R, line: &str) -> Option<bool> {
+    let words = words(rt.alloc(), line).ok()?;
+    let mut input = Counted { reads: 0 };
+    let mut out = Vec::new(rt.alloc());
+    let mut err = Vec::new(rt.alloc());
+    respond(rt, Ok(words), &mut input, &mut out, &mut err);
+    Some(input.reads != 0)
+}
+
+/// Standard input is read where it is one of the files, and else it isn't: so no command waits at a terminal.
+#[test]
+fn input_that_is_no_file(rt: HostRuntime) {
+    assert!(rt; put(&rt, "unread.batch", BATCH));
+    assert!(rt; put(&rt, "unread.schedule", SCHEDULE));
+    assert!(rt; put(&rt, "unread.script", "bye\n"));
+    for line in [
+        "exchange plan unread.batch",
+        "exchange check unread.batch unread.schedule",
+        "exchange draw unread.batch unread.schedule",
+        "exchange switch unread.batch",
+        "exchange run 3x2x2 unread.batch",
+        "exchange serve 1x1x1 unread.script unread.script",
+        "exchange --help",
+        "exchange check - -",
+    ] {
+        assert!(rt; reads_input(&rt, line) == Some(false), "{line}");
+    }
+    assert!(rt; remove(&rt, &["unread.batch", "unread.schedule", "unread.script"]));
+    assert!(rt; reads_input(&rt, "exchange plan -") == Some(true));
 }
 
 /// The first word is the shape, and the second the batch's file.
 #[test]
-fn run_of_a_file(rt: HostRuntime) -> Result<(), Fail> {
+fn run_of_a_file(rt: HostRuntime) {
     let report = "ran settings 1 words 2 bits 234\nblock 1 0 00000000 00000001\n";
-    fs::write(&rt, "run.batch", b"batch 1\npush 0 0 1 0\n")?;
-    let alone = prints(&rt, "exchange run 2x1x2 run.batch", report, 0)?;
-    let many = prints(&rt, "exchange run 2x1x2 run.batch --workers 2", report, 0)?;
+    assert!(rt; put(&rt, "run.batch", "batch 1\npush 0 0 1 0\n"));
+    let alone = prints(&rt, "exchange run 2x1x2 run.batch", report, 0);
+    let many = prints(&rt, "exchange run 2x1x2 run.batch --workers 2", report, 0);
     let small = prints(
         &rt,
         "exchange run 1x1x2 run.batch",
         "refused no module 0\n",
         1,
-    )?;
-    let exchanged = prints(&rt, "exchange run run.batch 2x1x2", "refused file\n", 1)?;
-    fs::remove_file(&rt, "run.batch")?;
+    );
+    let exchanged = prints(&rt, "exchange run run.batch 2x1x2", "refused file\n", 1);
+    assert!(rt; remove(&rt, &["run.batch"]));
     assert!(rt; alone);
     assert!(rt; many);
     assert!(rt; small);
     assert!(rt; exchanged);
-    Ok(())
 }
 
 /// The batch's file is read before the shape is looked at.
 #[test]
-fn run_of_a_file_that_is_missing(rt: HostRuntime) -> Result<(), Fail> {
-    fs::write(&rt, "run.wrong", b"batch\n")?;
-    let shape = prints(&rt, "exchange run 0x1x1 run.wrong", "refused shape\n", 1)?;
-    fs::remove_file(&rt, "run.wrong")?;
+fn run_of_a_file_that_is_missing(rt: HostRuntime) {
+    assert!(rt; put(&rt, "run.wrong", "batch\n"));
+    let shape = prints(&rt, "exchange run 0x1x1 run.wrong", "refused shape\n", 1);
+    assert!(rt; remove(&rt, &["run.wrong"]));
     assert!(rt; shape);
-    assert!(rt; prints(&rt, "exchange run 0x1x1 run.wrong", "refused file\n", 1)?);
-    Ok(())
+    assert!(rt; prints(&rt, "exchange run 0x1x1 run.wrong", "refused file\n", 1));
 }
 
 /// The first script of row one-script.
@@ -285,7 +341,7 @@ bye
 
 /// Row one-script, from its files.
 #[test]
-fn one_script(rt: HostRuntime) -> Result<(), Fail> {
+fn one_script(rt: HostRuntime) {
     let told = "\
 session 0
 poked
@@ -298,60 +354,56 @@ bye
 session 1
 refused unknown
 ";
-    fs::write(&rt, "one.fetch", FETCH.as_bytes())?;
-    fs::write(&rt, "one.look", b"show 1\n")?;
-    let alone = prints(&rt, "exchange serve 2x2x2 one.fetch one.look", told, 0)?;
+    assert!(rt; put(&rt, "one.fetch", FETCH));
+    assert!(rt; put(&rt, "one.look", "show 1\n"));
+    let alone = prints(&rt, "exchange serve 2x2x2 one.fetch one.look", told, 0);
     let many = prints(
         &rt,
         "exchange serve --workers 64 2x2x2 one.fetch one.look",
         told,
         0,
-    )?;
-    fs::remove_file(&rt, "one.fetch")?;
-    fs::remove_file(&rt, "one.look")?;
+    );
+    assert!(rt; remove(&rt, &["one.fetch", "one.look"]));
     assert!(rt; alone);
     assert!(rt; many);
-    Ok(())
 }
 
 /// A session that is cut gives status 1.
 #[test]
-fn serve_of_a_script_that_is_cut(rt: HostRuntime) -> Result<(), Fail> {
-    fs::write(&rt, "cut.session", b"peek 0 80000800\nbatch 1\n")?;
+fn serve_of_a_script_that_is_cut(rt: HostRuntime) {
+    assert!(rt; put(&rt, "cut.session", "peek 0 80000800\nbatch 1\n"));
     let told = "session 0\nword 00000000\nended cut\n";
-    let cut = prints(&rt, "exchange serve 1x1x1 cut.session", told, 1)?;
-    fs::remove_file(&rt, "cut.session")?;
+    let cut = prints(&rt, "exchange serve 1x1x1 cut.session", told, 1);
+    assert!(rt; remove(&rt, &["cut.session"]));
     assert!(rt; cut);
-    Ok(())
 }
 
 /// All scripts are read before the shape is looked at.
 #[test]
-fn serve_of_a_file_that_is_missing(rt: HostRuntime) -> Result<(), Fail> {
-    fs::write(&rt, "serve.there", b"bye\n")?;
+fn serve_of_a_file_that_is_missing(rt: HostRuntime) {
+    assert!(rt; put(&rt, "serve.there", "bye\n"));
     let first = prints(
         &rt,
         "exchange serve 0x1x1 serve.none serve.there",
         "refused file\n",
         1,
-    )?;
+    );
     let last = prints(
         &rt,
         "exchange serve 0x1x1 serve.there serve.none",
         "refused file\n",
         1,
-    )?;
+    );
     let shape = prints(
         &rt,
         "exchange serve 0x1x1 serve.there serve.there",
         "refused shape\n",
         1,
-    )?;
-    fs::remove_file(&rt, "serve.there")?;
+    );
+    assert!(rt; remove(&rt, &["serve.there"]));
     assert!(rt; first);
     assert!(rt; last);
     assert!(rt; shape);
-    Ok(())
 }
 
 /// The files of a stored run with sixteen scripts.
@@ -372,17 +424,9 @@ fn write_scripts<R: AllocGlobal + Files>(rt: &R) -> io::Result<()> {
     Ok(())
 }
 
-/// Removes the files.
-fn remove_scripts<R: AllocGlobal + Files>(rt: &R) -> io::Result<()> {
-    for name in &NAMES {
-        fs::remove_file(rt, *name)?;
-    }
-    Ok(())
-}
-
 /// Sixteen scripts are told in the order of the words, which isn't that of their names.
 #[test]
-fn sixteen_scripts(rt: HostRuntime) -> Result<(), Fail> {
+fn sixteen_scripts(rt: HostRuntime) {
     let line = "exchange serve 1x1x16 serve.p serve.a serve.o serve.b serve.n serve.c serve.m \
         serve.d serve.l serve.e serve.k serve.f serve.j serve.g serve.i serve.h";
     let told = "\
@@ -435,28 +479,24 @@ session 15
 poked
 word 0000c007
 ";
-    write_scripts(&rt)?;
-    let served = prints(&rt, line, told, 0)?;
-    remove_scripts(&rt)?;
+    assert!(rt; write_scripts(&rt).is_ok());
+    let served = prints(&rt, line, told, 0);
+    assert!(rt; remove(&rt, &NAMES));
     assert!(rt; served);
-    Ok(())
 }
 
 /// Whether the program prints a text that begins so for the words of a line, nothing on standard error,
 /// and ends with status 0.
-fn helps<R: AllocGlobal + Files + Threads + Wait + Sync>(
-    rt: &R,
-    line: &str,
-    begin: &str,
-) -> Result<bool, AllocError> {
-    let seen = see(rt, line, "")?;
-    let is_begun = seen.out.as_slice().starts_with(begin.as_bytes());
-    Ok(seen.code == ExitCode::from(0) && is_begun && seen.err.is_empty())
+fn helps<R: AllocGlobal + Files + Threads + Wait + Sync>(rt: &R, line: &str, begin: &str) -> bool {
+    match see(rt, line, "") {
+        Ok(seen) => seen.out.as_slice().starts_with(begin.as_bytes()) && seen.ends_well(0),
+        Err(_) => false,
+    }
 }
 
 /// Help goes to standard output, under status 0.
 #[test]
-fn help_is_an_answer(rt: HostRuntime) -> Result<(), Fail> {
+fn help_is_an_answer(rt: HostRuntime) {
     for (line, begin) in [
         ("exchange --help", "Plans block transfers"),
         ("exchange help", "Plans block transfers"),
@@ -470,9 +510,8 @@ fn help_is_an_answer(rt: HostRuntime) -> Result<(), Fail> {
             "Serves scripts side by side on one exchange",
         ),
     ] {
-        assert!(rt; helps(&rt, line, begin)?, "{line}");
+        assert!(rt; helps(&rt, line, begin), "{line}");
     }
-    Ok(())
 }
 
 /// The version names the kit.
@@ -480,49 +519,24 @@ fn help_is_an_answer(rt: HostRuntime) -> Result<(), Fail> {
 fn version_is_an_answer(rt: HostRuntime) -> Result<(), Fail> {
     let line = format!(in rt.alloc(); "exchange {VERSION}\n")?;
     assert!(rt; line.as_str().starts_with("exchange 1.0.0 (rattle-kit-"));
-    assert!(rt; prints(&rt, "exchange --version", line.as_str(), 0)?);
-    Ok(())
-}
-
-/// Whether the help of `serve` has the phrase.
-fn serve_says<R: AllocGlobal + Files + Threads + Wait + Sync>(
-    rt: &R,
-    phrase: Result<String, AllocError>,
-) -> Result<bool, AllocError> {
-    let phrase = phrase?;
-    let seen = see(rt, "exchange serve --help", "")?;
-    match str::from_utf8(seen.out.as_slice()) {
-        Ok(text) => Ok(text.contains(phrase.as_str())),
-        Err(_) => Ok(false),
-    }
-}
-
-/// The limits of a session stand in the help as they are.
-#[test]
-fn session_limits_in_help(rt: HostRuntime) -> Result<(), Fail> {
-    let alloc = rt.alloc();
-    let bytes = format!(in alloc; "A line has at most {LINE_BYTES} bytes");
-    assert!(rt; serve_says(&rt, bytes)?);
-    let longer = format!(in alloc; "a line has more than {LINE_BYTES} bytes\n");
-    assert!(rt; serve_says(&rt, longer)?);
-    let reads = format!(in alloc; "the script was read {MAX_READS} times\n");
-    assert!(rt; serve_says(&rt, reads)?);
+    assert!(rt; prints(&rt, "exchange --version", line.as_str(), 0));
     Ok(())
 }
 
 /// Whether the program prints nothing for the words of a line but on standard error, and ends with
 /// status 2.
-fn is_misused<R: AllocGlobal + Files + Threads + Wait + Sync>(
-    rt: &R,
-    line: &str,
-) -> Result<bool, AllocError> {
-    let seen = see(rt, line, "batch 0\n")?;
-    Ok(seen.code == ExitCode::from(2) && seen.out.is_empty() && !seen.err.is_empty())
+fn is_misused<R: AllocGlobal + Files + Threads + Wait + Sync>(rt: &R, line: &str) -> bool {
+    match see(rt, line, "batch 0\n") {
+        Ok(seen) => {
+            seen.code == ExitCode::from(2) && seen.out.is_empty() && !seen.err.is_empty()
+        }
+        Err(_) => false,
+    }
 }
 
 /// Words that fit no command are answered on standard error, under status 2.
 #[test]
-fn misuse_is_an_error(rt: HostRuntime) -> Result<(), Fail> {
+fn misuse_is_an_error(rt: HostRuntime) {
     for line in [
         "exchange",
         "exchange plan",
@@ -533,9 +547,8 @@ fn misuse_is_an_error(rt: HostRuntime) -> Result<(), Fail> {
         "exchange draw - -",
         "exchange serve 1x1x1 - A -",
     ] {
-        assert!(rt; is_misused(&rt, line)?, "{line}");
+        assert!(rt; is_misused(&rt, line), "{line}");
     }
-    Ok(())
 }
 
 /// Whether the program prints these texts on standard output and on standard error where the words can't be
@@ -565,14 +578,14 @@ fn words_that_cannot_be_had(rt: HostRuntime) {
 }
 
 /// Whether want of memory while the words are read is a refusal.
-fn refuses_without_memory<R: AllocGlobal + Files + Threads + Wait + Sync>(
-    rt: &R,
-) -> io::Result<bool> {
+fn refuses_without_memory<R: AllocGlobal + Files + Threads + Wait + Sync>(rt: &R) -> bool {
     let mut out = Vec::new(rt.alloc());
     let mut err = Vec::new(rt.alloc());
     let none = Err(WordsFault::NoMemory);
-    let status = respond_to(rt, none, &mut b"".as_slice(), &mut out, &mut err)?;
-    Ok(status == 1 && out.as_slice() == b"refused no memory\n".as_slice() && err.is_empty())
+    match respond_to(rt, none, &mut b"".as_slice(), &mut out, &mut err) {
+        Ok(1) => out.as_slice() == b"refused no memory\n".as_slice() && err.is_empty(),
+        _ => false,
+    }
 }
 
 /// Want of memory while a file is read is told as such, and whatever else fails there is a file that can't be
@@ -586,9 +599,8 @@ fn files_that_cannot_be_read(rt: HostRuntime) {
 }
 
 #[test]
-fn words_without_memory(rt: HostRuntime) -> Result<(), Fail> {
-    assert!(rt; refuses_without_memory(&rt)?);
-    Ok(())
+fn words_without_memory(rt: HostRuntime) {
+    assert!(rt; refuses_without_memory(&rt));
 }
 
 /// A writer that takes so many bytes, and then fails.
@@ -618,23 +630,24 @@ fn is_unwritten<R: AllocGlobal + Files + Threads + Wait + Sync>(
     rt: &R,
     line: &str,
     room: usize,
-) -> Result<bool, AllocError> {
-    let words = words(rt.alloc(), line)?;
+) -> bool {
+    let Ok(words) = words(rt.alloc(), line) else {
+        return false;
+    };
     let mut err = Vec::new(rt.alloc());
     let input = &mut b"".as_slice();
     let code = respond(rt, Ok(words), input, &mut Full { room }, &mut err);
     let said = b"exchange: the answer can't be written: no room\n".as_slice();
-    Ok(code == ExitCode::from(3) && err.as_slice() == said)
+    code == ExitCode::from(3) && err.as_slice() == said
 }
 
 /// An answer, a refusal or a help that can't be written ends with status 3.
 #[test]
-fn what_cannot_be_written(rt: HostRuntime) -> Result<(), Fail> {
-    fs::write(&rt, "full.batch", BATCH.as_bytes())?;
-    let answer = is_unwritten(&rt, "exchange plan full.batch", 11)?;
-    fs::remove_file(&rt, "full.batch")?;
+fn what_cannot_be_written(rt: HostRuntime) {
+    assert!(rt; put(&rt, "full.batch", BATCH));
+    let answer = is_unwritten(&rt, "exchange plan full.batch", 11);
+    assert!(rt; remove(&rt, &["full.batch"]));
     assert!(rt; answer);
-    assert!(rt; is_unwritten(&rt, "exchange plan full.batch", 0)?);
-    assert!(rt; is_unwritten(&rt, "exchange --help", 100)?);
-    Ok(())
+    assert!(rt; is_unwritten(&rt, "exchange plan full.batch", 0));
+    assert!(rt; is_unwritten(&rt, "exchange --help", 100));
 }
