@@ -1,5 +1,5 @@
 -- Before a run begins.
-use Rattle.std.proofs.Common.{◌⊎◌, ◌≡◌, ◌<◌, ◌+◌, inl, inr, ℕ, List, [], ◌++◌, length, take, drop, sym, ap₂, arith, subst, append-nil}
+use Rattle.std.proofs.Common.{◌⊎◌, ◌≡◌, ◌<◌, ◌+◌, inl, inr, ℕ, List, [], ◌++◌, length, take, drop, sym, ap₂, arith, refl, subst, append-nil}
 use Rattle.std.specs.Prelude.{◌↔◌}
 use Rattle.std.specs.List.{concat}
 use Rattle.batch.specs.Extent.{Extent}
@@ -20,8 +20,9 @@ use Rattle.schedule_certificate.specs.Plans.{Plan}
 use Rattle.setting_runner.specs.declared.outcome.Outcome.{Outcome}
 use Rattle.setting_runner.specs.declared.outcome.Outcome.TheVariants.{Refused}
 use Rattle.setting_runner.specs.declared.outcome.RunRefusal.{RunRefusal}
-use Rattle.setting_runner.specs.declared.outcome.RunRefusal.TheVariants.{Overlap, Shape}
-use Rattle.setting_runner.specs.Runs.{HasOwnBays, numbers_of, plan_destinations}
+use Rattle.setting_runner.specs.declared.outcome.RunRefusal.TheVariants.{NoMemory, Overlap, Shape}
+use Rattle.setting_runner.specs.Refusals.{IsRefusal}
+use Rattle.setting_runner.specs.Runs.{CanMove, HasOwnBays, IsMisfit, IsRefused, NeedsMemory, numbers_of, plan_destinations}
 use Rattle.setting_runner.proofs.Schedules.{split_concat}
 
 abbrev refused : RunRefusal → Outcome
@@ -36,21 +37,43 @@ one_first ts a b i j x y = elim (x.first i j y.overlap) [
 same_pair : (a b i j : ℕ) → refused (Overlap a b) ≡ refused (Overlap i j) → (a ≡ i) × (b ≡ j)
 same_pair a b i j e = (cc, cc)
 
--- the overlap that is named is the first
-pub overlap_is : (ts : List Transfer) (a b : ℕ) → IsFirstOverlap ts a b → (i j : ℕ) → (refused (Overlap a b) ≡ refused (Overlap i j)) ↔ IsFirstOverlap ts i j
-overlap_is ts a b first i j = (
-  λ e. let same = same_pair a b i j e in subst (λ (x : ℕ). IsFirstOverlap ts x j) same.0 (subst (λ (x : ℕ). IsFirstOverlap ts a x) same.1 first),
-  λ other. let same = one_first ts a b i j first other in ap₂ (λ (x y : ℕ). refused (Overlap x y)) same.0 same.1,
-)
-
+-- two transfers that overlap first aren't there where none overlap
 pub no_overlap : (ts : List Transfer) (i j : ℕ) → IsApart ts → IsFirstOverlap ts i j → ⊥
 no_overlap ts i j apart first = apart i j first.overlap
 
-pub overlap_no_shape : (a b : ℕ) → refused (Overlap a b) ≡ refused Shape → ⊥
-overlap_no_shape a b e = absurd cc
+-- the overlap that is named is the first
+pub overlap_of : (shape : Extent) (ts : List Transfer) (r : RunRefusal) → IsRefusal shape ts r → (i j : ℕ) → (refused r ≡ refused (Overlap i j)) ↔ IsFirstOverlap ts i j
+overlap_of shape ts (Overlap a b) first i j = (
+  λ e. let same = same_pair a b i j e in subst (λ (x : ℕ). IsFirstOverlap ts x j) same.0 (subst (λ (x : ℕ). IsFirstOverlap ts a x) same.1 first),
+  λ other. let same = one_first ts a b i j first other in ap₂ (λ (x y : ℕ). refused (Overlap x y)) same.0 same.1,
+)
+overlap_of shape ts Shape is i j = (λ e. absurd cc, λ first. absurd (no_overlap ts i j is.0 first))
+overlap_of shape ts NoMemory is i j = (λ e. absurd cc, λ first. absurd (no_overlap ts i j is.apart first))
 
-pub shape_no_overlap : (i j : ℕ) → refused Shape ≡ refused (Overlap i j) → ⊥
-shape_no_overlap i j e = absurd cc
+-- the shape is the cause just where nothing overlaps and a block is missing
+pub shape_of : (shape : Extent) (ts : List Transfer) (r : RunRefusal) → IsRefusal shape ts r → (refused r ≡ refused Shape) ↔ (IsApart ts × IsMisfit shape ts)
+shape_of shape ts (Overlap a b) first = (λ e. absurd cc, λ both. absurd (no_overlap ts a b both.0 first))
+shape_of shape ts Shape is = (λ e. is, λ both. refl)
+shape_of shape ts NoMemory is = (λ e. absurd cc, λ both. absurd (both.1 is.fits))
+
+-- memory is the cause where there is no other
+pub memory_of : (shape : Extent) (ts : List Transfer) (r : RunRefusal) → IsRefusal shape ts r → refused r ≡ refused NoMemory → NeedsMemory shape ts
+memory_of shape ts (Overlap a b) first e = absurd cc
+memory_of shape ts Shape is e = absurd cc
+memory_of shape ts NoMemory is e = is
+
+-- a run that isn't refused has no cause to be
+not_refused : (o : Outcome) (r : RunRefusal) → (IsRefused o → ⊥) → o ≡ refused r → ⊥
+not_refused o r going e = going (subst IsRefused (sym e) tt)
+
+pub going_no_overlap : (shape : Extent) (ts : List Transfer) (o : Outcome) → (IsRefused o → ⊥) → CanMove shape ts → (i j : ℕ) → (o ≡ refused (Overlap i j)) ↔ IsFirstOverlap ts i j
+going_no_overlap shape ts o going free i j = (λ e. absurd (not_refused o (Overlap i j) going e), λ first. absurd (no_overlap ts i j free.apart first))
+
+pub going_no_shape : (shape : Extent) (ts : List Transfer) (o : Outcome) → (IsRefused o → ⊥) → CanMove shape ts → (o ≡ refused Shape) ↔ (IsApart ts × IsMisfit shape ts)
+going_no_shape shape ts o going free = (λ e. absurd (not_refused o Shape going e), λ both. absurd (both.1 free.fits))
+
+pub going_no_memory : (shape : Extent) (ts : List Transfer) (o : Outcome) → (IsRefused o → ⊥) → o ≡ refused NoMemory → NeedsMemory shape ts
+going_no_memory shape ts o going e = absurd (not_refused o NoMemory going e)
 
 -- what can be lent isn't refused but for want of memory
 pub lend_fault_is : (shape : Extent) (places held : List Place) (f : LendFault) → AreLendable shape places → ExistBefore shape held (length held) → IsLendFault shape places held f → (0 < length places) ⊎ (0 < length held)

@@ -8,3 +8,4 @@ pub mod Tables
 pub mod Runs
 pub mod Sending
 pub mod LineBits
+pub mod Refusals

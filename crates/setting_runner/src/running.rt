@@ -1,10 +1,11 @@
 //! Runs of planned batches.
 
-ghost use Rattle.std.specs.Prelude.{◌≡◌, ◌≤◌, ◌↔◌, ℕ, [], IsTrue};
+ghost use Rattle.std.specs.Prelude.{◌≡◌, ◌≤◌, ◌↔◌, ℕ, [], IsTrue, IfOk, IfErr};
 ghost use Rattle.batch.specs.Overlap.{IsApart, IsFirstOverlap};
 ghost use Rattle.module_memory.specs.Lending.{joined, Rejoins};
 ghost use Rattle.setting_runner.specs.declared.outcome.RunRefusal.TheVariants.{Overlap, Shape, NoMemory};
 ghost use Rattle.setting_runner.specs.declared.outcome.Outcome.TheVariants.{Refused};
+ghost use Rattle.setting_runner.specs.Refusals.{IsRefusal};
 ghost use Rattle.setting_runner.specs.Runs.{IsPrepared, LeavesMemories, HasCause, IsMisfit, IsRefused, CanMove, NeedsMemory, LeavesSwitches, TellsOutcome};
 
 use crate::notice::Notice;
@@ -82,27 +83,45 @@ pub fn run<R: Threads + Sync, P: ConfigPort, W: WireMaker + Sync, G: Gate + Sync
     ensures counted { P.failures plant.old.port ≤ P.failures plant.new.port }
     ensures honesty { P.honest plant.new.port ≡ P.honest plant.old.port }
 {
-    let batch = planned.batch();
-    if let Some((i, j)) = batch.first_overlap() {
-        return (rack, Outcome::Refused(RunRefusal::Overlap(i, j)));
-    }
-    if !fits_in(rack.shape(), batch) {
-        return (rack, Outcome::Refused(RunRefusal::Shape));
-    }
-    let Ok(places) = destinations(alloc, planned) else {
-        return (rack, Outcome::Refused(RunRefusal::NoMemory));
-    };
-    let Ok(held) = batch.held_sources(alloc) else {
-        return (rack, Outcome::Refused(RunRefusal::NoMemory));
-    };
-    match rack.part(places.as_slice(), held.as_slice()) {
+    match prepare(alloc, rack, planned) {
         Ok(parted) => {
             let Parted { rest, mut bays } = parted;
             let outcome = run_settings(rt, &rest, bays.as_mut_slice(), plant, planned, notice);
             (Parted { rest, bays }.rejoin(), outcome)
         }
+        Err((rack, refusal)) => (rack, Outcome::Refused(refusal)),
+    }
+}
+
+/// Tests a plan, and parts the rack for it: all memory of the run is taken here. Where the run is refused the rack
+/// comes back as it was.
+fn prepare(alloc: Global, rack: Rack, planned: &Planned) -> Result<Parted, (Rack, RunRefusal)>
+    ensures prepared { IfOk result
+        (λ parted. IsPrepared parted.rest parted.bays.items planned.now) }
+    ensures store { IfOk result (λ parted. joined parted.rest.store parted.bays.items ≡ rack) }
+    ensures shape { IfOk result (λ parted. parted.rest.store.shape ≡ rack.shape) }
+    ensures free { IfOk result (λ _. CanMove rack.shape planned.now.batch) }
+    ensures unchanged { IfErr result (λ refused. refused.0 ≡ rack) }
+    ensures refusal { IfErr result
+        (λ refused. IsRefusal rack.shape planned.now.batch refused.1) }
+{
+    let batch = planned.batch();
+    if let Some((i, j)) = batch.first_overlap() {
+        return Err((rack, RunRefusal::Overlap(i, j)));
+    }
+    if !fits_in(rack.shape(), batch) {
+        return Err((rack, RunRefusal::Shape));
+    }
+    let Ok(places) = destinations(alloc, planned) else {
+        return Err((rack, RunRefusal::NoMemory));
+    };
+    let Ok(held) = batch.held_sources(alloc) else {
+        return Err((rack, RunRefusal::NoMemory));
+    };
+    match rack.part(places.as_slice(), held.as_slice()) {
+        Ok(parted) => Ok(parted),
         // The blocks that transfers write can be lent where no two overlap: only memory can be wanting.
-        Err((rack, _fault)) => (rack, Outcome::Refused(RunRefusal::NoMemory)),
+        Err((rack, _fault)) => Err((rack, RunRefusal::NoMemory)),
     }
 }
 
