@@ -13,8 +13,6 @@ pub mod laws;
 mod lendable;
 mod lending;
 mod rack;
-#[cfg(test)]
-mod tests;
 
 pub use address::{HOLD_START, WINDOW_START, WORD_BYTES};
 pub use fault::{LendFault, MemoryFault};

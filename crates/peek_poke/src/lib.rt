@@ -12,8 +12,6 @@ pub mod laws;
 mod message;
 mod plain;
 mod store;
-#[cfg(test)]
-mod tests;
 mod window;
 mod wire;
 mod word;

@@ -3,14 +3,15 @@
 ghost use Rattle.std.specs.Prelude.{◌≡◌, ◌<◌, ◌≤◌, length, IfOk, OnErr, IsOk};
 ghost use Rattle.batch.specs.Extent.{extent};
 
-use crate::{
+use super::places::place;
+use batch::{Place, Shape};
+use module_memory::{Bay, Parted, Rack, Rest, WINDOW_START, WORD_BYTES};
+use passed_bytes::PassedBytes;
+use peek_poke::{
     AnswerFault, Answerer, FuseWire, FuseWires, HeldStore, PEEK, PEEK_BYTES, POKE, POKE_BYTES,
     PlainWire, PlainWires, REPLY_BYTES, RestStore, StoreFault, Window, Wire, WireFault, WireMaker,
     WordStore, laws, peek_bytes, poke_bytes, pull_word, push_word,
 };
-use batch::{Place, Shape};
-use module_memory::{Bay, Parted, Rack, Rest, WINDOW_START, WORD_BYTES};
-use passed_bytes::PassedBytes;
 use std::alloc::Global;
 use std::test::Fail;
 
@@ -226,10 +227,6 @@ fn parted(alloc: Global) -> Result<Parted, Fail> {
         Ok(parted) => Ok(parted),
         Err(_) => Err(Fail::from("not parted")),
     }
-}
-
-fn place(module: usize, block: usize) -> Place {
-    Place { module, block }
 }
 
 /// A block of the rest, if it is there.

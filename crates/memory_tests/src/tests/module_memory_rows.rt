@@ -1,14 +1,11 @@
 //! The worked rows, printed faults and each call that takes memory.
 
-use crate::{
+use super::places::place;
+use batch::{Place, Shape};
+use module_memory::{
     BLOCK_MARK, HOLD_START, LendFault, MODULE_MARK, MemoryFault, Rack, WINDOW_START, WORD_BYTES,
 };
-use batch::{Place, Shape};
 use std::test::Fail;
-
-fn place(module: usize, block: usize) -> Place {
-    Place { module, block }
-}
 
 #[test]
 fn racks_are_read_and_written(rt: HostRuntime) -> Result<(), Fail> {
