@@ -1,5 +1,5 @@
 -- A history that grows.
-use Rattle.std.proofs.Common.{◌≡◌, ℕ, ◌+◌, ◌<◌, List, [], ◌∷◌, ◌++◌, length, refl, sym, ap, ◌∙◌, subst, arith, length-append, Result, Ok, is_ok, if◌then◌else◌}
+use Rattle.std.proofs.Common.{◌≡◌, ℕ, ◌+◌, ◌<◌, List, [], ◌∷◌, ◌++◌, length, refl, sym, ap, ◌∙◌, subst, arith, length-append}
 use Rattle.batch_book.specs.declared.limits.TheConstants.{MAX_ENTRIES}
 use Rattle.batch_book.specs.declared.entry.Entry.{Entry}
 use Rattle.batch_book.specs.declared.reply.Reply.{Reply}
@@ -26,13 +26,3 @@ grown a session c r es n kept room is step =
       given = omega arith;
       runs = omega arith;
     }
-
--- what a push leaves that had room
-pushed : {A X : Type 0} (res : Result (Unit {0}) X) (u : Unit {0}) (ns vs es : List A) (v : A) → res ≡ Ok u → ns ≡ (if is_ok res then vs ++ v ∷ [] else vs) → vs ≡ es → ns ≡ es ++ v ∷ []
-pushed res u ns vs es v ok is same = is ∙ (ap (λ r. if is_ok r then vs ++ v ∷ [] else vs) ok ∙ ap (λ l. l ++ v ∷ []) same)
-
--- the same where copies of the call and of its reply were pushed
-pub entered : {X : Type 0} (res : Result (Unit {0}) X) (u : Unit {0}) (ns vs es : List Entry) (session : ℕ) (kept c : Call) (recorded r : Reply)
-    → kept ≡ c → recorded ≡ r → res ≡ Ok u → ns ≡ (if is_ok res then vs ++ entry session kept recorded ∷ [] else vs) → vs ≡ es → ns ≡ es ++ entry session c r ∷ []
-entered res u ns vs es session kept c recorded r call_is reply_is ok is same =
-    pushed res u ns vs es (entry session kept recorded) ok is same ∙ (λ i. es ++ entry session (call_is i) (reply_is i) ∷ [])

@@ -9,12 +9,11 @@ ghost use Rattle.batch_book.specs.Replies.{is_logged, outcome_of, outcome_in};
 ghost use Rattle.batch_book.specs.History.{new_account, IsReplay, IsLegal, IsFull, IsGrown, IsSound};
 
 use crate::call::Call;
-use crate::entry::Entry;
+use crate::entry::{Copies, Entry, list};
 use crate::holdings::Holdings;
 use crate::limits::MAX_ENTRIES;
 use crate::refusal::Refusal;
 use crate::reply::Reply;
-use batch::Batch;
 use crossbar::ConfigPort;
 use module_memory::Rack;
 use peek_poke::WireMaker;
@@ -98,11 +97,13 @@ impl Book {
         self.holdings.runs() + 1
     }
 
-    /// A copy of the batch that the reply to this call has, if it has one.
-    pub(crate) fn spare(&self, session: usize, call: &Call) -> Result<Option<Batch>, AllocError>
-        ensures { IfOk result (λ spare. spare ≡ spare_of self.now.machine session call.now) }
+    /// Copies of the call, and of the batch that the reply to it has, if it has one.
+    pub(crate) fn copies(&self, session: usize, call: &Call) -> Result<Copies, AllocError>
+        ensures call { IfOk result (λ copies. copies.call ≡ call.now) }
+        ensures spare { IfOk result
+            (λ copies. copies.spare ≡ spare_of self.now.machine session call.now) }
     {
-        self.holdings.spare(session, call)
+        self.holdings.copies(session, call)
     }
 
     /// One call of a session, and its reply. The history has both then, but where it is full, and where there
@@ -193,16 +194,9 @@ impl Book {
         ensures honesty { P.honest plant.new.port ≡ P.honest plant.old.port }
     {
         self.history.reserve(1)?;
-        let kept = call.copy()?;
-        let spare = self.holdings.spare(session, &kept)?;
+        let copies = self.holdings.copies(session, &call)?;
         let reply = self.holdings.answer(rt, session, call, plant, notice)?;
-        let recorded = reply.copy_with(spare);
-        let entry = Entry {
-            session,
-            call: kept,
-            reply: recorded,
-        };
-        self.history.push(entry).unwrap();
+        list(&mut self.history, session, copies, &reply);
         Ok(reply)
     }
 }

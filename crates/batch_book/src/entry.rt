@@ -1,5 +1,10 @@
+ghost use Rattle.std.specs.Prelude.{◌≡◌, ◌++◌, ◌<◌, [], ◌∷◌, vec_len, vec_capacity, if◌then◌else◌};
+ghost use Rattle.batch_book.specs.History.{entry};
+ghost use Rattle.batch_book.specs.Replies.{is_logged, SpareFits};
+
 use crate::call::Call;
 use crate::reply::Reply;
+use batch::Batch;
 
 /// What a session asked, and what it was answered.
 #[derive(Drop)]
@@ -10,4 +15,31 @@ pub struct Entry {
     pub call: Call,
     /// What it was answered.
     pub reply: Reply,
+}
+
+/// Copies of what a call and its reply hold.
+#[derive(Drop)]
+pub(crate) struct Copies {
+    pub(crate) call: Call,
+    /// The batch of the reply, if it has one.
+    pub(crate) spare: Option<Batch>,
+}
+
+/// Adds an entry to a list with room, where a history has it.
+pub(crate) fn list(log: &mut Vec<Entry>, session: usize, copies: Copies, reply: &Reply)
+    requires room { vec_len log.old < vec_capacity log.old }
+    requires spare { SpareFits copies.spare reply.now }
+    ensures { log.new.items ≡ (if is_logged reply.now
+        then log.old.items ++ entry session copies.call reply.now ∷ []
+        else log.old.items) }
+{
+    if reply.is_logged() {
+        let Copies { call, spare } = copies;
+        let entry = Entry {
+            session,
+            call,
+            reply: reply.copy_with(spare),
+        };
+        log.push(entry).unwrap();
+    }
 }

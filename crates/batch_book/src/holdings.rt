@@ -12,6 +12,7 @@ ghost use Rattle.batch_book.specs.Running.{plan_in, plan_of, SetsSwitches, Spare
 ghost use Rattle.batch_book.specs.Replies.{TellsNoRun, outcome_of, outcome_in};
 
 use crate::call::Call;
+use crate::entry::Copies;
 use crate::held::{Held, Stage};
 use crate::limits::{MAX_BATCHES, MAX_ENTRIES};
 use crate::refusal::Refusal;
@@ -105,8 +106,21 @@ impl Holdings {
         self.runs
     }
 
+    /// Copies of the call, and of the batch that the reply to it has, if it has one.
+    pub fn copies(&self, session: usize, call: &Call) -> Result<Copies, AllocError>
+        ensures call { IfOk result (λ copies. copies.call ≡ call.now) }
+        ensures spare { IfOk result
+            (λ copies. copies.spare ≡ spare_of self.now session call.now) }
+    {
+        let spare = self.spare(session, call)?;
+        Ok(Copies {
+            call: call.copy()?,
+            spare,
+        })
+    }
+
     /// A copy of the batch that the reply to this call has, if it has one.
-    pub fn spare(&self, session: usize, call: &Call) -> Result<Option<Batch>, AllocError>
+    fn spare(&self, session: usize, call: &Call) -> Result<Option<Batch>, AllocError>
         ensures { IfOk result (λ spare. spare ≡ spare_of self.now session call.now) }
     {
         let Call::Fetch(id) = call else {

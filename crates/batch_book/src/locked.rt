@@ -1,23 +1,22 @@
 //! What lies under the lock of an exchange.
 
-ghost use Rattle.std.specs.Prelude.{◌≡◌, ◌+◌, ◌++◌, ◌≤◌, ◌<◌, [], ◌∷◌, length, vec_len, vec_capacity, true, false, if◌then◌else◌, Some, IfOk, OnErr};
+ghost use Rattle.std.specs.Prelude.{◌≡◌, ◌+◌, ◌++◌, ◌≤◌, [], ◌∷◌, length, true, false, if◌then◌else◌, Some, IfOk, OnErr};
 ghost use Rattle.schedule_certificate.specs.declared.limits.TheConstants.{MAX_WORKERS};
 ghost use Rattle.batch_book.specs.Answering.{IsReplyTo};
 ghost use Rattle.batch_book.specs.History.{entry, IsGrown};
-ghost use Rattle.batch_book.specs.Replies.{is_logged, SpareFits};
+ghost use Rattle.batch_book.specs.Replies.{is_logged};
 ghost use Rattle.batch_book.specs.Seats.{IsSameSeat, Reaches};
 ghost use Rattle.batch_book.specs.Values.{value_of, greatest};
 
 use crate::book::Book;
 use crate::call::Call;
-use crate::entry::Entry;
+use crate::entry::list;
 use crate::limits::MAX_ENTRIES;
 use crate::raise::Raise;
 use crate::refusal::Refusal;
 use crate::reply::Reply;
 use crate::seat::Seat;
 use crate::ticket::Ticket;
-use batch::Batch;
 use crossbar::ConfigPort;
 use peek_poke::WireMaker;
 use progress_word::ProgressWord;
@@ -98,13 +97,12 @@ impl<L: Ledger, P: ConfigPort, W: WireMaker + Sync, G: Gate + Sync> Locked<L, P,
     {
         seat.log.reserve(1)?;
         let session = seat.session;
-        let kept = call.copy()?;
-        let spare = self.book.spare(session, &call)?;
+        let copies = self.book.copies(session, &call)?;
         let Some(ticket) = seat.ticket.take() else {
             unreachable!()
         };
         let (reply, ticket) = self.ask(rt, word, session, ticket, call);
-        list(&mut seat.log, session, kept, &reply, spare);
+        list(&mut seat.log, session, copies, &reply);
         seat.ticket = Some(ticket);
         Ok(reply)
     }
@@ -156,23 +154,5 @@ impl<L: Ledger, P: ConfigPort, W: WireMaker + Sync, G: Gate + Sync> Locked<L, P,
             parts,
         };
         (reply, ticket)
-    }
-}
-
-// Adds an entry to a list with room, where the history has it too.
-fn list(log: &mut Vec<Entry>, session: usize, call: Call, reply: &Reply, spare: Option<Batch>)
-    requires room { vec_len log.old < vec_capacity log.old }
-    requires spare { SpareFits spare reply.now }
-    ensures { log.new.items ≡ (if is_logged reply.now
-        then log.old.items ++ entry session call reply.now ∷ []
-        else log.old.items) }
-{
-    if reply.is_logged() {
-        let entry = Entry {
-            session,
-            call,
-            reply: reply.copy_with(spare),
-        };
-        log.push(entry).unwrap();
     }
 }

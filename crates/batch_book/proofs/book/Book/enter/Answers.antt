@@ -1,20 +1,29 @@
 use Rattle.std.proofs.Common.{◌≡◌, ◌<◌, length, [], ◌∷◌, ◌++◌, refl}
 use Rattle.batch_book.specs.declared.limits.TheConstants.{MAX_ENTRIES}
 use Rattle.batch_book.specs.History.{account, entry}
-use Rattle.batch_book.proofs.Histories.{grown, entered}
+use Rattle.batch_book.proofs.Histories.{grown}
+use Rattle.batch_book.proofs.Seats.{listed}
+use Rattle.batch_book.proofs.Steps.{small_step}
 use Rattle.batch_book.proofs.book.Book.enter.Goals as goal
 
 pub invariant_of-self-2 : goal.invariant_of-self-2
 invariant_of-self-2 g c =
     let es = c.self.inside.history.items in
     let room : length es < MAX_ENTRIES = rw (← c.self.view_is) at c.requires.room in
-    let longer : c.push.new.self.items ≡ es ++ entry c.args.session c.args.call c.in_ok-reply.reply ∷ [] =
-    entered c.push.result _ c.push.new.self.items c.reserve.new.self.items es c.args.session c.in_ok-kept.kept c.args.call c.copy_with-recorded.result c.in_ok-reply.reply c.in_ok-kept.ensures c.copy_with-recorded.ensures c.unwrap.ensures c.push.ensures.items c.in_ok-reserve.ensures.items in
-    grown (account c.self.inside.opening es c.self.inside.holdings) c.args.session c.args.call c.in_ok-reply.reply _ _ c.self.invariant room longer c.in_ok-reply.ensures.step
+    let step = c.in_ok-reply.ensures.step in
+    let logged = (small_step c.self.inside.holdings c.args.session c.args.call c.in_ok-reply.reply _ step).logged in
+    let longer : c.list.new.log.items ≡ es ++ entry c.args.session c.args.call c.in_ok-reply.reply ∷ [] =
+    listed es c.reserve.new.self.items c.list.new.log.items c.args.session c.in_ok-copies.copies.call c.args.call c.in_ok-reply.reply logged c.list.ensures c.in_ok-reserve.ensures.items c.in_ok-copies.ensures.call in
+    grown (account c.self.inside.opening es c.self.inside.holdings) c.args.session c.args.call c.in_ok-reply.reply _ _ c.self.invariant room longer step
 
 pub returns-clause-grown : goal.returns-clause-grown
 returns-clause-grown g c =
     let es = c.self.inside.history.items in
-    let longer : c.push.new.self.items ≡ es ++ entry c.args.session c.args.call c.in_ok-reply.reply ∷ [] =
-    entered c.push.result _ c.push.new.self.items c.reserve.new.self.items es c.args.session c.in_ok-kept.kept c.args.call c.copy_with-recorded.result c.in_ok-reply.reply c.in_ok-kept.ensures c.copy_with-recorded.ensures c.unwrap.ensures c.push.ensures.items c.in_ok-reserve.ensures.items in
-    rw (← c.self.view_is) (record { step = c.in_ok-reply.ensures.step; history = longer; opening = refl })
+    let step = c.in_ok-reply.ensures.step in
+    let logged = (small_step c.self.inside.holdings c.args.session c.args.call c.in_ok-reply.reply _ step).logged in
+    let longer : c.list.new.log.items ≡ es ++ entry c.args.session c.args.call c.in_ok-reply.reply ∷ [] =
+    listed es c.reserve.new.self.items c.list.new.log.items c.args.session c.in_ok-copies.copies.call c.args.call c.in_ok-reply.reply logged c.list.ensures c.in_ok-reserve.ensures.items c.in_ok-copies.ensures.call in
+    rw (← c.self.view_is) (record { step = step; history = longer; opening = refl })
+
+pub returns-clause-logged : goal.returns-clause-logged
+returns-clause-logged g c = (small_step c.self.inside.holdings c.args.session c.args.call c.in_ok-reply.reply _ c.in_ok-reply.ensures.step).logged

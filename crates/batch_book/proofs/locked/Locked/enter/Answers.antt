@@ -9,7 +9,7 @@ use Rattle.batch_book.proofs.locked.Locked.enter.Goals as goal
 
 pub returns-clause-list : goal.returns-clause-list
 returns-clause-list g c = λ logged. rw (← c.seat.view_is)
-    (listed c.seat.inside.log.items c.reserve.new.self.items c.list.new.log.items c.seat.inside.session _ c.args.call c.ask-reply.result.0 logged c.list.ensures c.reserve.ensures.items c.in_ok-kept.ensures)
+    (listed c.seat.inside.log.items c.reserve.new.self.items c.list.new.log.items c.seat.inside.session _ c.args.call c.ask-reply.result.0 logged c.list.ensures c.reserve.ensures.items c.in_ok-copies.ensures.call)
 
 pub invariant_of-seat-2 : goal.invariant_of-seat-2
 invariant_of-seat-2 g c =
