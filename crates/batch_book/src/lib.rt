@@ -45,6 +45,3 @@ pub use refusal::Refusal;
 pub use reply::Reply;
 pub use seat::Seat;
 pub use shared::Shared;
-
-#[cfg(test)]
-mod tests;
