@@ -1,4 +1,4 @@
-use Rattle.std.proofs.Common.{◌≡◌, ◌≢◌, [], length, arith, ap}
+use Rattle.std.proofs.Common.{◌≡◌, ◌≢◌, [], length, arith, ap, rules}
 use Rattle.std.proofs.lemmas.Grind.{common_steps}
 use Rattle.std.proofs.lemmas.Result.{err_from_is_err_and}
 use Rattle.batch.proofs.Transfers.{stopped, trailing, needs_memory}
@@ -18,3 +18,9 @@ pub returns-in_err-transfers-clause-memory : goal.returns-in_err-transfers-claus
 returns-in_err-transfers-clause-memory c =
     let p = err_from_is_err_and c.from_residual.result c.from_residual.ensures.1 in
     rw (p.1, p.2) (λ memory. needs_memory _ _ _ _ c.in-Some.ensures.some c.if-count-gt-MAX_TRANSFERS.false (c.in_err-transfers.ensures.memory memory))
+
+pub returns-then-count-gt-MAX_TRANSFERS-clause-fault : goal.returns-then-count-gt-MAX_TRANSFERS-clause-fault
+returns-then-count-gt-MAX_TRANSFERS-clause-fault c = search rules
+
+pub returns-in_default-clause-memory : goal.returns-in_default-clause-memory
+returns-in_default-clause-memory c = search rules
