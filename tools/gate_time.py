@@ -17,7 +17,7 @@ import threading
 import time
 
 STEPS = ("proof", "tests", "first edit", "other edits", "programs")
-OTHERS = ("tools/start/run.sh", "tools/hostile/run.sh")
+OTHERS = ("tools/start/run.sh", "bench/planning/run.sh --check", "tools/hostile/run.sh")
 
 
 class Meter:
@@ -125,9 +125,9 @@ def main():
     subprocess.Popen = plain
     gate, lines, total = time.time() - began, [], sum(meter.seconds.values()) + sum(os.times()[:2])
     for it in OTHERS:
-        if os.path.isfile(it) and not status:
+        if not status:
             before, started = children(), time.time()
-            status = subprocess.run([f"./{it}"], stdin=subprocess.DEVNULL).returncode
+            status = subprocess.run(it.split(), stdin=subprocess.DEVNULL).returncode
             lines.append(f"`{it}`: {children() - before:.0f} seconds of processors, {time.time() - started:.0f} by the clock")
             total += children() - before
     print("\n".join(["", *table(meter, order), "", f"`rt ci`: {gate:.0f} seconds by the clock", *lines]))

@@ -1,0 +1,8 @@
+#!/usr/bin/env bash
+# Tries the built programs: the start script, the instructions that planning takes, and hostile use. `rt ci` leaves them built; those that
+# aren't built yet are proved and built first.
+set -eu
+cd "$(dirname "$(readlink -f "${BASH_SOURCE[0]}")")/.."
+tools/start/run.sh
+bench/planning/run.sh --check
+tools/hostile/run.sh
