@@ -1,5 +1,7 @@
-//! A module for each crate that is tested here, and the places that their tests name.
+//! A module for each crate that is tested here, and what their tests share.
 
 mod module_memory_rows;
 mod peek_poke_rows;
 mod places;
+mod prints;
+mod racks;

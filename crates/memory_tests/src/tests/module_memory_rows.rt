@@ -1,169 +1,291 @@
 //! The worked rows, printed faults and each call that takes memory.
 
 use super::places::place;
+use super::prints::prints;
+use super::racks::{marked_rack, parted, zero_rack};
 use batch::{Place, Shape};
 use module_memory::{
-    BLOCK_MARK, HOLD_START, LendFault, MODULE_MARK, MemoryFault, Rack, WINDOW_START, WORD_BYTES,
+    BLOCK_MARK, Bay, HOLD_START, LendFault, MODULE_MARK, MemoryFault, Rack, Rest, WINDOW_START,
+    WORD_BYTES,
 };
-use std::test::Fail;
+use std::alloc::Global;
+
+/// What a read of a word gives.
+type Read = Result<u32, MemoryFault>;
+
+/// The last word of a rack `3x2x2`, as it is and as it is marked.
+fn last_words(rack: &mut Rack) -> [Read; 2] {
+    let unmarked = rack.read(2, 0x8000_080c);
+    rack.mark();
+    [unmarked, rack.read(2, 0x8000_080c)]
+}
+
+/// What a word of a copy is once the word of the rack is written, where that could be done.
+fn kept_word(rack: &mut Rack) -> Option<Read> {
+    match rack.copy() {
+        Ok(copy) => match rack.write(1, 0x8000_0808, 7) {
+            Ok(()) => Some(copy.read(1, 0x8000_0808)),
+            Err(_) => None,
+        },
+        Err(_) => None,
+    }
+}
+
+/// Whether a rack `3x2x2` has that written word, no third block in a module, and its shape.
+fn has_written_block(rack: &Rack) -> bool {
+    let written = rack.block(place(1, 1)) == Some([7, 0x0001_0101].as_slice());
+    let past = rack.block(place(1, 2)).is_none();
+    written && past && Shape::new(3, 2, 2) == Ok(rack.shape())
+}
+
+/// Whether a rack `3x2x2` of zeros is marked, copied and written.
+fn is_read_and_written(rack: &mut Rack) -> bool {
+    last_words(rack) == [Ok(0), Ok(0x0002_0101)]
+        && kept_word(rack) == Some(Ok(0x0001_0100))
+        && has_written_block(rack)
+}
+
+/// Whether a new rack is.
+fn new_rack_is_written(alloc: Global) -> bool {
+    match zero_rack(alloc, 3, 2, 2) {
+        Some(mut rack) => is_read_and_written(&mut rack),
+        None => false,
+    }
+}
 
 #[test]
-fn racks_are_read_and_written(rt: HostRuntime) -> Result<(), Fail> {
-    let mut rack = Rack::new(rt.alloc(), Shape::new(3, 2, 2)?)?;
-    assert_eq!(rt; rack.read(2, 0x8000_080c), Ok(0));
-    rack.mark();
-    assert_eq!(rt; rack.read(2, 0x8000_080c), Ok(0x0002_0101));
-    let copy = rack.copy()?;
-    assert_eq!(rt; rack.write(1, 0x8000_0808, 7), Ok(()));
-    assert_eq!(rt; rack.block(place(1, 1)), Some([7, 0x0001_0101].as_slice()));
-    assert_eq!(rt; copy.read(1, 0x8000_0808), Ok(0x0001_0100));
-    assert_eq!(rt; rack.block(place(1, 2)), None);
-    assert_eq!(rt; rack.shape(), Shape::new(3, 2, 2)?);
-    Ok(())
+fn racks_are_read_and_written(rt: HostRuntime) {
+    assert!(rt; new_rack_is_written(rt.alloc()));
 }
 
 #[test]
 fn sizes_have_numbers(rt: HostRuntime) {
-    assert_eq!(rt; (WINDOW_START, WORD_BYTES), (0x8000_0800, 4));
-    assert_eq!(rt; HOLD_START, 0x8001_0800);
-    assert_eq!(rt; (MODULE_MARK, BLOCK_MARK), (0x0001_0000, 0x0100));
+    assert!(rt; [WINDOW_START, WORD_BYTES, HOLD_START] == [0x8000_0800, 4, 0x8001_0800]);
+    assert!(rt; [MODULE_MARK, BLOCK_MARK] == [0x0001_0000, 0x0100]);
 }
 
-#[test]
-fn addresses_have_faults(rt: HostRuntime) -> Result<(), Fail> {
-    let mut rack = Rack::new(rt.alloc(), Shape::new(1, 1, 2)?)?;
-    assert_eq!(rt; rack.read(1, 1), Err(MemoryFault::NoModule));
-    assert_eq!(rt;
-        rack.read(0, WINDOW_START + 1),
-        Err(MemoryFault::Misaligned)
-    );
-    assert_eq!(rt; rack.read(0, WINDOW_START - 4), Err(MemoryFault::Outside));
-    assert_eq!(rt; rack.write(0, 0x8000_0808, 1), Err(MemoryFault::Outside));
-    let widest = Rack::new(rt.alloc(), Shape::WIDEST)?;
-    assert_eq!(rt; widest.read(15, 0x8001_07fc), Ok(0));
-    assert_eq!(rt; widest.read(15, 0x8001_0800), Err(MemoryFault::Outside));
-    Ok(())
+/// The faults of three reads, and of a write, of a rack `1x1x2`.
+fn faults_of(rack: &mut Rack) -> [Option<MemoryFault>; 4] {
+    [
+        rack.read(1, 1).err(),
+        rack.read(0, WINDOW_START + 1).err(),
+        rack.read(0, WINDOW_START - 4).err(),
+        rack.write(0, 0x8000_0808, 1).err(),
+    ]
 }
 
-/// The fault for which these places of a marked rack aren't lent; the rack comes back as it was.
-fn part_fault(rack: Rack, places: &[Place]) -> Result<(Rack, LendFault), Fail> {
-    hold_fault(rack, places, &[])
+/// The same, where there is memory for the rack.
+fn faults_of_new_rack(alloc: Global) -> Option<[Option<MemoryFault>; 4]> {
+    match zero_rack(alloc, 1, 1, 2) {
+        Some(mut rack) => Some(faults_of(&mut rack)),
+        None => None,
+    }
 }
 
-/// The same where these are held.
-fn hold_fault(rack: Rack, places: &[Place], held: &[Place]) -> Result<(Rack, LendFault), Fail> {
-    match rack.part(places, held) {
-        Ok(_) => Err(Fail::from("parted")),
-        Err(refused) => Ok(refused),
+/// The last word of the widest rack, and what a read just behind it gives.
+fn edge_of_widest(alloc: Global) -> Option<[Read; 2]> {
+    match Rack::new(alloc, Shape::WIDEST) {
+        Ok(widest) => Some([widest.read(15, 0x8001_07fc), widest.read(15, 0x8001_0800)]),
+        Err(_) => None,
     }
 }
 
 #[test]
-fn part_refusals(rt: HostRuntime) -> Result<(), Fail> {
-    let mut rack = Rack::new(rt.alloc(), Shape::new(2, 1, 1)?)?;
-    rack.mark();
-    let (rack, fault) = part_fault(rack, &[place(0, 0), place(0, 0)])?;
-    assert_eq!(rt; fault, LendFault::SamePlace(1));
-    let (rack, fault) = part_fault(rack, &[place(9, 0)])?;
-    assert_eq!(rt; fault, LendFault::NoPlace(0));
-    let (rack, fault) = part_fault(rack, &[place(0, 0), place(0, 0), place(2, 0)])?;
-    assert_eq!(rt; fault, LendFault::NoPlace(2));
-    assert_eq!(rt; rack.read(1, 0x8000_0800), Ok(0x0001_0000));
-    Ok(())
-}
-
-#[test]
-fn held_places_are_refused(rt: HostRuntime) -> Result<(), Fail> {
-    let mut rack = Rack::new(rt.alloc(), Shape::new(2, 1, 1)?)?;
-    rack.mark();
-    let (rack, fault) = hold_fault(rack, &[], &[place(9, 0)])?;
-    assert_eq!(rt; fault, LendFault::NoHeld(0));
-    let (rack, fault) = hold_fault(rack, &[place(1, 0)], &[place(9, 0)])?;
-    assert_eq!(rt; fault, LendFault::NoHeld(0));
-    let (rack, fault) = hold_fault(rack, &[place(2, 0)], &[place(9, 0)])?;
-    assert_eq!(rt; fault, LendFault::NoPlace(0));
-    let twice = [place(0, 0), place(0, 0)];
-    let (rack, fault) = hold_fault(rack, &twice, &[place(1, 0), place(0, 1)])?;
-    assert_eq!(rt; fault, LendFault::NoHeld(1));
-    let (rack, fault) = hold_fault(rack, &twice, &[place(1, 0)])?;
-    assert_eq!(rt; fault, LendFault::SamePlace(1));
-    assert_eq!(rt; rack.read(1, 0x8000_0800), Ok(0x0001_0000));
-    assert_eq!(rt; rack.read(1, 0x8001_0800), Err(MemoryFault::Outside));
-    Ok(())
-}
-
-#[test]
-fn blocks_are_held(rt: HostRuntime) -> Result<(), Fail> {
-    let mut rack = Rack::new(rt.alloc(), Shape::new(2, 1, 2)?)?;
-    rack.mark();
-    let Ok(mut parted) = rack.part(&[place(1, 0)], &[place(1, 0), place(1, 0)]) else {
-        return Err(Fail::from("not parted"));
-    };
-    for bay in &mut parted.bays {
-        assert!(rt; 1 < bay.words());
-        bay.set(1, 9);
-    }
-    let rest = &parted.rest;
-    assert_eq!(rt; rest.held(place(1, 0), 1), Some(0x0001_0001));
-    assert_eq!(rt; rest.held(place(1, 0), 2), None);
-    assert_eq!(rt; rest.held(place(0, 0), 0), None);
-    assert_eq!(rt; rest.held(place(2, 0), 0), None);
-    assert_eq!(rt; rest.held_block(place(0, 0)), None);
-    assert_eq!(rt;
-        rest.held_block(place(1, 0)),
-        Some([0x0001_0000, 0x0001_0001].as_slice())
-    );
-    assert_eq!(rt; rest.block(place(0, 0)), Some([0, 1].as_slice()));
-    Ok(())
-}
-
-#[test]
-fn racks_are_parted_and_rejoined(rt: HostRuntime) -> Result<(), Fail> {
-    let mut rack = Rack::new(rt.alloc(), Shape::new(2, 1, 2)?)?;
-    rack.mark();
-    let Ok(parted) = rack.part(&[place(1, 0)], &[]) else {
-        return Err(Fail::from("not parted"));
-    };
-    assert_eq!(rt; parted.rest.shape(), Shape::new(2, 1, 2)?);
-    assert_eq!(rt; parted.rest.word(place(1, 0), 0), None);
-    assert_eq!(rt; parted.rest.word(place(0, 0), 1), Some(1));
-    assert_eq!(rt; parted.rest.word(place(0, 0), 2), None);
-    assert_eq!(rt; parted.rest.word(place(2, 0), 0), None);
-    for bay in &parted.bays {
-        assert_eq!(rt; (bay.place(), bay.words()), (place(1, 0), 2));
-        assert_eq!(rt; (bay.word(1), bay.word(2)), (Some(0x0001_0001), None));
-    }
-    let rack = parted.rejoin();
-    assert_eq!(rt; rack.read(1, 0x8000_0804), Ok(0x0001_0001));
-    Ok(())
-}
-
-#[test]
-fn bays_are_written(rt: HostRuntime) -> Result<(), Fail> {
-    let rack = Rack::new(rt.alloc(), Shape::new(1, 1, 2)?)?;
-    let Ok(mut parted) = rack.part(&[place(0, 0)], &[]) else {
-        return Err(Fail::from("not parted"));
-    };
-    for bay in &mut parted.bays {
-        assert!(rt; 1 < bay.words());
-        bay.set(1, 9);
-        assert_eq!(rt; (bay.word(0), bay.word(1)), (Some(0), Some(9)));
-    }
-    Ok(())
-}
-
-#[test]
-fn faults_are_printed(rt: HostRuntime) -> Result<(), Fail> {
-    let rows = [
-        (LendFault::SamePlace(2), "place 2 is lent twice"),
-        (LendFault::NoPlace(0), "place 0 does not exist"),
-        (LendFault::NoHeld(1), "held place 1 does not exist"),
-        (LendFault::NoMemory, "no memory"),
+fn addresses_have_faults(rt: HostRuntime) {
+    let faults = [
+        Some(MemoryFault::NoModule),
+        Some(MemoryFault::Misaligned),
+        Some(MemoryFault::Outside),
+        Some(MemoryFault::Outside),
     ];
-    for (fault, text) in rows {
-        assert_eq!(rt; fault.to_string(rt.alloc())?.as_str(), text);
+    assert!(rt; faults_of_new_rack(rt.alloc()) == Some(faults));
+    assert!(rt; edge_of_widest(rt.alloc()) == Some([Ok(0), Err(MemoryFault::Outside)]));
+}
+
+/// Whether a rack `2x1x1` is as it was marked, and has no second block in a module.
+fn is_as_marked(rack: &Rack) -> bool {
+    [rack.read(1, 0x8000_0800), rack.read(1, 0x8001_0800)]
+        == [Ok(0x0001_0000), Err(MemoryFault::Outside)]
+}
+
+/// The fault for which these places of a marked rack aren't lent while these are held, where the rack comes back as it
+/// was.
+fn fault_of_part(rack: Rack, places: &[Place], held: &[Place]) -> Option<LendFault> {
+    match rack.part(places, held) {
+        Ok(_) => None,
+        Err((rack, fault)) => {
+            if is_as_marked(&rack) {
+                Some(fault)
+            } else {
+                None
+            }
+        }
     }
-    let text = MemoryFault::Misaligned.to_string(rt.alloc())?;
-    assert_eq!(rt; text.as_str(), "the address is misaligned");
-    Ok(())
+}
+
+/// The same of a marked rack `2x1x1`.
+fn refusal(alloc: Global, places: &[Place], held: &[Place]) -> Option<LendFault> {
+    match marked_rack(alloc, 2, 1, 1) {
+        Some(rack) => fault_of_part(rack, places, held),
+        None => None,
+    }
+}
+
+#[test]
+fn part_refusals(rt: HostRuntime) {
+    let twice = [place(0, 0), place(0, 0)];
+    let faults = [
+        refusal(rt.alloc(), &twice, &[]),
+        refusal(rt.alloc(), &[place(9, 0)], &[]),
+        refusal(rt.alloc(), &[place(0, 0), place(0, 0), place(2, 0)], &[]),
+    ];
+    let rows = [
+        Some(LendFault::SamePlace(1)),
+        Some(LendFault::NoPlace(0)),
+        Some(LendFault::NoPlace(2)),
+    ];
+    assert_eq!(rt; faults, rows);
+}
+
+#[test]
+fn held_places_are_refused(rt: HostRuntime) {
+    let twice = [place(0, 0), place(0, 0)];
+    let faults = [
+        refusal(rt.alloc(), &[], &[place(9, 0)]),
+        refusal(rt.alloc(), &[place(1, 0)], &[place(9, 0)]),
+        refusal(rt.alloc(), &[place(2, 0)], &[place(9, 0)]),
+        refusal(rt.alloc(), &twice, &[place(1, 0), place(0, 1)]),
+        refusal(rt.alloc(), &twice, &[place(1, 0)]),
+    ];
+    let rows = [
+        Some(LendFault::NoHeld(0)),
+        Some(LendFault::NoHeld(0)),
+        Some(LendFault::NoPlace(0)),
+        Some(LendFault::NoHeld(1)),
+        Some(LendFault::SamePlace(1)),
+    ];
+    assert_eq!(rt; faults, rows);
+}
+
+/// Writes 9 into the second word of each bay, and says whether all have one.
+fn set_second(bays: &mut [Bay]) -> bool {
+    for bay in bays {
+        if bay.words() < 2 {
+            return false;
+        }
+        bay.set(1, 9);
+    }
+    true
+}
+
+/// Whether the rest of a rack `2x1x2` has the words of module 0, and holds those of module 1 alone.
+fn holds_module_1(rest: &Rest) -> bool {
+    let words = [
+        rest.held(place(1, 0), 1),
+        rest.held(place(1, 0), 2),
+        rest.held(place(0, 0), 0),
+        rest.held(place(2, 0), 0),
+    ];
+    let held = rest.held_block(place(1, 0)) == Some([0x0001_0000, 0x0001_0001].as_slice());
+    let unheld = rest.held_block(place(0, 0)).is_none();
+    let block = rest.block(place(0, 0)) == Some([0, 1].as_slice());
+    words == [Some(0x0001_0001), None, None, None] && held && unheld && block
+}
+
+/// Whether module 1 is held as it was, while its bay is written.
+fn module_1_is_held(alloc: Global) -> bool {
+    let held = [place(1, 0), place(1, 0)];
+    match parted(marked_rack(alloc, 2, 1, 2), &[place(1, 0)], &held) {
+        Some(mut parted) => set_second(&mut parted.bays) && holds_module_1(&parted.rest),
+        None => false,
+    }
+}
+
+#[test]
+fn blocks_are_held(rt: HostRuntime) {
+    assert!(rt; module_1_is_held(rt.alloc()));
+}
+
+/// Whether the rest of a rack `2x1x2` has its shape, and the words of module 0 alone.
+fn has_module_0(rest: &Rest) -> bool {
+    let words = [
+        rest.word(place(1, 0), 0),
+        rest.word(place(0, 0), 1),
+        rest.word(place(0, 0), 2),
+        rest.word(place(2, 0), 0),
+    ];
+    words == [None, Some(1), None, None] && Ok(rest.shape()) == Shape::new(2, 1, 2)
+}
+
+/// Whether each bay has the marked words of module 1.
+fn have_module_1(bays: &[Bay]) -> bool {
+    for bay in bays {
+        if bay.place() != place(1, 0) || bay.words() != 2 {
+            return false;
+        }
+        if [bay.word(1), bay.word(2)] != [Some(0x0001_0001), None] {
+            return false;
+        }
+    }
+    true
+}
+
+/// Whether a marked rack `2x1x2` is parted at module 1, and made of its parts again.
+fn is_parted_and_rejoined(rack: Rack) -> bool {
+    match rack.part(&[place(1, 0)], &[]) {
+        Ok(parted) => {
+            let whole = has_module_0(&parted.rest) && have_module_1(&parted.bays);
+            let rack = parted.rejoin();
+            whole && rack.read(1, 0x8000_0804) == Ok(0x0001_0001)
+        }
+        Err(_) => false,
+    }
+}
+
+/// Whether a new rack is.
+fn new_rack_is_rejoined(alloc: Global) -> bool {
+    match marked_rack(alloc, 2, 1, 2) {
+        Some(rack) => is_parted_and_rejoined(rack),
+        None => false,
+    }
+}
+
+#[test]
+fn racks_are_parted_and_rejoined(rt: HostRuntime) {
+    assert!(rt; new_rack_is_rejoined(rt.alloc()));
+}
+
+/// Whether each bay has these two words.
+fn have_words(bays: &[Bay], words: [Option<u32>; 2]) -> bool {
+    for bay in bays {
+        if [bay.word(0), bay.word(1)] != words {
+            return false;
+        }
+    }
+    true
+}
+
+/// Whether the bay of a rack `1x1x2` of zeros is written.
+fn bay_is_written(alloc: Global) -> bool {
+    match parted(zero_rack(alloc, 1, 1, 2), &[place(0, 0)], &[]) {
+        Some(mut parted) => {
+            set_second(&mut parted.bays) && have_words(&parted.bays, [Some(0), Some(9)])
+        }
+        None => false,
+    }
+}
+
+#[test]
+fn bays_are_written(rt: HostRuntime) {
+    assert!(rt; bay_is_written(rt.alloc()));
+}
+
+#[test]
+fn faults_are_printed(rt: HostRuntime) {
+    let alloc = rt.alloc();
+    assert!(rt; prints(alloc, &LendFault::SamePlace(2), "place 2 is lent twice"));
+    assert!(rt; prints(alloc, &LendFault::NoPlace(0), "place 0 does not exist"));
+    assert!(rt; prints(alloc, &LendFault::NoHeld(1), "held place 1 does not exist"));
+    assert!(rt; prints(alloc, &LendFault::NoMemory, "no memory"));
+    assert!(rt; prints(alloc, &MemoryFault::Misaligned, "the address is misaligned"));
 }

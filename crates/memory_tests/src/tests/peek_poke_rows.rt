@@ -1,11 +1,13 @@
 //! The worked rows, words moved over wires, and printed faults.
 
-ghost use Rattle.std.specs.Prelude.{◌≡◌, ◌<◌, ◌≤◌, length, IfOk, OnErr, IsOk};
+ghost use Rattle.std.specs.Prelude.{◌≡◌, ◌<◌, ◌≤◌, length, IfSome, OnErr, IsOk};
 ghost use Rattle.batch.specs.Extent.{extent};
 
 use super::places::place;
+use super::prints::prints;
+use super::racks::{marked_rack, parted, zero_rack};
 use batch::{Place, Shape};
-use module_memory::{Bay, Parted, Rack, Rest, WINDOW_START, WORD_BYTES};
+use module_memory::{Bay, MemoryFault, Parted, Rest, WINDOW_START, WORD_BYTES};
 use passed_bytes::PassedBytes;
 use peek_poke::{
     AnswerFault, Answerer, FuseWire, FuseWires, HeldStore, PEEK, PEEK_BYTES, POKE, POKE_BYTES,
@@ -13,89 +15,121 @@ use peek_poke::{
     WordStore, laws, peek_bytes, poke_bytes, pull_word, push_word,
 };
 use std::alloc::Global;
-use std::test::Fail;
 
-/// The module of a rack `1x1x1`, whose word is 0.
-fn one_word(alloc: Global) -> Result<Window, Fail> {
-    let rack = Rack::new(alloc, Shape::new(1, 1, 1)?)?;
-    Window::of(rack, 0).map_err(|_| Fail::from("no module"))
-}
-
-/// The module of a rack `1x1x2`, whose words are 0.
-fn two_words(alloc: Global) -> Result<Window, Fail>
-    ensures { IfOk result (λ w. (w.store.shape ≡ extent 1 1 2) × (w.number ≡ 0)) }
+/// The only module of a rack `1x1xW` for this number of words, which are 0.
+fn only_module(alloc: Global, words: usize) -> Option<Window>
+    ensures { IfSome result (λ w. (w.store.shape ≡ extent 1 1 words) × (w.number ≡ 0)) }
 {
-    let rack = Rack::new(alloc, Shape::new(1, 1, 2)?)?;
-    match Window::of(rack, 0) {
-        Ok(window) => Ok(window),
-        Err(_) => Err(Fail::from("no module")),
+    match zero_rack(alloc, 1, 1, words) {
+        Some(rack) => match Window::of(rack, 0) {
+            Ok(window) => Some(window),
+            Err(_) => None,
+        },
+        None => None,
     }
 }
 
 /// Feeds bytes of which none but the last is answered, and gives that answer.
-fn feed_all(answerer: &mut Answerer, store: &mut Window, bytes: &[u8]) -> Option<[u8; 4]> {
-    let mut answer = None;
+fn feed_all<S: WordStore>(
+    answerer: &mut Answerer,
+    store: &mut S,
+    bytes: &[u8],
+) -> Option<Result<Option<[u8; 4]>, AnswerFault>> {
+    let mut answer = Ok(None);
     for byte in bytes {
-        if answer.is_some() {
+        if answer != Ok(None) {
             return None;
         }
-        answer = answerer.feed(store, *byte).ok()?;
+        answer = answerer.feed(store, *byte);
     }
-    answer
+    Some(answer)
 }
 
-/// The fault of the first byte that a new answering end refuses, and how many it took before.
-fn first_fault(store: &mut Window, bytes: &[u8]) -> Option<(usize, AnswerFault)> {
+/// The fault of the first byte that a new answering end refuses, and how many it took before, none of which it
+/// answered.
+fn first_fault<S: WordStore>(store: &mut S, bytes: &[u8]) -> Option<(usize, AnswerFault)> {
     let mut answerer = Answerer::new();
     for (taken, byte) in bytes.iter().enumerate() {
-        if let Err(fault) = answerer.feed(store, *byte) {
-            return Some((taken, fault));
+        match answerer.feed(store, *byte) {
+            Ok(None) => {}
+            Ok(Some(_)) => return None,
+            Err(fault) => return Some((taken, fault)),
         }
     }
     None
 }
 
-#[test]
-fn poke_then_peek(rt: HostRuntime) -> Result<(), Fail> {
-    let mut store = one_word(rt.alloc())?;
+/// The bytes that poke 12345678 hex into the first word of a module.
+const POKE_ROW: [u8; 9] = [0, 0, 8, 0, 0x80, 0x78, 0x56, 0x34, 0x12];
+
+/// The bytes that peek that word.
+const PEEK_ROW: [u8; 5] = [1, 0, 8, 0, 0x80];
+
+/// Whether a word is poked and then peeked by an answering end, which is at rest then.
+fn is_poked_and_peeked(store: &mut Window) -> bool {
     let mut answerer = Answerer::new();
-    let poke = [0, 0, 8, 0, 0x80, 0x78, 0x56, 0x34, 0x12];
-    for byte in &poke {
-        assert_eq!(rt; answerer.feed(&mut store, *byte), Ok(None));
+    feed_all(&mut answerer, store, &POKE_ROW) == Some(Ok(None))
+        && feed_all(&mut answerer, store, &PEEK_ROW) == Some(Ok(Some([0x78, 0x56, 0x34, 0x12])))
+        && answerer.at_rest()
+}
+
+/// The first word of the rack that a module is of.
+fn word_of_rack(store: Window) -> Result<u32, MemoryFault> {
+    let rack = store.into_rack();
+    rack.read(0, 0x8000_0800)
+}
+
+/// Whether that is so in a rack `1x1x1`, and the rack has the word then.
+fn rack_has_poked_word(alloc: Global) -> bool {
+    match only_module(alloc, 1) {
+        Some(mut store) => {
+            let moved = is_poked_and_peeked(&mut store);
+            word_of_rack(store) == Ok(0x1234_5678) && moved
+        }
+        None => false,
     }
-    let peek = [1, 0, 8, 0, 0x80];
-    assert_eq!(rt;
-        feed_all(&mut answerer, &mut store, &peek),
-        Some([0x78, 0x56, 0x34, 0x12])
-    );
-    assert!(rt; answerer.at_rest());
-    assert_eq!(rt; poke_bytes(0x8000_0800, 0x1234_5678), poke);
-    assert_eq!(rt; peek_bytes(0x8000_0800), peek);
-    assert_eq!(rt; store.into_rack().read(0, 0x8000_0800), Ok(0x1234_5678));
-    Ok(())
 }
 
 #[test]
-fn answerer_faults(rt: HostRuntime) -> Result<(), Fail> {
-    let mut store = two_words(rt.alloc())?;
-    assert_eq!(rt;
-        first_fault(&mut store, &[0, 4, 8, 0, 0x80, 1, 0, 0, 0]),
-        None
-    );
-    assert_eq!(rt; store.read_word(0x8000_0804), Ok(1));
-    assert_eq!(rt;
-        first_fault(&mut store, &[0, 8, 8, 0, 0x80, 1, 0, 0, 0]),
-        Some((8, AnswerFault::Outside))
-    );
-    assert_eq!(rt;
-        first_fault(&mut store, &[1, 1, 8, 0, 0x80]),
-        Some((4, AnswerFault::Misaligned))
-    );
+fn poke_then_peek(rt: HostRuntime) {
+    assert!(rt; rack_has_poked_word(rt.alloc()));
+    assert!(rt; poke_bytes(0x8000_0800, 0x1234_5678) == POKE_ROW);
+    assert!(rt; peek_bytes(0x8000_0800) == PEEK_ROW);
+}
+
+/// Whether the second word of a module of two is poked, and what lies behind it or between them is refused.
+fn addresses_are_refused(store: &mut Window) -> bool {
+    first_fault(store, &[0, 4, 8, 0, 0x80, 1, 0, 0, 0]).is_none()
+        && store.read_word(0x8000_0804) == Ok(1)
+        && first_fault(store, &[0, 8, 8, 0, 0x80, 1, 0, 0, 0]) == Some((8, AnswerFault::Outside))
+        && first_fault(store, &[1, 1, 8, 0, 0x80]) == Some((4, AnswerFault::Misaligned))
+}
+
+/// What an answering end answers to a control byte of a boot, and to a byte behind it, where it isn't at rest then.
+fn answers_to_boot(store: &mut Window) -> Option<[Result<Option<[u8; 4]>, AnswerFault>; 2]> {
     let mut answerer = Answerer::new();
-    assert_eq!(rt; answerer.feed(&mut store, 2), Err(AnswerFault::Boot(2)));
-    assert_eq!(rt; answerer.feed(&mut store, 0), Err(AnswerFault::Failed));
-    assert!(rt; !answerer.at_rest());
-    Ok(())
+    let answers = [answerer.feed(store, 2), answerer.feed(store, 0)];
+    if answerer.at_rest() {
+        return None;
+    }
+    Some(answers)
+}
+
+/// Whether a module of two words is answered for so.
+fn faults_are_answered(alloc: Global) -> bool {
+    match only_module(alloc, 2) {
+        Some(mut store) => {
+            let refused = addresses_are_refused(&mut store);
+            let answers = [Err(AnswerFault::Boot(2)), Err(AnswerFault::Failed)];
+            answers_to_boot(&mut store) == Some(answers) && refused
+        }
+        None => false,
+    }
+}
+
+#[test]
+fn answerer_faults(rt: HostRuntime) {
+    assert!(rt; faults_are_answered(rt.alloc()));
 }
 
 /// Pokes the second word of a module `1x1x2` over a wire.
@@ -118,18 +152,29 @@ fn peeked<W: Wire, S: WordStore>(wire: &mut W, store: &mut S, address: u32) -> O
     pull_word(wire, &mut answerer, store, address).ok()
 }
 
-#[test]
-fn words_are_moved_over_a_wire(rt: HostRuntime) -> Result<(), Fail> {
-    let mut store = two_words(rt.alloc())?;
+/// Whether a word of a module `1x1x2` is poked over a wire, and both are peeked then.
+fn is_moved_over_a_wire(store: &mut Window) -> bool
+    requires shape { store.old.store.shape ≡ extent 1 1 2 }
+    requires number { store.old.number ≡ 0 }
+{
     let mut wire = PlainWires.line(0);
-    assert_eq!(rt; poked(&mut wire, &mut store, 0x1234_5678), Ok(()));
-    assert_eq!(rt;
-        peeked(&mut wire, &mut store, 0x8000_0804),
-        Some(0x1234_5678)
-    );
-    assert_eq!(rt; peeked(&mut wire, &mut store, 0x8000_0800), Some(0));
-    assert_eq!(rt; PlainWire::new().carry(5), Ok(5));
-    Ok(())
+    poked(&mut wire, store, 0x1234_5678) == Ok(())
+        && peeked(&mut wire, store, 0x8000_0804) == Some(0x1234_5678)
+        && peeked(&mut wire, store, 0x8000_0800) == Some(0)
+}
+
+/// Whether that is so in a new rack.
+fn words_are_moved(alloc: Global) -> bool {
+    match only_module(alloc, 2) {
+        Some(mut store) => is_moved_over_a_wire(&mut store),
+        None => false,
+    }
+}
+
+#[test]
+fn words_are_moved_over_a_wire(rt: HostRuntime) {
+    assert!(rt; words_are_moved(rt.alloc()));
+    assert!(rt; PlainWire::new().carry(5) == Ok(5));
 }
 
 /// A wire that keeps the first nine bytes that it carries, and their number.
@@ -180,37 +225,59 @@ fn recorded(store: &mut Window) -> ([u8; 9], [u8; 9], usize)
     (forward.bytes, back.bytes, count)
 }
 
+/// What goes over a wire so, in a new rack.
+fn messages(alloc: Global) -> Option<([u8; 9], [u8; 9], usize)> {
+    match only_module(alloc, 2) {
+        Some(mut store) => Some(recorded(&mut store)),
+        None => None,
+    }
+}
+
 #[test]
-fn words_go_as_messages(rt: HostRuntime) -> Result<(), Fail> {
-    let mut store = two_words(rt.alloc())?;
-    let (push, pull, count) = recorded(&mut store);
-    assert_eq!(rt; push, [0, 4, 8, 0, 0x80, 0x78, 0x56, 0x34, 0x12]);
-    assert_eq!(rt; pull, [1, 4, 8, 0, 0x80, 0x78, 0x56, 0x34, 0x12]);
-    assert_eq!(rt; count, 18);
-    Ok(())
+fn words_go_as_messages(rt: HostRuntime) {
+    let push = [0, 4, 8, 0, 0x80, 0x78, 0x56, 0x34, 0x12];
+    let pull = [1, 4, 8, 0, 0x80, 0x78, 0x56, 0x34, 0x12];
+    assert_eq!(rt; messages(rt.alloc()), Some((push, pull, 18)));
+}
+
+/// What a fuse of two bytes gives, of four that it is to carry.
+fn carried_by_a_fuse() -> [Result<u8, WireFault>; 4] {
+    let mut wire = FuseWire::new(2);
+    [wire.carry(5), wire.carry(6), wire.carry(7), wire.carry(7)]
 }
 
 #[test]
 fn a_fuse_carries_so_many_bytes(rt: HostRuntime) {
-    let mut wire = FuseWire::new(2);
-    assert_eq!(rt; wire.carry(5), Ok(5));
-    assert_eq!(rt; wire.carry(6), Ok(6));
-    assert_eq!(rt; wire.carry(7), Err(WireFault));
-    assert_eq!(rt; wire.carry(7), Err(WireFault));
+    let carried = [Ok(5), Ok(6), Err(WireFault), Err(WireFault)];
+    assert!(rt; carried_by_a_fuse() == carried);
 }
 
-#[test]
-fn a_broken_wire_moves_nothing(rt: HostRuntime) -> Result<(), Fail> {
-    let mut store = two_words(rt.alloc())?;
+/// Whether a broken wire leaves a module `1x1x2` as it was.
+fn is_left_by_a_broken_wire(store: &mut Window) -> bool
+    requires shape { store.old.store.shape ≡ extent 1 1 2 }
+    requires number { store.old.number ≡ 0 }
+{
     let lines = FuseWires {
         transfer: 3,
         bytes: 0,
     };
     let mut wire = lines.line(3);
-    assert_eq!(rt; poked(&mut wire, &mut store, 7), Err(WireFault));
-    assert_eq!(rt; store.read_word(0x8000_0804), Ok(0));
-    assert_eq!(rt; peeked(&mut wire, &mut store, 0x8000_0804), None);
-    Ok(())
+    poked(&mut wire, store, 7) == Err(WireFault)
+        && store.read_word(0x8000_0804) == Ok(0)
+        && peeked(&mut wire, store, 0x8000_0804).is_none()
+}
+
+/// Whether that is so in a new rack.
+fn nothing_is_moved(alloc: Global) -> bool {
+    match only_module(alloc, 2) {
+        Some(mut store) => is_left_by_a_broken_wire(&mut store),
+        None => false,
+    }
+}
+
+#[test]
+fn a_broken_wire_moves_nothing(rt: HostRuntime) {
+    assert!(rt; nothing_is_moved(rt.alloc()));
 }
 
 /// The addresses of the words of block 1 of a module `2x2x2`.
@@ -220,13 +287,8 @@ const ADDRESSES: [u32; 2] = [0x8000_0808, 0x8000_080c];
 const MOVED: [(usize, usize); 4] = [(8, 0), (9, 1), (17, 1), (18, 2)];
 
 /// A marked rack `2x2x2` of which block 1 of module 1 is lent.
-fn parted(alloc: Global) -> Result<Parted, Fail> {
-    let mut rack = Rack::new(alloc, Shape::new(2, 2, 2)?)?;
-    rack.mark();
-    match rack.part(&[place(1, 1)], &[]) {
-        Ok(parted) => Ok(parted),
-        Err(_) => Err(Fail::from("not parted")),
-    }
+fn lent_block(alloc: Global) -> Option<Parted> {
+    parted(marked_rack(alloc, 2, 2, 2), &[place(1, 1)], &[])
 }
 
 /// A block of the rest, if it is there.
@@ -297,56 +359,125 @@ fn pull_all<M: WireMaker, S: WordStore>(
     addresses.len()
 }
 
-#[test]
-fn blocks_are_stores(rt: HostRuntime) -> Result<(), Fail> {
-    let mut parted = parted(rt.alloc())?;
-    for bay in &mut parted.bays {
-        assert_eq!(rt; bay.write_word(0x8000_080c, 9), Ok(()));
-        assert_eq!(rt; bay.write_word(0x8000_0804, 9), Err(StoreFault::Outside));
-        assert_eq!(rt; bay.read_word(0x8000_080d), Err(StoreFault::Misaligned));
-        let mut wire = PlainWire::new();
-        assert_eq!(rt; peeked(&mut wire, bay, 0x8000_080c), Some(9));
-        assert_eq!(rt; peeked(&mut wire, bay, 0x8000_0808), Some(0x0001_0100));
+/// Whether a lent block is written and read as a store.
+fn bay_is_store(bay: &mut Bay) -> bool {
+    let written = [
+        bay.write_word(0x8000_080c, 9),
+        bay.write_word(0x8000_0804, 9),
+    ];
+    let misaligned = bay.read_word(0x8000_080d);
+    let mut wire = PlainWire::new();
+    let words = [
+        peeked(&mut wire, bay, 0x8000_080c),
+        peeked(&mut wire, bay, 0x8000_0808),
+    ];
+    written == [Ok(()), Err(StoreFault::Outside)]
+        && misaligned == Err(StoreFault::Misaligned)
+        && words == [Some(9), Some(0x0001_0100)]
+}
+
+/// Whether each lent block is so.
+fn bays_are_stores(bays: &mut [Bay]) -> bool {
+    for bay in bays {
+        if !bay_is_store(bay) {
+            return false;
+        }
     }
-    assert!(rt; rest_store(&parted.rest, place(1, 1)).is_none());
-    let Some(mut store) = rest_store(&parted.rest, place(0, 1)) else {
-        return Err(Fail::from("no block"));
-    };
-    assert_eq!(rt; store.read_word(0x8000_080c), Ok(0x0000_0101));
-    assert_eq!(rt; store.read_word(0x8000_0804), Err(StoreFault::Outside));
-    assert_eq!(rt; store.read_word(0x8000_080d), Err(StoreFault::Misaligned));
-    assert_eq!(rt; store.write_word(0x8000_080c, 9), Err(StoreFault::Outside));
-    assert_eq!(rt; store.write_word(0x8000_080d, 9), Err(StoreFault::Outside));
-    Ok(())
+    true
+}
+
+/// Whether a block of the rest is read as a store, and takes no writes.
+fn is_read_alone(store: &mut RestStore<'_>) -> bool {
+    let words = [
+        store.read_word(0x8000_080c),
+        store.read_word(0x8000_0804),
+        store.read_word(0x8000_080d),
+    ];
+    let written = [
+        store.write_word(0x8000_080c, 9),
+        store.write_word(0x8000_080d, 9),
+    ];
+    words
+        == [
+            Ok(0x0000_0101),
+            Err(StoreFault::Outside),
+            Err(StoreFault::Misaligned),
+        ]
+        && written == [Err(StoreFault::Outside), Err(StoreFault::Outside)]
+}
+
+/// Whether the block of the rest is so, and the lent one is none of its stores.
+fn rest_is_store(rest: &Rest) -> bool {
+    match rest_store(rest, place(0, 1)) {
+        Some(mut store) => { is_read_alone(&mut store) && rest_store(rest, place(1, 1)).is_none() }
+        None => false,
+    }
+}
+
+/// Whether a rack's blocks are stores, lent or not.
+fn lent_and_left_are_stores(alloc: Global) -> bool {
+    match lent_block(alloc) {
+        Some(mut parted) => bays_are_stores(&mut parted.bays) && rest_is_store(&parted.rest),
+        None => false,
+    }
 }
 
 #[test]
-fn words_are_pushed_into_a_bay(rt: HostRuntime) -> Result<(), Fail> {
-    let mut parted = parted(rt.alloc())?;
-    let shape = parted.rest.shape();
+fn blocks_are_stores(rt: HostRuntime) {
+    assert!(rt; lent_and_left_are_stores(rt.alloc()));
+}
+
+/// Whether words are pushed into a bay, as many as a wire carries.
+fn is_pushed_into(shape: Shape, bay: &mut Bay) -> bool {
     let stops = FuseWires {
         transfer: 0,
         bytes: 14,
     };
-    for bay in &mut parted.bays {
-        assert_eq!(rt; push_all(&stops, shape, bay, &[5, 6]), 1);
-        assert_eq!(rt; (bay.word(0), bay.word(1)), (Some(5), Some(0x0001_0101)));
-        for (bytes, moved) in MOVED {
-            let lines = FuseWires { transfer: 0, bytes };
-            assert_eq!(rt; push_all(&lines, shape, bay, &[5, 6]), moved);
+    let moved = push_all(&stops, shape, bay, &[5, 6]);
+    let words = [bay.word(0), bay.word(1)];
+    moved == 1
+        && words == [Some(5), Some(0x0001_0101)]
+        && as_many_are_pushed(shape, bay)
+        && push_all(&PlainWires, shape, bay, &[7, 8]) == 2
+        && [bay.word(0), bay.word(1)] == [Some(7), Some(8)]
+}
+
+/// Whether as many words are pushed as `MOVED` says.
+fn as_many_are_pushed(shape: Shape, bay: &mut Bay) -> bool {
+    for (bytes, moved) in MOVED {
+        let lines = FuseWires { transfer: 0, bytes };
+        if push_all(&lines, shape, bay, &[5, 6]) != moved {
+            return false;
         }
-        assert_eq!(rt; push_all(&PlainWires, shape, bay, &[7, 8]), 2);
-        assert_eq!(rt; (bay.word(0), bay.word(1)), (Some(7), Some(8)));
     }
-    Ok(())
+    true
+}
+
+/// Whether words are pushed so into each bay.
+fn are_pushed_into(shape: Shape, bays: &mut [Bay]) -> bool {
+    for bay in bays {
+        if !is_pushed_into(shape, bay) {
+            return false;
+        }
+    }
+    true
+}
+
+/// Whether they are pushed into the lent block of a rack.
+fn lent_block_is_pushed_into(alloc: Global) -> bool {
+    match lent_block(alloc) {
+        Some(mut parted) => are_pushed_into(parted.rest.shape(), &mut parted.bays),
+        None => false,
+    }
 }
 
 #[test]
-fn words_are_pulled_into_a_bay(rt: HostRuntime) -> Result<(), Fail> {
-    let Parted { rest, mut bays } = parted(rt.alloc())?;
-    let Some(mut store) = rest_store(&rest, place(0, 1)) else {
-        return Err(Fail::from("no block"));
-    };
+fn words_are_pushed_into_a_bay(rt: HostRuntime) {
+    assert!(rt; lent_block_is_pushed_into(rt.alloc()));
+}
+
+/// Whether words of a block of the rest are pulled into a bay, as many as a wire carries.
+fn is_pulled_into(store: &mut RestStore<'_>, bay: &mut Bay) -> bool {
     let stops = FuseWires {
         transfer: 0,
         bytes: 7,
@@ -355,23 +486,50 @@ fn words_are_pulled_into_a_bay(rt: HostRuntime) -> Result<(), Fail> {
         transfer: 1,
         bytes: 0,
     };
-    for bay in &mut bays {
-        assert_eq!(rt; pull_all(&stops, &mut store, &ADDRESSES, bay), 0);
-        assert_eq!(rt;
-            (bay.word(0), bay.word(1)),
-            (Some(0x0001_0100), Some(0x0001_0101))
-        );
-        for (bytes, moved) in MOVED {
-            let lines = FuseWires { transfer: 0, bytes };
-            assert_eq!(rt; pull_all(&lines, &mut store, &ADDRESSES, bay), moved);
+    let moved = pull_all(&stops, store, &ADDRESSES, bay);
+    let words = [bay.word(0), bay.word(1)];
+    moved == 0
+        && words == [Some(0x0001_0100), Some(0x0001_0101)]
+        && as_many_are_pulled(store, bay)
+        && pull_all(&goes_on, store, &ADDRESSES, bay) == 2
+        && [bay.word(0), bay.word(1)] == [Some(0x0000_0100), Some(0x0000_0101)]
+}
+
+/// Whether as many words are pulled as `MOVED` says.
+fn as_many_are_pulled(store: &mut RestStore<'_>, bay: &mut Bay) -> bool {
+    for (bytes, moved) in MOVED {
+        let lines = FuseWires { transfer: 0, bytes };
+        if pull_all(&lines, store, &ADDRESSES, bay) != moved {
+            return false;
         }
-        assert_eq!(rt; pull_all(&goes_on, &mut store, &ADDRESSES, bay), 2);
-        assert_eq!(rt;
-            (bay.word(0), bay.word(1)),
-            (Some(0x0000_0100), Some(0x0000_0101))
-        );
     }
-    Ok(())
+    true
+}
+
+/// Whether words of a block of the rest are pulled so into each bay.
+fn are_pulled_into(rest: &Rest, bays: &mut [Bay]) -> bool {
+    let Some(mut store) = rest_store(rest, place(0, 1)) else {
+        return false;
+    };
+    for bay in bays {
+        if !is_pulled_into(&mut store, bay) {
+            return false;
+        }
+    }
+    true
+}
+
+/// Whether they are pulled into the lent block of a rack.
+fn lent_block_is_pulled_into(alloc: Global) -> bool {
+    match lent_block(alloc) {
+        Some(mut parted) => are_pulled_into(&parted.rest, &mut parted.bays),
+        None => false,
+    }
+}
+
+#[test]
+fn words_are_pulled_into_a_bay(rt: HostRuntime) {
+    assert!(rt; lent_block_is_pulled_into(rt.alloc()));
 }
 
 #[test]
@@ -381,46 +539,63 @@ fn messages_have_their_sizes(rt: HostRuntime) {
 }
 
 #[test]
-fn faults_are_printed(rt: HostRuntime) -> Result<(), Fail> {
-    let boot = AnswerFault::Boot(2).to_string(rt.alloc())?;
-    assert_eq!(rt; boot.as_str(), "no bootstrap is taken, of 2 bytes");
-    let failed = AnswerFault::Failed.to_string(rt.alloc())?;
-    assert_eq!(rt; failed.as_str(), "the answering end has failed");
-    let outside = StoreFault::Outside.to_string(rt.alloc())?;
-    assert_eq!(rt; outside.as_str(), "the address is outside the store");
-    assert_eq!(rt;
-        WireFault.to_string(rt.alloc())?.as_str(),
-        "the wire failed"
+fn faults_are_printed(rt: HostRuntime) {
+    let alloc = rt.alloc();
+    assert!(rt;
+        prints(
+            alloc,
+            &AnswerFault::Boot(2),
+            "no bootstrap is taken, of 2 bytes"
+        )
     );
-    Ok(())
+    assert!(rt; prints(alloc, &AnswerFault::Failed, "the answering end has failed"));
+    assert!(rt;
+        prints(
+            alloc,
+            &StoreFault::Outside,
+            "the address is outside the store"
+        )
+    );
+    assert!(rt; prints(alloc, &WireFault, "the wire failed"));
+}
+
+/// Whether the only block of a held module is peeked and read in the hold window alone, and takes no writes.
+fn is_held_in_window(store: &mut HeldStore<'_>) -> bool {
+    let mut answerer = Answerer::new();
+    let answer = feed_all(&mut answerer, store, &[1, 0x00, 0x08, 0x01, 0x80]);
+    let outside = first_fault(store, &[1, 0x00, 0x08, 0x00, 0x80]);
+    let words = [
+        store.read_word(0x8001_07fc),
+        store.read_word(0x8001_0801),
+        store.read_word(0x8001_0804),
+    ];
+    let written = store.write_word(0x8001_0800, 7);
+    answer == Some(Ok(Some([0, 0, 1, 0])))
+        && outside == Some((4, AnswerFault::Outside))
+        && words == [Err(StoreFault::Outside); 3]
+        && written == Err(StoreFault::Outside)
+        && store.read_word(0x8001_0800) == Ok(0x0001_0000)
+}
+
+/// Whether module 1 of a rack `2x1x1` is held so, and no other.
+fn module_1_has_a_window(rest: &Rest) -> bool {
+    let others = HeldStore::of(rest, place(0, 0)).is_none()
+        && HeldStore::of(rest, place(2, 0)).is_none();
+    match HeldStore::of(rest, place(1, 0)) {
+        Some(mut store) => others && is_held_in_window(&mut store),
+        None => false,
+    }
+}
+
+/// Whether that is so of a marked rack.
+fn held_module_has_a_window(alloc: Global) -> bool {
+    match parted(marked_rack(alloc, 2, 1, 1), &[place(1, 0)], &[place(1, 0)]) {
+        Some(parted) => module_1_has_a_window(&parted.rest),
+        None => false,
+    }
 }
 
 #[test]
-fn hold_window(rt: HostRuntime) -> Result<(), Fail> {
-    let mut rack = Rack::new(rt.alloc(), Shape::new(2, 1, 1)?)?;
-    rack.mark();
-    let Ok(Parted { rest, .. }) = rack.part(&[place(1, 0)], &[place(1, 0)]) else {
-        return Err(Fail::from("not parted"));
-    };
-    assert!(rt; HeldStore::of(&rest, place(0, 0)).is_none());
-    assert!(rt; HeldStore::of(&rest, place(2, 0)).is_none());
-    let Some(mut store) = HeldStore::of(&rest, place(1, 0)) else {
-        return Err(Fail::from("not held"));
-    };
-    let mut answerer = Answerer::new();
-    for byte in [1, 0x00, 0x08, 0x01] {
-        assert_eq!(rt; answerer.feed(&mut store, byte), Ok(None));
-    }
-    assert_eq!(rt; answerer.feed(&mut store, 0x80), Ok(Some([0, 0, 1, 0])));
-    let mut answerer = Answerer::new();
-    for byte in [1, 0x00, 0x08, 0x00] {
-        assert_eq!(rt; answerer.feed(&mut store, byte), Ok(None));
-    }
-    assert_eq!(rt; answerer.feed(&mut store, 0x80), Err(AnswerFault::Outside));
-    assert_eq!(rt; store.read_word(0x8001_07fc), Err(StoreFault::Outside));
-    assert_eq!(rt; store.read_word(0x8001_0801), Err(StoreFault::Outside));
-    assert_eq!(rt; store.read_word(0x8001_0804), Err(StoreFault::Outside));
-    assert_eq!(rt; store.write_word(0x8001_0800, 7), Err(StoreFault::Outside));
-    assert_eq!(rt; store.read_word(0x8001_0800), Ok(0x0001_0000));
-    Ok(())
+fn hold_window(rt: HostRuntime) {
+    assert!(rt; held_module_has_a_window(rt.alloc()));
 }
