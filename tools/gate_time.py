@@ -99,7 +99,7 @@ def row(words):
 
 
 def table(meter, order):
-    """The table, a row for each crate in this order and one for the sums."""
+    """The table, a row for each crate in this order, and one for the sums."""
     lines = [row(["Crate", *(it[0].upper() + it[1:] for it in STEPS), "Checks of edits", "Sum"]), "|---|" + "---:|" * (len(STEPS) + 2)]
     sums = collections.Counter()
     for crate in [*order, ""]:
@@ -121,7 +121,11 @@ def main():
     meter, began = Meter(), time.time()
     rt = rt_module()
     plain, subprocess.Popen = subprocess.Popen, counted(meter)
-    status = rt.main(["ci"])
+    try:
+        status = rt.main(["ci"])
+    except KeyboardInterrupt:
+        # (what has ended by then is in the table)
+        status = 130
     subprocess.Popen = plain
     gate, lines, total = time.time() - began, [], sum(meter.seconds.values()) + sum(os.times()[:2])
     for it in OTHERS:
