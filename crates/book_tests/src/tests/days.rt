@@ -1,19 +1,17 @@
 //! Whole days of an exchange: each session calls in a thread of its own, and then all seats are given back.
 
-ghost use Rattle.std.specs.Prelude.{◌≡◌, ◌<◌, ◌≤◌, IfSome, All, Some};
-ghost use Rattle.schedule_certificate.specs.declared.limits.TheConstants.{MAX_WORKERS};
+ghost use Rattle.std.specs.Prelude.{◌≡◌, ◌<◌, IfSome, All, Some};
 ghost use Rattle.progress_word.specs.declared.limits.TheConstants.{ALL_PARTS};
 ghost use Rattle.batch_book.specs.History.{IsLegal};
 ghost use Rattle.batch_book.specs.Seats.{Agrees};
 
-use super::office::{FIRST, call_of};
+use super::office::{FIRST, ask_of};
 use super::pairs::{marked, plant};
 use batch_book::{Call, Closed, Entry, Reply, Seat, Shared};
 use crossbar::{ConfigPort, MemoryPort};
 use module_memory::Rack;
 use peek_poke::{FuseWires, WireMaker};
-use schedule_certificate::{Gate, MAX_WORKERS, OpenGate};
-use setting_runner::Plant;
+use schedule_certificate::{Gate, OpenGate};
 use std::alloc::Global;
 use std::marker::Brand;
 use std::sync::Wait;
@@ -129,7 +127,7 @@ fn mix<
         }
         Next::Ask(kind, text, module) => {
             let id = last_accepted(seat.log());
-            if let Some(call) = call_of(rt, kind, text, id, module) {
+            if let Some(call) = ask_of(kind, text, id, module).call(rt) {
                 shared.call(rt, seat, call);
             }
         }
@@ -169,28 +167,26 @@ fn session<
 }
 
 /// The sessions at once, each in a thread. Then the history is legal, and has of each session what it asked.
-fn day<
-    L: Ledger + Send + Sync,
-    P: ConfigPort + Send + Drop,
-    W: WireMaker + Send + Sync + Drop,
-    G: Gate + Send + Sync + Drop,
-    R: AllocGlobal + Threads + Wait + Sync,
->(
+fn day<L: Ledger + Send + Sync, R: AllocGlobal + Threads + Wait + Sync>(
     rt: &R,
     blank: Blank,
     rack: Rack,
-    plant: Plant<P, W, G>,
     sessions: usize,
     work: Work,
-) -> Option<Closed<L, P, W, G>>
+) -> Option<Closed<L, MemoryPort, FuseWires, OpenGate>>
     requires name { blank.name ≡ L.name }
     requires parts { (blank.parts ≡ L.parts) × (blank.parts ≡ ALL_PARTS) }
-    requires some { 1 ≤ plant.workers }
-    requires few { plant.workers ≤ MAX_WORKERS }
     ensures legal { IfSome result (λ c. IsLegal c.book.opening c.book.history) }
     ensures filters { IfSome result (λ c. All (Agrees c.book.history) c.seats.items) }
 {
-    let made = Shared::<L, P, W, G>::new(rt.alloc(), blank, rack, plant, sessions);
+    let plant = plant(CUT_SECOND);
+    let made = Shared::<L, MemoryPort, FuseWires, OpenGate>::new(
+        rt.alloc(),
+        blank,
+        rack,
+        plant,
+        sessions,
+    );
     let Ok((shared, seats)) = made else {
         return None;
     };
@@ -252,10 +248,7 @@ fn spend<L: Ledger + Send + Sync, R: AllocGlobal + Threads + Wait + Sync>(
     requires name { blank.name ≡ L.name }
     requires parts { (blank.parts ≡ L.parts) × (blank.parts ≡ ALL_PARTS) }
 {
-    let plant = plant(CUT_SECOND);
-    let closed = day::<L, MemoryPort, FuseWires, OpenGate, R>(
-        rt, blank, rack, plant, sessions, work,
-    )?;
+    let closed = day::<L, R>(rt, blank, rack, sessions, work)?;
     Some(remains_of(closed.book.history()))
 }
 

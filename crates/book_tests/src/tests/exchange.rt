@@ -134,37 +134,55 @@ fn stopped<L: Ledger, R: AllocGlobal + Threads + Wait + Sync>(
         && pair.read_second() == reading(1, 1)
 }
 
+/// An exchange isn't closed where one of its seats is missing, and goes on. With both it is.
+fn seat_missing<L: Ledger, R: AllocGlobal + Threads + Wait + Sync>(
+    rt: &R,
+    pair: Pair<L, FuseWires>,
+) -> Option<bool>
+    requires { L.parts ≡ ALL_PARTS }
+{
+    let mut pair = pair;
+    let poked = pair.ask(rt, Call::Poke(0, FIRST, 5));
+    let mut pair = close_without_second(rt.alloc(), pair)?;
+    let is_so = poked == Said::Poked
+        && pair.ask_second(rt, Call::Peek(0, FIRST)) == Said::Word(5)
+        && marked_rack(rt, &mut pair);
+    Some(is_so && close(rt.alloc(), pair).is_some())
+}
+
+/// Whether what a row says is so, of a new exchange.
+fn is_so<L: Ledger, R: AllocGlobal + Threads + Wait + Sync>(
+    rt: &R,
+    pair: &mut Pair<L, FuseWires>,
+    row: Row,
+) -> bool {
+    match row {
+        Row::OneScript => one_script(rt, pair),
+        Row::MarkedRack | Row::SeatMissing => marked_rack(rt, pair),
+        Row::NoRunYet => no_run_yet(rt, pair),
+        Row::EachReading => each_reading(rt, pair),
+        Row::StoppedInItsSecondSetting => stopped(rt, pair),
+    }
+}
+
 /// Whether what a row says is so, and the exchange closes behind it.
 fn holds<L: Ledger, R: AllocGlobal + Threads + Wait + Sync>(
     rt: &R,
     blank: Blank,
     rack: Rack,
     row: Row,
-) -> bool
+) -> Option<bool>
     requires name { blank.name ≡ L.name }
     requires parts { (blank.parts ≡ L.parts) × (blank.parts ≡ ALL_PARTS) }
 {
-    let Some(mut pair) = open_pair::<L, FuseWires>(rt.alloc(), blank, rack, CUT_SECOND) else {
-        return false;
-    };
-    let is_so = match row {
-        Row::OneScript => one_script(rt, &mut pair),
-        Row::MarkedRack => marked_rack(rt, &mut pair),
-        Row::NoRunYet => no_run_yet(rt, &mut pair),
-        Row::EachReading => each_reading(rt, &mut pair),
-        Row::StoppedInItsSecondSetting => stopped(rt, &mut pair),
-        Row::SeatMissing => {
-            let poked = pair.ask(rt, Call::Poke(0, FIRST, 5));
-            let Some(back) = close_without_second(rt.alloc(), pair) else {
-                return false;
-            };
-            pair = back;
-            poked == Said::Poked
-                && pair.ask_second(rt, Call::Peek(0, FIRST)) == Said::Word(5)
-                && marked_rack(rt, &mut pair)
-        }
-    };
-    is_so && close(rt.alloc(), pair).is_some()
+    let mut pair = open_pair::<L, FuseWires>(rt.alloc(), blank, rack, CUT_SECOND)?;
+    if !is_so(rt, &mut pair, row) {
+        return Some(false);
+    }
+    match row {
+        Row::SeatMissing => seat_missing(rt, pair),
+        _ => Some(close(rt.alloc(), pair).is_some()),
+    }
 }
 
 /// Whether a row holds of an exchange on a marked rack.
@@ -172,7 +190,7 @@ fn holds_of<R: AllocGlobal + Threads + Wait + Sync>(rt: &R, row: Row) -> bool {
     let Some(rack) = marked(rt.alloc(), row.shape()) else {
         return false;
     };
-    holds::<Brand, R>(rt, Blank::new(16), rack, row)
+    holds::<Brand, R>(rt, Blank::new(16), rack, row) == Some(true)
 }
 
 #[test]

@@ -37,7 +37,7 @@ struct Full {
     zeros: usize,
     poked: Said,
     history: usize,
-    log: usize,
+    log: Option<usize>,
     word: Option<u32>,
 }
 
@@ -53,28 +53,31 @@ fn fill<L: Ledger, R: AllocGlobal + Threads + Wait + Sync>(
     let zeros = peek(rt, &mut single, MAX_ENTRIES);
     let poked = single.ask(rt, Call::Poke(0, FIRST, 1));
     let closed = close_single(rt.alloc(), single)?;
-    let seat = closed.seats.first()?;
+    let log = match closed.seats.first() {
+        Some(seat) => Some(seat.log().len()),
+        None => None,
+    };
     Some(Full {
         zeros,
         poked,
         history: closed.book.history().len(),
-        log: seat.log().len(),
+        log,
         word: closed.book.rack().read(0, FIRST).ok(),
     })
 }
 
-fn fill_of<R: AllocGlobal + Threads + Wait + Sync>(rt: &R, rack: Rack) -> Option<Full> {
+/// The one word of a marked rack of one module is 0.
+fn fill_of<R: AllocGlobal + Threads + Wait + Sync>(rt: &R) -> Option<Full> {
+    let rack = marked(rt.alloc(), "1x1x1")?;
     fill::<Brand, R>(rt, Blank::new(16), rack)
 }
 
-/// The one word of a marked rack of one module is 0.
 #[test]
 fn a_full_history_takes_no_poke(rt: HostRuntime) -> Result<(), Fail> {
-    let rack = marked(rt.alloc(), "1x1x1").ok_or("no memory")?;
-    let full = fill_of(&rt, rack).ok_or("not closed")?;
+    let full = fill_of(&rt).ok_or("not closed")?;
     assert_eq!(rt; full.zeros, 65536);
     assert_eq!(rt; full.poked, Said::Refused(Refusal::HistoryFull));
-    assert_eq!(rt; (full.history, full.log), (65536, 65536));
+    assert_eq!(rt; (full.history, full.log), (65536, Some(65536)));
     assert_eq!(rt; full.word, Some(0));
     Ok(())
 }

@@ -1,8 +1,10 @@
 //! A book with what its runs need, and what it answers as plain values.
 
+ghost use Rattle.std.specs.Prelude.{◌<◌};
+
 use batch::{Batch, Shape};
 use batch_book::{BatchState, Book, Call, Refusal, Reply};
-use crossbar::MemoryPort;
+use crossbar::{Chip, MemoryPort};
 use module_memory::Rack;
 use peek_poke::FuseWires;
 use schedule_certificate::{OpenGate, Planned, schedule};
@@ -98,56 +100,104 @@ pub fn plan<R: AllocGlobal + Threads + Sync>(rt: &R, text: &str) -> Option<Plann
     schedule(rt, rt.alloc(), batch, 1, &OpenGate).ok()
 }
 
-/// A call of one of eight kinds. Those that name a batch name this one.
-pub fn call_of<R: AllocGlobal + Threads + Sync>(
-    rt: &R,
-    kind: usize,
-    text: &str,
-    id: usize,
-    module: usize,
-) -> Option<Call> {
-    Some(match kind {
-        0 => Call::Submit(batch(rt.alloc(), text)?),
-        1 => Call::Fetch(id),
-        2 => Call::Settle(id, plan(rt, text)?),
-        3 => Call::Run(id),
-        4 => Call::Show(id),
-        5 => Call::Discard(id),
-        6 => Call::Peek(module, FIRST),
-        _ => Call::Poke(module, FIRST, 7),
-    })
+/// What is asked by a call of one of eight kinds. Those that name a batch name this one.
+pub fn ask_of(kind: usize, text: &'static str, id: usize, module: usize) -> Ask {
+    match kind {
+        0 => Ask::Submit(text),
+        1 => Ask::Fetch(id),
+        2 => Ask::Settle(id, text),
+        3 => Ask::Run(id),
+        4 => Ask::Show(id),
+        5 => Ask::Discard(id),
+        6 => Ask::Peek(module, FIRST),
+        _ => Ask::Poke(module, FIRST, 7),
+    }
 }
 
-/// A plant with wires that don't fail.
-fn plain() -> Plant<MemoryPort, FuseWires, OpenGate> {
+/// What a session asks, by texts and numbers.
+#[derive(Clone, Copy)]
+pub enum Ask {
+    Submit(&'static str),
+    Fetch(usize),
+    Settle(usize, &'static str),
+    Run(usize),
+    Show(usize),
+    Discard(usize),
+    Peek(usize, u32),
+    Poke(usize, u32, u32),
+}
+
+impl Ask {
+    /// The call.
+    pub fn call<R: AllocGlobal + Threads + Sync>(self, rt: &R) -> Option<Call> {
+        Some(match self {
+            Ask::Submit(text) => Call::Submit(batch(rt.alloc(), text)?),
+            Ask::Fetch(id) => Call::Fetch(id),
+            Ask::Settle(id, text) => Call::Settle(id, plan(rt, text)?),
+            Ask::Run(id) => Call::Run(id),
+            Ask::Show(id) => Call::Show(id),
+            Ask::Discard(id) => Call::Discard(id),
+            Ask::Peek(module, address) => Call::Peek(module, address),
+            Ask::Poke(module, address, word) => Call::Poke(module, address, word),
+        })
+    }
+}
+
+/// A session, what it asks, and what it is answered.
+pub type Row = (usize, Ask, Said);
+
+/// What a book leaves behind some rows.
+#[derive(Clone, Copy)]
+pub struct Left {
+    /// The first row that was answered otherwise.
+    pub wrong: Option<usize>,
+    /// How many calls the history has.
+    pub entries: usize,
+    /// How often the notice was told, what it was told last, and whether it was told 0, 1 and so on in each run.
+    pub times: usize,
+    pub last: usize,
+    pub in_order: bool,
+    /// The first two words of modules 0 and 1.
+    pub words: [Option<u32>; 4],
+    /// The first word of module 0 in the rack that the book was opened with.
+    pub opened: Option<u32>,
+    /// Whether the switch joins modules 0 and 1, and 0 and 2.
+    pub joins: [bool; 2],
+}
+
+/// A plant with these wires.
+fn plant_of(wires: FuseWires) -> Plant<MemoryPort, FuseWires, OpenGate> {
     Plant {
         port: MemoryPort::new(),
-        wires: FuseWires {
-            transfer: NO_TRANSFER,
-            bytes: 0,
-        },
+        wires,
         gate: OpenGate,
         workers: 1,
     }
 }
 
+/// Wires that don't fail.
+pub const NO_FUSE: FuseWires = FuseWires {
+    transfer: NO_TRANSFER,
+    bytes: 0,
+};
+
 /// A book with what its runs need.
 #[derive(Drop)]
 pub struct Office {
     pub book: Book,
-    pub plant: Plant<MemoryPort, FuseWires, OpenGate>,
-    pub told: Told,
+    plant: Plant<MemoryPort, FuseWires, OpenGate>,
+    told: Told,
 }
 
 impl Office {
-    /// A book of a rack of this shape, with wires that don't fail.
-    pub fn new(alloc: Global, shape: &str) -> Option<Office> {
+    /// A book of a rack of this shape, with these wires.
+    pub fn new(alloc: Global, shape: &str, wires: FuseWires) -> Option<Office> {
         let shape = Shape::read(shape.as_bytes()).ok()?;
         let rack = Rack::new(alloc, shape).ok()?;
         let book = Book::new(alloc, rack).ok()?;
         Some(Office {
             book,
-            plant: plain(),
+            plant: plant_of(wires),
             told: Told {
                 times: 0,
                 last: 0,
@@ -157,7 +207,7 @@ impl Office {
     }
 
     /// One call of a session.
-    pub fn ask<R: Threads + Sync>(&mut self, rt: &R, session: usize, call: Call) -> Said {
+    pub fn call<R: Threads + Sync>(&mut self, rt: &R, session: usize, call: Call) -> Said {
         self.plant.workers = 1;
         let reply = self
             .book
@@ -165,39 +215,31 @@ impl Office {
         Said::of(&reply)
     }
 
-    /// A session submits the batch of a text.
-    pub fn submit<R: AllocGlobal + Threads + Sync>(
+    /// What a session asks, and is answered.
+    pub fn ask<R: AllocGlobal + Threads + Sync>(
         &mut self,
         rt: &R,
         session: usize,
-        text: &str,
+        ask: Ask,
     ) -> Said {
-        match batch(rt.alloc(), text) {
-            Some(batch) => self.ask(rt, session, Call::Submit(batch)),
+        match ask.call(rt) {
+            Some(call) => self.call(rt, session, call),
             None => Said::NotAsked,
         }
     }
 
-    /// A session hands in the plan of a text for a batch.
-    pub fn settle<R: AllocGlobal + Threads + Sync>(
+    /// The first of these rows that is answered otherwise. Those behind it aren't asked.
+    pub fn first_wrong<R: AllocGlobal + Threads + Sync>(
         &mut self,
         rt: &R,
-        session: usize,
-        id: usize,
-        text: &str,
-    ) -> Said {
-        match plan(rt, text) {
-            Some(planned) => self.ask(rt, session, Call::Settle(id, planned)),
-            None => Said::NotAsked,
+        rows: &[Row],
+    ) -> Option<usize> {
+        for (place, (session, ask, said)) in rows.iter().enumerate() {
+            if self.ask(rt, *session, *ask) != *said {
+                return Some(place);
+            }
         }
-    }
-
-    /// How far a batch of session 0 has come, if the session has it. That call is in the history.
-    pub fn state<R: Threads + Sync>(&mut self, rt: &R, id: usize) -> Option<BatchState> {
-        match self.ask(rt, 0, Call::Show(id)) {
-            Said::Shown(_, state) => Some(state),
-            _ => None,
-        }
+        None
     }
 
     /// How many calls the history has.
@@ -206,7 +248,45 @@ impl Office {
     }
 
     /// The word at an address of a module of the rack.
-    pub fn word(&self, module: usize, address: u32) -> Option<u32> {
+    fn word(&self, module: usize, address: u32) -> Option<u32> {
         self.book.rack().read(module, address).ok()
     }
+
+    /// Whether the switch joins modules 0 and this.
+    fn joins(&self, other: u8) -> bool
+        requires { other < 16 }
+    {
+        self.plant.port.crossbar(Chip::A).joined(0, other)
+    }
+
+    /// What the book leaves, of whose rows this one was answered otherwise.
+    pub fn left(&self, wrong: Option<usize>) -> Left {
+        Left {
+            wrong,
+            entries: self.entries(),
+            times: self.told.times,
+            last: self.told.last,
+            in_order: self.told.in_order,
+            words: [
+                self.word(0, FIRST),
+                self.word(0, FIRST + 4),
+                self.word(1, FIRST),
+                self.word(1, FIRST + 4),
+            ],
+            opened: self.book.opening().read(0, FIRST).ok(),
+            joins: [self.joins(1), self.joins(2)],
+        }
+    }
+}
+
+/// What a book of a rack of this shape, with these wires, leaves behind these rows.
+pub fn left_by<R: AllocGlobal + Threads + Sync>(
+    rt: &R,
+    shape: &str,
+    wires: FuseWires,
+    rows: &[Row],
+) -> Option<Left> {
+    let mut office = Office::new(rt.alloc(), shape, wires)?;
+    let wrong = office.first_wrong(rt, rows);
+    Some(office.left(wrong))
 }

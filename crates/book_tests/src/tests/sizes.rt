@@ -84,7 +84,10 @@ fn text_of(alloc: Global, fault: SharedFault) -> Option<String> {
 
 /// Whether it is told so.
 fn is_told(alloc: Global, fault: SharedFault, want: &str) -> bool {
-    text_of(alloc, fault).is_some_and(|text| text.as_str() == want)
+    match text_of(alloc, fault) {
+        Some(text) => text.as_str() == want,
+        None => false,
+    }
 }
 
 #[test]

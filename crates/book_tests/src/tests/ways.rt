@@ -205,6 +205,13 @@ struct Words {
     left: [u32; 2],
 }
 
+fn words_in(book: &Book) -> Option<Words> {
+    Some(Words {
+        opening: first_words(book.opening())?,
+        left: first_words(book.rack())?,
+    })
+}
+
 fn words_of<L: Ledger, R: AllocGlobal + Threads + Wait + Sync>(
     rt: &R,
     blank: Blank,
@@ -217,10 +224,7 @@ fn words_of<L: Ledger, R: AllocGlobal + Threads + Wait + Sync>(
     let _poked = pair.ask(rt, Call::Poke(0, FIRST, 7));
     let _poked = pair.ask(rt, Call::Poke(1, FIRST, 8));
     let closed = close(rt.alloc(), pair)?;
-    Some(Words {
-        opening: first_words(closed.book.opening())?,
-        left: first_words(closed.book.rack())?,
-    })
+    words_in(&closed.book)
 }
 
 fn words_behind<R: AllocGlobal + Threads + Wait + Sync>(rt: &R, rack: Rack) -> Option<Words> {
