@@ -12,7 +12,7 @@ mod fault;
 mod input;
 pub mod laws;
 mod limits;
-mod reply_line;
+pub mod reply_line;
 mod serving;
 mod turns;
 
@@ -20,6 +20,3 @@ pub use command::Command;
 pub use fault::ServeFault;
 pub use limits::{LINE_BYTES, MAX_READS};
 pub use serving::serve;
-
-#[cfg(test)]
-mod tests;

@@ -1,4 +1,5 @@
-//! The reply lines.
+//! The reply lines, with their line feeds. They are public for whoever serves sessions over something else than a reader
+//! and a writer.
 
 ghost use Rattle.std.specs.Prelude.{◌≡◌, ◌≤◌, ◌<◌, ◌+◌, ◌*◌, ◌++◌, ◌∷◌, length, flat_map, codes};
 ghost use Rattle.client_session.specs.Steps.{CanBeTold};
@@ -44,7 +45,7 @@ fn refusal_text(refusal: Refusal) -> &'static [u8]
 }
 
 /// The line of a refusal in these words.
-pub(crate) fn refused(words: &[u8]) -> Line
+pub fn refused(words: &[u8]) -> Line
     requires { length words.now ≤ 20 }
     ensures { result ≡ refused_line words.now }
 {
@@ -56,7 +57,7 @@ pub(crate) fn refused(words: &[u8]) -> Line
 }
 
 /// The line of the refusal that tells of a batch text's first fault.
-pub(crate) fn batch_refused(fault: BatchFault) -> Line
+pub fn batch_refused(fault: BatchFault) -> Line
     ensures { result ≡ refused_line (batch_words fault) }
 {
     let mut line = Line::new();
@@ -135,8 +136,8 @@ fn put_moved(line: &mut Line, moved: &[(usize, usize)])
     }
 }
 
-/// Puts what is told of a stop.
-pub(crate) fn put_stopped(
+/// Puts what is told of a stop, without a line feed, into an empty line.
+pub fn put_stopped(
     line: &mut Line,
     id: usize,
     run: usize,
@@ -181,7 +182,7 @@ fn put_ran(line: &mut Line, id: usize, run: usize, settings: usize, words: usize
 }
 
 /// The line of a reply to a command that names this batch, or to one that names none.
-pub(crate) fn told(id: usize, reply: &Reply) -> Line
+pub fn told(id: usize, reply: &Reply) -> Line
     requires { CanBeTold reply.now }
     ensures { result ≡ reply_line id reply.now }
 {
@@ -237,7 +238,7 @@ pub(crate) fn told(id: usize, reply: &Reply) -> Line
 }
 
 /// The line of a reading of the progress word.
-pub(crate) fn progress(reading: Reading) -> Line
+pub fn progress(reading: Reading) -> Line
     ensures { result ≡ progress_line reading }
 {
     let mut line = Line::new();
@@ -250,7 +251,7 @@ pub(crate) fn progress(reading: Reading) -> Line
 }
 
 /// The line that a session ends with.
-pub(crate) fn bye() -> Line
+pub fn bye() -> Line
     ensures { result ≡ with_feed (codes "bye") }
 {
     let mut line = Line::new();

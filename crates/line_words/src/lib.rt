@@ -16,6 +16,3 @@ pub use hex::word_from_hex8;
 pub use limits::{HEX_DIGITS, LINE_ROOM, NUMBER_ROOM};
 pub use line::Line;
 pub use reading::{behind, hex8_and_rest, number_and_rest};
-
-#[cfg(test)]
-mod tests;

@@ -3,15 +3,18 @@
 use super::office::{Client, Ended, NO_FUSE, day_of, is_answered, saying};
 use super::rows::ONE_SCRIPT;
 use super::streams::{Full, Sink, Source};
-use crate::ServeFault;
+use client_session::ServeFault;
 use std::alloc::AllocError;
 use std::sync::Wait;
-use std::test::Fail;
 use std::thread::Threads;
 
-/// Eighty letters.
+/// A line of eighty letters.
 const LETTERS: &str =
-    "aaaaaaaaaaaaaaaaaaaaaaaaaaaaaaaaaaaaaaaaaaaaaaaaaaaaaaaaaaaaaaaaaaaaaaaaaaaaaaaa";
+    "aaaaaaaaaaaaaaaaaaaaaaaaaaaaaaaaaaaaaaaaaaaaaaaaaaaaaaaaaaaaaaaaaaaaaaaaaaaaaaaa\n";
+
+/// A line, and 81 letters.
+const LETTERS_BEHIND: &str =
+    "peek 0 80000800\naaaaaaaaaaaaaaaaaaaaaaaaaaaaaaaaaaaaaaaaaaaaaaaaaaaaaaaaaaaaaaaaaaaaaaaaaaaaaaaaa";
 
 /// How a client alone ends at an exchange of shape 1x1x1, and how many entries there are.
 fn end_of<R: AllocGlobal + Threads + Wait + Sync>(
@@ -48,6 +51,20 @@ fn deaf<R: AllocGlobal>(rt: &R, script: &'static str, room: usize, full: Full) -
     }
 }
 
+/// A client that says this, whose writer fails when it is flushed.
+fn unflushed<R: AllocGlobal>(rt: &R, script: &'static str) -> Client<'static> {
+    let mut client_of = saying(rt.alloc(), script.as_bytes());
+    client_of.sink.flush_fails = true;
+    client_of
+}
+
+/// A client that says this, whose writer takes a byte a call.
+fn slow<R: AllocGlobal>(rt: &R, script: &'static str) -> Client<'static> {
+    let mut client_of = saying(rt.alloc(), script.as_bytes());
+    client_of.sink.step = 1;
+    client_of
+}
+
 /// A client that says this, whose reader fails after so many reads of so many bytes.
 fn mute<R: AllocGlobal>(
     rt: &R,
@@ -62,21 +79,17 @@ fn mute<R: AllocGlobal>(
 }
 
 #[test]
-fn session_ends(rt: HostRuntime) -> Result<(), Fail> {
-    let alloc = rt.alloc();
+fn session_ends(rt: HostRuntime) {
     assert!(rt; is_answered(&rt, "1x1x1", "", "", None, 0));
     assert!(rt; is_answered(&rt, "1x1x1", "bye\nxyz", "bye\n", None, 0));
-    let line = format!(in alloc; "{LETTERS}\n")?;
-    assert!(rt; is_answered(&rt, "1x1x1", line.as_str(), "refused line\n", None, 0));
-    let long = format!(in alloc; "peek 0 80000800\n{LETTERS}a")?;
+    assert!(rt; is_answered(&rt, "1x1x1", LETTERS, "refused line\n", None, 0));
     let fault = Some(ServeFault::LineTooLong);
-    assert!(rt; is_answered(&rt, "1x1x1", long.as_str(), "word 00000000\n", fault, 1));
+    assert!(rt; is_answered(&rt, "1x1x1", LETTERS_BEHIND, "word 00000000\n", fault, 1));
     assert!(rt; is_answered(&rt, "1x1x1", "batch 1\n", "", Some(ServeFault::Cut), 0));
-    Ok(())
 }
 
 #[test]
-fn session_ends_by_its_reader(rt: HostRuntime) -> Result<(), Fail> {
+fn session_ends_by_its_reader(rt: HostRuntime) {
     let read = Some(ServeFault::Read);
     assert!(rt; ends_so(&rt, mute(&rt, "", 1, 0), read, 0, ""));
     let script = "peek 0 80000800\nhello\n";
@@ -95,7 +108,6 @@ fn session_ends_by_its_reader(rt: HostRuntime) -> Result<(), Fail> {
             ""
         )
     );
-    Ok(())
 }
 
 #[test]
@@ -105,7 +117,7 @@ fn nothing_is_asked_for_behind_bye(rt: HostRuntime) {
 }
 
 #[test]
-fn session_ends_by_its_writer(rt: HostRuntime) -> Result<(), Fail> {
+fn session_ends_by_its_writer(rt: HostRuntime) {
     let write = Some(ServeFault::Write);
     let script = "peek 0 80000800\nhello\n";
     assert!(rt;
@@ -138,15 +150,17 @@ fn session_ends_by_its_writer(rt: HostRuntime) -> Result<(), Fail> {
     );
     let want = "word 00000000\nrefused line\n";
     assert!(rt; ends_so(&rt, deaf(&rt, script, 27, Full::Fails), None, 1, want));
-    let nothing = deaf(&rt, script, 5, Full::TakesNothing);
-    assert!(rt; ends_so(&rt, nothing, write, 1, "word "));
-    let mut flushed = deaf(&rt, script, 100, Full::Fails);
-    flushed.sink.flush_fails = true;
-    assert!(rt; ends_so(&rt, flushed, write, 1, "word 00000000\n"));
-    let mut slow = deaf(&rt, script, 100, Full::Fails);
-    slow.sink.step = 1;
-    assert!(rt; ends_so(&rt, slow, None, 1, want));
-    Ok(())
+    assert!(rt;
+        ends_so(
+            &rt,
+            deaf(&rt, script, 5, Full::TakesNothing),
+            write,
+            1,
+            "word "
+        )
+    );
+    assert!(rt; ends_so(&rt, unflushed(&rt, script), write, 1, "word 00000000\n"));
+    assert!(rt; ends_so(&rt, slow(&rt, script), None, 1, want));
 }
 
 /// The first script of row one-script, cut after so many bytes, and the replies to its whole commands. It is whole
@@ -233,36 +247,49 @@ fn times_of(text: &[u8], line: &[u8]) -> Option<usize> {
     Some(text.len() / len)
 }
 
+/// How a client ends, how many entries there are, and how often it has heard this line, where it has heard nothing else but this last
+/// one.
+fn end_behind<R: AllocGlobal + Threads + Wait + Sync>(
+    rt: &R,
+    client_of: Client<'_>,
+    line: &[u8],
+    last: &[u8],
+) -> Option<(Option<ServeFault>, usize, Option<usize>)> {
+    let (fault, entries, written) = end_of(rt, client_of)?;
+    let times = match written.as_slice().strip_suffix(last) {
+        Some(front) => times_of(front, line),
+        None => None,
+    };
+    Some((fault, entries, times))
+}
+
 #[test]
-fn a_reader_without_end(rt: HostRuntime) -> Result<(), Fail> {
+fn a_reader_without_end(rt: HostRuntime) {
     let hello = endless(&rt, "hello\n", usize::MAX, 1);
-    let (fault, entries, written) = end_of(&rt, hello).ok_or("not closed")?;
-    assert_eq!(rt; (fault, entries), (Some(ServeFault::Turns), 0));
-    let times = times_of(written.as_slice(), b"refused line\n");
-    assert_eq!(rt; times, Some(166_666));
-    Ok(())
+    let end = end_behind(&rt, hello, b"refused line\n", b"");
+    assert!(rt; end == Some((Some(ServeFault::Turns), 0, Some(166_666))));
 }
 
 #[test]
-fn a_full_history(rt: HostRuntime) -> Result<(), Fail> {
+fn a_full_history(rt: HostRuntime) {
     let peeks = endless(&rt, "peek 0 80000800\n", 65_537, 16);
-    let (fault, entries, written) = end_of(&rt, peeks).ok_or("not closed")?;
-    assert_eq!(rt; (fault, entries), (None, 65_536));
-    let last = b"refused history full\n".as_slice();
-    let front = written.as_slice().strip_suffix(last).ok_or("no refusal")?;
-    assert_eq!(rt; times_of(front, b"word 00000000\n"), Some(65_536));
-    Ok(())
+    let end = end_behind(&rt, peeks, b"word 00000000\n", b"refused history full\n");
+    assert!(rt; end == Some((None, 65_536, Some(65_536))));
+}
+
+/// How a client ends, how many entries there are, and whether this is the last that it has heard.
+fn end_with<R: AllocGlobal + Threads + Wait + Sync>(
+    rt: &R,
+    client_of: Client<'_>,
+    last: &[u8],
+) -> Option<(Option<ServeFault>, usize, bool)> {
+    let (fault, entries, written) = end_of(rt, client_of)?;
+    Some((fault, entries, written.as_slice().ends_with(last)))
 }
 
 #[test]
-fn a_full_book(rt: HostRuntime) -> Result<(), Fail> {
+fn a_full_book(rt: HostRuntime) {
     let batches = endless(&rt, "batch 0\n", 257, 81);
-    let (fault, entries, written) = end_of(&rt, batches).ok_or("not closed")?;
-    assert_eq!(rt; (fault, entries), (None, 257));
-    assert!(rt;
-        written
-            .as_slice()
-            .ends_with(b"accepted 256\nrefused book full\n".as_slice())
-    );
-    Ok(())
+    let end = end_with(&rt, batches, b"accepted 256\nrefused book full\n");
+    assert!(rt; end == Some((None, 257, true)));
 }

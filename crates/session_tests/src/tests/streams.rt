@@ -48,7 +48,7 @@ impl Read for Source<'_> {
 }
 
 /// What a [`Sink`] does when it has no room.
-#[derive(Clone, Copy, Debug, PartialEq, Eq)]
+#[derive(Clone, Copy, PartialEq, Eq)]
 pub enum Full {
     Fails,
     TakesNothing,

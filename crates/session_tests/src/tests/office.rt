@@ -5,9 +5,9 @@ ghost use Rattle.progress_word.specs.declared.limits.TheConstants.{ALL_PARTS};
 ghost use Rattle.client_session.specs.Sessions.{seat_back};
 
 use super::streams::{Sink, Source};
-use crate::{ServeFault, serve};
 use batch::Shape;
-use batch_book::{Seat, Shared};
+use batch_book::{Closed, Seat, Shared};
+use client_session::{ServeFault, serve};
 use crossbar::MemoryPort;
 use module_memory::Rack;
 use peek_poke::FuseWires;
@@ -18,7 +18,7 @@ use std::io::{Read, Write};
 use std::marker::Brand;
 use std::sync::Wait;
 use std::sync::ledger::{Blank, Ledger};
-use std::thread::Threads;
+use std::thread::{Threads, join};
 
 /// Wires of which none has a fuse: no transfer has this number.
 pub const NO_FUSE: FuseWires = FuseWires {
@@ -84,7 +84,7 @@ fn back<L: Ledger>(ended: Result<Seat<L>, (Seat<L>, ServeFault)>) -> (Seat<L>, O
 }
 
 /// How two sessions ended, how many entries they added, and how many the history has.
-#[derive(Clone, Copy, Debug, PartialEq, Eq)]
+#[derive(Clone, Copy, PartialEq, Eq)]
 pub struct Ended {
     pub first: Option<ServeFault>,
     pub second: Option<ServeFault>,
@@ -122,48 +122,71 @@ impl<L: Ledger> Office<L> {
         (office, fault)
     }
 
+    /// The same exchange, whose first seat is the one that was the second.
+    fn turned(self) -> Office<L> {
+        let Office {
+            shared,
+            first,
+            second,
+        } = self;
+        Office {
+            shared,
+            first: second,
+            second: first,
+        }
+    }
+
     /// Serves both clients, one after the other.
     fn serve_both<R: AllocGlobal + Threads + Wait + Sync>(
         self,
         rt: &R,
         clients: &mut (Client<'_>, Client<'_>),
     ) -> (Office<L>, Option<ServeFault>, Option<ServeFault>) {
+        let (one, other) = clients;
+        let (office, first) = self.serve_first(rt, &mut one.source, &mut one.sink);
+        let office = office.turned();
+        let (office, second) = office.serve_first(rt, &mut other.source, &mut other.sink);
+        (office.turned(), first, second)
+    }
+
+    /// Serves two clients at once, each in a thread, and gives what they hear.
+    pub fn serve_at_once<
+        R: AllocGlobal + Threads + Wait + Sync,
+        I: Read + Send + Drop,
+        J: Read + Send + Drop,
+    >(self, rt: &R, reader: I, other: J) -> (Office<L>, Sink, Sink)
+    where
+        L: Send + Sync,
+    {
         let Office {
             shared,
             first,
             second,
         } = self;
-        let (one, other) = clients;
-        let ended = serve(
+        let lent = &shared;
+        let (one, two) = join(
             rt,
-            rt.alloc(),
-            &shared,
-            first,
-            &mut one.source,
-            &mut one.sink,
-            1,
+            move || -> (Seat<L>, Sink)
+                requires { first.exchange ≡ Some lent.now.word }
+                ensures { result.0.exchange ≡ first.exchange }
+            { served(rt, lent, first, reader) },
+            move || -> (Seat<L>, Sink)
+                requires { second.exchange ≡ Some lent.now.word }
+                ensures { result.0.exchange ≡ second.exchange }
+            { served(rt, lent, second, other) },
         );
-        let (first, one_fault) = back(ended);
-        let ended = serve(
-            rt,
-            rt.alloc(),
-            &shared,
-            second,
-            &mut other.source,
-            &mut other.sink,
-            1,
-        );
-        let (second, other_fault) = back(ended);
+        let (first, heard) = one;
+        let (second, other_heard) = two;
         let office = Office {
             shared,
             first,
             second,
         };
-        (office, one_fault, other_fault)
+        (office, heard, other_heard)
     }
 
-    /// Closes the exchange, and tells how many entries it has.
-    pub fn close(self, alloc: Global) -> Option<usize>
+    /// Closes the exchange.
+    pub fn close(self, alloc: Global) -> Option<Closed<L, MemoryPort, FuseWires, OpenGate>>
         requires { L.parts ≡ ALL_PARTS }
     {
         let Office {
@@ -171,12 +194,36 @@ impl<L: Ledger> Office<L> {
             first,
             second,
         } = self;
-        let mut seats = Vec::with_capacity(alloc, 2).ok()?;
-        seats.push(first).ok()?;
-        seats.push(second).ok()?;
-        let closed = shared.close(seats).ok()?;
+        match Vec::from_array(alloc, [first, second]) {
+            Ok(seats) => shared.close(seats).ok(),
+            Err(_) => None,
+        }
+    }
+
+    /// Closes the exchange, and tells how many entries its history has.
+    pub fn entries(self, alloc: Global) -> Option<usize>
+        requires { L.parts ≡ ALL_PARTS }
+    {
+        let closed = self.close(alloc)?;
         Some(closed.book.history().len())
     }
+}
+
+/// Serves a client, and gives the seat back, and what the client hears.
+fn served<L: Ledger, R: AllocGlobal + Threads + Wait + Sync, I: Read + Drop>(
+    rt: &R,
+    shared: &Shared<L, MemoryPort, FuseWires, OpenGate>,
+    seat: Seat<L>,
+    reader: I,
+) -> (Seat<L>, Sink)
+    requires { seat.exchange ≡ Some shared.now.word }
+    ensures { result.0.exchange ≡ seat.exchange }
+{
+    let mut reader = reader;
+    let mut heard = Sink::new(rt.alloc());
+    let ended = serve(rt, rt.alloc(), shared, seat, &mut reader, &mut heard, 1);
+    let (seat, _fault) = back(ended);
+    (seat, heard)
 }
 
 /// Serves two clients at a new exchange, and closes it.
@@ -193,7 +240,7 @@ fn day<L: Ledger, R: AllocGlobal + Threads + Wait + Sync>(
     let office = open::<L>(rt.alloc(), blank, rack, wires)?;
     let (office, first, second) = office.serve_both(rt, clients);
     let entries = (office.first.log().len(), office.second.log().len());
-    let history = office.close(rt.alloc())?;
+    let history = office.entries(rt.alloc())?;
     Some(Ended {
         first,
         second,
@@ -222,6 +269,24 @@ pub fn saying<'a>(alloc: Global, script: &'a [u8]) -> Client<'a> {
     }
 }
 
+/// How two clients end that say this, one after the other. Nothing where they don't hear that.
+pub fn ends_of<R: AllocGlobal + Threads + Wait + Sync>(
+    rt: &R,
+    shape: &str,
+    wires: FuseWires,
+    scripts: (&str, &str),
+    want: (&str, &str),
+) -> Option<Ended> {
+    let mut clients = (
+        saying(rt.alloc(), scripts.0.as_bytes()),
+        saying(rt.alloc(), scripts.1.as_bytes()),
+    );
+    let ended = day_of(rt, shape, wires, &mut clients);
+    let first = clients.0.sink.bytes() == want.0.as_bytes();
+    let second = clients.1.sink.bytes() == want.1.as_bytes();
+    if first && second { ended } else { None }
+}
+
 /// Whether a session of this script, alone at an exchange of this shape, is answered so, ends so, and adds
 /// so many entries.
 pub fn is_answered<R: AllocGlobal + Threads + Wait + Sync>(
@@ -232,14 +297,11 @@ pub fn is_answered<R: AllocGlobal + Threads + Wait + Sync>(
     fault: Option<ServeFault>,
     entries: usize,
 ) -> bool {
-    let client_of = saying(rt.alloc(), script.as_bytes());
-    let mut clients = (client_of, saying(rt.alloc(), b""));
-    let ended = day_of(rt, shape, NO_FUSE, &mut clients);
     let want_ended = Ended {
         first: fault,
         second: None,
         entries: (entries, 0),
         history: entries,
     };
-    clients.0.sink.bytes() == want.as_bytes() && ended == Some(want_ended)
+    ends_of(rt, shape, NO_FUSE, (script, ""), (want, "")) == Some(want_ended)
 }

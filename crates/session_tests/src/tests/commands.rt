@@ -1,16 +1,10 @@
 //! Which lines are commands.
 
-use crate::Command;
-use std::test::Fail;
+use client_session::Command;
 
-/// The command that this is the line of, if its own line is this again.
-fn read(line: &str) -> Option<Command> {
-    let command = Command::read(line.as_bytes())?;
-    if command.line().as_bytes() == line.as_bytes() {
-        Some(command)
-    } else {
-        None
-    }
+/// Whether this is the line of this command, and the command's own line is this again.
+fn is_read(line: &str, command: Command) -> bool {
+    Command::read(line.as_bytes()) == Some(command) && command.line().as_bytes() == line.as_bytes()
 }
 
 /// Whether this is the line of no command.
@@ -19,30 +13,23 @@ fn is_none(line: &str) -> bool {
 }
 
 #[test]
-fn lines_of_commands(rt: HostRuntime) -> Result<(), Fail> {
-    assert_eq!(rt; read("batch 0"), Some(Command::Batch(0)));
-    assert_eq!(rt; read("batch 4097"), Some(Command::Batch(4097)));
-    assert_eq!(rt; read("plan 1"), Some(Command::Plan(1)));
-    assert_eq!(rt; read("run 999999999"), Some(Command::Run(999_999_999)));
-    assert_eq!(rt; read("show 20"), Some(Command::Show(20)));
-    assert_eq!(rt; read("drop 3"), Some(Command::Drop(3)));
-    assert_eq!(rt;
-        read("peek 1 80000808"),
-        Some(Command::Peek(1, 0x8000_0808))
-    );
-    assert_eq!(rt;
-        read("peek 16 ffffffff"),
-        Some(Command::Peek(16, 0xffff_ffff))
-    );
+fn lines_of_commands(rt: HostRuntime) {
+    assert!(rt; is_read("batch 0", Command::Batch(0)));
+    assert!(rt; is_read("batch 4097", Command::Batch(4097)));
+    assert!(rt; is_read("plan 1", Command::Plan(1)));
+    assert!(rt; is_read("run 999999999", Command::Run(999_999_999)));
+    assert!(rt; is_read("show 20", Command::Show(20)));
+    assert!(rt; is_read("drop 3", Command::Drop(3)));
+    assert!(rt; is_read("peek 1 80000808", Command::Peek(1, 0x8000_0808)));
+    assert!(rt; is_read("peek 16 ffffffff", Command::Peek(16, 0xffff_ffff)));
     let poke = Command::Poke(0, 0x8000_0800, 0x0000_00ff);
-    assert_eq!(rt; read("poke 0 80000800 000000ff"), Some(poke));
-    assert_eq!(rt; read("progress"), Some(Command::Progress));
-    assert_eq!(rt; read("bye"), Some(Command::Bye));
-    Ok(())
+    assert!(rt; is_read("poke 0 80000800 000000ff", poke));
+    assert!(rt; is_read("progress", Command::Progress));
+    assert!(rt; is_read("bye", Command::Bye));
 }
 
 #[test]
-fn lines_of_no_command(rt: HostRuntime) -> Result<(), Fail> {
+fn lines_of_no_command(rt: HostRuntime) {
     assert!(rt; is_none(""));
     assert!(rt; is_none("hello"));
     assert!(rt; is_none("Bye"));
@@ -55,11 +42,10 @@ fn lines_of_no_command(rt: HostRuntime) -> Result<(), Fail> {
     assert!(rt; is_none("batch "));
     assert!(rt; is_none("batch  1"));
     assert!(rt; is_none("batch 1 "));
-    Ok(())
 }
 
 #[test]
-fn numbers_of_no_command(rt: HostRuntime) -> Result<(), Fail> {
+fn numbers_of_no_command(rt: HostRuntime) {
     assert!(rt; is_none("batch 01"));
     assert!(rt; is_none("plan 00"));
     assert!(rt; is_none("run +1"));
@@ -75,5 +61,4 @@ fn numbers_of_no_command(rt: HostRuntime) -> Result<(), Fail> {
     assert!(rt; is_none("poke 0 80000800"));
     assert!(rt; is_none("poke 0 80000800 0000000G"));
     assert!(rt; is_none("poke 0 80000800 000000ff 1"));
-    Ok(())
 }

@@ -4,13 +4,12 @@ ghost use Rattle.std.specs.Prelude.{◌≤◌, length};
 ghost use Rattle.batch.specs.declared.limits.TheConstants.{MAX_MODULES};
 ghost use Rattle.client_session.specs.Steps.{CanBeTold};
 
-use crate::reply_line::{batch_refused, bye, progress, put_stopped, refused, told};
 use batch::BatchFault;
 use batch_book::{BatchState, Reading, Refusal, Reply};
+use client_session::reply_line::{batch_refused, bye, progress, put_stopped, refused, told};
 use line_words::Line;
 use module_memory::MemoryFault;
 use setting_runner::{RunRefusal, StopCause};
-use std::test::Fail;
 
 /// Whether the refusal is told so.
 fn is_refused(refusal: Refusal, want: &str) -> bool {
@@ -32,7 +31,7 @@ fn is_shown(state: BatchState, want: &str) -> bool {
 }
 
 #[test]
-fn refusals_of_the_book(rt: HostRuntime) -> Result<(), Fail> {
+fn refusals_of_the_book(rt: HostRuntime) {
     assert!(rt; is_refused(Refusal::HistoryFull, "refused history full\n"));
     assert!(rt; is_refused(Refusal::BookFull, "refused book full\n"));
     assert!(rt; is_refused(Refusal::Unknown, "refused unknown\n"));
@@ -46,11 +45,10 @@ fn refusals_of_the_book(rt: HostRuntime) -> Result<(), Fail> {
     let memory = Refusal::Memory(MemoryFault::Outside);
     assert!(rt; is_refused(memory, "refused memory outside\n"));
     assert!(rt; is_refused(Refusal::NoMemory, "refused no memory\n"));
-    Ok(())
 }
 
 #[test]
-fn refusals_of_texts_and_runs(rt: HostRuntime) -> Result<(), Fail> {
+fn refusals_of_texts_and_runs(rt: HostRuntime) {
     assert!(rt; is_batch_fault(BatchFault::Line(4097), "refused batch line 4097\n"));
     assert!(rt; is_batch_fault(BatchFault::TooMany, "refused too many\n"));
     assert!(rt; is_batch_fault(BatchFault::NoModule(0), "refused no module 0\n"));
@@ -58,51 +56,48 @@ fn refusals_of_texts_and_runs(rt: HostRuntime) -> Result<(), Fail> {
     assert!(rt; is_batch_fault(BatchFault::Count, "refused count\n"));
     assert!(rt; is_batch_fault(BatchFault::NoMemory, "refused no memory\n"));
     assert!(rt; refused(b"line").as_bytes() == b"refused line\n".as_slice());
-    let overlap = told(1, &Reply::RunRefused(RunRefusal::Overlap(0, 10)));
-    assert!(rt; overlap.as_bytes() == b"refused overlap 0 10\n".as_slice());
-    let shape = told(1, &Reply::RunRefused(RunRefusal::Shape));
-    assert!(rt; shape.as_bytes() == b"refused shape\n".as_slice());
-    Ok(())
+    let overlap = Reply::RunRefused(RunRefusal::Overlap(0, 10));
+    assert!(rt; is_told(overlap, "refused overlap 0 10\n"));
+    let shape = Reply::RunRefused(RunRefusal::Shape);
+    assert!(rt; is_told(shape, "refused shape\n"));
 }
 
 /// Whether the reply to a command that names batch 12 is told so.
-fn is_told(reply: &Reply, want: &str) -> bool
-    requires { CanBeTold reply.now }
+fn is_told(reply: Reply, want: &str) -> bool
+    requires { CanBeTold reply }
 {
-    told(12, reply).as_bytes() == want.as_bytes()
+    told(12, &reply).as_bytes() == want.as_bytes()
 }
 
 #[test]
-fn replies_on_success(rt: HostRuntime) -> Result<(), Fail> {
-    assert!(rt; is_told(&Reply::Accepted(256), "accepted 256\n"));
-    assert!(rt; is_told(&Reply::Settled { settings: 63 }, "planned 12 settings 63\n"));
-    assert!(rt; is_told(&Reply::Discarded, "dropped 12\n"));
-    assert!(rt; is_told(&Reply::Word(0x00ab_cdef), "word 00abcdef\n"));
-    assert!(rt; is_told(&Reply::Word(0xffff_ffff), "word ffffffff\n"));
-    assert!(rt; is_told(&Reply::Poked, "poked\n"));
+fn replies_on_success(rt: HostRuntime) {
+    assert!(rt; is_told(Reply::Accepted(256), "accepted 256\n"));
+    assert!(rt; is_told(Reply::Settled { settings: 63 }, "planned 12 settings 63\n"));
+    assert!(rt; is_told(Reply::Discarded, "dropped 12\n"));
+    assert!(rt; is_told(Reply::Word(0x00ab_cdef), "word 00abcdef\n"));
+    assert!(rt; is_told(Reply::Word(0xffff_ffff), "word ffffffff\n"));
+    assert!(rt; is_told(Reply::Poked, "poked\n"));
     let ran = Reply::Ran {
         run: 65536,
         settings: 4096,
         words: 1_048_576,
     };
     let want = "ran 12 run 65536 settings 4096 words 1048576 bits 122683392\n";
-    assert!(rt; is_told(&ran, want));
+    assert!(rt; is_told(ran, want));
     let reading = Reading {
         run: 65536,
         done: 4096,
     };
     assert!(rt; progress(reading).as_bytes() == b"progress run 65536 done 4096\n".as_slice());
     assert!(rt; bye().as_bytes() == b"bye\n".as_slice());
-    Ok(())
 }
 
 #[test]
-fn states(rt: HostRuntime) -> Result<(), Fail> {
+fn states(rt: HostRuntime) {
     assert!(rt; is_shown(BatchState::Waiting, "batch 7 transfers 4096 waiting\n"));
     assert!(rt; is_shown(BatchState::Planned, "batch 7 transfers 4096 planned\n"));
     assert!(rt; is_shown(BatchState::Ran, "batch 7 transfers 4096 ran\n"));
     assert!(rt; is_shown(BatchState::Stopped, "batch 7 transfers 4096 stopped\n"));
-    Ok(())
 }
 
 /// Whether a stop of batch 7 in run 2 is told so.
@@ -115,7 +110,7 @@ fn is_stopped(setting: usize, cause: StopCause, moved: &[(usize, usize)], want: 
 }
 
 #[test]
-fn stops(rt: HostRuntime) -> Result<(), Fail> {
+fn stops(rt: HostRuntime) {
     let moved = [(0, 1)];
     let want = "stopped 7 run 2 setting 0 wire 0 moved 0:1";
     assert!(rt; is_stopped(0, StopCause::Wire(0), &moved, want));
@@ -124,7 +119,6 @@ fn stops(rt: HostRuntime) -> Result<(), Fail> {
     assert!(rt; is_stopped(4095, StopCause::Port, &moved, want));
     let want = "stopped 7 run 2 setting 1 switch 63 moved 3:0 14:256";
     assert!(rt; is_stopped(1, StopCause::SwitchDisagrees(63), &moved, want));
-    Ok(())
 }
 
 /// As many transfers with numbers of four digits as a setting may have, of which one has moved no word and the others
@@ -165,9 +159,8 @@ const LONGEST: [(usize, usize); 32] = [
 ];
 
 #[test]
-fn longest_stop(rt: HostRuntime) -> Result<(), Fail> {
+fn longest_stop(rt: HostRuntime) {
     let want =
         "stopped 7 run 2 setting 4095 wire 2222 moved 1000:256 1234:256 1500:256 1999:256 2000:256 2222:0 2500:256 2999:256 3000:256 3333:256 3500:256 3999:256 4000:256 4044:256 4078:256 4079:256 4080:256 4081:256 4082:256 4083:256 4084:256 4085:256 4086:256 4087:256 4088:256 4089:256 4090:256 4091:256 4092:256 4093:256 4094:256 4095:256";
     assert!(rt; is_stopped(4095, StopCause::Wire(2222), &LONGEST, want));
-    Ok(())
 }

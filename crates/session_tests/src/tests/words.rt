@@ -1,6 +1,6 @@
 //! Worked words and lines.
 
-use crate::{Line, behind, hex8_and_rest, number_and_rest, word_from_hex8};
+use line_words::{Line, behind, hex8_and_rest, number_and_rest, word_from_hex8};
 
 /// Whether these digits are those of this word, or of none.
 fn are_digits(digits: &[u8], want: Option<u32>) -> bool {

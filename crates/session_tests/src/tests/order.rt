@@ -3,11 +3,11 @@
 ghost use Rattle.std.specs.Prelude.{◌≡◌};
 ghost use Rattle.progress_word.specs.declared.limits.TheConstants.{ALL_PARTS};
 
-use super::office::{Client, Ended, NO_FUSE, day_of, is_answered, open, saying};
+use super::office::{Client, Ended, NO_FUSE, ends_of, is_answered, open, saying};
 use super::rows::ONE_SCRIPT;
 use super::streams::{Full, Sink, Source};
-use crate::ServeFault;
 use batch::Shape;
+use client_session::ServeFault;
 use module_memory::Rack;
 use std::alloc::Global;
 use std::io;
@@ -20,7 +20,7 @@ use std::thread::Threads;
 
 /// What came of two sessions from one seat, one after the other: how each ended, how many entries the seat's list
 /// had then, and how many the history has.
-#[derive(Clone, Copy, Debug, PartialEq, Eq)]
+#[derive(Clone, Copy, PartialEq, Eq)]
 struct Revisit {
     faults: (Option<ServeFault>, Option<ServeFault>),
     lists: (usize, usize),
@@ -44,7 +44,7 @@ fn twice<L: Ledger, R: AllocGlobal + Threads + Wait + Sync, I: Read, O: Write>(
     let list = office.first.log().len();
     let (office, second) = office.serve_first(rt, &mut again.source, &mut again.sink);
     let lists = (list, office.first.log().len());
-    let history = office.close(rt.alloc())?;
+    let history = office.entries(rt.alloc())?;
     Some(Revisit {
         faults: (first, second),
         lists,
@@ -107,29 +107,43 @@ impl Read for Speaker<'_> {
     }
 }
 
-/// Keeps what is written, at most so many bytes a `write`, and tells how many lines there are whenever it is flushed.
+/// Keeps what is written, at most so many bytes a `write`, and tells how many lines there are whenever it is flushed, and
+/// whether a line was begun before the lines in front of it were flushed.
 #[derive(Drop)]
 struct Listener<'a> {
     sink: Sink,
     flushed: &'a AtomicUsize,
+    begun_early: bool,
 }
 
 impl<'a> Listener<'a> {
     fn of(alloc: Global, step: usize, flushed: &'a AtomicUsize) -> Listener<'a> {
         let mut sink = Sink::new(alloc);
         sink.step = step;
-        Listener { sink, flushed }
+        Listener {
+            sink,
+            flushed,
+            begun_early: false,
+        }
+    }
+
+    /// How many lines were written.
+    fn lines(&self) -> usize {
+        self.sink.bytes().iter().filter(|b| **b == b'\n').count()
     }
 }
 
 impl Write for Listener<'_> {
     fn write(&mut self, buf: &[u8]) -> io::Result<usize> {
+        let begins = self.sink.bytes().ends_with(b"\n".as_slice());
+        if begins && self.lines() != self.flushed.load(Ordering::SeqCst) {
+            self.begun_early = true;
+        }
         self.sink.write(buf)
     }
 
     fn flush(&mut self) -> io::Result<()> {
-        let lines = self.sink.bytes().iter().filter(|b| **b == b'\n').count();
-        self.flushed.store(lines, Ordering::SeqCst);
+        self.flushed.store(self.lines(), Ordering::SeqCst);
         Ok(())
     }
 }
@@ -170,22 +184,63 @@ fn a_reply_is_flushed_before_the_end_is_asked_for(rt: HostRuntime) {
     assert!(rt; counts_to(heard_by(&rt, &refused, 5), 3));
 }
 
+/// How many replies had been flushed at the end of this script, which the reader hands out as far as there is room. Nothing
+/// where a reply was begun before those in front of it were flushed.
+fn flushed_by<R: AllocGlobal + Threads + Wait + Sync>(
+    rt: &R,
+    script: &str,
+    step: usize,
+) -> Option<usize> {
+    let flushed = AtomicUsize::new(0);
+    let mut source = Source::of(script.as_bytes());
+    let mut listener = Listener::of(rt.alloc(), step, &flushed);
+    let mut again = saying(rt.alloc(), b"");
+    twice_at(rt, "2x2x2", &mut source, &mut listener, &mut again)?;
+    if listener.begun_early {
+        return None;
+    }
+    Some(flushed.load(Ordering::SeqCst))
+}
+
+/// Other lines are pending behind each of the first replies.
 #[test]
-fn a_reader_without_end_is_asked_a_million_times(rt: HostRuntime) {
+fn a_reply_is_flushed_before_the_next_is_begun(rt: HostRuntime) {
+    let script = "hello\nshow 1\nprogress\nbatch 0\nplan 1\nrun 1\nshow 1\n";
+    assert_eq!(rt; flushed_by(&rt, script, usize::MAX), Some(7));
+    assert_eq!(rt; flushed_by(&rt, script, 1), Some(7));
+}
+
+#[test]
+fn the_reply_to_bye_is_flushed(rt: HostRuntime) {
+    assert_eq!(rt; flushed_by(&rt, "bye\n", usize::MAX), Some(1));
+    assert_eq!(rt; flushed_by(&rt, "hello\nbye\nshow 1\n", 1), Some(2));
+}
+
+/// What comes of a session without end, how often its reader is asked, and whether a second one from its seat is answered.
+fn asked_without_end<R: AllocGlobal + Threads + Wait + Sync>(
+    rt: &R,
+) -> (Option<Revisit>, usize, bool) {
     let mut hello = Source::of(b"hello\n");
     hello.times = usize::MAX;
     hello.step = 1;
     let mut refused = Sink::new(rt.alloc());
     let mut again = saying(rt.alloc(), b"peek 0 80000800\n");
-    let came = twice_at(&rt, "1x1x1", &mut hello, &mut refused, &mut again);
+    let came = twice_at(rt, "1x1x1", &mut hello, &mut refused, &mut again);
+    let is_answered = again.sink.bytes() == b"word 00000000\n".as_slice();
+    (came, hello.reads, is_answered)
+}
+
+#[test]
+fn a_reader_without_end_is_asked_a_million_times(rt: HostRuntime) {
+    let (came, reads, is_answered) = asked_without_end(&rt);
     let want = Revisit {
         faults: (Some(ServeFault::Turns), None),
         lists: (0, 1),
         history: 1,
     };
-    assert_eq!(rt; came, Some(want));
-    assert_eq!(rt; hello.reads, 1_000_000);
-    assert!(rt; again.sink.bytes() == b"word 00000000\n".as_slice());
+    assert!(rt; came == Some(want));
+    assert_eq!(rt; reads, 1_000_000);
+    assert!(rt; is_answered);
 }
 
 /// Whether a client hears this and ends so, and another that shows batch 1 from the seat that came back is answered
@@ -262,17 +317,19 @@ fn lines_of_batches_that_are_long(rt: HostRuntime) {
 
 #[test]
 fn a_second_session_reads_the_progress_of_the_first(rt: HostRuntime) {
-    let runs = saying(rt.alloc(), b"batch 1\npush 0 0 1 0\nplan 1\nrun 1\n");
-    let reads = saying(rt.alloc(), b"progress\nshow 1\nprogress\n");
-    let mut clients = (runs, reads);
-    let ended = day_of(&rt, "2x1x1", NO_FUSE, &mut clients);
+    let scripts = (
+        "batch 1\npush 0 0 1 0\nplan 1\nrun 1\n",
+        "progress\nshow 1\nprogress\n",
+    );
+    let replies = (
+        "accepted 1\nplanned 1 settings 1\nran 1 run 1 settings 1 words 1 bits 117\n",
+        "progress run 1 done 1\nrefused unknown\nprogress run 1 done 1\n",
+    );
     let want = Ended {
         first: None,
         second: None,
         entries: (4, 1),
         history: 5,
     };
-    assert_eq!(rt; ended, Some(want));
-    let want = "progress run 1 done 1\nrefused unknown\nprogress run 1 done 1\n";
-    assert!(rt; clients.1.sink.bytes() == want.as_bytes());
+    assert!(rt; ends_of(&rt, "2x1x1", NO_FUSE, scripts, replies) == Some(want));
 }

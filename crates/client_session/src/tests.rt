@@ -1,7 +1,0 @@
-mod commands;
-mod ends;
-mod office;
-mod order;
-mod replies;
-mod rows;
-mod streams;
