@@ -209,6 +209,22 @@ impl<L: Ledger> Office<L> {
     }
 }
 
+/// Serves a client, and gives the seat back.
+fn seat_behind<L: Ledger, R: AllocGlobal + Threads + Wait + Sync, I: Read>(
+    rt: &R,
+    shared: &Shared<L, MemoryPort, FuseWires, OpenGate>,
+    seat: Seat<L>,
+    reader: &mut I,
+    heard: &mut Sink,
+) -> Seat<L>
+    requires { seat.exchange ≡ Some shared.now.word }
+    ensures { result.exchange ≡ seat.exchange }
+{
+    let ended = serve(rt, rt.alloc(), shared, seat, reader, heard, 1);
+    let (seat, _fault) = back(ended);
+    seat
+}
+
 /// Serves a client, and gives the seat back, and what the client hears.
 fn served<L: Ledger, R: AllocGlobal + Threads + Wait + Sync, I: Read + Drop>(
     rt: &R,
@@ -221,8 +237,7 @@ fn served<L: Ledger, R: AllocGlobal + Threads + Wait + Sync, I: Read + Drop>(
 {
     let mut reader = reader;
     let mut heard = Sink::new(rt.alloc());
-    let ended = serve(rt, rt.alloc(), shared, seat, &mut reader, &mut heard, 1);
-    let (seat, _fault) = back(ended);
+    let seat = seat_behind(rt, shared, seat, &mut reader, &mut heard);
     (seat, heard)
 }
 
