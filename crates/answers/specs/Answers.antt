@@ -39,6 +39,10 @@ IsOnly IsAnswer answer = (other : Printed) → IsAnswer other → other ≡ answ
 abbrev pub SaysPlan : List ℕ → Plan → Type 0
 SaysPlan text plan = Says text (said plan.settings (Some plan.named))
 
+-- the text of the plan, under its status
+abbrev pub TellsPlan : Plan → Printed → Type 0
+TellsPlan plan printed = SaysPlan printed.text plan × (printed.status ≡ DONE)
+
 -- a text that says a plan of the batch that the batch text denotes, or the refusal of that text's first fault, each under its status
 pub data IsPlanned (shape : Extent) (batch : List ℕ) (printed : Printed) : Type 0 where
   planned : (plan : Plan) → Denotes shape batch plan.batch → IsPlan plan → HasFewReinsertions plan → SaysPlan printed.text plan → printed.status ≡ DONE → IsPlanned shape batch printed
@@ -117,6 +121,15 @@ pub record IsReport (shape batch text : List ℕ) : Type 0 where
   pub is_placed : IsPlaced marked transfers placed
   pub fewest : IsDegree transfers settings
   pub report : text ≡ report_of transfers settings placed
+
+-- A run of the plan on a rack of the shape whose words told where they stood: no transfers overlap, the batch is placed, and this is the report of it.
+pub record IsReportOf (extent : Extent) (plan : Plan) (text : List ℕ) : Type 0 where
+  pub marked : Store
+  pub placed : Store
+  pub apart : IsApart plan.batch
+  pub is_marked : IsMarked (zeros_of extent) marked
+  pub is_placed : IsPlaced marked plan.batch placed
+  pub report : text ≡ report_of plan.batch (length plan.settings) placed
 
 -- what is wrong with running transfers that the rack has: the first two that overlap
 abbrev pub IsWrongOf : List Transfer → RunningFault → Type 0

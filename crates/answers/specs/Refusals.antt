@@ -1,6 +1,7 @@
 -- What refusals say. The texts are this project's choice.
 use Rattle.std.specs.Prelude.{◌≡◌, ◌≢◌, ℕ, List, ◌++◌, codes, ⊤}
 use Rattle.std.specs.Fmt.{decimal}
+use Rattle.batch.specs.declared.fault.BatchFault.{BatchFault}
 use Rattle.batch.specs.declared.fault.BatchFault.TheVariants as batch_fault
 use Rattle.line_words.specs.BatchFaults.{batch_words}
 use Rattle.link_graph.specs.declared.link.Link.{Link}
@@ -24,6 +25,10 @@ pub record Printed : Type 0 where
 pub record IsRefused (words : List ℕ) (printed : Printed) : Type 0 where
   pub line : printed.text ≡ codes "refused " ++ words ++ codes "\n"
   pub status : printed.status ≡ REFUSED
+
+-- the refusal of a batch text's fault, which isn't want of memory
+abbrev pub RefusesBatch : BatchFault → Printed → Type 0
+RefusesBatch fault printed = (fault ≢ batch_fault.NoMemory) × IsRefused (batch_words fault) printed
 
 -- what is said of a schedule text's fault
 abbrev pub schedule_words : ScheduleFault → List ℕ

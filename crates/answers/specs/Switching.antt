@@ -55,6 +55,10 @@ setting_lines plan k = lines_for (is_wide plan.batch) k (λ wiring. sent_for wir
 abbrev pub switch_text : Plan → List ℕ
 switch_text plan = flat_map (setting_lines plan) (range_with_len 0 (length plan.settings))
 
+-- those lines, under their status
+abbrev pub TellsSwitch : Plan → Printed → Type 0
+TellsSwitch plan printed = (printed.text ≡ switch_text plan) × (printed.status ≡ DONE)
+
 -- what a run of a plan of the batch that the batch text denotes sends, or the refusal of that text's first fault, each under its status
 pub data IsSwitched (shape : Extent) (batch : List ℕ) (printed : Printed) : Type 0 where
   switched : (plan : Plan) → Denotes shape batch plan.batch → IsPlan plan → HasFewReinsertions plan → printed.text ≡ switch_text plan → printed.status ≡ DONE → IsSwitched shape batch printed

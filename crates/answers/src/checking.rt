@@ -10,11 +10,21 @@ use link_graph::{Certificate, Schedule, check_schedule};
 use std::alloc::{AllocError, Global};
 
 /// A batch, and a schedule of it with a certificate that shows that none is shorter.
-#[derive(Drop)]
 pub(crate) struct Judged {
     pub(crate) batch: Batch,
     pub(crate) schedule: Schedule,
     pub(crate) certificate: Certificate,
+}
+
+// Said once, so that no function that lets go of one has to say it again.
+impl Drop for Judged {
+    fn drop(self) {
+        let Judged {
+            batch: _,
+            schedule: _,
+            certificate: _,
+        } = self;
+    }
 }
 
 /// The batch and the shortest schedule of it that the texts say, or what is first wrong.

@@ -1,13 +1,23 @@
 ghost use Rattle.std.specs.Prelude.{◌≤◌, IfOk};
 ghost use Rattle.batch.specs.Extent.{widest};
-ghost use Rattle.answers.specs.Answers.{IsPlanned};
+ghost use Rattle.schedule_certificate.specs.Plans.{IsPlan};
+ghost use Rattle.answers.specs.Answers.{TellsPlan, IsPlanned};
 
 use crate::answer::Answer;
-use crate::refusal::batch_words;
+use crate::refusal::refuse_batch;
 use batch::{Batch, Shape};
-use schedule_certificate::{MAX_WORKERS, OpenGate, schedule};
+use schedule_certificate::{MAX_WORKERS, OpenGate, Planned, schedule};
 use std::alloc::{AllocError, Global};
 use std::thread::Threads;
+
+/// The answer that says a plan.
+fn tell(planned: &Planned) -> Result<Answer, AllocError>
+    requires { IsPlan planned.now }
+    ensures { IfOk result (TellsPlan planned.now) }
+{
+    let text = planned.schedule().write(Some(planned.certificate()))?;
+    Ok(Answer::done(text))
+}
 
 /// The answer of `exchange plan`: the text of a shortest schedule for the batch that the text
 /// denotes, with the certificate that shows that none is shorter; or the refusal of the text's first
@@ -27,9 +37,8 @@ pub fn answer_plan<R: Threads + Sync>(
     match Batch::read(alloc, batch, Shape::WIDEST) {
         Ok(batch) => {
             let planned = schedule(rt, alloc, batch, workers, &OpenGate)?;
-            let text = planned.schedule().write(Some(planned.certificate()))?;
-            Ok(Answer::done(text))
+            tell(&planned)
         }
-        Err(fault) => Answer::refused(alloc, batch_words(alloc, fault)?.as_str()),
+        Err(fault) => refuse_batch(alloc, fault),
     }
 }

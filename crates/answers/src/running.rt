@@ -5,7 +5,7 @@ ghost use Rattle.batch.specs.Overlap.{IsApart};
 ghost use Rattle.module_memory.specs.Store.{zeros_of};
 ghost use Rattle.module_memory.specs.Mark.{IsMarked};
 ghost use Rattle.module_memory.specs.Core.{FitsIn, IsPlaced};
-ghost use Rattle.answers.specs.Answers.{IsOnly, IsReport, IsWrongOf, IsFirstRunWrong, IsRunAnswer};
+ghost use Rattle.answers.specs.Answers.{IsOnly, IsReportOf, IsReport, IsWrongOf, IsFirstRunWrong, IsRunAnswer};
 ghost use Rattle.answers.specs.Refusals.{IsRealRunning};
 
 use crate::answer::Answer;
@@ -75,6 +75,25 @@ fn run_plain<R: Threads + Sync>(
     }
 }
 
+/// The report of a run of the plan on a rack of the shape whose words first tell where they stand, or what is wrong.
+fn report_plan<R: Threads + Sync>(
+    rt: &R,
+    alloc: Global,
+    shape: Shape,
+    planned: &Planned,
+    workers: usize,
+) -> Result<String, RunningFault>
+    requires some { 1 ≤ workers }
+    requires few { workers ≤ MAX_WORKERS }
+    requires fits { FitsIn shape planned.now.batch }
+    ensures report { IfOk result (λ text. IsReportOf shape planned.now (string_bytes text)) }
+    ensures wrong { IfErr result (λ e. IsRealRunning e → IsWrongOf planned.now.batch e) }
+{
+    let rack = marked_rack(alloc, shape)?;
+    let (rack, settings) = run_plain(rt, alloc, rack, planned, workers)?;
+    Ok(report(alloc, &rack, planned.batch(), settings)?)
+}
+
 /// The report of the run, or what is first wrong.
 fn report_run<R: Threads + Sync>(
     rt: &R,
@@ -91,10 +110,8 @@ fn report_run<R: Threads + Sync>(
 {
     let shape = Shape::read(shape)?;
     let batch = Batch::read(alloc, batch, shape)?;
-    let rack = marked_rack(alloc, shape)?;
     let planned = schedule(rt, alloc, batch, workers, &OpenGate)?;
-    let (rack, settings) = run_plain(rt, alloc, rack, &planned, workers)?;
-    Ok(report(alloc, &rack, planned.batch(), settings)?)
+    report_plan(rt, alloc, shape, &planned, workers)
 }
 
 /// The answer of `exchange run`: the report of a run of the batch that the batch text denotes, on a rack of

@@ -5,10 +5,10 @@ ghost use Rattle.batch.specs.Extent.{widest};
 ghost use Rattle.crossbar.specs.Pairs.{ArePairs, room_of};
 ghost use Rattle.setting_runner.specs.Sending.{turning};
 ghost use Rattle.answers.specs.Reports.{Adds};
-ghost use Rattle.answers.specs.Switching.{is_wide as needs_two, joined_by, bytes_text, switch_line, lines_for, switch_text, IsSwitched};
+ghost use Rattle.answers.specs.Switching.{is_wide as needs_two, joined_by, bytes_text, switch_line, lines_for, switch_text, TellsSwitch, IsSwitched};
 
 use crate::answer::Answer;
-use crate::refusal::batch_words;
+use crate::refusal::refuse_batch;
 use batch::{Batch, Shape};
 use crossbar::{JOINED_MODULES, Pair, Wiring};
 use schedule_certificate::{MAX_WORKERS, OpenGate, Planned, schedule};
@@ -101,6 +101,14 @@ fn switch_lines(alloc: Global, planned: &Planned) -> Result<String, AllocError>
     Ok(text)
 }
 
+/// The answer that tells what a run of the plan sends the switches.
+fn tell(alloc: Global, planned: &Planned) -> Result<Answer, AllocError>
+    ensures { IfOk result (TellsSwitch planned.now) }
+{
+    let text = switch_lines(alloc, planned)?;
+    Ok(Answer::done(text.into_bytes()))
+}
+
 /// The answer of `exchange switch`: what a run of a plan of the batch that the text denotes sends over the
 /// configuration link, setting by setting; or the refusal of the text's first fault.
 ///
@@ -121,9 +129,8 @@ pub fn answer_switch<R: Threads + Sync>(
     match Batch::read(alloc, batch, Shape::WIDEST) {
         Ok(batch) => {
             let planned = schedule(rt, alloc, batch, workers, &OpenGate)?;
-            let text = switch_lines(alloc, &planned)?;
-            Ok(Answer::done(text.into_bytes()))
+            tell(alloc, &planned)
         }
-        Err(fault) => Answer::refused(alloc, batch_words(alloc, fault)?.as_str()),
+        Err(fault) => refuse_batch(alloc, fault),
     }
 }

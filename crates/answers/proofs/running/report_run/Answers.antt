@@ -1,29 +1,55 @@
-use Rattle.std.proofs.Common.{sym}
-use Rattle.std.proofs.lemmas.Result.{err_from_is_err_and}
+use Rattle.std.proofs.Common.{ℕ, List, string_bytes}
+use Rattle.std.proofs.lemmas.Result.{err_from_is_err_and, IfOk-weaker, IfErr-weaker}
+use Rattle.answers.specs.Answers.{IsReportOf, IsReport, IsWrongOf, IsFirstRunWrong}
+use Rattle.answers.specs.Refusals.{IsRealRunning}
+use Rattle.batch.specs.declared.transfer.Transfer.{Transfer}
+use Rattle.batch.specs.Extent.{Extent}
+use Rattle.batch.specs.ShapeText.{DenotesShape}
+use Rattle.batch.specs.Text.{Denotes}
+use Rattle.answers.specs.declared.running_fault.RunningFault.{RunningFault}
+use Rattle.answers.specs.declared.running_fault.RunningFault.TheVariants as running
 use Rattle.answers.proofs.Fewest.{fewest_settings, fits_in}
 use Rattle.answers.proofs.running.report_run.Goals as goal
+
+-- what is wrong with the transfers that the batch text denotes is wrong with the texts
+first_wrong : (shape batch : List ℕ) (extent : Extent) (ts : List Transfer) → DenotesShape shape extent → Denotes extent batch ts → (fault : RunningFault) → IsWrongOf ts fault → IsFirstRunWrong shape batch fault
+first_wrong shape batch extent ts is_shape is_batch running.Shape wrong = absurd wrong
+first_wrong shape batch extent ts is_shape is_batch (running.Batch fault) wrong = absurd wrong
+first_wrong shape batch extent ts is_shape is_batch (running.Overlap i j) wrong = (extent, ts, is_shape, is_batch, wrong)
+first_wrong shape batch extent ts is_shape is_batch running.NoMemory wrong = wrong
 
 pub returns-in_err-batch-clause-wrong : goal.returns-in_err-batch-clause-wrong
 returns-in_err-batch-clause-wrong g c =
     let p = err_from_is_err_and c.from_residual-in_err-batch.result c.from_residual-in_err-batch.ensures.1 in
     rw (p.1, p.2) (λ real. (c.in_ok-shape.shape, c.in_ok-shape.ensures.shape, c.in_err-batch.ensures.fault real))
 
-pub run_plain-requires-clause-fits : goal.run_plain-requires-clause-fits
-run_plain-requires-clause-fits g c κs within =
-    rw (c.in_ok-rack.ensures.same_shape, c.in_ok-planned.ensures.batch) (fits_in c.in_ok-shape.shape c.args.batch.now c.in_ok-batch.batch c.in_ok-batch.ensures.batch)
+pub report_plan-requires-clause-fits : goal.report_plan-requires-clause-fits
+report_plan-requires-clause-fits g c κs within =
+    rw c.in_ok-planned.ensures.batch (fits_in c.in_ok-shape.shape c.args.batch.now c.in_ok-batch.batch c.in_ok-batch.ensures.batch)
 
 pub returns-clause-report : goal.returns-clause-report
-returns-clause-report g c = record {
-  extent = c.in_ok-shape.shape;
-  transfers = c.in_ok-batch.batch;
-  marked = c.in_ok-rack.rack;
-  placed = c.in_ok-rack-2.rack;
-  settings = c.in_ok-rack-2.settings;
-  shape_read = c.in_ok-shape.ensures.shape;
-  batch_read = c.in_ok-batch.ensures.batch;
-  apart = rw (sym c.in_ok-planned.ensures.batch) c.in_ok-rack-2.ensures.apart;
-  is_marked = c.in_ok-rack.ensures;
-  is_placed = rw (sym c.in_ok-planned.ensures.batch) c.in_ok-rack-2.ensures.placed;
-  fewest = rw (sym c.in_ok-planned.ensures.batch, c.in_ok-rack-2.ensures.settings) (fewest_settings c.in_ok-planned.planned c.in_ok-planned.ensures.plan);
-  report = rw (sym c.in_ok-planned.ensures.batch, sym c.batch-2.ensures.batch) c.in_ok-report.ensures;
-}
+returns-clause-report g c =
+    let plan = c.in_ok-planned.planned in
+    let same = c.in_ok-planned.ensures.batch in
+    IfOk-weaker c.report_plan.result (λ text. IsReportOf c.in_ok-shape.shape plan (string_bytes text)) (λ text. IsReport c.args.shape.now c.args.batch.now (string_bytes text))
+    (λ text is. record {
+      extent = c.in_ok-shape.shape;
+      transfers = plan.batch;
+      marked = is.marked;
+      placed = is.placed;
+      settings = _;
+      shape_read = c.in_ok-shape.ensures.shape;
+      batch_read = rw same c.in_ok-batch.ensures.batch;
+      apart = is.apart;
+      is_marked = is.is_marked;
+      is_placed = is.is_placed;
+      fewest = fewest_settings plan c.in_ok-planned.ensures.plan;
+      report = is.report;
+    }) c.report_plan.ensures.report
+
+pub returns-clause-wrong : goal.returns-clause-wrong
+returns-clause-wrong g c =
+    let same = c.in_ok-planned.ensures.batch in
+    let batch : Denotes c.in_ok-shape.shape c.args.batch.now c.in_ok-planned.planned.batch = rw same c.in_ok-batch.ensures.batch in
+    IfErr-weaker c.report_plan.result (λ e. IsRealRunning e → IsWrongOf c.in_ok-planned.planned.batch e) (λ e. IsRealRunning e → IsFirstRunWrong c.args.shape.now c.args.batch.now e)
+    (λ e wrong real. first_wrong c.args.shape.now c.args.batch.now c.in_ok-shape.shape c.in_ok-planned.planned.batch c.in_ok-shape.ensures.shape batch e (wrong real)) c.report_plan.ensures.wrong
