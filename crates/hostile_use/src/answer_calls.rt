@@ -15,7 +15,7 @@ use std::alloc::{AllocError, Global};
 use std::thread::Threads;
 
 /// What was met, where the row's answer is this text under status 0.
-fn met(answer: Result<Answer, AllocError>, text: &str) -> Met {
+fn met(answer: &Result<Answer, AllocError>, text: &str) -> Met {
     match answer {
         Ok(answer) => Met::row_if(answer.text() == text.as_bytes() && answer.status() == 0),
         Err(_) => Met::NoMemory,
@@ -30,7 +30,7 @@ pub fn plan<R: AllocGlobal + Eprint + Threads + Sync>(rt: &R, workers: usize) ->
     begin(rt);
     let answer = answer_plan(rt, rt.alloc(), THREE_TRANSFERS.as_bytes(), workers);
     end(rt);
-    Some(met(answer, THREE_TRANSFERS_PLAN))
+    Some(met(&answer, THREE_TRANSFERS_PLAN))
 }
 
 /// `answer_check` on row checker.
@@ -39,7 +39,7 @@ pub fn check<R: AllocGlobal + Eprint>(rt: &R) -> Option<Met> {
     begin(rt);
     let answer = answer_check(rt.alloc(), batch, schedule);
     end(rt);
-    Some(met(answer, "shortest 2\n"))
+    Some(met(&answer, "shortest 2\n"))
 }
 
 /// `answer_draw` on row three-transfers: the picture begins as its row says, and is the one that is drawn where nothing is refused.
@@ -49,10 +49,15 @@ pub fn draw<R: AllocGlobal + Eprint>(rt: &R) -> Option<Met> {
     begin(rt);
     let answer = answer_draw(rt.alloc(), batch, schedule);
     end(rt);
-    Some(match answer {
-        Ok(answer) => Met::row_if(is_picture(&answer) && answer.text() == wanted.text()),
+    Some(met_by_picture(&answer, wanted.text()))
+}
+
+/// What was met by the answer to `draw`, which was to be this text.
+fn met_by_picture(answer: &Result<Answer, AllocError>, wanted: &[u8]) -> Met {
+    match answer {
+        Ok(answer) => Met::row_if(is_picture(answer) && answer.text() == wanted),
         Err(_) => Met::NoMemory,
-    })
+    }
 }
 
 /// Whether the answer begins as the picture of row three-transfers.
@@ -71,7 +76,7 @@ pub fn switch<R: AllocGlobal + Eprint + Threads + Sync>(rt: &R, workers: usize) 
     begin(rt);
     let answer = answer_switch(rt, rt.alloc(), THREE_TRANSFERS.as_bytes(), workers);
     end(rt);
-    Some(met(answer, THREE_TRANSFERS_BYTES))
+    Some(met(&answer, THREE_TRANSFERS_BYTES))
 }
 
 /// `answer_run` on row two-pushes, with so many workers.
@@ -83,7 +88,7 @@ pub fn run<R: AllocGlobal + Eprint + Threads + Sync>(rt: &R, workers: usize) -> 
     begin(rt);
     let answer = answer_run(rt, rt.alloc(), shape, batch, workers);
     end(rt);
-    Some(met(answer, TWO_PUSHES_REPORT))
+    Some(met(&answer, TWO_PUSHES_REPORT))
 }
 
 /// The words of a line, which one space parts.
@@ -100,10 +105,15 @@ pub fn list<R: AllocGlobal + Eprint>(rt: &R) -> Option<Met> {
     begin(rt);
     let list = TextList::of(rt.alloc(), &["F", "-"]);
     end(rt);
-    Some(match list {
-        Ok(list) => Met::row_if(is_list(&list)),
+    Some(met_by_list(&list))
+}
+
+/// What was met by the list of two words.
+fn met_by_list(list: &Result<TextList, AllocError>) -> Met {
+    match list {
+        Ok(list) => Met::row_if(is_list(list)),
         Err(_) => Met::NoMemory,
-    })
+    }
 }
 
 /// Whether these are a file's name and that of standard input.
@@ -114,16 +124,33 @@ fn is_list(list: &TextList) -> bool {
     file.as_str() == "F" && !file.is_input() && input.is_input()
 }
 
+/// Whether the job is to plan the batch of file `F` with 64 workers.
+fn is_job(job: &Job) -> bool {
+    match job {
+        Job::Plan { file, workers } => file.as_str() == "F" && *workers == 64,
+        _ => false,
+    }
+}
+
+/// What was met by the words of that job.
+fn met_by_words(read: &Result<Job, WordsFault>) -> Met {
+    match read {
+        Ok(job) => Met::row_if(is_job(job)),
+        Err(WordsFault::NoMemory) => Met::NoMemory,
+        Err(WordsFault::Clap(_)) => Met::Other,
+    }
+}
+
+/// `read_words` of these words.
+fn read_between<R: AllocGlobal + Eprint>(rt: &R, words: &[String]) -> Met {
+    begin(rt);
+    let read = read_words(rt.alloc(), words);
+    end(rt);
+    met_by_words(&read)
+}
+
 /// `read_words` of `plan F --workers 64`.
 pub fn read<R: AllocGlobal + Eprint>(rt: &R) -> Option<Met> {
     let words = words(rt.alloc(), "exchange plan F --workers 64").ok()?;
-    begin(rt);
-    let job = read_words(rt.alloc(), words.as_slice());
-    end(rt);
-    Some(match job {
-        Ok(Job::Plan { file, workers }) => Met::row_if(file.as_str() == "F" && workers == 64),
-        Err(WordsFault::NoMemory) => Met::NoMemory,
-        Ok(_job) => Met::Other,
-        Err(_fault) => Met::Other,
-    })
+    Some(read_between(rt, words.as_slice()))
 }

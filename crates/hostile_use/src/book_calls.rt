@@ -2,35 +2,47 @@
 
 ghost use Rattle.std.specs.Prelude.{◌≤◌};
 
-use crate::kinds::{Before, ENTRIES, Kind, Row, Said};
+use crate::kinds::{Before, ENTRIES, Kind, Row, Said, Tried};
 use crate::marks::{begin, end};
 use crate::met::Met;
 use crate::plants::{Told, plain};
-use crate::rows::{FIRST, are_same, marked};
+use crate::rows::{FIRST, is_marked, is_marked_with, marked};
 use batch_book::{Book, Call, Refusal};
+use module_memory::Rack;
 use schedule_certificate::MAX_WORKERS;
-use std::alloc::Global;
+use std::alloc::{AllocError, Global};
 use std::thread::Threads;
 
 /// `Book::new` on row book-limits.
 pub fn open<R: AllocGlobal + Eprint>(rt: &R) -> Option<Met> {
     let rack = marked(rt.alloc(), Row::BookLimits.shape())?;
-    let before = marked(rt.alloc(), Row::BookLimits.shape())?;
     begin(rt);
     let opened = Book::new(rt.alloc(), rack);
     end(rt);
-    Some(match opened {
+    Some(met_by_opening(rt.alloc(), &opened))
+}
+
+/// What was met by the opening of a book on row book-limits.
+fn met_by_opening(alloc: Global, opened: &Result<Book, (Rack, AllocError)>) -> Met {
+    let shape = Row::BookLimits.shape();
+    match opened {
         Ok(book) => Met::row_if(
             book.history().is_empty()
-                && are_same(book.rack(), &before)
-                && are_same(book.opening(), &before),
+                && is_marked(alloc, book.rack(), shape)
+                && is_marked(alloc, book.opening(), shape),
         ),
-        Err((rack, _)) => Met::no_memory_if(are_same(&rack, &before)),
-    })
+        Err((rack, _)) => Met::no_memory_if(is_marked(alloc, rack, shape)),
+    }
+}
+
+/// A book on the marked rack of a row.
+pub fn marked_book(alloc: Global, row: Row) -> Option<Book> {
+    let rack = marked(alloc, row.shape())?;
+    Book::new(alloc, rack).ok()
 }
 
 /// One call of session 0, by so many workers.
-fn ask<R: Threads + Sync>(
+pub fn ask<R: Threads + Sync>(
     rt: &R,
     book: &mut Book,
     call: Call,
@@ -45,44 +57,113 @@ fn ask<R: Threads + Sync>(
     Said::of(&reply)
 }
 
-/// Peeks until the history has [`ENTRIES`] entries.
-fn fill<R: Threads + Sync>(rt: &R, book: &mut Book) {
-    for _ in book.history().len()..ENTRIES {
+/// One call of this kind, by so many workers.
+fn ask_kind<R: AllocGlobal + Threads + Sync>(
+    rt: &R,
+    book: &mut Book,
+    row: Row,
+    kind: Kind,
+    workers: usize,
+) -> Option<Said>
+    requires some { 1 ≤ workers }
+    requires few { workers ≤ MAX_WORKERS }
+{
+    let call = kind.call(rt, row)?;
+    Some(ask(rt, book, call, workers, &mut Told::nothing()))
+}
+
+/// The call that is tried, between the marks.
+fn try_kind<R: AllocGlobal + Eprint + Threads + Sync>(
+    rt: &R,
+    book: &mut Book,
+    row: Row,
+    kind: Kind,
+    workers: usize,
+    told: &mut Told,
+) -> Option<Said>
+    requires some { 1 ≤ workers }
+    requires few { workers ≤ MAX_WORKERS }
+{
+    let call = kind.call(rt, row)?;
+    begin(rt);
+    let said = ask(rt, book, call, workers, told);
+    end(rt);
+    Some(said)
+}
+
+/// Peeks until the history has so many entries.
+pub fn fill<R: Threads + Sync>(rt: &R, book: &mut Book, entries: usize) {
+    for _ in book.history().len()..entries {
         ask(rt, book, Call::Peek(1, FIRST), 1, &mut Told::nothing());
     }
 }
 
-/// A book, on a marked rack, in which all is as it is before the call that is tried.
-fn book_before<R: AllocGlobal + Threads + Sync>(rt: &R, row: Row, kind: Kind) -> Option<Book> {
-    let mut book = Book::new(rt.alloc(), marked(rt.alloc(), row.shape())?).ok()?;
-    let mut told = Told::nothing();
+/// Brings a new book to where it is before the call that is tried.
+fn prepare<R: AllocGlobal + Threads + Sync>(
+    rt: &R,
+    book: &mut Book,
+    row: Row,
+    kind: Kind,
+) -> Option<()> {
     if !matches!(kind.before(), Before::Empty) {
-        ask(rt, &mut book, Kind::Submit.call(rt, row)?, 1, &mut told);
+        ask_kind(rt, book, row, Kind::Submit, 1)?;
     }
     if matches!(kind.before(), Before::Settled) {
-        ask(rt, &mut book, Kind::Settle.call(rt, row)?, 1, &mut told);
+        ask_kind(rt, book, row, Kind::Settle, 1)?;
     }
-    fill(rt, &mut book);
-    Some(book)
+    fill(rt, book, ENTRIES);
+    Some(())
 }
 
 /// Whether a book is as it was before the call that is tried: its entries, its words, and nobody was told of a run.
 fn is_as_before(alloc: Global, book: &Book, row: Row, told: Told) -> bool {
-    let Some(before) = marked(alloc, row.shape()) else {
-        return false;
-    };
     book.history().len() == ENTRIES
-        && are_same(book.rack(), &before)
-        && are_same(book.opening(), &before)
+        && is_marked(alloc, book.rack(), row.shape())
+        && is_marked(alloc, book.opening(), row.shape())
         && told == Told::nothing()
 }
 
-/// Whether a call was answered as the row says, and the book has its entry and its words.
-fn is_the_rows(alloc: Global, book: &Book, row: Row, kind: Kind, said: Said) -> bool {
-    let Some(after) = kind.rack_after(alloc, row) else {
-        return false;
-    };
-    said == kind.said(row) && book.history().len() == ENTRIES + 1 && are_same(book.rack(), &after)
+/// Whether the book has the entry of a call that is answered, and the words that the row says.
+pub fn is_after(alloc: Global, book: &Book, row: Row, kind: Kind) -> bool {
+    book.history().len() == ENTRIES + 1
+        && is_marked_with(alloc, book.rack(), row.shape(), kind.written(row))
+}
+
+/// The call that is tried on a new book, and after want of memory the same call again.
+fn try_on<R: AllocGlobal + Eprint + Threads + Sync>(
+    rt: &R,
+    book: &mut Book,
+    row: Row,
+    kind: Kind,
+    workers: usize,
+) -> Option<Tried>
+    requires some { 1 ≤ workers }
+    requires few { workers ≤ MAX_WORKERS }
+{
+    prepare(rt, book, row, kind)?;
+    let mut told = Told::nothing();
+    let said = try_kind(rt, book, row, kind, workers, &mut told)?;
+    if said != Said::Refused(Refusal::NoMemory) {
+        return Some(Tried::Answered(said));
+    }
+    let is_left = is_as_before(rt.alloc(), book, row, told);
+    let said = ask_kind(rt, book, row, kind, workers)?;
+    Some(Tried::Again { is_left, said })
+}
+
+/// What is met by a call on a new book.
+fn apply_to<R: AllocGlobal + Eprint + Threads + Sync>(
+    rt: &R,
+    book: &mut Book,
+    row: Row,
+    kind: Kind,
+    workers: usize,
+) -> Option<Met>
+    requires some { 1 ≤ workers }
+    requires few { workers ≤ MAX_WORKERS }
+{
+    let tried = try_on(rt, book, row, kind, workers)?;
+    Some(tried.met(kind.said(row), is_after(rt.alloc(), book, row, kind)))
 }
 
 /// `Book::apply` of a call, with so many workers. After want of memory the same call, made again, has the answer of the row.
@@ -95,16 +176,6 @@ pub fn apply<R: AllocGlobal + Eprint + Threads + Sync>(
     requires some { 1 ≤ workers }
     requires few { workers ≤ MAX_WORKERS }
 {
-    let mut book = book_before(rt, row, kind)?;
-    let (call, again) = (kind.call(rt, row)?, kind.call(rt, row)?);
-    let mut told = Told::nothing();
-    begin(rt);
-    let said = ask(rt, &mut book, call, workers, &mut told);
-    end(rt);
-    if said != Said::Refused(Refusal::NoMemory) {
-        return Some(Met::row_if(is_the_rows(rt.alloc(), &book, row, kind, said)));
-    }
-    let is_left = is_as_before(rt.alloc(), &book, row, told);
-    let said = ask(rt, &mut book, again, workers, &mut told);
-    Some(Met::no_memory_if(is_left && is_the_rows(rt.alloc(), &book, row, kind, said)))
+    let mut book = marked_book(rt.alloc(), row)?;
+    apply_to(rt, &mut book, row, kind, workers)
 }

@@ -3,14 +3,16 @@
 ghost use Rattle.std.specs.Prelude.{◌≡◌, ◌≤◌, All, Some};
 ghost use Rattle.progress_word.specs.declared.limits.TheConstants.{ALL_PARTS};
 
-use crate::exchange_calls::Exchange;
+use crate::exchange_calls::{Exchange, PlainClosed, fault_of, seat_of};
 use crate::history::push_history;
 use crate::plants::plain;
 use batch::Shape;
 use batch_book::{Seat, Unclosed};
 use client_session::{ServeFault, serve};
+use crossbar::MemoryPort;
 use module_memory::Rack;
-use schedule_certificate::MAX_WORKERS;
+use peek_poke::PlainWires;
+use schedule_certificate::{MAX_WORKERS, OpenGate};
 use std::alloc::{AllocError, Global};
 use std::io::Write;
 use std::marker::Brand;
@@ -57,17 +59,13 @@ fn serve_script<L: Ledger, R: AllocGlobal + Threads + Wait + Sync>(
         &mut lines,
         WORKERS,
     );
-    let (seat, fault) = match served {
-        Ok(seat) => (seat, None),
-        Err((seat, fault)) => (seat, Some(fault)),
-    };
     let told = Told {
         session,
         lines,
-        fault,
+        fault: fault_of(&served),
     };
     let _ = all.lock(rt).push(told);
-    seat
+    seat_of(served)
 }
 
 /// The lines of a session: `session I`, what it was told, and `ended ..` where a fault ended it.
@@ -81,29 +79,55 @@ fn push_told(text: &mut Vec<u8>, told: &Told) -> Result<(), AllocError> {
     Ok(())
 }
 
-/// What all sessions were told, in whatever order they ended, and then the history of the closed exchange.
-fn text_of<L: Ledger>(
+/// An exchange that is closed, or why it isn't.
+type Closing<L> = Result<PlainClosed<L>, Unclosed<L, MemoryPort, PlainWires, OpenGate>>;
+
+/// Puts what a closed exchange leaves behind a text.
+fn push_closing<L: Ledger>(text: &mut String, closing: &Closing<L>) -> Result<(), AllocError> {
+    match closing {
+        Ok(closed) => push_history(text, closed.book.history()),
+        Err(Unclosed::LogsDisagree(_)) => text.push_str("logs disagree\n"),
+        Err(Unclosed::SeatMissing(_, _)) => text.push_str("a seat is missing\n"),
+    }
+}
+
+/// The text of what a closed exchange leaves.
+fn closing_text<L: Ledger>(alloc: Global, closing: &Closing<L>) -> Result<String, AllocError> {
+    let mut text = String::new(alloc);
+    push_closing(&mut text, closing)?;
+    Ok(text)
+}
+
+/// Closes an exchange, and tells what it leaves.
+fn left_by<L: Ledger>(
     alloc: Global,
     exchange: Exchange<L>,
     seats: Vec<Seat<L>>,
-    all: &[Told],
-) -> Result<Vec<u8>, AllocError>
+) -> Result<String, AllocError>
     requires parts { L.parts ≡ ALL_PARTS }
     requires seats { All (λ s. s.exchange ≡ Some exchange.word) seats.items }
 {
-    let mut text = Vec::new(alloc);
+    let closing = exchange.close(seats);
+    closing_text(alloc, &closing)
+}
+
+/// Puts what all sessions were told, in whatever order they ended, and then the history, behind a text.
+fn push_all(text: &mut Vec<u8>, all: &[Told], history: &str) -> Result<(), AllocError> {
     for told in all {
-        push_told(&mut text, told)?;
-    }
-    let mut history = String::new(alloc);
-    match exchange.close(seats) {
-        Ok(closed) => push_history(&mut history, closed.book.history())?,
-        Err(Unclosed::LogsDisagree(_closed)) => history.push_str("logs disagree\n")?,
-        Err(Unclosed::SeatMissing(_exchange, _seats)) => history.push_str("a seat is missing\n")?,
+        push_told(text, told)?;
     }
     text.extend_from_slice(b"history\n")?;
-    text.extend_from_slice(history.as_bytes())?;
-    Ok(text)
+    text.extend_from_slice(history.as_bytes())
+}
+
+/// What all sessions were told, and then the history, if there was memory for it.
+fn told_text(alloc: Global, all: &[Told], left: &Result<String, AllocError>) -> Option<Vec<u8>> {
+    let Ok(history) = left else {
+        return None;
+    };
+    let mut text = Vec::new(alloc);
+    push_all(&mut text, all, history.as_str()).ok()?;
+    Some(text)
 }
 
 /// Serves the scripts side by side on a new exchange, each in a thread of its own where it can be had, and closes it.
@@ -129,8 +153,9 @@ fn serve_all<L: Ledger + Send + Sync, R: AllocGlobal + Threads + Wait + Sync>(
     let Ok(seats) = thread::map_vec(rt, seats, &one) else {
         return None;
     };
+    let left = left_by(rt.alloc(), exchange, seats);
     let all = all.into_inner();
-    text_of(rt.alloc(), exchange, seats, all.as_slice()).ok()
+    told_text(rt.alloc(), all.as_slice(), &left)
 }
 
 /// The files' bytes.

@@ -5,7 +5,7 @@ ghost use Rattle.link_graph.specs.Uses.{AreApart};
 
 use crate::marks::{begin, end};
 use crate::met::Met;
-use crate::rows::{FOUR, LINK, THREE_TRANSFERS, batch, graph};
+use crate::rows::{FOUR, LINK, THREE_TRANSFERS, batch, graph, is_batch};
 use alternating_path::{Coloured, Table};
 use euler_split::split;
 use link_graph::LinkGraph;
@@ -16,18 +16,30 @@ fn is_of_three(graph: &LinkGraph) -> bool {
     graph.len() == 3 && graph.busiest() == Some(LINK) && graph.uses(LINK) == 2
 }
 
+/// What was met by the making of the graph of row three-transfers.
+fn met_by_graph(made: &Result<LinkGraph, AllocError>, is_as_before: bool) -> Met {
+    match made {
+        Ok(graph) => Met::row_if(is_as_before && is_of_three(graph)),
+        Err(_) => Met::no_memory_if(is_as_before),
+    }
+}
+
 /// `LinkGraph::of` on row three-transfers.
 pub fn make_graph<R: AllocGlobal + Eprint>(rt: &R) -> Option<Met> {
     let batch = batch(rt.alloc(), THREE_TRANSFERS)?;
-    let before = batch.copy().ok()?;
     begin(rt);
     let made = LinkGraph::of(&batch);
     end(rt);
-    let is_as_before = batch == before;
-    Some(match made {
-        Ok(graph) => Met::row_if(is_as_before && is_of_three(&graph)),
+    let is_as_before = is_batch(rt.alloc(), &batch, THREE_TRANSFERS);
+    Some(met_by_graph(&made, is_as_before))
+}
+
+/// What was met by the list of the transfers of row three-transfers that use the link.
+fn met_by_users(users: &Result<Vec<usize>, AllocError>, is_as_before: bool) -> Met {
+    match users {
+        Ok(users) => Met::row_if(is_as_before && users.as_slice() == [0, 1].as_slice()),
         Err(_) => Met::no_memory_if(is_as_before),
-    })
+    }
 }
 
 /// `LinkGraph::transfers_of` on row three-transfers.
@@ -36,11 +48,7 @@ pub fn list_users<R: AllocGlobal + Eprint>(rt: &R) -> Option<Met> {
     begin(rt);
     let users = graph.transfers_of(LINK);
     end(rt);
-    let is_as_before = is_of_three(&graph);
-    Some(match users {
-        Ok(users) => Met::row_if(is_as_before && users.as_slice() == [0, 1].as_slice()),
-        Err(_) => Met::no_memory_if(is_as_before),
-    })
+    Some(met_by_users(&users, is_of_three(&graph)))
 }
 
 /// Whether two graphs have the same transfers between the same links.
@@ -68,6 +76,16 @@ fn are_halves(one: &[usize], other: &[usize]) -> bool {
         || (one == three.as_slice() && other == zero.as_slice())
 }
 
+/// What was met by the halving of row split-of-four.
+fn met_by_halves(halves: &Result<(Vec<usize>, Vec<usize>), AllocError>, is_as_before: bool) -> Met {
+    match halves {
+        Ok((one, other)) => {
+            Met::row_if(is_as_before && are_halves(one.as_slice(), other.as_slice()))
+        }
+        Err(_) => Met::no_memory_if(is_as_before),
+    }
+}
+
 /// `split` on row split-of-four.
 pub fn halve<R: AllocGlobal + Eprint>(rt: &R) -> Option<Met> {
     let graph = graph(rt.alloc(), FOUR)?;
@@ -77,13 +95,7 @@ pub fn halve<R: AllocGlobal + Eprint>(rt: &R) -> Option<Met> {
     begin(rt);
     let halves = split(rt.alloc(), &graph, &[0, 1, 2, 3]);
     end(rt);
-    let is_as_before = is_of_four(rt.alloc(), &graph);
-    Some(match halves {
-        Ok((one, other)) => {
-            Met::row_if(is_as_before && are_halves(one.as_slice(), other.as_slice()))
-        }
-        Err(_) => Met::no_memory_if(is_as_before),
-    })
+    Some(met_by_halves(&halves, is_of_four(rt.alloc(), &graph)))
 }
 
 /// Whether the two transfers use no common link.
@@ -263,10 +275,18 @@ pub fn take_back<R: AllocGlobal + Eprint>(rt: &R) -> Option<Met> {
     begin(rt);
     let taken = table.take_back();
     end(rt);
-    Some(match taken {
-        Ok((table, class)) => Met::row_if(is_taken_back(&table, class.as_slice())),
+    Some(match &taken {
+        Ok((table, class)) => Met::row_if(is_taken_back(table, class.as_slice())),
         Err(_) => Met::no_memory_if(is_of_four(rt.alloc(), &graph)),
     })
+}
+
+/// What was met by the making of the classes of row table-of-four.
+fn met_by_classes(made: &Result<Coloured, AllocError>, is_as_before: bool) -> Met {
+    match made {
+        Ok(coloured) => Met::row_if(is_row_of_four(coloured)),
+        Err(_) => Met::no_memory_if(is_as_before),
+    }
 }
 
 /// `Table::into_schedule` on row table-of-four.
@@ -276,10 +296,7 @@ pub fn make_schedule<R: AllocGlobal + Eprint>(rt: &R) -> Option<Met> {
     begin(rt);
     let made = table.into_schedule();
     end(rt);
-    Some(match made {
-        Ok(coloured) => Met::row_if(is_row_of_four(&coloured)),
-        Err(_) => Met::no_memory_if(is_of_four(rt.alloc(), &graph)),
-    })
+    Some(met_by_classes(&made, is_of_four(rt.alloc(), &graph)))
 }
 
 /// The classes of row table-of-four.
@@ -289,15 +306,23 @@ fn coloured<R: AllocGlobal + Eprint>(rt: &R) -> Option<Coloured> {
     table.into_schedule().ok()
 }
 
+/// What was met by a copy of the classes, which are as before or not.
+fn met_by_copy(
+    copied: &Result<Coloured, AllocError>,
+    coloured: &Coloured,
+    is_as_before: bool,
+) -> Met {
+    match copied {
+        Ok(copy) => Met::row_if(is_as_before && *copy == *coloured),
+        Err(_) => Met::no_memory_if(is_as_before),
+    }
+}
+
 /// `Coloured::copy` on row table-of-four.
 pub fn copy_coloured<R: AllocGlobal + Eprint>(rt: &R) -> Option<Met> {
     let coloured = coloured(rt)?;
     begin(rt);
     let copy = coloured.copy();
     end(rt);
-    let is_as_before = is_row_of_four(&coloured);
-    Some(match copy {
-        Ok(copy) => Met::row_if(is_as_before && copy == coloured),
-        Err(_) => Met::no_memory_if(is_as_before),
-    })
+    Some(met_by_copy(&copy, &coloured, is_row_of_four(&coloured)))
 }

@@ -1,15 +1,14 @@
 //! The calls of a book that are tried, and the rows on which they are.
 
+use crate::met::Met;
 use crate::rows::{
-    FIRST, ONE_PULL, ONE_PUSH, OTHER_PUSH, TWO_PUSHES, TWO_PUSHES_SHAPE, batch, marked_with, plan,
+    FIRST, ONE_PULL, ONE_PUSH, OTHER_PUSH, TWO_PUSHES, TWO_PUSHES_SHAPE, batch, plan,
 };
 use batch_book::{BatchState, Call, Refusal, Reply};
-use module_memory::Rack;
-use std::alloc::Global;
 use std::thread::Threads;
 
 /// What a reply says, in brief.
-#[derive(Clone, Copy, Debug, PartialEq, Eq)]
+#[derive(Clone, Copy, PartialEq, Eq)]
 pub enum Said {
     Accepted(usize),
     Fetched(usize),
@@ -80,7 +79,7 @@ impl Row {
     }
 
     /// How many words are moved when it is run.
-    fn words(self) -> usize {
+    pub fn words(self) -> usize {
         match self {
             Row::BookLimits => 1,
             Row::OneScript => 2,
@@ -91,7 +90,7 @@ impl Row {
 
 impl Row {
     /// The words that a run writes on a marked rack, each by its module and address.
-    fn moved(self) -> &'static [(usize, u32, u32)] {
+    pub fn moved(self) -> &'static [(usize, u32, u32)] {
         match self {
             Row::BookLimits => &[(1, 0x8000_0800, 0)],
             Row::OneScript => &[(0, 0x8000_0800, 0x0001_0100), (0, 0x8000_0804, 0x0001_0101)],
@@ -170,13 +169,33 @@ impl Kind {
         }
     }
 
-    /// The marked rack of the row once the call is answered.
-    pub fn rack_after(self, alloc: Global, row: Row) -> Option<Rack> {
-        let written = match self {
+    /// The words that it writes on the marked rack of the row, each by its module and address.
+    pub fn written(self, row: Row) -> &'static [(usize, u32, u32)] {
+        match self {
             Kind::Run => row.moved(),
-            Kind::Poke => &[(1, FIRST, 7)],
+            Kind::Poke => &[(1, 0x8000_0800, 7)],
             _ => &[],
-        };
-        marked_with(alloc, row.shape(), written)
+        }
+    }
+}
+
+/// How a call that is tried was answered.
+#[derive(Clone, Copy)]
+pub enum Tried {
+    /// At once.
+    Answered(Said),
+    /// By want of memory, which left all as it was or not, and then, made again, by this.
+    Again { is_left: bool, said: Said },
+}
+
+impl Tried {
+    /// What was met, given what the row says, and whether all is left as the row says.
+    pub fn met(self, wanted: Said, is_after: bool) -> Met {
+        match self {
+            Tried::Answered(said) => Met::row_if(said == wanted && is_after),
+            Tried::Again { is_left, said } => {
+                Met::no_memory_if(is_left && said == wanted && is_after)
+            }
+        }
     }
 }

@@ -23,29 +23,38 @@ mod rows;
 mod session_calls;
 mod still_calls;
 
-use crate::calls::GrowingCall;
+use crate::calls::{GrowingCall, calls};
 use crate::clients::serve_side_by_side;
+use std::rt::Files;
 use std::sync::Wait;
 use std::thread::Threads;
 use std::{env, io};
 
 fn main(rt: HostRuntime) -> io::Result<()> {
     let words = env::args(&rt)?.collect::<Vec<String>>(rt.alloc())?;
-    match (words.get(1), words.get(2), words.get(3..)) {
-        (Some(name), Some(shape), Some(files)) if name.as_str() == "clients" => {
-            serve_side_by_side(&rt, shape.as_str(), files)
+    answer(&rt, words.as_slice())
+}
+
+/// Does what the words of the command line want.
+fn answer<R: AllocGlobal + Eprint + Files + Print + Threads + Wait + Sync>(
+    rt: &R,
+    words: &[String],
+) -> io::Result<()> {
+    match words {
+        [_, name, shape, files @ ..] if name.as_str() == "clients" => {
+            serve_side_by_side(rt, shape.as_str(), files)
         }
-        (Some(name), _, _) => make_named(&rt, name.as_str()),
-        _ => make_all(&rt),
+        [_, name, ..] => make_named(rt, name.as_str()),
+        _ => make_all(rt),
     }
 }
 
 /// Makes a call, and says what was met.
 fn make<R: AllocGlobal + Eprint + Print + Threads + Wait + Sync>(
     rt: &R,
+    name: &str,
     call: GrowingCall,
 ) -> io::Result<()> {
-    let name = call.name();
     let met = call.make(rt).map_or("unprepared", |met| met.words());
     println!(rt; "{name}: {met}")
 }
@@ -53,20 +62,20 @@ fn make<R: AllocGlobal + Eprint + Print + Threads + Wait + Sync>(
 /// Makes the call of this name.
 fn make_named<R: AllocGlobal + Eprint + Print + Threads + Wait + Sync>(
     rt: &R,
-    name: &str,
+    wanted: &str,
 ) -> io::Result<()> {
-    for call in GrowingCall::ALL {
-        if call.name() == name {
-            return make(rt, call);
+    for (name, call) in calls() {
+        if *name == wanted {
+            return make(rt, name, *call);
         }
     }
-    println!(rt; "{name}: no such call")
+    println!(rt; "{wanted}: no such call")
 }
 
 /// Makes each call once.
 fn make_all<R: AllocGlobal + Eprint + Print + Threads + Wait + Sync>(rt: &R) -> io::Result<()> {
-    for call in GrowingCall::ALL {
-        make(rt, call)?;
+    for (name, call) in calls() {
+        make(rt, name, *call)?;
     }
     Ok(())
 }

@@ -1,11 +1,15 @@
 //! The calls that make, copy and part racks.
 
+ghost use Rattle.std.specs.Prelude.{IfOk};
+ghost use Rattle.module_memory.specs.Lending.{Rejoins};
+
 use crate::marks::{begin, end};
 use crate::met::Met;
-use crate::rows::{SWAP_SHAPE, SWAPPED, TWO_PUSHES_SHAPE, WRITTEN, are_same, marked};
+use crate::rows::{SWAP_SHAPE, SWAPPED, TWO_PUSHES_SHAPE, WRITTEN, are_same, is_marked, marked};
 use batch::{Place, Shape};
 use module_memory::{Bay, LendFault, Parted, Rack};
 use peek_poke::{Answerer, Window};
+use std::alloc::{AllocError, Global};
 
 /// Feeds bytes to a new answering end of the module, and gives the last answer, if no byte is refused.
 fn feed(module: &mut Window, bytes: &[u8]) -> Option<[u8; 4]> {
@@ -39,18 +43,22 @@ pub fn make_rack<R: AllocGlobal + Eprint>(rt: &R) -> Option<Met> {
     })
 }
 
+/// What was met by a copy of a rack, which is as before or not.
+fn met_by_copy(copied: &Result<Rack, AllocError>, rack: &Rack, is_as_before: bool) -> Met {
+    match copied {
+        Ok(copy) => Met::row_if(is_as_before && are_same(copy, rack)),
+        Err(_) => Met::no_memory_if(is_as_before),
+    }
+}
+
 /// `Rack::copy` on row book-limits.
 pub fn copy_rack<R: AllocGlobal + Eprint>(rt: &R) -> Option<Met> {
     let rack = marked(rt.alloc(), "2x1x1")?;
-    let before = marked(rt.alloc(), "2x1x1")?;
     begin(rt);
-    let copy = rack.copy();
+    let copied = rack.copy();
     end(rt);
-    let is_as_before = are_same(&rack, &before);
-    Some(match copy {
-        Ok(copy) => Met::row_if(is_as_before && are_same(&copy, &rack)),
-        Err(_) => Met::no_memory_if(is_as_before),
-    })
+    let is_as_before = is_marked(rt.alloc(), &rack, "2x1x1");
+    Some(met_by_copy(&copied, &rack, is_as_before))
 }
 
 /// Whether a bay has this place and these two words of a marked rack.
@@ -72,19 +80,34 @@ fn is_parted(parted: &Parted) -> bool {
         && parted.rest.word(WRITTEN[1], 0).is_none()
 }
 
+/// What was met by the parting of a marked rack of this shape, which is as its row wants it or not.
+fn met_by_parting(
+    alloc: Global,
+    parting: Result<Parted, (Rack, LendFault)>,
+    is_the_rows: bool,
+    shape: &str,
+) -> Met
+    requires { IfOk parting (λ parted. Rejoins parted.rest.store parted.bays.items) }
+{
+    match parting {
+        Ok(parted) => Met::row_if(is_the_rows && is_marked(alloc, &parted.rejoin(), shape)),
+        Err((rack, fault)) => {
+            Met::no_memory_if(fault == LendFault::NoMemory && is_marked(alloc, &rack, shape))
+        }
+    }
+}
+
 /// `Rack::part` on row two-pushes.
 pub fn part_rack<R: AllocGlobal + Eprint>(rt: &R) -> Option<Met> {
     let rack = marked(rt.alloc(), TWO_PUSHES_SHAPE)?;
-    let before = marked(rt.alloc(), TWO_PUSHES_SHAPE)?;
     begin(rt);
-    let parted = rack.part(&WRITTEN, &[]);
+    let parting = rack.part(&WRITTEN, &[]);
     end(rt);
-    Some(match parted {
-        Ok(parted) => Met::row_if(is_parted(&parted) && are_same(&parted.rejoin(), &before)),
-        Err((rack, fault)) => {
-            Met::no_memory_if(fault == LendFault::NoMemory && are_same(&rack, &before))
-        }
-    })
+    let is_the_rows = match &parting {
+        Ok(parted) => is_parted(parted),
+        Err(_) => false,
+    };
+    Some(met_by_parting(rt.alloc(), parting, is_the_rows, TWO_PUSHES_SHAPE))
 }
 
 /// Whether the rack is parted as row swap wants it: both blocks are lent, and both are held.
@@ -99,14 +122,12 @@ fn is_held(parted: &Parted) -> bool {
 /// `Rack::part` on row swap.
 pub fn part_held<R: AllocGlobal + Eprint>(rt: &R) -> Option<Met> {
     let rack = marked(rt.alloc(), SWAP_SHAPE)?;
-    let before = marked(rt.alloc(), SWAP_SHAPE)?;
     begin(rt);
-    let parted = rack.part(&SWAPPED, &SWAPPED);
+    let parting = rack.part(&SWAPPED, &SWAPPED);
     end(rt);
-    Some(match parted {
-        Ok(parted) => Met::row_if(is_held(&parted) && are_same(&parted.rejoin(), &before)),
-        Err((rack, fault)) => {
-            Met::no_memory_if(fault == LendFault::NoMemory && are_same(&rack, &before))
-        }
-    })
+    let is_the_rows = match &parting {
+        Ok(parted) => is_held(parted),
+        Err(_) => false,
+    };
+    Some(met_by_parting(rt.alloc(), parting, is_the_rows, SWAP_SHAPE))
 }

@@ -8,7 +8,7 @@ use schedule_certificate::OpenGate;
 use setting_runner::{Notice, Plant};
 
 /// A notice that keeps how often it was told, and how many settings it was told last.
-#[derive(Clone, Copy, Debug, PartialEq, Eq)]
+#[derive(Clone, Copy, PartialEq, Eq)]
 pub struct Told {
     pub times: usize,
     pub last: usize,

@@ -154,28 +154,6 @@ pub fn are_same(one: &Rack, other: &Rack) -> bool {
     true
 }
 
-/// Writes words from the first word of block 0 of a module on. Whether they are within its window.
-fn write(rack: &mut Rack, module: usize, words: &[u32]) -> bool {
-    let mut address = FIRST;
-    for word in words {
-        if rack.write(module, address, *word).is_err() {
-            return false;
-        }
-        address = address.wrapping_add(4);
-    }
-    true
-}
-
-/// A marked rack with other words from the first word of block 0 of modules 1 and 2 on.
-pub fn marked_but(alloc: Global, shape: &str, one: &[u32], two: &[u32]) -> Option<Rack> {
-    let mut rack = marked(alloc, shape)?;
-    if write(&mut rack, 1, one) && write(&mut rack, 2, two) {
-        Some(rack)
-    } else {
-        None
-    }
-}
-
 /// A marked rack with other words, each given by its module, its address and itself.
 pub fn marked_with(alloc: Global, shape: &str, words: &[(usize, u32, u32)]) -> Option<Rack> {
     let mut rack = marked(alloc, shape)?;
@@ -183,4 +161,30 @@ pub fn marked_with(alloc: Global, shape: &str, words: &[(usize, u32, u32)]) -> O
         rack.write(entry.0, entry.1, entry.2).ok()?;
     }
     Some(rack)
+}
+
+/// Whether a rack is a marked rack of this shape with these other words.
+pub fn is_marked_with(
+    alloc: Global,
+    rack: &Rack,
+    shape: &str,
+    words: &[(usize, u32, u32)],
+) -> bool {
+    match marked_with(alloc, shape, words) {
+        Some(wanted) => are_same(rack, &wanted),
+        None => false,
+    }
+}
+
+/// Whether a rack is a marked rack of this shape.
+pub fn is_marked(alloc: Global, rack: &Rack, shape: &str) -> bool {
+    is_marked_with(alloc, rack, shape, &[])
+}
+
+/// Whether this is the batch of a text.
+pub fn is_batch(alloc: Global, found: &Batch, text: &str) -> bool {
+    match batch(alloc, text) {
+        Some(wanted) => *found == wanted,
+        None => false,
+    }
 }

@@ -1,9 +1,9 @@
 //! The calls that serve sessions, on row one-script.
 
-ghost use Rattle.std.specs.Prelude.{◌≡◌, ◌≤◌};
+ghost use Rattle.std.specs.Prelude.{◌≡◌, ◌≤◌, length, IfOk};
 ghost use Rattle.progress_word.specs.declared.limits.TheConstants.{ALL_PARTS};
 
-use crate::exchange_calls::{Pair, close, open_pair};
+use crate::exchange_calls::{Pair, close, fault_of, open_pair, seat_of};
 use crate::kinds::Row;
 use crate::marks::{begin, end};
 use crate::met::Met;
@@ -12,7 +12,7 @@ use batch::Shape;
 use client_session::{ServeFault, serve as serve_session};
 use module_memory::Rack;
 use schedule_certificate::MAX_WORKERS;
-use std::alloc::AllocError;
+use std::alloc::{AllocError, Global};
 use std::io;
 use std::io::Write;
 use std::marker::Brand;
@@ -163,24 +163,32 @@ fn met(told: &[u8], fault: Option<ServeFault>, has_entries: bool) -> Met {
     }
 }
 
-/// `serve` on an exchange with two seats, with so many workers.
-fn serve_with<L: Ledger, R: AllocGlobal + Eprint + Threads + Wait + Sync>(
+/// Whether an exchange that is closed has so many entries, if it can be closed.
+fn has_entries<L: Ledger>(alloc: Global, pair: Pair<L>) -> Option<bool>
+    requires { L.parts ≡ ALL_PARTS }
+{
+    let entries = pair.first.log().len();
+    match close(Vec::new(alloc), pair) {
+        Some(closed) => Some(closed.book.history().len() == entries),
+        None => None,
+    }
+}
+
+/// `serve` from the first seat of an exchange, with so many workers.
+fn serve_first<L: Ledger, R: AllocGlobal + Eprint + Threads + Wait + Sync>(
     rt: &R,
-    blank: Blank,
+    pair: Pair<L>,
     workers: usize,
 ) -> Option<Met>
-    requires name { blank.name ≡ L.name }
-    requires parts { (blank.parts ≡ L.parts) × (blank.parts ≡ ALL_PARTS) }
+    requires parts { L.parts ≡ ALL_PARTS }
     requires some { 1 ≤ workers }
     requires few { workers ≤ MAX_WORKERS }
 {
-    let shape = Shape::read(Row::OneScript.shape().as_bytes()).ok()?;
-    let rack = Rack::new(rt.alloc(), shape).ok()?;
     let Pair {
         exchange,
         first,
         second,
-    } = open_pair::<L>(rt.alloc(), blank, rack, workers)?;
+    } = pair;
     let mut reader = SCRIPT.as_bytes();
     let mut writer = Kept::new();
     begin(rt);
@@ -194,19 +202,36 @@ fn serve_with<L: Ledger, R: AllocGlobal + Eprint + Threads + Wait + Sync>(
         workers,
     );
     end(rt);
-    let (first, fault) = match served {
-        Ok(seat) => (seat, None),
-        Err((seat, fault)) => (seat, Some(fault)),
-    };
-    let entries = first.log().len();
+    let fault = fault_of(&served);
     let pair = Pair {
         exchange,
-        first,
+        first: seat_of(served),
         second,
     };
-    let closed = close(Vec::new(rt.alloc()), pair)?;
-    let has_entries = closed.book.history().len() == entries;
+    let has_entries = has_entries(rt.alloc(), pair)?;
     Some(met(writer.as_slice(), fault, has_entries))
+}
+
+/// A rack of zeros of the shape of row one-script.
+fn zeros(alloc: Global) -> Option<Rack> {
+    let shape = Shape::read(Row::OneScript.shape().as_bytes()).ok()?;
+    Rack::new(alloc, shape).ok()
+}
+
+/// `serve` on an exchange with two seats, with so many workers.
+fn serve_with<L: Ledger, R: AllocGlobal + Eprint + Threads + Wait + Sync>(
+    rt: &R,
+    blank: Blank,
+    workers: usize,
+) -> Option<Met>
+    requires name { blank.name ≡ L.name }
+    requires parts { (blank.parts ≡ L.parts) × (blank.parts ≡ ALL_PARTS) }
+    requires some { 1 ≤ workers }
+    requires few { workers ≤ MAX_WORKERS }
+{
+    let rack = zeros(rt.alloc())?;
+    let pair = open_pair::<L>(rt.alloc(), blank, rack, workers)?;
+    serve_first(rt, pair, workers)
 }
 
 /// `serve` on row one-script, with so many workers.
@@ -218,12 +243,30 @@ pub fn serve<R: AllocGlobal + Eprint + Threads + Wait + Sync>(rt: &R, workers: u
 }
 
 /// What the program was to print, where some of it tells of want of memory.
-fn met_by_answer(answer: Result<Answer, AllocError>) -> Met {
+fn met_by_answer(answer: &Result<Answer, AllocError>) -> Met {
     match answer {
-        Ok(answer) if answer.text() == PRINTED.as_bytes() => Met::row_if(answer.status() == 0),
-        Ok(answer) => Met::no_memory_if(is_as_in_row(answer.text(), PRINTED.as_bytes())),
+        Ok(answer) => met_by_text(answer.text(), answer.status()),
         Err(_) => Met::NoMemory,
     }
+}
+
+/// What was met, where this was printed under this status.
+fn met_by_text(text: &[u8], status: u8) -> Met {
+    if text == PRINTED.as_bytes() {
+        Met::row_if(status == 0)
+    } else {
+        Met::no_memory_if(is_as_in_row(text, PRINTED.as_bytes()))
+    }
+}
+
+/// The bytes of both scripts.
+fn scripts(alloc: Global) -> Result<Vec<Vec<u8>>, AllocError>
+    ensures { IfOk result (λ scripts. length scripts.items ≡ 2) }
+{
+    let mut scripts = Vec::new(alloc);
+    scripts.push(SCRIPT.as_bytes().to_vec(alloc)?)?;
+    scripts.push(OTHER_SCRIPT.as_bytes().to_vec(alloc)?)?;
+    Ok(scripts)
 }
 
 /// `answer_serve` on row one-script, with so many workers.
@@ -234,16 +277,10 @@ pub fn answer<R: AllocGlobal + Eprint + Threads + Wait + Sync>(
     requires some { 1 ≤ workers }
     requires few { workers ≤ MAX_WORKERS }
 {
-    let mut scripts = Vec::new(rt.alloc());
-    scripts
-        .push(SCRIPT.as_bytes().to_vec(rt.alloc()).ok()?)
-        .ok()?;
-    scripts
-        .push(OTHER_SCRIPT.as_bytes().to_vec(rt.alloc()).ok()?)
-        .ok()?;
+    let scripts = scripts(rt.alloc()).ok()?;
     let shape = Row::OneScript.shape().as_bytes();
     begin(rt);
     let answer = answer_serve(rt, rt.alloc(), shape, workers, scripts.as_slice());
     end(rt);
-    Some(met_by_answer(answer))
+    Some(met_by_answer(&answer))
 }

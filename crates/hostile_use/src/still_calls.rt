@@ -1,21 +1,22 @@
 //! Calls that take no memory, between the same marks.
 
-ghost use Rattle.std.specs.Prelude.{◌≡◌, ◌≤◌, ◌<◌, length};
+ghost use Rattle.std.specs.Prelude.{◌≡◌, ◌≤◌, ◌<◌, [], length};
 ghost use Rattle.progress_word.specs.declared.limits.TheConstants.{ALL_PARTS};
 
-use crate::exchange_calls::{close as close_pair, open_pair};
+use crate::book_calls::{ask, fill, marked_book};
+use crate::exchange_calls::{Pair, close as close_pair, open_pair};
 use crate::graph_calls::takes_four;
-use crate::kinds::{Kind, Row};
+use crate::kinds::{Kind, Row, Said};
 use crate::marks::{begin, end};
 use crate::met::Met;
-use crate::plants::plain;
+use crate::plants::{Told, plain};
 use crate::rows::{
-    FIRST, FOUR, SWAP, SWAP_SHAPE, THREE_TRANSFERS, TWO_PUSHES, TWO_PUSHES_SHAPE, WRITTEN,
-    are_same, batch, graph, marked, plan,
+    FIRST, FOUR, SWAP, SWAP_SHAPE, THREE_TRANSFERS, TWO_PUSHES, TWO_PUSHES_SHAPE, WRITTEN, batch,
+    graph, is_marked, marked, plan,
 };
 use alternating_path::Table;
 use batch::{Batch, Place};
-use batch_book::{Book, Call, MAX_ENTRIES, Refusal, Reply};
+use batch_book::{Book, Call, MAX_ENTRIES, Refusal, Seat};
 use module_memory::Rack;
 use schedule_certificate::Planned;
 use setting_runner::{Notice, Outcome, PairList, run, setting_numbers};
@@ -61,14 +62,13 @@ pub fn pair<R: AllocGlobal + Eprint + Threads + Sync>(rt: &R) -> Option<Met> {
 /// `Parted::rejoin` on row two-pushes.
 pub fn rejoin<R: AllocGlobal + Eprint>(rt: &R) -> Option<Met> {
     let rack = marked(rt.alloc(), TWO_PUSHES_SHAPE)?;
-    let before = marked(rt.alloc(), TWO_PUSHES_SHAPE)?;
     let Ok(parted) = rack.part(&WRITTEN, &[]) else {
         return None;
     };
     begin(rt);
     let rack = parted.rejoin();
     end(rt);
-    Some(Met::row_if(are_same(&rack, &before)))
+    Some(Met::row_if(is_marked(rt.alloc(), &rack, TWO_PUSHES_SHAPE)))
 }
 
 /// A notice that sets the first mark when a run has begun.
@@ -86,19 +86,18 @@ impl<'a, R: Eprint> Notice for Marking<'a, R> {
     }
 }
 
-/// `run` behind its beginning, on a row of so many settings and words.
+/// `run` behind its beginning, of a plan of so many settings and words.
 fn run_begun<R: AllocGlobal + Eprint + Threads + Sync>(
     rt: &R,
-    text: &str,
+    planned: &Planned,
     shape: &str,
     settings: usize,
     words: usize,
 ) -> Option<Met> {
-    let planned = plan(rt, text)?;
     let rack = marked(rt.alloc(), shape)?;
     let mut plant = plain(1);
     let mut notice = Marking { rt };
-    let (_rack, outcome) = run(rt, rt.alloc(), rack, &mut plant, &planned, &mut notice);
+    let (_rack, outcome) = run(rt, rt.alloc(), rack, &mut plant, planned, &mut notice);
     end(rt);
     let Marking { rt: _ } = notice;
     let all = Outcome::Completed { settings, words };
@@ -107,32 +106,14 @@ fn run_begun<R: AllocGlobal + Eprint + Threads + Sync>(
 
 /// `run` behind its beginning, on row three-transfers, which has two settings.
 pub fn run_on<R: AllocGlobal + Eprint + Threads + Sync>(rt: &R) -> Option<Met> {
-    run_begun(rt, THREE_TRANSFERS, "3x2x1", 2, 3)
+    let planned = plan(rt, THREE_TRANSFERS)?;
+    run_begun(rt, &planned, "3x2x1", 2, 3)
 }
 
 /// `run` behind its beginning, on row swap, whose blocks are held by then.
 pub fn swap_on<R: AllocGlobal + Eprint + Threads + Sync>(rt: &R) -> Option<Met> {
-    run_begun(rt, SWAP, SWAP_SHAPE, 1, 2)
-}
-
-/// One call of session 0.
-fn ask<R: Threads + Sync>(rt: &R, book: &mut Book, call: Call) -> Reply {
-    book.apply(
-        rt,
-        0,
-        call,
-        &mut plain(1),
-        &mut crate::plants::Told::nothing(),
-    )
-}
-
-/// A book of row book-limits whose history is full.
-fn full_book<R: AllocGlobal + Threads + Sync>(rt: &R) -> Option<Book> {
-    let mut book = Book::new(rt.alloc(), marked(rt.alloc(), Row::BookLimits.shape())?).ok()?;
-    for _ in 0..MAX_ENTRIES {
-        ask(rt, &mut book, Call::Peek(1, FIRST));
-    }
-    Some(book)
+    let planned = plan(rt, SWAP)?;
+    run_begun(rt, &planned, SWAP_SHAPE, 1, 2)
 }
 
 /// One call of each kind.
@@ -153,18 +134,51 @@ fn calls<R: AllocGlobal + Threads + Sync>(rt: &R) -> Option<Vec<Call>> {
     Some(calls)
 }
 
-/// `Book::apply` of one call of each kind at a full history.
-pub fn apply_full<R: AllocGlobal + Eprint + Threads + Sync>(rt: &R) -> Option<Met> {
-    let mut book = full_book(rt)?;
-    let calls = calls(rt)?;
+/// Whether each call is refused since the history is full.
+fn are_refused<R: Threads + Sync>(rt: &R, book: &mut Book, calls: Vec<Call>) -> bool {
     let mut is_right = true;
-    begin(rt);
     for call in calls {
-        let reply = ask(rt, &mut book, call);
-        is_right = is_right && matches!(reply, Reply::Refused(Refusal::HistoryFull));
+        let said = ask(rt, book, call, 1, &mut Told::nothing());
+        is_right = is_right && said == Said::Refused(Refusal::HistoryFull);
     }
+    is_right
+}
+
+/// One call of each kind of a book whose history is full by then.
+fn ask_when_full<R: AllocGlobal + Eprint + Threads + Sync>(rt: &R, book: &mut Book) -> Option<Met> {
+    fill(rt, book, MAX_ENTRIES);
+    let calls = calls(rt)?;
+    begin(rt);
+    let is_right = are_refused(rt, book, calls);
     end(rt);
     Some(Met::row_if(is_right && book.history().len() == MAX_ENTRIES))
+}
+
+/// `Book::apply` of one call of each kind at a full history.
+pub fn apply_full<R: AllocGlobal + Eprint + Threads + Sync>(rt: &R) -> Option<Met> {
+    let mut book = marked_book(rt.alloc(), Row::BookLimits)?;
+    ask_when_full(rt, &mut book)
+}
+
+/// Whether the exchange can be closed, whose seats go into a list that is empty.
+fn closes<L: Ledger>(empty: Vec<Seat<L>>, pair: Pair<L>) -> bool
+    requires parts { L.parts ≡ ALL_PARTS }
+    requires empty { empty.items ≡ [] }
+{
+    let closed = close_pair(empty, pair);
+    closed.is_some()
+}
+
+/// `Shared::progress` and `Shared::close` of an exchange, whose seats go into a list that has room for them.
+fn close_first<L: Ledger, R: Eprint>(rt: &R, room: Vec<Seat<L>>, mut pair: Pair<L>) -> Met
+    requires parts { L.parts ≡ ALL_PARTS }
+    requires room { room.items ≡ [] }
+{
+    begin(rt);
+    let reading = pair.read();
+    let is_closed = closes(room, pair);
+    end(rt);
+    Met::row_if(reading.run == 0 && is_closed)
 }
 
 /// `Shared::progress` and `Shared::close` of an exchange with two seats and an entry.
@@ -175,15 +189,11 @@ fn close_with<L: Ledger, R: AllocGlobal + Eprint + Threads + Wait + Sync>(
     requires name { blank.name ≡ L.name }
     requires parts { (blank.parts ≡ L.parts) × (blank.parts ≡ ALL_PARTS) }
 {
+    let room = Vec::with_capacity(rt.alloc(), 2).ok()?;
     let rack = marked(rt.alloc(), Row::OneScript.shape())?;
     let mut pair = open_pair::<L>(rt.alloc(), blank, rack, 1)?;
     pair.ask(rt, Call::Peek(1, FIRST));
-    let seats = Vec::with_capacity(rt.alloc(), 2).ok()?;
-    begin(rt);
-    let reading = pair.read();
-    let closed = close_pair(seats, pair);
-    end(rt);
-    Some(Met::row_if(reading.run == 0 && closed.is_some()))
+    Some(close_first(rt, room, pair))
 }
 
 /// `Shared::progress` and `Shared::close` on row one-script.
