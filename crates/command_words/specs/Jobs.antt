@@ -1,7 +1,7 @@
 -- The job that the words of the command line name.
-use Rattle.std.specs.Prelude.{◌≡◌, ◌≢◌, ◌⊎◌, ℕ, ◌≤◌, List, [], ◌∷◌, Some, String, codes, length, map, string_bytes, AllPairs, MatchOption, ⊤}
-use Rattle.std.specs.Str.Parse.{digits_value, without_leading_plus}
-use Rattle.clap.specs.Words.{Row, Text, all_of, first_of, one_of, subcommand_of, subcommand_rows_of}
+use Rattle.std.specs.Prelude.{◌≡◌, ◌≢◌, ◌⊎◌, ℕ, ◌≤◌, List, [], ◌∷◌, Some, String, codes, length, map, string_bytes, true, AllPairs, IfErr, MatchOption, Result, ⊤}
+use Rattle.std.specs.Str.Parse.{IsNumeral, digits_value, without_leading_plus}
+use Rattle.clap.specs.Words.{Row, Text, all_of, first_of, one_of, subcommand_of, subcommand_rows_of, takes}
 use Rattle.clap.specs.declared.parser.matches.ArgMatches.{ArgMatches}
 use Rattle.clap.specs.Values.{kind_of}
 use Rattle.clap.specs.declared.error.Error.{Error}
@@ -10,11 +10,13 @@ use Rattle.schedule_certificate.specs.declared.limits.TheConstants.{MAX_WORKERS}
 use Rattle.command_words.specs.declared.limits.TheConstants.{MAX_SCRIPTS}
 use Rattle.command_words.specs.declared.words.Job.{Job}
 use Rattle.command_words.specs.declared.words.Job.TheVariants.{Plan, Check, Draw, Switch, Run, Serve}
+use Rattle.command_words.specs.declared.words.Lack.{Lack}
+use Rattle.command_words.specs.declared.words.Lack.TheVariants.{Memory}
 use Rattle.command_words.specs.Program.{program}
 
 -- the number that the text of `--workers` reads as
 abbrev pub HasWorkers : List Row → ℕ → Type 0
-HasWorkers rows n = (text : Text) × (one_of (codes "workers") rows ≡ Some text) × (n ≡ digits_value 10 (without_leading_plus text)) × (1 ≤ n) × (n ≤ MAX_WORKERS)
+HasWorkers rows n = (text : Text) × (one_of (codes "workers") rows ≡ Some text) × IsNumeral 10 (without_leading_plus text) × (n ≡ digits_value 10 (without_leading_plus text)) × (1 ≤ n) × (n ≤ MAX_WORKERS)
 
 -- the text of a rack's shape
 abbrev pub HasShape : List Row → Text → Type 0
@@ -53,6 +55,10 @@ AreMatchesOf words found = subcommand_rows_of found ≡ subcommand_of program wo
 abbrev pub Holds : List Text → Job → Type 0
 Holds words job = MatchOption (subcommand_of program words) ⊥ (λ p. IsJob p.0 p.1 job)
 
+-- clap's grammar takes the words
+unfoldable pub IsTaken : List Text → Type 0
+IsTaken words = takes program words ≡ true
+
 -- the job's numbers are within the limits
 abbrev pub IsWithinLimits : Job → Type 0
 IsWithinLimits (Plan file workers) = (1 ≤ workers) × (workers ≤ MAX_WORKERS)
@@ -82,3 +88,35 @@ NameInputOnce names = AllPairs (λ name later. name ≡ input_name → later ≢
 -- the words ask for a text that helps, and make no mistake
 abbrev pub AsksForHelp : Error → Type 0
 AsksForHelp error = (kind_of error ≡ DisplayHelp) ⊎ (kind_of error ≡ DisplayVersion)
+
+-- there is a text of this name
+abbrev pub HasWord : Text → List Row → Type 0
+HasWord id rows = (text : Text) × (first_of id rows ≡ Some text)
+
+-- there are the texts of a batch and of a schedule
+abbrev pub HasBoth : List Row → Type 0
+HasBoth rows = HasWord (codes "BATCH") rows × HasWord (codes "SCHEDULE") rows
+
+-- there are as many scripts as may be served
+abbrev pub HasSomeScripts : List Row → Type 0
+HasSomeScripts rows = (scripts : List Text) × HasScripts rows scripts
+
+-- there is a number of workers
+abbrev pub HasSomeWorkers : List Row → Type 0
+HasSomeWorkers rows = (n : ℕ) × HasWorkers rows n
+
+-- there is a text of this name, and a number of workers
+abbrev pub HasWorked : Text → List Row → Type 0
+HasWorked id rows = HasWord id rows × HasSomeWorkers rows
+
+-- there is what a run wants
+abbrev pub HasRun : List Row → Type 0
+HasRun rows = HasWord (codes "SHAPE") rows × HasWorked (codes "BATCH") rows
+
+-- there is what a server wants
+abbrev pub HasServe : List Row → Type 0
+HasServe rows = HasWord (codes "SHAPE") rows × HasSomeScripts rows × HasSomeWorkers rows
+
+-- where that is so, nothing but memory may be lacking
+abbrev pub LacksMemory : {X : Type 0} → Type 0 → Result X Lack → Type 0
+LacksMemory has result = IfErr result (λ lack. has → lack ≡ Memory)

@@ -1,11 +1,16 @@
 //! The words of the command line.
 
-ghost use Rattle.std.specs.Prelude.{◌≡◌, ◌↔◌, IfOk, IsTrue, false, Some, codes};
-ghost use Rattle.clap.specs.Words.{new_app, app_of, rule_of, first_of, rows_of, found_of};
+ghost use Rattle.std.specs.Prelude.{◌≡◌, ◌↔◌, IfErr, IfOk, IsTrue, false, Some, codes};
+ghost use Rattle.clap.specs.Words.{new_app, app_of, rule_of, first_of, rows_of, found_of, kind_of};
+ghost use Rattle.clap.specs.declared.error.kind.ErrorKind.TheVariants.{OutOfMemory};
+ghost use Rattle.command_words.specs.declared.words.Job.{Job};
+ghost use Rattle.command_words.specs.declared.words.Lack.TheVariants.{Memory};
+ghost use Rattle.command_words.specs.declared.words.WordsFault.TheVariants.{NoMemory};
 ghost use Rattle.command_words.specs.Program.{IsLocal, IsCommand, AddsRule, AddsTexts, AddsCommand, word, words, workers};
 ghost use Rattle.command_words.specs.Program.{top, planner, program};
 ghost use Rattle.command_words.specs.Program.{plan as plan_app, check as check_app, draw as draw_app, switch as switch_app, run as run_app, serve as serve_app};
-ghost use Rattle.command_words.specs.Jobs.{Holds, HasShape, HasTexts, HasScripts, HasWorkers, IsJob, IsWithinLimits, AreMatchesOf, NameInputOnce, files_of, texts_of};
+ghost use Rattle.command_words.specs.Jobs.{Holds, HasShape, HasTexts, HasScripts, HasWorkers, IsJob, IsWithinLimits, AreMatchesOf, IsTaken, NameInputOnce, files_of, texts_of};
+ghost use Rattle.command_words.specs.Jobs.{HasWord, HasBoth, HasSomeScripts, HasSomeWorkers, HasWorked, HasRun, HasServe, LacksMemory};
 
 use crate::help::{
     BATCH_HELP, CHECK_NOTES, DRAW_NOTES, PLAN_NOTES, RUN_NOTES, SCHEDULE_HELP, SCRIPT_HELP,
@@ -71,12 +76,16 @@ pub enum WordsFault {
 }
 
 impl From<AllocError> for WordsFault {
+    ghost from_gives = { λ _ fault. fault ≡ NoMemory };
+
     fn from(_error: AllocError) -> WordsFault {
         WordsFault::NoMemory
     }
 }
 
 impl From<clap::Error> for WordsFault {
+    ghost from_gives = { λ error fault. kind_of error ≡ OutOfMemory → fault ≡ NoMemory };
+
     fn from(error: clap::Error) -> WordsFault {
         match error.kind() {
             ErrorKind::OutOfMemory => WordsFault::NoMemory,
@@ -265,7 +274,8 @@ fn program<'a>(alloc: Global) -> Result<Command<'a>, AllocError>
 
 /// The matches of the words.
 fn matches_of<'a>(alloc: Global, words: &'a [String]) -> Result<ArgMatches<'a>, WordsFault>
-    ensures { IfOk result (AreMatchesOf (texts_of words.entry.now)) }
+    ensures matches { IfOk result (AreMatchesOf (texts_of words.entry.now)) }
+    ensures taken { IfErr result (λ fault. IsTaken (texts_of words.entry.now) → fault ≡ NoMemory) }
 {
     Ok(program(alloc)?.try_get_matches_from(words)?)
 }
@@ -291,6 +301,8 @@ enum Lack {
 }
 
 impl From<AllocError> for Lack {
+    ghost from_gives = { λ _ lack. lack ≡ Memory };
+
     fn from(_error: AllocError) -> Lack {
         Lack::Memory
     }
@@ -306,7 +318,9 @@ fn missing(alloc: Global) -> WordsFault {
 }
 
 /// The fault of what a job lacks.
-fn fault_of(alloc: Global, lack: Lack) -> WordsFault {
+fn fault_of(alloc: Global, lack: Lack) -> WordsFault
+    ensures { lack ≡ Memory → result ≡ NoMemory }
+{
     match lack {
         Lack::Word => missing(alloc),
         Lack::Memory => WordsFault::NoMemory,
@@ -321,7 +335,8 @@ fn named_twice(alloc: Global) -> WordsFault {
 
 /// The text of a word.
 fn text_of(alloc: Global, matches: &ArgMatches<'_>, id: &str) -> Result<Text, Lack>
-    ensures { IfOk result (λ text. first_of id.now (rows_of (found_of matches.now)) ≡ Some text) }
+    ensures text { IfOk result (λ text. first_of id.now (rows_of (found_of matches.now)) ≡ Some text) }
+    ensures lack { LacksMemory (HasWord id.now (rows_of (found_of matches.now))) result }
 {
     match matches.get_str(id) {
         Some(text) => Ok(Text::of(alloc, text)?),
@@ -331,14 +346,16 @@ fn text_of(alloc: Global, matches: &ArgMatches<'_>, id: &str) -> Result<Text, La
 
 /// The text of the shape.
 fn shape_of(alloc: Global, matches: &ArgMatches<'_>) -> Result<Text, Lack>
-    ensures { IfOk result (λ shape. HasShape (rows_of (found_of matches.now)) shape) }
+    ensures shape { IfOk result (λ shape. HasShape (rows_of (found_of matches.now)) shape) }
+    ensures lack { LacksMemory (HasWord (codes "SHAPE") (rows_of (found_of matches.now))) result }
 {
     text_of(alloc, matches, "SHAPE")
 }
 
 /// The texts of a batch and of a schedule.
 fn texts_named(alloc: Global, matches: &ArgMatches<'_>) -> Result<(Text, Text), Lack>
-    ensures { IfOk result (λ texts. HasTexts (rows_of (found_of matches.now)) texts.0 texts.1) }
+    ensures texts { IfOk result (λ texts. HasTexts (rows_of (found_of matches.now)) texts.0 texts.1) }
+    ensures lack { LacksMemory (HasBoth (rows_of (found_of matches.now))) result }
 {
     let batch = text_of(alloc, matches, "BATCH")?;
     let schedule = text_of(alloc, matches, "SCHEDULE")?;
@@ -347,7 +364,8 @@ fn texts_named(alloc: Global, matches: &ArgMatches<'_>) -> Result<(Text, Text), 
 
 /// The texts of the scripts.
 fn scripts_of(alloc: Global, matches: &ArgMatches<'_>) -> Result<TextList, Lack>
-    ensures { IfOk result (λ texts. HasScripts (rows_of (found_of matches.now)) texts) }
+    ensures scripts { IfOk result (λ texts. HasScripts (rows_of (found_of matches.now)) texts) }
+    ensures lack { LacksMemory (HasSomeScripts (rows_of (found_of matches.now))) result }
 {
     match matches.get_strs("SCRIPT") {
         Some(texts) if texts.len() >= 1 && texts.len() <= MAX_SCRIPTS => Ok(TextList::of(
@@ -359,7 +377,8 @@ fn scripts_of(alloc: Global, matches: &ArgMatches<'_>) -> Result<TextList, Lack>
 
 /// The number of `--workers`.
 fn workers_of(alloc: Global, matches: &ArgMatches<'_>) -> Result<usize, Lack>
-    ensures { IfOk result (λ n. HasWorkers (rows_of (found_of matches.now)) n) }
+    ensures workers { IfOk result (λ n. HasWorkers (rows_of (found_of matches.now)) n) }
+    ensures lack { LacksMemory (HasSomeWorkers (rows_of (found_of matches.now))) result }
 {
     match matches.get_one::<usize>("workers") {
         Some(n) if n >= 1 && n <= MAX_WORKERS => Ok(n),
@@ -371,6 +390,7 @@ fn workers_of(alloc: Global, matches: &ArgMatches<'_>) -> Result<usize, Lack>
 fn plan_job(alloc: Global, found: &ArgMatches<'_>) -> Result<Job, Lack>
     ensures job { IfOk result (λ job. IsJob (codes "plan") (rows_of (found_of found.now)) job) }
     ensures limits { IfOk result (λ job. IsWithinLimits job) }
+    ensures lack { LacksMemory (HasWorked (codes "FILE") (rows_of (found_of found.now))) result }
 {
     let file = text_of(alloc, found, "FILE")?;
     let workers = workers_of(alloc, found)?;
@@ -381,6 +401,7 @@ fn plan_job(alloc: Global, found: &ArgMatches<'_>) -> Result<Job, Lack>
 fn check_job(alloc: Global, found: &ArgMatches<'_>) -> Result<Job, Lack>
     ensures job { IfOk result (λ job. IsJob (codes "check") (rows_of (found_of found.now)) job) }
     ensures limits { IfOk result (λ job. IsWithinLimits job) }
+    ensures lack { LacksMemory (HasBoth (rows_of (found_of found.now))) result }
 {
     let (batch, schedule) = texts_named(alloc, found)?;
     Ok(Job::Check { batch, schedule })
@@ -390,6 +411,7 @@ fn check_job(alloc: Global, found: &ArgMatches<'_>) -> Result<Job, Lack>
 fn draw_job(alloc: Global, found: &ArgMatches<'_>) -> Result<Job, Lack>
     ensures job { IfOk result (λ job. IsJob (codes "draw") (rows_of (found_of found.now)) job) }
     ensures limits { IfOk result (λ job. IsWithinLimits job) }
+    ensures lack { LacksMemory (HasBoth (rows_of (found_of found.now))) result }
 {
     let (batch, schedule) = texts_named(alloc, found)?;
     Ok(Job::Draw { batch, schedule })
@@ -399,6 +421,7 @@ fn draw_job(alloc: Global, found: &ArgMatches<'_>) -> Result<Job, Lack>
 fn switch_job(alloc: Global, found: &ArgMatches<'_>) -> Result<Job, Lack>
     ensures job { IfOk result (λ job. IsJob (codes "switch") (rows_of (found_of found.now)) job) }
     ensures limits { IfOk result (λ job. IsWithinLimits job) }
+    ensures lack { LacksMemory (HasWorked (codes "BATCH") (rows_of (found_of found.now))) result }
 {
     let batch = text_of(alloc, found, "BATCH")?;
     let workers = workers_of(alloc, found)?;
@@ -409,6 +432,7 @@ fn switch_job(alloc: Global, found: &ArgMatches<'_>) -> Result<Job, Lack>
 fn run_job(alloc: Global, found: &ArgMatches<'_>) -> Result<Job, Lack>
     ensures job { IfOk result (λ job. IsJob (codes "run") (rows_of (found_of found.now)) job) }
     ensures limits { IfOk result (λ job. IsWithinLimits job) }
+    ensures lack { LacksMemory (HasRun (rows_of (found_of found.now))) result }
 {
     let shape = shape_of(alloc, found)?;
     let batch = text_of(alloc, found, "BATCH")?;
@@ -424,6 +448,7 @@ fn run_job(alloc: Global, found: &ArgMatches<'_>) -> Result<Job, Lack>
 fn serve_job(alloc: Global, found: &ArgMatches<'_>) -> Result<Job, Lack>
     ensures job { IfOk result (λ job. IsJob (codes "serve") (rows_of (found_of found.now)) job) }
     ensures limits { IfOk result (λ job. IsWithinLimits job) }
+    ensures lack { LacksMemory (HasServe (rows_of (found_of found.now))) result }
 {
     let shape = shape_of(alloc, found)?;
     let scripts = scripts_of(alloc, found)?;
@@ -439,6 +464,7 @@ fn serve_job(alloc: Global, found: &ArgMatches<'_>) -> Result<Job, Lack>
 fn job_of(alloc: Global, name: &str, found: &ArgMatches<'_>) -> Result<Job, Lack>
     ensures job { IfOk result (λ job. IsJob name.now (rows_of (found_of found.now)) job) }
     ensures limits { IfOk result (λ job. IsWithinLimits job) }
+    ensures lack { IfErr result (λ lack. (job : Job) → IsJob name.now (rows_of (found_of found.now)) job → lack ≡ Memory) }
 {
     if name == "plan" {
         return plan_job(alloc, found);
@@ -465,6 +491,7 @@ fn job_of(alloc: Global, name: &str, found: &ArgMatches<'_>) -> Result<Job, Lack
 fn job_named(alloc: Global, words: &[String]) -> Result<Job, WordsFault>
     ensures job { IfOk result (λ job. Holds (texts_of words.now) job) }
     ensures limits { IfOk result (λ job. IsWithinLimits job) }
+    ensures taken { IfErr result (λ fault. IsTaken (texts_of words.now) → (job : Job) → Holds (texts_of words.now) job → fault ≡ NoMemory) }
 {
     let matches = matches_of(alloc, words)?;
     match matches.subcommand() {
@@ -495,10 +522,12 @@ fn reads_input_once(job: &Job) -> bool
 /// Gives the job that clap finds in them: its command, its texts, and its number of workers. Words
 /// that fit no command are clap's error, which holds the text to print, and so is a demand for help or for
 /// the program's version, and a job of which several files are `-`, standard input.
+/// Words that clap takes, and that hold another job, are refused for want of memory only.
 pub fn read_words(alloc: Global, words: &[String]) -> Result<Job, WordsFault>
     ensures job { IfOk result (λ job. Holds (texts_of words.now) job) }
     ensures limits { IfOk result (λ job. IsWithinLimits job) }
     ensures input { IfOk result (λ job. NameInputOnce (files_of job)) }
+    ensures refused { IfErr result (λ fault. IsTaken (texts_of words.now) → (job : Job) → Holds (texts_of words.now) job → NameInputOnce (files_of job) → fault ≡ NoMemory) }
 {
     let job = job_named(alloc, words)?;
     if !reads_input_once(&job) {

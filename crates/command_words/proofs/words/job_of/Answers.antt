@@ -2,6 +2,8 @@ use Rattle.std.proofs.Common.{rules, ◌≡◌, IfOk, codes, subst, sym}
 use Rattle.clap.specs.Words.{Text, found_of, rows_of}
 use Rattle.command_words.specs.Jobs.{IsJob}
 use Rattle.command_words.specs.declared.words.Job.{Job}
+use Rattle.std.proofs.lemmas.Result.{IfErr-weaker}
+use Rattle.command_words.proofs.Wanted.{wanted_of}
 use Rattle.command_words.proofs.words.job_of.Goals as goal
 
 pub returns-then-eq-clause-job : goal.returns-then-eq-clause-job
@@ -33,3 +35,27 @@ pub returns-then-eq-6-clause-job : goal.returns-then-eq-6-clause-job
 returns-then-eq-6-clause-job c =
     let named : c.args.name.now ≡ codes "switch" = search rules in
     subst (λ (name : Text). IfOk c.switch_job.result (λ (job : Job). IsJob name (rows_of (found_of c.args.found.now)) job)) (sym named) c.switch_job.ensures.job
+
+pub returns-then-eq-clause-lack : goal.returns-then-eq-clause-lack
+returns-then-eq-clause-lack c =
+    let named : c.args.name.now ≡ codes "plan" = search rules in
+    IfErr-weaker c.plan_job.result _ _
+    (λ lack means job is. means (wanted_of c.args.name.now (codes "plan") (rows_of (found_of c.args.found.now)) job named is)) c.plan_job.ensures.lack
+
+pub returns-then-eq-3-clause-lack : goal.returns-then-eq-3-clause-lack
+returns-then-eq-3-clause-lack c =
+    let named : c.args.name.now ≡ codes "run" = search rules in
+    IfErr-weaker c.run_job.result _ _
+    (λ lack means job is. means (wanted_of c.args.name.now (codes "run") (rows_of (found_of c.args.found.now)) job named is)) c.run_job.ensures.lack
+
+pub returns-then-eq-4-clause-lack : goal.returns-then-eq-4-clause-lack
+returns-then-eq-4-clause-lack c =
+    let named : c.args.name.now ≡ codes "serve" = search rules in
+    IfErr-weaker c.serve_job.result _ _
+    (λ lack means job is. means (wanted_of c.args.name.now (codes "serve") (rows_of (found_of c.args.found.now)) job named is)) c.serve_job.ensures.lack
+
+pub returns-then-eq-6-clause-lack : goal.returns-then-eq-6-clause-lack
+returns-then-eq-6-clause-lack c =
+    let named : c.args.name.now ≡ codes "switch" = search rules in
+    IfErr-weaker c.switch_job.result _ _
+    (λ lack means job is. means (wanted_of c.args.name.now (codes "switch") (rows_of (found_of c.args.found.now)) job named is)) c.switch_job.ensures.lack

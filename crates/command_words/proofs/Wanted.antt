@@ -1,0 +1,61 @@
+-- What the rows have of a job that words hold.
+use Rattle.std.proofs.Common.{◌≡◌, ◌∙◌, sym, subst, Bool, true, false, List, [], ◌∷◌, Option, Some, None, codes, refl}
+use Rattle.std.specs.Prelude.{MatchOption, if◌then◌else◌, unwrap_or}
+use Rattle.std.specs.Str.{bytes_eq}
+use Rattle.clap.specs.Words.{Row, Text, all_of, first_of}
+use Rattle.command_words.specs.declared.words.Job.{Job}
+use Rattle.command_words.specs.declared.words.Job.TheVariants.{Plan, Check, Draw, Switch, Run, Serve}
+use Rattle.command_words.specs.Jobs.{IsJob, HasWorked, HasBoth, HasRun, HasServe, files_of}
+
+-- the one or the other
+abbrev Either : Bool → Type 0 → Type 0 → Type 0
+Either true a b = a
+Either false a b = b
+
+-- the rows have what the command of this name wants
+abbrev pub HasWanted : Text → List Row → Type 0
+HasWanted name rows =
+    Either (bytes_eq name (codes "plan")) (HasWorked (codes "FILE") rows)
+    (Either (bytes_eq name (codes "check")) (HasBoth rows)
+    (Either (bytes_eq name (codes "run")) (HasRun rows)
+    (Either (bytes_eq name (codes "serve")) (HasServe rows)
+    (Either (bytes_eq name (codes "draw")) (HasBoth rows)
+    (Either (bytes_eq name (codes "switch")) (HasWorked (codes "BATCH") rows) ⊥)))))
+
+pub wanted : (name : Text) (rows : List Row) (job : Job) → IsJob name rows job → HasWanted name rows
+wanted name rows (Plan file workers) is = rw is.0 ((file, is.1), (workers, is.2))
+wanted name rows (Check batch schedule) is = rw is.0 ((batch, is.1.0), (schedule, is.1.1))
+wanted name rows (Draw batch schedule) is = rw is.0 ((batch, is.1.0), (schedule, is.1.1))
+wanted name rows (Switch batch workers) is = rw is.0 ((batch, is.1), (workers, is.2))
+wanted name rows (Run shape batch workers) is = rw is.0 ((shape, is.1), ((batch, is.2), (workers, is.3)))
+wanted name rows (Serve shape scripts workers) is = rw is.0 ((shape, is.1), (scripts, is.2), (workers, is.3))
+
+-- a job's rows have what the command wants whose name this is
+pub wanted_of : (name wants : Text) (rows : List Row) (job : Job) → name ≡ wants → IsJob name rows job → HasWanted wants rows
+wanted_of name wants rows job same is = subst (λ (n : Text). HasWanted n rows) same (wanted name rows job is)
+
+-- the text of this name
+abbrev text_in : Text → List Row → Text
+text_in id rows = unwrap_or (first_of id rows) []
+
+-- the names of the files of the command of this name
+abbrev files_in : Text → List Row → List Text
+files_in name rows =
+    if bytes_eq name (codes "plan") then text_in (codes "FILE") rows ∷ []
+    else if bytes_eq name (codes "check") then text_in (codes "BATCH") rows ∷ text_in (codes "SCHEDULE") rows ∷ []
+    else if bytes_eq name (codes "draw") then text_in (codes "BATCH") rows ∷ text_in (codes "SCHEDULE") rows ∷ []
+    else if bytes_eq name (codes "serve") then unwrap_or (all_of (codes "SCRIPT") rows) []
+    else text_in (codes "BATCH") rows ∷ []
+
+files_are : (name : Text) (rows : List Row) (job : Job) → IsJob name rows job → files_of job ≡ files_in name rows
+files_are name rows (Plan file workers) is = rw (is.0, is.1) refl
+files_are name rows (Check batch schedule) is = rw (is.0, is.1.0, is.1.1) refl
+files_are name rows (Draw batch schedule) is = rw (is.0, is.1.0, is.1.1) refl
+files_are name rows (Switch batch workers) is = rw (is.0, is.1) refl
+files_are name rows (Run shape batch workers) is = rw (is.0, is.2) refl
+files_are name rows (Serve shape scripts workers) is = rw (is.0, is.2.0) refl
+
+-- two jobs that the same words hold have the same files
+pub same_files : (o : Option (Text × List Row)) (a b : Job) → MatchOption o ⊥ (λ p. IsJob p.0 p.1 a) → MatchOption o ⊥ (λ p. IsJob p.0 p.1 b) → files_of a ≡ files_of b
+same_files None a b one other = absurd one
+same_files (Some p) a b one other = files_are p.0 p.1 a one ∙ sym (files_are p.0 p.1 b other)
