@@ -39,9 +39,8 @@ pub record AreSessionsOf (shape : Extent) (scripts : List (List ℕ)) (sessions 
   pub numbers : map (λ t. t.session) sessions ≡ range_with_len 0 (length scripts)
   pub each : All (HasItsScript shape scripts) sessions
 
--- a history of an exchange, which is legal from some words and has as many entries as these sessions
-pub record IsHistoryOf (sessions : List Transcript) (history : List Entry) : Type 0 where
-  pub opening : Store
+-- a history of an exchange, which is legal from this opening store and has as many entries as these sessions
+pub record IsHistoryOf (opening : Store) (sessions : List Transcript) (history : List Entry) : Type 0 where
   pub legal : IsLegal opening history
   pub counted : length history ≡ sum_by (λ t. length t.entries) sessions
 
@@ -49,28 +48,32 @@ pub record IsHistoryOf (sessions : List Transcript) (history : List Entry) : Typ
 abbrev pub AreParts : List Transcript → List Entry → Type 0
 AreParts sessions history = All (λ t. t.entries ≡ own t.session history) sessions
 
--- The sessions have one history: it has just their entries, those of each session in its order. No session saw the runs come further than it
--- tells.
-pub record HaveOneHistory (sessions : List Transcript) : Type 0 where
+-- The sessions have one history, whose opening store is of this shape: it has just their entries, those of each session in its order. No session
+-- saw the runs come further than it tells.
+pub record HaveOneHistory (shape : Extent) (sessions : List Transcript) : Type 0 where
+  pub opening : Store
   pub history : List Entry
-  pub is_history : IsHistoryOf sessions history
+  pub shape_is : opening.shape ≡ shape
+  pub is_history : IsHistoryOf opening sessions history
   pub parts : AreParts sessions history
   pub seen : All (λ t. t.seen ≤ greatest history) sessions
 
--- the history that was kept of the sessions isn't that of their entries
-pub record HaveAnotherHistory (sessions : List Transcript) : Type 0 where
+-- the history that was kept of the sessions has an opening store of another shape, or isn't that of their entries
+pub record HaveAnotherHistory (shape : Extent) (sessions : List Transcript) : Type 0 where
+  pub opening : Store
   pub history : List Entry
-  pub is_history : IsHistoryOf sessions history
-  pub no_parts : ¬ AreParts sessions history
+  pub is_history : IsHistoryOf opening sessions history
+  pub no_parts : opening.shape ≡ shape → ¬ AreParts sessions history
 
--- The texts of the sessions are printed. Where another history was kept of them, that is said by a last line.
-pub data ArePrinted (sessions : List Transcript) (printed : Printed) : Type 0 where
-  agree : HaveOneHistory sessions → printed.text ≡ sessions_text sessions → printed.status ≡ status_of sessions → ArePrinted sessions printed
-  disagree : HaveAnotherHistory sessions → printed.text ≡ sessions_text sessions ++ disagree_line → printed.status ≡ REFUSED → ArePrinted sessions printed
+-- The texts of the sessions on a rack of this shape are printed. Where another history was kept of them, that is said by a last line.
+pub data ArePrinted (shape : Extent) (sessions : List Transcript) (printed : Printed) : Type 0 where
+  agree : HaveOneHistory shape sessions → printed.text ≡ sessions_text sessions → printed.status ≡ status_of sessions → ArePrinted shape sessions printed
+  disagree : HaveAnotherHistory shape sessions → printed.text ≡ sessions_text sessions ++ disagree_line → printed.status ≡ REFUSED
+      → ArePrinted shape sessions printed
 
 -- the sessions of the scripts on one exchange, with a rack of the shape, are printed
 abbrev pub AreServed : Extent → List (List ℕ) → Printed → Type 0
-AreServed shape scripts printed = (sessions : List Transcript) × AreSessionsOf shape scripts sessions × ArePrinted sessions printed
+AreServed shape scripts printed = (sessions : List Transcript) × AreSessionsOf shape scripts sessions × ArePrinted shape sessions printed
 
 -- the sessions of the scripts on a rack of the shape that the text denotes, or the refusal where it denotes none
 pub data IsServeAnswer (shape : List ℕ) (scripts : List (List ℕ)) (printed : Printed) : Type 0 where

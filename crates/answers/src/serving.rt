@@ -97,7 +97,8 @@ fn seats_of<L: Ledger>(alloc: Global, sessions: Vec<Session<L>>) -> Result<Vec<S
         .collect(alloc)
 }
 
-/// Closes the exchange, and says whether the lists of its sessions are those of its history.
+/// Closes the exchange, and says whether the lists of its sessions are those of its history, on a rack of its
+/// shape.
 fn close<L: Ledger>(
     alloc: Global,
     exchange: PlainExchange<L>,
@@ -106,15 +107,18 @@ fn close<L: Ledger>(
     requires parts { L.parts ≡ ALL_PARTS }
     requires seats { HaveAllSeats exchange sessions.items }
     ensures agree { IfOk result (λ agree. agree ≡ true
-        → HaveOneHistory (map transcript sessions.items)) }
+        → HaveOneHistory exchange.shape (map transcript sessions.items)) }
     ensures disagree { IfOk result (λ agree. agree ≡ false
-        → HaveAnotherHistory (map transcript sessions.items)) }
+        → HaveAnotherHistory exchange.shape (map transcript sessions.items)) }
 {
+    let shape = exchange.shape();
     // The history is asked for only for its contract, which says that it is legal.
     match exchange.close(seats_of(alloc, sessions)?) {
         Ok(closed) => {
             closed.book.history();
-            Ok(true)
+            // A book that comes from under a lock could have been opened with any rack, as far as contracts tell.
+            let is_of_shape = closed.book.opening().shape() == shape;
+            Ok(is_of_shape)
         }
         Err(Unclosed::LogsDisagree(closed)) => {
             closed.book.history();
@@ -177,7 +181,7 @@ fn host<L: Ledger + Send + Sync, R: Threads + Wait + Sync>(
 /// order, comes the line `session I`, and then what the session was told; where a fault ended it, a line
 /// `ended ..` says so, and the status is [`REFUSED`](crate::REFUSED). When all have ended the exchange is closed.
 /// Under that status too, a last line `logs disagree` would say that the sessions' lists aren't those of its
-/// history.
+/// history, or that this began on a rack of another shape.
 pub fn answer_serve<R: Threads + Wait + Sync>(
     rt: &R,
     alloc: Global,

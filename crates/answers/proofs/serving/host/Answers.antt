@@ -1,7 +1,7 @@
 use Rattle.std.proofs.Common.{◌≡◌, ◌++◌, false, map, refl, rules}
 use Rattle.answers.specs.Frames.{sessions_text, disagree_line}
 use Rattle.answers.specs.Hosting.{transcript}
-use Rattle.answers.specs.Serving.{disagree}
+use Rattle.answers.specs.Serving.{HaveAnotherHistory, disagree}
 use Rattle.answers.proofs.serving.host.Goals as goal
 
 pub returns-then-not-branch : goal.returns-then-not-branch
@@ -10,4 +10,5 @@ returns-then-not-branch g c =
     let framed : c.in_ok-text.text.items ≡ sessions_text sessions = rw c.as_slice.ensures.value at c.in_ok-text.ensures in
     let text : c.failed.result.text ≡ sessions_text sessions ++ disagree_line = rw (c.failed.ensures.text, c.in_ok-extend_from_slice.ensures.items, framed) refl in
     let differ : c.in_ok-close.field-0 ≡ false = search rules in
-    (sessions, rw c.in-Ok.ensures.shape at c.in_ok-sessions.ensures.of_scripts, disagree (c.in_ok-close.ensures.disagree differ) text c.failed.ensures.status)
+    let another : HaveAnotherHistory c.args.rack.shape sessions = rw c.in-Ok.ensures.shape at (c.in_ok-close.ensures.disagree differ) in
+    (sessions, rw c.in-Ok.ensures.shape at c.in_ok-sessions.ensures.of_scripts, disagree another text c.failed.ensures.status)
