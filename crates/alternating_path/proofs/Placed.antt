@@ -13,7 +13,8 @@ use Rattle.link_graph.specs.declared.link.Link.{Link}
 use Rattle.link_graph.specs.Uses.{Uses}
 use Rattle.link_graph.specs.Counts.{count_below, module_at}
 use Rattle.alternating_path.specs.Colouring.{colour_at}
-use Rattle.alternating_path.specs.Counts.{uses_link, placed_uses, CountsPlacedUsers}
+use Rattle.alternating_path.specs.Counts.{uses_link, placed_uses}
+use Rattle.alternating_path.specs.Laws.{CountsPlacedUsers}
 use Rattle.alternating_path.specs.Ends.{link_at, link_of}
 use Rattle.alternating_path.proofs.Held.{and_true, uses_yes}
 use Rattle.alternating_path.proofs.Links.{uses_within, uses-link_at}

@@ -15,7 +15,8 @@ pub record IsClassOf (colour : List (Option ℕ)) (setting : List ℕ) : Type 0 
   pub c : ℕ
   pub just : (t : ℕ) → Contains setting t ↔ (colour_at colour t ≡ Some c)
 
--- The settings are the colour classes that hold something, each once. The numbers ascend in each, and the least numbers of the settings ascend.
+-- The settings are the colour classes that hold something, each once. The numbers ascend in each,
+-- and the least numbers of the settings ascend.
 pub record AreClassesOf (colour : List (Option ℕ)) (settings : List (List ℕ)) : Type 0 where
   pub none_empty : All (λ setting. 0 < length setting) settings
   pub classes : All (IsClassOf colour) settings
@@ -59,12 +60,14 @@ abbrev pub without_colour : ℕ → Option ℕ → Option ℕ
 without_colour c None = None
 without_colour c (Some d) = cond (d == c) None (Some (cond (nat_lt c d) (d - 1) d))
 
--- The first of the smallest classes is given up: its transfers are handed back, each once, and all others keep their classes. They are at most
--- the placed transfers, divided by the number of colours.
+-- The first of the smallest classes is given up: its transfers are handed back, each once, and all
+-- others keep their classes. They are at most the placed transfers, divided by the number of
+-- colours.
 pub record IsTakenBack (old new : Colouring) (back : List ℕ) : Type 0 where
   pub c : ℕ
   pub smallest : IsSmallestClass old c
   pub given : (t : ℕ) → Contains back t ↔ (colour_at old.colour t ≡ Some c)
   pub distinct : AreDistinct back
-  pub rest : new ≡ record old { colours = old.colours - 1; colour = map (without_colour c) old.colour }
+  pub rest : new
+      ≡ record old { colours = old.colours - 1; colour = map (without_colour c) old.colour }
   pub few : length back * old.colours ≤ placed_count old.colour

@@ -1,6 +1,8 @@
--- Partial edge colourings of the graph of a batch. Its nodes are the links, its edges the transfers; each edge joins a link 0 to a link 3, so the graph
--- is a bipartite multigraph. D. König, "Über Graphen und ihre Anwendung auf Determinantentheorie und Mengenlehre", 1916: where d is the greatest number of
--- edges at a node, d colours suffice for a proper edge colouring of all edges.
+-- Partial edge colourings of the graph of a batch. Its nodes are the links, its edges the
+-- transfers; each edge joins a link 0 to a link 3, so the graph is a bipartite multigraph. D.
+-- König, "Über Graphen und ihre Anwendung auf Determinantentheorie und Mengenlehre", 1916: where d
+-- is the greatest number of edges at a node, d colours suffice for a proper edge colouring of all
+-- edges.
 use Rattle.std.specs.Prelude.{◌≡◌, ◌≢◌, ℕ, ◌+◌, ◌-◌, ◌^◌, ◌<◌, ◌⊎◌, ◌↔◌, min, List, length, replicate, set, Option, Some, None, IsSome, Contains, slice_index_or}
 use Rattle.batch.specs.declared.transfer.Transfer.{Transfer}
 use Rattle.link_graph.specs.declared.link.End.{End}
@@ -8,7 +10,8 @@ use Rattle.link_graph.specs.declared.link.Link.{Link}
 use Rattle.link_graph.specs.Uses.{Uses, AreApart}
 use Rattle.alternating_path.specs.Ends.{link_at}
 
--- some transfers of a batch with a colour each: the batch, how many colours there are, each transfer's colour where it is placed, and how many insertions succeeded
+-- some transfers of a batch with a colour each: the batch, how many colours there are, each
+-- transfer's colour where it is placed, and how many insertions succeeded
 pub record Colouring : Type 0 where
   pub batch : List Transfer
   pub colours : ℕ
@@ -29,20 +32,29 @@ AllPlaced s = (t : ℕ) → t < length s.batch → IsPlaced s.colour t
 
 -- no transfer of the batch is placed
 abbrev pub nothing_placed : List Transfer → ℕ → Colouring
-nothing_placed batch colours = record { batch = batch; colours = colours; colour = replicate (length batch) None; inserted = 0 }
+nothing_placed batch colours =
+    record {
+      batch = batch;
+      colours = colours;
+      colour = replicate (length batch) None;
+      inserted = 0;
+    }
 
--- the colouring is proper: each colour is one of k, and different transfers of one colour use no common link
+-- the colouring is proper: each colour is one of k, and different transfers of one colour use no
+-- common link
 pub record IsProper (batch : List Transfer) (k : ℕ) (colour : List (Option ℕ)) : Type 0 where
   pub sized : length colour ≡ length batch
   pub below : (t c : ℕ) → colour_at colour t ≡ Some c → c < k
-  pub apart : (t u c : ℕ) → t ≢ u → colour_at colour t ≡ Some c → colour_at colour u ≡ Some c → AreApart batch t u
+  pub apart : (t u c : ℕ) → t ≢ u → colour_at colour t ≡ Some c → colour_at colour u ≡ Some c
+      → AreApart batch t u
 
 -- the table's colouring is proper
 abbrev pub IsProperTable : Colouring → Type 0
 IsProperTable s = IsProper s.batch s.colours s.colour
 
 -- the colour c is free at the link: no transfer of that colour uses it
-pub record IsFree (batch : List Transfer) (colour : List (Option ℕ)) (link : Link) (c : ℕ) : Type 0 where
+pub record IsFree (batch : List Transfer) (colour : List (Option ℕ)) (link : Link)
+    (c : ℕ) : Type 0 where
   pub none : (u : ℕ) → colour_at colour u ≡ Some c → Uses batch u link → ⊥
 
 -- the colour c is free at the link that t uses at an end
@@ -51,7 +63,8 @@ IsFreeAt s t end c = IsFree s.batch s.colour (link_at s.batch t end) c
 
 -- u has the colour c and uses the link that t uses at an end
 abbrev pub TakesAt : Colouring → ℕ → End → ℕ → ℕ → Type 0
-TakesAt s t end c u = (colour_at s.colour u ≡ Some c) × (link_at s.batch u end ≡ link_at s.batch t end)
+TakesAt s t end c u =
+    (colour_at s.colour u ≡ Some c) × (link_at s.batch u end ≡ link_at s.batch t end)
 
 -- the table in which t has another colour, or none
 abbrev pub with_colour : Colouring → ℕ → Option ℕ → Colouring
@@ -83,5 +96,7 @@ counted n = min n (2 ^ 64 - 1)
 pub record IsJoined (left right table : Colouring) : Type 0 where
   pub batch : table.batch ≡ left.batch
   pub colours : table.colours ≡ left.colours + right.colours
-  pub classes : (t : ℕ) → colour_at table.colour t ≡ joined_colour left.colours (colour_at left.colour t) (colour_at right.colour t)
+  pub classes : (t : ℕ)
+      → colour_at table.colour t
+      ≡ joined_colour left.colours (colour_at left.colour t) (colour_at right.colour t)
   pub inserted : table.inserted ≡ counted (left.inserted + right.inserted)

@@ -4,7 +4,7 @@ use Rattle.batch.specs.declared.transfer.Transfer.{Transfer}
 use Rattle.link_graph.specs.declared.link.End.{End}
 use Rattle.link_graph.specs.declared.link.Link.{Link}
 use Rattle.link_graph.specs.Uses.{Uses}
-use Rattle.link_graph.specs.Counts.{count_below, module_at, uses}
+use Rattle.link_graph.specs.Counts.{count_below, module_at}
 use Rattle.batch.specs.Overlap.{transfer_at}
 use Rattle.alternating_path.specs.Ends.{link_at}
 use Rattle.alternating_path.specs.Colouring.{Colouring, colour_at, IsPlaced}
@@ -15,7 +15,8 @@ uses_link batch link t = module_at link.end (transfer_at batch t) == link.«modu
 
 -- how many placed transfers use the link
 unfoldable pub placed_uses : List Transfer → List (Option ℕ) → Link → ℕ
-placed_uses batch colour link = count_below (length batch) (λ t. uses_link batch link t && is_some (colour_at colour t))
+placed_uses batch colour link =
+    count_below (length batch) (λ t. uses_link batch link t && is_some (colour_at colour t))
 
 -- how many placed transfers use the link that t uses at an end
 abbrev pub placed_uses_at : Colouring → ℕ → End → ℕ
@@ -34,14 +35,7 @@ IsShutOut s t = (colour_at s.colour t ≡ None) × HasFullLink s t
 -- ---- what the count means
 
 -- just the placed transfers that use the link, ascending
-pub record ArePlacedUsers (batch : List Transfer) (colour : List (Option ℕ)) (link : Link) (users : List ℕ) : Type 0 where
+pub record ArePlacedUsers (batch : List Transfer) (colour : List (Option ℕ)) (link : Link)
+    (users : List ℕ) : Type 0 where
   pub ascending : AllPairs (λ t u. t < u) users
   pub just : (t : ℕ) → Contains users t ↔ (Uses batch t link × IsPlaced colour t)
-
--- the count is the number of the placed transfers that use the link
-abbrev pub CountsPlacedUsers : Type 0
-CountsPlacedUsers = (batch : List Transfer) (colour : List (Option ℕ)) (link : Link) → (users : List ℕ) × ArePlacedUsers batch colour link users × (placed_uses batch colour link ≡ length users)
-
--- a link of a transfer that isn't placed has fewer placed transfers than uses
-abbrev pub UnplacedFindRoom : Type 0
-UnplacedFindRoom = (batch : List Transfer) (colour : List (Option ℕ)) (t : ℕ) (link : Link) → Uses batch t link → colour_at colour t ≡ None → placed_uses batch colour link < uses batch link

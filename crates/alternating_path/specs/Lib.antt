@@ -4,3 +4,4 @@ pub mod Counts
 pub mod Classes
 pub mod Cells
 pub mod Equal
+pub mod Laws

@@ -1,6 +1,6 @@
 //! Laws of colourings, proved of their definitions alone. None of them does anything.
 
-ghost use Rattle.alternating_path.specs.Counts.{CountsPlacedUsers, UnplacedFindRoom};
+ghost use Rattle.alternating_path.specs.Laws.{CountsPlacedUsers, UnplacedFindRoom};
 
 /// The count of a link's placed transfers, by which a table says that it has no room, is the number
 /// of the transfers that are placed and use the link.

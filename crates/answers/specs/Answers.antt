@@ -43,20 +43,26 @@ SaysPlan text plan = Says text (said plan.settings (Some plan.named))
 abbrev pub TellsPlan : Plan → Printed → Type 0
 TellsPlan plan printed = SaysPlan printed.text plan × (printed.status ≡ DONE)
 
--- a text that says a plan of the batch that the batch text denotes, or the refusal of that text's first fault, each under its status
+-- a text that says a plan of the batch that the batch text denotes, or the refusal of that text's
+-- first fault, each under its status
 pub data IsPlanned (shape : Extent) (batch : List ℕ) (printed : Printed) : Type 0 where
-  planned : (plan : Plan) → Denotes shape batch plan.batch → IsPlan plan → HasFewReinsertions plan → SaysPlan printed.text plan → printed.status ≡ DONE → IsPlanned shape batch printed
-  refused : (fault : BatchFault) → IsFirstFault shape batch fault → IsRefused (batch_words fault) printed → IsPlanned shape batch printed
+  planned : (plan : Plan) → Denotes shape batch plan.batch → IsPlan plan → HasFewReinsertions plan
+      → SaysPlan printed.text plan → printed.status ≡ DONE → IsPlanned shape batch printed
+  refused : (fault : BatchFault) → IsFirstFault shape batch fault
+      → IsRefused (batch_words fault) printed → IsPlanned shape batch printed
 
 -- ---- `check`
 
--- The texts are those of this batch and of this schedule of it, with a certificate that shows that none is shorter.
-pub record IsJudged (shape : Extent) (batch schedule : List ℕ) (transfers : List Transfer) (settings : List (List ℕ)) (named : Naming) : Type 0 where
+-- The texts are those of this batch and of this schedule of it, with a certificate that shows that
+-- none is shorter.
+pub record IsJudged (shape : Extent) (batch schedule : List ℕ) (transfers : List Transfer)
+    (settings : List (List ℕ)) (named : Naming) : Type 0 where
   pub batch_read : Denotes shape batch transfers
   pub schedule_read : Says schedule (said settings (Some named))
   pub certified : IsCertified transfers settings named
 
--- The texts are those of a batch and of a shortest schedule of it, which has so many settings, with a certificate that shows it.
+-- The texts are those of a batch and of a shortest schedule of it, which has so many settings, with
+-- a certificate that shows it.
 pub record IsShown (shape : Extent) (batch schedule : List ℕ) (count : ℕ) : Type 0 where
   pub transfers : List Transfer
   pub settings : List (List ℕ)
@@ -72,13 +78,20 @@ abbrev pub IsFirstScheduleFault : List ℕ → ScheduleFault → Type 0
 IsFirstScheduleFault schedule (schedule_fault.Line n) = IsFirstBadLine schedule n
 IsFirstScheduleFault schedule schedule_fault.NoMemory = ⊥
 
--- What is first wrong: the batch text is looked at first, then the schedule text, then whether it has the certificate part, then what the checker finds.
+-- What is first wrong: the batch text is looked at first, then the schedule text, then whether it
+-- has the certificate part, then what the checker finds.
 abbrev pub IsFirstWrong : Extent → List ℕ → List ℕ → CheckingFault → Type 0
 IsFirstWrong shape batch schedule (checking.Batch fault) = IsFirstFault shape batch fault
-IsFirstWrong shape batch schedule (checking.Schedule fault) = (transfers : List Transfer) × Denotes shape batch transfers × IsFirstScheduleFault schedule fault
-IsFirstWrong shape batch schedule checking.NoCertificate = (transfers : List Transfer) × (settings : List (List ℕ)) × Denotes shape batch transfers × Says schedule (said settings None)
-IsFirstWrong shape batch schedule (checking.Check fault) = (transfers : List Transfer) × (settings : List (List ℕ)) × (named : Naming)
-    × Denotes shape batch transfers × Says schedule (said settings (Some named)) × IsFirstCheckFault transfers settings named fault
+IsFirstWrong shape batch schedule (checking.Schedule fault) =
+    (transfers : List Transfer) × Denotes shape batch transfers
+    × IsFirstScheduleFault schedule fault
+IsFirstWrong shape batch schedule checking.NoCertificate =
+    (transfers : List Transfer) × (settings : List (List ℕ)) × Denotes shape batch transfers
+    × Says schedule (said settings None)
+IsFirstWrong shape batch schedule (checking.Check fault) =
+    (transfers : List Transfer) × (settings : List (List ℕ)) × (named : Naming)
+    × Denotes shape batch transfers × Says schedule (said settings (Some named))
+    × IsFirstCheckFault transfers settings named fault
 
 -- `shortest S`
 abbrev pub shortest_line : ℕ → List ℕ
@@ -86,8 +99,10 @@ shortest_line count = codes "shortest " ++ decimal count ++ codes "\n"
 
 -- how many settings the shortest schedule has, or what is first wrong, each under its status
 pub data IsChecked (shape : Extent) (batch schedule : List ℕ) (printed : Printed) : Type 0 where
-  shortest : (count : ℕ) → IsShown shape batch schedule count → printed.text ≡ shortest_line count → printed.status ≡ DONE → IsChecked shape batch schedule printed
-  refused : (fault : CheckingFault) → IsFirstWrong shape batch schedule fault → IsRefused (checking_words fault) printed → IsChecked shape batch schedule printed
+  shortest : (count : ℕ) → IsShown shape batch schedule count → printed.text ≡ shortest_line count
+      → printed.status ≡ DONE → IsChecked shape batch schedule printed
+  refused : (fault : CheckingFault) → IsFirstWrong shape batch schedule fault
+      → IsRefused (checking_words fault) printed → IsChecked shape batch schedule printed
 
 -- ---- `draw`
 
@@ -101,13 +116,16 @@ pub record IsDrawing (shape : Extent) (batch schedule text : List ℕ) : Type 0 
 
 -- the picture, or the refusal of what `check` refuses, each under its status
 pub data IsDrawn (shape : Extent) (batch schedule : List ℕ) (printed : Printed) : Type 0 where
-  drawn : IsDrawing shape batch schedule printed.text → printed.status ≡ DONE → IsDrawn shape batch schedule printed
-  undrawn : (fault : CheckingFault) → IsFirstWrong shape batch schedule fault → IsRefused (checking_words fault) printed → IsDrawn shape batch schedule printed
+  drawn : IsDrawing shape batch schedule printed.text → printed.status ≡ DONE
+      → IsDrawn shape batch schedule printed
+  undrawn : (fault : CheckingFault) → IsFirstWrong shape batch schedule fault
+      → IsRefused (checking_words fault) printed → IsDrawn shape batch schedule printed
 
 -- ---- `run`
 
--- The texts are those of a shape and of a batch of which no transfers overlap. Over a rack of the shape whose words told where they
--- stood, the batch is placed, in as many settings as the busiest link has uses, and this is the report of it.
+-- The texts are those of a shape and of a batch of which no transfers overlap. Over a rack of the
+-- shape whose words told where they stood, the batch is placed, in as many settings as the busiest
+-- link has uses, and this is the report of it.
 pub record IsReport (shape batch text : List ℕ) : Type 0 where
   pub extent : Extent
   pub transfers : List Transfer
@@ -122,7 +140,8 @@ pub record IsReport (shape batch text : List ℕ) : Type 0 where
   pub fewest : IsDegree transfers settings
   pub report : text ≡ report_of transfers settings placed
 
--- A run of the plan on a rack of the shape whose words told where they stood: no transfers overlap, the batch is placed, and this is the report of it.
+-- A run of the plan on a rack of the shape whose words told where they stood: no transfers overlap,
+-- the batch is placed, and this is the report of it.
 pub record IsReportOf (extent : Extent) (plan : Plan) (text : List ℕ) : Type 0 where
   pub marked : Store
   pub placed : Store
@@ -138,14 +157,19 @@ IsWrongOf transfers (running.Batch fault) = ⊥
 IsWrongOf transfers (running.Overlap i j) = IsFirstOverlap transfers i j
 IsWrongOf transfers running.NoMemory = ⊥
 
--- what is first wrong: the shape text is looked at first, then the batch text, then whether transfers overlap
+-- what is first wrong: the shape text is looked at first, then the batch text, then whether
+-- transfers overlap
 abbrev pub IsFirstRunWrong : List ℕ → List ℕ → RunningFault → Type 0
 IsFirstRunWrong shape batch running.Shape = IsBadShape shape
-IsFirstRunWrong shape batch (running.Batch fault) = (extent : Extent) × DenotesShape shape extent × IsFirstFault extent batch fault
-IsFirstRunWrong shape batch (running.Overlap i j) = (extent : Extent) × (transfers : List Transfer) × DenotesShape shape extent × Denotes extent batch transfers × IsFirstOverlap transfers i j
+IsFirstRunWrong shape batch (running.Batch fault) =
+    (extent : Extent) × DenotesShape shape extent × IsFirstFault extent batch fault
+IsFirstRunWrong shape batch (running.Overlap i j) =
+    (extent : Extent) × (transfers : List Transfer) × DenotesShape shape extent
+    × Denotes extent batch transfers × IsFirstOverlap transfers i j
 IsFirstRunWrong shape batch running.NoMemory = ⊥
 
 -- the report of the run, or what is first wrong, each under its status
 pub data IsRunAnswer (shape batch : List ℕ) (printed : Printed) : Type 0 where
   ran : IsReport shape batch printed.text → printed.status ≡ DONE → IsRunAnswer shape batch printed
-  run_refused : (fault : RunningFault) → IsFirstRunWrong shape batch fault → IsRefused (running_words fault) printed → IsRunAnswer shape batch printed
+  run_refused : (fault : RunningFault) → IsFirstRunWrong shape batch fault
+      → IsRefused (running_words fault) printed → IsRunAnswer shape batch printed

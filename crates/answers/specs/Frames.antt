@@ -7,8 +7,8 @@ use Rattle.client_session.specs.declared.fault.ServeFault.{ServeFault}
 use Rattle.client_session.specs.declared.fault.ServeFault.TheVariants.{Read, Write, LineTooLong, Cut, Turns, NoMemory}
 use Rattle.answers.specs.declared.limits.TheConstants.{DONE, REFUSED}
 
--- a session that has ended: its number, the entries of its calls, how far it saw the runs come, what it was told, and the fault that ended it,
--- where one did
+-- a session that has ended: its number, the entries of its calls, how far it saw the runs come,
+-- what it was told, and the fault that ended it, where one did
 pub record Transcript : Type 0 where
   pub session : ℕ
   pub entries : List Entry
@@ -34,7 +34,8 @@ missing_feed (Some last) = if last == 10 then [] else 10 ∷ []
 abbrev pub last_of : List ℕ → Option ℕ
 last_of bytes = slice_get bytes (length bytes - 1)
 
--- behind what a session was told: where a fault ended it, a line that says so, which begins behind a line feed
+-- behind what a session was told: where a fault ended it, a line that says so, which begins behind
+-- a line feed
 abbrev pub end_text : List ℕ → Option ServeFault → List ℕ
 end_text told None = []
 end_text told (Some fault) = missing_feed (last_of told) ++ ended_line fault

@@ -9,7 +9,14 @@ use Rattle.answers.specs.Serving.{AreSessionsOf}
 
 -- what contracts see of a session that has ended
 abbrev pub transcript : {L : Type 0} → Session L → Transcript
-transcript s = record { session = s.seat.session; entries = s.seat.log; seen = s.seat.seen; told = s.told.items; fault = s.fault }
+transcript s =
+    record {
+      session = s.seat.session;
+      entries = s.seat.log;
+      seen = s.seat.seen;
+      told = s.told.items;
+      fault = s.fault;
+    }
 
 -- what is printed of a session that has ended
 abbrev pub text_of : {L : Type 0} → Session L → List ℕ
@@ -28,6 +35,7 @@ pub record HaveAllSeats {L : Type 0} (x : Exchange) (sessions : List (Session L)
   pub parts : sum_by (λ s. s.seat.parts) sessions ≡ ALL_PARTS
 
 -- each script has its session, and these have all seats of the exchange
-pub record AreServedAt {L : Type 0} (x : Exchange) (scripts : List (List ℕ)) (sessions : List (Session L)) : Type 0 where
+pub record AreServedAt {L : Type 0} (x : Exchange) (scripts : List (List ℕ))
+    (sessions : List (Session L)) : Type 0 where
   pub all_seats : HaveAllSeats x sessions
   pub of_scripts : AreSessionsOf x.shape scripts (map transcript sessions)

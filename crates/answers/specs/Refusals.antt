@@ -41,7 +41,8 @@ two_numbers m n = decimal m ++ (codes " " ++ decimal n)
 
 -- a link, by the number of its end and its module
 abbrev pub link_words : Link → List ℕ
-link_words link = codes " link " ++ decimal (end_number link.end) ++ (codes " module " ++ decimal link.«module»)
+link_words link =
+    codes " link " ++ decimal (end_number link.end) ++ (codes " module " ++ decimal link.«module»)
 
 -- what is said of the checker's fault
 abbrev pub check_words : CheckFault → List ℕ

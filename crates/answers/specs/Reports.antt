@@ -11,7 +11,10 @@ use Rattle.line_words.specs.HexWords.{hex8}
 
 -- `ran settings S words X bits Y`
 abbrev pub ran_line : ℕ → ℕ → List ℕ
-ran_line settings words = codes "ran settings " ++ decimal settings ++ (codes " words " ++ (decimal words ++ (codes " bits " ++ (decimal (bits_of words) ++ codes "\n"))))
+ran_line settings words =
+    codes "ran settings " ++ decimal settings
+    ++ (codes " words "
+    ++ (decimal words ++ (codes " bits " ++ (decimal (bits_of words) ++ codes "\n"))))
 
 -- words, with a space before each
 abbrev pub words_text : List ℕ → List ℕ
@@ -19,15 +22,21 @@ words_text words = flat_map (λ word. codes " " ++ hex8 word) words
 
 -- `block M B`, and the words of the block
 abbrev pub block_line : Store → Place → List ℕ
-block_line s p = codes "block " ++ decimal p.«module» ++ (codes " " ++ decimal p.block) ++ words_text (block_of s p) ++ codes "\n"
+block_line s p =
+    codes "block " ++ decimal p.«module» ++ (codes " " ++ decimal p.block)
+    ++ words_text (block_of s p) ++ codes "\n"
 
 -- the batch writes the block
 abbrev pub is_written : List Transfer → Place → Bool
-is_written batch p = list_any (λ (t : Transfer). (destination_of t).«module» == p.«module» && (destination_of t).block == p.block) batch
+is_written batch p =
+    list_any (λ (t : Transfer). (destination_of t).«module» == p.«module»
+    && (destination_of t).block == p.block) batch
 
 -- what is said of a block of a module: its line, where the batch writes it
 abbrev pub block_text : List Transfer → Store → ℕ → ℕ → List ℕ
-block_text batch s m b = let p : Place = record { «module» = m; block = b } in if is_written batch p then block_line s p else []
+block_text batch s m b =
+    let p : Place = record { «module» = m; block = b } in
+    if is_written batch p then block_line s p else []
 
 -- what is said of the blocks of a module, in their order
 abbrev pub module_text : List Transfer → Store → ℕ → List ℕ
@@ -35,7 +44,9 @@ module_text batch s m = flat_map (block_text batch s m) (range_with_len 0 s.shap
 
 -- how much was done, and then the words of each block that was written, by module and then by block
 abbrev pub report_of : List Transfer → ℕ → Store → List ℕ
-report_of batch settings s = ran_line settings (length batch * s.shape.words) ++ flat_map (module_text batch s) (range_with_len 0 s.shape.modules)
+report_of batch settings s =
+    ran_line settings (length batch * s.shape.words)
+    ++ flat_map (module_text batch s) (range_with_len 0 s.shape.modules)
 
 -- these bytes were put at the end of a text
 abbrev pub Adds : {Z : Type 0} → String Z → String Z → List ℕ → Type 0

@@ -1,4 +1,5 @@
--- What `switch` answers: what a run sends the switches of a rack, setting by setting. The texts are this project's choice.
+-- What `switch` answers: what a run sends the switches of a rack, setting by setting. The texts are
+-- this project's choice.
 use Rattle.std.specs.Prelude.{◌≡◌, ℕ, ◌++◌, ◌||◌, Bool, List, [], if◌then◌else◌, codes, length, nat_le}
 use Rattle.std.specs.Fmt.{decimal}
 use Rattle.std.specs.List.{flat_map, list_any, range_with_len}
@@ -36,15 +37,20 @@ joined_by wide = if wide then PORTS else JOINED_MODULES
 abbrev pub bytes_text : List ℕ → List ℕ
 bytes_text bytes = flat_map (λ byte. codes " " ++ hex2 byte) bytes
 
--- `setting S`, behind it the name of a switch where the rack has two, and the bytes of the commands that this switch is sent
+-- `setting S`, behind it the name of a switch where the rack has two, and the bytes of the commands
+-- that this switch is sent
 abbrev pub switch_line : ℕ → List ℕ → List Command → List ℕ
-switch_line setting name commands = codes "setting " ++ decimal setting ++ name ++ bytes_text (text commands) ++ codes "\n"
+switch_line setting name commands =
+    codes "setting " ++ decimal setting ++ name ++ bytes_text (text commands) ++ codes "\n"
 
--- the line of a setting where the rack has one switch, else the lines of both: each switch is sent what goes with its wiring
+-- the line of a setting where the rack has one switch, else the lines of both: each switch is sent
+-- what goes with its wiring
 abbrev pub lines_for : Bool → ℕ → (Wiring → List Command) → List ℕ
 lines_for wide setting sent =
     if wide
-    then switch_line setting (codes " a") (sent Forth) ++ switch_line setting (codes " b") (sent Back)
+    then
+    switch_line setting (codes " a") (sent Forth)
+    ++ switch_line setting (codes " b") (sent Back)
     else switch_line setting [] (sent Both)
 
 -- the lines of a plan's setting: what a run sends for it
@@ -59,7 +65,10 @@ switch_text plan = flat_map (setting_lines plan) (range_with_len 0 (length plan.
 abbrev pub TellsSwitch : Plan → Printed → Type 0
 TellsSwitch plan printed = (printed.text ≡ switch_text plan) × (printed.status ≡ DONE)
 
--- what a run of a plan of the batch that the batch text denotes sends, or the refusal of that text's first fault, each under its status
+-- what a run of a plan of the batch that the batch text denotes sends, or the refusal of that
+-- text's first fault, each under its status
 pub data IsSwitched (shape : Extent) (batch : List ℕ) (printed : Printed) : Type 0 where
-  switched : (plan : Plan) → Denotes shape batch plan.batch → IsPlan plan → HasFewReinsertions plan → printed.text ≡ switch_text plan → printed.status ≡ DONE → IsSwitched shape batch printed
-  unplanned : (fault : BatchFault) → IsFirstFault shape batch fault → IsRefused (batch_words fault) printed → IsSwitched shape batch printed
+  switched : (plan : Plan) → Denotes shape batch plan.batch → IsPlan plan → HasFewReinsertions plan
+      → printed.text ≡ switch_text plan → printed.status ≡ DONE → IsSwitched shape batch printed
+  unplanned : (fault : BatchFault) → IsFirstFault shape batch fault
+      → IsRefused (batch_words fault) printed → IsSwitched shape batch printed

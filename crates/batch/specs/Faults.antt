@@ -1,12 +1,13 @@
--- The first fault of a text that denotes no batch. The order of the faults is this project's choice.
+-- The first fault of a text that denotes no batch. The order of the faults is this project's
+-- choice.
 use Rattle.std.specs.Prelude.{◌≡◌, ◌≢◌, ℕ, ◌<◌, ◌≤◌, ◌+◌, List, [], ◌++◌, length, All}
 use Rattle.std.specs.List.{flat_map}
 use Rattle.batch.specs.declared.limits.TheConstants.{MAX_TRANSFERS}
 use Rattle.batch.specs.declared.fault.BatchFault.{BatchFault}
 use Rattle.batch.specs.declared.fault.BatchFault.TheVariants.{Line, TooMany, NoModule, NoBlock, Count, NoMemory}
 use Rattle.batch.specs.declared.transfer.Transfer.{Transfer}
-use Rattle.batch.specs.Extent.{Extent, IsShape}
-use Rattle.batch.specs.Text.{IsNumber, head, line, HasModules, HasBlocks, IsWithin, Denotes}
+use Rattle.batch.specs.Extent.{Extent}
+use Rattle.batch.specs.Text.{IsNumber, head, line, HasModules, HasBlocks, IsWithin}
 
 -- the text begins with the line `batch N`
 abbrev pub IsHeaded : List ℕ → ℕ → List ℕ → Type 0
@@ -45,7 +46,8 @@ pub record NamesNoModule (shape : Extent) (text : List ℕ) : Type 0 where
   pub begins : BeginsWithLine text transfer after
   pub missing : HasModules shape transfer → ⊥
 
--- the text begins with the line of a transfer whose modules the shape has, and a block of which it hasn't
+-- the text begins with the line of a transfer whose modules the shape has, and a block of which it
+-- hasn't
 pub record NamesNoBlock (shape : Extent) (text : List ℕ) : Type 0 where
   pub transfer : Transfer
   pub after : List ℕ
@@ -54,12 +56,14 @@ pub record NamesNoBlock (shape : Extent) (text : List ℕ) : Type 0 where
   pub missing : HasBlocks shape transfer → ⊥
 
 -- the lines of as many transfers as counted, all of which the shape has, and then the rest
-pub record AreTransfers (shape : Extent) (text : List ℕ) (count : ℕ) (ts : List Transfer) (rest : List ℕ) : Type 0 where
+pub record AreTransfers (shape : Extent) (text : List ℕ) (count : ℕ) (ts : List Transfer)
+    (rest : List ℕ) : Type 0 where
   pub counted : length ts ≡ count
   pub within : All (IsWithin shape) ts
   pub spelled : text ≡ flat_map line ts ++ rest
 
--- The text announces n transfers, which is allowed. The first t of their lines stand there, and then the rest.
+-- The text announces n transfers, which is allowed. The first t of their lines stand there, and
+-- then the rest.
 pub record IsGoodUpTo (shape : Extent) (text : List ℕ) (n t : ℕ) (rest : List ℕ) : Type 0 where
   pub allowed : n ≤ MAX_TRANSFERS
   pub at_most : t ≤ n
@@ -90,13 +94,17 @@ IsLineFault shape t rest NoMemory = ⊥
 abbrev pub IsEndFault : List ℕ → BatchFault → Type 0
 IsEndFault rest fault = (fault ≡ Count) × (rest ≢ [])
 
--- the first fault of the text: of its first line, of a transfer's line behind good ones, or behind the last
+-- the first fault of the text: of its first line, of a transfer's line behind good ones, or behind
+-- the last
 pub data IsFirstFault (shape : Extent) (text : List ℕ) (fault : BatchFault) : Type 0 where
   at_head : IsHeadFault text fault → IsFirstFault shape text fault
-  at_line : (n t : ℕ) (rest : List ℕ) → IsGoodUpTo shape text n t rest → t < n → IsLineFault shape t rest fault → IsFirstFault shape text fault
-  at_end : (n : ℕ) (rest : List ℕ) → IsGoodUpTo shape text n n rest → IsEndFault rest fault → IsFirstFault shape text fault
+  at_line : (n t : ℕ) (rest : List ℕ) → IsGoodUpTo shape text n t rest → t < n
+      → IsLineFault shape t rest fault → IsFirstFault shape text fault
+  at_end : (n : ℕ) (rest : List ℕ) → IsGoodUpTo shape text n n rest → IsEndFault rest fault
+      → IsFirstFault shape text fault
 
--- The line of a transfer stands in the text, as it should. Where there is none, reading needs no memory.
+-- The line of a transfer stands in the text, as it should. Where there is none, reading needs no
+-- memory.
 pub record NeedsMemory (shape : Extent) (text : List ℕ) : Type 0 where
   pub n : ℕ
   pub t : ℕ
@@ -111,18 +119,6 @@ ButForMemory IsFault fault = fault ≢ NoMemory → IsFault fault
 -- where the fault is want of memory, this is so
 abbrev pub ForMemory : Type 0 → BatchFault → Type 0
 ForMemory Needs fault = fault ≡ NoMemory → Needs
-
--- a text denotes at most one batch
-abbrev pub OneBatch : Type 0
-OneBatch = (shape : Extent) → IsShape shape → (text : List ℕ) (a b : List Transfer) → Denotes shape text a → Denotes shape text b → a ≡ b
-
--- a text that denotes a batch has no first fault
-abbrev pub NeverBoth : Type 0
-NeverBoth = (shape : Extent) → IsShape shape → (text : List ℕ) (a : List Transfer) (fault : BatchFault) → Denotes shape text a → IsFirstFault shape text fault → ⊥
-
--- a text has at most one first fault
-abbrev pub OneFault : Type 0
-OneFault = (shape : Extent) → IsShape shape → (text : List ℕ) (one other : BatchFault) → IsFirstFault shape text one → IsFirstFault shape text other → one ≡ other
 
 -- ---- the same behind the first line
 

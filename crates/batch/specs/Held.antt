@@ -1,4 +1,5 @@
--- Which blocks of a batch are held sources: they have to be copied before any word moves. This project's choice.
+-- Which blocks of a batch are held sources: they have to be copied before any word moves. This
+-- project's choice.
 use Rattle.std.specs.Prelude.{ℕ, Bool, true, false, ◌≡◌, ◌≢◌, ◌<◌, ◌↔◌, ◌==◌, ◌&&◌, ◌||◌, List, [], ◌∷◌, length, Contains, AllPairs}
 use Rattle.batch.specs.declared.transfer.Place.{Place}
 use Rattle.batch.specs.declared.transfer.Transfer.{Transfer}

@@ -9,3 +9,4 @@ pub mod Held
 pub mod Written
 pub mod ShapeText
 pub mod Rows
+pub mod Laws

@@ -1,4 +1,5 @@
--- Which transfers of a batch overlap: they write one block, and which of them moves its words last would show. This project's choice.
+-- Which transfers of a batch overlap: they write one block, and which of them moves its words last
+-- would show. This project's choice.
 use Rattle.std.specs.Prelude.{ℕ, ◌≡◌, ◌≤◌, ◌<◌, ◌⊎◌, List, length, slice_index_or}
 use Rattle.batch.specs.declared.transfer.Kind.TheVariants.{Push}
 use Rattle.batch.specs.declared.transfer.Place.{Place}
@@ -39,11 +40,3 @@ IsPairUpTo i j k l = (i < k) ⊎ ((i ≡ k) × (j ≤ l))
 pub record IsFirstOverlap (ts : List Transfer) (i j : ℕ) : Type 0 where
   pub overlap : Overlap ts i j
   pub first : (k l : ℕ) → Overlap ts k l → IsPairUpTo i j k l
-
--- where no two transfers are the first that overlap, none overlap
-abbrev pub NoneOverlap : Type 0
-NoneOverlap = (ts : List Transfer) → ((i j : ℕ) → IsFirstOverlap ts i j → ⊥) → IsApart ts
-
--- there is one first pair
-abbrev pub OneFirstOverlap : Type 0
-OneFirstOverlap = (ts : List Transfer) (i j k l : ℕ) → IsFirstOverlap ts i j → IsFirstOverlap ts k l → (i ≡ k) × (j ≡ l)

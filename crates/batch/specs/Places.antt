@@ -1,4 +1,5 @@
--- Where a transfer reads and where it writes, and the blocks of a shape. This project's choice of two kinds over peek and poke.
+-- Where a transfer reads and where it writes, and the blocks of a shape. This project's choice of
+-- two kinds over peek and poke.
 use Rattle.std.specs.Prelude.{ℕ, ◌<◌, ◌+◌, ◌*◌}
 use Rattle.batch.specs.declared.transfer.Kind.TheVariants.{Push, Pull}
 use Rattle.batch.specs.declared.transfer.Kind.{Kind}

@@ -5,16 +5,13 @@ use Rattle.batch.specs.Extent.{Extent, IsShape}
 
 -- `MxKxW`
 abbrev pub shape_text : Extent → List ℕ
-shape_text shape = decimal shape.modules ++ codes "x" ++ decimal shape.blocks ++ codes "x" ++ decimal shape.words
+shape_text shape =
+    decimal shape.modules ++ codes "x" ++ decimal shape.blocks ++ codes "x" ++ decimal shape.words
 
 -- the text of this shape, which is within the limits
 pub record DenotesShape (text : List ℕ) (shape : Extent) : Type 0 where
   pub spelled : text ≡ shape_text shape
   pub allowed : IsShape shape
-
--- a text denotes at most one shape
-abbrev pub OneShape : Type 0
-OneShape = (text : List ℕ) (a b : Extent) → DenotesShape text a → DenotesShape text b → a ≡ b
 
 -- whatever denotes no shape is a bad one
 abbrev pub IsBadShape : List ℕ → Type 0

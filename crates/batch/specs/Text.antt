@@ -32,7 +32,9 @@ word Pull = codes "pull "
 
 -- the line `push I b R c` or `pull I b R c`
 abbrev pub line : Transfer → List ℕ
-line t = word t.kind ++ number t.initiator space ++ number t.own_block space ++ number t.responder space ++ number t.far_block line_feed
+line t =
+    word t.kind ++ number t.initiator space ++ number t.own_block space ++ number t.responder space
+    ++ number t.far_block line_feed
 
 -- the one text of a list of transfers
 abbrev pub batch_text : List Transfer → List ℕ
@@ -73,7 +75,9 @@ IsDigit c = (48 ≤ c) × (c ≤ 57)
 -- `0` alone, or digits of which the first isn't `0`, no more than a number of a text may have
 abbrev pub IsNumeral : List ℕ → Type 0
 IsNumeral [] = ⊥
-IsNumeral (c ∷ cs) = ((c ≡ 48) × (cs ≡ [])) ⊎ ((49 ≤ c) × (c ≤ 57) × AllByRecursion IsDigit cs × (length cs + 1 ≤ MAX_DIGITS))
+IsNumeral (c ∷ cs) =
+    ((c ≡ 48) × (cs ≡ []))
+    ⊎ ((49 ≤ c) × (c ≤ 57) × AllByRecursion IsDigit cs × (length cs + 1 ≤ MAX_DIGITS))
 
 -- the digits of a number
 abbrev pub SpellsNumber : List ℕ → Type 0

@@ -2,9 +2,7 @@
 
 ghost use Rattle.std.specs.Prelude.{◌≡◌, ℕ, ◌↔◌, List};
 ghost use Rattle.batch.specs.Extent.{widest};
-ghost use Rattle.batch.specs.Faults.{NeverBoth, OneBatch, OneFault};
-ghost use Rattle.batch.specs.Overlap.{NoneOverlap, OneFirstOverlap};
-ghost use Rattle.batch.specs.ShapeText.{OneShape};
+ghost use Rattle.batch.specs.Laws.{NeverBoth, OneBatch, OneFault, NoneOverlap, OneFirstOverlap, OneShape};
 ghost use Rattle.batch.specs.Text.{IsNumeral, SpellsNumber};
 
 use crate::shape::Shape;

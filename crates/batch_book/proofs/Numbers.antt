@@ -18,7 +18,8 @@ use Rattle.batch_book.specs.declared.call.Call.{Call}
 use Rattle.batch_book.specs.declared.call.Call.TheVariants.{Submit, Fetch, Settle, Run, Show, Discard, Peek, Poke}
 use Rattle.batch_book.specs.declared.entry.Entry.{Entry}
 use Rattle.batch_book.specs.Machine.{Machine, opened, batch_of, Gives, accept, fetch, settle_at, settle, show, discard, peek_unless, poke_unless, refuse, IsRunOf, IsRunAt, IsRun, IsStep}
-use Rattle.batch_book.specs.History.{IsReplay, batch_number, run_number, numbers, CountsUp}
+use Rattle.batch_book.specs.History.{IsReplay, batch_number, run_number, numbers}
+use Rattle.batch_book.specs.Laws.{CountsUp}
 
 -- behind a number that was given last, these were given and no others
 abbrev IsNext : ℕ → List ℕ → ℕ → Type 0

@@ -13,7 +13,8 @@ use Rattle.batch_book.specs.declared.reply.Reply.TheVariants as reply
 use Rattle.batch_book.specs.declared.call.Call.{Call}
 use Rattle.batch_book.specs.declared.call.Call.TheVariants.{Submit, Fetch, Settle, Run, Show, Discard, Peek, Poke}
 use Rattle.batch_book.specs.Machine.{Machine, batch_of, run_to, Gives, IsRunOf, IsRunAt, IsRun, IsStep}
-use Rattle.batch_book.specs.History.{IsReplay, OneAnswer, OneStep, OneReplay, ShapeStays}
+use Rattle.batch_book.specs.History.{IsReplay}
+use Rattle.batch_book.specs.Laws.{OneAnswer, OneStep, OneReplay, ShapeStays}
 use Rattle.batch_book.proofs.Steps.{small_step}
 
 one_given : (answer : Reply × Machine) (r : Reply) (a b : Machine) → Gives answer r a → Gives answer r b → a ≡ b

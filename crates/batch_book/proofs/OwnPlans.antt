@@ -20,7 +20,8 @@ use Rattle.batch_book.specs.declared.reply.Reply.TheVariants as reply
 use Rattle.batch_book.specs.declared.call.Call.{Call}
 use Rattle.batch_book.specs.declared.call.Call.TheVariants.{Submit, Fetch, Settle, Run, Show, Discard, Peek, Poke}
 use Rattle.batch_book.specs.Machine.{Machine, held, owned, batch_of, staged, accept, refuse, fetch, settle_at, settle, show, discard, peek_unless, poke_unless, IsRunOf, IsRunAt, IsRun, IsStep}
-use Rattle.batch_book.specs.History.{HasOwnPlan, HaveOwnPlans, PlansStay}
+use Rattle.batch_book.specs.History.{HasOwnPlan, HaveOwnPlans}
+use Rattle.batch_book.specs.Laws.{PlansStay}
 
 -- ---- stages
 

@@ -9,7 +9,8 @@ use Rattle.batch_book.specs.Seats.{Stand, closed, parts_of, entries_of, Agrees}
 use Rattle.batch_book.specs.Exchanges.{Exchange}
 use Rattle.batch_book.specs.Values.{greatest}
 
--- no seat is missing: the seats keep their lists, the history has as many entries as these together, and the plant can be lent to another run
+-- no seat is missing: the seats keep their lists, the history has as many entries as these
+-- together, and the plant can be lent to another run
 pub record AreClosed {L P W G : Type 0} (seats : List Stand) (c : Closed L P W G) : Type 0 where
   pub all_parts : parts_of seats ≡ ALL_PARTS
   pub kept : c.seats.items ≡ map closed seats
@@ -25,9 +26,11 @@ AllAgree seats c = All (Agrees c.book.history) seats
 abbrev pub NoneAhead : {L P W G : Type 0} → List Stand → Closed L P W G → Type 0
 NoneAhead seats c = All (λ s. s.seen ≤ greatest c.book.history) seats
 
--- A seat is missing just where the seats hold fewer than all parts; then nothing has changed. Else the exchange is closed, and it is Ok just where
--- all lists agree with the history.
-abbrev pub Closes : {L P W G : Type 0} → Exchange → List Stand → Result (Closed L P W G) (Unclosed L P W G) → Type 0
+-- A seat is missing just where the seats hold fewer than all parts; then nothing has changed. Else
+-- the exchange is closed, and it is Ok just where all lists agree with the history.
+abbrev pub Closes : {L P W G : Type 0} → Exchange → List Stand
+    → Result (Closed L P W G) (Unclosed L P W G) → Type 0
 Closes x seats (Ok c) = AreClosed seats c × AllAgree seats c × NoneAhead seats c
-Closes x seats (Err (SeatMissing y ss)) = (parts_of seats < ALL_PARTS) × (y ≡ x) × (ss.items ≡ seats)
+Closes x seats (Err (SeatMissing y ss)) =
+    (parts_of seats < ALL_PARTS) × (y ≡ x) × (ss.items ≡ seats)
 Closes x seats (Err (LogsDisagree c)) = AreClosed seats c × ¬ AllAgree seats c

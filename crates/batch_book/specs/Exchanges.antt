@@ -13,12 +13,22 @@ pub record Exchange : Type 0 where
 
 abbrev pub exchange_coded : Coded Exchange
 exchange_coded =
-    code_by (TableId × (ℕ × (ℕ × ℕ))) (coded× table_id_coded (coded× coded_ℕ (coded× coded_ℕ coded_ℕ))) (λ e. (e.word, (e.shape.modules, (e.shape.blocks, e.shape.words))))
+    code_by (TableId × (ℕ × (ℕ × ℕ)))
+    (coded× table_id_coded (coded× coded_ℕ (coded× coded_ℕ coded_ℕ)))
+    (λ e. (e.word, (e.shape.modules, (e.shape.blocks, e.shape.words))))
     (λ p. record { word = p.0; shape = extent p.1.0 p.1.1.0 p.1.1.1 }) (λ _. refl)
 
 -- a seat that has asked nothing and seen nothing
 abbrev pub new_seat : TableId → ℕ → ℕ → Stand
-new_seat word session parts = record { exchange = Some word; session = session; log = []; seen = 0; raised = 0; parts = parts }
+new_seat word session parts =
+    record {
+      exchange = Some word;
+      session = session;
+      log = [];
+      seen = 0;
+      raised = 0;
+      parts = parts;
+    }
 
 -- the parts of each seat: one, and the first seat has those left over as well
 abbrev pub parts_at : ℕ → ℕ → ℕ
@@ -28,4 +38,5 @@ parts_at sessions i = if i == 0 then ALL_PARTS + 1 - sessions else 1
 pub record AreNew (word : TableId) (sessions : ℕ) (seats : List Stand) : Type 0 where
   pub count : length seats ≡ sessions
   pub parts : parts_of seats ≡ ALL_PARTS
-  pub each : (i : ℕ) (d : Stand) → i < sessions → slice_index_or seats i d ≡ new_seat word i (parts_at sessions i)
+  pub each : (i : ℕ) (d : Stand) → i < sessions
+      → slice_index_or seats i d ≡ new_seat word i (parts_at sessions i)

@@ -1,8 +1,8 @@
 -- Histories of the book.
 use Rattle.std.specs.Prelude.{◌≡◌, ℕ, ◌≤◌, List, [], ◌∷◌, ◌++◌, length, All}
-use Rattle.std.specs.List.{flat_map, range_with_len}
+use Rattle.std.specs.List.{flat_map}
 use Rattle.batch.specs.Extent.{IsShape}
-use Rattle.module_memory.specs.Store.{Store, HasAllBlocks}
+use Rattle.module_memory.specs.Store.{Store}
 use Rattle.schedule_certificate.specs.Plans.{Plan, IsPlan}
 use Rattle.batch_book.specs.declared.limits.TheConstants.{MAX_ENTRIES}
 use Rattle.batch_book.specs.declared.held.Held.{Held}
@@ -14,7 +14,8 @@ use Rattle.batch_book.specs.declared.call.Call.{Call}
 use Rattle.batch_book.specs.declared.call.Call.TheVariants.{Run}
 use Rattle.batch_book.specs.Machine.{Machine, opened, IsStep}
 
--- the entries lead from one machine to another: each reply is one that the machine may give where those before it lead
+-- the entries lead from one machine to another: each reply is one that the machine may give where
+-- those before it lead
 abbrev pub IsReplay : Machine → List Entry → Machine → Type 0
 IsReplay m [] n = n ≡ m
 IsReplay m (e ∷ es) n = (k : Machine) × IsStep m e.session e.call e.reply k × IsReplay k es n
@@ -26,7 +27,8 @@ IsLegal opening es = (n : Machine) × IsReplay (opened opening) es n
 abbrev pub entry : ℕ → Call → Reply → Entry
 entry session call reply = record { session = session; call = call; reply = reply }
 
--- what contracts see of a book: the words that it was opened with, its history, and the machine as it is
+-- what contracts see of a book: the words that it was opened with, its history, and the machine as
+-- it is
 pub record Account : Type 0 where
   pub opening : Store
   pub history : List Entry
@@ -43,7 +45,8 @@ new_account store = account store [] (opened store)
 abbrev pub IsFull : Account → Type 0
 IsFull a = length a.history ≡ MAX_ENTRIES
 
--- the machine is the history's replay, and there are no more entries than may be, nor more numbers than entries
+-- the machine is the history's replay, and there are no more entries than may be, nor more numbers
+-- than entries
 pub record IsKeptBook (a : Account) : Type 0 where
   pub replay : IsReplay (opened a.opening) a.history a.machine
   pub few : length a.history ≤ MAX_ENTRIES
@@ -51,7 +54,8 @@ pub record IsKeptBook (a : Account) : Type 0 where
   pub runs : a.machine.runs ≤ length a.history
 
 -- one step of the machine, and one entry more
-pub record IsGrown (old : Account) (session : ℕ) (call : Call) (reply : Reply) (new : Account) : Type 0 where
+pub record IsGrown (old : Account) (session : ℕ) (call : Call) (reply : Reply)
+    (new : Account) : Type 0 where
   pub step : IsStep old.machine session call reply new.machine
   pub history : new.history ≡ old.history ++ entry session call reply ∷ []
   pub opening : new.opening ≡ old.opening
@@ -62,20 +66,6 @@ pub record IsGrown (old : Account) (session : ℕ) (call : Call) (reply : Reply)
 abbrev pub IsRunCall : Call → Type 0
 IsRunCall (Run id) = Unit {0}
 IsRunCall call = ⊥
-
--- all other calls have one reply, and lead to one machine
-abbrev pub OneAnswer : Type 0
-OneAnswer = (m : Machine) (session : ℕ) (call : Call) (r s : Reply) (a b : Machine) → (IsRunCall call → ⊥)
-    → IsStep m session call r a → IsStep m session call s b → (r ≡ s) × (a ≡ b)
-
--- a call and its reply lead to one machine
-abbrev pub OneStep : Type 0
-OneStep = (m : Machine) (session : ℕ) (call : Call) (reply : Reply) (a b : Machine) → HasAllBlocks m.store
-    → IsStep m session call reply a → IsStep m session call reply b → a ≡ b
-
--- so a history leads to one machine
-abbrev pub OneReplay : Type 0
-OneReplay = (m : Machine) (es : List Entry) (a b : Machine) → HasAllBlocks m.store → IsReplay m es a → IsReplay m es b → a ≡ b
 
 -- the number that a reply gives to a batch
 abbrev pub batch_number : Reply → List ℕ
@@ -92,25 +82,12 @@ run_number reply = []
 abbrev pub numbers : (Reply → List ℕ) → List Entry → List ℕ
 numbers given es = flat_map (λ e. given e.reply) es
 
--- the batches that were accepted are numbered 1, 2, 3 and so on, and so are the runs that completed or stopped
-abbrev pub CountsUp : Type 0
-CountsUp = (opening : Store) (es : List Entry) (n : Machine) → IsReplay (opened opening) es n
-    → (numbers batch_number es ≡ range_with_len 1 n.given) × (numbers run_number es ≡ range_with_len 1 n.runs)
-
--- no entry changes the rack's shape
-abbrev pub ShapeStays : Type 0
-ShapeStays = (m : Machine) (es : List Entry) (a : Machine) → IsReplay m es a → a.store.shape ≡ m.store.shape
-
 -- a batch that can be run has a shortest plan of its own transfers
 abbrev pub HasOwnPlan : Held → Type 0
 HasOwnPlan h = (plan : Plan) → h.stage ≡ Planned plan → IsPlan plan × (plan.batch ≡ h.batch)
 
 abbrev pub HaveOwnPlans : Machine → Type 0
 HaveOwnPlans m = All (λ e. HasOwnPlan e.1) m.batches
-
--- no entry gives a batch another plan
-abbrev pub PlansStay : Type 0
-PlansStay = (m : Machine) (es : List Entry) (n : Machine) → HaveOwnPlans m → IsReplay m es n → HaveOwnPlans n
 
 -- what every machine keeps that a book leads to
 pub record IsSound (m : Machine) : Type 0 where

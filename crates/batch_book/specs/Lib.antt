@@ -8,3 +8,4 @@ pub mod Values
 pub mod Seats
 pub mod Exchanges
 pub mod Closing
+pub mod Laws

@@ -1,5 +1,6 @@
--- The book as a machine: what it holds, and the steps that it makes. A step is the call of a session, the reply, and the machine behind
--- them. The calls, their refusals and the order in which these are tested are this project's choice.
+-- The book as a machine: what it holds, and the steps that it makes. A step is the call of a
+-- session, the reply, and the machine behind them. The calls, their refusals and the order in which
+-- these are tested are this project's choice.
 use Rattle.std.specs.Prelude.{◌≡◌, ℕ, ◌+◌, ◌==◌, nat_eq, nat_lt, if◌then◌else◌, List, [], ◌∷◌, ◌++◌, length, Option, Some, None}
 use Rattle.std.specs.Map.{lookup, set_value, remove_entry}
 use Rattle.batch.specs.Equal.{same_transfers}
@@ -24,7 +25,8 @@ use Rattle.batch_book.specs.declared.held.Stage.{Stage}
 use Rattle.batch_book.specs.declared.held.Stage.TheVariants as stage
 use Rattle.batch_book.specs.declared.held.Held.{Held}
 
--- the batches that are held with their numbers, in order of acceptance; how many numbers batches and runs were given so far; and the words
+-- the batches that are held with their numbers, in order of acceptance; how many numbers batches
+-- and runs were given so far; and the words
 pub record Machine : Type 0 where
   pub batches : List (ℕ × Held)
   pub given : ℕ
@@ -86,23 +88,33 @@ refuse m why = (Refused why, m)
 
 -- the batch goes last, and waits for its plan
 abbrev pub accept : Machine → ℕ → List Transfer → Reply × Machine
-accept m session batch =
-    (Accepted (m.given + 1), record m { batches = m.batches ++ (m.given + 1, held session batch stage.Waiting) ∷ []; given = m.given + 1 })
+accept m session batch = (
+  Accepted (m.given + 1),
+  record m {
+    batches = m.batches ++ (m.given + 1, held session batch stage.Waiting) ∷ [];
+    given = m.given + 1;
+  },
+)
 
 abbrev pub submit : Machine → ℕ → List Transfer → Reply × Machine
-submit m session batch = if nat_lt (length m.batches) MAX_BATCHES then accept m session batch else refuse m BookFull
+submit m session batch =
+    if nat_lt (length m.batches) MAX_BATCHES then accept m session batch else refuse m BookFull
 
 abbrev pub fetch : Machine → Option Held → Reply × Machine
 fetch m None = refuse m Unknown
 fetch m (Some h) = (Fetched h.batch, m)
 
 abbrev pub settle_at : Machine → ℕ → Plan → Stage → Reply × Machine
-settle_at m id plan stage.Waiting = (Settled (length plan.settings), record m { batches = set_stage id (stage.Planned plan) m.batches })
+settle_at m id plan stage.Waiting = (
+  Settled (length plan.settings),
+  record m { batches = set_stage id (stage.Planned plan) m.batches },
+)
 settle_at m id plan s = refuse m Already
 
 abbrev pub settle : Machine → ℕ → Plan → Option Held → Reply × Machine
 settle m id plan None = refuse m Unknown
-settle m id plan (Some h) = if same_transfers h.batch plan.batch then settle_at m id plan h.stage else refuse m Stranger
+settle m id plan (Some h) =
+    if same_transfers h.batch plan.batch then settle_at m id plan h.stage else refuse m Stranger
 
 abbrev pub show : Machine → Option Held → Reply × Machine
 show m None = refuse m Unknown
@@ -120,32 +132,39 @@ abbrev pub peek : Machine → ℕ → ℕ → Reply × Machine
 peek m «module» address = peek_unless (fault_of m.store.shape «module» address) m «module» address
 
 abbrev pub poke_unless : Option MemoryFault → Machine → ℕ → ℕ → ℕ → Reply × Machine
-poke_unless None m «module» address word = (Poked, record m { store = write_at m.store «module» address word })
+poke_unless None m «module» address word =
+    (Poked, record m { store = write_at m.store «module» address word })
 poke_unless (Some fault) m «module» address word = refuse m (Memory fault)
 
 abbrev pub poke : Machine → ℕ → ℕ → ℕ → Reply × Machine
-poke m «module» address word = poke_unless (fault_of m.store.shape «module» address) m «module» address word
+poke m «module» address word =
+    poke_unless (fault_of m.store.shape «module» address) m «module» address word
 
 -- ---- runs
 
 -- what a run leaves that began: its batch is at this stage, and these are the words
 abbrev pub run_to : Machine → ℕ → Stage → Store → Machine
-run_to m id s store = record { batches = set_stage id s m.batches; given = m.given; runs = m.runs + 1; store = store }
+run_to m id s store =
+    record { batches = set_stage id s m.batches; given = m.given; runs = m.runs + 1; store = store }
 
 -- a run that began: its transfers can be moved on this rack, and its number is the next one
 pub record HasBegun (m : Machine) (plan : Plan) (run : ℕ) : Type 0 where
   pub can_move : CanMove m.store.shape plan.batch
   pub number : run ≡ m.runs + 1
 
--- the run of a plan is refused for the first cause that there is, and nothing changes; else it completes or stops, and leaves the words that such
--- a run leaves
+-- the run of a plan is refused for the first cause that there is, and nothing changes; else it
+-- completes or stops, and leaves the words that such a run leaves
 abbrev pub IsRunOf : Machine → ℕ → Plan → Reply → Machine → Type 0
-IsRunOf m id plan (RunRefused (run_refusal.Overlap i j)) next = IsFirstOverlap plan.batch i j × (next ≡ m)
-IsRunOf m id plan (RunRefused run_refusal.Shape) next = IsApart plan.batch × IsMisfit m.store.shape plan.batch × (next ≡ m)
+IsRunOf m id plan (RunRefused (run_refusal.Overlap i j)) next =
+    IsFirstOverlap plan.batch i j × (next ≡ m)
+IsRunOf m id plan (RunRefused run_refusal.Shape) next =
+    IsApart plan.batch × IsMisfit m.store.shape plan.batch × (next ≡ m)
 IsRunOf m id plan (Ran run settings words) next =
-    HasBegun m plan run × IsCompleted m.store plan settings words next.store × (next ≡ run_to m id stage.Ran next.store)
+    HasBegun m plan run × IsCompleted m.store plan settings words next.store
+    × (next ≡ run_to m id stage.Ran next.store)
 IsRunOf m id plan (Stopped run setting cause moved) next =
-    HasBegun m plan run × IsStopped m.store plan setting moved next.store × (next ≡ run_to m id stage.Stopped next.store)
+    HasBegun m plan run × IsStopped m.store plan setting moved next.store
+    × (next ≡ run_to m id stage.Stopped next.store)
 IsRunOf m id plan reply next = ⊥
 
 abbrev pub IsRunAt : Machine → ℕ → Stage → Reply → Machine → Type 0
@@ -163,9 +182,11 @@ IsRun m id (Some h) reply next = IsRunAt m id h.stage reply next
 abbrev pub IsStep : Machine → ℕ → Call → Reply → Machine → Type 0
 IsStep m session (Submit batch) reply next = Gives (submit m session batch) reply next
 IsStep m session (Fetch id) reply next = Gives (fetch m (batch_of m session id)) reply next
-IsStep m session (Settle id plan) reply next = IsPlan plan × Gives (settle m id plan (batch_of m session id)) reply next
+IsStep m session (Settle id plan) reply next =
+    IsPlan plan × Gives (settle m id plan (batch_of m session id)) reply next
 IsStep m session (Run id) reply next = IsRun m id (batch_of m session id) reply next
 IsStep m session (Show id) reply next = Gives (show m (batch_of m session id)) reply next
 IsStep m session (Discard id) reply next = Gives (discard m id (batch_of m session id)) reply next
 IsStep m session (Peek «module» address) reply next = Gives (peek m «module» address) reply next
-IsStep m session (Poke «module» address word) reply next = Gives (poke m «module» address word) reply next
+IsStep m session (Poke «module» address word) reply next =
+    Gives (poke m «module» address word) reply next

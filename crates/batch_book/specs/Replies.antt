@@ -14,7 +14,8 @@ is_logged (Refused HistoryFull) = false
 is_logged (Refused NoMemory) = false
 is_logged reply = true
 
--- how the run ended of which the reply tells; where it tells of none, as if want of memory had refused it
+-- how the run ended of which the reply tells; where it tells of none, as if want of memory had
+-- refused it
 abbrev pub outcome_of : Reply → Outcome
 outcome_of (Ran run settings words) = outcome.Completed settings words
 outcome_of (Stopped run setting cause moved) = outcome.Stopped setting cause moved

@@ -28,7 +28,8 @@ plan_of m session call = None
 
 -- where a plan was run on a rack of this shape, the switches are as its run leaves them
 abbrev pub SetsSwitches : Extent → Option Plan → Outcome → Switches → Type 0
-SetsSwitches shape ran outcome switches = (plan : Plan) → ran ≡ Some plan → LeavesSwitches shape plan outcome switches
+SetsSwitches shape ran outcome switches =
+    (plan : Plan) → ran ≡ Some plan → LeavesSwitches shape plan outcome switches
 
 -- a plan without settings leaves what it was run with
 abbrev pub SparesEmpty : {X : Type 0} → Option Plan → X → X → Type 0

@@ -4,8 +4,9 @@ use Rattle.atomic_table.specs.Seated.{TableId}
 use Rattle.progress_word.specs.Lookouts.{LookoutView}
 use Rattle.batch_book.specs.declared.entry.Entry.{Entry}
 
--- What contracts see of a seat: the word of its exchange (none, once that is closed), its session, its list, the greatest value that it
--- saw of the word, the greatest to which it raised it, and its parts
+-- What contracts see of a seat: the word of its exchange (none, once that is closed), its session,
+-- its list, the greatest value that it saw of the word, the greatest to which it raised it, and its
+-- parts
 pub record Stand : Type 0 where
   pub exchange : Option TableId
   pub session : ℕ
@@ -16,11 +17,20 @@ pub record Stand : Type 0 where
 
 -- a seat with this lookout on the word of its exchange
 abbrev pub stand : LookoutView → ℕ → List Entry → ℕ → Stand
-stand o session log parts = record { exchange = Some o.word; session = session; log = log; seen = o.seen; raised = o.raised; parts = parts }
+stand o session log parts =
+    record {
+      exchange = Some o.word;
+      session = session;
+      log = log;
+      seen = o.seen;
+      raised = o.raised;
+      parts = parts;
+    }
 
 -- the seat once its exchange is closed: it keeps its list
 abbrev pub closed : Stand → Stand
-closed s = record { exchange = None; session = s.session; log = s.log; seen = 0; raised = 0; parts = 0 }
+closed s =
+    record { exchange = None; session = s.session; log = s.log; seen = 0; raised = 0; parts = 0 }
 
 -- it is the seat of the same session at the same exchange, with as many parts
 pub record IsSameSeat (old new : Stand) : Type 0 where

@@ -1,4 +1,5 @@
--- How far the runs of a history have come, as values of the progress word. They are this project's choice.
+-- How far the runs of a history have come, as values of the progress word. They are this project's
+-- choice.
 use Rattle.std.specs.Prelude.{ℕ, ◌+◌, ◌*◌, max, List, [], ◌∷◌}
 use Rattle.batch_book.specs.declared.limits.TheConstants.{RUN_STEP}
 use Rattle.batch_book.specs.declared.entry.Entry.{Entry}

@@ -1,6 +1,7 @@
 //! The book, and its history.
 
 ghost use Rattle.std.specs.Prelude.{◌+◌, ◌≡◌, ◌↔◌, ◌≤◌, ◌<◌, ◌++◌, ◌∷◌, [], ℕ, true, false, IsTrue, IfOk, IfErr, OnErr, length};
+ghost use Rattle.setting_runner.specs.Plants.{KeepsPlant};
 ghost use Rattle.setting_runner.specs.Runs.{HasCause, TellsOutcome, IsRefused};
 ghost use Rattle.batch_book.specs.Holdings.{spare_of};
 ghost use Rattle.batch_book.specs.Machine.{opened};
@@ -146,9 +147,7 @@ impl Book {
         ensures told { TellsOutcome N.hears notice.old (outcome_of result) notice.new }
         ensures refused { IsRefused (outcome_of result) → plant.new ≡ plant.old }
         ensures uncalled { SparesEmpty (plan_of self.old.machine session call) plant.old plant.new }
-        ensures plant { plant.new ≡ record plant.old { port = plant.new.port } }
-        ensures counted { P.failures plant.old.port ≤ P.failures plant.new.port }
-        ensures honesty { P.honest plant.new.port ≡ P.honest plant.old.port }
+        ensures plant { KeepsPlant P.failures P.honest plant.old plant.new }
     {
         if self.history.len() >= MAX_ENTRIES {
             return Reply::Refused(Refusal::HistoryFull);
@@ -189,9 +188,7 @@ impl Book {
         ensures told { TellsOutcome N.hears notice.old (outcome_in result) notice.new }
         ensures refused { IsRefused (outcome_in result) → plant.new ≡ plant.old }
         ensures uncalled { SparesEmpty (plan_of self.old.machine session call) plant.old plant.new }
-        ensures plant { plant.new ≡ record plant.old { port = plant.new.port } }
-        ensures counted { P.failures plant.old.port ≤ P.failures plant.new.port }
-        ensures honesty { P.honest plant.new.port ≡ P.honest plant.old.port }
+        ensures plant { KeepsPlant P.failures P.honest plant.old plant.new }
     {
         self.history.reserve(1)?;
         let copies = self.holdings.copies(session, &call)?;

@@ -5,6 +5,7 @@ ghost use Rattle.std.specs.Option.{option_copied};
 ghost use Rattle.std.specs.Map.{lookup};
 ghost use Rattle.crossbar.specs.Switch.{Switch};
 ghost use Rattle.module_memory.specs.Store.{Store};
+ghost use Rattle.setting_runner.specs.Plants.{KeepsPlant};
 ghost use Rattle.setting_runner.specs.Runs.{HasCause, TellsOutcome, IsRefused};
 ghost use Rattle.batch_book.specs.Holdings.{Ends, spare_of};
 ghost use Rattle.batch_book.specs.Machine.{Machine, opened, owned, batch_of, set_stage, Gives, submit, fetch, settle, show, discard, peek, poke, run_to, IsRun, IsStep};
@@ -263,9 +264,7 @@ impl Holdings {
         ensures refused { IsRefused (outcome_in result) → plant.new ≡ plant.old }
         ensures uncalled { SparesEmpty (plan_in (batch_of self.old session id))
             plant.old plant.new }
-        ensures plant { plant.new ≡ record plant.old { port = plant.new.port } }
-        ensures counted { P.failures plant.old.port ≤ P.failures plant.new.port }
-        ensures honesty { P.honest plant.new.port ≡ P.honest plant.old.port }
+        ensures plant { KeepsPlant P.failures P.honest plant.old plant.new }
     {
         let Some(found) = held_by(&self.held, session, id) else {
             return Ok(Reply::Refused(Refusal::Unknown));
@@ -357,9 +356,7 @@ impl Holdings {
         ensures told { TellsOutcome N.hears notice.old (outcome_in result) notice.new }
         ensures refused { IsRefused (outcome_in result) → plant.new ≡ plant.old }
         ensures uncalled { SparesEmpty (plan_of self.old session call) plant.old plant.new }
-        ensures plant { plant.new ≡ record plant.old { port = plant.new.port } }
-        ensures counted { P.failures plant.old.port ≤ P.failures plant.new.port }
-        ensures honesty { P.honest plant.new.port ≡ P.honest plant.old.port }
+        ensures plant { KeepsPlant P.failures P.honest plant.old plant.new }
     {
         match call {
             Call::Submit(batch) => self.submit(session, batch),

@@ -1,6 +1,6 @@
 //! Laws of the book's machine. They make no call.
 
-ghost use Rattle.batch_book.specs.History.{OneAnswer, OneStep, OneReplay, CountsUp, ShapeStays, PlansStay};
+ghost use Rattle.batch_book.specs.Laws.{OneAnswer, OneStep, OneReplay, CountsUp, ShapeStays, PlansStay};
 
 /// A call has one reply, if it isn't a run. Any call and its reply lead to one machine, so a history leads to
 /// one machine. The batches that were accepted are numbered 1, 2, 3 and so on, and so are the runs that

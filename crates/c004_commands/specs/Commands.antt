@@ -49,4 +49,5 @@ pub record Spells (bytes : List ℕ) (commands : List Command) (rest : List ℕ)
 -- however the bytes are read, they are the same commands and the same rest
 abbrev pub HasOneReading : List ℕ → Type 0
 HasOneReading bytes =
-    (commands others : List Command) (rest left : List ℕ) → Spells bytes commands rest → Spells bytes others left → (commands ≡ others) × (rest ≡ left)
+    (commands others : List Command) (rest left : List ℕ) → Spells bytes commands rest
+    → Spells bytes others left → (commands ≡ others) × (rest ≡ left)

@@ -13,4 +13,5 @@ IsFault rest byte (BadPort refused) = (rest ≢ []) × (PORTS ≤ byte) × (refu
 
 -- an answer is a fault just where the byte has it
 abbrev pub TellsFaults : Result (Option Command) CommandFault → List ℕ → ℕ → Type 0
-TellsFaults answer rest byte = (fault : CommandFault) → IsErrOf answer fault ↔ IsFault rest byte fault
+TellsFaults answer rest byte =
+    (fault : CommandFault) → IsErrOf answer fault ↔ IsFault rest byte fault

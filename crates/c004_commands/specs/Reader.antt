@@ -31,7 +31,9 @@ pub record Reads (rest : List ℕ) (byte : ℕ) (given : Option Command) (left :
 abbrev pub Becomes : Begun → ℕ → Option Command → Begun → Type 0
 Becomes begun byte given new = Reads (begun_bytes begun) byte given (begun_bytes new)
 
--- whatever text has left the rest, with the byte it spells the command that is given as well, and then what is left
+-- whatever text has left the rest, with the byte it spells the command that is given as well, and
+-- then what is left
 abbrev pub GoesOn : List ℕ → ℕ → Option Command → List ℕ → Type 0
 GoesOn rest byte given left =
-    (bytes : List ℕ) (commands : List Command) → Spells bytes commands rest → Spells (bytes ++ byte ∷ []) (commands ++ option_to_list given) left
+    (bytes : List ℕ) (commands : List Command) → Spells bytes commands rest
+    → Spells (bytes ++ byte ∷ []) (commands ++ option_to_list given) left

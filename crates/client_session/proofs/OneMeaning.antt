@@ -9,7 +9,8 @@ use Rattle.line_words.specs.HexWords.{hex8}
 use Rattle.line_words.proofs.Numbers.{space_ends, one_hex8, behind_hex8, hex8_in_front}
 use Rattle.client_session.specs.declared.command.Command.{Command}
 use Rattle.client_session.specs.declared.command.Command.TheVariants.{Batch, Plan, Run, Show, Drop, Peek, Poke, Progress, Bye}
-use Rattle.client_session.specs.Commands.{line_of, CanBeSpelled, OneMeaning}
+use Rattle.client_session.specs.Commands.{line_of, CanBeSpelled}
+use Rattle.client_session.specs.Laws.{OneMeaning}
 
 -- one number behind one word
 one_behind : (word : List ℕ) (m n : ℕ) → IsNumber m → IsNumber n → word ++ decimal m ≡ word ++ decimal n → m ≡ n

@@ -21,13 +21,15 @@ IsLine line = HasNoFeed line × (length line ≤ LINE_BYTES)
 abbrev pub HasLine : List ℕ → ℕ → Type 0
 HasLine bytes n = (n < length bytes) × (slice_index bytes n ≡ line_feed) × HasNoFeed (take n bytes)
 
--- no byte is lost: what was pending, and what the reader gave, is pending now; each counted read gave some
+-- no byte is lost: what was pending, and what the reader gave, is pending now; each counted read
+-- gave some
 pub record TakesIn (before after : Option (List ℕ)) (old new : Pending) : Type 0 where
   pub bytes : List ℕ
   pub consumed : Consumes before after bytes
   pub kept : old.pending ++ bytes ≡ new.pending
   pub reads : new.reads ≤ old.reads + length bytes
 
--- more than the bytes that may still come, by as many as a read may give, with those that are pending
+-- more than the bytes that may still come, by as many as a read may give, with those that are
+-- pending
 abbrev pub fuel : Pending → ℕ
 fuel h = (LINE_BYTES + 2) * (MAX_READS - h.reads) + length h.pending

@@ -14,7 +14,8 @@ line_of (Run id) = codes "run " ++ decimal id
 line_of (Show id) = codes "show " ++ decimal id
 line_of (Drop id) = codes "drop " ++ decimal id
 line_of (Peek «module» address) = codes "peek " ++ number «module» space ++ hex8 address
-line_of (Poke «module» address word) = codes "poke " ++ (number «module» space ++ (hex8 address ++ space ∷ hex8 word))
+line_of (Poke «module» address word) =
+    codes "poke " ++ (number «module» space ++ (hex8 address ++ space ∷ hex8 word))
 line_of Progress = codes "progress"
 line_of Bye = codes "bye"
 
@@ -34,7 +35,3 @@ CanBeSpelled Bye = Unit {0}
 abbrev pub Means : List ℕ → Option Command → Type 0
 Means line (Some command) = CanBeSpelled command × (line ≡ line_of command)
 Means line None = (command : Command) → CanBeSpelled command → line ≢ line_of command
-
--- a line means one thing
-abbrev pub OneMeaning : Type 0
-OneMeaning = (line : List ℕ) (one other : Option Command) → Means line one → Means line other → one ≡ other

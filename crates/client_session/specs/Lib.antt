@@ -6,3 +6,4 @@ pub mod Seats
 pub mod Turns
 pub mod Sessions
 pub mod Steps
+pub mod Laws

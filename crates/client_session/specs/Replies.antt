@@ -59,24 +59,29 @@ refused words = codes "refused " ++ words
 -- `ran ID run R settings S words X bits Y`
 abbrev pub ran_words : ℕ → ℕ → ℕ → ℕ → List ℕ
 ran_words id run settings words =
-    codes "ran " ++ decimal id ++ codes " run " ++ decimal run ++ codes " settings " ++ decimal settings ++ codes " words " ++ decimal words
+    codes "ran " ++ decimal id ++ codes " run " ++ decimal run ++ codes " settings "
+    ++ decimal settings ++ codes " words " ++ decimal words
     ++ codes " bits " ++ decimal (bits_of words)
 
 -- `stopped ID run R setting S CAUSE moved`, and the transfers of that setting
 abbrev pub stopped_words : ℕ → ℕ → ℕ → StopCause → List (ℕ × ℕ) → List ℕ
 stopped_words id run setting cause moved =
-    codes "stopped " ++ decimal id ++ codes " run " ++ decimal run ++ codes " setting " ++ decimal setting ++ codes " " ++ cause_words cause
+    codes "stopped " ++ decimal id ++ codes " run " ++ decimal run ++ codes " setting "
+    ++ decimal setting ++ codes " " ++ cause_words cause
     ++ codes " moved" ++ flat_map moved_words moved
 
 -- what a reply says to a command that names this batch
 abbrev pub reply_words : ℕ → Reply → List ℕ
 reply_words id (Accepted new) = codes "accepted " ++ decimal new
 reply_words id (Fetched batch) = []
-reply_words id (Settled settings) = codes "planned " ++ decimal id ++ codes " settings " ++ decimal settings
+reply_words id (Settled settings) =
+    codes "planned " ++ decimal id ++ codes " settings " ++ decimal settings
 reply_words id (Ran run settings words) = ran_words id run settings words
 reply_words id (Stopped run setting cause moved) = stopped_words id run setting cause moved
 reply_words id (RunRefused why) = refused (run_words why)
-reply_words id (Shown transfers s) = codes "batch " ++ decimal id ++ codes " transfers " ++ decimal transfers ++ codes " " ++ state_words s
+reply_words id (Shown transfers s) =
+    codes "batch " ++ decimal id ++ codes " transfers " ++ decimal transfers ++ codes " "
+    ++ state_words s
 reply_words id Discarded = codes "dropped " ++ decimal id
 reply_words id (Word word) = codes "word " ++ hex8 word
 reply_words id Poked = codes "poked"
@@ -92,4 +97,5 @@ abbrev pub refused_line : List ℕ → List ℕ
 refused_line words = with_feed (refused words)
 
 abbrev pub progress_line : Reading → List ℕ
-progress_line r = with_feed (codes "progress run " ++ decimal r.run ++ codes " done " ++ decimal r.done)
+progress_line r =
+    with_feed (codes "progress run " ++ decimal r.run ++ codes " done " ++ decimal r.done)

@@ -13,7 +13,8 @@ use Rattle.batch_book.specs.Replies.{is_logged}
 use Rattle.batch_book.specs.Seats.{Stand}
 use Rattle.batch_book.specs.Values.{value_at, value_of}
 
--- the word of the seat's exchange, the shape of its rack, the session's number, the seat's parts, its list, and the greatest progress that it has seen
+-- the word of the seat's exchange, the shape of its rack, the session's number, the seat's parts,
+-- its list, and the greatest progress that it has seen
 pub record SeatView : Type 0 where
   pub exchange : Option TableId
   pub shape : Extent
@@ -24,7 +25,15 @@ pub record SeatView : Type 0 where
 
 -- the seat, where the rack has this shape
 abbrev pub seat_view : Extent → Stand → SeatView
-seat_view shape seat = record { exchange = seat.exchange; shape = shape; session = seat.session; parts = seat.parts; log = seat.log; seen = seat.seen }
+seat_view shape seat =
+    record {
+      exchange = seat.exchange;
+      shape = shape;
+      session = seat.session;
+      parts = seat.parts;
+      log = seat.log;
+      seen = seat.seen;
+    }
 
 -- a reading as the progress word has it
 abbrev pub reading_value : Reading → ℕ

@@ -23,9 +23,11 @@ lines_of turns = flat_map (λ (t : Turn). t.did.line) turns
 abbrev pub entries_of : List Turn → List Entry
 entries_of turns = flat_map (λ (t : Turn). t.did.entries) turns
 
--- These commands stand in the bytes, one after another, and the rest behind them. Just the entries of what they did are new in the list of the
--- seat, which is the same one, and the text is their reply lines.
-pub record IsSession (old new : SeatView) (turns : List Turn) (bytes rest : List ℕ) (entries : List Entry) (text : List ℕ) : Type 0 where
+-- These commands stand in the bytes, one after another, and the rest behind them. Just the entries
+-- of what they did are new in the list of the seat, which is the same one, and the text is their
+-- reply lines.
+pub record IsSession (old new : SeatView) (turns : List Turn) (bytes rest : List ℕ)
+    (entries : List Entry) (text : List ℕ) : Type 0 where
   pub each : AllByRecursion (IsTurn old.shape old.session) turns
   pub bytes_are : bytes ≡ flat_map turn_text turns ++ rest
   pub entries_are : entries ≡ entries_of turns
@@ -39,11 +41,14 @@ GoOn turns = AllByRecursion (λ (t : Turn). GoesOn t.command) turns
 
 -- the last of them is, and it alone
 abbrev pub EndByBye : List Turn → Type 0
-EndByBye turns = (before : List Turn) × (t : Turn) × (turns ≡ before ++ t ∷ []) × GoOn before × (t.command ≡ Some Bye)
+EndByBye turns =
+    (before : List Turn) × (t : Turn) × (turns ≡ before ++ t ∷ []) × GoOn before
+    × (t.command ≡ Some Bye)
 
 -- ---- how it ends
 
--- what is left to read where a session has ended by itself: nothing behind a whole command; behind `bye` it isn't looked at
+-- what is left to read where a session has ended by itself: nothing behind a whole command; behind
+-- `bye` it isn't looked at
 abbrev pub IsWhole : List Turn → Option (List ℕ) → List ℕ → Type 0
 IsWhole turns known rest = (GoOn turns × (rest ≡ []) × IsAtEnd known) ⊎ EndByBye turns
 
@@ -64,7 +69,8 @@ pub record IsPartial (rest : List ℕ) : Type 0 where
   pub short : IsShort lines
   pub whole : rest ≡ lines_text lines ++ part
 
--- the line of a batch and some that belong to it, whose text couldn't be kept, and no more behind them than was read with the last of them
+-- the line of a batch and some that belong to it, whose text couldn't be kept, and no more behind
+-- them than was read with the last of them
 pub record IsUnkept (rest : List ℕ) : Type 0 where
   pub head : List ℕ
   pub body : List (List ℕ)
@@ -76,17 +82,21 @@ pub record IsUnkept (rest : List ℕ) : Type 0 where
   pub room : length part ≤ LINE_BYTES + 1
   pub whole : rest ≡ lines_text (head ∷ body) ++ part
 
--- what stands behind the commands that were served where a fault ends the session, of whose bytes so many were read
+-- what stands behind the commands that were served where a fault ends the session, of whose bytes
+-- so many were read
 abbrev pub RestAt : ServeFault → Option (List ℕ) → ℕ → List ℕ → Type 0
 RestAt Read known read rest = (p : IsPartial rest) × IsLine p.part
-RestAt LineTooLong known read rest = (p : IsPartial rest) × HasNoFeed p.part × (length p.part ≡ LINE_BYTES + 1)
-RestAt Cut known read rest = (p : IsPartial rest) × IsLine p.part × (0 < length rest) × IsAtEnd known
+RestAt LineTooLong known read rest =
+    (p : IsPartial rest) × HasNoFeed p.part × (length p.part ≡ LINE_BYTES + 1)
+RestAt Cut known read rest =
+    (p : IsPartial rest) × IsLine p.part × (0 < length rest) × IsAtEnd known
 RestAt Turns known read rest = (p : IsPartial rest) × IsLine p.part × (MAX_READS ≤ read)
 RestAt NoMemory known read rest = IsUnkept rest
 RestAt Write known read rest = ⊥
 
 -- a session whose last reply line was written in part, or not at all
-pub record IsCutOff (old new : SeatView) (bytes : List ℕ) (entries : List Entry) (written : List ℕ) : Type 0 where
+pub record IsCutOff (old new : SeatView) (bytes : List ℕ) (entries : List Entry)
+    (written : List ℕ) : Type 0 where
   pub before : List Turn
   pub last : Turn
   pub rest : List ℕ
@@ -97,12 +107,15 @@ pub record IsCutOff (old new : SeatView) (bytes : List ℕ) (entries : List Entr
   pub line : last.did.line ≡ front ++ missing
 
 -- the session of these bytes, entries and lines has ended so: by itself, or by a fault
-abbrev pub HasEnded : Option ServeFault → Option (List ℕ) → SeatView → SeatView → List ℕ → List Entry → List ℕ → Type 0
+abbrev pub HasEnded : Option ServeFault → Option (List ℕ) → SeatView → SeatView → List ℕ
+    → List Entry → List ℕ → Type 0
 HasEnded None known old new bytes entries written =
-    (turns : List Turn) × (rest : List ℕ) × IsSession old new turns bytes rest entries written × IsWhole turns known rest
+    (turns : List Turn) × (rest : List ℕ) × IsSession old new turns bytes rest entries written
+    × IsWhole turns known rest
 HasEnded (Some Write) known old new bytes entries written = IsCutOff old new bytes entries written
 HasEnded (Some fault) known old new bytes entries written =
-    (turns : List Turn) × (rest : List ℕ) × IsSession old new turns bytes rest entries written × GoOn turns × RestAt fault known (length bytes) rest
+    (turns : List Turn) × (rest : List ℕ) × IsSession old new turns bytes rest entries written
+    × GoOn turns × RestAt fault known (length bytes) rest
 
 -- the fault of a result
 abbrev pub fault_of : {T : Type 0} → Result T ServeFault → Option ServeFault
@@ -111,8 +124,10 @@ fault_of (Err fault) = Some fault
 
 -- ---- what a session does to a reader, a writer and a seat
 
--- the bytes that the reader gave, the entries that are new in the seat's list, and those bytes that the writer took
-pub record Passes (before after held holds : Option (List ℕ)) (old new : SeatView) (IsSo : List ℕ → List Entry → List ℕ → Type 0) : Type 0 where
+-- the bytes that the reader gave, the entries that are new in the seat's list, and those bytes that
+-- the writer took
+pub record Passes (before after held holds : Option (List ℕ)) (old new : SeatView)
+    (IsSo : List ℕ → List Entry → List ℕ → Type 0) : Type 0 where
   pub bytes : List ℕ
   pub entries : List Entry
   pub written : List ℕ
@@ -133,7 +148,8 @@ fault_back (Ok seat) = None
 fault_back (Err e) = Some e.1
 
 -- a session was served from this seat of an exchange whose rack has this shape, with this result
-abbrev pub IsServed : Extent → Stand → Result Stand (Stand × ServeFault) → (before after held holds : Option (List ℕ)) → Type 0
+abbrev pub IsServed : Extent → Stand → Result Stand (Stand × ServeFault)
+    → (before after held holds : Option (List ℕ)) → Type 0
 IsServed shape seat result before after held holds =
     let old = seat_view shape seat in
     let new = seat_view shape (seat_back result) in

@@ -56,7 +56,8 @@ pub record Acts (old new : SeatView) (IsSo : Answer → Type 0) (line : List ℕ
   pub line_is : line ≡ answer.line
 
 -- n lines were taken from the input, and stand behind the text
-pub record LinesTaken (before after : Option (List ℕ)) (old new : Pending) (text_before text_after : List ℕ) (n : ℕ) : Type 0 where
+pub record LinesTaken (before after : Option (List ℕ)) (old new : Pending)
+    (text_before text_after : List ℕ) (n : ℕ) : Type 0 where
   pub bytes : List ℕ
   pub consumed : Consumes before after bytes
   pub lines : List (List ℕ)
@@ -76,14 +77,16 @@ PendingAt NoMemory known h = length h.pending ≤ LINE_BYTES + 1
 PendingAt Write known h = ⊥
 
 -- some lines were taken, fewer than wanted, and then a fault came
-pub record LinesStopped (fault : ServeFault) (before after : Option (List ℕ)) (old new : Pending) (text_before text_after : List ℕ) (wanted : ℕ) : Type 0 where
+pub record LinesStopped (fault : ServeFault) (before after : Option (List ℕ)) (old new : Pending)
+    (text_before text_after : List ℕ) (wanted : ℕ) : Type 0 where
   pub n : ℕ
   pub fewer : n < wanted
   pub taken : LinesTaken before after old new text_before text_after n
   pub at : PendingAt fault after new
 
 -- a turn was taken from the input, and done
-pub record TurnTaken (before after : Option (List ℕ)) (old new : Pending) (from to : SeatView) (line : List ℕ) (ends : Bool) : Type 0 where
+pub record TurnTaken (before after : Option (List ℕ)) (old new : Pending) (from to : SeatView)
+    (line : List ℕ) (ends : Bool) : Type 0 where
   pub turn : Turn
   pub is : IsTurn from.shape from.session turn
   pub bytes : List ℕ
@@ -95,7 +98,8 @@ pub record TurnTaken (before after : Option (List ℕ)) (old new : Pending) (fro
   pub last : MatchBool ends (turn.command ≡ Some Bye) (GoesOn turn.command)
 
 -- a fault came first
-pub record TurnStopped (fault : ServeFault) (before after : Option (List ℕ)) (old : Pending) (from to : SeatView) : Type 0 where
+pub record TurnStopped (fault : ServeFault) (before after : Option (List ℕ)) (old : Pending)
+    (from to : SeatView) : Type 0 where
   pub bytes : List ℕ
   pub consumed : Consumes before after bytes
   pub same : to ≡ from

@@ -51,45 +51,57 @@ tells by id call reply = answer (logged by call reply) (reply_line id reply)
 abbrev pub Tells : ℕ → ℕ → Call → Answer → Type 0
 Tells by id call a = (reply : Reply) × IsReplyTo call reply × (a ≡ tells by id call reply)
 
--- The lines of a batch: what they denote was submitted, or their first fault is the line, or there was no memory for a transfer that they have.
+-- The lines of a batch: what they denote was submitted, or their first fault is the line, or there
+-- was no memory for a transfer that they have.
 abbrev pub Submits : Extent → ℕ → List ℕ → Answer → Type 0
 Submits shape by text a =
     ((batch : List Transfer) × Denotes shape text batch × Tells by 0 (call.Submit batch) a)
-    ⊎ ((fault : BatchFault) × (fault ≢ NoMemory) × IsFirstFault shape text fault × (a ≡ refuses (batch_words fault)))
+    ⊎ ((fault : BatchFault) × (fault ≢ NoMemory) × IsFirstFault shape text fault
+    × (a ≡ refuses (batch_words fault)))
     ⊎ (NeedsMemory shape text × (a ≡ refuses (codes "no memory")))
 
 -- a batch was fetched, and a plan of it was settled: this was the reply, which is the line
 abbrev pub settles : ℕ → ℕ → List Transfer → Plan → Reply → Answer
 settles by id batch plan reply =
-    answer (entry by (call.Fetch id) (Fetched batch) ∷ logged by (call.Settle id plan) reply) (reply_line id reply)
+    answer (entry by (call.Fetch id) (Fetched batch) ∷ logged by (call.Settle id plan) reply)
+    (reply_line id reply)
 
--- A batch was fetched: a plan of it was settled, and the reply is the line, or there was no memory to plan it.
+-- A batch was fetched: a plan of it was settled, and the reply is the line, or there was no memory
+-- to plan it.
 abbrev pub Settles : ℕ → ℕ → List Transfer → Answer → Type 0
 Settles by id batch a =
-    ((plan : Plan) × (reply : Reply) × IsPlan plan × (plan.batch ≡ batch) × IsReplyTo (call.Settle id plan) reply
+    ((plan : Plan) × (reply : Reply) × IsPlan plan × (plan.batch ≡ batch)
+    × IsReplyTo (call.Settle id plan) reply
     × (a ≡ settles by id batch plan reply))
-    ⊎ (a ≡ answer (entry by (call.Fetch id) (Fetched batch) ∷ []) (refused_line (codes "no memory")))
+    ⊎ (a
+    ≡ answer (entry by (call.Fetch id) (Fetched batch) ∷ []) (refused_line (codes "no memory")))
 
 -- `plan`: fetching was refused, and that is the line; or a batch was fetched
 abbrev pub Plans : ℕ → ℕ → Answer → Type 0
 Plans by id a =
-    ((why : Refusal) × IsReplyTo (call.Fetch id) (Refused why) × (a ≡ tells by id (call.Fetch id) (Refused why)))
+    ((why : Refusal) × IsReplyTo (call.Fetch id) (Refused why)
+    × (a ≡ tells by id (call.Fetch id) (Refused why)))
     ⊎ ((batch : List Transfer) × Settles by id batch a)
 
 -- `progress`: the word was read
 abbrev pub Reads : Answer → Type 0
-Reads a = (r : Reading) × (r.done < RUN_STEP) × (a ≡ record { entries = []; reading = Some r; line = progress_line r })
+Reads a =
+    (r : Reading) × (r.done < RUN_STEP)
+    × (a ≡ record { entries = []; reading = Some r; line = progress_line r })
 
 -- What a command may do: this is the whole table of a session. The text is that of its lines.
 abbrev pub Does : Extent → ℕ → Option Command → List ℕ → Answer → Type 0
 Does shape by None text a = a ≡ refuses (codes "line")
-Does shape by (Some (Batch count)) text a = ((MAX_TRANSFERS < count) × (a ≡ refuses (codes "too many"))) ⊎ ((count ≤ MAX_TRANSFERS) × Submits shape by text a)
+Does shape by (Some (Batch count)) text a =
+    ((MAX_TRANSFERS < count) × (a ≡ refuses (codes "too many")))
+    ⊎ ((count ≤ MAX_TRANSFERS) × Submits shape by text a)
 Does shape by (Some (PlanOf id)) text a = Plans by id a
 Does shape by (Some (Run id)) text a = Tells by id (call.Run id) a
 Does shape by (Some (Show id)) text a = Tells by id (call.Show id) a
 Does shape by (Some (Drop id)) text a = Tells by id (call.Discard id) a
 Does shape by (Some (Peek «module» address)) text a = Tells by 0 (call.Peek «module» address) a
-Does shape by (Some (Poke «module» address word)) text a = Tells by 0 (call.Poke «module» address word) a
+Does shape by (Some (Poke «module» address word)) text a =
+    Tells by 0 (call.Poke «module» address word) a
 Does shape by (Some Progress) text a = Reads a
 Does shape by (Some Bye) text a = a ≡ answer [] (with_feed (codes "bye"))
 
@@ -137,11 +149,13 @@ shown a = readings_of a.reading ++ map (λ (e : Entry). value_of e.reply) a.entr
 
 -- no reading of these turns is behind the value
 abbrev pub IsBelowReadings : List Turn → ℕ → Type 0
-IsBelowReadings turns v = AllByRecursion (λ t. AllByRecursion (λ r. v ≤ r) (readings_of t.did.reading)) turns
+IsBelowReadings turns v =
+    AllByRecursion (λ t. AllByRecursion (λ r. v ≤ r) (readings_of t.did.reading)) turns
 
 -- no reading of these turns is ahead of the value
 abbrev pub IsAboveReadings : List Turn → ℕ → Type 0
-IsAboveReadings turns v = AllByRecursion (λ t. AllByRecursion (λ r. r ≤ v) (readings_of t.did.reading)) turns
+IsAboveReadings turns v =
+    AllByRecursion (λ t. AllByRecursion (λ r. r ≤ v) (readings_of t.did.reading)) turns
 
 -- no reading is behind what an earlier turn has shown
 abbrev pub AreRising : List Turn → Type 0

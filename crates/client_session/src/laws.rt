@@ -1,6 +1,6 @@
 //! Laws of sessions. None of them does anything.
 
-ghost use Rattle.client_session.specs.Commands.{OneMeaning};
+ghost use Rattle.client_session.specs.Laws.{OneMeaning};
 
 /// A line is that of at most one command.
 pub fn one_meaning()

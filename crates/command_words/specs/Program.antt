@@ -13,7 +13,9 @@ word id = record (new_rule id) { required = true }
 
 -- the word of the scripts: it has to be there, and may be there so many times
 abbrev pub words : Rule
-words = record (word (codes "SCRIPT")) { range = Some (record { start_inclusive = 1; end_inclusive = MAX_SCRIPTS }) }
+words =
+    record (word (codes "SCRIPT"))
+    { range = Some (record { start_inclusive = 1; end_inclusive = MAX_SCRIPTS }) }
 
 -- `--workers`, at least 1, and 1 where it is left out
 abbrev pub workers : Rule
@@ -30,19 +32,25 @@ plan = with_rule (with_rule (new_app (codes "plan")) (word (codes "FILE"))) work
 
 -- `check BATCH SCHEDULE`
 abbrev pub check : App
-check = with_rule (with_rule (new_app (codes "check")) (word (codes "BATCH"))) (word (codes "SCHEDULE"))
+check =
+    with_rule (with_rule (new_app (codes "check")) (word (codes "BATCH"))) (word (codes "SCHEDULE"))
 
 -- `draw BATCH SCHEDULE`
 abbrev pub draw : App
-draw = with_rule (with_rule (new_app (codes "draw")) (word (codes "BATCH"))) (word (codes "SCHEDULE"))
+draw =
+    with_rule (with_rule (new_app (codes "draw")) (word (codes "BATCH"))) (word (codes "SCHEDULE"))
 
 -- `run SHAPE BATCH [--workers N]`
 abbrev pub run : App
-run = with_rule (with_rule (with_rule (new_app (codes "run")) (word (codes "SHAPE"))) (word (codes "BATCH"))) workers
+run =
+    with_rule
+    (with_rule (with_rule (new_app (codes "run")) (word (codes "SHAPE"))) (word (codes "BATCH")))
+    workers
 
 -- `serve SHAPE SCRIPT.. [--workers N]`
 abbrev pub serve : App
-serve = with_rule (with_rule (with_rule (new_app (codes "serve")) (word (codes "SHAPE"))) words) workers
+serve =
+    with_rule (with_rule (with_rule (new_app (codes "serve")) (word (codes "SHAPE"))) words) workers
 
 -- `switch BATCH [--workers N]`
 abbrev pub switch : App
@@ -50,11 +58,16 @@ switch = with_rule (with_rule (new_app (codes "switch")) (word (codes "BATCH")))
 
 -- the program's name, which a command has to follow, or `--version`
 abbrev pub top : App
-top = record (new_app (codes "exchange")) { top = record (new_app (codes "exchange")).top { subcommand_required = true; has_version = true } }
+top =
+    let new = new_app (codes "exchange") in
+    record new { top = record new.top { subcommand_required = true; has_version = true } }
 
 -- the program with the commands that need no rack
 abbrev pub planner : App
-planner = with_subcommand (with_subcommand (with_subcommand (with_subcommand top plan.top) check.top) draw.top) switch.top
+planner =
+    with_subcommand
+    (with_subcommand (with_subcommand (with_subcommand top plan.top) check.top) draw.top)
+    switch.top
 
 -- the whole program
 abbrev pub program : App
@@ -76,11 +89,13 @@ pub record AddsRule (old : Command) (rule : Rule) (new : Command) : Type 0 where
 
 -- clap's command, with the words of a batch and of a schedule
 pub record AddsTexts (old new : Command) : Type 0 where
-  pub app : app_of new ≡ with_rule (with_rule (app_of old) (word (codes "BATCH"))) (word (codes "SCHEDULE"))
+  pub app : app_of new
+      ≡ with_rule (with_rule (app_of old) (word (codes "BATCH"))) (word (codes "SCHEDULE"))
   pub local : (fields_of new).has_globals ≡ (fields_of old).has_globals
 
 -- clap's command, with one more below it, which was to be had and has no argument to share
-pub record AddsCommand {E : Type 0} (old : Command) (below : Result Command E) (new : Command) : Type 0 where
+pub record AddsCommand {E : Type 0} (old : Command) (below : Result Command E)
+    (new : Command) : Type 0 where
   pub added : Command
   pub there : below ≡ Ok added
   pub app : IsLocal added → app_of new ≡ with_subcommand (app_of old) (app_of added).top

@@ -1,4 +1,5 @@
--- The switches of a rack. That a rack may have two, and what each of them carries, is this project's choice.
+-- The switches of a rack. That a rack may have two, and what each of them carries, is this
+-- project's choice.
 use Rattle.std.specs.Prelude.{◌≡◌, ℕ, List, refl}
 use Rattle.std.specs.Coded.{Coded, code_by, coded×}
 use Rattle.c004_commands.specs.Commands.{text, AreCommands, Spells}
@@ -33,17 +34,23 @@ abbrev pub wide_wiring : Chip → Wiring
 wide_wiring A = Forth
 wide_wiring B = Back
 
--- The commands that the bytes spell were carried out at the chip, in order, and answered. The other chip is as it was.
+-- The commands that the bytes spell were carried out at the chip, in order, and answered. The other
+-- chip is as it was.
 abbrev pub CarriesOutAt : Chip → List ℕ → Switches → Switches → List ℕ → Type 0
 CarriesOutAt chip bytes old new replies =
     (commands : List Command) → AreCommands commands → bytes ≡ text commands
-    → (new ≡ put_switch chip (after_all commands (switch_at chip old)) old) × (replies ≡ answers commands (switch_at chip old))
+    → (new ≡ put_switch chip (after_all commands (switch_at chip old)) old)
+    × (replies ≡ answers commands (switch_at chip old))
 
--- the commands that are whole within the bytes were carried out at the chip, in order, and the other chip is as it was
+-- the commands that are whole within the bytes were carried out at the chip, in order, and the
+-- other chip is as it was
 abbrev pub CarriesOutWholeAt : Chip → List ℕ → Switches → Switches → Type 0
 CarriesOutWholeAt chip bytes old new =
-    (commands : List Command) (rest : List ℕ) → Spells bytes commands rest → new ≡ put_switch chip (after_all commands (switch_at chip old)) old
+    (commands : List Command) (rest : List ℕ) → Spells bytes commands rest
+    → new ≡ put_switch chip (after_all commands (switch_at chip old)) old
 
 -- switches are stored as the two
 abbrev pub switches_code : Coded Switches
-switches_code = code_by (Switch × Switch) (coded× switch_code switch_code) (λ s. (s.a, s.b)) (λ p. record { a = p.0; b = p.1 }) (λ _. refl)
+switches_code =
+    code_by (Switch × Switch) (coded× switch_code switch_code) (λ s. (s.a, s.b))
+    (λ p. record { a = p.0; b = p.1 }) (λ _. refl)

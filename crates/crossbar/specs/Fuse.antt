@@ -1,5 +1,5 @@
--- A port to the switches of a rack that takes so many bytes and then fails. It is this project's own, for tests of what a
--- failing port leaves.
+-- A port to the switches of a rack that takes so many bytes and then fails. It is this project's
+-- own, for tests of what a failing port leaves.
 use Rattle.std.specs.Prelude.{◌≡◌, ◌≤◌, ◌-◌, ℕ, List, take, Option, Some, None, refl}
 use Rattle.std.specs.Coded.{Coded, code_by, coded×, coded_ℕ, coded_option}
 use Rattle.crossbar.specs.Chips.{Switches, switches_code, CarriesOutAt, CarriesOutWholeAt}
@@ -27,7 +27,8 @@ left_after None bytes = None
 abbrev pub Carries : Chip → List ℕ → Fuse → Fuse → List ℕ → Type 0
 Carries chip bytes old new replies = CarriesOutAt chip bytes old.switches new.switches replies
 
--- the commands that are whole within so many of the bytes were carried out, or none where the port had failed
+-- the commands that are whole within so many of the bytes were carried out, or none where the port
+-- had failed
 abbrev pub CarriesFront : Chip → Option ℕ → List ℕ → Switches → Switches → Type 0
 CarriesFront chip (Some left) bytes old new = CarriesOutWholeAt chip (take left bytes) old new
 CarriesFront chip None bytes old new = new ≡ old
@@ -39,4 +40,7 @@ CarriesLeft chip bytes old new = CarriesFront chip old.left bytes old.switches n
 -- a fuse is stored as its three fields
 abbrev pub fuse_code : Coded Fuse
 fuse_code =
-    code_by (Switches × (Option ℕ × ℕ)) (coded× switches_code (coded× (coded_option coded_ℕ) coded_ℕ)) (λ f. (f.switches, (f.left, f.failures))) (λ p. record { switches = p.0; left = p.1.0; failures = p.1.1 }) (λ _. refl)
+    code_by (Switches × (Option ℕ × ℕ))
+    (coded× switches_code (coded× (coded_option coded_ℕ) coded_ℕ))
+    (λ f. (f.switches, (f.left, f.failures)))
+    (λ p. record { switches = p.0; left = p.1.0; failures = p.1.1 }) (λ _. refl)

@@ -18,8 +18,9 @@ pub record AreJoined (switch : Switch) (m n : ℕ) : Type 0 where
   pub initiator_feeds : map.get switch.sources (link3 n) ≡ Some (link0 m)
   pub responder_feeds : map.get switch.sources (link0 m) ≡ Some (link3 n)
 
--- On two switches, link 0 of module m feeds link 3 of module n over the first, link 3 of module n feeds link 0 of module m over the
--- second, and both are ready. Link 0 and link 3 of a module have its number on both.
+-- On two switches, link 0 of module m feeds link 3 of module n over the first, link 3 of module n
+-- feeds link 0 of module m over the second, and both are ready. Link 0 and link 3 of a module have
+-- its number on both.
 pub record AreJoinedWide (a b : Switch) (m n : ℕ) : Type 0 where
   pub a_ready : IsTrue a.ready
   pub b_ready : IsTrue b.ready

@@ -1,5 +1,6 @@
--- Pairs of modules, the commands that join them on a switch, and the switch that has just them joined. A switch connects those ends of a
--- pair's links that are wired to it. Which commands a setting and a change are is this project's choice.
+-- Pairs of modules, the commands that join them on a switch, and the switch that has just them
+-- joined. A switch connects those ends of a pair's links that are wired to it. Which commands a
+-- setting and a change are is this project's choice.
 use Rattle.std.specs.Prelude.{◌≡◌, ◌≢◌, ◌<◌, ◌≤◌, ◌==◌, ◌&&◌, ℕ, Bool, true, not, List, [], ◌∷◌, ◌++◌, map, filter}
 use Rattle.std.specs.List.{flat_map, list_any, AllByRecursion}
 use Rattle.std.specs.FinMap as finmap
@@ -20,25 +21,30 @@ room_of Both = JOINED_MODULES
 room_of Forth = PORTS
 room_of Back = PORTS
 
--- pairs among so many modules that can be joined at once, in the order of a setting: initiators ascend, and responders differ
+-- pairs among so many modules that can be joined at once, in the order of a setting: initiators
+-- ascend, and responders differ
 abbrev pub ArePairs : ℕ → List Pair → Type 0
 ArePairs modules [] = Unit {0}
 ArePairs modules (pair ∷ pairs) =
     (pair.initiator < modules) × (pair.responder < modules)
-    × AllByRecursion (λ other. pair.initiator < other.initiator) pairs × AllByRecursion (λ other. pair.responder ≢ other.responder) pairs
+    × AllByRecursion (λ other. pair.initiator < other.initiator) pairs
+    × AllByRecursion (λ other. pair.responder ≢ other.responder) pairs
     × ArePairs modules pairs
 
 -- the outputs that a pair connects, with their inputs
 abbrev pub ends : Wiring → Pair → List (ℕ × ℕ)
-ends Both pair = (link0 pair.initiator, link3 pair.responder) ∷ (link3 pair.responder, link0 pair.initiator) ∷ []
+ends Both pair =
+    (link0 pair.initiator, link3 pair.responder) ∷ (link3 pair.responder, link0 pair.initiator) ∷ []
 ends Forth pair = (pair.responder, pair.initiator) ∷ []
 ends Back pair = (pair.initiator, pair.responder) ∷ []
 
 -- the switch of pairs: ready, and just their ends are connected
 abbrev pub switch_of : Wiring → List Pair → Switch
-switch_of wiring pairs = record { sources = finmap.from_entries (flat_map (ends wiring) pairs); ready = true }
+switch_of wiring pairs =
+    record { sources = finmap.from_entries (flat_map (ends wiring) pairs); ready = true }
 
--- The switches of pairs in a rack of so many modules. What the second does where the first is enough for all isn't said.
+-- The switches of pairs in a rack of so many modules. What the second does where the first is
+-- enough for all isn't said.
 pub record AreSwitchesOf (modules : ℕ) (pairs : List Pair) (switches : Switches) : Type 0 where
   pub narrow : modules ≤ JOINED_MODULES → switches.a ≡ switch_of Both pairs
   pub wide_a : JOINED_MODULES < modules → switches.a ≡ switch_of Forth pairs
@@ -68,6 +74,8 @@ without others pairs = filter (λ pair. not (list_any (is_pair pair) others)) pa
 abbrev pub setting : Wiring → List Pair → List Command
 setting wiring pairs = Reset ∷ (map (join wiring) pairs ++ Settle ∷ [])
 
--- what sets the switch of the old pairs to the new ones: the cuts of those that go, the joins of those that come
+-- what sets the switch of the old pairs to the new ones: the cuts of those that go, the joins of
+-- those that come
 abbrev pub change : Wiring → List Pair → List Pair → List Command
-change wiring old new = map (cut wiring) (without new old) ++ (map (join wiring) (without old new) ++ Settle ∷ [])
+change wiring old new =
+    map (cut wiring) (without new old) ++ (map (join wiring) (without old new) ++ Settle ∷ [])

@@ -1,7 +1,8 @@
 -- The switch of an IMS C004: which input feeds each output, and whether it is ready to accept data.
--- Source: INMOS IMS C004 data sheet, the effects of its configuration messages. Where the sheet is silent the
--- choice is this project's: a new connection replaces the one that the output had, both links of a command may
--- be one link, only `Connect` and `Join` make the switch unready, and a new switch is as after a reset.
+-- Source: INMOS IMS C004 data sheet, the effects of its configuration messages. Where the sheet is
+-- silent the choice is this project's: a new connection replaces the one that the output had, both
+-- links of a command may be one link, only `Connect` and `Join` make the switch unready, and a new
+-- switch is as after a reset.
 use Rattle.std.specs.Prelude.{ℕ, Bool, true, false, List, [], ◌∷◌, ◌++◌, ◌+◌, refl, Option, Some, None}
 use Rattle.std.specs.Option.{option_to_list}
 use Rattle.std.specs.Ordering.{nat_cmp}
@@ -25,8 +26,10 @@ idle = record { sources = map.empty; ready = true }
 
 -- the switch after a command
 abbrev pub after : Command → Switch → Switch
-after (Connect input output) s = record { sources = map.insert s.sources output input; ready = false }
-after (Join link1 link2) s = record { sources = map.insert (map.insert s.sources link2 link1) link1 link2; ready = false }
+after (Connect input output) s =
+    record { sources = map.insert s.sources output input; ready = false }
+after (Join link1 link2) s =
+    record { sources = map.insert (map.insert s.sources link2 link1) link1 link2; ready = false }
 after (Enquire output) s = s
 after Settle s = record s { ready = true }
 after Reset s = idle
@@ -46,7 +49,8 @@ after_all (command ∷ commands) s = after_all commands (after command s)
 -- the bytes that commands are answered, in order
 abbrev pub answers : List Command → Switch → List ℕ
 answers [] s = []
-answers (command ∷ commands) s = option_to_list (answer command s) ++ answers commands (after command s)
+answers (command ∷ commands) s =
+    option_to_list (answer command s) ++ answers commands (after command s)
 
 -- how many of the commands are enquiries
 abbrev pub enquiries : List Command → ℕ
@@ -57,4 +61,5 @@ enquiries (_ ∷ commands) = enquiries commands
 -- a switch is stored as its two fields
 abbrev pub switch_code : Coded Switch
 switch_code =
-    code_by (Sources × Bool) (coded× (map.code coded_ℕ coded_ℕ) coded_bool) (λ s. (s.sources, s.ready)) (λ p. record { sources = p.0; ready = p.1 }) (λ _. refl)
+    code_by (Sources × Bool) (coded× (map.code coded_ℕ coded_ℕ) coded_bool)
+    (λ s. (s.sources, s.ready)) (λ p. record { sources = p.0; ready = p.1 }) (λ _. refl)

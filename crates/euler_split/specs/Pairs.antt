@@ -10,7 +10,8 @@ module_in batch end t = slice_index (map (module_at end) batch) t
 
 -- partners are each other's, and nobody is his own
 pub record ArePairs (partners : List (Option ℕ)) : Type 0 where
-  pub symmetric : (u v : ℕ) → slice_index_or partners u None ≡ Some v → slice_index_or partners v None ≡ Some u
+  pub symmetric : (u v : ℕ) → slice_index_or partners u None ≡ Some v
+      → slice_index_or partners v None ≡ Some u
   pub apart : (u v : ℕ) → slice_index_or partners u None ≡ Some v → u ≢ v
 
 -- a test of places that tells partners apart
@@ -19,15 +20,26 @@ Tells partners test = (u v : ℕ) → slice_index_or partners u None ≡ Some v 
 
 -- how many of the first n places have the module at that end and pass the test
 abbrev pub passing : List Transfer → List ℕ → End → ℕ → ℕ → (ℕ → Bool) → ℕ
-passing batch whole end m n test = count_below n (λ i. test i && module_in batch end (slice_index whole i) == m)
+passing batch whole end m n test =
+    count_below n (λ i. test i && module_in batch end (slice_index whole i) == m)
 
 -- whichever test tells partners apart, about half of the places at each link pass it
-pub record AreBalanced (batch : List Transfer) (whole : List ℕ) (end : End) (partners : List (Option ℕ)) : Type 0 where
+pub record AreBalanced (batch : List Transfer) (whole : List ℕ) (end : End)
+    (partners : List (Option ℕ)) : Type 0 where
   pub sized : length partners ≡ length whole
   pub pairs : ArePairs partners
-  pub even : (test : ℕ → Bool) → Tells partners test → (m : ℕ) → (passing batch whole end m (length whole) test ≤ passing batch whole end m (length whole) (λ i. not (test i)) + 1) × (passing batch whole end m (length whole) (λ i. not (test i)) ≤ passing batch whole end m (length whole) test + 1)
+  pub even : (test : ℕ → Bool) → Tells partners test → (m : ℕ)
+      → (passing batch whole end m (length whole) test
+      ≤ passing batch whole end m (length whole) (λ i. not (test i)) + 1)
+      × (passing batch whole end m (length whole) (λ i. not (test i))
+      ≤ passing batch whole end m (length whole) test + 1)
 
--- A place comes to a link. Where none waits there, it waits; else it and the one that waits are partners.
-pub record HasCome (link place : ℕ) (waiting partners waiting_now partners_now : List (Option ℕ)) : Type 0 where
-  pub waits : slice_index_or waiting link None ≡ None → (waiting_now ≡ set waiting link (Some place)) × (partners_now ≡ partners)
-  pub paired : (w : ℕ) → slice_index_or waiting link None ≡ Some w → (waiting_now ≡ set waiting link None) × (partners_now ≡ set (set partners w (Some place)) place (Some w))
+-- A place comes to a link. Where none waits there, it waits; else it and the one that waits are
+-- partners.
+pub record HasCome (link place : ℕ)
+    (waiting partners waiting_now partners_now : List (Option ℕ)) : Type 0 where
+  pub waits : slice_index_or waiting link None ≡ None
+      → (waiting_now ≡ set waiting link (Some place)) × (partners_now ≡ partners)
+  pub paired : (w : ℕ) → slice_index_or waiting link None ≡ Some w
+      → (waiting_now ≡ set waiting link None)
+      × (partners_now ≡ set (set partners w (Some place)) place (Some w))

@@ -16,38 +16,48 @@ use Rattle.exchange.specs.declared.limits.TheConstants.{MISUSED}
 use Rattle.exchange.specs.declared.unanswered.Unanswered.{Unanswered}
 use Rattle.exchange.specs.declared.unanswered.Unanswered.TheVariants.{File, NoMemory}
 
--- what a file of this name holds, where standard input had these bytes: it may be standard input, and then it holds them, as far as they are known
+-- what a file of this name holds, where standard input had these bytes: it may be standard input,
+-- and then it holds them, as far as they are known
 abbrev pub IsHeld : Option (List ℕ) → List ℕ → List ℕ → Type 0
 IsHeld input name bytes = name ≡ input_name → IfSome input (λ known. bytes ≡ known)
 
 -- what the files of these names hold
 pub record AreHeld (input : Option (List ℕ)) (names files : List (List ℕ)) : Type 0 where
   pub count : length files ≡ length names
-  pub each : (k : ℕ) → k < length names → IsHeld input (slice_index_or names k []) (slice_index_or files k [])
+  pub each : (k : ℕ) → k < length names
+      → IsHeld input (slice_index_or names k []) (slice_index_or files k [])
 
 -- an answer of `plan` to what this file holds
 abbrev pub IsSomePlan : Option (List ℕ) → List ℕ → Printed → Type 0
-IsSomePlan input file answer = (batch : List ℕ) × IsHeld input file batch × IsPlanned widest batch answer
+IsSomePlan input file answer =
+    (batch : List ℕ) × IsHeld input file batch × IsPlanned widest batch answer
 
 -- an answer of `check` to what these files hold
 abbrev pub IsSomeCheck : Option (List ℕ) → List ℕ → List ℕ → Printed → Type 0
-IsSomeCheck input batch_file schedule_file answer = (batch schedule : List ℕ) × IsHeld input batch_file batch × IsHeld input schedule_file schedule × IsChecked widest batch schedule answer
+IsSomeCheck input batch_file schedule_file answer =
+    (batch schedule : List ℕ) × IsHeld input batch_file batch × IsHeld input schedule_file schedule
+    × IsChecked widest batch schedule answer
 
 -- an answer of `draw` to what these files hold
 abbrev pub IsSomeDraw : Option (List ℕ) → List ℕ → List ℕ → Printed → Type 0
-IsSomeDraw input batch_file schedule_file answer = (batch schedule : List ℕ) × IsHeld input batch_file batch × IsHeld input schedule_file schedule × IsDrawn widest batch schedule answer
+IsSomeDraw input batch_file schedule_file answer =
+    (batch schedule : List ℕ) × IsHeld input batch_file batch × IsHeld input schedule_file schedule
+    × IsDrawn widest batch schedule answer
 
 -- an answer of `switch` to what this file holds
 abbrev pub IsSomeSwitch : Option (List ℕ) → List ℕ → Printed → Type 0
-IsSomeSwitch input file answer = (batch : List ℕ) × IsHeld input file batch × IsSwitched widest batch answer
+IsSomeSwitch input file answer =
+    (batch : List ℕ) × IsHeld input file batch × IsSwitched widest batch answer
 
 -- an answer of `run` to this shape's text and to what this file holds
 abbrev pub IsSomeRun : Option (List ℕ) → List ℕ → List ℕ → Printed → Type 0
-IsSomeRun input shape file answer = (batch : List ℕ) × IsHeld input file batch × IsRunAnswer shape batch answer
+IsSomeRun input shape file answer =
+    (batch : List ℕ) × IsHeld input file batch × IsRunAnswer shape batch answer
 
 -- an answer of `serve` to this shape's text and to what these files hold
 abbrev pub IsSomeServe : Option (List ℕ) → List ℕ → List (List ℕ) → Printed → Type 0
-IsSomeServe input shape files answer = (scripts : List (List ℕ)) × AreHeld input files scripts × IsServeAnswer shape scripts answer
+IsSomeServe input shape files answer =
+    (scripts : List (List ℕ)) × AreHeld input files scripts × IsServeAnswer shape scripts answer
 
 -- the answer to a job, whatever bytes its files hold, but for those of standard input
 abbrev pub IsAnswerTo : Option (List ℕ) → Job → Printed → Type 0
@@ -69,23 +79,33 @@ unanswered why = record { text = unanswered_line why; status = REFUSED }
 
 -- the answer to a job, or why there is none
 abbrev pub IsResponseTo : Option (List ℕ) → Job → Printed → Type 0
-IsResponseTo input job printed = IsAnswerTo input job printed ⊎ ((why : Unanswered) × (printed ≡ unanswered why))
+IsResponseTo input job printed =
+    IsAnswerTo input job printed ⊎ ((why : Unanswered) × (printed ≡ unanswered why))
 
 -- this was printed behind what stood there, and ends with its status
 pub record IsPrinted (before after : Option (List ℕ)) (printed : Printed) (code : ℕ) : Type 0 where
   pub text : Appends before after printed.text
   pub status : code ≡ printed.status
 
--- how the program ends where standard input had these bytes and the words hold this job, or are at fault: what it prints behind what stood there, and its status
-abbrev pub IsEndFor : Option (List ℕ) → Result Job WordsFault → Option (List ℕ) → Option (List ℕ) → ℕ → Type 0
-IsEndFor input (Ok job) before after code = (printed : Printed) × IsResponseTo input job printed × IsPrinted before after printed code
-IsEndFor input (Err words_fault.NoMemory) before after code = IsPrinted before after (unanswered NoMemory) code
-IsEndFor input (Err (words_fault.Clap error)) before after code = (AsksForHelp error → code ≡ DONE) × ((AsksForHelp error → ⊥) → (code ≡ MISUSED) × (after ≡ before))
+-- how the program ends where standard input had these bytes and the words hold this job, or are at
+-- fault: what it prints behind what stood there, and its status
+abbrev pub IsEndFor : Option (List ℕ) → Result Job WordsFault → Option (List ℕ) → Option (List ℕ)
+    → ℕ → Type 0
+IsEndFor input (Ok job) before after code =
+    (printed : Printed) × IsResponseTo input job printed × IsPrinted before after printed code
+IsEndFor input (Err words_fault.NoMemory) before after code =
+    IsPrinted before after (unanswered NoMemory) code
+IsEndFor input (Err (words_fault.Clap error)) before after code =
+    (AsksForHelp error → code ≡ DONE)
+    × ((AsksForHelp error → ⊥) → (code ≡ MISUSED) × (after ≡ before))
 
 -- how it ends for these words
-abbrev pub IsEndForWords : List (List ℕ) → Option (List ℕ) → Option (List ℕ) → Option (List ℕ) → ℕ → Type 0
-IsEndForWords words input before after code = (job : Result Job WordsFault) × IfOk job (Holds words) × IsEndFor input job before after code
+abbrev pub IsEndForWords : List (List ℕ) → Option (List ℕ) → Option (List ℕ) → Option (List ℕ) → ℕ
+    → Type 0
+IsEndForWords words input before after code =
+    (job : Result Job WordsFault) × IfOk job (Holds words) × IsEndFor input job before after code
 
 -- how it ends where the words can't be had as texts
 abbrev pub IsEndWithoutWords : Option (List ℕ) → Option (List ℕ) → ℕ → Type 0
-IsEndWithoutWords before after code = IsPrinted before after (unanswered NoMemory) code ⊎ ((code ≡ MISUSED) × (after ≡ before))
+IsEndWithoutWords before after code =
+    IsPrinted before after (unanswered NoMemory) code ⊎ ((code ≡ MISUSED) × (after ≡ before))

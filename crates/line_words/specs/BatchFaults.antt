@@ -1,4 +1,5 @@
--- What is said of a batch text's fault, in a session and by the program. The texts are this project's choice.
+-- What is said of a batch text's fault, in a session and by the program. The texts are this
+-- project's choice.
 use Rattle.std.specs.Prelude.{ℕ, List, ◌++◌, codes}
 use Rattle.std.specs.Fmt.{decimal}
 use Rattle.batch.specs.declared.fault.BatchFault.{BatchFault}

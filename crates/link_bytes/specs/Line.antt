@@ -1,5 +1,7 @@
--- A line of a link as a list of bits, and the packets on it: INMOS IMS T414 data sheet, link protocol.
--- A line is idle bits, data packets and acknowledges one after another; the last packet may not be whole yet.
+-- A line of a link as a list of bits, and the packets on it: INMOS IMS T414 data sheet, link
+-- protocol.
+-- A line is idle bits, data packets and acknowledges one after another; the last packet may not be
+-- whole yet.
 use Rattle.std.specs.Prelude.{◌≡◌, ◌==◌, ◌<◌, ◌^◌, ℕ, Bool, true, false, List, [], ◌∷◌, ◌++◌, length, take, map}
 use Rattle.std.specs.Int.{bit_at}
 use Rattle.std.specs.List.{flat_map, range_with_len, AllByRecursion}
@@ -15,7 +17,8 @@ low_bits n count = map (λ k. bit_at n k == 1) (range_with_len 0 count)
 unfoldable pub data_bits : ℕ → List Bool
 data_bits b = low_bits b DATA_BITS
 
--- a data packet is a high start bit, a one bit, the data bits and a low stop bit; an acknowledge is a high start bit and a low stop bit
+-- a data packet is a high start bit, a one bit, the data bits and a low stop bit; an acknowledge is
+-- a high start bit and a low stop bit
 abbrev pub packet_bits : Packet → List Bool
 packet_bits (Byte b) = true ∷ true ∷ data_bits b ++ false ∷ []
 packet_bits Ack = true ∷ false ∷ []

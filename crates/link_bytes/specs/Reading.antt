@@ -1,5 +1,5 @@
--- A line that is read bit by bit, after each bit. The rules are those of the line; that a reader which met a fault
--- doesn't go on is this project's choice.
+-- A line that is read bit by bit, after each bit. The rules are those of the line; that a reader
+-- which met a fault doesn't go on is this project's choice.
 use Rattle.std.specs.Prelude.{◌≡◌, ◌<◌, ◌^◌, ℕ, Bool, true, List, [], ◌∷◌, ◌++◌, length, take, Option, Result, Ok, Err}
 use Rattle.std.specs.Option.{option_to_list}
 use Rattle.link_bytes.specs.declared.packet.TheConstants.{DATA_BITS}
@@ -8,7 +8,8 @@ use Rattle.link_bytes.specs.declared.fault.LinkFault.{LinkFault}
 use Rattle.link_bytes.specs.declared.fault.LinkFault.TheVariants.{Framing}
 use Rattle.link_bytes.specs.Line.{packet_bits, data_bits, Sign, line_bits, packets_among, ArePackets, IsRest, IsLine}
 
--- what is known of a line: the bits of the packet that isn't whole yet, or that a packet had no stop bit
+-- what is known of a line: the bits of the packet that isn't whole yet, or that a packet had no
+-- stop bit
 pub data Reading : Type 0 where
   begun : List Bool → Reading
   failed : Reading
@@ -17,7 +18,8 @@ pub data Reading : Type 0 where
 abbrev pub unstopped_bits : ℕ → List Bool
 unstopped_bits b = true ∷ true ∷ data_bits b ++ true ∷ []
 
--- the bits are a line with these packets, then a data packet without its stop bit, and then whatever comes
+-- the bits are a line with these packets, then a data packet without its stop bit, and then
+-- whatever comes
 pub record IsBrokenLine (bits : List Bool) (packets : List Packet) : Type 0 where
   pub signs : List Sign
   pub byte : ℕ
@@ -39,7 +41,8 @@ IsPartial failed = Unit {0}
 
 -- the bit stands high in place of a stop bit, or an earlier one did
 abbrev pub IsFramingFault : Reading → Bool → Type 0
-IsFramingFault (begun rest) bit = (b : ℕ) × (b < 2 ^ DATA_BITS) × (rest ++ bit ∷ [] ≡ unstopped_bits b)
+IsFramingFault (begun rest) bit =
+    (b : ℕ) × (b < 2 ^ DATA_BITS) × (rest ++ bit ∷ [] ≡ unstopped_bits b)
 IsFramingFault failed bit = Unit {0}
 
 -- the fault of a line, after which nothing more is read
@@ -55,15 +58,18 @@ packets_given (Err fault) = []
 abbrev pub HasReading : List Bool → Type 0
 HasReading bits = (packets : List Packet) × (reading : Reading) × HasRead bits packets reading
 
--- however the bits are read, they have the same packets, and the same is known of what came after them
+-- however the bits are read, they have the same packets, and the same is known of what came after
+-- them
 abbrev pub HasOneReading : List Bool → Type 0
 HasOneReading bits =
-    (packets others : List Packet) (reading other : Reading) → HasRead bits packets reading → HasRead bits others other → (packets ≡ others) × (reading ≡ other)
+    (packets others : List Packet) (reading other : Reading) → HasRead bits packets reading
+    → HasRead bits others other → (packets ≡ others) × (reading ≡ other)
 
 -- so many bits of a packet, and not all of them, have no packet: they are what has come of one
 abbrev pub IsBegunAt : Packet → ℕ → Type 0
 IsBegunAt packet count =
-    count < length (packet_bits packet) → HasRead (take count (packet_bits packet)) [] (begun (take count (packet_bits packet)))
+    count < length (packet_bits packet)
+    → HasRead (take count (packet_bits packet)) [] (begun (take count (packet_bits packet)))
 
 -- all bits of a packet have that packet, and nothing has come of another
 abbrev pub IsWhole : Packet → Type 0

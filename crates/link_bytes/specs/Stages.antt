@@ -22,7 +22,8 @@ IsStage Started = Unit {0}
 IsStage (Data count value) = (count ≤ DATA_BITS) × (value < 2 ^ count)
 IsStage Failed = Unit {0}
 
--- what had come of a packet and the bit are a line with the packet that is given, if one is, and then what has come now
+-- what had come of a packet and the bit are a line with the packet that is given, if one is, and
+-- then what has come now
 abbrev pub Reads : Reading → Bool → Option Packet → Reading → Type 0
 Reads (begun rest) bit given (begun left) = IsLine (rest ++ bit ∷ []) (option_to_list given) left
 Reads (begun rest) bit given failed = ⊥

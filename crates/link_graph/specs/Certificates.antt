@@ -1,5 +1,5 @@
--- Shortest schedules, and certificates that a schedule is shortest. König 1916, the easy half: no edge colouring of a graph has
--- fewer colours than a node has edges.
+-- Shortest schedules, and certificates that a schedule is shortest. König 1916, the easy half: no
+-- edge colouring of a graph has fewer colours than a node has edges.
 use Rattle.std.specs.Prelude.{◌≡◌, ◌≢◌, ℕ, ◌<◌, ◌≤◌, ◌↔◌, List, [], length, All, AllPairs, Option, Some, None, IsSome, option_map}
 use Rattle.std.specs.Global.{Vec}
 use Rattle.std.specs.Option.{option_map_or}
@@ -35,14 +35,16 @@ abbrev pub AreDistinct : List ℕ → Type 0
 AreDistinct ts = AllPairs (λ t u. t ≢ u) ts
 
 -- some transfers, distinct, that all use the link, as many as the settings
-pub record Certifies (batch : List Transfer) (settings : List (List ℕ)) (link : Link) (transfers : List ℕ) : Type 0 where
+pub record Certifies (batch : List Transfer) (settings : List (List ℕ)) (link : Link)
+    (transfers : List ℕ) : Type 0 where
   pub some : 0 < length transfers
   pub all_use : All (λ t. Uses batch t link) transfers
   pub distinct : AreDistinct transfers
   pub many : length transfers ≡ length settings
 
 -- nothing to do: no link, no transfers, no settings
-pub record IsEmptyPlan (batch : List Transfer) (settings : List (List ℕ)) (transfers : List ℕ) : Type 0 where
+pub record IsEmptyPlan (batch : List Transfer) (settings : List (List ℕ))
+    (transfers : List ℕ) : Type 0 where
   pub batch_empty : batch ≡ []
   pub none_named : transfers ≡ []
   pub no_settings : settings ≡ []
@@ -57,6 +59,7 @@ abbrev pub IsCertificate : List Transfer → List (List ℕ) → Naming → Type
 IsCertificate batch settings named = CertifiesBy batch settings named.link named.transfers
 
 -- a schedule, with a naming that shows that none has fewer settings
-pub record IsCertified (batch : List Transfer) (settings : List (List ℕ)) (named : Naming) : Type 0 where
+pub record IsCertified (batch : List Transfer) (settings : List (List ℕ))
+    (named : Naming) : Type 0 where
   pub schedule : IsScheduleOf batch settings
   pub certificate : IsCertificate batch settings named

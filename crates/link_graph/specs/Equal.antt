@@ -25,4 +25,5 @@ same_link = eq_of_both (on (λ l. l.end) same_end) (on (λ l. l.«module») ◌=
 
 -- whether both name the same link, or none, and the same transfers in the same order
 abbrev pub same_naming : Naming → Naming → Bool
-same_naming = eq_of_both (on (λ n. n.link) (option_eq same_link)) (on (λ n. n.transfers) (pointwise ◌==◌))
+same_naming =
+    eq_of_both (on (λ n. n.link) (option_eq same_link)) (on (λ n. n.transfers) (pointwise ◌==◌))

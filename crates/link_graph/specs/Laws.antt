@@ -1,4 +1,5 @@
--- Laws of schedules, certificates and their texts, each of them a statement of the definitions alone.
+-- Laws of schedules, certificates and their texts, each of them a statement of the definitions
+-- alone.
 use Rattle.std.specs.Prelude.{◌≡◌, ℕ, List, length}
 use Rattle.batch.specs.declared.transfer.Transfer.{Transfer}
 use Rattle.link_graph.specs.declared.check_fault.CheckFault.{CheckFault}
@@ -12,19 +13,29 @@ use Rattle.link_graph.specs.ScheduleFaults.{IsFirstBadLine}
 
 -- a schedule with a certificate is shortest
 abbrev pub CertifiedIsShortest : Type 0
-CertifiedIsShortest = (batch : List Transfer) (settings : List (List ℕ)) (named : Naming) → IsScheduleOf batch settings → IsCertificate batch settings named → IsShortest batch settings
+CertifiedIsShortest =
+    (batch : List Transfer) (settings : List (List ℕ)) (named : Naming)
+    → IsScheduleOf batch settings → IsCertificate batch settings named → IsShortest batch settings
 
 -- a link has as many uses as transfers that use it, listed once each
 abbrev pub UsersAreCounted : Type 0
-UsersAreCounted = (batch : List Transfer) (link : Link) (users : List ℕ) → AreUsers batch link users → length users ≡ uses batch link
+UsersAreCounted =
+    (batch : List Transfer) (link : Link) (users : List ℕ) → AreUsers batch link users
+    → length users ≡ uses batch link
 
 -- a schedule with a certificate has no first fault
 abbrev pub RightHasNoFault : Type 0
-RightHasNoFault = (batch : List Transfer) (settings : List (List ℕ)) (named : Naming) (fault : CheckFault) → IsScheduleOf batch settings → IsCertificate batch settings named → IsFirstCheckFault batch settings named fault → ⊥
+RightHasNoFault =
+    (batch : List Transfer) (settings : List (List ℕ)) (named : Naming) (fault : CheckFault)
+    → IsScheduleOf batch settings → IsCertificate batch settings named
+    → IsFirstCheckFault batch settings named fault → ⊥
 
 -- there is at most one first fault
 abbrev pub OneFault : Type 0
-OneFault = (batch : List Transfer) (settings : List (List ℕ)) (named : Naming) (one other : CheckFault) → IsFirstCheckFault batch settings named one → IsFirstCheckFault batch settings named other → one ≡ other
+OneFault =
+    (batch : List Transfer) (settings : List (List ℕ)) (named : Naming) (one other : CheckFault)
+    → IsFirstCheckFault batch settings named one → IsFirstCheckFault batch settings named other
+    → one ≡ other
 
 -- a text says at most one schedule with what is named
 abbrev pub OneSaid : Type 0

@@ -8,15 +8,19 @@ use Rattle.link_graph.specs.Checks.{IsFirstRepeated}
 -- just the numbers of the list are marked
 pub record AreMarks (marks : List Bool) (xs : List ℕ) : Type 0 where
   pub marked : (t : ℕ) → t < length marks → slice_index_or marks t false ≡ true → Contains xs t
-  pub unmarked : (t : ℕ) → t < length marks → slice_index_or marks t false ≡ false → Contains xs t → ⊥
+  pub unmarked : (t : ℕ) → t < length marks → slice_index_or marks t false ≡ false → Contains xs t
+      → ⊥
 
 -- the transfers of these numbers
 abbrev pub members : List Transfer → List ℕ → List Transfer
 members batch setting = filter_map (λ t. slice_get batch t) setting
 
--- whatever distinct numbers were marked before the list, and whatever follows it, t is the first to stand a second time
+-- whatever distinct numbers were marked before the list, and whatever follows it, t is the first to
+-- stand a second time
 abbrev pub RepeatsFirst : List Bool → List ℕ → ℕ → Type 0
-RepeatsFirst marks list t = (before rest : List ℕ) → AreMarks marks before → AreDistinct before → IsFirstRepeated (before ++ (list ++ rest)) t
+RepeatsFirst marks list t =
+    (before rest : List ℕ) → AreMarks marks before → AreDistinct before
+    → IsFirstRepeated (before ++ (list ++ rest)) t
 
 -- the list is marked besides what was marked before
 abbrev pub MarksAlso : List Bool → List Bool → List ℕ → Type 0
@@ -24,4 +28,5 @@ MarksAlso old new list = (before : List ℕ) → AreMarks old before → AreMark
 
 -- the list repeats none of its own numbers, and none that was marked before
 abbrev pub RepeatsNone : List Bool → List ℕ → Type 0
-RepeatsNone marks list = (before : List ℕ) → AreMarks marks before → AreDistinct before → AreDistinct (before ++ list)
+RepeatsNone marks list =
+    (before : List ℕ) → AreMarks marks before → AreDistinct before → AreDistinct (before ++ list)

@@ -1,4 +1,5 @@
--- Worked rows: a shortest schedule of the batch of three transfers, its certificate, and their texts.
+-- Worked rows: a shortest schedule of the batch of three transfers, its certificate, and their
+-- texts.
 use Rattle.std.specs.Prelude.{ℕ, List, [], ◌∷◌, Some, codes}
 use Rattle.link_graph.specs.declared.link.End.TheVariants.{Zero}
 use Rattle.link_graph.specs.declared.link.Link.{Link}

@@ -1,4 +1,5 @@
--- The first line at fault of a text that says no schedule, and the texts that can't be read without memory. This project's choice.
+-- The first line at fault of a text that says no schedule, and the texts that can't be read without
+-- memory. This project's choice.
 use Rattle.std.specs.Prelude.{◌≡◌, ◌≢◌, ℕ, ◌+◌, ◌<◌, ◌⊎◌, List, [], ◌∷◌, ◌++◌, length, map, All, Option, IfSome, codes, slice_index_or}
 use Rattle.std.specs.Fmt.{decimal}
 use Rattle.batch.specs.Text.{IsNumber, space, line_feed}
@@ -19,8 +20,10 @@ pub record Begins (Wanted : List (List ℕ) → Type 0) (lines : List (List ℕ)
   pub more : List (List ℕ)
   pub wanted : Wanted (lines ++ more)
 
--- Line n of the text, counted from 1, is the first that isn't wanted in its place: the lines before it are, and the line behind them is not.
--- Where no whole line stands behind them, as the last line feed is missing or the text ends too early, that is line n too.
+-- Line n of the text, counted from 1, is the first that isn't wanted in its place: the lines before
+-- it are, and the line behind them is not.
+-- Where no whole line stands behind them, as the last line feed is missing or the text ends too
+-- early, that is line n too.
 pub record IsFirstBad (Wanted : List (List ℕ) → Type 0) (text : List ℕ) (n : ℕ) : Type 0 where
   pub before : List (List ℕ)
   pub rest : List ℕ
@@ -28,7 +31,8 @@ pub record IsFirstBad (Wanted : List (List ℕ) → Type 0) (text : List ℕ) (n
   pub within_lines : All IsLine before
   pub number : n ≡ length before + 1
   pub good : Begins Wanted before
-  pub next_unwanted : (line after : List ℕ) → IsLine line → rest ≡ line ++ line_feed ∷ after → Begins Wanted (before ++ line ∷ []) → ⊥
+  pub next_unwanted : (line after : List ℕ) → IsLine line → rest ≡ line ++ line_feed ∷ after
+      → Begins Wanted (before ++ line ∷ []) → ⊥
   pub unfinished : rest ≡ [] → Wanted before → ⊥
 
 -- the lines of a text that says something
@@ -68,7 +72,8 @@ pub record AreNamed (lines : List (List ℕ)) : Type 0 where
 
 -- the line of a setting, or one that names transfers
 abbrev pub IsKept : List ℕ → Type 0
-IsKept line = (ts : List ℕ) × ((line ≡ setting_line ts) ⊎ ((line ≡ named_line ts) × (0 < length ts)))
+IsKept line =
+    (ts : List ℕ) × ((line ≡ setting_line ts) ⊎ ((line ≡ named_line ts) × (0 < length ts)))
 
 -- behind lines that are wanted, the front of a line stands that has to be kept
 pub record HasToKeep (Wanted : List (List ℕ) → Type 0) (text : List ℕ) : Type 0 where
@@ -79,7 +84,8 @@ pub record HasToKeep (Wanted : List (List ℕ) → Type 0) (text : List ℕ) : T
   pub good : Begins Wanted (before ++ line ∷ [])
   pub kept : IsKept line
 
--- The first line is good, and something behind it has to be kept. Reading any other text needs no memory.
+-- The first line is good, and something behind it has to be kept. Reading any other text needs no
+-- memory.
 pub record NeedsMemory (text : List ℕ) : Type 0 where
   pub count : ℕ
   pub is_number : IsNumber count
@@ -105,9 +111,11 @@ pub record BeginsWithNumbers (word line : List ℕ) : Type 0 where
   pub fit : All IsNumber transfers
   pub spelled : line ≡ (word ++ numbers transfers) ++ rest
 
--- the line with this number isn't the word with numbers behind it, or it begins so where memory was wanted
+-- the line with this number isn't the word with numbers behind it, or it begins so where memory was
+-- wanted
 abbrev pub IsLineFault : ℕ → List ℕ → List ℕ → ScheduleFault → Type 0
-IsLineFault at word line (Line n) = (n ≡ at) × ((ts : List ℕ) → All IsNumber ts → line ≢ word ++ numbers ts)
+IsLineFault at word line (Line n) =
+    (n ≡ at) × ((ts : List ℕ) → All IsNumber ts → line ≢ word ++ numbers ts)
 IsLineFault at word line NoMemory = BeginsWithNumbers word line
 
 -- ---- what the readers of the parts find
@@ -116,9 +124,11 @@ IsLineFault at word line NoMemory = BeginsWithNumbers word line
 abbrev pub HasFirstLine : List ℕ → List ℕ → List ℕ → Type 0
 HasFirstLine text line rest = IsLine line × (text ≡ line ++ line_feed ∷ rest)
 
--- the number that the words begin with, behind a space, and the rest, which is nothing or begins with a space
+-- the number that the words begin with, behind a space, and the rest, which is nothing or begins
+-- with a space
 abbrev pub HasFirstNumber : List ℕ → ℕ → List ℕ → Type 0
-HasFirstNumber words n rest = IsNumber n × (words ≡ codes " " ++ decimal n ++ rest) × (slice_index_or rest 0 space ≡ space)
+HasFirstNumber words n rest =
+    IsNumber n × (words ≡ codes " " ++ decimal n ++ rest) × (slice_index_or rest 0 space ≡ space)
 
 -- the words aren't numbers, one at least, each with a space before it
 abbrev pub AreNoNumbers : List ℕ → Type 0

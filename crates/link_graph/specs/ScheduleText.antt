@@ -33,7 +33,9 @@ end_number Three = 3
 
 -- `busiest link E module M`
 abbrev pub busiest_line : Link → List ℕ
-busiest_line link = codes "busiest link " ++ decimal (end_number link.end) ++ codes " module " ++ decimal link.«module»
+busiest_line link =
+    codes "busiest link " ++ decimal (end_number link.end) ++ codes " module "
+    ++ decimal link.«module»
 
 -- ` module M`
 abbrev pub module_words : ℕ → List ℕ

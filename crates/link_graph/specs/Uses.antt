@@ -14,7 +14,8 @@ answer_link x = record { end = Three; «module» = x.responder }
 
 -- transfer t of the batch uses the link; a number that no transfer has uses none
 abbrev pub Uses : List Transfer → ℕ → Link → Type 0
-Uses batch t link = (x : Transfer) × (slice_get batch t ≡ Some x) × ((link ≡ start_link x) ⊎ (link ≡ answer_link x))
+Uses batch t link =
+    (x : Transfer) × (slice_get batch t ≡ Some x) × ((link ≡ start_link x) ⊎ (link ≡ answer_link x))
 
 -- two transfers use no common link
 pub record AreApart (batch : List Transfer) (t u : ℕ) : Type 0 where

@@ -9,7 +9,8 @@ use Rattle.module_memory.proofs.Blocks.{IsWhole-set, block_length, block_of-set_
 use Rattle.module_memory.specs.declared.fault.MemoryFault.{MemoryFault}
 use Rattle.module_memory.specs.declared.fault.MemoryFault.TheVariants.{NoModule, Misaligned, Outside}
 use Rattle.module_memory.specs.declared.address.TheConstants.{WINDOW_START, WORD_BYTES}
-use Rattle.module_memory.specs.Address.{address_of, word_number, place_of, word_index, fault_of, write_at, IsAddress, WindowsAreWhole, AddressesAreKnown, WritesAreKept, WritesAreApart}
+use Rattle.module_memory.specs.Address.{address_of, word_number, place_of, word_index, fault_of, write_at, IsAddress}
+use Rattle.module_memory.specs.Laws.{WindowsAreWhole, AddressesAreKnown, WritesAreKept, WritesAreApart}
 use Rattle.batch.proofs.Places.{place_from_parts, place_index_below}
 
 -- a fault is there or isn't

@@ -10,7 +10,8 @@ use Rattle.batch.specs.Overlap.{source_at, destination_at}
 use Rattle.module_memory.specs.Store.{Store, block_of, set_block}
 use Rattle.module_memory.specs.Core.{IsMovedFrom}
 use Rattle.module_memory.specs.Lending.{BlockAt, place_in, bay_in, places_of, AreLendable, joined}
-use Rattle.module_memory.specs.Bays.{AreLent, AreFound, AreSamePlaces, BaysHoldTheCounts, BaysStayLent, BaysStayWhole, BaysAreWide, LentBlockIsGone, LentBlockIsItsBay, OtherBlockIsTheRest, SetIsOneWord}
+use Rattle.module_memory.specs.Bays.{AreLent, AreFound, AreSamePlaces}
+use Rattle.module_memory.specs.Laws.{BaysHoldTheCounts, BaysStayLent, BaysStayWhole, BaysAreWide, LentBlockIsGone, LentBlockIsItsBay, OtherBlockIsTheRest, SetIsOneWord}
 use Rattle.batch.specs.Extent.{IsShape}
 use Rattle.batch.proofs.Places.{place_at, place_index-place_at, HasPlace-place_at}
 use Rattle.module_memory.proofs.Blocks.{block_at, block_length}

@@ -8,7 +8,8 @@ use Rattle.batch.specs.declared.transfer.Transfer.{Transfer}
 use Rattle.batch.specs.Places.{HasPlace, place_index, source_of, destination_of}
 use Rattle.batch.specs.Overlap.{transfer_at, source_at, destination_at, IsApart}
 use Rattle.module_memory.specs.Store.{Store, HasAllBlocks, IsWhole, block_of}
-use Rattle.module_memory.specs.Core.{Core, at_start, step, run, times, IsStepList, IsComplete, FitsIn, IsUnwritten, IsMovedFrom, IsPlacedFrom, OnePlaced, OneMoved, setting_of, IsSetting, IsReady, found, OneEnd, EndIsPlaced, EachPrefix}
+use Rattle.module_memory.specs.Core.{Core, at_start, step, run, times, IsStepList, IsComplete, FitsIn, IsUnwritten, IsMovedFrom, IsPlacedFrom, setting_of, IsSetting, IsReady, found}
+use Rattle.module_memory.specs.Laws.{OnePlaced, OneMoved, OneEnd, EndIsPlaced, EachPrefix}
 use Rattle.batch.proofs.Places.{place_index_below}
 use Rattle.batch.proofs.HeldSources.{is_written-true, is_written-false}
 use Rattle.module_memory.proofs.Held.{found_held, found_now}

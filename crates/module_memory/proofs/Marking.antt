@@ -7,7 +7,8 @@ use Rattle.batch.specs.Places.{place_index}
 use Rattle.module_memory.specs.Store.{Store}
 use Rattle.batch.specs.declared.limits.TheConstants.{MAX_WORDS}
 use Rattle.module_memory.specs.declared.rack.TheConstants.{MODULE_MARK, BLOCK_MARK}
-use Rattle.module_memory.specs.Mark.{first_mark, IsMarked, OneMarked}
+use Rattle.module_memory.specs.Mark.{first_mark, IsMarked}
+use Rattle.module_memory.specs.Laws.{OneMarked}
 use Rattle.batch.proofs.Places.{place_index_below}
 use Rattle.module_memory.proofs.Blocks.{block_at, same_store}
 

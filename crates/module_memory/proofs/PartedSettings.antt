@@ -9,7 +9,8 @@ use Rattle.batch.specs.Overlap.{transfer_at, source_at, destination_at}
 use Rattle.module_memory.specs.Store.{Store, block_of}
 use Rattle.module_memory.specs.Core.{IsReady, IsUnwritten}
 use Rattle.module_memory.specs.Lending.{place_in, bay_in, bays_of, AreLendable, copy_of, copy_in, or_else}
-use Rattle.module_memory.specs.Bays.{destinations_of, SettingsHaveBays, SourcesAreFound}
+use Rattle.module_memory.specs.Bays.{destinations_of}
+use Rattle.module_memory.specs.Laws.{SettingsHaveBays, SourcesAreFound}
 use Rattle.module_memory.proofs.CoreLaw.{distinct_from_apart, transfer_at-setting_of}
 use Rattle.module_memory.proofs.PartLaws.{IsOff, block_of-without, bay_at, AreLent-parted, shape-without, places_of-bays_of}
 use Rattle.batch.proofs.Places.{same_place_from_index}

@@ -13,7 +13,8 @@ use Rattle.std.proofs.lemmas.List.{get_or_default, map-append, replicate-append-
 use Rattle.batch.proofs.Places.{place_at, place_index-place_at, HasPlace-place_at}
 use Rattle.module_memory.specs.Store.{IsWhole}
 use Rattle.module_memory.specs.Core.{FitsIn, IsMovedFrom, found, IsStepList, IsReady, setting_of, times}
-use Rattle.module_memory.specs.Settings.{after_steps, IsRun, all_words, RunIsPlaced, StopIsMoved, OneAfterAnother, OthersStayReady, AllMovedIsPlaced, WholeBatchIsPlaced}
+use Rattle.module_memory.specs.Settings.{after_steps, IsRun, all_words}
+use Rattle.module_memory.specs.Laws.{RunIsPlaced, StopIsMoved, OneAfterAnother, OthersStayReady, AllMovedIsPlaced, WholeBatchIsPlaced}
 use Rattle.module_memory.proofs.Blocks.{block_at, block_length}
 use Rattle.module_memory.proofs.CoreLaw.{Premises, Premises-from_ready, IsMoved-same, IsPlaced-from_moved, transfer_at-setting_of, distinct_from_apart, unwritten_by_setting, find_destination, complete_moves, each_prefix}
 

@@ -6,7 +6,7 @@ use Rattle.std.proofs.lemmas.List.Elements.{All-append}
 use Rattle.std.proofs.lemmas.List.Sums.{sum_by-append}
 use Rattle.batch.specs.Overlap.{transfer_at}
 use Rattle.module_memory.specs.Core.{times, at_start, run, IsStepList, found, setting_of}
-use Rattle.module_memory.specs.Settings.{CountsAreReached}
+use Rattle.module_memory.specs.Laws.{CountsAreReached}
 use Rattle.module_memory.proofs.Blocks.{all_blocks}
 use Rattle.module_memory.proofs.CoreLaw.{IsMoved-same, each_prefix, one_moved_from, times_same, times_other}
 

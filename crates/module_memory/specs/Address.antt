@@ -1,13 +1,14 @@
--- The addresses of a module's words: INMOS IMS T414 data sheet, memory map (the words are from `WINDOW_START` on, four bytes each).
+-- The addresses of a module's words: INMOS IMS T414 data sheet, memory map (the words are from
+-- `WINDOW_START` on, four bytes each).
 -- That a module has one window of blocks is this project's choice.
-use Rattle.std.specs.Prelude.{Bool, ℕ, ◌≡◌, ◌≢◌, ◌<◌, ◌+◌, ◌-◌, ◌*◌, ◌/◌, ◌%◌, ◌&&◌, ◌==◌, nat_lt, nat_le, Option, Some, None, if◌then◌else◌, ◌⊎◌}
-use Rattle.batch.specs.Extent.{Extent, IsShape}
+use Rattle.std.specs.Prelude.{Bool, ℕ, ◌≡◌, ◌<◌, ◌+◌, ◌-◌, ◌*◌, ◌/◌, ◌%◌, ◌&&◌, ◌==◌, nat_lt, nat_le, Option, Some, None, if◌then◌else◌}
+use Rattle.batch.specs.Extent.{Extent}
 use Rattle.batch.specs.declared.transfer.Place.{Place}
 use Rattle.batch.specs.Places.{HasPlace}
 use Rattle.module_memory.specs.declared.address.TheConstants.{WINDOW_START, WORD_BYTES}
 use Rattle.module_memory.specs.declared.fault.MemoryFault.{MemoryFault}
 use Rattle.module_memory.specs.declared.fault.MemoryFault.TheVariants.{NoModule, Misaligned, Outside}
-use Rattle.module_memory.specs.Store.{Store, word, set_word, IsWhole}
+use Rattle.module_memory.specs.Store.{Store, word, set_word}
 
 -- the address of word j of block b, in a window that begins at an address
 abbrev pub address_from : ℕ → Extent → ℕ → ℕ → ℕ
@@ -41,7 +42,10 @@ is_inside shape a = nat_le WINDOW_START a && nat_lt (word_number a) (shape.block
 abbrev pub fault_of : Extent → ℕ → ℕ → Option MemoryFault
 fault_of shape m a =
     if nat_lt m shape.modules
-    then (if a % WORD_BYTES == 0 then (if is_inside shape a then None else Some Outside) else Some Misaligned)
+    then
+    (if a % WORD_BYTES == 0
+    then (if is_inside shape a then None else Some Outside)
+    else Some Misaligned)
     else Some NoModule
 
 -- the word at an address of a module
@@ -78,19 +82,3 @@ pub record IsAddress (shape : Extent) (m a : ℕ) (p : Place) (j : ℕ) : Type 0
   pub word : j < shape.words
   pub number : p.«module» ≡ m
   pub address : a ≡ address_of shape p.block j
-
--- an address without a fault is that of a word of a block
-abbrev pub WindowsAreWhole : Type 0
-WindowsAreWhole = (shape : Extent) (m a : ℕ) → IsShape shape → fault_of shape m a ≡ None → IsAddress shape m a (place_of shape m a) (word_index shape a)
-
--- the address of a word of a block has no fault, and is that of no other word
-abbrev pub AddressesAreKnown : Type 0
-AddressesAreKnown = (shape : Extent) (m a j : ℕ) (p : Place) → IsShape shape → IsAddress shape m a p j → (fault_of shape m a ≡ None) × (place_of shape m a ≡ p) × (word_index shape a ≡ j)
-
--- a write changes the word at its address, and keeps the store whole
-abbrev pub WritesAreKept : Type 0
-WritesAreKept = (s : Store) (m a w : ℕ) → IsWhole s → fault_of s.shape m a ≡ None → IsWhole (write_at s m a w) × (word_at (write_at s m a w) m a ≡ w)
-
--- a write changes no word at another address of the shape
-abbrev pub WritesAreApart : Type 0
-WritesAreApart = (s : Store) (m a n b w : ℕ) → IsWhole s → fault_of s.shape m a ≡ None → fault_of s.shape n b ≡ None → (m ≢ n) ⊎ (a ≢ b) → word_at (write_at s m a w) n b ≡ word_at s n b

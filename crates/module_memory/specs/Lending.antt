@@ -1,4 +1,5 @@
--- A rack of which some blocks are lent: bays that own the words of their blocks, and the rest. This project's choice.
+-- A rack of which some blocks are lent: bays that own the words of their blocks, and the rest. This
+-- project's choice.
 use Rattle.std.specs.Prelude.{ℕ, ◌≡◌, ◌≢◌, ◌<◌, ◌⊎◌, List, [], ◌∷◌, length, map, slice_index_or, slice_set, All}
 use Rattle.batch.specs.Extent.{Extent}
 use Rattle.batch.specs.declared.transfer.Place.{Place}
@@ -22,7 +23,8 @@ place_in places i = slice_index_or places i (record { «module» = 0; block = 0 
 
 -- the bay at a position of a list; past the end, one that no clause speaks of
 abbrev pub bay_in : List BlockAt → ℕ → BlockAt
-bay_in bays k = slice_index_or bays k (record { place = record { «module» = 0; block = 0 }; words = [] })
+bay_in bays k =
+    slice_index_or bays k (record { place = record { «module» = 0; block = 0 }; words = [] })
 
 -- the places of bays
 abbrev pub places_of : List BlockAt → List Place
@@ -65,13 +67,18 @@ pub record AreLendable (shape : Extent) (places : List Place) : Type 0 where
   pub exist : ExistBefore shape places (length places)
   pub distinct : DifferBefore places (length places)
 
--- The first place at fault. That a place doesn't exist is looked at first, over all places and then over all held places, and memory is
--- asked for last, where there is something to lend or to copy.
+-- The first place at fault. That a place doesn't exist is looked at first, over all places and then
+-- over all held places, and memory is asked for last, where there is something to lend or to copy.
 abbrev pub IsLendFault : Extent → List Place → List Place → LendFault → Type 0
 IsLendFault shape places held (NoPlace i) = IsFirstMissing shape places i
-IsLendFault shape places held (NoHeld i) = ExistBefore shape places (length places) × IsFirstMissing shape held i
-IsLendFault shape places held (SamePlace i) = ExistBefore shape places (length places) × ExistBefore shape held (length held) × IsFirstRepeated places i
-IsLendFault shape places held NoMemory = AreLendable shape places × ExistBefore shape held (length held) × ((0 < length places) ⊎ (0 < length held))
+IsLendFault shape places held (NoHeld i) =
+    ExistBefore shape places (length places) × IsFirstMissing shape held i
+IsLendFault shape places held (SamePlace i) =
+    ExistBefore shape places (length places) × ExistBefore shape held (length held)
+    × IsFirstRepeated places i
+IsLendFault shape places held NoMemory =
+    AreLendable shape places × ExistBefore shape held (length held)
+    × ((0 < length places) ⊎ (0 < length held))
 
 -- the bays of these places
 abbrev pub bays_of : Store → List Place → List BlockAt
@@ -89,13 +96,14 @@ joined rest (b ∷ bays) = joined (set_block rest b.place b.words) bays
 
 -- ---- what is held
 
--- what is left of a rack: the blocks, of which those that are lent have no words, and copies of the blocks that are held, of which those that
--- aren't held have none
+-- what is left of a rack: the blocks, of which those that are lent have no words, and copies of the
+-- blocks that are held, of which those that aren't held have none
 pub record Left : Type 0 where
   pub store : Store
   pub held : List (List ℕ)
 
--- the copy of a block among copies by where the blocks stand: it is empty where the block isn't held
+-- the copy of a block among copies by where the blocks stand: it is empty where the block isn't
+-- held
 abbrev pub copy_in : Extent → List (List ℕ) → Place → List ℕ
 copy_in shape copies p = slice_index_or copies (place_index shape p) []
 
@@ -114,8 +122,10 @@ found_in rest p = or_else (copy_of rest p) (block_of rest.store p)
 
 -- the copies of these places have the words that the store has there, and there is no other copy
 pub record AreCopies (s : Store) (held : List Place) (copies : List (List ℕ)) : Type 0 where
-  pub copied : (i : ℕ) → i < length held → copy_in s.shape copies (place_in held i) ≡ block_of s (place_in held i)
-  pub others : (p : Place) → HasPlace s.shape p → ((i : ℕ) → i < length held → place_in held i ≢ p) → copy_in s.shape copies p ≡ []
+  pub copied : (i : ℕ) → i < length held
+      → copy_in s.shape copies (place_in held i) ≡ block_of s (place_in held i)
+  pub others : (p : Place) → HasPlace s.shape p → ((i : ℕ) → i < length held → place_in held i ≢ p)
+      → copy_in s.shape copies p ≡ []
 
 -- the rack has the block, and a copy of it with these words, as many as a block has
 pub record HasCopy (rest : Left) (p : Place) (words : List ℕ) : Type 0 where
@@ -126,7 +136,9 @@ pub record HasCopy (rest : Left) (p : Place) (words : List ℕ) : Type 0 where
 
 -- each copy has all words of a block, or none
 abbrev pub AreWholeCopies : Extent → List (List ℕ) → Type 0
-AreWholeCopies shape copies = (p : Place) → HasPlace shape p → (copy_in shape copies p ≡ []) ⊎ (length (copy_in shape copies p) ≡ shape.words)
+AreWholeCopies shape copies =
+    (p : Place) → HasPlace shape p
+    → (copy_in shape copies p ≡ []) ⊎ (length (copy_in shape copies p) ≡ shape.words)
 
 -- the bays have places of the rack, and nothing is missing
 pub record Rejoins (rest : Store) (bays : List BlockAt) : Type 0 where

@@ -5,3 +5,4 @@ pub mod Address
 pub mod Mark
 pub mod Lending
 pub mod Bays
+pub mod Laws

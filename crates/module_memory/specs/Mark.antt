@@ -4,7 +4,7 @@ use Rattle.std.specs.List.{range_with_len}
 use Rattle.batch.specs.declared.transfer.Place.{Place}
 use Rattle.batch.specs.Places.{HasPlace}
 use Rattle.module_memory.specs.declared.rack.TheConstants.{MODULE_MARK, BLOCK_MARK}
-use Rattle.module_memory.specs.Store.{Store, HasAllBlocks, block_of}
+use Rattle.module_memory.specs.Store.{Store, block_of}
 
 -- the first word of a block
 abbrev pub first_mark : Place → ℕ
@@ -14,8 +14,5 @@ first_mark p = MODULE_MARK * p.«module» + BLOCK_MARK * p.block
 pub record IsMarked (old new : Store) : Type 0 where
   pub same_shape : new.shape ≡ old.shape
   pub same_length : length new.blocks ≡ length old.blocks
-  pub words : (p : Place) → HasPlace old.shape p → block_of new p ≡ range_with_len (first_mark p) old.shape.words
-
--- there is one such rack
-abbrev pub OneMarked : Type 0
-OneMarked = (old a b : Store) → HasAllBlocks old → IsMarked old a → IsMarked old b → a ≡ b
+  pub words : (p : Place) → HasPlace old.shape p
+      → block_of new p ≡ range_with_len (first_mark p) old.shape.words

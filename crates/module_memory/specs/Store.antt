@@ -29,7 +29,8 @@ find_word s p j = slice_get (block_of s p) j
 
 -- the store with these words in a block, and all else as it was
 abbrev pub set_block : Store → Place → List ℕ → Store
-set_block s p words = record { shape = s.shape; blocks = slice_set s.blocks (place_index s.shape p) words }
+set_block s p words =
+    record { shape = s.shape; blocks = slice_set s.blocks (place_index s.shape p) words }
 
 -- the store with this word as word j of a block, and all else as it was
 abbrev pub set_word : Store → Place → ℕ → ℕ → Store
@@ -43,8 +44,13 @@ HasAllBlocks s = IsShape s.shape × (length s.blocks ≡ s.shape.modules * s.sha
 pub record IsWhole (s : Store) : Type 0 where
   pub within : IsShape s.shape
   pub all_blocks : length s.blocks ≡ s.shape.modules * s.shape.blocks
-  pub all_words : (k : ℕ) → k < length s.blocks → length (slice_index_or s.blocks k []) ≡ s.shape.words
+  pub all_words : (k : ℕ) → k < length s.blocks
+      → length (slice_index_or s.blocks k []) ≡ s.shape.words
 
 -- the store of a shape in which each word is 0
 abbrev pub zeros_of : Extent → Store
-zeros_of shape = record { shape = shape; blocks = replicate (shape.modules * shape.blocks) (replicate shape.words 0) }
+zeros_of shape =
+    record {
+      shape = shape;
+      blocks = replicate (shape.modules * shape.blocks) (replicate shape.words 0);
+    }

@@ -1,10 +1,6 @@
 //! Laws of a rack's memories and of the machine that moves their words. They make no call.
 
-ghost use Rattle.module_memory.specs.Address.{AddressesAreKnown, WindowsAreWhole, WritesAreApart, WritesAreKept};
-ghost use Rattle.module_memory.specs.Bays.{BaysAreWide, BaysHoldTheCounts, BaysStayLent, BaysStayWhole, LentBlockIsGone, LentBlockIsItsBay, OtherBlockIsTheRest, SetIsOneWord, SettingsHaveBays, SourcesAreFound};
-ghost use Rattle.module_memory.specs.Core.{EachPrefix, EndIsPlaced, OneEnd, OneMoved, OnePlaced};
-ghost use Rattle.module_memory.specs.Mark.{OneMarked};
-ghost use Rattle.module_memory.specs.Settings.{AllMovedIsPlaced, CountsAreReached, OneAfterAnother, OthersStayReady, RunIsPlaced, StopIsMoved, WholeBatchIsPlaced};
+ghost use Rattle.module_memory.specs.Laws.{AddressesAreKnown, WindowsAreWhole, WritesAreApart, WritesAreKept, BaysAreWide, BaysHoldTheCounts, BaysStayLent, BaysStayWhole, LentBlockIsGone, LentBlockIsItsBay, OtherBlockIsTheRest, SetIsOneWord, SettingsHaveBays, SourcesAreFound, EachPrefix, EndIsPlaced, OneEnd, OneMoved, OnePlaced, OneMarked, AllMovedIsPlaced, CountsAreReached, OneAfterAnother, OthersStayReady, RunIsPlaced, StopIsMoved, WholeBatchIsPlaced};
 
 /// Where a batch doesn't overlap, the order in which the words of a setting move doesn't matter. A source that
 /// the batch writes is found in an opening store, and any other in the store as it is; as the setting begins, these

@@ -6,7 +6,8 @@ use Rattle.module_memory.specs.declared.address.TheConstants.{WORD_BYTES}
 use Rattle.module_memory.specs.Lending.{BlockAt, with_word}
 use Rattle.module_memory.specs.Address.{number_from, address_from}
 use Rattle.module_memory.proofs.Addresses.{by_four, four_divides}
-use Rattle.peek_poke.specs.Blocks.{word_in, then_do, WordsAreRead, WordsAreWritten, OthersAreOutside}
+use Rattle.peek_poke.specs.Blocks.{word_in, then_do}
+use Rattle.peek_poke.specs.Laws.{WordsAreRead, WordsAreWritten, OthersAreOutside}
 use Rattle.peek_poke.specs.declared.fault.StoreFault.{StoreFault}
 use Rattle.peek_poke.specs.declared.fault.StoreFault.TheVariants.{Outside}
 

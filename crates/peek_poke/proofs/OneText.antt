@@ -7,7 +7,8 @@ use Rattle.std.proofs.Math.Seq.{take-append_seam}
 use Rattle.peek_poke.specs.declared.message.TheConstants.{POKE, PEEK, REPLY_BYTES}
 use Rattle.peek_poke.specs.declared.message.Message.{Message}
 use Rattle.peek_poke.specs.declared.message.Message.TheVariants.{Poke, Peek}
-use Rattle.peek_poke.specs.Messages.{word_bytes, spell, IsMessage, IsPartial, OneReading}
+use Rattle.peek_poke.specs.Messages.{word_bytes, spell, IsMessage, IsPartial}
+use Rattle.peek_poke.specs.Laws.{OneReading}
 use Rattle.peek_poke.proofs.WholeText.{same_words}
 
 -- the bytes of two words at the front of a list

@@ -23,8 +23,10 @@ ReadsPacket bits result new = (packet : Packet) → IsPacket packet → bits ≡
 -- the same on a line, which has then brought the byte of a data packet
 abbrev pub Brings : List Bool → Brought → Option Packet → Brought → Type 0
 Brings bits old result new = (packet : Packet) → IsPacket packet → bits ≡ packet_bits packet
-    → (result ≡ Some packet) × (new ≡ record { reading = begun []; bytes = old.bytes ++ data_of packet })
+    → (result ≡ Some packet)
+    × (new ≡ record { reading = begun []; bytes = old.bytes ++ data_of packet })
 
 -- no byte waits for its acknowledge, and nothing of a packet is on either line
 abbrev pub AreIdle : ℕ → ℕ → Brought → Brought → Type 0
-AreIdle sender receiver line opposite_line = (sender ≡ 0) × (receiver ≡ 0) × (line.reading ≡ begun []) × (opposite_line.reading ≡ begun [])
+AreIdle sender receiver line opposite_line =
+    (sender ≡ 0) × (receiver ≡ 0) × (line.reading ≡ begun []) × (opposite_line.reading ≡ begun [])

@@ -1,4 +1,5 @@
--- Wires that carry so many bytes and then fail. They are this project's own, for tests of what a failing wire leaves.
+-- Wires that carry so many bytes and then fail. They are this project's own, for tests of what a
+-- failing wire leaves.
 use Rattle.std.specs.Prelude.{ℕ, List}
 
 -- a wire with a fuse

@@ -7,3 +7,4 @@ pub mod Windows
 pub mod Blocks
 pub mod Fuse
 pub mod FuseLines
+pub mod Laws

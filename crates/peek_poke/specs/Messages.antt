@@ -1,7 +1,7 @@
--- The messages to an answering end and their bytes: INMOS IMS T414 data sheet, peek and poke over a link.
-use Rattle.std.specs.Prelude.{ℕ, ◌≡◌, ◌<◌, ◌+◌, ◌^◌, ◌⊎◌, List, [], ◌∷◌, ◌++◌, length, take, Bool, false, All}
+-- The messages to an answering end and their bytes: INMOS IMS T414 data sheet, peek and poke over a
+-- link.
+use Rattle.std.specs.Prelude.{ℕ, ◌≡◌, ◌<◌, ◌+◌, ◌^◌, ◌⊎◌, List, [], ◌∷◌, ◌++◌, length, take, Bool, false}
 use Rattle.std.specs.Int.{to_le_bytes}
-use Rattle.std.specs.List.{flat_map}
 use mir.Syntax.{w32}
 use Rattle.peek_poke.specs.declared.message.TheConstants.{POKE, PEEK, POKE_BYTES, PEEK_BYTES}
 use Rattle.peek_poke.specs.declared.message.Message.{Message}
@@ -21,16 +21,21 @@ abbrev pub IsMessage : Message → Type 0
 IsMessage (Poke address word) = (address < 2 ^ 32) × (word < 2 ^ 32)
 IsMessage (Peek address) = address < 2 ^ 32
 
--- less than a whole message: nothing, or the control byte of one and fewer bytes behind it than the message has
+-- less than a whole message: nothing, or the control byte of one and fewer bytes behind it than the
+-- message has
 abbrev pub IsPartial : List ℕ → Type 0
 IsPartial [] = Unit {0}
-IsPartial (control ∷ bytes) = ((control ≡ POKE) × (length bytes + 1 < POKE_BYTES)) ⊎ ((control ≡ PEEK) × (length bytes + 1 < PEEK_BYTES))
+IsPartial (control ∷ bytes) =
+    ((control ≡ POKE) × (length bytes + 1 < POKE_BYTES))
+    ⊎ ((control ≡ PEEK) × (length bytes + 1 < PEEK_BYTES))
 
 -- the bytes at the front of a message's buffer, so many, are less than a whole message
 abbrev pub IsBegun : List ℕ → ℕ → Type 0
-IsBegun buffer count = IsPartial (take count buffer) × (count < POKE_BYTES) × (length buffer ≡ POKE_BYTES)
+IsBegun buffer count =
+    IsPartial (take count buffer) × (count < POKE_BYTES) × (length buffer ≡ POKE_BYTES)
 
--- an answering end: whether it has failed, what has come of the next message, and all bytes that it was handed
+-- an answering end: whether it has failed, what has come of the next message, and all bytes that it
+-- was handed
 pub record Pending : Type 0 where
   pub failed : Bool
   pub bytes : List ℕ
@@ -43,8 +48,3 @@ IsAtRest end = (end.failed ≡ false) × (end.bytes ≡ [])
 -- an answering end at rest which was handed these bytes in all
 abbrev pub rest_after : List ℕ → Pending
 rest_after bytes = record { failed = false; bytes = []; taken = bytes }
-
--- a text is that of one list of messages and one rest, at most
-abbrev pub OneReading : Type 0
-OneReading = (messages others : List Message) (rest left : List ℕ) → All IsMessage messages → All IsMessage others → IsPartial rest → IsPartial left
-    → flat_map spell messages ++ rest ≡ flat_map spell others ++ left → (messages ≡ others) × (rest ≡ left)

@@ -7,7 +7,8 @@ use Rattle.peek_poke.specs.declared.fault.StoreFault.{StoreFault}
 use Rattle.peek_poke.specs.declared.fault.StoreFault.TheVariants.{Misaligned, Outside}
 use Rattle.peek_poke.specs.Housed.{Housed}
 
--- the fault of a store whose rack has no such word. A window's module is there, so the first case doesn't come.
+-- the fault of a store whose rack has no such word. A window's module is there, so the first case
+-- doesn't come.
 abbrev pub store_fault : MemoryFault → StoreFault
 store_fault RackNoModule = Outside
 store_fault RackMisaligned = Misaligned
@@ -24,4 +25,6 @@ window_read h a = unless (fault_of h.store.shape h.number a) (word_at h.store h.
 
 -- what writes to a module leave
 abbrev pub window_write : Housed → ℕ → ℕ → Result Housed StoreFault
-window_write h a w = unless (fault_of h.store.shape h.number a) (record { store = write_at h.store h.number a w; number = h.number })
+window_write h a w =
+    unless (fault_of h.store.shape h.number a)
+    (record { store = write_at h.store h.number a w; number = h.number })

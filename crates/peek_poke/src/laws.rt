@@ -1,7 +1,6 @@
 //! Laws of messages, and of blocks as stores. They make no call.
 
-ghost use Rattle.peek_poke.specs.Blocks.{OthersAreOutside, WordsAreRead, WordsAreWritten};
-ghost use Rattle.peek_poke.specs.Messages.{OneReading};
+ghost use Rattle.peek_poke.specs.Laws.{OthersAreOutside, WordsAreRead, WordsAreWritten, OneReading};
 
 /// A text is that of one list of messages and less than a whole message behind them, at most.
 pub fn one_reading()

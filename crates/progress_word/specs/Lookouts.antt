@@ -11,11 +11,14 @@ pub record LookoutView : Type 0 where
   pub parts : ℕ
 
 abbrev pub lookout_view : TableId → ℕ → ℕ → ℕ → LookoutView
-lookout_view word seen raised parts = record { word = word; seen = seen; raised = raised; parts = parts }
+lookout_view word seen raised parts =
+    record { word = word; seen = seen; raised = raised; parts = parts }
 
 abbrev pub lookout_view_coded : Coded LookoutView
 lookout_view_coded =
-    code_by (TableId × (ℕ × (ℕ × ℕ))) (coded× table_id_coded (coded× coded_ℕ (coded× coded_ℕ coded_ℕ))) (λ o. (o.word, (o.seen, (o.raised, o.parts))))
+    code_by (TableId × (ℕ × (ℕ × ℕ)))
+    (coded× table_id_coded (coded× coded_ℕ (coded× coded_ℕ coded_ℕ)))
+    (λ o. (o.word, (o.seen, (o.raised, o.parts))))
     (λ p. lookout_view p.0 p.1.0 p.1.1.0 p.1.1.1) (λ _. refl)
 
 -- it is one of this word, and has a part

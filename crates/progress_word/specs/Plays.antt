@@ -12,7 +12,9 @@ MeetsRule s = (word : ℕ) × (s.words ≡ word ∷ []) × HasRule (progress wor
 
 -- a load found the word; who has all parts has raised it to that
 abbrev pub HasLoaded : Step ℕ → Me ℕ View → ℕ → Me ℕ View → Type 0
-HasLoaded step v found w = (w ≡ (loaded found v.0, v.1)) × (v.0.seen ≤ found) × (v.0.parts ≡ ALL_PARTS → found ≡ v.0.raised)
+HasLoaded step v found w =
+    (w ≡ (loaded found v.0, v.1)) × (v.0.seen ≤ found)
+    × (v.0.parts ≡ ALL_PARTS → found ≡ v.0.raised)
 
 -- the word was raised to a value from what was found
 abbrev pub HasRaised : Step ℕ → Me ℕ View → ℕ → Me ℕ View → Type 0

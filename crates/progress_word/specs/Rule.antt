@@ -37,7 +37,8 @@ all_parts (v ∷ views) = v.parts + all_parts views
 
 -- ---- the rule
 
--- the word isn't behind what was seen, and what was seen isn't behind what was raised; and a view without a part is spent
+-- the word isn't behind what was seen, and what was seen isn't behind what was raised; and a view
+-- without a part is spent
 pub record IsBelow (word : ℕ) (v : View) : Type 0 where
   pub seen : v.seen ≤ word
   pub raised : v.raised ≤ v.seen
@@ -50,8 +51,8 @@ pub record IsRaised (value : ℕ) (views : List View) : Type 0 where
   pub stands : Stands views number by
   pub raised : by.raised ≡ value
 
--- No view has seen more than the word, or raised it above what it has seen; and some view has raised it to what it is. A view without a part is
--- spent, and no part is lost or added.
+-- No view has seen more than the word, or raised it above what it has seen; and some view has
+-- raised it to what it is. A view without a part is spent, and no part is lost or added.
 pub record HasRule (p : Progress) : Type 0 where
   pub below : (i : ℕ) (v : View) → Stands p.views i v → IsBelow p.word v
   pub raised : IsRaised p.word p.views
@@ -80,15 +81,23 @@ pub record CanStep (views : List View) (i : ℕ) (v : View) (few : ℕ) : Type 0
   pub stands : Stands views i v
   pub parts : few < v.parts
 
--- The five kinds of step: the word is made; it is loaded; it is raised to a value, by `fetch_max`; a view is split, and the new one gets a part; and
--- a view takes in another, which is spent. Each changes the view that steps, or the two of a split or a join, and a raise alone the word.
+-- The five kinds of step: the word is made; it is loaded; it is raised to a value, by `fetch_max`;
+-- a view is split, and the new one gets a part; and a view takes in another, which is spent. Each
+-- changes the view that steps, or the two of a split or a join, and a raise alone the word.
 abbrev pub IsStep : Step → Progress → Progress → Type 0
 IsStep Make p q = q ≡ progress 0 (whole ∷ [])
-IsStep (Load i) p q = (v : View) × CanStep p.views i v 0 × (q ≡ progress p.word (slice_set p.views i (loaded p.word v)))
-IsStep (Raise i value) p q = (v : View) × CanStep p.views i v 0 × (q ≡ progress (max p.word value) (slice_set p.views i (raised_to value p.word v)))
-IsStep (Split i) p q = (v : View) × CanStep p.views i v 1 × (q ≡ progress p.word (slice_set p.views i (without_part v) ++ newcomer v ∷ []))
+IsStep (Load i) p q =
+    (v : View) × CanStep p.views i v 0
+    × (q ≡ progress p.word (slice_set p.views i (loaded p.word v)))
+IsStep (Raise i value) p q =
+    (v : View) × CanStep p.views i v 0
+    × (q ≡ progress (max p.word value) (slice_set p.views i (raised_to value p.word v)))
+IsStep (Split i) p q =
+    (v : View) × CanStep p.views i v 1
+    × (q ≡ progress p.word (slice_set p.views i (without_part v) ++ newcomer v ∷ []))
 IsStep (Join i j) p q =
-    (v w : View) × CanStep p.views i v 0 × CanStep p.views j w 0 × (j ≢ i) × (q ≡ progress p.word (slice_set (slice_set p.views i (joined v w)) j spent))
+    (v w : View) × CanStep p.views i v 0 × CanStep p.views j w 0 × (j ≢ i)
+    × (q ≡ progress p.word (slice_set (slice_set p.views i (joined v w)) j spent))
 
 -- ---- the law
 
@@ -102,5 +111,6 @@ KeepsRule = (step : Step) (p q : Progress) → HasRule p → IsStep step p q →
 
 -- who has all parts is alone, and has raised the word to what it is
 abbrev pub HasNoOther : Type 0
-HasNoOther = (p : Progress) (i : ℕ) (v : View) → HasRule p → Stands p.views i v → v.parts ≡ ALL_PARTS
+HasNoOther =
+    (p : Progress) (i : ℕ) (v : View) → HasRule p → Stands p.views i v → v.parts ≡ ALL_PARTS
     → (v.raised ≡ p.word) × ((j : ℕ) (w : View) → j ≢ i → Stands p.views j w → w ≡ spent)

@@ -11,6 +11,10 @@ use Rattle.schedule_certificate.specs.Plans.{Plan}
 abbrev pub coloured_of : Plan → ColouredSettings
 coloured_of plan = record { settings = plan.settings; inserted = plan.reinserted }
 
--- whether both are of the same batch, have the same schedule by as many insertions, and name the same
+-- whether both are of the same batch, have the same schedule by as many insertions, and name the
+-- same
 abbrev pub same_plan : Plan → Plan → Bool
-same_plan = eq_of_both (on (λ p. p.batch) same_transfers) (eq_of_both (on coloured_of same_coloured) (on (λ p. p.named) same_naming))
+same_plan =
+    eq_of_both
+    (on (λ p. p.batch) same_transfers)
+    (eq_of_both (on coloured_of same_coloured) (on (λ p. p.named) same_naming))

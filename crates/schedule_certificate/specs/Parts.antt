@@ -23,7 +23,8 @@ pub record IsDegree (transfers : List Transfer) (d : ℕ) : Type 0 where
 abbrev pub IsPartBy : List Transfer → List ℕ → Option ℕ → Type 0
 IsPartBy batch part known = IsPart batch part × IfSome known (IsDegree (members batch part))
 
--- just the transfers of the part are placed, in as many colours as its degree (one where that is 0), and few were put in one by one
+-- just the transfers of the part are placed, in as many colours as its degree (one where that is
+-- 0), and few were put in one by one
 pub record IsColouredPart (batch : List Transfer) (part : List ℕ) (table : Colouring) : Type 0 where
   pub degree : ℕ
   pub is_degree : IsDegree (members batch part) degree
@@ -36,7 +37,8 @@ pub record IsColouredPart (batch : List Transfer) (part : List ℕ) (table : Col
 abbrev pub PlacesClass : List (Option ℕ) → List (Option ℕ) → List ℕ → Type 0
 PlacesClass old new class = (t : ℕ) → IsPlaced new t ↔ (IsPlaced old t ⊎ Contains class t)
 
--- These transfers aren't placed, and each link has at least as many colours as it is used by them and the placed ones together.
+-- These transfers aren't placed, and each link has at least as many colours as it is used by them
+-- and the placed ones together.
 pub record HasRoomFor (table : Colouring) (class : List ℕ) : Type 0 where
   pub whole : List ℕ
   pub is_part : IsPart table.batch whole

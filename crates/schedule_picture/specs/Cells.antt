@@ -1,5 +1,6 @@
--- The cells of a picture. A transfer has two, in the column of its setting: one in the row of its initiator, in the half of link 0, and one in
--- the row of its responder, in the half of link 3. Each has the number and the colour of the module at the other end.
+-- The cells of a picture. A transfer has two, in the column of its setting: one in the row of its
+-- initiator, in the half of link 0, and one in the row of its responder, in the half of link 3.
+-- Each has the number and the colour of the module at the other end.
 use Rattle.std.specs.Prelude.{ℕ, ◌+◌, ◌-◌, List, ◌++◌, codes}
 use Rattle.std.specs.Fmt.{decimal}
 use Rattle.std.specs.List.{flat_map}
@@ -21,7 +22,10 @@ word_of Pull = codes "pull"
 
 -- the title, `transfer T: push I b R c` or `transfer T: pull I b R c`
 unfoldable pub title_text : ℕ → Transfer → List ℕ
-title_text t x = codes "<g><title>transfer " ++ decimal t ++ codes ": " ++ word_of x.kind ++ codes " " ++ decimal x.initiator ++ codes " " ++ decimal x.own_block ++ codes " " ++ decimal x.responder ++ codes " " ++ decimal x.far_block ++ codes "</title>"
+title_text t x =
+    codes "<g><title>transfer " ++ decimal t ++ codes ": " ++ word_of x.kind ++ codes " "
+    ++ decimal x.initiator ++ codes " " ++ decimal x.own_block ++ codes " " ++ decimal x.responder
+    ++ codes " " ++ decimal x.far_block ++ codes "</title>"
 
 abbrev pub to_partner : List ℕ
 to_partner = codes "&#8594;"
@@ -29,7 +33,8 @@ to_partner = codes "&#8594;"
 abbrev pub from_partner : List ℕ
 from_partner = codes "&#8592;"
 
--- whether the words leave the module at this end: a push moves them from the initiator to the responder, a pull the other way
+-- whether the words leave the module at this end: a push moves them from the initiator to the
+-- responder, a pull the other way
 abbrev pub arrow_of : Kind → End → List ℕ
 arrow_of Push Zero = to_partner
 arrow_of Push Three = from_partner
@@ -56,13 +61,18 @@ partner_of x end = module_at (other_end end) x
 unfoldable pub cell_text : List Transfer → ℕ → ℕ → Transfer → End → List ℕ
 cell_text batch k t x end = title_text t x
     ++ coloured_box (partner_of x end) (cell_left k) (cell_top batch x end) CELL_WIDTH CELL_HEIGHT
-    ++ text_start (column_place k + 16) (half_top batch x end + 14) ++ arrow_of x.kind end ++ decimal (partner_of x end) ++ codes "</text></g>\n"
+    ++ text_start (column_place k + 16) (half_top batch x end + 14) ++ arrow_of x.kind end
+    ++ decimal (partner_of x end) ++ codes "</text></g>\n"
 
 -- both cells of transfer t
 unfoldable pub transfer_cells : List Transfer → ℕ → ℕ → List ℕ
-transfer_cells batch k t = cell_text batch k t (transfer_at batch t) Zero ++ cell_text batch k t (transfer_at batch t) Three
+transfer_cells batch k t =
+    cell_text batch k t (transfer_at batch t) Zero
+    ++ cell_text batch k t (transfer_at batch t) Three
 
 -- the number of setting k above its column, and the cells of its transfers
 unfoldable pub column_text : List Transfer → ℕ → List ℕ → List ℕ
-column_text batch k setting = codes "<text class='number' x='" ++ decimal (column_place k + 16) ++ codes "' y='" ++ decimal (TOP - 10) ++ codes "'>" ++ decimal k ++ codes "</text>\n"
+column_text batch k setting =
+    codes "<text class='number' x='" ++ decimal (column_place k + 16) ++ codes "' y='"
+    ++ decimal (TOP - 10) ++ codes "'>" ++ decimal k ++ codes "</text>\n"
     ++ flat_map (λ t. transfer_cells batch k t) setting

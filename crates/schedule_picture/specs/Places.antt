@@ -1,4 +1,5 @@
--- Which module has which row of a picture, which setting which column, and where these stand. The layout is this project's choice.
+-- Which module has which row of a picture, which setting which column, and where these stand. The
+-- layout is this project's choice.
 use Rattle.std.specs.Prelude.{ℕ, ◌≡◌, ◌<◌, ◌+◌, ◌-◌, ◌*◌, ◌/◌, min, max, Bool, false, ◌==◌, ◌||◌, List, slice_index_or}
 use Rattle.std.specs.List.{list_any}
 use Rattle.batch.specs.declared.limits.TheConstants.{MAX_MODULES}
@@ -14,7 +15,8 @@ use Rattle.schedule_picture.specs.declared.layout.TheConstants.{MARGIN, TOP, PAN
 abbrev pub takes_part : List Transfer → ℕ → Bool
 takes_part batch m = list_any (λ (x : Transfer). x.initiator == m || x.responder == m) batch
 
--- Only modules that take part have rows, in the order of their numbers: the place of a module's row is how many modules before it take part.
+-- Only modules that take part have rows, in the order of their numbers: the place of a module's row
+-- is how many modules before it take part.
 abbrev pub row_of : List Transfer → ℕ → ℕ
 row_of batch m = count_below m (takes_part batch)
 
@@ -40,7 +42,8 @@ height_of batch = legend_place batch + LEGEND
 
 -- ---- columns
 
--- Settings have columns, in their order. Before the first of them, and before each further one that begins a panel, the labels of the rows stand.
+-- Settings have columns, in their order. Before the first of them, and before each further one that
+-- begins a panel, the labels of the rows stand.
 unfoldable pub column_place : ℕ → ℕ
 column_place k = MARGIN + (k / PANEL + 1) * LABELS + k * COLUMN
 

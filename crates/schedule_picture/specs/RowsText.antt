@@ -1,4 +1,5 @@
--- The rows of a picture: in each panel the label of the module, in its colour, and for each of its two links the ground on which the cells stand.
+-- The rows of a picture: in each panel the label of the module, in its colour, and for each of its
+-- two links the ground on which the cells stand.
 use Rattle.std.specs.Prelude.{ℕ, ◌+◌, Bool, true, false, ◌==◌, ◌&&◌, if◌then◌else◌, List, [], ◌++◌, Option, Some, None, codes}
 use Rattle.std.specs.Fmt.{decimal}
 use Rattle.std.specs.List.{flat_map, range_with_len}
@@ -14,11 +15,14 @@ use Rattle.schedule_picture.specs.Elements.{box_text, coloured_box, text_start, 
 -- this is the busiest link
 abbrev pub marks : Option Link → Link → Bool
 marks None link = false
-marks (Some busiest) link = end_number busiest.end == end_number link.end && busiest.«module» == link.«module»
+marks (Some busiest) link =
+    end_number busiest.end == end_number link.end && busiest.«module» == link.«module»
 
 -- `module M` on the module's colour
 unfoldable pub label_text : ℕ → ℕ → ℕ → List ℕ
-label_text m left top = coloured_box m (left + 8) top 72 40 ++ text_start (left + 44) (top + 24) ++ codes "module " ++ decimal m ++ codes "</text>\n"
+label_text m left top =
+    coloured_box m (left + 8) top 72 40 ++ text_start (left + 44) (top + 24) ++ codes "module "
+    ++ decimal m ++ codes "</text>\n"
 
 -- the looks of a half of a row
 abbrev pub looks_of : Bool → List ℕ
@@ -31,8 +35,10 @@ lane_title marked link = looks_of marked ++ link_words link ++ codes "</title><r
 
 -- the half of a link, whose row begins at the top: its ground, and the label `link E` before it
 unfoldable pub lane_text : Bool → Link → ℕ → ℕ → ℕ → List ℕ
-lane_text marked link left top width = lane_title marked link ++ box_text (left + LABELS) (top + half_place link.end) width HALF
-    ++ text_start (left + 104) (top + half_place link.end + 14) ++ codes "link " ++ decimal (end_number link.end) ++ codes "</text></g>\n"
+lane_text marked link left top width =
+    lane_title marked link ++ box_text (left + LABELS) (top + half_place link.end) width HALF
+    ++ text_start (left + 104) (top + half_place link.end + 14) ++ codes "link "
+    ++ decimal (end_number link.end) ++ codes "</text></g>\n"
 
 -- the link of an end and a module
 abbrev pub link_of : End → ℕ → Link
@@ -40,12 +46,21 @@ link_of end m = record { end = end; «module» = m }
 
 -- the half of a link in a panel
 unfoldable pub half_text : List Transfer → ℕ → Option Link → Link → ℕ → List ℕ
-half_text batch settings busiest link panel = lane_text (marks busiest link) link (panel_place panel) (row_place batch link.«module») (panel_width settings panel)
+half_text batch settings busiest link panel =
+    lane_text
+    (marks busiest link) link (panel_place panel) (row_place batch link.«module»)
+    (panel_width settings panel)
 
 -- the part of a module's row that stands in a panel
 unfoldable pub part_text : List Transfer → ℕ → Option Link → ℕ → ℕ → List ℕ
-part_text batch settings busiest m panel = label_text m (panel_place panel) (row_place batch m) ++ half_text batch settings busiest (link_of Zero m) panel ++ half_text batch settings busiest (link_of Three m) panel
+part_text batch settings busiest m panel =
+    label_text m (panel_place panel) (row_place batch m)
+    ++ half_text batch settings busiest (link_of Zero m) panel
+    ++ half_text batch settings busiest (link_of Three m) panel
 
 -- the row of a module, where it takes part
 abbrev pub row_text : List Transfer → ℕ → Option Link → ℕ → List ℕ
-row_text batch settings busiest m = if takes_part batch m then flat_map (part_text batch settings busiest m) (range_with_len 0 (panels_of settings)) else []
+row_text batch settings busiest m =
+    if takes_part batch m
+    then flat_map (part_text batch settings busiest m) (range_with_len 0 (panels_of settings))
+    else []

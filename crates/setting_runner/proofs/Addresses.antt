@@ -7,7 +7,8 @@ use Rattle.module_memory.specs.Store.{block_of}
 use Rattle.module_memory.specs.declared.address.TheConstants.{HOLD_START, WORD_BYTES}
 use Rattle.module_memory.specs.Address.{address_from}
 use Rattle.module_memory.proofs.PartedSettings.{copy_first}
-use Rattle.peek_poke.specs.Blocks.{IsHeldStore, block_read, block_write, held_read, or_outside, WordsAreRead, WordsAreWritten}
+use Rattle.peek_poke.specs.Blocks.{IsHeldStore, block_read, block_write, held_read, or_outside}
+use Rattle.peek_poke.specs.Laws.{WordsAreRead, WordsAreWritten}
 use Rattle.setting_runner.specs.Carried.{window_for, window_of}
 use Rattle.setting_runner.specs.Moves.{ReadsFound}
 use Rattle.peek_poke.specs.declared.fault.StoreFault.{StoreFault}

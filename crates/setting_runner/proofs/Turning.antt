@@ -19,7 +19,8 @@ use Rattle.link_graph.specs.Uses.{IsMatching}
 use Rattle.module_memory.specs.Core.{FitsIn}
 use Rattle.schedule_certificate.specs.Plans.{Plan, IsPlan}
 use Rattle.setting_runner.specs.Runs.{numbers_of, setting_pairs}
-use Rattle.setting_runner.specs.Sending.{in_order, pairs_at, sent_for, sent_for_first, PlansTurn}
+use Rattle.setting_runner.specs.Sending.{in_order, pairs_at, sent_for, sent_for_first}
+use Rattle.setting_runner.specs.Laws.{PlansTurn}
 use Rattle.setting_runner.proofs.Joined.{IsTableOf, table_none, table_more, table_is_pairs, table_is_switch}
 use Rattle.setting_runner.proofs.InOrder.{table_in_order}
 use Rattle.setting_runner.proofs.Replies.{more_pairs}

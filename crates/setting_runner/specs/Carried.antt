@@ -16,7 +16,8 @@ use Rattle.peek_poke.specs.Sending.{IsCut}
 abbrev pub pushed : Extent → ℕ → List ℕ → ℕ → List ℕ
 pushed shape block words j = spell (Poke (address_of shape block j) (slice_index words j))
 
--- where the window begins in which a block is peeked that has this copy: a held block is peeked in the hold window
+-- where the window begins in which a block is peeked that has this copy: a held block is peeked in
+-- the hold window
 abbrev pub window_for : List ℕ → ℕ
 window_for [] = WINDOW_START
 window_for (x ∷ xs) = HOLD_START
@@ -25,9 +26,11 @@ window_for (x ∷ xs) = HOLD_START
 abbrev pub window_of : Left → Place → ℕ
 window_of rest p = window_for (copy_of rest p)
 
--- or as a peek of its address in the block that is read, in that window, and the bytes of the word that come back
+-- or as a peek of its address in the block that is read, in that window, and the bytes of the word
+-- that come back
 abbrev pub pulled : ℕ → Extent → ℕ → List ℕ → ℕ → List ℕ
-pulled window shape block words j = spell (Peek (address_from window shape block j)) ++ word_bytes (slice_index words j)
+pulled window shape block words j =
+    spell (Peek (address_from window shape block j)) ++ word_bytes (slice_index words j)
 
 -- a word of a transfer goes as its kind says
 abbrev pub sent : Kind → ℕ → Extent → ℕ → ℕ → List ℕ → ℕ → List ℕ
@@ -38,8 +41,8 @@ sent Pull window shape written read words j = pulled window shape read words j
 abbrev pub first_sent : (ℕ → List ℕ) → ℕ → List ℕ
 first_sent bytes count = flat_map bytes (range_with_len 0 count)
 
--- A wire has carried the bytes of so many words, one after the other, and no others where these are all. Where it failed, it has carried
--- less than the next word's bytes behind them.
+-- A wire has carried the bytes of so many words, one after the other, and no others where these are
+-- all. Where it failed, it has carried less than the next word's bytes behind them.
 pub record HasCarried (bytes : ℕ → List ℕ) (words count : ℕ) (old new : List ℕ) : Type 0 where
   pub whole : count ≡ words → new ≡ old ++ first_sent bytes count
   pub short : count < words → IsCut (bytes count) (old ++ first_sent bytes count) new

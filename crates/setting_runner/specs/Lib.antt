@@ -9,3 +9,5 @@ pub mod Runs
 pub mod Sending
 pub mod LineBits
 pub mod Refusals
+pub mod Plants
+pub mod Laws

@@ -1,5 +1,5 @@
--- How many bits words take on the links. INMOS IMS T414 data sheet, link protocol: a byte goes as a data packet of eleven bits, and
--- two bits acknowledge it.
+-- How many bits words take on the links. INMOS IMS T414 data sheet, link protocol: a byte goes as a
+-- data packet of eleven bits, and two bits acknowledge it.
 use Rattle.std.specs.Prelude.{ℕ, ◌+◌, ◌*◌}
 use Rattle.peek_poke.specs.declared.message.TheConstants.{POKE_BYTES}
 

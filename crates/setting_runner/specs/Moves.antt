@@ -21,20 +21,25 @@ pub record IsMovable (rest : Left) (batch : List Transfer) (t : ℕ) (bay : Bloc
 -- each transfer can move its words into its bay
 abbrev pub AreMovable : Left → List Transfer → List ℕ → List BlockAt → Type 0
 AreMovable rest batch [] [] = Unit {0}
-AreMovable rest batch (t ∷ numbers) (bay ∷ bays) = IsMovable rest batch t bay × AreMovable rest batch numbers bays
+AreMovable rest batch (t ∷ numbers) (bay ∷ bays) =
+    IsMovable rest batch t bay × AreMovable rest batch numbers bays
 AreMovable rest batch _ _ = ⊥
 
 -- a block into which so many words have moved: they stand in front, and behind them its own
 abbrev pub moved_into : ℕ → List ℕ → List ℕ → List ℕ
 moved_into count words old = take count words ++ drop count old
 
--- reads of a store give the words that a transfer finds at its source, at the block's addresses in a window
+-- reads of a store give the words that a transfer finds at its source, at the block's addresses in
+-- a window
 abbrev pub ReadsFound : (ℕ → Result ℕ StoreFault) → ℕ → Left → Place → Type 0
-ReadsFound reads window rest p = (j : ℕ) → j < rest.store.shape.words → reads (address_from window rest.store.shape p.block j) ≡ Ok (slice_index (found_in rest p) j)
+ReadsFound reads window rest p =
+    (j : ℕ) → j < rest.store.shape.words
+    → reads (address_from window rest.store.shape p.block j) ≡ Ok (slice_index (found_in rest p) j)
 
--- The transfer is named with its words, and its bay begins with as many words of its source. A transfer whose wire never fails has
--- moved them all.
-pub record HasMoved (sure : ℕ → Type 0) (rest : Left) (batch : List Transfer) (t : ℕ) (old new : BlockAt) (moved : ℕ × ℕ) : Type 0 where
+-- The transfer is named with its words, and its bay begins with as many words of its source. A
+-- transfer whose wire never fails has moved them all.
+pub record HasMoved (sure : ℕ → Type 0) (rest : Left) (batch : List Transfer) (t : ℕ)
+    (old new : BlockAt) (moved : ℕ × ℕ) : Type 0 where
   pub named : moved.0 ≡ t
   pub at_most : moved.1 ≤ rest.store.shape.words
   pub place : new.place ≡ old.place
@@ -42,9 +47,11 @@ pub record HasMoved (sure : ℕ → Type 0) (rest : Left) (batch : List Transfer
   pub all_words : sure t → moved.1 ≡ rest.store.shape.words
 
 -- the same of each transfer, in order
-abbrev pub HaveMoved : (ℕ → Type 0) → Left → List Transfer → List ℕ → List BlockAt → List BlockAt → List (ℕ × ℕ) → Type 0
+abbrev pub HaveMoved : (ℕ → Type 0) → Left → List Transfer → List ℕ → List BlockAt → List BlockAt
+    → List (ℕ × ℕ) → Type 0
 HaveMoved sure rest batch [] [] [] [] = Unit {0}
-HaveMoved sure rest batch (t ∷ numbers) (old ∷ olds) (new ∷ news) (m ∷ moved) = HasMoved sure rest batch t old new m × HaveMoved sure rest batch numbers olds news moved
+HaveMoved sure rest batch (t ∷ numbers) (old ∷ olds) (new ∷ news) (m ∷ moved) =
+    HasMoved sure rest batch t old new m × HaveMoved sure rest batch numbers olds news moved
 HaveMoved sure rest batch _ _ _ _ = ⊥
 
 -- no wire is known never to fail

@@ -1,4 +1,5 @@
--- The pairs of a setting, and the bytes that set a switch to them. Source of the commands: INMOS IMS C004 data sheet.
+-- The pairs of a setting, and the bytes that set a switch to them. Source of the commands: INMOS
+-- IMS C004 data sheet.
 use Rattle.std.specs.Prelude.{◌≡◌, ◌+◌, ◌*◌, ℕ, List, map}
 use Rattle.std.specs.List.{range_with_len}
 use Rattle.c004_commands.specs.declared.command.Command.{Command}

@@ -1,4 +1,5 @@
--- How a run ends, and what it leaves and tells. The outcomes and their causes are this project's choice.
+-- How a run ends, and what it leaves and tells. The outcomes and their causes are this project's
+-- choice.
 use Rattle.std.specs.Prelude.{◌≡◌, ℕ, ◌<◌, ◌≤◌, ◌+◌, ◌*◌, Bool, false, List, [], ◌++◌, zero, suc, length, map, take, slice_index, slice_index_or, All, Contains}
 use Rattle.std.specs.List.{concat}
 use Rattle.batch.specs.Extent.{Extent}
@@ -27,7 +28,9 @@ numbers_of plan k = slice_index_or plan.settings k []
 
 -- the bays of a setting stand behind those of the settings before it
 abbrev pub HasOwnBays : Store → List BlockAt → Plan → ℕ → Type 0
-HasOwnBays rest bays plan k = AreBaysOf rest bays (length (concat (take k plan.settings))) (setting_of plan.batch (numbers_of plan k))
+HasOwnBays rest bays plan k =
+    AreBaysOf rest bays
+    (length (concat (take k plan.settings))) (setting_of plan.batch (numbers_of plan k))
 
 -- the modules that a transfer wants joined
 abbrev pub joined_pair : Transfer → Pair
@@ -39,7 +42,8 @@ setting_pairs batch numbers = map joined_pair (setting_of batch numbers)
 
 -- the switches of a setting, in a rack of this shape
 abbrev pub AreSettingSwitches : Extent → Plan → ℕ → Switches → Type 0
-AreSettingSwitches shape plan k switches = AreSwitchesOf shape.modules (setting_pairs plan.batch (numbers_of plan k)) switches
+AreSettingSwitches shape plan k switches =
+    AreSwitchesOf shape.modules (setting_pairs plan.batch (numbers_of plan k)) switches
 
 -- the numbers of transfers with their words
 abbrev pub names_of : List (ℕ × ℕ) → List ℕ
@@ -58,7 +62,8 @@ plan_destinations plan = destinations_of plan.batch (concat plan.settings)
 -- the bays of all settings are lent, setting by setting, from a rack that is ready for the plan
 pub record IsPrepared (rest : Left) (bays : List BlockAt) (plan : Plan) : Type 0 where
   pub schedule : IsScheduleOf plan.batch plan.settings
-  pub ready : IsReady (joined rest.store bays) (joined rest.store bays) plan.batch (concat plan.settings)
+  pub ready :
+      IsReady (joined rest.store bays) (joined rest.store bays) plan.batch (concat plan.settings)
   pub settings : (k : ℕ) → k < length plan.settings → HasOwnBays rest.store bays plan k
   pub rejoins : Rejoins rest.store bays
   -- transfers find what their sources have before the first setting
@@ -77,16 +82,21 @@ pub record IsCompleted (old : Store) (plan : Plan) (settings words : ℕ) (new :
 abbrev pub up_to : Plan → ℕ → List Transfer
 up_to plan k = setting_of plan.batch (concat (take k plan.settings) ++ numbers_of plan k)
 
--- The settings before one were run, and of that one each transfer has moved so many words: the machine has made these steps, and the
--- store is that of the counts.
-pub record IsStopped (old : Store) (plan : Plan) (setting : ℕ) (moved : List (ℕ × ℕ)) (new : Store) : Type 0 where
+-- The settings before one were run, and of that one each transfer has moved so many words: the
+-- machine has made these steps, and the store is that of the counts.
+pub record IsStopped (old : Store) (plan : Plan) (setting : ℕ) (moved : List (ℕ × ℕ))
+    (new : Store) : Type 0 where
   pub within : setting < length plan.settings
   pub named : names_of moved ≡ numbers_of plan setting
   pub at_most : All (λ m. m.1 ≤ old.shape.words) moved
   pub steps : List ℕ
   pub counted : (i : ℕ) → i < length moved → times i steps ≡ slice_index (words_of moved) i
-  pub machine : IsStoppedRun old old plan.batch (take setting plan.settings) (numbers_of plan setting) steps new
-  pub store : IsMoved old (up_to plan setting) (slice_index (all_words old (take setting plan.settings) ++ words_of moved)) new
+  pub machine :
+      IsStoppedRun old old plan.batch (take setting plan.settings)
+      (numbers_of plan setting) steps new
+  pub store :
+      IsMoved old (up_to plan setting)
+      (slice_index (all_words old (take setting plan.settings) ++ words_of moved)) new
 
 abbrev pub LeavesMemories : Store → Plan → Outcome → Store → Type 0
 LeavesMemories old plan (Completed settings words) new = IsCompleted old plan settings words new
@@ -171,9 +181,11 @@ pub record NeedsMemory (shape : Extent) (batch : List Transfer) : Type 0 where
 
 -- the switches of the rack are those of the last setting, or of the setting in which a wire failed
 abbrev pub LeavesSwitches : Extent → Plan → Outcome → Switches → Type 0
-LeavesSwitches shape plan (Completed settings words) switches = (k : ℕ) → k + 1 ≡ length plan.settings → AreSettingSwitches shape plan k switches
+LeavesSwitches shape plan (Completed settings words) switches =
+    (k : ℕ) → k + 1 ≡ length plan.settings → AreSettingSwitches shape plan k switches
 LeavesSwitches shape plan (Refused refusal) switches = Unit {0}
-LeavesSwitches shape plan (Stopped setting cause moved) switches = (t : ℕ) → cause ≡ Wire t → AreSettingSwitches shape plan setting switches
+LeavesSwitches shape plan (Stopped setting cause moved) switches =
+    (t : ℕ) → cause ≡ Wire t → AreSettingSwitches shape plan setting switches
 
 -- ---- what is told
 

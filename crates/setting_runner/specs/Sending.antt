@@ -1,15 +1,13 @@
--- What the switches of a rack are sent, setting by setting. Which commands these are is this project's choice.
-use Rattle.std.specs.Prelude.{◌≡◌, ◌<◌, ◌≤◌, ◌+◌, ◌==◌, ℕ, zero, suc, List, length, filter, Option, Some, None}
+-- What the switches of a rack are sent, setting by setting. Which commands these are is this
+-- project's choice.
+use Rattle.std.specs.Prelude.{◌==◌, ℕ, zero, suc, List, filter, Option, Some, None}
 use Rattle.std.specs.List.{flat_map, range_with_len}
 use Rattle.batch.specs.declared.limits.TheConstants.{MAX_MODULES}
-use Rattle.batch.specs.Extent.{Extent}
 use Rattle.c004_commands.specs.declared.command.Command.{Command}
-use Rattle.crossbar.specs.Pairs.{room_of, switch_of, setting, change}
-use Rattle.crossbar.specs.Switch.{Switch, after_all}
+use Rattle.crossbar.specs.Pairs.{setting, change}
 use Rattle.crossbar.specs.declared.chip.Wiring.{Wiring}
 use Rattle.crossbar.specs.declared.pair.Pair.{Pair}
-use Rattle.module_memory.specs.Core.{FitsIn}
-use Rattle.schedule_certificate.specs.Plans.{Plan, IsPlan}
+use Rattle.schedule_certificate.specs.Plans.{Plan}
 use Rattle.setting_runner.specs.Runs.{numbers_of, setting_pairs}
 
 -- the pairs that a module starts
@@ -20,7 +18,8 @@ started_by pairs m = filter (λ (p : Pair). p.initiator == m) pairs
 unfoldable pub in_order : List Pair → List Pair
 in_order pairs = flat_map (started_by pairs) (range_with_len 0 MAX_MODULES)
 
--- what sets a switch to the pairs: from the pairs that stand where they are known, else from any switch
+-- what sets a switch to the pairs: from the pairs that stand where they are known, else from any
+-- switch
 abbrev pub turning : Wiring → Option (List Pair) → List Pair → List Command
 turning wiring None pairs = setting wiring pairs
 turning wiring (Some old) pairs = change wiring old pairs
@@ -41,9 +40,3 @@ sent_for wiring plan k = turning wiring (standing_before plan k) (pairs_at plan 
 -- what it is sent for the first settings of a plan, so many of them
 abbrev pub sent_for_first : Wiring → Plan → ℕ → List Command
 sent_for_first wiring plan count = flat_map (sent_for wiring plan) (range_with_len 0 count)
-
--- Behind what is sent up to a setting of a plan, a switch to which all of a rack's modules can be wired joins just what the setting's transfers want
--- joined, whatever it was before.
-abbrev pub PlansTurn : Type 0
-PlansTurn = (plan : Plan) (shape : Extent) (wiring : Wiring) (switch : Switch) (k : ℕ) → IsPlan plan → FitsIn shape plan.batch → shape.modules ≤ room_of wiring → k < length plan.settings
-    → after_all (sent_for_first wiring plan (k + 1)) switch ≡ switch_of wiring (setting_pairs plan.batch (numbers_of plan k))

@@ -6,4 +6,5 @@ use Rattle.crossbar.specs.declared.pair.Pair.{Pair}
 abbrev pub table_pairs : ℕ → List (Option ℕ) → List Pair
 table_pairs initiator [] = []
 table_pairs initiator (None ∷ table) = table_pairs (initiator + 1) table
-table_pairs initiator (Some responder ∷ table) = record { initiator = initiator; responder = responder } ∷ table_pairs (initiator + 1) table
+table_pairs initiator (Some responder ∷ table) =
+    record { initiator = initiator; responder = responder } ∷ table_pairs (initiator + 1) table

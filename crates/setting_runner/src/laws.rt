@@ -2,7 +2,7 @@
 
 ghost use Rattle.std.specs.Prelude.{◌≡◌, Bool, true, ℕ, suc};
 ghost use Rattle.setting_runner.specs.Runs.{Told};
-ghost use Rattle.setting_runner.specs.Sending.{PlansTurn};
+ghost use Rattle.setting_runner.specs.Laws.{PlansTurn};
 
 use crate::notice::Notice;
 

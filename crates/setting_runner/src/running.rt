@@ -6,6 +6,7 @@ ghost use Rattle.module_memory.specs.Lending.{joined, Rejoins};
 ghost use Rattle.setting_runner.specs.declared.outcome.RunRefusal.TheVariants.{Overlap, Shape, NoMemory};
 ghost use Rattle.setting_runner.specs.declared.outcome.Outcome.TheVariants.{Refused};
 ghost use Rattle.setting_runner.specs.Refusals.{IsRefusal};
+ghost use Rattle.setting_runner.specs.Plants.{KeepsPlant};
 ghost use Rattle.setting_runner.specs.Runs.{IsPrepared, LeavesMemories, HasCause, IsMisfit, IsRefused, CanMove, NeedsMemory, LeavesSwitches, TellsOutcome};
 
 use crate::notice::Notice;
@@ -79,9 +80,7 @@ pub fn run<R: Threads + Sync, P: ConfigPort, W: WireMaker + Sync, G: Gate + Sync
     // The port isn't called where the run is refused or there is nothing to do.
     ensures refused { IsRefused result.1 → plant.new ≡ plant.old }
     ensures uncalled { planned.now.settings ≡ [] → plant.new ≡ plant.old }
-    ensures plant { plant.new ≡ record plant.old { port = plant.new.port } }
-    ensures counted { P.failures plant.old.port ≤ P.failures plant.new.port }
-    ensures honesty { P.honest plant.new.port ≡ P.honest plant.old.port }
+    ensures plant { KeepsPlant P.failures P.honest plant.old plant.new }
 {
     match prepare(alloc, rack, planned) {
         Ok(parted) => {
@@ -153,9 +152,7 @@ fn run_settings<R: Threads + Sync, P: ConfigPort, W: WireMaker + Sync, G: Gate +
     ensures told { TellsOutcome N.hears notice.old result notice.new }
     ensures going { IsRefused result → ⊥ }
     ensures uncalled { planned.now.settings ≡ [] → plant.new ≡ plant.old }
-    ensures plant { plant.new ≡ record plant.old { port = plant.new.port } }
-    ensures counted { P.failures plant.old.port ≤ P.failures plant.new.port }
-    ensures honesty { P.honest plant.new.port ≡ P.honest plant.old.port }
+    ensures plant { KeepsPlant P.failures P.honest plant.old plant.new }
 {
     let batch = planned.batch();
     let schedule = planned.schedule();
