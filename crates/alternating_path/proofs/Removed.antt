@@ -51,7 +51,7 @@ now_below c d = elim (cases_lt d c) [
   | inr more ↦ rw (above_high c d more) (comes_down c d more)
 ]
 
-without-at : (c : ℕ) (f : List (Option ℕ)) (t : ℕ) → colour_at (map (without_colour c) f) t ≡ without_colour c (colour_at f t)
+pub without-at : (c : ℕ) (f : List (Option ℕ)) (t : ℕ) → colour_at (map (without_colour c) f) t ≡ without_colour c (colour_at f t)
 without-at c f t = elim (cases_lt t (length f)) [
   | inl within ↦ get_or-map (without_colour c) f t None None within
   | inr past ↦

@@ -18,10 +18,10 @@ get-put m k v q = get-insert nat_cmp_total m k v q ∙ ap (λ b. cond b (Some v)
 pub get-cut : (m : Sources) (k q : ℕ) → get (remove m k) q ≡ cond (eqb q k) None (get m q)
 get-cut m k q = get-remove nat_cmp_total m k q ∙ ap (λ b. cond b None (get m q)) (unsigned_tied q k)
 
-find_not : (q k v : ℕ) (es : List (ℕ × ℕ)) → q ≢ k → find nat_cmp q ((k, v) ∷ es) ≡ find nat_cmp q es
+pub find_not : (q k v : ℕ) (es : List (ℕ × ℕ)) → q ≢ k → find nat_cmp q ((k, v) ∷ es) ≡ find nat_cmp q es
 find_not q k v es n = ap (λ b. cond b (Some v) (find nat_cmp q es)) (unsigned_tied q k ∙ eqb_no q k n)
 
-find_here : (q k v : ℕ) (es : List (ℕ × ℕ)) → q ≡ k → find nat_cmp q ((k, v) ∷ es) ≡ Some v
+pub find_here : (q k v : ℕ) (es : List (ℕ × ℕ)) → q ≡ k → find nat_cmp q ((k, v) ∷ es) ≡ Some v
 find_here q k v es e = ap (λ b. cond b (Some v) (find nat_cmp q es)) (unsigned_tied q k ∙ eqb_yes q k e)
 
 below : (latches : List (Option ℕ)) (k q : ℕ) → q < k → find nat_cmp q (connections k latches) ≡ None

@@ -27,7 +27,7 @@ length-destinations_of : (batch : List Transfer) (numbers : List ℕ) → length
 length-destinations_of batch numbers = length-map numbers (destination_at batch)
 
 -- transfers that don't overlap write different blocks
-destinations_lendable : (s : Store) (batch : List Transfer) (numbers : List ℕ) → IsReady s s batch numbers → AreLendable s.shape (destinations_of batch numbers)
+pub destinations_lendable : (s : Store) (batch : List Transfer) (numbers : List ℕ) → IsReady s s batch numbers → AreLendable s.shape (destinations_of batch numbers)
 destinations_lendable s batch numbers r = record {
   exist = λ k l.
       let below : k < length numbers = omega (arith, length-destinations_of batch numbers) in

@@ -22,6 +22,7 @@ use Rattle.euler_split.specs.Split.{uses_among, IsSplit}
 use Rattle.alternating_path.specs.Colouring.{Colouring, colour_at, IsPlaced, ArePlacedApart, joined_colour}
 use Rattle.alternating_path.specs.Counts.{uses_link}
 use Rattle.alternating_path.specs.Classes.{without_colour, IsTakenBack}
+use Rattle.alternating_path.proofs.Removed.{without-at}
 use Rattle.schedule_certificate.specs.Reinsertions.{AreFew}
 use Rattle.schedule_certificate.specs.Parts.{IsPart, IsDegree, IsColouredPart, HasRoomFor}
 use Rattle.schedule_certificate.proofs.Bounds.{few_le, few_halves}
@@ -133,14 +134,6 @@ right_placed k None None h = absurd (false≢true h)
 right_placed k None (Some c) h = refl
 
 -- ---- a class that is given up
-
-without-at : (c : ℕ) (f : List (Option ℕ)) (t : ℕ) → colour_at (map (without_colour c) f) t ≡ without_colour c (colour_at f t)
-without-at c f t = elim (cases_lt t (length f)) [
-  | inl within ↦ get_or-map (without_colour c) f t None None within
-  | inr past ↦
-      let none : colour_at f t ≡ None = get_or_past f t None past in
-      get_or_past _ t None (rw length-map past) ∙ sym (ap (without_colour c) none)
-]
 
 -- it stays placed, or had the colour
 stays_or_had : (c : ℕ) (o : Option ℕ) → IsSome o → IsSome (without_colour c o) ⊎ (o ≡ Some c)

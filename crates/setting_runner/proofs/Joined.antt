@@ -8,7 +8,8 @@ use Rattle.std.specs.FinMap.{find, get-from_entries}
 use Rattle.std.specs.Option.{option_or}
 use Rattle.c004_commands.specs.declared.port.TheConstants.{PORTS}
 use Rattle.module_memory.specs.Core.{FitsIn}
-use Rattle.setting_runner.proofs.Sources.{find_here, find_not, found_append}
+use Rattle.crossbar.proofs.Latches.{find_here, find_not}
+use Rattle.setting_runner.proofs.Sources.{found_append}
 use Rattle.std.specs.Prelude.{sum_by}
 use Rattle.std.specs.List.{range_with_len}
 use Rattle.std.proofs.lemmas.Bool.{cases_eq, cases_lt}

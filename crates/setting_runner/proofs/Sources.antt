@@ -13,18 +13,6 @@ use Rattle.crossbar.specs.declared.pair.Pair.{Pair}
 pub found_is : (w : Wiring) (ps : List Pair) (o : ℕ) → find nat_cmp o (flat_map (ends w) ps) ≡ get (switch_of w ps).sources o
 found_is w ps o = sym (get-from_entries nat_cmp_total (flat_map (ends w) ps) o)
 
-yes : (a b : ℕ) → a ≡ b → eqb a b ≡ true
-yes a b e = grind arith
-
-no : (a b : ℕ) → a ≢ b → eqb a b ≡ false
-no a b n = grind arith
-
-pub find_here : (q k v : ℕ) (es : List (ℕ × ℕ)) → q ≡ k → find nat_cmp q ((k, v) ∷ es) ≡ Some v
-find_here q k v es e = ap (λ b. cond b (Some v) (find nat_cmp q es)) (unsigned_tied q k ∙ yes q k e)
-
-pub find_not : (q k v : ℕ) (es : List (ℕ × ℕ)) → q ≢ k → find nat_cmp q ((k, v) ∷ es) ≡ find nat_cmp q es
-find_not q k v es n = ap (λ b. cond b (Some v) (find nat_cmp q es)) (unsigned_tied q k ∙ no q k n)
-
 some_first : (b : Bool) (x : ℕ) (f g h : Option ℕ) → f ≡ option_or g h → cond b (Some x) f ≡ option_or (cond b (Some x) g) h
 some_first true x f g h e = refl
 some_first false x f g h e = e

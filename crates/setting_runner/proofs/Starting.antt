@@ -82,13 +82,7 @@ lend_fault_is shape places held (NoHeld i) a h f = absurd (f.1.missing (h i f.1.
 lend_fault_is shape places held (NoPlace i) a h f = absurd (f.missing (a.exist i f.within))
 lend_fault_is shape places held NoBays a h f = f.2
 
--- the destinations of a plan can be lent
-pub plan_lendable : (s : Store) (batch : List Transfer) (numbers : List ℕ) → IsReady s s batch numbers → AreLendable s.shape (destinations_of batch numbers)
-plan_lendable s batch numbers r =
-    let e : numbers ≡ [] ++ numbers ++ [] = sym (append-nil numbers) in
-    subst (λ (xs : List ℕ). AreLendable s.shape (destinations_of batch xs)) (sym e) (settings_have_bays s batch [] numbers [] (subst (IsReady s s batch) e r)).0
-
--- and each setting has its bays then
+-- each setting of a plan has its bays
 pub plan_bays : (s : Store) (plan : Plan) (k : ℕ) → IsReady s s plan.batch (concat plan.settings) → k < length plan.settings
     → HasOwnBays (without s (plan_destinations plan)) (bays_of s (plan_destinations plan)) plan k
 plan_bays s plan k r h =

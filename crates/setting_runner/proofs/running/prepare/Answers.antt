@@ -12,10 +12,10 @@ use Rattle.module_memory.specs.Core.{FitsIn, IsReady}
 use Rattle.module_memory.specs.Lending.{AreLendable, BlockAt, bays_of, found_in, joined, without}
 use Rattle.module_memory.specs.Store.{Store}
 use Rattle.module_memory.proofs.PartLaws.{shape-without}
-use Rattle.module_memory.proofs.PartedSettings.{sources_are_found}
+use Rattle.module_memory.proofs.PartedSettings.{destinations_lendable, sources_are_found}
 use Rattle.setting_runner.specs.Runs.{HasOwnBays, plan_destinations}
 use Rattle.setting_runner.proofs.Schedules.{all_settings, numbers_are_counted}
-use Rattle.setting_runner.proofs.Starting.{held_is_read, held_places, lend_fault_is, plan_bays, plan_lendable}
+use Rattle.setting_runner.proofs.Starting.{held_is_read, held_places, lend_fault_is, plan_bays}
 use Rattle.setting_runner.proofs.running.prepare.Goals as goal
 
 pub returns-in-Some-clause-refusal : goal.returns-in-Some-clause-refusal
@@ -74,7 +74,7 @@ returns-clause-refusal c =
     let schedule = c.batch-batch.ensures.plan.shortest.schedule in
     let ready : IsReady c.args.rack c.args.rack plan.batch (concat plan.settings) = record { opening_whole = c.shape.ensures.whole; whole = c.shape.ensures.whole; same_shape = refl; agrees = λ i l none. refl; places = fits; apart = apart; setting = all_settings plan.batch plan.settings schedule } in
     let places : c.as_slice.result.now ≡ plan_destinations plan = c.as_slice.ensures.value ∙ c.in-Ok.ensures.places in
-    let lendable = plan_lendable c.args.rack plan.batch (concat plan.settings) ready in
+    let lendable = destinations_lendable c.args.rack plan.batch (concat plan.settings) ready in
     let held : AreHeldSources plan.batch c.as_slice-2.result.now = subst (AreHeldSources plan.batch) (sym c.as_slice-2.ensures.value) (subst (λ (ts : List Transfer). AreHeldSources ts c.in-Ok-held_sources.held.items) c.batch-batch.ensures.batch c.in-Ok-held_sources.ensures.held) in
     let held_exist = held_places c.args.rack.shape plan.batch c.as_slice-2.result.now held fits in
     let some = lend_fault_is c.args.rack.shape c.as_slice.result.now c.as_slice-2.result.now c.in-Err._fault (subst (λ (ps : List Place). AreLendable c.args.rack.shape ps) (sym places) lendable) held_exist c.in-Err.ensures.fault in
