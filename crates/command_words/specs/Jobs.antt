@@ -10,13 +10,18 @@ use Rattle.schedule_certificate.specs.declared.limits.TheConstants.{MAX_WORKERS}
 use Rattle.command_words.specs.declared.limits.TheConstants.{MAX_SCRIPTS}
 use Rattle.command_words.specs.declared.words.Job.{Job}
 use Rattle.command_words.specs.declared.words.Job.TheVariants.{Plan, Check, Draw, Switch, Run, Serve}
+use Rattle.command_words.specs.declared.words.WordsFault.{WordsFault}
+use Rattle.command_words.specs.declared.words.WordsFault.TheVariants.{NoMemory}
 use Rattle.command_words.specs.declared.words.Lack.{Lack}
 use Rattle.command_words.specs.declared.words.Lack.TheVariants.{Memory}
 use Rattle.command_words.specs.Program.{program}
 
 -- the number that the text of `--workers` reads as
 abbrev pub HasWorkers : List Row → ℕ → Type 0
-HasWorkers rows n = (text : Text) × (one_of (codes "workers") rows ≡ Some text) × IsNumeral 10 (without_leading_plus text) × (n ≡ digits_value 10 (without_leading_plus text)) × (1 ≤ n) × (n ≤ MAX_WORKERS)
+HasWorkers rows n =
+    (text : Text) × (one_of (codes "workers") rows ≡ Some text)
+    × IsNumeral 10 (without_leading_plus text) × (n ≡ digits_value 10 (without_leading_plus text))
+    × (1 ≤ n) × (n ≤ MAX_WORKERS)
 
 -- the text of a rack's shape
 abbrev pub HasShape : List Row → Text → Type 0
@@ -24,7 +29,9 @@ HasShape rows shape = first_of (codes "SHAPE") rows ≡ Some shape
 
 -- the texts of a batch and of a schedule
 abbrev pub HasTexts : List Row → Text → Text → Type 0
-HasTexts rows batch schedule = (first_of (codes "BATCH") rows ≡ Some batch) × (first_of (codes "SCHEDULE") rows ≡ Some schedule)
+HasTexts rows batch schedule =
+    (first_of (codes "BATCH") rows ≡ Some batch)
+    × (first_of (codes "SCHEDULE") rows ≡ Some schedule)
 
 -- so many scripts may be served
 abbrev pub AreScripts : List Text → Type 0
@@ -36,12 +43,17 @@ HasScripts rows scripts = (all_of (codes "SCRIPT") rows ≡ Some scripts) × Are
 
 -- the command by its name, with its texts and its number of workers where it takes one
 abbrev pub IsJob : Text → List Row → Job → Type 0
-IsJob name rows (Plan file workers) = (name ≡ codes "plan") × (first_of (codes "FILE") rows ≡ Some file) × HasWorkers rows workers
+IsJob name rows (Plan file workers) =
+    (name ≡ codes "plan") × (first_of (codes "FILE") rows ≡ Some file) × HasWorkers rows workers
 IsJob name rows (Check batch schedule) = (name ≡ codes "check") × HasTexts rows batch schedule
 IsJob name rows (Draw batch schedule) = (name ≡ codes "draw") × HasTexts rows batch schedule
-IsJob name rows (Switch batch workers) = (name ≡ codes "switch") × (first_of (codes "BATCH") rows ≡ Some batch) × HasWorkers rows workers
-IsJob name rows (Run shape batch workers) = (name ≡ codes "run") × HasShape rows shape × (first_of (codes "BATCH") rows ≡ Some batch) × HasWorkers rows workers
-IsJob name rows (Serve shape scripts workers) = (name ≡ codes "serve") × HasShape rows shape × HasScripts rows scripts × HasWorkers rows workers
+IsJob name rows (Switch batch workers) =
+    (name ≡ codes "switch") × (first_of (codes "BATCH") rows ≡ Some batch) × HasWorkers rows workers
+IsJob name rows (Run shape batch workers) =
+    (name ≡ codes "run") × HasShape rows shape × (first_of (codes "BATCH") rows ≡ Some batch)
+    × HasWorkers rows workers
+IsJob name rows (Serve shape scripts workers) =
+    (name ≡ codes "serve") × HasShape rows shape × HasScripts rows scripts × HasWorkers rows workers
 
 -- the words as lists of their bytes
 abbrev pub texts_of : {Z : Type 0} → List (String Z) → List Text
@@ -66,7 +78,8 @@ IsWithinLimits (Check batch schedule) = ⊤
 IsWithinLimits (Draw batch schedule) = ⊤
 IsWithinLimits (Switch batch workers) = (1 ≤ workers) × (workers ≤ MAX_WORKERS)
 IsWithinLimits (Run shape batch workers) = (1 ≤ workers) × (workers ≤ MAX_WORKERS)
-IsWithinLimits (Serve shape scripts workers) = AreScripts scripts × (1 ≤ workers) × (workers ≤ MAX_WORKERS)
+IsWithinLimits (Serve shape scripts workers) =
+    AreScripts scripts × (1 ≤ workers) × (workers ≤ MAX_WORKERS)
 
 -- the name of a file that stands for standard input
 abbrev pub input_name : Text
@@ -120,3 +133,11 @@ HasServe rows = HasWord (codes "SHAPE") rows × HasSomeScripts rows × HasSomeWo
 -- where that is so, nothing but memory may be lacking
 abbrev pub LacksMemory : {X : Type 0} → Type 0 → Result X Lack → Type 0
 LacksMemory has result = IfErr result (λ lack. has → lack ≡ Memory)
+
+-- An error to words that clap's grammar takes, and that hold a job of whose files at most one is
+-- standard input, is want of memory.
+abbrev pub RefusesForMemory : List Text → Result Job WordsFault → Type 0
+RefusesForMemory words result =
+    IfErr result
+    (λ fault. IsTaken words → (job : Job) → Holds words job → NameInputOnce (files_of job)
+    → fault ≡ NoMemory)

@@ -10,7 +10,7 @@ ghost use Rattle.command_words.specs.Program.{IsLocal, IsCommand, AddsRule, Adds
 ghost use Rattle.command_words.specs.Program.{top, planner, program};
 ghost use Rattle.command_words.specs.Program.{plan as plan_app, check as check_app, draw as draw_app, switch as switch_app, run as run_app, serve as serve_app};
 ghost use Rattle.command_words.specs.Jobs.{Holds, HasShape, HasTexts, HasScripts, HasWorkers, IsJob, IsWithinLimits, AreMatchesOf, IsTaken, NameInputOnce, files_of, texts_of};
-ghost use Rattle.command_words.specs.Jobs.{HasWord, HasBoth, HasSomeScripts, HasSomeWorkers, HasWorked, HasRun, HasServe, LacksMemory};
+ghost use Rattle.command_words.specs.Jobs.{HasWord, HasBoth, HasSomeScripts, HasSomeWorkers, HasWorked, HasRun, HasServe, LacksMemory, RefusesForMemory};
 
 use crate::help::{
     BATCH_HELP, CHECK_NOTES, DRAW_NOTES, PLAN_NOTES, RUN_NOTES, SCHEDULE_HELP, SCRIPT_HELP,
@@ -464,7 +464,8 @@ fn serve_job(alloc: Global, found: &ArgMatches<'_>) -> Result<Job, Lack>
 fn job_of(alloc: Global, name: &str, found: &ArgMatches<'_>) -> Result<Job, Lack>
     ensures job { IfOk result (λ job. IsJob name.now (rows_of (found_of found.now)) job) }
     ensures limits { IfOk result (λ job. IsWithinLimits job) }
-    ensures lack { IfErr result (λ lack. (job : Job) → IsJob name.now (rows_of (found_of found.now)) job → lack ≡ Memory) }
+    ensures lack { IfErr result (λ lack. (job : Job) →
+        IsJob name.now (rows_of (found_of found.now)) job → lack ≡ Memory) }
 {
     if name == "plan" {
         return plan_job(alloc, found);
@@ -491,7 +492,8 @@ fn job_of(alloc: Global, name: &str, found: &ArgMatches<'_>) -> Result<Job, Lack
 fn job_named(alloc: Global, words: &[String]) -> Result<Job, WordsFault>
     ensures job { IfOk result (λ job. Holds (texts_of words.now) job) }
     ensures limits { IfOk result (λ job. IsWithinLimits job) }
-    ensures taken { IfErr result (λ fault. IsTaken (texts_of words.now) → (job : Job) → Holds (texts_of words.now) job → fault ≡ NoMemory) }
+    ensures taken { IfErr result (λ fault. IsTaken (texts_of words.now) →
+        (job : Job) → Holds (texts_of words.now) job → fault ≡ NoMemory) }
 {
     let matches = matches_of(alloc, words)?;
     match matches.subcommand() {
@@ -527,7 +529,7 @@ pub fn read_words(alloc: Global, words: &[String]) -> Result<Job, WordsFault>
     ensures job { IfOk result (λ job. Holds (texts_of words.now) job) }
     ensures limits { IfOk result (λ job. IsWithinLimits job) }
     ensures input { IfOk result (λ job. NameInputOnce (files_of job)) }
-    ensures refused { IfErr result (λ fault. IsTaken (texts_of words.now) → (job : Job) → Holds (texts_of words.now) job → NameInputOnce (files_of job) → fault ≡ NoMemory) }
+    ensures refused { RefusesForMemory (texts_of words.now) result }
 {
     let job = job_named(alloc, words)?;
     if !reads_input_once(&job) {

@@ -11,7 +11,7 @@ use Rattle.command_words.specs.declared.words.Job.{Job}
 use Rattle.command_words.specs.declared.words.Job.TheVariants.{Plan, Check, Draw, Switch, Run, Serve}
 use Rattle.command_words.specs.declared.words.WordsFault.{WordsFault}
 use Rattle.command_words.specs.declared.words.WordsFault.TheVariants as words_fault
-use Rattle.command_words.specs.Jobs.{Holds, AsksForHelp, input_name}
+use Rattle.command_words.specs.Jobs.{Holds, AsksForHelp, RefusesForMemory, input_name}
 use Rattle.exchange.specs.declared.limits.TheConstants.{MISUSED}
 use Rattle.exchange.specs.declared.unanswered.Unanswered.{Unanswered}
 use Rattle.exchange.specs.declared.unanswered.Unanswered.TheVariants.{File, NoMemory}
@@ -103,7 +103,8 @@ IsEndFor input (Err (words_fault.Clap error)) before after code =
 abbrev pub IsEndForWords : List (List ℕ) → Option (List ℕ) → Option (List ℕ) → Option (List ℕ) → ℕ
     → Type 0
 IsEndForWords words input before after code =
-    (job : Result Job WordsFault) × IfOk job (Holds words) × IsEndFor input job before after code
+    (job : Result Job WordsFault) × IfOk job (Holds words) × RefusesForMemory words job
+    × IsEndFor input job before after code
 
 -- how it ends where the words can't be had as texts
 abbrev pub IsEndWithoutWords : Option (List ℕ) → Option (List ℕ) → ℕ → Type 0
