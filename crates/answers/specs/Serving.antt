@@ -14,33 +14,40 @@ use Rattle.answers.specs.declared.limits.TheConstants.{REFUSED}
 use Rattle.answers.specs.Refusals.{Printed, IsRefused}
 use Rattle.answers.specs.Frames.{Transcript, sessions_text, status_of, disagree_line}
 
--- a seat of this session, which has asked nothing and seen nothing, at an exchange whose rack has this shape
+-- a seat of this session, which has asked nothing and seen nothing, at an exchange whose rack has
+-- this shape
 pub record IsNewSeat (shape : Extent) (session : ℕ) (seat : SeatView) : Type 0 where
   pub shape_is : seat.shape ≡ shape
   pub session_is : seat.session ≡ session
   pub log : seat.log ≡ []
   pub seen : seat.seen ≡ 0
 
--- a session that began on a new seat, was given a front of this script to read, and has ended as a session may
+-- a session that began on a new seat, was given a front of this script to read, and has ended as a
+-- session may
 pub record IsSessionOf (shape : Extent) (script : List ℕ) (t : Transcript) : Type 0 where
   pub seat : SeatView
   pub is_new : IsNewSeat shape t.session seat
   pub read : List ℕ
   pub rest : List ℕ
   pub front : script ≡ read ++ rest
-  pub ended : HasEnded t.fault (Some rest) seat (record seat { log = t.entries; seen = t.seen }) read t.entries t.told
+  pub ended : HasEnded t.fault (Some rest) seat (record seat { log = t.entries; seen = t.seen })
+      read t.entries t.told
 
 -- it is one of the script at its number's place
 abbrev pub HasItsScript : Extent → List (List ℕ) → Transcript → Type 0
-HasItsScript shape scripts t = (script : List ℕ) × (slice_get scripts t.session ≡ Some script) × IsSessionOf shape script t
+HasItsScript shape scripts t =
+    (script : List ℕ) × (slice_get scripts t.session ≡ Some script) × IsSessionOf shape script t
 
 -- each script has its session, in the order of the scripts
-pub record AreSessionsOf (shape : Extent) (scripts : List (List ℕ)) (sessions : List Transcript) : Type 0 where
+pub record AreSessionsOf (shape : Extent) (scripts : List (List ℕ))
+    (sessions : List Transcript) : Type 0 where
   pub numbers : map (λ t. t.session) sessions ≡ range_with_len 0 (length scripts)
   pub each : All (HasItsScript shape scripts) sessions
 
--- a history of an exchange, which is legal from this opening store and has as many entries as these sessions
-pub record IsHistoryOf (opening : Store) (sessions : List Transcript) (history : List Entry) : Type 0 where
+-- a history of an exchange, which is legal from this opening store and has as many entries as these
+-- sessions
+pub record IsHistoryOf (opening : Store) (sessions : List Transcript)
+    (history : List Entry) : Type 0 where
   pub legal : IsLegal opening history
   pub counted : length history ≡ sum_by (λ t. length t.entries) sessions
 
@@ -48,8 +55,8 @@ pub record IsHistoryOf (opening : Store) (sessions : List Transcript) (history :
 abbrev pub AreParts : List Transcript → List Entry → Type 0
 AreParts sessions history = All (λ t. t.entries ≡ own t.session history) sessions
 
--- The sessions have one history, whose opening store is of this shape: it has just their entries, those of each session in its order. No session
--- saw the runs come further than it tells.
+-- The sessions have one history, whose opening store is of this shape: it has just their entries,
+-- those of each session in its order. No session saw the runs come further than it tells.
 pub record HaveOneHistory (shape : Extent) (sessions : List Transcript) : Type 0 where
   pub opening : Store
   pub history : List Entry
@@ -58,24 +65,33 @@ pub record HaveOneHistory (shape : Extent) (sessions : List Transcript) : Type 0
   pub parts : AreParts sessions history
   pub seen : All (λ t. t.seen ≤ greatest history) sessions
 
--- the history that was kept of the sessions has an opening store of another shape, or isn't that of their entries
+-- the history that was kept of the sessions has an opening store of another shape, or isn't that of
+-- their entries
 pub record HaveAnotherHistory (shape : Extent) (sessions : List Transcript) : Type 0 where
   pub opening : Store
   pub history : List Entry
   pub is_history : IsHistoryOf opening sessions history
   pub no_parts : opening.shape ≡ shape → ¬ AreParts sessions history
 
--- The texts of the sessions on a rack of this shape are printed. Where another history was kept of them, that is said by a last line.
+-- The texts of the sessions on a rack of this shape are printed. Where another history was kept of
+-- them, that is said by a last line.
 pub data ArePrinted (shape : Extent) (sessions : List Transcript) (printed : Printed) : Type 0 where
-  agree : HaveOneHistory shape sessions → printed.text ≡ sessions_text sessions → printed.status ≡ status_of sessions → ArePrinted shape sessions printed
-  disagree : HaveAnotherHistory shape sessions → printed.text ≡ sessions_text sessions ++ disagree_line → printed.status ≡ REFUSED
+  agree : HaveOneHistory shape sessions → printed.text ≡ sessions_text sessions
+      → printed.status ≡ status_of sessions → ArePrinted shape sessions printed
+  disagree : HaveAnotherHistory shape sessions
+      → printed.text ≡ sessions_text sessions ++ disagree_line → printed.status ≡ REFUSED
       → ArePrinted shape sessions printed
 
 -- the sessions of the scripts on one exchange, with a rack of the shape, are printed
 abbrev pub AreServed : Extent → List (List ℕ) → Printed → Type 0
-AreServed shape scripts printed = (sessions : List Transcript) × AreSessionsOf shape scripts sessions × ArePrinted shape sessions printed
+AreServed shape scripts printed =
+    (sessions : List Transcript) × AreSessionsOf shape scripts sessions
+    × ArePrinted shape sessions printed
 
--- the sessions of the scripts on a rack of the shape that the text denotes, or the refusal where it denotes none
+-- the sessions of the scripts on a rack of the shape that the text denotes, or the refusal where it
+-- denotes none
 pub data IsServeAnswer (shape : List ℕ) (scripts : List (List ℕ)) (printed : Printed) : Type 0 where
-  served : (extent : Extent) → DenotesShape shape extent → AreServed extent scripts printed → IsServeAnswer shape scripts printed
-  shape_refused : IsBadShape shape → IsRefused (codes "shape") printed → IsServeAnswer shape scripts printed
+  served : (extent : Extent) → DenotesShape shape extent → AreServed extent scripts printed
+      → IsServeAnswer shape scripts printed
+  shape_refused : IsBadShape shape → IsRefused (codes "shape") printed
+      → IsServeAnswer shape scripts printed
