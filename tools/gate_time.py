@@ -17,7 +17,7 @@ import threading
 import time
 
 STEPS = ("proof", "tests", "first edit", "other edits", "programs")
-OTHERS = ("tools/start/run.sh", "bench/planning/run.sh --check", "tools/hostile/run.sh")
+OTHERS = ("tools/start/run.sh", "tools/rows/run.py", "bench/planning/run.sh --check", "tools/hostile/run.sh")
 
 
 class Meter:

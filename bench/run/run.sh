@@ -11,8 +11,8 @@ top=$here/../..
 begin_copy setting_runner
 rustc --edition 2021 -O -o "$work/plain" "$here/plain_runner.rs"
 rustc --edition 2021 -O --cfg keep_bits -o "$work/keeps_bits" "$here/plain_runner.rs"
-enter_program run_speed failure_count c004_commands crossbar batch module_memory peek_poke link_graph \
-    schedule_certificate setting_runner
+enter_program run_speed exchange_limits failure_count c004_commands crossbar batch module_memory peek_poke \
+    link_graph schedule_certificate setting_runner
 rt run
 for workers in 1 2 4; do
     "$work/plain" $workers

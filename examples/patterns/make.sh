@@ -89,6 +89,20 @@ gather() {
     done
 }
 
+# Moves of a block from each of 15 modules to module 0, and the other way round: nobody says which end starts.
+gather_moves() {
+    local m
+    for ((m = 1; m < 16; m++)); do
+        echo "move $m 0 0 $m"
+    done
+}
+scatter_moves() {
+    local m
+    for ((m = 1; m < 16; m++)); do
+        echo "move 0 $m $m 0"
+    done
+}
+
 # The lines of a client who has the four stages of a broadcast planned and run, one after another.
 broadcast_session() {
     local s
@@ -102,12 +116,17 @@ broadcast_session() {
     echo "bye"
 }
 
+# Makes a text of the lines that a command prints, which its first line counts: counted HEAD FILE COMMAND..
+counted() {
+    local head=$1 file=$2 lines
+    shift 2
+    lines=$("$@")
+    { echo "$head $(wc -l <<<"$lines")" && echo "$lines"; } >"$file"
+}
+
 # Makes a batch text of the transfers that a command prints: pattern FILE COMMAND..
 pattern() {
-    local file=$1 transfers
-    shift
-    transfers=$("$@")
-    { echo "batch $(wc -l <<<"$transfers")" && echo "$transfers"; } >"$file"
+    counted batch "$@"
 }
 
 # Makes the plan and the picture of a batch, which the program draws only where it accepts the plan: draw NAME
@@ -130,11 +149,14 @@ make_all() {
     pattern halo.txt halo
     pattern gather-by-pushes.txt gather_by_pushes
     pattern gather.txt gather
+    counted moves gather.moves.txt gather_moves
+    counted moves scatter.moves.txt scatter_moves
+    "$exchange" direct scatter.moves.txt >scatter.txt
     for s in 1 2 3 4; do
         pattern "broadcast-$s.txt" broadcast "$s"
     done
     broadcast_session >broadcast.session.txt
-    for name in transposition ring-shift butterfly halo gather-by-pushes gather broadcast-{1,2,3,4}; do
+    for name in transposition ring-shift butterfly halo gather-by-pushes gather scatter broadcast-{1,2,3,4}; do
         draw "$name"
     done
 }

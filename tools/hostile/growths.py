@@ -34,10 +34,13 @@ REFUSALS = (
     "peek 2 80000800\npeek 0 80000801\npeek 0 80000000\nhello\n"
 )
 PUSHES = TWO_PUSHES + "plan 1\nrun 1\nprogress\npeek 1 80000804\npeek 2 80000800\n"
+# An image of 3x2x2, and moves that are directed both ways.
+IMAGE = "".join(map(chr, range(48)))
+MOVES = "moves 3\nmove 0 0 1 0\nmove 0 1 1 1\nmove 1 2 1 3\n"
 FILES = {
     "three": THREE_TRANSFERS, "two": TWO_PUSHES, "schedule": SCHEDULE, "wrong": "batch 01\n",
     "script": SCRIPT, "other": "show 1\n", "refusals": REFUSALS,
-    "pushes": PUSHES, "swap": SWAP, "wide": WIDE,
+    "pushes": PUSHES, "swap": SWAP, "wide": WIDE, "image": IMAGE, "moves": MOVES,
 }  # fmt: skip
 # The one that is standard input.
 INPUT = "three"
@@ -49,6 +52,10 @@ COMMANDS = [
     ["draw", "three", "schedule"], ["draw", "three", "three"], ["run", "3x2x2", "two"], ["run", "3x2x2", "two", "--workers", "2"],
     ["run", "2x1x1", "swap"], ["run", "3x2", "two"], ["serve", "2x2x2", "script", "other"], ["serve", "2x2x2", "script", "other", "--workers", "2"],
     ["serve", "3x2x2", "pushes", "--workers", "2"], ["serve", "2x1x1", "refusals"], ["serve", "2x2", "script"], ["serve", "3x2x2", "other", "-"],
+    ["apply", "3x2x2", "two", "image"], ["apply", "3x2x2", "two", "image", "--workers", "2"], ["apply", "3x2x2", "swap", "image"],
+    ["apply", "3x2x1", "two", "image"], ["apply", "3x2x2", "-", "image"], ["run", "3x2x2", "two", "--image", "image"],
+    ["serve", "3x2x2", "other", "--image", "image"], ["serve", "3x2x1", "other", "--image", "image"],
+    ["direct", "moves"], ["direct", "wrong"], ["direct", "-"],
     ["--help"], ["help", "run"], ["plan", "--help"], ["chart", "three"], [], ["plan", "three", "--workers", "65"],
 ]  # fmt: skip
 
@@ -112,9 +119,10 @@ def judge_of_command(words, wanted):
 def is_served(words, ended):
     """Whether sessions were told of the want of memory: each up to there as ever, and from there on as if that command weren't."""
     names = [INPUT if word == "-" else word for word in words[2:]]
-    scripts = [FILES[name].encode() for name in names if name in FILES]
+    scripts = [FILES[name].encode() for before, name in zip(words[1:], names) if name in FILES and before != "--image"]
+    image = FILES["image"].encode() if "--image" in words else None
     status = int(b"\nended " in ended.out)
-    well = sessions.is_told_without_memory(words[1].encode(), scripts, ended.out)
+    well = sessions.is_told_without_memory(words[1].encode(), scripts, ended.out, image)
     return well and ended.status == status and ended.err == b""
 
 

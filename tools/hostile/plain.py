@@ -13,6 +13,8 @@ NUMBER = rb"(0|[1-9][0-9]{0,8})"
 SHAPE = re.compile(NUMBER + rb"x" + NUMBER + rb"x" + NUMBER)
 BATCH = re.compile(rb"batch " + NUMBER)
 TRANSFER = re.compile(rb"(push|pull) " + rb" ".join([NUMBER] * 4))
+MOVES = re.compile(rb"moves " + NUMBER)
+MOVE = re.compile(rb"(move) " + rb" ".join([NUMBER] * 4))
 SETTINGS = re.compile(rb"settings " + NUMBER)
 SETTING = re.compile(rb"setting((?: (?:0|[1-9][0-9]{0,8}))*)")
 BUSIEST = re.compile(rb"busiest link ([03]) module " + NUMBER)
@@ -38,32 +40,42 @@ def line_at(text, at):
     return (None, at) if end < 0 else (text[at:end], end + 1)
 
 
-def read_batch(text, shape):
-    """The transfers of a batch text, each (kind, initiator, own block, responder, far block)."""
+def read_lines(text, shape, name, first, form):
+    """The lines of a text that counts them: of each its first word, and its four numbers, which name two blocks of the shape."""
     line, at = line_at(text, 0)
-    first = line is not None and BATCH.fullmatch(line)
-    if not first:
-        raise Refused("batch line 1")
-    count = int(first[1])
+    found = line is not None and first.fullmatch(line)
+    if not found:
+        raise Refused(f"{name} line 1")
+    count = int(found[1])
     if count > TRANSFERS:
         raise Refused("too many")
-    transfers = []
+    lines = []
     for t in range(count):
         if at == len(text):
             raise Refused("count")
         line, at = line_at(text, at)
-        found = line is not None and TRANSFER.fullmatch(line)
+        found = line is not None and form.fullmatch(line)
         if not found:
-            raise Refused(f"batch line {t + 2}")
-        initiator, own, responder, far = (int(n) for n in found.groups()[1:])
-        if initiator >= shape[0] or responder >= shape[0]:
+            raise Refused(f"{name} line {t + 2}")
+        module, block, other, far = (int(n) for n in found.groups()[1:])
+        if module >= shape[0] or other >= shape[0]:
             raise Refused(f"no module {t}")
-        if own >= shape[1] or far >= shape[1]:
+        if block >= shape[1] or far >= shape[1]:
             raise Refused(f"no block {t}")
-        transfers.append((found[1].decode(), initiator, own, responder, far))
+        lines.append((found[1].decode(), module, block, other, far))
     if at != len(text):
         raise Refused("count")
-    return transfers
+    return lines
+
+
+def read_batch(text, shape):
+    """The transfers of a batch text, each (kind, initiator, own block, responder, far block)."""
+    return read_lines(text, shape, "batch", BATCH, TRANSFER)
+
+
+def read_moves(text):
+    """The moves of a text of moves, each two blocks: from which and to which."""
+    return [((m, b), (n, c)) for _, m, b, n, c in read_lines(text, WIDEST, "moves", MOVES, MOVE)]
 
 
 def numbers(words):
@@ -242,13 +254,69 @@ def report(shape, transfers, word_at):
     return "".join(line + "\n" for line in lines)
 
 
-def answer_run(shape, batch):
+def read_image(shape, image):
+    """What gives the words of an image: the word of a module, a block, and a number in it."""
+    modules, blocks, words = shape
+    if len(image) != 4 * modules * blocks * words:
+        raise Refused(f"image {len(image)} {4 * modules * blocks * words}")
+
+    def word_at(module, block, j):
+        at = 4 * (words * (blocks * module + block) + j)
+        return int.from_bytes(image[at : at + 4], "little")
+
+    return word_at
+
+
+def answer_run(shape, batch, image=None):
     try:
         shape = read_shape(shape)
         transfers = read_batch(batch, shape)
+        word_at = mark if image is None else read_image(shape, image)
         overlap = first_overlap(transfers)
         if overlap:
             raise Refused("overlap {} {}".format(*overlap))
-        return report(shape, transfers, mark).encode()
+        return report(shape, transfers, word_at).encode()
     except Refused as why:
         return f"refused {why}\n".encode()
+
+
+def answer_apply(shape, batch, image):
+    """The image with the batch's blocks placed, all at once, or the refusal; and the status."""
+    try:
+        modules, blocks, words = shape = read_shape(shape)
+        transfers = read_batch(batch, shape)
+        read_image(shape, image)
+        overlap = first_overlap(transfers)
+        if overlap:
+            raise Refused("overlap {} {}".format(*overlap))
+    except Refused as why:
+        return f"refused {why}\n".encode(), 1
+    parts = [image[at : at + 4 * words] for at in range(0, len(image), 4 * words)]
+    placed = list(parts)
+    for transfer in transfers:
+        (module, block), (other, far) = source(transfer), destination(transfer)
+        placed[blocks * other + far] = parts[blocks * module + block]
+    return b"".join(placed), 0
+
+
+def refusal_of_moves(text):
+    """The refusal of a text of moves, or None where it has to be directed."""
+    try:
+        read_moves(text)
+    except Refused as why:
+        return f"refused {why}\n".encode()
+    return None
+
+
+def is_directed(text, answer):
+    """Whether the answer is a batch text of the moves, in their order, and each link has at most half of the ends that its module has of
+    moves, rounded up."""
+    moves = read_moves(text)
+    try:
+        transfers = read_batch(answer, WIDEST)
+    except Refused:
+        return False
+    same = moves == [(source(transfer), destination(transfer)) for transfer in transfers]
+    ends = [place[0] for move in moves for place in move]
+    few = all(len(users(transfers, link)) <= (ends.count(link[1]) + 1) // 2 for link in all_links())
+    return same and few

@@ -11,10 +11,14 @@ FIRST = 0x80000800
 
 
 class Exchange:
-    """A rack of zeros, the batches that sessions have submitted, and how many calls there were."""
+    """A rack of zeros, or of an image's words, the batches that sessions have submitted, and how many calls there were."""
 
-    def __init__(self, shape):
+    def __init__(self, shape, image=None):
         self.shape, self.words, self.batches = shape, {}, {}
+        if image is not None:
+            word_at = plain.read_image(shape, image)
+            places = [(m, b, j) for m in range(shape[0]) for b in range(shape[1]) for j in range(shape[2])]
+            self.words = {place: word_at(*place) for place in places}
         self.entries = self.given = self.runs = 0
         self.reading = (0, 0)
 
@@ -216,19 +220,19 @@ COMMANDS = [
 ]
 
 
-def answer_serve(shape, scripts):
+def answer_serve(shape, scripts, image=None):
     """What `serve` prints of scripts whose replies don't depend on the order in which the sessions come, and its status."""
     try:
-        exchange = Exchange(plain.read_shape(shape))
+        exchange = Exchange(plain.read_shape(shape), image)
     except Refused as why:
         return f"refused {why}\n".encode(), 1
     texts = [f"session {number}\n" + Session(exchange, number, script).serve() for number, script in enumerate(scripts)]
     return "".join(texts).encode(), int(any("\nended " in text for text in texts))
 
 
-def is_told_without_memory(shape, scripts, text):
+def is_told_without_memory(shape, scripts, text, image=None):
     """Whether `serve` may print this of such scripts where some of its growths were refused."""
-    exchange = Exchange(plain.read_shape(shape))
+    exchange = Exchange(plain.read_shape(shape), image)
     rest = text.decode()
     for number, script in enumerate(scripts):
         head = f"session {number}\n"

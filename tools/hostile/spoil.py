@@ -30,6 +30,21 @@ def batch(draw, shape, most):
     return f"batch {len(lines)}\n".encode() + "".join(lines).encode()
 
 
+def moves(draw, modules, most):
+    """A text of moves between some of the modules. Few modules have many ends."""
+    count = draw.randint(0, most)
+    lines = [f"move {draw.randrange(modules)} {draw.randrange(64)} {draw.randrange(modules)} {draw.randrange(64)}\n" for _ in range(count)]
+    return f"moves {count}\n{''.join(lines)}".encode()
+
+
+def image(draw, shape):
+    """An image of a shape, whose length is now and then another one."""
+    size = 4 * shape[0] * shape[1] * shape[2]
+    if draw.random() < 0.1:
+        size = max(0, draw.choice([size - 1, size + 1, size - 4, size + 4, 0, 2 * size]))
+    return draw.randbytes(size)
+
+
 def shape(draw):
     """A shape, mostly a small one."""
     if draw.random() < 0.05:

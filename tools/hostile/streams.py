@@ -16,6 +16,9 @@ from program import EXCHANGE, Ended, ask, end, start
 THREE_TRANSFERS = b"batch 3\npush 0 0 1 0\npush 0 1 2 0\npush 1 1 2 1\n"
 PLAN = b"settings 2\nsetting 0 2\nsetting 1\nbusiest link 0 module 0\nnamed 0 1\n"
 SWITCHED = b"setting 0 04 01 00 11 01 01 12 03\nsetting 1 06 00 11 06 01 12 01 00 12 03\n"
+SWAP = b"batch 2\npush 0 0 1 0\npush 1 0 0 0\n"
+IMAGE, SWAPPED = bytes([1, 2, 3, 4, 5, 6, 7, 8]), bytes([5, 6, 7, 8, 1, 2, 3, 4])
+MOVES = b"moves 1\nmove 0 0 1 0\n"
 REFUSED_FILE = Ended(b"refused file\n", b"", 1)
 NO_MEMORY = Ended(b"refused no memory\n", b"", 1)
 UNWRITTEN = b"exchange: the answer can't be written: "
@@ -59,7 +62,7 @@ def files(room):
 
 def unreadable_files(room):
     for what, name in files(room):
-        for words in [("plan", name), ("switch", name), ("check", name, "plan"), ("check", "three", name), ("draw", name, "plan"), ("draw", "three", name), ("run", "3x2x2", name), ("run", "0", name), ("serve", "2x2x2", "script", name), ("serve", "0", name)]:
+        for words in [("plan", name), ("switch", name), ("check", name, "plan"), ("check", "three", name), ("draw", name, "plan"), ("draw", "three", name), ("run", "3x2x2", name), ("run", "0", name), ("serve", "2x2x2", "script", name), ("serve", "0", name), ("apply", "2x1x1", name, "image"), ("apply", "0", "three", name), ("run", "0", "three", "--image", name), ("serve", "0", "script", "--image", name), ("direct", name)]:
             expect(f"{what}: {words[0]}", ask(*words, seconds=LIMIT), REFUSED_FILE)
 
 
@@ -79,7 +82,7 @@ def forbidden_file(room):
 def endless_files():
     """What never ends wants more memory than there is."""
     limit = "ulimit -v 400000;"
-    for words in [("plan", "/dev/zero"), ("switch", "/dev/zero"), ("check", "/dev/zero", "plan"), ("check", "three", "/dev/zero"), ("draw", "/dev/zero", "plan"), ("draw", "three", "/dev/zero"), ("run", "3x2x2", "/dev/zero"), ("serve", "2x2x2", "script", "/dev/zero")]:
+    for words in [("plan", "/dev/zero"), ("switch", "/dev/zero"), ("check", "/dev/zero", "plan"), ("check", "three", "/dev/zero"), ("draw", "/dev/zero", "plan"), ("draw", "three", "/dev/zero"), ("run", "3x2x2", "/dev/zero"), ("serve", "2x2x2", "script", "/dev/zero"), ("apply", "2x1x1", "swap", "/dev/zero"), ("run", "2x1x1", "swap", "--image", "/dev/zero"), ("direct", "/dev/zero")]:
         expect(f"an endless file: {words[0]}", under(limit, *words), NO_MEMORY)
     with open("large", "wb") as file:
         file.truncate(1 << 30)
@@ -108,6 +111,16 @@ def pipes():
             writer.join()
 
 
+def directed(moves):
+    """What `direct` answers to these moves, which is judged. It may answer any directions that halve each module's ends."""
+    with tempfile.TemporaryDirectory() as room:
+        with open(f"{room}/moves", "wb") as file:
+            file.write(moves)
+        answer = ask("direct", f"{room}/moves", seconds=LIMIT).out
+    expect("direct: its moves", plain.is_directed(moves, answer), True)
+    return answer
+
+
 # The words of each command with standard input for each of its files in turn, and the answers where that is the right file.
 INPUTS = [
     (("plan", "-"), "three", PLAN),
@@ -117,6 +130,11 @@ INPUTS = [
     (("draw", "-", "plan"), "three", picture.answer_draw(THREE_TRANSFERS, PLAN)),
     (("draw", "three", "-"), "plan", picture.answer_draw(THREE_TRANSFERS, PLAN)),
     (("run", "3x2x2", "-"), "three", plain.answer_run(b"3x2x2", THREE_TRANSFERS)),
+    (("run", "2x1x1", "swap", "--image", "-"), "image", plain.answer_run(b"2x1x1", SWAP, IMAGE)),
+    (("apply", "2x1x1", "-", "image"), "swap", SWAPPED),
+    (("apply", "2x1x1", "swap", "-"), "image", SWAPPED),
+    (("direct", "-"), "moves", directed(MOVES)),
+    (("serve", "2x1x1", "other", "--image", "-"), "image", b"session 0\nword 04030201\n"),
     (("serve", "2x2x2", "-"), "script", b"session 0\nword 00000000\nbye\n"),
     (("serve", "2x2x2", "script", "-"), "script", b"session 0\nword 00000000\nbye\nsession 1\nword 00000000\nbye\n"),
 ]
@@ -168,7 +186,7 @@ def is_misused(ended):
 
 def inputs_named_twice():
     """Standard input can be one file only, and where it is two it isn't read."""
-    for words in [("check", "-", "-"), ("draw", "-", "-"), ("serve", "2x2x2", "-", "-"), ("serve", "0", "-", "script", "-", "missing")]:
+    for words in [("check", "-", "-"), ("draw", "-", "-"), ("serve", "2x2x2", "-", "-"), ("serve", "0", "-", "script", "-", "missing"), ("apply", "2x1x1", "-", "-"), ("run", "2x1x1", "-", "--image", "-"), ("serve", "2x1x1", "-", "--image", "-")]:
         line = " ".join(words)
         expect(f"{line}: twice", ask(*words, given="three", seconds=LIMIT), is_misused)
         expect(f"{line}: twice, closed", under("exec <&-;", *words), is_misused)
@@ -199,6 +217,9 @@ COMMANDS = {
     "an answer": ("plan", "three"),
     "a refusal": ("plan", "missing"),
     "a long answer": ("run", "16x64x256", "many"),
+    "an image": ("apply", "2x1x1", "swap", "image"),
+    "a long image": ("apply", "16x64x256", "many", "zeros"),
+    "a batch": ("direct", "moves"),
     "a long picture": ("draw", "settings", "settings.plan"),
     "a switch's bytes": ("switch", "three"),
     "a long list of bytes": ("switch", "settings"),
@@ -254,6 +275,7 @@ def main():
         many = [f"push {m} {b} {(m + 1) % 16} {b + 32}\n" for m in range(16) for b in range(32)]
         many = f"batch {len(many)}\n{''.join(many)}".encode()
         texts = [("three", THREE_TRANSFERS), ("plan", PLAN), ("many", many), ("script", b"peek 0 80000800\nbye\n")]
+        texts += [("swap", SWAP), ("image", IMAGE), ("zeros", bytes(1 << 20)), ("moves", MOVES), ("other", b"peek 0 80000800\n")]
         texts.append(("behind", b"a line that the shell reads\n" + THREE_TRANSFERS))
         for name, text in texts + list(zip(("settings", "settings.plan"), many_settings())):
             with open(name, "wb") as file:

@@ -33,9 +33,18 @@ def keep(name, text):
 def ask_of(draw, words, files):
     """Runs the program with these words and then these files, one of which may be standard input, and with some number of workers, if it
     is a command that has them."""
-    workers = [] if words[0] in ("check", "draw") else workers_of(draw)
-    given = draw.choice(files) if draw.random() < 0.25 else os.devnull
+    workers = [] if words[0] in ("check", "draw", "direct") else workers_of(draw)
+    given = draw.choice([it for it in files if it != "--image"]) if draw.random() < 0.25 else os.devnull
     return ask(*words, *("-" if file == given else file for file in files), *workers, given=given)
+
+
+def image_option(draw, shape, files):
+    """For a quarter of the runs an image, and its words: the file is one of those of the command."""
+    if draw.random() < 0.75:
+        return None, []
+    files.append(keep("image", spoil.image(draw, shape)))
+    with open("image", "rb") as file:
+        return file.read(), ["--image"]
 
 
 def is_refusal(answer, line):
@@ -91,9 +100,38 @@ def try_run(draw):
     if draw.random() < 0.1:
         shape = spoil.shape(draw)
     words = "{}x{}x{}".format(*shape)
-    answer = ask_of(draw, ["run", words], [keep("batch", text)])
-    wanted = plain.answer_run(words.encode(), text)
-    return is_answer(answer, wanted), wanted, [words.encode(), text], answer
+    files = [keep("batch", text)]
+    image, option = image_option(draw, shape, files)
+    answer = ask_of(draw, ["run", words], [files[0], *option, *files[1:]])
+    wanted = plain.answer_run(words.encode(), text, image)
+    return is_answer(answer, wanted), wanted, [words.encode(), text, image], answer
+
+
+def try_apply(draw):
+    """An image, and a batch text, spoilt in half of the cases, put to `apply`."""
+    shape = spoil.shape(draw)
+    text = spoil.batch(draw, shape, draw.choice([3, 10, 40]))
+    if draw.random() < 0.5:
+        text = spoil.spoil(draw, text)
+    image = spoil.image(draw, shape)
+    words = "{}x{}x{}".format(*shape)
+    answer = ask_of(draw, ["apply", words], [keep("batch", text), keep("image", image)])
+    wanted, status = plain.answer_apply(words.encode(), text, image)
+    well = answer.out == wanted and answer.status == status and answer.err == b""
+    return well, wanted if status else b"an image", [words.encode(), text, image], answer
+
+
+def try_direct(draw):
+    """A text of moves, spoilt in half of the cases, put to `direct`."""
+    text = spoil.moves(draw, draw.choice([1, 2, 3, 8, plain.MODULES]), draw.choice([3, 10, 40, 120]))
+    if draw.random() < 0.5:
+        text = spoil.spoil(draw, text)
+    answer = ask_of(draw, ["direct"], [keep("moves", text)])
+    refusal = plain.refusal_of_moves(text)
+    if refusal:
+        return is_refusal(answer, refusal), refusal, [text], answer
+    well = answer.status == 0 and answer.err == b"" and plain.is_directed(text, answer.out)
+    return well, b"a batch", [text], answer
 
 
 def spoilt_schedule(draw, shape, most, certify):
@@ -170,9 +208,11 @@ def try_script(draw):
     elif chance < 0.003:
         text = b"batch 0\n" * 250 + text + b"batch 0\n" * 8
     words = "{}x{}x{}".format(*shape)
-    answer = ask_of(draw, ["serve", words], [keep("script", text)])
-    wanted, status = sessions.answer_serve(words.encode(), [text])
-    return is_served(answer, wanted, status), last_line(wanted), [words.encode(), text], answer
+    files = [keep("script", text)]
+    image, option = image_option(draw, shape, files)
+    answer = ask_of(draw, ["serve", words], [files[0], *option, *files[1:]])
+    wanted, status = sessions.answer_serve(words.encode(), [text], image)
+    return is_served(answer, wanted, status), last_line(wanted), [words.encode(), text, image], answer
 
 
 def try_scripts(draw):
@@ -191,6 +231,8 @@ KINDS = {
     "batches to plan": try_plan,
     "batches to switch": try_switch,
     "batches to run": try_run,
+    "images to apply a batch to": try_apply,
+    "moves to direct": try_direct,
     "schedules to check": try_check,
     "schedules to draw": try_draw,
     "shapes to run": try_shape,

@@ -1,8 +1,9 @@
 pub mod PlanText
 pub mod OneVerdict
-pub mod OneReport
+pub mod OneRun
 pub mod Reporting
 pub mod Fewest
 pub mod Sessions
 pub mod OneDrawing
 pub mod Switches
+pub mod Openings

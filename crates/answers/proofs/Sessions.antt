@@ -1,7 +1,6 @@
 -- The sessions of scripts, the seats of their exchange, and its history.
-use Rattle.std.proofs.Common.{◌≡◌, ℕ, ◌+◌, ◌<◌, ◌≤◌, suc, Bool, true, false, ◌&&◌, ◌||◌, eqb, eq-eqb, is_some, List, [], ◌∷◌, ◌++◌, length, get_or, map, option_map, All, Option, Some, Result, Ok, Err, IfOk, refl, sym, ap, ap₂, ◌∙◌, subst, slice_get, take, arith}
+use Rattle.std.proofs.Common.{◌≡◌, ℕ, ◌+◌, ◌<◌, ◌≤◌, suc, Bool, true, false, ◌||◌, is_some, List, [], ◌∷◌, ◌++◌, length, get_or, map, option_map, All, Option, Some, Result, Ok, Err, IfOk, refl, sym, ap, ap₂, ◌∙◌, subst, slice_get, take, arith}
 use Rattle.std.specs.List.{range_with_len, sum, sum_by}
-use Rattle.std.proofs.lemmas.Bool.{false≢true}
 use Rattle.std.proofs.lemmas.List.{take_more, take-map, flat_map_more, get_or-map, length-map, map-id}
 use Rattle.std.proofs.lemmas.List.Elements.{All-map}
 use Rattle.std.proofs.lemmas.List.Folds.{list_any_at, list_any_more}
@@ -10,7 +9,7 @@ use Rattle.std.proofs.lemmas.Option.{slice_get-map, slice_get_read}
 use Rattle.std.proofs.lemmas.List.Sums.{sum-map}
 use Rattle.std.proofs.lemmas.Simd.{map-map}
 use Rattle.progress_word.specs.declared.limits.TheConstants.{ALL_PARTS}
-use Rattle.batch.specs.Extent.{Extent}
+use Rattle.module_memory.specs.Store.{Store}
 use Rattle.batch_book.specs.declared.close.Closed.{Closed}
 use Rattle.batch_book.specs.declared.entry.Entry.{Entry}
 use Rattle.batch_book.specs.Closing.{AreClosed, AllAgree, NoneAhead}
@@ -168,50 +167,39 @@ its_history {L} ss seats c are closed legal =
     }
 
 -- where their lists agree with it, it is that of its sessions
-pub one_history : {L P W G : Type 0} (shape : Extent) (ss : List (Session L)) (seats : List Stand) (c : Closed L P W G) → seats ≡ map (λ (s : Session L). s.seat) ss
-    → AreClosed seats c → AllAgree seats c → NoneAhead seats c → IsLegal c.book.opening c.book.history → c.book.opening.shape ≡ shape
-    → HaveOneHistory shape (map transcript ss)
-one_history {L} shape ss seats c are closed agree behind legal is =
+pub one_history : {L P W G : Type 0} (opening : Store) (ss : List (Session L)) (seats : List Stand) (c : Closed L P W G) → seats ≡ map (λ (s : Session L). s.seat) ss
+    → AreClosed seats c → AllAgree seats c → NoneAhead seats c → IsLegal c.book.opening c.book.history → c.book.opening ≡ opening
+    → HaveOneHistory opening (map transcript ss)
+one_history {L} opening ss seats c are closed agree behind legal is =
     let h = c.book.history in
     let Seen : Stand → Type 0 = λ t. t.seen ≤ greatest h in
     let agrees : All (λ (s : Session L). Agrees h s.seat) ss = of_map (Agrees h) (λ (s : Session L). s.seat) ss (subst (All (Agrees h)) are agree) in
     let seen : All (λ (s : Session L). Seen s.seat) ss = of_map Seen (λ (s : Session L). s.seat) ss (subst (All Seen) are behind) in
     record {
-      opening = c.book.opening;
       history = h;
-      shape_is = is;
-      is_history = its_history ss seats c are closed legal;
+      is_history = subst (λ (s : Store). IsHistoryOf s (map transcript ss) h) is (its_history ss seats c are closed legal);
       parts = All-map (λ (t : Transcript). t.entries ≡ own t.session h) transcript ss agrees;
       seen = All-map (λ (t : Transcript). t.seen ≤ greatest h) transcript ss seen;
     }
 
--- shapes that were compared and aren't the same are two
-all_same : (a : Extent) → (eqb a.modules a.modules && (eqb a.blocks a.blocks && eqb a.words a.words)) ≡ true
-all_same a = rw (eq-eqb a.modules a.modules refl, eq-eqb a.blocks a.blocks refl, eq-eqb a.words a.words refl) refl
-
-pub shapes_differ : (a b : Extent) (same : Bool) → same ≡ (eqb a.modules b.modules && (eqb a.blocks b.blocks && eqb a.words b.words)) → same ≡ false → a ≡ b → ⊥
-shapes_differ a b same is differ one =
-    let yes = subst (λ (x : Extent). (eqb a.modules x.modules && (eqb a.blocks x.blocks && eqb a.words x.words)) ≡ true) one (all_same a) in
-    false≢true (sym differ ∙ is ∙ yes)
-
--- where it is from another shape, it is another one
-pub history_elsewhere : {L P W G : Type 0} (shape : Extent) (ss : List (Session L)) (seats : List Stand) (c : Closed L P W G) → seats ≡ map (λ (s : Session L). s.seat) ss
-    → AreClosed seats c → IsLegal c.book.opening c.book.history → ¬ (c.book.opening.shape ≡ shape) → HaveAnotherHistory shape (map transcript ss)
-history_elsewhere shape ss seats c are closed legal other =
+-- where it is from another store, it is another one
+pub history_elsewhere : {L P W G : Type 0} (opening : Store) (ss : List (Session L)) (seats : List Stand) (c : Closed L P W G) → seats ≡ map (λ (s : Session L). s.seat) ss
+    → AreClosed seats c → IsLegal c.book.opening c.book.history → ¬ (c.book.opening ≡ opening) → HaveAnotherHistory opening (map transcript ss)
+history_elsewhere opening ss seats c are closed legal other =
     record {
-      opening = c.book.opening;
+      kept = c.book.opening;
       history = c.book.history;
       is_history = its_history ss seats c are closed legal;
       no_parts = λ is parts. other is;
     }
 
 -- and where the lists don't agree with it
-pub another_history : {L P W G : Type 0} (shape : Extent) (ss : List (Session L)) (seats : List Stand) (c : Closed L P W G) → seats ≡ map (λ (s : Session L). s.seat) ss
-    → AreClosed seats c → ¬ AllAgree seats c → IsLegal c.book.opening c.book.history → HaveAnotherHistory shape (map transcript ss)
-another_history {L} shape ss seats c are closed differ legal =
+pub another_history : {L P W G : Type 0} (opening : Store) (ss : List (Session L)) (seats : List Stand) (c : Closed L P W G) → seats ≡ map (λ (s : Session L). s.seat) ss
+    → AreClosed seats c → ¬ AllAgree seats c → IsLegal c.book.opening c.book.history → HaveAnotherHistory opening (map transcript ss)
+another_history {L} opening ss seats c are closed differ legal =
     let h = c.book.history in
     record {
-      opening = c.book.opening;
+      kept = c.book.opening;
       history = h;
       is_history = its_history ss seats c are closed legal;
       no_parts = λ _ parts.

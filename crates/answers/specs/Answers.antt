@@ -1,5 +1,5 @@
 -- What the commands answer.
-use Rattle.std.specs.Prelude.{◌≡◌, ℕ, List, ◌++◌, length, Some, None, codes}
+use Rattle.std.specs.Prelude.{◌≡◌, ℕ, List, ◌++◌, length, Option, Some, None, codes}
 use Rattle.std.specs.Fmt.{decimal}
 use Rattle.batch.specs.declared.fault.BatchFault.{BatchFault}
 use Rattle.batch.specs.declared.transfer.Transfer.{Transfer}
@@ -8,8 +8,8 @@ use Rattle.batch.specs.Text.{Denotes}
 use Rattle.batch.specs.Faults.{IsFirstFault}
 use Rattle.batch.specs.Overlap.{IsApart, IsFirstOverlap}
 use Rattle.batch.specs.ShapeText.{DenotesShape, IsBadShape}
-use Rattle.module_memory.specs.Store.{Store, zeros_of}
-use Rattle.module_memory.specs.Mark.{IsMarked}
+use Rattle.module_memory.specs.Store.{Store}
+use Rattle.module_memory.specs.Images.{image_of}
 use Rattle.module_memory.specs.Core.{IsPlaced}
 use Rattle.link_graph.specs.declared.schedule_fault.ScheduleFault.{ScheduleFault}
 use Rattle.link_graph.specs.declared.schedule_fault.ScheduleFault.TheVariants as schedule_fault
@@ -27,7 +27,7 @@ use Rattle.answers.specs.declared.running_fault.RunningFault.{RunningFault}
 use Rattle.answers.specs.declared.running_fault.RunningFault.TheVariants as running
 use Rattle.line_words.specs.BatchFaults.{batch_words}
 use Rattle.answers.specs.Refusals.{Printed, IsRefused, checking_words, running_words}
-use Rattle.answers.specs.Reports.{report_of}
+use Rattle.answers.specs.Openings.{IsOfImageOrMarked, IsWrongImage, IsRightImage}
 
 -- no other answer is such
 abbrev pub IsOnly : (Printed → Type 0) → Printed → Type 0
@@ -121,55 +121,81 @@ pub data IsDrawn (shape : Extent) (batch schedule : List ℕ) (printed : Printed
   undrawn : (fault : CheckingFault) → IsFirstWrong shape batch schedule fault
       → IsRefused (checking_words fault) printed → IsDrawn shape batch schedule printed
 
--- ---- `run`
+-- ---- `run` and `apply`
+
+-- what is printed of transfers that were placed in so many settings, and of the store after them
+abbrev pub Told : Type 0
+Told = List Transfer → ℕ → Store → List ℕ
+
+-- what `apply` prints: the image of that store
+abbrev pub image_alone : Told
+image_alone transfers settings placed = image_of placed
 
 -- The texts are those of a shape and of a batch of which no transfers overlap. Over a rack of the
--- shape whose words told where they stood, the batch is placed, in as many settings as the busiest
--- link has uses, and this is the report of it.
-pub record IsReport (shape batch text : List ℕ) : Type 0 where
+-- shape, whose words are those of the image, or told where they stood where there is none, the
+-- batch is placed, in as many settings as the busiest link has uses, and this is printed of it.
+pub record IsResult (told : Told) (shape batch : List ℕ) (image : Option (List ℕ))
+    (text : List ℕ) : Type 0 where
   pub extent : Extent
   pub transfers : List Transfer
-  pub marked : Store
+  pub opening : Store
   pub placed : Store
   pub settings : ℕ
   pub shape_read : DenotesShape shape extent
   pub batch_read : Denotes extent batch transfers
   pub apart : IsApart transfers
-  pub is_marked : IsMarked (zeros_of extent) marked
-  pub is_placed : IsPlaced marked transfers placed
+  pub is_opening : IsOfImageOrMarked extent image opening
+  pub is_placed : IsPlaced opening transfers placed
   pub fewest : IsDegree transfers settings
-  pub report : text ≡ report_of transfers settings placed
+  pub printed : text ≡ told transfers settings placed
 
--- A run of the plan on a rack of the shape whose words told where they stood: no transfers overlap,
--- the batch is placed, and this is the report of it.
-pub record IsReportOf (extent : Extent) (plan : Plan) (text : List ℕ) : Type 0 where
-  pub marked : Store
+-- A run of the plan on a rack of the shape with such words: no transfers overlap, the batch is
+-- placed, and this is printed of it.
+pub record IsResultOf (told : Told) (extent : Extent) (image : Option (List ℕ)) (plan : Plan)
+    (text : List ℕ) : Type 0 where
+  pub opening : Store
   pub placed : Store
   pub apart : IsApart plan.batch
-  pub is_marked : IsMarked (zeros_of extent) marked
-  pub is_placed : IsPlaced marked plan.batch placed
-  pub report : text ≡ report_of plan.batch (length plan.settings) placed
+  pub is_opening : IsOfImageOrMarked extent image opening
+  pub is_placed : IsPlaced opening plan.batch placed
+  pub printed : text ≡ told plan.batch (length plan.settings) placed
 
--- what is wrong with running transfers that the rack has: the first two that overlap
-abbrev pub IsWrongOf : List Transfer → RunningFault → Type 0
-IsWrongOf transfers running.Shape = ⊥
-IsWrongOf transfers (running.Batch fault) = ⊥
-IsWrongOf transfers (running.Overlap i j) = IsFirstOverlap transfers i j
-IsWrongOf transfers running.NoMemory = ⊥
+-- what is wrong with running transfers: the first two that overlap
+abbrev pub IsOverlapOf : List Transfer → RunningFault → Type 0
+IsOverlapOf transfers running.Shape = ⊥
+IsOverlapOf transfers (running.Batch fault) = ⊥
+IsOverlapOf transfers (running.Image fault) = ⊥
+IsOverlapOf transfers (running.Overlap i j) = IsFirstOverlap transfers i j
+IsOverlapOf transfers running.NoMemory = ⊥
 
--- what is first wrong: the shape text is looked at first, then the batch text, then whether
--- transfers overlap
-abbrev pub IsFirstRunWrong : List ℕ → List ℕ → RunningFault → Type 0
-IsFirstRunWrong shape batch running.Shape = IsBadShape shape
-IsFirstRunWrong shape batch (running.Batch fault) =
+-- what is first wrong with running transfers that the rack has over an image: the image is looked
+-- at first, then whether transfers overlap
+abbrev pub IsWrongOf : Extent → Option (List ℕ) → List Transfer → RunningFault → Type 0
+IsWrongOf extent image transfers running.Shape = ⊥
+IsWrongOf extent image transfers (running.Batch fault) = ⊥
+IsWrongOf extent image transfers (running.Image fault) = IsWrongImage extent image fault
+IsWrongOf extent image transfers (running.Overlap i j) =
+    IsRightImage extent image × IsFirstOverlap transfers i j
+IsWrongOf extent image transfers running.NoMemory = ⊥
+
+-- what is first wrong: the shape text is looked at first, then the batch text, then the image, then
+-- whether transfers overlap
+abbrev pub IsFirstRunWrong : List ℕ → List ℕ → Option (List ℕ) → RunningFault → Type 0
+IsFirstRunWrong shape batch image running.Shape = IsBadShape shape
+IsFirstRunWrong shape batch image (running.Batch fault) =
     (extent : Extent) × DenotesShape shape extent × IsFirstFault extent batch fault
-IsFirstRunWrong shape batch (running.Overlap i j) =
+IsFirstRunWrong shape batch image (running.Image fault) =
     (extent : Extent) × (transfers : List Transfer) × DenotesShape shape extent
-    × Denotes extent batch transfers × IsFirstOverlap transfers i j
-IsFirstRunWrong shape batch running.NoMemory = ⊥
+    × Denotes extent batch transfers × IsWrongImage extent image fault
+IsFirstRunWrong shape batch image (running.Overlap i j) =
+    (extent : Extent) × (transfers : List Transfer) × DenotesShape shape extent
+    × Denotes extent batch transfers × IsRightImage extent image × IsFirstOverlap transfers i j
+IsFirstRunWrong shape batch image running.NoMemory = ⊥
 
--- the report of the run, or what is first wrong, each under its status
-pub data IsRunAnswer (shape batch : List ℕ) (printed : Printed) : Type 0 where
-  ran : IsReport shape batch printed.text → printed.status ≡ DONE → IsRunAnswer shape batch printed
-  run_refused : (fault : RunningFault) → IsFirstRunWrong shape batch fault
-      → IsRefused (running_words fault) printed → IsRunAnswer shape batch printed
+-- what is printed of the run, or what is first wrong, each under its status
+pub data IsRunAnswer (told : Told) (shape batch : List ℕ) (image : Option (List ℕ))
+    (printed : Printed) : Type 0 where
+  ran : IsResult told shape batch image printed.text → printed.status ≡ DONE
+      → IsRunAnswer told shape batch image printed
+  run_refused : (fault : RunningFault) → IsFirstRunWrong shape batch image fault
+      → IsRefused (running_words fault) printed → IsRunAnswer told shape batch image printed

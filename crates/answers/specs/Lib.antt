@@ -1,6 +1,9 @@
 pub mod Refusals
 pub mod Reports
+pub mod Openings
 pub mod Answers
+pub mod Tellings
+pub mod Directing
 pub mod Switching
 pub mod Frames
 pub mod Serving

@@ -4,6 +4,8 @@ use Rattle.std.specs.Fmt.{decimal}
 use Rattle.batch.specs.declared.fault.BatchFault.{BatchFault}
 use Rattle.batch.specs.declared.fault.BatchFault.TheVariants as batch_fault
 use Rattle.line_words.specs.BatchFaults.{batch_words}
+use Rattle.module_memory.specs.declared.fault.ImageFault.{ImageFault}
+use Rattle.module_memory.specs.declared.fault.ImageFault.TheVariants as image_fault
 use Rattle.link_graph.specs.declared.link.Link.{Link}
 use Rattle.link_graph.specs.declared.schedule_fault.ScheduleFault.{ScheduleFault}
 use Rattle.link_graph.specs.declared.schedule_fault.ScheduleFault.TheVariants as schedule_fault
@@ -39,6 +41,11 @@ schedule_words schedule_fault.NoMemory = codes "no memory"
 abbrev pub two_numbers : ℕ → ℕ → List ℕ
 two_numbers m n = decimal m ++ (codes " " ++ decimal n)
 
+-- what is said of an image's fault: how many bytes there are, and how many are wanted
+abbrev pub image_words : ImageFault → List ℕ
+image_words (image_fault.Length is wanted) = codes "image " ++ two_numbers is wanted
+image_words image_fault.NoMemory = codes "no memory"
+
 -- a link, by the number of its end and its module
 abbrev pub link_words : Link → List ℕ
 link_words link =
@@ -62,10 +69,11 @@ checking_words (checking.Schedule fault) = schedule_words fault
 checking_words checking.NoCertificate = codes "no certificate"
 checking_words (checking.Check fault) = check_words fault
 
--- what `run` says behind `refused`
+-- what `run` and `apply` say behind `refused`
 abbrev pub running_words : RunningFault → List ℕ
 running_words running.Shape = codes "shape"
 running_words (running.Batch fault) = batch_words fault
+running_words (running.Image fault) = image_words fault
 running_words (running.Overlap i j) = codes "overlap " ++ two_numbers i j
 running_words running.NoMemory = codes "no memory"
 
@@ -76,9 +84,10 @@ IsRealChecking (checking.Schedule fault) = fault ≢ schedule_fault.NoMemory
 IsRealChecking checking.NoCertificate = ⊤
 IsRealChecking (checking.Check fault) = fault ≢ check_fault.NoMemory
 
--- `run` refuses for another cause than want of memory
+-- a run is refused for another cause than want of memory
 abbrev pub IsRealRunning : RunningFault → Type 0
 IsRealRunning running.Shape = ⊤
 IsRealRunning (running.Batch fault) = fault ≢ batch_fault.NoMemory
+IsRealRunning (running.Image fault) = fault ≢ image_fault.NoMemory
 IsRealRunning (running.Overlap i j) = ⊤
 IsRealRunning running.NoMemory = ⊥

@@ -1,10 +1,10 @@
 -- What `run` prints of a run that was completed. The texts are this project's choice.
-use Rattle.std.specs.Prelude.{◌≡◌, ℕ, ◌*◌, ◌==◌, ◌&&◌, Bool, List, [], ◌++◌, if◌then◌else◌, codes, length, String, string_bytes}
+use Rattle.std.specs.Prelude.{◌≡◌, ℕ, ◌*◌, List, [], ◌++◌, if◌then◌else◌, codes, length, String, string_bytes}
 use Rattle.std.specs.Fmt.{decimal}
-use Rattle.std.specs.List.{flat_map, list_any, range_with_len}
+use Rattle.std.specs.List.{flat_map, range_with_len}
 use Rattle.batch.specs.declared.transfer.Place.{Place}
 use Rattle.batch.specs.declared.transfer.Transfer.{Transfer}
-use Rattle.batch.specs.Places.{destination_of}
+use Rattle.batch.specs.Held.{is_written}
 use Rattle.module_memory.specs.Store.{Store, block_of}
 use Rattle.setting_runner.specs.LineBits.{bits_of}
 use Rattle.line_words.specs.HexWords.{hex8}
@@ -25,12 +25,6 @@ abbrev pub block_line : Store → Place → List ℕ
 block_line s p =
     codes "block " ++ decimal p.«module» ++ (codes " " ++ decimal p.block)
     ++ words_text (block_of s p) ++ codes "\n"
-
--- the batch writes the block
-abbrev pub is_written : List Transfer → Place → Bool
-is_written batch p =
-    list_any (λ (t : Transfer). (destination_of t).«module» == p.«module»
-    && (destination_of t).block == p.block) batch
 
 -- what is said of a block of a module: its line, where the batch writes it
 abbrev pub block_text : List Transfer → Store → ℕ → ℕ → List ℕ

@@ -1,4 +1,4 @@
-ghost use Rattle.std.specs.Prelude.{◌≤◌, IfOk};
+ghost use Rattle.std.specs.Prelude.{IfOk};
 ghost use Rattle.batch.specs.Extent.{widest};
 ghost use Rattle.schedule_certificate.specs.Plans.{IsPlan};
 ghost use Rattle.answers.specs.Answers.{TellsPlan, IsPlanned};
@@ -6,7 +6,8 @@ ghost use Rattle.answers.specs.Answers.{TellsPlan, IsPlanned};
 use crate::answer::Answer;
 use crate::refusal::refuse_batch;
 use batch::{Batch, Shape};
-use schedule_certificate::{MAX_WORKERS, OpenGate, Planned, schedule};
+use exchange_limits::WorkerCount;
+use schedule_certificate::{OpenGate, Planned, schedule};
 use std::alloc::{AllocError, Global};
 use std::thread::Threads;
 
@@ -23,15 +24,13 @@ fn tell(planned: &Planned) -> Result<Answer, AllocError>
 /// denotes, with the certificate that shows that none is shorter; or the refusal of the text's first
 /// fault.
 ///
-/// The batch is read against the widest shape. Planning is given 1 to [`MAX_WORKERS`] workers.
+/// The batch is read against the widest shape. Planning is given so many workers.
 pub fn answer_plan<R: Threads + Sync>(
     rt: &R,
     alloc: Global,
     batch: &[u8],
-    workers: usize,
+    workers: WorkerCount,
 ) -> Result<Answer, AllocError>
-    requires some { 1 ≤ workers }
-    requires few { workers ≤ MAX_WORKERS }
     ensures { IfOk result (λ answer. IsPlanned widest batch.now answer) }
 {
     match Batch::read(alloc, batch, Shape::WIDEST) {

@@ -1,10 +1,11 @@
 //! What a completed run reports.
 
 ghost use Rattle.std.specs.Prelude.{◌≡◌, ◌<◌, IfOk, OnOk, string_bytes};
+ghost use Rattle.batch.specs.Extent.{IsShape};
 ghost use Rattle.batch.specs.Places.{HasPlace};
-ghost use Rattle.answers.specs.Reports.{words_text, is_written as writes, block_text, module_text, report_of, Adds};
+ghost use Rattle.answers.specs.Reports.{words_text, block_text, module_text, report_of, Adds};
 
-use batch::{Batch, Place};
+use batch::{Batch, Place, WrittenBlocks};
 use module_memory::Rack;
 use setting_runner::line_bits;
 use std::alloc::{AllocError, Global};
@@ -19,34 +20,20 @@ fn push_words(text: &mut String, words: &[u32]) -> Result<(), AllocError>
     Ok(())
 }
 
-/// Whether the batch writes the block.
-fn is_written(batch: &Batch, place: Place) -> bool
-    ensures { result ≡ writes batch.now place }
-{
-    for t in 0..batch.len() {
-        let Some(transfer) = batch.transfer(t) else {
-            unreachable!();
-        };
-        if transfer.destination() == place {
-            return true;
-        }
-    }
-    false
-}
-
 /// Puts the line of a block at the end of the text, where the batch writes it.
 fn push_block(
     text: &mut String,
     rack: &Rack,
-    batch: &Batch,
+    written: &WrittenBlocks,
     module: usize,
     block: usize,
 ) -> Result<(), AllocError>
-    requires { HasPlace rack.now.shape (record { «module» = «module»; block = block }) }
-    ensures { OnOk result (Adds text.old text.new (block_text batch.now rack.now «module» block)) }
+    requires shape { IsShape rack.now.shape }
+    requires place { HasPlace rack.now.shape (record { «module» = «module»; block = block }) }
+    ensures { OnOk result (Adds text.old text.new (block_text written.now rack.now «module» block)) }
 {
     let place = Place { module, block };
-    if !is_written(batch, place) {
+    if !written.has(place) {
         return Ok(());
     }
     let Some(words) = rack.block(place) else {
@@ -61,14 +48,14 @@ fn push_block(
 fn push_module(
     text: &mut String,
     rack: &Rack,
-    batch: &Batch,
+    written: &WrittenBlocks,
     module: usize,
 ) -> Result<(), AllocError>
     requires { «module» < rack.now.shape.modules }
-    ensures { OnOk result (Adds text.old text.new (module_text batch.now rack.now «module»)) }
+    ensures { OnOk result (Adds text.old text.new (module_text written.now rack.now «module»)) }
 {
     for block in 0..rack.shape().blocks() {
-        push_block(text, rack, batch, module, block)?;
+        push_block(text, rack, written, module, block)?;
     }
     Ok(())
 }
@@ -76,7 +63,7 @@ fn push_module(
 /// The report of a run that placed the blocks of a batch in so many settings and left the rack: how much
 /// was done, and the words of each block that the batch writes, by module and then by block.
 ///
-/// Takes time that grows with the rack's blocks times the batch's transfers, and with the words written.
+/// Takes time that grows with the number of transfers, of blocks, and of words written.
 pub fn report(
     alloc: Global,
     rack: &Rack,
@@ -89,8 +76,9 @@ pub fn report(
     let words = batch.len() * shape.words();
     let bits = line_bits(words as u64);
     let mut text = format!(in alloc; "ran settings {settings} words {words} bits {bits}\n")?;
+    let written = batch.written_blocks();
     for module in 0..shape.modules() {
-        push_module(&mut text, rack, batch, module)?;
+        push_module(&mut text, rack, &written, module)?;
     }
     Ok(text)
 }

@@ -1,14 +1,15 @@
-//! Why `run` refuses.
+//! Why `run` and `apply` refuse.
 
 ghost use Rattle.std.specs.Prelude.{◌≡◌, IfOk, string_bytes};
 ghost use Rattle.answers.specs.Refusals.{running_words, IsRealRunning};
 
-use crate::refusal::batch_words;
+use crate::refusal::{batch_words, image_words};
 use batch::{BatchFault, ShapeFault};
+use module_memory::ImageFault;
 use std::alloc::{AllocError, Global};
 use thiserror::Error;
 
-/// What is first wrong with a batch that is to be run and the shape of its rack, or want of memory.
+/// What is first wrong with a batch that is to be run, the shape of its rack and the image of it, or want of memory.
 #[derive(Clone, Copy, Debug, PartialEq, Eq, Error)]
 pub enum RunningFault {
     /// The shape text is that of no shape.
@@ -17,6 +18,9 @@ pub enum RunningFault {
     /// The batch text has this fault.
     #[error("the batch: {0}")]
     Batch(BatchFault),
+    /// The image has this fault.
+    #[error("the image: {0}")]
+    Image(ImageFault),
     /// These two transfers write one block, the first two of the batch that do.
     #[error("overlap of {0} and {1}")]
     Overlap(usize, usize),
@@ -47,6 +51,17 @@ impl From<BatchFault> for RunningFault {
     }
 }
 
+impl From<ImageFault> for RunningFault {
+    ghost use Rattle.std.specs.Prelude.{◌≡◌};
+    ghost use Rattle.answers.specs.declared.running_fault.RunningFault.TheVariants.{Image};
+
+    ghost from_gives = { λ fault gives. gives ≡ Image fault };
+
+    fn from(fault: ImageFault) -> RunningFault {
+        RunningFault::Image(fault)
+    }
+}
+
 impl From<AllocError> for RunningFault {
     ghost use Rattle.std.specs.Prelude.{◌≡◌};
     ghost use Rattle.answers.specs.declared.running_fault.RunningFault.TheVariants.{NoMemory};
@@ -67,6 +82,7 @@ impl RunningFault {
         match self {
             RunningFault::Shape => String::from_str(alloc, "shape"),
             RunningFault::Batch(fault) => batch_words(alloc, fault),
+            RunningFault::Image(fault) => image_words(alloc, fault),
             RunningFault::Overlap(i, j) => format!(in alloc; "overlap {i} {j}"),
             RunningFault::NoMemory => Err(AllocError),
         }

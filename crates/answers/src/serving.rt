@@ -5,19 +5,23 @@ ghost use Rattle.progress_word.specs.declared.limits.TheConstants.{ALL_PARTS};
 ghost use Rattle.batch_book.specs.Exchanges.{AreNew};
 ghost use Rattle.batch_book.specs.Seats.{IsSameSeat};
 ghost use Rattle.answers.specs.Hosting.{transcript, IsReady, HaveAllSeats, AreServedAt};
+ghost use Rattle.answers.specs.Openings.{bytes_of};
 ghost use Rattle.answers.specs.Serving.{HasItsScript, HaveOneHistory, HaveAnotherHistory, AreServed, IsServeAnswer};
 
 use crate::answer::Answer;
 use crate::frames::{frame, has_fault};
+use crate::opening::opening_rack;
+use crate::refusal::image_words;
 use crate::session::Session;
 use batch::Shape;
 use batch_book::{Seat, Shared, Unclosed};
 use client_session::serve;
 use crossbar::MemoryPort;
+use exchange_limits::{MAX_SESSIONS, WorkerCount};
 use module_memory::Rack;
 use peek_poke::PlainWires;
 use progress_word::ALL_PARTS;
-use schedule_certificate::{MAX_WORKERS, OpenGate};
+use schedule_certificate::OpenGate;
 use setting_runner::Plant;
 use std::alloc::{AllocError, Global};
 use std::marker::Brand;
@@ -36,11 +40,9 @@ fn serve_script<L: Ledger, R: Threads + Wait + Sync>(
     exchange: &PlainExchange<L>,
     seat: Seat<L>,
     scripts: &[Vec<u8>],
-    workers: usize,
+    workers: WorkerCount,
 ) -> Session<L>
     requires seat { IsReady exchange.now (length scripts.now) seat }
-    requires some { 1 ≤ workers }
-    requires few { workers ≤ MAX_WORKERS }
     ensures same { IsSameSeat seat result.seat }
     ensures served { HasItsScript exchange.now.shape (map (λ s. s.items) scripts.now)
         (transcript result) }
@@ -69,17 +71,14 @@ fn serve_all<L: Ledger + Send + Sync, R: Threads + Wait + Sync>(
     exchange: &PlainExchange<L>,
     seats: Vec<Seat<L>>,
     scripts: &[Vec<u8>],
-    workers: usize,
+    workers: WorkerCount,
 ) -> Result<Vec<Session<L>>, AllocError>
     requires seats { AreNew exchange.now.word (length scripts.now) seats.items }
-    requires some { 1 ≤ workers }
-    requires few { workers ≤ MAX_WORKERS }
     ensures { IfOk result (λ sessions.
         AreServedAt exchange.now (map (λ s. s.items) scripts.now) sessions.items) }
 {
     let one = |seat: Seat<L>| -> Session<L>
-        requires { IsReady exchange.now (length scripts.now) seat × (1 ≤ workers)
-            × (workers ≤ MAX_WORKERS) }
+        requires { IsReady exchange.now (length scripts.now) seat }
         ensures same { IsSameSeat seat result.seat }
         ensures served { HasItsScript exchange.entry.now.shape
             (map (λ s. s.items) scripts.entry.now) (transcript result) }
@@ -97,28 +96,27 @@ fn seats_of<L: Ledger>(alloc: Global, sessions: Vec<Session<L>>) -> Result<Vec<S
         .collect(alloc)
 }
 
-/// Closes the exchange, and says whether the lists of its sessions are those of its history, on a rack of its
-/// shape.
+/// Closes the exchange, and says whether the lists of its sessions are those of its history, which began on this rack.
 fn close<L: Ledger>(
     alloc: Global,
     exchange: PlainExchange<L>,
     sessions: Vec<Session<L>>,
+    opening: &Rack,
 ) -> Result<bool, AllocError>
     requires parts { L.parts ≡ ALL_PARTS }
     requires seats { HaveAllSeats exchange sessions.items }
     ensures agree { IfOk result (λ agree. agree ≡ true
-        → HaveOneHistory exchange.shape (map transcript sessions.items)) }
+        → HaveOneHistory opening.now (map transcript sessions.items)) }
     ensures disagree { IfOk result (λ agree. agree ≡ false
-        → HaveAnotherHistory exchange.shape (map transcript sessions.items)) }
+        → HaveAnotherHistory opening.now (map transcript sessions.items)) }
 {
-    let shape = exchange.shape();
     // The history is asked for only for its contract, which says that it is legal.
     match exchange.close(seats_of(alloc, sessions)?) {
         Ok(closed) => {
             closed.book.history();
             // A book that comes from under a lock could have been opened with any rack, as far as contracts tell.
-            let is_of_shape = closed.book.opening().shape() == shape;
-            Ok(is_of_shape)
+            let is_opening = closed.book.opening().is_same(opening);
+            Ok(is_opening)
         }
         Err(Unclosed::LogsDisagree(closed)) => {
             closed.book.history();
@@ -134,14 +132,12 @@ fn host<L: Ledger + Send + Sync, R: Threads + Wait + Sync>(
     alloc: Global,
     blank: Blank,
     rack: Rack,
-    workers: usize,
+    workers: WorkerCount,
     scripts: &[Vec<u8>],
 ) -> Result<Answer, AllocError>
     requires name { blank.name ≡ L.name }
     requires parts { (blank.parts ≡ L.parts) × (blank.parts ≡ ALL_PARTS) }
-    requires some { 1 ≤ workers }
-    requires few { workers ≤ MAX_WORKERS }
-    ensures { IfOk result (AreServed rack.shape (map (λ s. s.items) scripts.now)) }
+    ensures { IfOk result (AreServed rack (map (λ s. s.items) scripts.now)) }
 {
     let plant = Plant {
         port: MemoryPort::new(),
@@ -149,6 +145,7 @@ fn host<L: Ledger + Send + Sync, R: Threads + Wait + Sync>(
         gate: OpenGate,
         workers,
     };
+    let opening = rack.copy()?;
     let made = Shared::<L, MemoryPort, PlainWires, OpenGate>::new(
         alloc,
         blank,
@@ -162,7 +159,7 @@ fn host<L: Ledger + Send + Sync, R: Threads + Wait + Sync>(
     let sessions = serve_all(rt, alloc, &exchange, seats, scripts, workers)?;
     let mut text = frame(alloc, sessions.as_slice())?;
     let failed = has_fault(sessions.as_slice());
-    if !close(alloc, exchange, sessions)? {
+    if !close(alloc, exchange, sessions, &opening)? {
         text.extend_from_slice(b"logs disagree\n")?;
         return Ok(Answer::failed(text));
     }
@@ -173,38 +170,37 @@ fn host<L: Ledger + Send + Sync, R: Threads + Wait + Sync>(
 }
 
 /// The answer of `exchange serve`: what the sessions of the scripts were told, on one exchange that has a rack
-/// of the shape which the shape text denotes, with words of 0 at first; or the refusal of the shape.
+/// of the shape which the shape text denotes, whose words are first those of the image or, where there is none, 0; or the
+/// refusal of the shape, or else of the image.
 ///
-/// There are 1 to [`ALL_PARTS`] scripts, of lines of at most [`LINE_BYTES`](crate::LINE_BYTES) bytes. Each is
+/// There are 1 to [`MAX_SESSIONS`] scripts, of lines of at most [`LINE_BYTES`](crate::LINE_BYTES) bytes. Each is
 /// served in a thread of its own, or by the caller where none can be had, and waits while the exchange answers
-/// the calls of the others; planning and runs are given 1 to [`MAX_WORKERS`] workers each. For each script, in
+/// the calls of the others; planning and runs are given so many workers each. For each script, in
 /// order, comes the line `session I`, and then what the session was told; where a fault ended it, a line
 /// `ended ..` says so, and the status is [`REFUSED`](crate::REFUSED). When all have ended the exchange is closed.
 /// Under that status too, a last line `logs disagree` would say that the sessions' lists aren't those of its
-/// history, or that this began on a rack of another shape.
+/// history, or that this began on another rack.
 pub fn answer_serve<R: Threads + Wait + Sync>(
     rt: &R,
     alloc: Global,
     shape: &[u8],
-    workers: usize,
+    image: Option<&[u8]>,
+    workers: WorkerCount,
     scripts: &[Vec<u8>],
 ) -> Result<Answer, AllocError>
-    requires some { 1 ≤ workers }
-    requires few { workers ≤ MAX_WORKERS }
     requires some_scripts { 1 ≤ length scripts.now }
-    requires few_scripts { length scripts.now ≤ ALL_PARTS }
-    ensures { IfOk result (IsServeAnswer shape.now (map (λ s. s.items) scripts.now)) }
+    requires few_scripts { length scripts.now ≤ MAX_SESSIONS }
+    ensures { IfOk result (IsServeAnswer shape.now (bytes_of image.entry)
+        (map (λ s. s.items) scripts.now)) }
 {
     let Ok(shape) = Shape::read(shape) else {
         return Answer::refused(alloc, "shape");
     };
-    let rack = Rack::new(alloc, shape)?;
-    host::<Brand, R>(
-        rt,
-        alloc,
-        Blank::new(ALL_PARTS as u64),
-        rack,
-        workers,
-        scripts,
-    )
+    match opening_rack(alloc, shape, image) {
+        Ok(rack) => {
+            let blank = Blank::new(ALL_PARTS as u64);
+            host::<Brand, R>(rt, alloc, blank, rack, workers, scripts)
+        }
+        Err(fault) => Answer::refused(alloc, image_words(alloc, fault)?.as_str()),
+    }
 }

@@ -1,6 +1,6 @@
 //! The command `switch`.
 
-ghost use Rattle.std.specs.Prelude.{◌≡◌, ◌≤◌, IfOk, IfSome, OnOk, string_bytes};
+ghost use Rattle.std.specs.Prelude.{◌≡◌, IfOk, IfSome, OnOk, string_bytes};
 ghost use Rattle.batch.specs.Extent.{widest};
 ghost use Rattle.crossbar.specs.Pairs.{ArePairs, room_of};
 ghost use Rattle.setting_runner.specs.Sending.{turning};
@@ -11,7 +11,8 @@ use crate::answer::Answer;
 use crate::refusal::refuse_batch;
 use batch::{Batch, Shape};
 use crossbar::{JOINED_MODULES, Pair, Wiring};
-use schedule_certificate::{MAX_WORKERS, OpenGate, Planned, schedule};
+use exchange_limits::WorkerCount;
+use schedule_certificate::{OpenGate, Planned, schedule};
 use setting_runner::{PairList, WIDE_CHANGE_BYTES, bytes_for, setting_numbers};
 use std::alloc::{AllocError, Global};
 use std::thread::Threads;
@@ -115,15 +116,13 @@ fn tell(alloc: Global, planned: &Planned) -> Result<Answer, AllocError>
 /// A line is `setting S`, with the bytes behind it as pairs of hexadecimal digits: those of the first setting set a
 /// switch, whatever it was, and those of each later one change the switch of the setting before. Where the batch names
 /// a module above 15, a setting has two lines, `setting S a ..` for the switch of the way forth and `setting S b ..` for
-/// that of the way back. The batch is read against the widest shape. Planning is given 1 to [`MAX_WORKERS`] workers.
+/// that of the way back. The batch is read against the widest shape. Planning is given so many workers.
 pub fn answer_switch<R: Threads + Sync>(
     rt: &R,
     alloc: Global,
     batch: &[u8],
-    workers: usize,
+    workers: WorkerCount,
 ) -> Result<Answer, AllocError>
-    requires some { 1 ≤ workers }
-    requires few { workers ≤ MAX_WORKERS }
     ensures { IfOk result (λ answer. IsSwitched widest batch.now answer) }
 {
     match Batch::read(alloc, batch, Shape::WIDEST) {

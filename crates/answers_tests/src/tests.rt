@@ -1,12 +1,7 @@
-//! What the commands answer to texts, by command, and the words of the command line with their help.
+//! What rows can't show: images before and after, the numbers of workers that words name, want of memory within clap, how ends are framed, and scripts that are
+//! served at once. The folder `rows` at the repository's top has what the commands print.
 
-mod answered;
-mod batches;
-mod help;
-mod judging;
-mod planning;
-mod running;
+mod applying;
 mod serving;
 mod side_by_side;
-mod switching;
 mod words;

@@ -33,6 +33,14 @@ impl Model for Batch {
 }
 
 impl Batch {
+    /// The batch of these transfers: not too many, and all of them between blocks of the widest shape.
+    pub fn of(transfers: Vec<Transfer>) -> Batch
+        requires { IsBatch transfers.items }
+        ensures { result ≡ transfers.items }
+    {
+        Batch { transfers }
+    }
+
     /// Reads a batch text: the line `batch N`, then N lines `push I b R c` or `pull I b R c`.
     ///
     /// Gives the batch that the text denotes, or the text's first fault. Every module and block has

@@ -1,14 +1,12 @@
 //! Which blocks a batch both reads and writes.
 
-ghost use Rattle.std.specs.Prelude.{All, IfOk, IfErr};
-ghost use Rattle.batch.specs.Extent.{widest};
+ghost use Rattle.std.specs.Prelude.{IfOk, IfErr};
 ghost use Rattle.batch.specs.Held.{AreHeldSources, HasHeldSource};
-ghost use Rattle.batch.specs.Text.{IsWithin};
-ghost use Rattle.batch.specs.Written.{AreWritten};
 
 use crate::batch::Batch;
-use crate::overlap::{MAX_PLACES, widest_index};
-use crate::transfer::{Place, Transfer};
+use crate::overlap::widest_index;
+use crate::transfer::Place;
+use crate::written::flags_of;
 use std::alloc::{AllocError, Global};
 
 impl Batch {
@@ -23,7 +21,7 @@ impl Batch {
         ensures memory { IfErr result (λ _. HasHeldSource self.now) }
     {
         let transfers = self.as_slice();
-        let mut unheld = written_blocks(transfers);
+        let mut unheld = flags_of(transfers);
         let mut held = Vec::new(alloc);
         for transfer in transfers {
             let source = transfer.source();
@@ -35,16 +33,4 @@ impl Batch {
         }
         Ok(held)
     }
-}
-
-/// A flag for each block of the widest shape, which is up where one of the transfers writes the block.
-fn written_blocks(transfers: &[Transfer]) -> [bool; MAX_PLACES]
-    requires { All (IsWithin widest) transfers.now }
-    ensures { AreWritten transfers.now result }
-{
-    let mut written = [false; MAX_PLACES];
-    for transfer in transfers {
-        written[widest_index(transfer.destination())] = true;
-    }
-    written
 }

@@ -16,10 +16,12 @@ mod shape;
 mod shape_reading;
 mod transfer;
 mod writing;
+mod written;
 
 pub use batch::Batch;
 pub use fault::{BatchFault, ShapeFault};
 pub use limits::{MAX_BLOCKS, MAX_DIGITS, MAX_MODULES, MAX_TRANSFERS, MAX_WORDS};
-pub use reading::{number_from_digits, position_of};
+pub use reading::{number_before, number_from_digits, position_of};
 pub use shape::Shape;
 pub use transfer::{Kind, Place, Transfer};
+pub use written::WrittenBlocks;

@@ -45,8 +45,9 @@ pub fn position_of(bytes: &[u8], byte: u8) -> Option<usize>
     bytes.iter().position(|b| *b == byte)
 }
 
-/// A number and the byte that ends it, which is no digit.
-pub(crate) fn number_before(bytes: &[u8], end: u8) -> Option<(usize, &[u8])>
+/// A number that this byte ends, which is no digit, and what stands behind the two. Takes time that
+/// grows with the number of bytes before the byte.
+pub fn number_before(bytes: &[u8], end: u8) -> Option<(usize, &[u8])>
     requires { IsDigit end → ⊥ }
     ensures some { IfSome result (λ x. IsNumber x.0 × (bytes.now ≡ number x.0 end ++ x.1.now)) }
     ensures none { IfNone result (BeginsWithNoNumber bytes.now end) }

@@ -1,7 +1,6 @@
 -- How an exchange is closed.
 use Rattle.std.specs.Prelude.{◌≡◌, ◌<◌, ◌≤◌, List, length, map, All, Result, Ok, Err}
 use Rattle.progress_word.specs.declared.limits.TheConstants.{ALL_PARTS}
-use Rattle.schedule_certificate.specs.declared.limits.TheConstants.{MAX_WORKERS}
 use Rattle.batch_book.specs.declared.close.Closed.{Closed}
 use Rattle.batch_book.specs.declared.close.Unclosed.{Unclosed}
 use Rattle.batch_book.specs.declared.close.Unclosed.TheVariants.{SeatMissing, LogsDisagree}
@@ -15,8 +14,6 @@ pub record AreClosed {L P W G : Type 0} (seats : List Stand) (c : Closed L P W G
   pub all_parts : parts_of seats ≡ ALL_PARTS
   pub kept : c.seats.items ≡ map closed seats
   pub counted : length c.book.history ≡ entries_of seats
-  pub some_workers : 1 ≤ c.plant.workers
-  pub few_workers : c.plant.workers ≤ MAX_WORKERS
 
 -- each seat's list is the history filtered to its session
 abbrev pub AllAgree : {L P W G : Type 0} → List Stand → Closed L P W G → Type 0

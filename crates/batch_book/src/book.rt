@@ -18,7 +18,7 @@ use crate::reply::Reply;
 use crossbar::ConfigPort;
 use module_memory::Rack;
 use peek_poke::WireMaker;
-use schedule_certificate::{Gate, MAX_WORKERS};
+use schedule_certificate::Gate;
 use setting_runner::{Notice, Plant};
 use std::alloc::{AllocError, Global};
 use std::marker::Model;
@@ -124,8 +124,6 @@ impl Book {
         plant: &mut Plant<P, W, G>,
         notice: &mut N,
     ) -> Reply
-        requires some { 1 ≤ plant.old.workers }
-        requires few { plant.old.workers ≤ MAX_WORKERS }
 
         // One step of the machine, and one entry more.
         ensures grown { is_logged result ≡ true → IsGrown self.old session call result self.new }
@@ -168,8 +166,6 @@ impl Book {
         notice: &mut N,
     ) -> Result<Reply, AllocError>
         requires room { length self.old.history < MAX_ENTRIES }
-        requires some { 1 ≤ plant.old.workers }
-        requires few { plant.old.workers ≤ MAX_WORKERS }
 
         ensures grown { IfOk result (λ reply. IsGrown self.old session call reply self.new) }
         ensures logged { IfOk result (λ reply. is_logged reply ≡ true) }

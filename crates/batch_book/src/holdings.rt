@@ -1,6 +1,6 @@
 //! The batches and the memories of a book, and one call at a time.
 
-ghost use Rattle.std.specs.Prelude.{◌≡◌, ◌≤◌, ◌<◌, ◌+◌, ℕ, nat_eq, IsTrue, IfOk, IfErr, OnErr, Option, Some, None, length};
+ghost use Rattle.std.specs.Prelude.{◌≡◌, ◌<◌, ◌+◌, ℕ, nat_eq, IsTrue, IfOk, IfErr, OnErr, Option, Some, None, length};
 ghost use Rattle.std.specs.Option.{option_copied};
 ghost use Rattle.std.specs.Map.{lookup};
 ghost use Rattle.crossbar.specs.Switch.{Switch};
@@ -23,7 +23,7 @@ use crossbar::ConfigPort;
 use indexmap::IndexMap;
 use module_memory::Rack;
 use peek_poke::WireMaker;
-use schedule_certificate::{Gate, MAX_WORKERS, Planned};
+use schedule_certificate::{Gate, Planned};
 use setting_runner::{Notice, Outcome, Plant, RunRefusal, run};
 use std::alloc::{AllocError, Global};
 use std::marker::Model;
@@ -243,8 +243,6 @@ impl Holdings {
         notice: &mut N,
     ) -> Result<Reply, AllocError>
         requires number { self.old.runs < MAX_ENTRIES }
-        requires some { 1 ≤ plant.old.workers }
-        requires few { plant.old.workers ≤ MAX_WORKERS }
 
         ensures step { IfOk result (λ reply.
             IsRun self.old id (batch_of self.old session id) reply self.new) }
@@ -337,8 +335,6 @@ impl Holdings {
     ) -> Result<Reply, AllocError>
         requires id { self.old.given < MAX_ENTRIES }
         requires number { self.old.runs < MAX_ENTRIES }
-        requires some { 1 ≤ plant.old.workers }
-        requires few { plant.old.workers ≤ MAX_WORKERS }
 
         ensures step { IfOk result (λ reply. IsStep self.old session call reply self.new) }
         ensures unchanged { OnErr result (self.new ≡ self.old) }

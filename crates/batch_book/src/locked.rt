@@ -1,7 +1,6 @@
 //! What lies under the lock of an exchange.
 
 ghost use Rattle.std.specs.Prelude.{◌≡◌, ◌+◌, ◌++◌, ◌≤◌, [], ◌∷◌, length, true, false, if◌then◌else◌, Some, IfOk, OnErr};
-ghost use Rattle.schedule_certificate.specs.declared.limits.TheConstants.{MAX_WORKERS};
 ghost use Rattle.batch_book.specs.Answering.{IsReplyTo};
 ghost use Rattle.batch_book.specs.History.{entry, IsGrown};
 ghost use Rattle.batch_book.specs.Replies.{is_logged};
@@ -20,7 +19,7 @@ use crate::ticket::Ticket;
 use crossbar::ConfigPort;
 use peek_poke::WireMaker;
 use progress_word::ProgressWord;
-use schedule_certificate::{Gate, MAX_WORKERS};
+use schedule_certificate::Gate;
 use setting_runner::Plant;
 use std::alloc::AllocError;
 use std::sync::ledger;
@@ -34,8 +33,6 @@ pub struct Locked<L: Ledger, P, W, G> {
     pub plant: Plant<P, W, G>,
     pub entries: ledger::Book<L>,
     pub ghost counted: { length book.history ≡ entries.total },
-    pub ghost some: { 1 ≤ plant.workers },
-    pub ghost few: { plant.workers ≤ MAX_WORKERS },
 }
 
 impl<L: Ledger, P: ConfigPort, W: WireMaker + Sync, G: Gate + Sync> Locked<L, P, W, G> {

@@ -9,9 +9,9 @@ use crate::locked::Locked;
 use crate::seat::Seat;
 use crate::shared::Shared;
 use crate::ticket::Ticket;
+use exchange_limits::MAX_SESSIONS;
 use module_memory::Rack;
 use progress_word::{ALL_PARTS, ProgressWord};
-use schedule_certificate::MAX_WORKERS;
 use setting_runner::Plant;
 use std::alloc::Global;
 use std::sync::ledger::{Blank, Ledger};
@@ -20,7 +20,7 @@ use thiserror::Error;
 /// Why an exchange can't be made. The causes are tested in this order.
 #[derive(Clone, Copy, Debug, PartialEq, Eq, Error)]
 pub enum SharedFault {
-    /// There are no sessions, or more than there are parts.
+    /// There are no sessions, or more than [`MAX_SESSIONS`].
     #[error("sessions must be 1 to 16")]
     BadSessions,
     /// There was no memory.
@@ -29,8 +29,8 @@ pub enum SharedFault {
 }
 
 impl<L: Ledger, P, W, G> Shared<L, P, W, G> {
-    /// An exchange over this rack and plant, and a seat for each session, from 1 to [`ALL_PARTS`] of them. The
-    /// sessions are numbered from 0, in the order of the seats. The blank is one of a ledger of [`ALL_PARTS`].
+    /// An exchange over this rack and plant, and a seat for each session, from 1 to [`MAX_SESSIONS`] of them.
+    /// The sessions are numbered from 0, in the order of the seats. The blank is one of a ledger of [`ALL_PARTS`].
     ///
     /// It takes memory for a copy of the rack, for the book, the word and the seats. Where it can't be made,
     /// blank, rack and plant come back as they were.
@@ -43,9 +43,7 @@ impl<L: Ledger, P, W, G> Shared<L, P, W, G> {
     ) -> Result<(Shared<L, P, W, G>, Vec<Seat<L>>), (Blank, Rack, Plant<P, W, G>, SharedFault)>
         requires name { blank.name ≡ L.name }
         requires parts { (blank.parts ≡ L.parts) × (blank.parts ≡ ALL_PARTS) }
-        requires some { 1 ≤ plant.workers }
-        requires few { plant.workers ≤ MAX_WORKERS }
-        ensures sessions { OnOk result ((1 ≤ sessions) × (sessions ≤ ALL_PARTS)) }
+        ensures sessions { OnOk result ((1 ≤ sessions) × (sessions ≤ MAX_SESSIONS)) }
         ensures shape { IfOk result (λ made. made.0.shape ≡ rack.shape) }
         ensures seats { IfOk result (λ made. AreNew made.0.word sessions made.1.items) }
         ensures blank { IfErr result (λ back.
@@ -53,9 +51,9 @@ impl<L: Ledger, P, W, G> Shared<L, P, W, G> {
         ensures rack { IfErr result (λ back. back.1 ≡ rack) }
         ensures plant { IfErr result (λ back. back.2 ≡ plant) }
         ensures bad { IfErr result (λ back.
-            (back.3 ≡ SharedFault.BadSessions) ↔ ((sessions ≡ 0) ⊎ (ALL_PARTS < sessions))) }
+            (back.3 ≡ SharedFault.BadSessions) ↔ ((sessions ≡ 0) ⊎ (MAX_SESSIONS < sessions))) }
     {
-        if sessions == 0 || sessions > ALL_PARTS {
+        if sessions == 0 || sessions > MAX_SESSIONS {
             return Err((blank, rack, plant, SharedFault::BadSessions));
         }
         let Ok(seats) = Vec::with_capacity(alloc, sessions) else {
@@ -96,7 +94,7 @@ fn deal<L: Ledger>(
     requires empty { seats.items ≡ [] }
     requires room { sessions ≤ vec_capacity seats }
     requires some { 0 < sessions }
-    requires few { sessions ≤ ALL_PARTS }
+    requires few { sessions ≤ MAX_SESSIONS }
     requires first { first.lookout ≡ lookout_view word.now 0 0 ALL_PARTS }
     requires amount { first.share.amount ≡ 0 }
     ensures { AreNew word.now sessions result.items }

@@ -1,6 +1,6 @@
 //! What is done for a command, and its reply line.
 
-ghost use Rattle.std.specs.Prelude.{◌≡◌, ℕ, ◌≤◌, List, Option};
+ghost use Rattle.std.specs.Prelude.{◌≡◌, ℕ, List, Option};
 ghost use Rattle.client_session.specs.Turns.{Tells, Submits, Plans, Does};
 ghost use Rattle.client_session.specs.Steps.{IsNoFetch, StandsAlone, Acts};
 
@@ -10,9 +10,10 @@ use crate::reply_line::{batch_refused, bye, progress, refused, told};
 use batch::Batch;
 use batch_book::{Call, Reply};
 use crossbar::ConfigPort;
+use exchange_limits::WorkerCount;
 use line_words::Line;
 use peek_poke::WireMaker;
-use schedule_certificate::{Gate, MAX_WORKERS, OpenGate, schedule};
+use schedule_certificate::{Gate, OpenGate, schedule};
 use std::alloc::Global;
 use std::sync::Wait;
 use std::sync::ledger::Ledger;
@@ -55,10 +56,8 @@ fn plan<R: Threads + Wait + Sync, L: Ledger, P: ConfigPort, W: WireMaker + Sync,
     alloc: Global,
     desk: &mut Desk<'_, L, P, W, G>,
     id: usize,
-    workers: usize,
+    workers: WorkerCount,
 ) -> Line
-    requires some { 1 ≤ workers }
-    requires few { workers ≤ MAX_WORKERS }
     ensures { Acts desk.old desk.new (Plans desk.old.session id) result }
 {
     match desk.call(rt, Call::Fetch(id)) {
@@ -82,11 +81,9 @@ pub(crate) fn answer<
     alloc: Global,
     desk: &mut Desk<'_, L, P, W, G>,
     command: Option<Command>,
-    workers: usize,
+    workers: WorkerCount,
 ) -> Line
     requires alone { StandsAlone command }
-    requires some { 1 ≤ workers }
-    requires few { workers ≤ MAX_WORKERS }
     ensures { (text : List ℕ) → Acts desk.old desk.new
         (Does desk.old.shape desk.old.session command text) result }
 {

@@ -1,6 +1,6 @@
 //! The session.
 
-ghost use Rattle.std.specs.Prelude.{◌≡◌, ◌≤◌, Some, OnOk, IfErr};
+ghost use Rattle.std.specs.Prelude.{◌≡◌, Some, OnOk, IfErr};
 ghost use Rattle.std.specs.Io.KnownBytes.{Appends};
 ghost use Rattle.batch_book.specs.Seats.{IsSameSeat};
 ghost use Rattle.client_session.specs.Sessions.{HasEnded, Passes, IsServed, fault_of, seat_back};
@@ -12,8 +12,9 @@ use crate::input::Input;
 use crate::turns::turn;
 use batch_book::{Seat, Shared};
 use crossbar::ConfigPort;
+use exchange_limits::WorkerCount;
 use peek_poke::WireMaker;
-use schedule_certificate::{Gate, MAX_WORKERS};
+use schedule_certificate::Gate;
 use std::alloc::Global;
 use std::io::{Read, Write};
 use std::sync::Wait;
@@ -55,10 +56,8 @@ fn serve_desk<
     desk: &mut Desk<'_, L, P, W, G>,
     reader: &mut I,
     writer: &mut O,
-    workers: usize,
+    workers: WorkerCount,
 ) -> Result<(), ServeFault>
-    requires some { 1 ≤ workers }
-    requires few { workers ≤ MAX_WORKERS }
     ensures { Passes (I.remaining reader.old) (I.remaining reader.new)
         (O.contents writer.old) (O.contents writer.new) desk.old desk.new
         (HasEnded (fault_of result) (I.remaining reader.new) desk.old desk.new) }
@@ -78,9 +77,9 @@ fn serve_desk<
 /// the next command is looked at. The seat comes back, whether the session ended by itself, behind a whole command
 /// or by `bye`, or by a fault.
 ///
-/// A client that asks for a plan has it made by so many workers, at most [`MAX_WORKERS`], outside the exchange's
-/// lock. A reply takes no memory, so none is lost whose call was made; want of memory is a reply, but for the text
-/// of a batch, where it ends the session.
+/// A client that asks for a plan has it made by so many workers, outside the exchange's lock. A reply takes no
+/// memory, so none is lost whose call was made; want of memory is a reply, but for the text of a batch, where it
+/// ends the session.
 ///
 /// A command takes time by its lines and by its call, whatever the session has said before it.
 pub fn serve<
@@ -98,11 +97,9 @@ pub fn serve<
     seat: Seat<L>,
     reader: &mut I,
     writer: &mut O,
-    workers: usize,
+    workers: WorkerCount,
 ) -> Result<Seat<L>, (Seat<L>, ServeFault)>
     requires seat { seat.exchange ≡ Some shared.now.word }
-    requires some { 1 ≤ workers }
-    requires few { workers ≤ MAX_WORKERS }
     ensures seat { IsSameSeat seat (seat_back result) }
     ensures session { IsServed shared.now.shape seat result
         (I.remaining reader.old) (I.remaining reader.new)

@@ -14,9 +14,10 @@ use crate::input::Input;
 use crate::limits::LINE_BYTES;
 use batch::MAX_TRANSFERS;
 use crossbar::ConfigPort;
+use exchange_limits::WorkerCount;
 use line_words::Line;
 use peek_poke::WireMaker;
-use schedule_certificate::{Gate, MAX_WORKERS};
+use schedule_certificate::Gate;
 use std::alloc::Global;
 use std::io::Read;
 use std::sync::Wait;
@@ -115,12 +116,10 @@ pub(crate) fn turn<
     input: &mut Input,
     reader: &mut I,
     n: usize,
-    workers: usize,
+    workers: WorkerCount,
 ) -> Result<(Line, bool), ServeFault>
     requires line { HasLine input.old.pending n × (n ≤ LINE_BYTES) }
     requires room { length input.old.pending ≤ LINE_BYTES + 1 }
-    requires some { 1 ≤ workers }
-    requires few { workers ≤ MAX_WORKERS }
     ensures ok { IfOk result (λ r. TurnTaken (I.remaining reader.old) (I.remaining reader.new)
         input.old input.new desk.old desk.new r.0 r.1) }
     ensures err { IfErr result (λ e. TurnStopped e (I.remaining reader.old) (I.remaining reader.new)

@@ -1,11 +1,11 @@
 -- What the rows have of a job that words hold.
 use Rattle.std.proofs.Common.{◌≡◌, ◌∙◌, sym, subst, Bool, true, false, List, [], ◌∷◌, Option, Some, None, codes, refl}
-use Rattle.std.specs.Prelude.{MatchOption, if◌then◌else◌, unwrap_or}
+use Rattle.std.specs.Prelude.{MatchOption, ◌++◌, option_to_list, if◌then◌else◌, unwrap_or}
 use Rattle.std.specs.Str.{bytes_eq}
 use Rattle.clap.specs.Words.{Row, Text, all_of, first_of}
 use Rattle.command_words.specs.declared.words.Job.{Job}
-use Rattle.command_words.specs.declared.words.Job.TheVariants.{Plan, Check, Draw, Switch, Run, Serve}
-use Rattle.command_words.specs.Jobs.{IsJob, HasWorked, HasBoth, HasRun, HasServe, files_of}
+use Rattle.command_words.specs.declared.words.Job.TheVariants.{Plan, Check, Draw, Switch, Direct, Apply, Run, Serve}
+use Rattle.command_words.specs.Jobs.{IsJob, HasWord, HasWorked, HasBoth, HasApply, HasRun, HasServe, files_of}
 
 -- the one or the other
 abbrev Either : Bool → Type 0 → Type 0 → Type 0
@@ -20,15 +20,19 @@ HasWanted name rows =
     (Either (bytes_eq name (codes "run")) (HasRun rows)
     (Either (bytes_eq name (codes "serve")) (HasServe rows)
     (Either (bytes_eq name (codes "draw")) (HasBoth rows)
-    (Either (bytes_eq name (codes "switch")) (HasWorked (codes "BATCH") rows) ⊥)))))
+    (Either (bytes_eq name (codes "switch")) (HasWorked (codes "BATCH") rows)
+    (Either (bytes_eq name (codes "direct")) (HasWord (codes "MOVES") rows)
+    (Either (bytes_eq name (codes "apply")) (HasApply rows) ⊥)))))))
 
 pub wanted : (name : Text) (rows : List Row) (job : Job) → IsJob name rows job → HasWanted name rows
 wanted name rows (Plan file workers) is = rw is.0 ((file, is.1), (workers, is.2))
 wanted name rows (Check batch schedule) is = rw is.0 ((batch, is.1.0), (schedule, is.1.1))
 wanted name rows (Draw batch schedule) is = rw is.0 ((batch, is.1.0), (schedule, is.1.1))
 wanted name rows (Switch batch workers) is = rw is.0 ((batch, is.1), (workers, is.2))
-wanted name rows (Run shape batch workers) is = rw is.0 ((shape, is.1), ((batch, is.2), (workers, is.3)))
-wanted name rows (Serve shape scripts workers) is = rw is.0 ((shape, is.1), (scripts, is.2), (workers, is.3))
+wanted name rows (Direct moves) is = rw is.0 (moves, is.1)
+wanted name rows (Apply shape batch image workers) is = rw is.0 ((shape, is.1), (batch, is.2), ((image, is.3), (workers, is.4)))
+wanted name rows (Run shape batch image workers) is = rw is.0 ((shape, is.1), ((batch, is.2), (workers, is.4)))
+wanted name rows (Serve shape scripts image workers) is = rw is.0 ((shape, is.1), (scripts, is.2), (workers, is.4))
 
 -- a job's rows have what the command wants whose name this is
 pub wanted_of : (name wants : Text) (rows : List Row) (job : Job) → name ≡ wants → IsJob name rows job → HasWanted wants rows
@@ -44,7 +48,10 @@ files_in name rows =
     if bytes_eq name (codes "plan") then text_in (codes "FILE") rows ∷ []
     else if bytes_eq name (codes "check") then text_in (codes "BATCH") rows ∷ text_in (codes "SCHEDULE") rows ∷ []
     else if bytes_eq name (codes "draw") then text_in (codes "BATCH") rows ∷ text_in (codes "SCHEDULE") rows ∷ []
-    else if bytes_eq name (codes "serve") then unwrap_or (all_of (codes "SCRIPT") rows) []
+    else if bytes_eq name (codes "direct") then text_in (codes "MOVES") rows ∷ []
+    else if bytes_eq name (codes "serve") then option_to_list (first_of (codes "image") rows) ++ unwrap_or (all_of (codes "SCRIPT") rows) []
+    else if bytes_eq name (codes "apply") then text_in (codes "BATCH") rows ∷ text_in (codes "IMAGE") rows ∷ []
+    else if bytes_eq name (codes "run") then option_to_list (first_of (codes "image") rows) ++ text_in (codes "BATCH") rows ∷ []
     else text_in (codes "BATCH") rows ∷ []
 
 files_are : (name : Text) (rows : List Row) (job : Job) → IsJob name rows job → files_of job ≡ files_in name rows
@@ -52,8 +59,10 @@ files_are name rows (Plan file workers) is = rw (is.0, is.1) refl
 files_are name rows (Check batch schedule) is = rw (is.0, is.1.0, is.1.1) refl
 files_are name rows (Draw batch schedule) is = rw (is.0, is.1.0, is.1.1) refl
 files_are name rows (Switch batch workers) is = rw (is.0, is.1) refl
-files_are name rows (Run shape batch workers) is = rw (is.0, is.2) refl
-files_are name rows (Serve shape scripts workers) is = rw (is.0, is.2.0) refl
+files_are name rows (Direct moves) is = rw (is.0, is.1) refl
+files_are name rows (Apply shape batch image workers) is = rw (is.0, is.2, is.3) refl
+files_are name rows (Run shape batch image workers) is = rw (is.0, is.2, is.3) refl
+files_are name rows (Serve shape scripts image workers) is = rw (is.0, is.2.0, is.3) refl
 
 -- two jobs that the same words hold have the same files
 pub same_files : (o : Option (Text × List Row)) (a b : Job) → MatchOption o ⊥ (λ p. IsJob p.0 p.1 a) → MatchOption o ⊥ (λ p. IsJob p.0 p.1 b) → files_of a ≡ files_of b

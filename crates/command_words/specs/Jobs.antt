@@ -1,15 +1,15 @@
 -- The job that the words of the command line name.
-use Rattle.std.specs.Prelude.{◌≡◌, ◌≢◌, ◌⊎◌, ℕ, ◌≤◌, List, [], ◌∷◌, Some, String, codes, length, map, string_bytes, true, AllPairs, IfErr, MatchOption, Result, ⊤}
+use Rattle.std.specs.Prelude.{◌≡◌, ◌≢◌, ◌⊎◌, ℕ, ◌≤◌, List, [], ◌∷◌, ◌++◌, Some, String, codes, length, map, string_bytes, true, AllPairs, option_to_list, IfErr, MatchOption, Result, ⊤}
 use Rattle.std.specs.Str.Parse.{IsNumeral, digits_value, without_leading_plus}
 use Rattle.clap.specs.Words.{Row, Text, all_of, first_of, one_of, subcommand_of, subcommand_rows_of, takes}
 use Rattle.clap.specs.declared.parser.matches.ArgMatches.{ArgMatches}
 use Rattle.clap.specs.Values.{kind_of}
 use Rattle.clap.specs.declared.error.Error.{Error}
 use Rattle.clap.specs.declared.error.kind.ErrorKind.TheVariants.{DisplayHelp, DisplayVersion}
-use Rattle.schedule_certificate.specs.declared.limits.TheConstants.{MAX_WORKERS}
+use Rattle.exchange_limits.specs.declared.limits.TheConstants.{MAX_WORKERS}
 use Rattle.command_words.specs.declared.limits.TheConstants.{MAX_SCRIPTS}
 use Rattle.command_words.specs.declared.words.Job.{Job}
-use Rattle.command_words.specs.declared.words.Job.TheVariants.{Plan, Check, Draw, Switch, Run, Serve}
+use Rattle.command_words.specs.declared.words.Job.TheVariants.{Plan, Check, Draw, Switch, Direct, Apply, Run, Serve}
 use Rattle.command_words.specs.declared.words.WordsFault.{WordsFault}
 use Rattle.command_words.specs.declared.words.WordsFault.TheVariants.{NoMemory}
 use Rattle.command_words.specs.declared.words.Lack.{Lack}
@@ -49,11 +49,17 @@ IsJob name rows (Check batch schedule) = (name ≡ codes "check") × HasTexts ro
 IsJob name rows (Draw batch schedule) = (name ≡ codes "draw") × HasTexts rows batch schedule
 IsJob name rows (Switch batch workers) =
     (name ≡ codes "switch") × (first_of (codes "BATCH") rows ≡ Some batch) × HasWorkers rows workers
-IsJob name rows (Run shape batch workers) =
+IsJob name rows (Direct moves) =
+    (name ≡ codes "direct") × (first_of (codes "MOVES") rows ≡ Some moves)
+IsJob name rows (Apply shape batch image workers) =
+    (name ≡ codes "apply") × HasShape rows shape × (first_of (codes "BATCH") rows ≡ Some batch)
+    × (first_of (codes "IMAGE") rows ≡ Some image) × HasWorkers rows workers
+IsJob name rows (Run shape batch image workers) =
     (name ≡ codes "run") × HasShape rows shape × (first_of (codes "BATCH") rows ≡ Some batch)
-    × HasWorkers rows workers
-IsJob name rows (Serve shape scripts workers) =
-    (name ≡ codes "serve") × HasShape rows shape × HasScripts rows scripts × HasWorkers rows workers
+    × (first_of (codes "image") rows ≡ image) × HasWorkers rows workers
+IsJob name rows (Serve shape scripts image workers) =
+    (name ≡ codes "serve") × HasShape rows shape × HasScripts rows scripts
+    × (first_of (codes "image") rows ≡ image) × HasWorkers rows workers
 
 -- the words as lists of their bytes
 abbrev pub texts_of : {Z : Type 0} → List (String Z) → List Text
@@ -71,15 +77,16 @@ Holds words job = MatchOption (subcommand_of program words) ⊥ (λ p. IsJob p.0
 unfoldable pub IsTaken : List Text → Type 0
 IsTaken words = takes program words ≡ true
 
--- the job's numbers are within the limits
+-- as many scripts as a job has may be served
 abbrev pub IsWithinLimits : Job → Type 0
-IsWithinLimits (Plan file workers) = (1 ≤ workers) × (workers ≤ MAX_WORKERS)
+IsWithinLimits (Plan file workers) = ⊤
 IsWithinLimits (Check batch schedule) = ⊤
 IsWithinLimits (Draw batch schedule) = ⊤
-IsWithinLimits (Switch batch workers) = (1 ≤ workers) × (workers ≤ MAX_WORKERS)
-IsWithinLimits (Run shape batch workers) = (1 ≤ workers) × (workers ≤ MAX_WORKERS)
-IsWithinLimits (Serve shape scripts workers) =
-    AreScripts scripts × (1 ≤ workers) × (workers ≤ MAX_WORKERS)
+IsWithinLimits (Switch batch workers) = ⊤
+IsWithinLimits (Direct moves) = ⊤
+IsWithinLimits (Apply shape batch image workers) = ⊤
+IsWithinLimits (Run shape batch image workers) = ⊤
+IsWithinLimits (Serve shape scripts image workers) = AreScripts scripts
 
 -- the name of a file that stands for standard input
 abbrev pub input_name : Text
@@ -91,8 +98,10 @@ files_of (Plan file workers) = file ∷ []
 files_of (Check batch schedule) = batch ∷ schedule ∷ []
 files_of (Draw batch schedule) = batch ∷ schedule ∷ []
 files_of (Switch batch workers) = batch ∷ []
-files_of (Run shape batch workers) = batch ∷ []
-files_of (Serve shape scripts workers) = scripts
+files_of (Direct moves) = moves ∷ []
+files_of (Apply shape batch image workers) = batch ∷ image ∷ []
+files_of (Run shape batch image workers) = option_to_list image ++ batch ∷ []
+files_of (Serve shape scripts image workers) = option_to_list image ++ scripts
 
 -- no two of these names stand for standard input
 abbrev pub NameInputOnce : List Text → Type 0
@@ -121,6 +130,11 @@ HasSomeWorkers rows = (n : ℕ) × HasWorkers rows n
 -- there is a text of this name, and a number of workers
 abbrev pub HasWorked : Text → List Row → Type 0
 HasWorked id rows = HasWord id rows × HasSomeWorkers rows
+
+-- there is what a run over an image wants
+abbrev pub HasApply : List Row → Type 0
+HasApply rows =
+    HasWord (codes "SHAPE") rows × HasWord (codes "BATCH") rows × HasWorked (codes "IMAGE") rows
 
 -- there is what a run wants
 abbrev pub HasRun : List Row → Type 0

@@ -4,7 +4,7 @@ use Rattle.clap.specs.Words.{App, Rule, app_of, new_app, new_rule, with_rule, wi
 use Rattle.clap.specs.declared.builder.command.Command.{Command}
 use Rattle.clap.specs.declared.builder.command.Command.TheViews.{out-Command as fields_of}
 use Rattle.clap.specs.declared.builder.value_parser.ValueParser.TheVariants as parser
-use Rattle.schedule_certificate.specs.declared.limits.TheConstants.{MAX_WORKERS}
+use Rattle.exchange_limits.specs.declared.limits.TheConstants.{MAX_WORKERS}
 use Rattle.command_words.specs.declared.limits.TheConstants.{MAX_SCRIPTS}
 
 -- a word that has to be there
@@ -26,6 +26,10 @@ workers = record (new_rule (codes "workers")) {
   parser = Some (parser.Signed (pos 1) (pos MAX_WORKERS));
 }
 
+-- `--image`, which may be left out
+abbrev pub image : Rule
+image = record (new_rule (codes "image")) { long = Some (codes "image"); value_names = 1 }
+
 -- `plan FILE [--workers N]`
 abbrev pub plan : App
 plan = with_rule (with_rule (new_app (codes "plan")) (word (codes "FILE"))) workers
@@ -40,21 +44,34 @@ abbrev pub draw : App
 draw =
     with_rule (with_rule (new_app (codes "draw")) (word (codes "BATCH"))) (word (codes "SCHEDULE"))
 
--- `run SHAPE BATCH [--workers N]`
-abbrev pub run : App
-run =
-    with_rule
-    (with_rule (with_rule (new_app (codes "run")) (word (codes "SHAPE"))) (word (codes "BATCH")))
-    workers
+-- the command with the words of a shape and of a batch
+abbrev pub on_rack : App → App
+on_rack app = with_rule (with_rule app (word (codes "SHAPE"))) (word (codes "BATCH"))
 
--- `serve SHAPE SCRIPT.. [--workers N]`
+-- `apply SHAPE BATCH IMAGE [--workers N]`
+abbrev pub apply : App
+apply = with_rule (with_rule (on_rack (new_app (codes "apply"))) (word (codes "IMAGE"))) workers
+
+-- `run SHAPE BATCH [--image FILE] [--workers N]`
+abbrev pub run : App
+run = with_rule (with_rule (on_rack (new_app (codes "run"))) image) workers
+
+-- `serve SHAPE SCRIPT.. [--image FILE] [--workers N]`
 abbrev pub serve : App
 serve =
-    with_rule (with_rule (with_rule (new_app (codes "serve")) (word (codes "SHAPE"))) words) workers
+    with_rule
+    (with_rule
+    (with_rule (with_rule (new_app (codes "serve")) (word (codes "SHAPE"))) words)
+    image)
+    workers
 
 -- `switch BATCH [--workers N]`
 abbrev pub switch : App
 switch = with_rule (with_rule (new_app (codes "switch")) (word (codes "BATCH"))) workers
+
+-- `direct MOVES`
+abbrev pub direct : App
+direct = with_rule (new_app (codes "direct")) (word (codes "MOVES"))
 
 -- the program's name, which a command has to follow, or `--version`
 abbrev pub top : App
@@ -66,12 +83,14 @@ top =
 abbrev pub planner : App
 planner =
     with_subcommand
+    (with_subcommand
     (with_subcommand (with_subcommand (with_subcommand top plan.top) check.top) draw.top)
-    switch.top
+    switch.top)
+    direct.top
 
 -- the whole program
 abbrev pub program : App
-program = with_subcommand (with_subcommand planner run.top) serve.top
+program = with_subcommand (with_subcommand (with_subcommand planner apply.top) run.top) serve.top
 
 -- the command has no argument that the commands below it share
 abbrev pub IsLocal : Command → Type 0

@@ -1,5 +1,5 @@
-//! What the commands say of themselves. Where a text names a limit of batches, racks or workers, a test holds it to the
-//! constant; how many modules one switch joins is of the chip, and a test holds the words.
+//! What the commands say of themselves. Where a text names a limit of batches, racks or workers, rows hold the words, and
+//! what lies on both sides of the limit; how many modules one switch joins is of the chip, and a row holds the words.
 
 /// What `plan --help` says below its options.
 pub const PLAN_NOTES: &str = "\
@@ -97,6 +97,52 @@ Else it is the first of these that is wrong:
 Status: 0 the bytes were printed, 1 the batch was refused or there was no
 memory, 2 the words fit no command, 3 the answer couldn't be written.";
 
+/// What `direct --help` says below its options.
+pub const DIRECT_NOTES: &str = "\
+MOVES is a text of moves: the line `moves N`, then N lines of the form
+  move M b N c   block b of module M goes to block c of module N
+with modules from 0 to 31 and blocks from 0 to 63, at most 4096 lines.
+
+The answer is a batch text with one transfer for each move, in their order, in
+the form that `exchange plan --help` shows: `push M b N c`, or `pull N c M b`.
+A link carries one transfer in a setting, and a module has two, so a module with
+k ends of moves wants k/2 settings at least, rounded up. The answer needs just
+so many for the busiest module; no other directions need fewer.
+  exchange direct MOVES | exchange plan -
+
+Else it is the first of these that is wrong:
+  refused file           MOVES can't be read
+  refused moves line N   line N, from 1, has another form or no line feed
+  refused too many       the first line says more than 4096
+  refused no module T    move T, from 0, names a module above 31
+  refused no block T     move T names a block above 63
+  refused count          fewer than N lines follow, or something after them
+
+Status: 0 a batch was printed, 1 the moves were refused or there was no memory,
+2 the words fit no command, 3 the answer couldn't be written.";
+
+/// What `apply --help` says below its options.
+pub const APPLY_NOTES: &str = "\
+SHAPE is MxKxW: M modules, from 1 to 32, each of K blocks, from 1 to 64, each
+of W words, from 1 to 256. BATCH is a batch text, in the form that
+`exchange plan --help` shows, with modules below M and blocks below K.
+IMAGE has all words of these modules: module by module and block by block,
+each as four bytes, least significant first, so 4*M*K*W bytes.
+
+The batch is run over these words, and the answer is the image with its blocks
+placed: as many bytes, and all that the batch doesn't write as it was.
+  exchange apply 3x2x2 BATCH before.img > after.img
+
+Else nothing is run, and the answer is the first of these that is wrong:
+  refused file          BATCH or IMAGE can't be read
+  refused shape         SHAPE is no shape
+  refused ..            BATCH, as `exchange plan --help` shows, in this rack
+  refused image L W     IMAGE has L bytes, and the shape wants W
+  refused overlap I J   transfers I and J write one block
+
+Status: 0 the image was printed, 1 it was refused or there was no memory, 2 the
+words fit no command, 3 the answer couldn't be written.";
+
 /// What `run --help` says below its options.
 pub const RUN_NOTES: &str = "\
 SHAPE is MxKxW: M modules, from 1 to 32, each of K blocks, from 1 to 64, each
@@ -185,8 +231,17 @@ standard input is read; of a command's files one may be.";
 /// What is said of a batch's file.
 pub const BATCH_HELP: &str = "The file of the batch, or - for standard input";
 
+/// What is said of a file of moves.
+pub const MOVES_HELP: &str = "The file of the moves, or - for standard input";
+
 /// What is said of a schedule's file.
 pub const SCHEDULE_HELP: &str = "The file of the schedule, or - for standard input";
+
+/// What is said of an image's file.
+pub const IMAGE_HELP: &str = "The file of the words before, or - for standard input";
+
+/// What is said of `--image`.
+pub const WORDS_HELP: &str = "The file of the rack's first words, as `exchange apply --help` shows";
 
 /// What is said of a script.
 pub const SCRIPT_HELP: &str = "A file of session lines, or - for standard input";

@@ -1,12 +1,12 @@
 //! Which files are standard input.
 
-ghost use Rattle.std.specs.Prelude.{◌↔◌, IsTrue};
-ghost use Rattle.command_words.specs.Jobs.{NameInputOnce};
+ghost use Rattle.std.specs.Prelude.{◌≡◌, ◌≢◌, ◌↔◌, ◌++◌, All, IsTrue, Some, option_to_list};
+ghost use Rattle.command_words.specs.Jobs.{NameInputOnce, input_name};
 
 use crate::text::Text;
 
 /// Whether at most one of these names stands for standard input.
-pub(crate) fn name_input_once(names: &[Text]) -> bool
+fn name_input_once(names: &[Text]) -> bool
     ensures { IsTrue result ↔ NameInputOnce names.now }
 {
     let mut seen = false;
@@ -19,4 +19,36 @@ pub(crate) fn name_input_once(names: &[Text]) -> bool
         }
     }
     true
+}
+
+/// Whether none of these names stands for standard input.
+fn name_no_input(names: &[Text]) -> bool
+    ensures { IsTrue result ↔ All (λ name. name ≢ input_name) names.now }
+{
+    for name in names {
+        if name.is_input() {
+            return false;
+        }
+    }
+    true
+}
+
+/// Whether there is a name, and it stands for standard input.
+pub(crate) fn is_input(name: &Option<Text>) -> bool
+    ensures { IsTrue result ↔ (name.now ≡ Some input_name) }
+{
+    match name {
+        Some(name) => name.is_input(),
+        None => false,
+    }
+}
+
+/// Whether at most one of these names stands for standard input, where there may be one more before them.
+pub(crate) fn name_input_once_behind(first: &Option<Text>, names: &[Text]) -> bool
+    ensures { IsTrue result ↔ NameInputOnce (option_to_list first.now ++ names.now) }
+{
+    if is_input(first) {
+        return name_no_input(names);
+    }
+    name_input_once(names)
 }

@@ -8,8 +8,8 @@ mod text;
 mod text_list;
 mod words;
 
+pub use exchange_limits::WorkerCount;
 pub use limits::{MAX_SCRIPTS, VERSION};
-pub use schedule_certificate::MAX_WORKERS;
 pub use text::Text;
 pub use text_list::TextList;
 pub use words::{Job, WordsFault, read_words};

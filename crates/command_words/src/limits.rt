@@ -1,9 +1,9 @@
 //! The limits of the command line, and the program's version.
 
-use progress_word::ALL_PARTS;
+use exchange_limits::MAX_SESSIONS;
 
 /// The most scripts of `serve`: each is a session, and an exchange has as many at most.
-pub const MAX_SCRIPTS: usize = ALL_PARTS;
+pub const MAX_SCRIPTS: usize = MAX_SESSIONS;
 
 /// The program's version, and the kit that it is proved and built with, as `rt version` tells it. The script that starts
 /// the program builds it with no other kit.

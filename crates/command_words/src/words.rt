@@ -6,33 +6,34 @@ ghost use Rattle.clap.specs.declared.error.kind.ErrorKind.TheVariants.{OutOfMemo
 ghost use Rattle.command_words.specs.declared.words.Job.{Job};
 ghost use Rattle.command_words.specs.declared.words.Lack.TheVariants.{Memory};
 ghost use Rattle.command_words.specs.declared.words.WordsFault.TheVariants.{NoMemory};
-ghost use Rattle.command_words.specs.Program.{IsLocal, IsCommand, AddsRule, AddsTexts, AddsCommand, word, words, workers};
+ghost use Rattle.command_words.specs.Program.{IsLocal, IsCommand, AddsRule, AddsTexts, AddsCommand, word, words, workers, image};
 ghost use Rattle.command_words.specs.Program.{top, planner, program};
-ghost use Rattle.command_words.specs.Program.{plan as plan_app, check as check_app, draw as draw_app, switch as switch_app, run as run_app, serve as serve_app};
+ghost use Rattle.command_words.specs.Program.{plan as plan_app, check as check_app, draw as draw_app, switch as switch_app, direct as direct_app, apply as apply_app, run as run_app, serve as serve_app};
 ghost use Rattle.command_words.specs.Jobs.{Holds, HasShape, HasTexts, HasScripts, HasWorkers, IsJob, IsWithinLimits, AreMatchesOf, IsTaken, NameInputOnce, files_of, texts_of};
-ghost use Rattle.command_words.specs.Jobs.{HasWord, HasBoth, HasSomeScripts, HasSomeWorkers, HasWorked, HasRun, HasServe, LacksMemory, RefusesForMemory};
+ghost use Rattle.command_words.specs.Jobs.{HasWord, HasBoth, HasSomeScripts, HasSomeWorkers, HasWorked, HasApply, HasRun, HasServe, LacksMemory, RefusesForMemory};
 
 use crate::help::{
-    BATCH_HELP, CHECK_NOTES, DRAW_NOTES, PLAN_NOTES, RUN_NOTES, SCHEDULE_HELP, SCRIPT_HELP,
-    SERVE_NOTES, SWITCH_NOTES, TOP_NOTES, WORKERS_HELP,
+    APPLY_NOTES, BATCH_HELP, CHECK_NOTES, DIRECT_NOTES, DRAW_NOTES, IMAGE_HELP, MOVES_HELP,
+    PLAN_NOTES, RUN_NOTES, SCHEDULE_HELP, SCRIPT_HELP, SERVE_NOTES, SWITCH_NOTES, TOP_NOTES,
+    WORDS_HELP, WORKERS_HELP,
 };
-use crate::input::name_input_once;
+use crate::input::{is_input, name_input_once_behind};
 use crate::limits::{MAX_SCRIPTS, VERSION};
 use crate::text::Text;
 use crate::text_list::TextList;
 use clap::error::ErrorKind;
 use clap::{Arg, ArgMatches, Command, value_parser};
-use schedule_certificate::MAX_WORKERS;
+use exchange_limits::{MAX_WORKERS, WorkerCount};
 use std::alloc::{AllocError, Global};
 use thiserror::Error;
 
 /// What the program is to do.
 #[derive(Drop)]
 pub enum Job {
-    /// Plan the batch of a file, with 1 to [`MAX_WORKERS`] workers.
+    /// Plan the batch of a file, with so many workers.
     Plan {
         file: Text,
-        workers: usize,
+        workers: WorkerCount,
     },
     /// Judge the schedule of a file against the batch of another.
     Check {
@@ -44,23 +45,38 @@ pub enum Job {
         batch: Text,
         schedule: Text,
     },
-    /// Tell what a run of the batch of a file sends the switches, with 1 to [`MAX_WORKERS`] workers.
+    /// Tell what a run of the batch of a file sends the switches, with so many workers.
     Switch {
         batch: Text,
-        workers: usize,
+        workers: WorkerCount,
     },
-    /// Run the batch of a file on a rack of the shape, with 1 to [`MAX_WORKERS`] workers.
+    /// Give the moves of a file directions that need the fewest settings.
+    Direct {
+        moves: Text,
+    },
+    /// Run the batch of a file over the words of an image's file, on a rack of the shape,
+    /// with so many workers.
+    Apply {
+        shape: Text,
+        batch: Text,
+        image: Text,
+        workers: WorkerCount,
+    },
+    /// Run the batch of a file on a rack of the shape, which may begin with the words of an image's file,
+    /// with so many workers.
     Run {
         shape: Text,
         batch: Text,
-        workers: usize,
+        image: Option<Text>,
+        workers: WorkerCount,
     },
-    /// Serve the scripts of 1 to [`MAX_SCRIPTS`] files, side by side on one exchange with a rack of the shape,
-    /// with 1 to [`MAX_WORKERS`] workers.
+    /// Serve the scripts of 1 to [`MAX_SCRIPTS`] files, side by side on one exchange with a rack of the shape, which may
+    /// begin with the words of an image's file, with so many workers.
     Serve {
         shape: Text,
         scripts: TextList,
-        workers: usize,
+        image: Option<Text>,
+        workers: WorkerCount,
     },
 }
 
@@ -165,6 +181,24 @@ fn with_workers<'a>(alloc: Global, command: Command<'a>) -> Result<Command<'a>, 
     command.arg(workers(alloc))
 }
 
+/// `--image FILE`.
+fn image<'a>(alloc: Global) -> Arg<'a>
+    ensures rule { rule_of result ≡ image }
+    ensures local { result.global ≡ false }
+{
+    Arg::new(alloc, "image")
+        .long("image")
+        .value_name("FILE")
+        .help(WORDS_HELP)
+}
+
+/// The command with `--image FILE`.
+fn with_image<'a>(alloc: Global, command: Command<'a>) -> Result<Command<'a>, AllocError>
+    ensures { IfOk result (AddsRule command.entry image) }
+{
+    command.arg(image(alloc))
+}
+
 /// The command with the word of the scripts.
 fn with_scripts<'a>(alloc: Global, command: Command<'a>) -> Result<Command<'a>, AllocError>
     ensures { IfOk result (AddsRule command.entry words) }
@@ -211,7 +245,30 @@ fn switch<'a>(alloc: Global) -> Result<Command<'a>, AllocError>
     with_workers(alloc, switch)
 }
 
-/// `run SHAPE BATCH [--workers N]`.
+/// `direct MOVES`.
+fn direct<'a>(alloc: Global) -> Result<Command<'a>, AllocError>
+    ensures { IfOk result (IsCommand direct_app) }
+{
+    let about =
+        "Makes a batch of moves: which are pushed and which are pulled, for the fewest settings";
+    let direct = command(alloc, "direct", about, DIRECT_NOTES);
+    with_word(alloc, direct, "MOVES", MOVES_HELP)
+}
+
+/// `apply SHAPE BATCH IMAGE [--workers N]`.
+fn apply<'a>(alloc: Global) -> Result<Command<'a>, AllocError>
+    ensures { IfOk result (IsCommand apply_app) }
+{
+    let about =
+        "Runs a batch over your own words: an image in, the image with the blocks placed out";
+    let apply = command(alloc, "apply", about, APPLY_NOTES);
+    let apply = with_shape(alloc, apply)?;
+    let apply = with_word(alloc, apply, "BATCH", BATCH_HELP)?;
+    let apply = with_word(alloc, apply, "IMAGE", IMAGE_HELP)?;
+    with_workers(alloc, apply)
+}
+
+/// `run SHAPE BATCH [--image FILE] [--workers N]`.
 fn run<'a>(alloc: Global) -> Result<Command<'a>, AllocError>
     ensures { IfOk result (IsCommand run_app) }
 {
@@ -219,10 +276,11 @@ fn run<'a>(alloc: Global) -> Result<Command<'a>, AllocError>
     let run = command(alloc, "run", about, RUN_NOTES);
     let run = with_shape(alloc, run)?;
     let run = with_word(alloc, run, "BATCH", BATCH_HELP)?;
+    let run = with_image(alloc, run)?;
     with_workers(alloc, run)
 }
 
-/// `serve SHAPE SCRIPT.. [--workers N]`.
+/// `serve SHAPE SCRIPT.. [--image FILE] [--workers N]`.
 fn serve<'a>(alloc: Global) -> Result<Command<'a>, AllocError>
     ensures { IfOk result (IsCommand serve_app) }
 {
@@ -230,6 +288,7 @@ fn serve<'a>(alloc: Global) -> Result<Command<'a>, AllocError>
     let serve = command(alloc, "serve", about, SERVE_NOTES);
     let serve = with_shape(alloc, serve)?;
     let serve = with_scripts(alloc, serve)?;
+    let serve = with_image(alloc, serve)?;
     with_workers(alloc, serve)
 }
 
@@ -260,7 +319,8 @@ fn planner<'a>(alloc: Global) -> Result<Command<'a>, AllocError>
     let planner = with_command(top(alloc), plan(alloc))?;
     let checker = with_command(planner, check(alloc))?;
     let drawer = with_command(checker, draw(alloc))?;
-    with_command(drawer, switch(alloc))
+    let switcher = with_command(drawer, switch(alloc))?;
+    with_command(switcher, direct(alloc))
 }
 
 /// All commands.
@@ -268,7 +328,8 @@ fn program<'a>(alloc: Global) -> Result<Command<'a>, AllocError>
     ensures { IfOk result (λ c. app_of c ≡ program) }
 {
     let planner = planner(alloc)?;
-    let runner = with_command(planner, run(alloc))?;
+    let applier = with_command(planner, apply(alloc))?;
+    let runner = with_command(applier, run(alloc))?;
     with_command(runner, serve(alloc))
 }
 
@@ -352,6 +413,16 @@ fn shape_of(alloc: Global, matches: &ArgMatches<'_>) -> Result<Text, Lack>
     text_of(alloc, matches, "SHAPE")
 }
 
+/// The text of `--image`, where it is there.
+fn image_of(alloc: Global, matches: &ArgMatches<'_>) -> Result<Option<Text>, AllocError>
+    ensures { IfOk result (λ image. first_of (codes "image") (rows_of (found_of matches.now)) ≡ image) }
+{
+    match matches.get_str("image") {
+        Some(text) => Ok(Some(Text::of(alloc, text)?)),
+        None => Ok(None),
+    }
+}
+
 /// The texts of a batch and of a schedule.
 fn texts_named(alloc: Global, matches: &ArgMatches<'_>) -> Result<(Text, Text), Lack>
     ensures texts { IfOk result (λ texts. HasTexts (rows_of (found_of matches.now)) texts.0 texts.1) }
@@ -376,14 +447,14 @@ fn scripts_of(alloc: Global, matches: &ArgMatches<'_>) -> Result<TextList, Lack>
 }
 
 /// The number of `--workers`.
-fn workers_of(alloc: Global, matches: &ArgMatches<'_>) -> Result<usize, Lack>
+fn workers_of(alloc: Global, matches: &ArgMatches<'_>) -> Result<WorkerCount, Lack>
     ensures workers { IfOk result (λ n. HasWorkers (rows_of (found_of matches.now)) n) }
     ensures lack { LacksMemory (HasSomeWorkers (rows_of (found_of matches.now))) result }
 {
-    match matches.get_one::<usize>("workers") {
-        Some(n) if n >= 1 && n <= MAX_WORKERS => Ok(n),
-        _ => Err(Lack::Word),
-    }
+    let Some(number) = matches.get_one::<usize>("workers") else {
+        return Err(Lack::Word);
+    };
+    WorkerCount::new(number).ok_or(Lack::Word)
 }
 
 /// The job of `plan`.
@@ -428,6 +499,34 @@ fn switch_job(alloc: Global, found: &ArgMatches<'_>) -> Result<Job, Lack>
     Ok(Job::Switch { batch, workers })
 }
 
+/// The job of `direct`.
+fn direct_job(alloc: Global, found: &ArgMatches<'_>) -> Result<Job, Lack>
+    ensures job { IfOk result (λ job. IsJob (codes "direct") (rows_of (found_of found.now)) job) }
+    ensures limits { IfOk result (λ job. IsWithinLimits job) }
+    ensures lack { LacksMemory (HasWord (codes "MOVES") (rows_of (found_of found.now))) result }
+{
+    let moves = text_of(alloc, found, "MOVES")?;
+    Ok(Job::Direct { moves })
+}
+
+/// The job of `apply`.
+fn apply_job(alloc: Global, found: &ArgMatches<'_>) -> Result<Job, Lack>
+    ensures job { IfOk result (λ job. IsJob (codes "apply") (rows_of (found_of found.now)) job) }
+    ensures limits { IfOk result (λ job. IsWithinLimits job) }
+    ensures lack { LacksMemory (HasApply (rows_of (found_of found.now))) result }
+{
+    let shape = shape_of(alloc, found)?;
+    let batch = text_of(alloc, found, "BATCH")?;
+    let image = text_of(alloc, found, "IMAGE")?;
+    let workers = workers_of(alloc, found)?;
+    Ok(Job::Apply {
+        shape,
+        batch,
+        image,
+        workers,
+    })
+}
+
 /// The job of `run`.
 fn run_job(alloc: Global, found: &ArgMatches<'_>) -> Result<Job, Lack>
     ensures job { IfOk result (λ job. IsJob (codes "run") (rows_of (found_of found.now)) job) }
@@ -436,10 +535,12 @@ fn run_job(alloc: Global, found: &ArgMatches<'_>) -> Result<Job, Lack>
 {
     let shape = shape_of(alloc, found)?;
     let batch = text_of(alloc, found, "BATCH")?;
+    let image = image_of(alloc, found)?;
     let workers = workers_of(alloc, found)?;
     Ok(Job::Run {
         shape,
         batch,
+        image,
         workers,
     })
 }
@@ -452,10 +553,12 @@ fn serve_job(alloc: Global, found: &ArgMatches<'_>) -> Result<Job, Lack>
 {
     let shape = shape_of(alloc, found)?;
     let scripts = scripts_of(alloc, found)?;
+    let image = image_of(alloc, found)?;
     let workers = workers_of(alloc, found)?;
     Ok(Job::Serve {
         shape,
         scripts,
+        image,
         workers,
     })
 }
@@ -484,6 +587,12 @@ fn job_of(alloc: Global, name: &str, found: &ArgMatches<'_>) -> Result<Job, Lack
     }
     if name == "switch" {
         return switch_job(alloc, found);
+    }
+    if name == "direct" {
+        return direct_job(alloc, found);
+    }
+    if name == "apply" {
+        return apply_job(alloc, found);
     }
     Err(Lack::Word)
 }
@@ -514,8 +623,10 @@ fn reads_input_once(job: &Job) -> bool
         Job::Check { batch, schedule } => !(batch.is_input() && schedule.is_input()),
         Job::Draw { batch, schedule } => !(batch.is_input() && schedule.is_input()),
         Job::Switch { .. } => true,
-        Job::Run { .. } => true,
-        Job::Serve { scripts, .. } => name_input_once(scripts.as_slice()),
+        Job::Direct { .. } => true,
+        Job::Apply { batch, image, .. } => !(batch.is_input() && image.is_input()),
+        Job::Run { batch, image, .. } => !(is_input(image) && batch.is_input()),
+        Job::Serve { scripts, image, .. } => name_input_once_behind(image, scripts.as_slice()),
     }
 }
 

@@ -15,7 +15,7 @@ use Rattle.link_graph.specs.Counts.{count_below, module_at, uses}
 use Rattle.link_graph.specs.Marks.{members}
 use Rattle.link_graph.proofs.Firsts.{all_left, all_right}
 use Rattle.euler_split.specs.Split.{uses_among, IsSplit}
-use Rattle.euler_split.specs.Pairs.{module_in, passing, AreBalanced}
+use Rattle.euler_split.specs.Pairs.{module_in, modules_in, passing, AreBalanced}
 use Rattle.euler_split.specs.Walks.{partner_at, half_at, IsHalved}
 use Rattle.euler_split.specs.Deals.{in_left, IsDealt}
 use Rattle.euler_split.proofs.Modules.{known_transfer, module_is}
@@ -47,7 +47,7 @@ uses_counted g link (t ∷ ts) known =
     omega (arith, ap (λ (xs : List Transfer). uses xs link) more, sum_by-cons (λ y. one (module_at link.end y)) x (members g ts), sum_by-cons (λ u. one (module_in g link.end u)) t ts, same, uses_counted g link ts (All-tail (λ u. u < length g) t ts known))
 
 -- a half's uses of a link are the places there that are dealt to it
-uses_passing : (g : List Transfer) (whole ts : List ℕ) (n : ℕ) (link : Link) (p : ℕ → Bool) → All (λ t. t < length g) ts → ((q : ℕ → Bool) → count_by q ts ≡ count_below n (λ i. p i && q (get_or whole i 0))) → uses_among g ts link ≡ passing g whole link.end link.«module» n p
+uses_passing : (g : List Transfer) (whole ts : List ℕ) (n : ℕ) (link : Link) (p : ℕ → Bool) → All (λ t. t < length g) ts → ((q : ℕ → Bool) → count_by q ts ≡ count_below n (λ i. p i && q (get_or whole i 0))) → uses_among g ts link ≡ passing (modules_in g whole link.end) link.«module» n p
 uses_passing g whole ts n link p known dealt = uses_counted g link ts known ∙ dealt (uses_link g link)
 
 -- ---- one more place is dealt
@@ -134,14 +134,14 @@ module _ (whole : List ℕ) (n : ℕ) (test : ℕ → Bool) (now others : List �
 
 -- ---- the halves
 
-module _ (g : List Transfer) (whole left right : List ℕ) (known : All (λ t. t < length g) whole) (zs ts : List (Option ℕ)) (h : List (Option Bool)) (bz : AreBalanced g whole Zero zs) (bt : AreBalanced g whole Three ts) (halved : IsHalved zs ts (length zs) h) (dealt : IsDealt whole (length whole) (in_left h) left right) where
+module _ (g : List Transfer) (whole left right : List ℕ) (known : All (λ t. t < length g) whole) (zs ts : List (Option ℕ)) (h : List (Option Bool)) (bz : AreBalanced (modules_in g whole Zero) (length whole) zs) (bt : AreBalanced (modules_in g whole Three) (length whole) ts) (halved : IsHalved zs ts (length zs) h) (dealt : IsDealt whole (length whole) (in_left h) left right) where
   whole_parts : IsPermutation whole (left ++ right)
   whole_parts = rw take-length at dealt.parts
 
   known_parts : All (λ t. t < length g) (left ++ right)
   known_parts = All-permutation (λ t. t < length g) whole (left ++ right) whole_parts known
 
-  even_at : (e : End) (m : ℕ) → (passing g whole e m (length whole) (in_left h) ≤ passing g whole e m (length whole) (λ i. not (in_left h i)) + 1) × (passing g whole e m (length whole) (λ i. not (in_left h i)) ≤ passing g whole e m (length whole) (in_left h) + 1)
+  even_at : (e : End) (m : ℕ) → (passing (modules_in g whole e) m (length whole) (in_left h) ≤ passing (modules_in g whole e) m (length whole) (λ i. not (in_left h i)) + 1) × (passing (modules_in g whole e) m (length whole) (λ i. not (in_left h i)) ≤ passing (modules_in g whole e) m (length whole) (in_left h) + 1)
   even_at Zero m = bz.even (in_left h) (λ u v at. left_tells zs ts h Zero halved u v at (pair_in zs v u bz.pairs (bz.pairs.symmetric u v at))) m
   even_at Three m = bt.even (in_left h) (λ u v at. left_tells zs ts h Three halved u v at (rw (bz.sized, ← bt.sized) (pair_in ts v u bt.pairs (bt.pairs.symmetric u v at)))) m
 

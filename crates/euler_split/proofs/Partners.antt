@@ -5,9 +5,7 @@ use Rattle.std.proofs.lemmas.Option.{same_Some, none-some}
 use Rattle.std.proofs.lemmas.Bool.{cases_eq, cases_lt}
 use Rattle.std.proofs.lemmas.Bool.Decides.{eqb_tells}
 use Rattle.batch.specs.declared.limits.TheConstants.{MAX_MODULES}
-use Rattle.batch.specs.declared.transfer.Transfer.{Transfer}
-use Rattle.link_graph.specs.declared.link.End.{End}
-use Rattle.euler_split.specs.Pairs.{ArePairs, Tells, module_in, passing, AreBalanced, HasCome}
+use Rattle.euler_split.specs.Pairs.{ArePairs, Tells, passing, AreBalanced, HasCome}
 
 -- a passing and b failing places, of which one may have no partner yet
 abbrev pub Evens : Option ℕ → (ℕ → Bool) → ℕ → ℕ → Type 0
@@ -15,21 +13,21 @@ Evens None p a b = a ≡ b
 Evens (Some w) p a b = (p w ≡ true → a ≡ b + 1) × (p w ≡ false → b ≡ a + 1)
 
 -- the first i places are paired at each link, but for the one that waits there
-pub record ArePaired (g : List Transfer) (members : List ℕ) (e : End) (i : ℕ) (ws ps : List (Option ℕ)) : Type 0 where
-  pub sized : length ps ≡ length members
+pub record ArePaired (module_of : ℕ → ℕ) (count i : ℕ) (ws ps : List (Option ℕ)) : Type 0 where
+  pub sized : length ps ≡ count
   pub links : length ws ≡ MAX_MODULES
   pub pairs : ArePairs ps
   pub fresh : (u : ℕ) → i ≤ u → get_or ps u None ≡ None
-  pub waits : (l w : ℕ) → get_or ws l None ≡ Some w → (w < i) × (get_or ps w None ≡ None) × (module_in g e (get_or members w 0) ≡ l)
-  pub even : (p : ℕ → Bool) → Tells ps p → (l : ℕ) → Evens (get_or ws l None) p (passing g members e l i p) (passing g members e l i (λ j. not (p j)))
+  pub waits : (l w : ℕ) → get_or ws l None ≡ Some w → (w < i) × (get_or ps w None ≡ None) × (module_of w ≡ l)
+  pub even : (p : ℕ → Bool) → Tells ps p → (l : ℕ) → Evens (get_or ws l None) p (passing module_of l i p) (passing module_of l i (λ j. not (p j)))
 
-passing_here : (g : List Transfer) (members : List ℕ) (e : End) (l i : ℕ) (p : ℕ → Bool) → l ≡ module_in g e (get_or members i 0) → passing g members e l (suc i) p ≡ cond (p i) 1 0 + passing g members e l i p
-passing_here g members e l i p here = rw (eq-eqb _ l (sym here)) (elim (p i) as (λ b. cond (b && true) 1 0 + passing g members e l i p ≡ cond b 1 0 + passing g members e l i p) [ true ↦ refl | false ↦ refl ])
+passing_here : (module_of : ℕ → ℕ) (l i : ℕ) (p : ℕ → Bool) → l ≡ module_of i → passing module_of l (suc i) p ≡ cond (p i) 1 0 + passing module_of l i p
+passing_here module_of l i p here = rw (eq-eqb _ l (sym here)) (elim (p i) as (λ b. cond (b && true) 1 0 + passing module_of l i p ≡ cond b 1 0 + passing module_of l i p) [ true ↦ refl | false ↦ refl ])
 
-passing_away : (g : List Transfer) (members : List ℕ) (e : End) (l i : ℕ) (p : ℕ → Bool) → l ≢ module_in g e (get_or members i 0) → passing g members e l (suc i) p ≡ passing g members e l i p
-passing_away g members e l i p away = elim (eqb_tells (module_in g e (get_or members i 0)) l) [
+passing_away : (module_of : ℕ → ℕ) (l i : ℕ) (p : ℕ → Bool) → l ≢ module_of i → passing module_of l (suc i) p ≡ passing module_of l i p
+passing_away module_of l i p away = elim (eqb_tells (module_of i) l) [
   | inl same ↦ absurd (away (sym same.1))
-  | inr other ↦ rw other.0 (elim (p i) as (λ b. cond (b && false) 1 0 + passing g members e l i p ≡ passing g members e l i p) [ true ↦ omega arith | false ↦ omega arith ])
+  | inr other ↦ rw other.0 (elim (p i) as (λ b. cond (b && false) 1 0 + passing module_of l i p ≡ passing module_of l i p) [ true ↦ omega arith | false ↦ omega arith ])
 ]
 
 evens_first : (p : ℕ → Bool) (i a b : ℕ) → a ≡ b → Evens (Some i) p (cond (p i) 1 0 + a) (cond (not (p i)) 1 0 + b)
@@ -49,8 +47,8 @@ nothing_at n i ws is = elim (cases_lt i n) [
   | inr past ↦ get_or_past _ i None (rw (is, length-replicate) past)
 ]
 
-pub none_paired : (g : List Transfer) (members : List ℕ) (e : End) (ws ps : List (Option ℕ)) → ws ≡ replicate MAX_MODULES None → length ps ≡ length members → ((u : ℕ) → get_or ps u None ≡ None) → ArePaired g members e 0 ws ps
-none_paired g members e ws ps is sized none = record {
+pub none_paired : (module_of : ℕ → ℕ) (count : ℕ) (ws ps : List (Option ℕ)) → ws ≡ replicate MAX_MODULES None → length ps ≡ count → ((u : ℕ) → get_or ps u None ≡ None) → ArePaired module_of count 0 ws ps
+none_paired module_of count ws ps is sized none = record {
   sized = sized;
   links = rw is (length-replicate {A = Option ℕ} MAX_MODULES None);
   pairs = record { symmetric = λ u v at. absurd (none-some v (sym (none u) ∙ at)); apart = λ u v at. absurd (none-some v (sym (none u) ∙ at)) };
@@ -59,9 +57,9 @@ none_paired g members e ws ps is sized none = record {
   even = λ p tells l. evens_by None (get_or ws l None) p 0 0 0 0 (sym (nothing_at MAX_MODULES l ws is)) refl refl refl;
 }
 
-module _ (g : List Transfer) (members : List ℕ) (e : End) (i : ℕ) (ws ps : List (Option ℕ)) (x : ArePaired g members e i ws ps) (i_in : i < length members) (l₀ : ℕ) (l_in : l₀ < MAX_MODULES) (link : l₀ ≡ module_in g e (get_or members i 0)) where
+module _ (module_of : ℕ → ℕ) (count i : ℕ) (ws ps : List (Option ℕ)) (x : ArePaired module_of count i ws ps) (i_in : i < count) (l₀ : ℕ) (l_in : l₀ < MAX_MODULES) (link : l₀ ≡ module_of i) where
   -- the first at its link waits
-  pub waits_now : get_or ws l₀ None ≡ None → ArePaired g members e (suc i) (set ws l₀ (Some i)) ps
+  pub waits_now : get_or ws l₀ None ≡ None → ArePaired module_of count (suc i) (set ws l₀ (Some i)) ps
   waits_now free =
       let now : List (Option ℕ) = set ws l₀ (Some i) in
       let within : l₀ < length ws = let n = x.links in omega arith in
@@ -74,7 +72,7 @@ module _ (g : List Transfer) (members : List ℕ) (e : End) (i : ℕ) (ws ps : L
         waits = λ l w at. elim (cases_eq l l₀) [
           | inl same ↦
               let wi : w ≡ i = same_Some w i (sym at ∙ (ap (λ m. get_or now m None) same ∙ here)) in
-              (omega arith, ap (λ m. get_or ps m None) wi ∙ x.fresh i (omega arith), ap (λ m. module_in g e (get_or members m 0)) wi ∙ (sym link ∙ sym same))
+              (omega arith, ap (λ m. get_or ps m None) wi ∙ x.fresh i (omega arith), ap module_of wi ∙ (sym link ∙ sym same))
           | inr apart ↦
               let old = x.waits l w (sym (get_or-set_other ws l₀ l (Some i) None apart) ∙ at) in
               (omega (arith, old.0), old.1, old.2)
@@ -82,16 +80,16 @@ module _ (g : List Transfer) (members : List ℕ) (e : End) (i : ℕ) (ws ps : L
         even = λ p tells l. elim (cases_eq l l₀) [
           | inl same ↦
               let was : get_or ws l None ≡ None = ap (λ m. get_or ws m None) same ∙ free in
-              let old : Evens None p (passing g members e l i p) (passing g members e l i (λ j. not (p j))) = subst (λ o. Evens o p (passing g members e l i p) (passing g members e l i (λ j. not (p j)))) was (x.even p tells l) in
-              evens_by (Some i) _ p _ _ _ _ (sym here ∙ ap (λ m. get_or now m None) (sym same)) (sym (passing_here g members e l i p (same ∙ link))) (sym (passing_here g members e l i (λ j. not (p j)) (same ∙ link))) (evens_first p i _ _ old)
+              let old : Evens None p (passing module_of l i p) (passing module_of l i (λ j. not (p j))) = subst (λ o. Evens o p (passing module_of l i p) (passing module_of l i (λ j. not (p j)))) was (x.even p tells l) in
+              evens_by (Some i) _ p _ _ _ _ (sym here ∙ ap (λ m. get_or now m None) (sym same)) (sym (passing_here module_of l i p (same ∙ link))) (sym (passing_here module_of l i (λ j. not (p j)) (same ∙ link))) (evens_first p i _ _ old)
           | inr apart ↦
-              let away : l ≢ module_in g e (get_or members i 0) = λ q. apart (q ∙ sym link) in
-              evens_by _ _ p _ _ _ _ (sym (get_or-set_other ws l₀ l (Some i) None apart)) (sym (passing_away g members e l i p away)) (sym (passing_away g members e l i (λ j. not (p j)) away)) (x.even p tells l)
+              let away : l ≢ module_of i = λ q. apart (q ∙ sym link) in
+              evens_by _ _ p _ _ _ _ (sym (get_or-set_other ws l₀ l (Some i) None apart)) (sym (passing_away module_of l i p away)) (sym (passing_away module_of l i (λ j. not (p j)) away)) (x.even p tells l)
         ];
       }
 
   -- the second is paired with the one that waited
-  pub paired_now : (w : ℕ) → get_or ws l₀ None ≡ Some w → ArePaired g members e (suc i) (set ws l₀ None) (set (set ps w (Some i)) i (Some w))
+  pub paired_now : (w : ℕ) → get_or ws l₀ None ≡ Some w → ArePaired module_of count (suc i) (set ws l₀ None) (set (set ps w (Some i)) i (Some w))
   paired_now w waited =
       let old_w = x.waits l₀ w waited in
       let within : l₀ < length ws = let n = x.links in omega arith in
@@ -131,7 +129,7 @@ module _ (g : List Transfer) (members : List ℕ) (e : End) (i : ℕ) (ws ps : L
           | inl same ↦ absurd (none-some v (sym gone ∙ (ap (λ m. get_or (set ws l₀ None) m None) (sym same) ∙ at)))
           | inr apart ↦
               let old = x.waits l v (sym (get_or-set_other ws l₀ l None None apart) ∙ at) in
-              let vw : v ≢ w = λ same. apart (sym old.2 ∙ (ap (λ m. module_in g e (get_or members m 0)) same ∙ old_w.2)) in
+              let vw : v ≢ w = λ same. apart (sym old.2 ∙ (ap module_of same ∙ old_w.2)) in
               (omega (arith, old.0), at_other v (λ same. omega (arith, old.0)) vw ∙ old.1, old.2)
         ];
         even = λ p tells l.
@@ -139,18 +137,18 @@ module _ (g : List Transfer) (members : List ℕ) (e : End) (i : ℕ) (ws ps : L
             elim (cases_eq l l₀) [
               | inl same ↦
                   let was : get_or ws l None ≡ Some w = ap (λ m. get_or ws m None) same ∙ waited in
-                  let old : Evens (Some w) p (passing g members e l i p) (passing g members e l i (λ j. not (p j))) = subst (λ o. Evens o p (passing g members e l i p) (passing g members e l i (λ j. not (p j)))) was before in
-                  evens_by None _ p _ _ _ _ (sym gone ∙ ap (λ m. get_or (set ws l₀ None) m None) (sym same)) (sym (passing_here g members e l i p (same ∙ link))) (sym (passing_here g members e l i (λ j. not (p j)) (same ∙ link))) (evens_second p i w _ _ (tells w i at_w) old)
+                  let old : Evens (Some w) p (passing module_of l i p) (passing module_of l i (λ j. not (p j))) = subst (λ o. Evens o p (passing module_of l i p) (passing module_of l i (λ j. not (p j)))) was before in
+                  evens_by None _ p _ _ _ _ (sym gone ∙ ap (λ m. get_or (set ws l₀ None) m None) (sym same)) (sym (passing_here module_of l i p (same ∙ link))) (sym (passing_here module_of l i (λ j. not (p j)) (same ∙ link))) (evens_second p i w _ _ (tells w i at_w) old)
               | inr apart ↦
-                  let away : l ≢ module_in g e (get_or members i 0) = λ q. apart (q ∙ sym link) in
-                  evens_by _ _ p _ _ _ _ (sym (get_or-set_other ws l₀ l None None apart)) (sym (passing_away g members e l i p away)) (sym (passing_away g members e l i (λ j. not (p j)) away)) before
+                  let away : l ≢ module_of i = λ q. apart (q ∙ sym link) in
+                  evens_by _ _ p _ _ _ _ (sym (get_or-set_other ws l₀ l None None apart)) (sym (passing_away module_of l i p away)) (sym (passing_away module_of l i (λ j. not (p j)) away)) before
             ];
       }
 
   -- it comes to its link
-  pub come_paired : (waiting partners : List (Option ℕ)) → HasCome l₀ i ws ps waiting partners → ArePaired g members e (suc i) waiting partners
+  pub come_paired : (waiting partners : List (Option ℕ)) → HasCome l₀ i ws ps waiting partners → ArePaired module_of count (suc i) waiting partners
   come_paired waiting partners come =
-      let go : (o : Option ℕ) → get_or ws l₀ None ≡ o → ArePaired g members e (suc i) waiting partners = λ o. elim o as (λ o. get_or ws l₀ None ≡ o → ArePaired g members e (suc i) waiting partners) [
+      let go : (o : Option ℕ) → get_or ws l₀ None ≡ o → ArePaired module_of count (suc i) waiting partners = λ o. elim o as (λ o. get_or ws l₀ None ≡ o → ArePaired module_of count (suc i) waiting partners) [
         | None ↦ λ is. let now = come.waits is in rw (now.0, now.1) (waits_now is)
         | Some w ↦ λ is. let now = come.paired w is in rw (now.0, now.1) (paired_now w is)
       ] in
@@ -162,8 +160,8 @@ at_most_one (Some w) p a b h =
     let go : (y : Bool) → p w ≡ y → (a ≤ b + 1) × (b ≤ a + 1) = λ y. elim y as (λ y. p w ≡ y → (a ≤ b + 1) × (b ≤ a + 1)) [ true ↦ λ is. let k = h.0 is in (omega arith, omega arith) | false ↦ λ is. let k = h.1 is in (omega arith, omega arith) ] in
     go (p w) refl
 
-pub all_paired : (g : List Transfer) (members : List ℕ) (e : End) (ws ps : List (Option ℕ)) → ArePaired g members e (length members) ws ps → AreBalanced g members e ps
-all_paired g members e ws ps x = record {
+pub all_paired : (module_of : ℕ → ℕ) (count : ℕ) (ws ps : List (Option ℕ)) → ArePaired module_of count count ws ps → AreBalanced module_of count ps
+all_paired module_of count ws ps x = record {
   sized = x.sized;
   pairs = x.pairs;
   even = λ p tells l. at_most_one (get_or ws l None) p _ _ (x.even p tells l);

@@ -1,4 +1,5 @@
--- Places of a list of transfers, paired at each link of one end.
+-- Places, each of them at a link, that are paired two by two at each link. The places of a list of
+-- transfers are at the links of one end; a link is told by its module.
 use Rattle.std.specs.Prelude.{◌≡◌, ◌≢◌, ◌==◌, ℕ, ◌+◌, ◌≤◌, List, length, map, Option, Some, None, Bool, ◌&&◌, not, slice_index, slice_index_or, set}
 use Rattle.batch.specs.declared.transfer.Transfer.{Transfer}
 use Rattle.link_graph.specs.declared.link.End.{End}
@@ -18,21 +19,23 @@ pub record ArePairs (partners : List (Option ℕ)) : Type 0 where
 abbrev pub Tells : List (Option ℕ) → (ℕ → Bool) → Type 0
 Tells partners test = (u v : ℕ) → slice_index_or partners u None ≡ Some v → test u ≡ not (test v)
 
--- how many of the first n places have the module at that end and pass the test
-abbrev pub passing : List Transfer → List ℕ → End → ℕ → ℕ → (ℕ → Bool) → ℕ
-passing batch whole end m n test =
-    count_below n (λ i. test i && module_in batch end (slice_index whole i) == m)
+-- the module that each place of a list of transfers has at an end
+abbrev pub modules_in : List Transfer → List ℕ → End → ℕ → ℕ
+modules_in batch whole end i = module_in batch end (slice_index whole i)
 
--- whichever test tells partners apart, about half of the places at each link pass it
-pub record AreBalanced (batch : List Transfer) (whole : List ℕ) (end : End)
+-- how many of the first n places are at the link of module m and pass the test
+abbrev pub passing : (ℕ → ℕ) → ℕ → ℕ → (ℕ → Bool) → ℕ
+passing module_of m n test = count_below n (λ i. test i && module_of i == m)
+
+-- so many places are paired, and whichever test tells partners apart, about half of the places at
+-- each link pass it
+pub record AreBalanced (module_of : ℕ → ℕ) (count : ℕ)
     (partners : List (Option ℕ)) : Type 0 where
-  pub sized : length partners ≡ length whole
+  pub sized : length partners ≡ count
   pub pairs : ArePairs partners
   pub even : (test : ℕ → Bool) → Tells partners test → (m : ℕ)
-      → (passing batch whole end m (length whole) test
-      ≤ passing batch whole end m (length whole) (λ i. not (test i)) + 1)
-      × (passing batch whole end m (length whole) (λ i. not (test i))
-      ≤ passing batch whole end m (length whole) test + 1)
+      → (passing module_of m count test ≤ passing module_of m count (λ i. not (test i)) + 1)
+      × (passing module_of m count (λ i. not (test i)) ≤ passing module_of m count test + 1)
 
 -- A place comes to a link. Where none waits there, it waits; else it and the one that waits are
 -- partners.

@@ -3,13 +3,15 @@
 ghost use Rattle.std.specs.Prelude.{◌≡◌, ℕ, ◌<◌, ◌≤◌, length, All, None, Some, slice_index_or};
 ghost use Rattle.batch.specs.Batches.{IsBatch};
 ghost use Rattle.link_graph.specs.declared.link.End.TheVariants.{Zero, Three};
-ghost use Rattle.euler_split.specs.Pairs.{AreBalanced, HasCome};
+ghost use Rattle.euler_split.specs.Pairs.{modules_in, AreBalanced, HasCome};
 
+use crate::limits::MAX_PLACES;
 use batch::{MAX_MODULES, MAX_TRANSFERS};
 use link_graph::LinkGraph;
 
-/// Lets a place wait at a module's link, or pairs it with the one that waits there.
-fn come(
+/// Lets a place wait at a module's link, or pairs it with the one that waits there. Where all places come
+/// in their order, they are paired at each link two by two, and the last of an odd number has no partner.
+pub fn wait_or_pair(
     waiting: &mut [Option<u16>; MAX_MODULES],
     partners: &mut [Option<u16>],
     module: usize,
@@ -17,7 +19,7 @@ fn come(
 )
     requires link { «module» < MAX_MODULES }
     requires within { place < length partners.old }
-    requires few { length partners.old ≤ MAX_TRANSFERS }
+    requires few { length partners.old ≤ MAX_PLACES }
     requires earlier { (w : ℕ) → slice_index_or waiting.old «module» None ≡ Some w → w < place }
     ensures { HasCome «module» place waiting.old partners.old waiting.new partners.new }
 {
@@ -46,14 +48,14 @@ pub(crate) fn pair(
     requires three_sized { length three.old ≡ length members.now }
     requires zero_empty { (place : ℕ) → slice_index_or zero.old place None ≡ None }
     requires three_empty { (place : ℕ) → slice_index_or three.old place None ≡ None }
-    ensures zero { AreBalanced graph.now members.now Zero zero.new }
-    ensures three { AreBalanced graph.now members.now Three three.new }
+    ensures zero { AreBalanced (modules_in graph.now members.now Zero) (length members.now) zero.new }
+    ensures three { AreBalanced (modules_in graph.now members.now Three) (length members.now) three.new }
 {
     let mut at_zero = [None; MAX_MODULES];
     let mut at_three = [None; MAX_MODULES];
     for place in 0..members.len() {
         let (start, answer) = graph.ends(members[place]).unwrap();
-        come(&mut at_zero, zero, start.module, place);
-        come(&mut at_three, three, answer.module, place);
+        wait_or_pair(&mut at_zero, zero, start.module, place);
+        wait_or_pair(&mut at_three, three, answer.module, place);
     }
 }

@@ -70,8 +70,9 @@ fn begin(zero: &[Option<u16>], three: &[Option<u16>], halves: &mut [Option<bool>
     walk(zero, three, halves, start, End::Zero);
 }
 
-/// Puts every place into a half, so that no two partners are in one.
-pub(crate) fn halve(zero: &[Option<u16>], three: &[Option<u16>], halves: &mut [Option<bool>])
+/// Puts every place into a half, so that no two partners are in one: neither the partners at one end nor
+/// those at the other. Takes time that grows with the number of places, and no memory.
+pub fn halve(zero: &[Option<u16>], three: &[Option<u16>], halves: &mut [Option<bool>])
     requires zero_sized { length zero.now ≡ length halves.old }
     requires three_sized { length three.now ≡ length halves.old }
     requires zero_pairs { ArePairs zero.now }

@@ -1,14 +1,16 @@
 -- What the program prints for a job.
-use Rattle.std.specs.Prelude.{◌≡◌, ◌⊎◌, ◌<◌, ℕ, List, [], Option, Result, Ok, Err, IfOk, IfSome, codes, length, slice_index_or}
+use Rattle.std.specs.Prelude.{◌≡◌, ◌⊎◌, ◌<◌, ℕ, List, [], Option, Some, None, Result, Ok, Err, IfOk, IfSome, codes, ⊤, length, slice_index_or}
 use Rattle.std.specs.Io.KnownBytes.{Appends}
 use Rattle.answers.specs.Extent.{widest}
-use Rattle.answers.specs.Answers.{IsPlanned, IsChecked, IsDrawn, IsRunAnswer}
+use Rattle.answers.specs.Answers.{IsPlanned, IsChecked, IsDrawn, IsRunAnswer, image_alone}
+use Rattle.answers.specs.Directing.{IsDirected}
 use Rattle.answers.specs.Refusals.{Printed}
+use Rattle.answers.specs.Reports.{report_of}
 use Rattle.answers.specs.Serving.{IsServeAnswer}
 use Rattle.answers.specs.Switching.{IsSwitched}
 use Rattle.answers.specs.declared.limits.TheConstants.{DONE, REFUSED}
 use Rattle.command_words.specs.declared.words.Job.{Job}
-use Rattle.command_words.specs.declared.words.Job.TheVariants.{Plan, Check, Draw, Switch, Run, Serve}
+use Rattle.command_words.specs.declared.words.Job.TheVariants.{Plan, Check, Draw, Switch, Direct, Apply, Run, Serve}
 use Rattle.command_words.specs.declared.words.WordsFault.{WordsFault}
 use Rattle.command_words.specs.declared.words.WordsFault.TheVariants as words_fault
 use Rattle.command_words.specs.Jobs.{Holds, AsksForHelp, RefusesForMemory, input_name}
@@ -20,6 +22,13 @@ use Rattle.exchange.specs.declared.unanswered.Unanswered.TheVariants.{File, NoMe
 -- and then it holds them, as far as they are known
 abbrev pub IsHeld : Option (List ℕ) → List ℕ → List ℕ → Type 0
 IsHeld input name bytes = name ≡ input_name → IfSome input (λ known. bytes ≡ known)
+
+-- what the file of an image holds, where one is named
+abbrev pub IsHeldImage : Option (List ℕ) → Option (List ℕ) → Option (List ℕ) → Type 0
+IsHeldImage input None None = ⊤
+IsHeldImage input None (Some bytes) = ⊥
+IsHeldImage input (Some name) None = ⊥
+IsHeldImage input (Some name) (Some bytes) = IsHeld input name bytes
 
 -- what the files of these names hold
 pub record AreHeld (input : Option (List ℕ)) (names files : List (List ℕ)) : Type 0 where
@@ -49,15 +58,29 @@ abbrev pub IsSomeSwitch : Option (List ℕ) → List ℕ → Printed → Type 0
 IsSomeSwitch input file answer =
     (batch : List ℕ) × IsHeld input file batch × IsSwitched widest batch answer
 
--- an answer of `run` to this shape's text and to what this file holds
-abbrev pub IsSomeRun : Option (List ℕ) → List ℕ → List ℕ → Printed → Type 0
-IsSomeRun input shape file answer =
-    (batch : List ℕ) × IsHeld input file batch × IsRunAnswer shape batch answer
+-- an answer of `direct` to what this file holds
+abbrev pub IsSomeDirect : Option (List ℕ) → List ℕ → Printed → Type 0
+IsSomeDirect input file answer =
+    (moves : List ℕ) × IsHeld input file moves × IsDirected moves answer
+
+-- an answer of `apply` to this shape's text and to what these files hold
+abbrev pub IsSomeApply : Option (List ℕ) → List ℕ → List ℕ → List ℕ → Printed → Type 0
+IsSomeApply input shape file image_file answer =
+    (batch image : List ℕ) × IsHeld input file batch × IsHeld input image_file image
+    × IsRunAnswer image_alone shape batch (Some image) answer
+
+-- an answer of `run` to this shape's text and to what these files hold
+abbrev pub IsSomeRun : Option (List ℕ) → List ℕ → List ℕ → Option (List ℕ) → Printed → Type 0
+IsSomeRun input shape file image_file answer =
+    (batch : List ℕ) × (image : Option (List ℕ)) × IsHeld input file batch
+    × IsHeldImage input image_file image × IsRunAnswer report_of shape batch image answer
 
 -- an answer of `serve` to this shape's text and to what these files hold
-abbrev pub IsSomeServe : Option (List ℕ) → List ℕ → List (List ℕ) → Printed → Type 0
-IsSomeServe input shape files answer =
-    (scripts : List (List ℕ)) × AreHeld input files scripts × IsServeAnswer shape scripts answer
+abbrev pub IsSomeServe : Option (List ℕ) → List ℕ → List (List ℕ) → Option (List ℕ) → Printed
+    → Type 0
+IsSomeServe input shape files image_file answer =
+    (scripts : List (List ℕ)) × (image : Option (List ℕ)) × AreHeld input files scripts
+    × IsHeldImage input image_file image × IsServeAnswer shape image scripts answer
 
 -- the answer to a job, whatever bytes its files hold, but for those of standard input
 abbrev pub IsAnswerTo : Option (List ℕ) → Job → Printed → Type 0
@@ -65,8 +88,11 @@ IsAnswerTo input (Plan file workers) answer = IsSomePlan input file answer
 IsAnswerTo input (Check batch schedule) answer = IsSomeCheck input batch schedule answer
 IsAnswerTo input (Draw batch schedule) answer = IsSomeDraw input batch schedule answer
 IsAnswerTo input (Switch batch workers) answer = IsSomeSwitch input batch answer
-IsAnswerTo input (Run shape batch workers) answer = IsSomeRun input shape batch answer
-IsAnswerTo input (Serve shape scripts workers) answer = IsSomeServe input shape scripts answer
+IsAnswerTo input (Direct moves) answer = IsSomeDirect input moves answer
+IsAnswerTo input (Apply shape batch image workers) answer = IsSomeApply input shape batch image answer
+IsAnswerTo input (Run shape batch image workers) answer = IsSomeRun input shape batch image answer
+IsAnswerTo input (Serve shape scripts image workers) answer =
+    IsSomeServe input shape scripts image answer
 
 -- the line where there is no answer
 abbrev pub unanswered_line : Unanswered → List ℕ

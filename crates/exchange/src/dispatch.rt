@@ -1,20 +1,21 @@
 //! From the words of the command line to what is printed, and the status that the program ends with.
 
-ghost use Rattle.std.specs.Prelude.{◌≡◌, ◌≢◌, ◌⊎◌, ◌≤◌, ◌∷◌, [], IfOk, OnErr, map};
+ghost use Rattle.std.specs.Prelude.{◌≡◌, ◌≢◌, ◌⊎◌, ◌∷◌, ◌++◌, [], IfOk, OnErr, Some, map, option_map, option_to_list};
 ghost use Rattle.std.specs.Process.{exit_status};
+ghost use Rattle.answers.specs.Openings.{bytes_of};
 ghost use Rattle.answers.specs.Refusals.{Printed};
 ghost use Rattle.command_words.specs.Jobs.{AreScripts, IsWithinLimits, NameInputOnce, files_of, input_name, texts_of};
-ghost use Rattle.exchange.specs.Responses.{IsHeld, AreHeld, IsSomePlan, IsSomeCheck, IsSomeDraw, IsSomeSwitch, IsSomeRun, IsSomeServe};
+ghost use Rattle.exchange.specs.Responses.{IsHeld, IsHeldImage, AreHeld, IsSomePlan, IsSomeCheck, IsSomeDraw, IsSomeSwitch, IsSomeDirect, IsSomeApply, IsSomeRun, IsSomeServe};
 ghost use Rattle.exchange.specs.Responses.{IsAnswerTo, IsResponseTo, IsPrinted};
 ghost use Rattle.exchange.specs.Responses.{unanswered, IsEndFor, IsEndForWords, IsEndWithoutWords};
 
 use crate::limits::{MISUSED, UNWRITTEN};
 use crate::unanswered::Unanswered;
 use answers::{
-    Answer, DONE, REFUSED, answer_check, answer_draw, answer_plan, answer_run, answer_serve,
-    answer_switch,
+    Answer, DONE, REFUSED, answer_apply, answer_check, answer_direct, answer_draw, answer_plan,
+    answer_run, answer_serve, answer_switch,
 };
-use command_words::{Job, MAX_WORKERS, Text, TextList, WordsFault, read_words};
+use command_words::{Job, Text, TextList, WordsFault, WorkerCount, read_words};
 use std::alloc::AllocError;
 use std::io::{ErrorKind, Read, Write};
 use std::process::ExitCode;
@@ -137,16 +138,25 @@ fn answer_to<R: AllocGlobal + Files + Threads + Wait + Sync, I: Read>(
         Job::Check { batch, schedule } => check(rt, &batch, &schedule, input),
         Job::Draw { batch, schedule } => draw(rt, &batch, &schedule, input),
         Job::Switch { batch, workers } => switch(rt, &batch, workers, input),
+        Job::Direct { moves } => direct(rt, &moves, input),
+        Job::Apply {
+            shape,
+            batch,
+            image,
+            workers,
+        } => apply(rt, &shape, &batch, &image, workers, input),
         Job::Run {
             shape,
             batch,
+            image,
             workers,
-        } => run(rt, &shape, &batch, workers, input),
+        } => run(rt, &shape, &batch, &image, workers, input),
         Job::Serve {
             shape,
             scripts,
+            image,
             workers,
-        } => serve(rt, &shape, &scripts, workers, input),
+        } => serve(rt, &shape, &scripts, &image, workers, input),
     }
 }
 
@@ -154,11 +164,9 @@ fn answer_to<R: AllocGlobal + Files + Threads + Wait + Sync, I: Read>(
 fn plan<R: AllocGlobal + Files + Threads + Sync, I: Read>(
     rt: &R,
     file: &Text,
-    workers: usize,
+    workers: WorkerCount,
     input: &mut I,
 ) -> Result<Answer, Unanswered>
-    requires some { 1 ≤ workers }
-    requires few { workers ≤ MAX_WORKERS }
     ensures { IfOk result (IsSomePlan (I.remaining input.old) file.now) }
 {
     let batch = read_file(rt, file, input)?;
@@ -197,52 +205,122 @@ fn draw<R: AllocGlobal + Files, I: Read>(
 fn switch<R: AllocGlobal + Files + Threads + Sync, I: Read>(
     rt: &R,
     batch: &Text,
-    workers: usize,
+    workers: WorkerCount,
     input: &mut I,
 ) -> Result<Answer, Unanswered>
-    requires some { 1 ≤ workers }
-    requires few { workers ≤ MAX_WORKERS }
     ensures { IfOk result (IsSomeSwitch (I.remaining input.old) batch.now) }
 {
     let batch = read_file(rt, batch, input)?;
     Ok(answer_switch(rt, rt.alloc(), batch.as_slice(), workers)?)
 }
 
-/// The answer of `exchange run SHAPE BATCH`. The batch's file is read before the shape is looked at.
+/// The answer of `exchange direct MOVES`.
+fn direct<R: AllocGlobal + Files, I: Read>(
+    rt: &R,
+    moves: &Text,
+    input: &mut I,
+) -> Result<Answer, Unanswered>
+    ensures { IfOk result (IsSomeDirect (I.remaining input.old) moves.now) }
+{
+    let moves = read_file(rt, moves, input)?;
+    Ok(answer_direct(rt.alloc(), moves.as_slice())?)
+}
+
+/// The answer of `exchange apply SHAPE BATCH IMAGE`. The files are read before the shape is looked at.
+fn apply<R: AllocGlobal + Files + Threads + Sync, I: Read>(
+    rt: &R,
+    shape: &Text,
+    batch: &Text,
+    image: &Text,
+    workers: WorkerCount,
+    input: &mut I,
+) -> Result<Answer, Unanswered>
+    requires input { NameInputOnce (batch.now ∷ image.now ∷ []) }
+    ensures { IfOk result (IsSomeApply (I.remaining input.old) shape.now batch.now image.now) }
+{
+    let (batch, image) = read_texts(rt, batch, image, input)?;
+    let shape = shape.as_str().as_bytes();
+    let (batch, image) = (batch.as_slice(), image.as_slice());
+    Ok(answer_apply(rt, rt.alloc(), shape, batch, image, workers)?)
+}
+
+/// The answer of `exchange run SHAPE BATCH`. The image's file, if one is named, is read first, and then the batch's,
+/// before the shape is looked at.
 fn run<R: AllocGlobal + Files + Threads + Sync, I: Read>(
     rt: &R,
     shape: &Text,
     batch: &Text,
-    workers: usize,
+    image: &Option<Text>,
+    workers: WorkerCount,
     input: &mut I,
 ) -> Result<Answer, Unanswered>
-    requires some { 1 ≤ workers }
-    requires few { workers ≤ MAX_WORKERS }
-    ensures { IfOk result (IsSomeRun (I.remaining input.old) shape.now batch.now) }
+    requires input { NameInputOnce (option_to_list image.now ++ batch.now ∷ []) }
+    ensures { IfOk result (IsSomeRun (I.remaining input.old) shape.now batch.now image.now) }
 {
+    let image = read_image(rt, image, input)?;
     let batch = read_file(rt, batch, input)?;
     let shape = shape.as_str().as_bytes();
-    Ok(answer_run(rt, rt.alloc(), shape, batch.as_slice(), workers)?)
+    Ok(answer_run(
+        rt,
+        rt.alloc(),
+        shape,
+        batch.as_slice(),
+        slice_of(&image),
+        workers,
+    )?)
 }
 
-/// The answer of `exchange serve SHAPE SCRIPT..`. The scripts' files are read in the order of the words, and
-/// before the shape is looked at.
+/// The answer of `exchange serve SHAPE SCRIPT..`. The image's file, if one is named, is read first, and then the
+/// scripts' files in the order of the words, before the shape is looked at.
 fn serve<R: AllocGlobal + Files + Threads + Wait + Sync, I: Read>(
     rt: &R,
     shape: &Text,
     scripts: &TextList,
-    workers: usize,
+    image: &Option<Text>,
+    workers: WorkerCount,
     input: &mut I,
 ) -> Result<Answer, Unanswered>
     requires scripts { AreScripts scripts.now }
-    requires input { NameInputOnce scripts.now }
-    requires some { 1 ≤ workers }
-    requires few { workers ≤ MAX_WORKERS }
-    ensures { IfOk result (IsSomeServe (I.remaining input.old) shape.now scripts.now) }
+    requires input { NameInputOnce (option_to_list image.now ++ scripts.now) }
+    ensures { IfOk result (IsSomeServe (I.remaining input.old) shape.now scripts.now image.now) }
 {
+    let image = read_image(rt, image, input)?;
     let files = read_files(rt, scripts.as_slice(), input)?;
     let shape = shape.as_str().as_bytes();
-    Ok(answer_serve(rt, rt.alloc(), shape, workers, files.as_slice())?)
+    Ok(answer_serve(
+        rt,
+        rt.alloc(),
+        shape,
+        slice_of(&image),
+        workers,
+        files.as_slice(),
+    )?)
+}
+
+/// What an image's file holds, where one is named.
+fn read_image<R: AllocGlobal + Files, I: Read>(
+    rt: &R,
+    name: &Option<Text>,
+    input: &mut I,
+) -> Result<Option<Vec<u8>>, Unanswered>
+    ensures held { IfOk result (λ image.
+        IsHeldImage (I.remaining input.old) name.now (option_map (λ file. file.items) image)) }
+    ensures unread { name.now ≢ Some input_name → I.remaining input.new ≡ I.remaining input.old }
+{
+    match name {
+        Some(name) => Ok(Some(read_file(rt, name, input)?)),
+        None => Ok(None),
+    }
+}
+
+/// The bytes of an image, where there is one.
+fn slice_of(image: &Option<Vec<u8>>) -> Option<&[u8]>
+    ensures { bytes_of result ≡ option_map (λ file. file.items) image.now }
+{
+    match image {
+        Some(image) => Some(image.as_slice()),
+        None => None,
+    }
 }
 
 /// What the files hold, in the order of their names: the first that can't be read is the error.
@@ -263,19 +341,19 @@ fn read_files<R: AllocGlobal + Files, I: Read>(
     Ok(files)
 }
 
-/// What the files of a batch and of a schedule hold. The batch's is read first.
+/// What two files hold: a batch's, and a schedule's or an image's. The batch's is read first.
 fn read_texts<R: AllocGlobal + Files, I: Read>(
     rt: &R,
     batch: &Text,
-    schedule: &Text,
+    other: &Text,
     input: &mut I,
 ) -> Result<(Vec<u8>, Vec<u8>), Unanswered>
-    requires { NameInputOnce (batch.now ∷ schedule.now ∷ []) }
+    requires { NameInputOnce (batch.now ∷ other.now ∷ []) }
     ensures first { IfOk result (λ texts. IsHeld (I.remaining input.old) batch.now texts.0.items) }
-    ensures second { IfOk result (λ texts. IsHeld (I.remaining input.old) schedule.now texts.1.items) }
+    ensures second { IfOk result (λ texts. IsHeld (I.remaining input.old) other.now texts.1.items) }
 {
     let first = read_file(rt, batch, input)?;
-    let second = read_file(rt, schedule, input)?;
+    let second = read_file(rt, other, input)?;
     Ok((first, second))
 }
 

@@ -27,6 +27,3 @@ fn main(rt: HostRuntime) -> ExitCode {
 fn command_line<R: AllocGlobal + Env>(rt: &R) -> io::Result<Vec<String>> {
     Ok(env::args(rt)?.collect(rt.alloc())?)
 }
-
-#[cfg(test)]
-mod tests;

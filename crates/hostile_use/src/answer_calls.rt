@@ -1,7 +1,5 @@
 //! The calls of the program: its words and its answers.
 
-ghost use Rattle.std.specs.Prelude.{◌≤◌};
-
 use crate::marks::{begin, end};
 use crate::met::Met;
 use crate::rows::{
@@ -10,7 +8,7 @@ use crate::rows::{
 };
 use answers::{Answer, answer_check, answer_draw, answer_plan, answer_run, answer_switch};
 use command_words::{Job, TextList, WordsFault, read_words};
-use schedule_certificate::MAX_WORKERS;
+use exchange_limits::WorkerCount;
 use std::alloc::{AllocError, Global};
 use std::thread::Threads;
 
@@ -23,10 +21,7 @@ fn met(answer: &Result<Answer, AllocError>, text: &str) -> Met {
 }
 
 /// `answer_plan` on row three-transfers, with so many workers.
-pub fn plan<R: AllocGlobal + Eprint + Threads + Sync>(rt: &R, workers: usize) -> Option<Met>
-    requires some { 1 ≤ workers }
-    requires few { workers ≤ MAX_WORKERS }
-{
+pub fn plan<R: AllocGlobal + Eprint + Threads + Sync>(rt: &R, workers: WorkerCount) -> Option<Met> {
     begin(rt);
     let answer = answer_plan(rt, rt.alloc(), THREE_TRANSFERS.as_bytes(), workers);
     end(rt);
@@ -69,10 +64,10 @@ fn is_picture(answer: &Answer) -> bool {
 }
 
 /// `answer_switch` on row three-transfers, with so many workers.
-pub fn switch<R: AllocGlobal + Eprint + Threads + Sync>(rt: &R, workers: usize) -> Option<Met>
-    requires some { 1 ≤ workers }
-    requires few { workers ≤ MAX_WORKERS }
-{
+pub fn switch<R: AllocGlobal + Eprint + Threads + Sync>(
+    rt: &R,
+    workers: WorkerCount,
+) -> Option<Met> {
     begin(rt);
     let answer = answer_switch(rt, rt.alloc(), THREE_TRANSFERS.as_bytes(), workers);
     end(rt);
@@ -80,13 +75,10 @@ pub fn switch<R: AllocGlobal + Eprint + Threads + Sync>(rt: &R, workers: usize) 
 }
 
 /// `answer_run` on row two-pushes, with so many workers.
-pub fn run<R: AllocGlobal + Eprint + Threads + Sync>(rt: &R, workers: usize) -> Option<Met>
-    requires some { 1 ≤ workers }
-    requires few { workers ≤ MAX_WORKERS }
-{
+pub fn run<R: AllocGlobal + Eprint + Threads + Sync>(rt: &R, workers: WorkerCount) -> Option<Met> {
     let (shape, batch) = (TWO_PUSHES_SHAPE.as_bytes(), TWO_PUSHES.as_bytes());
     begin(rt);
-    let answer = answer_run(rt, rt.alloc(), shape, batch, workers);
+    let answer = answer_run(rt, rt.alloc(), shape, batch, None, workers);
     end(rt);
     Some(met(&answer, TWO_PUSHES_REPORT))
 }
@@ -127,7 +119,7 @@ fn is_list(list: &TextList) -> bool {
 /// Whether the job is to plan the batch of file `F` with 64 workers.
 fn is_job(job: &Job) -> bool {
     match job {
-        Job::Plan { file, workers } => file.as_str() == "F" && *workers == 64,
+        Job::Plan { file, workers } => file.as_str() == "F" && workers.get() == 64,
         _ => false,
     }
 }

@@ -1,15 +1,13 @@
 //! The calls of a book.
 
-ghost use Rattle.std.specs.Prelude.{◌≤◌};
-
 use crate::kinds::{Before, ENTRIES, Kind, Row, Said, Tried};
 use crate::marks::{begin, end};
 use crate::met::Met;
 use crate::plants::{Told, plain};
 use crate::rows::{FIRST, is_marked, is_marked_with, marked};
 use batch_book::{Book, Call, Refusal};
+use exchange_limits::WorkerCount;
 use module_memory::Rack;
-use schedule_certificate::MAX_WORKERS;
 use std::alloc::{AllocError, Global};
 use std::thread::Threads;
 
@@ -46,12 +44,9 @@ pub fn ask<R: Threads + Sync>(
     rt: &R,
     book: &mut Book,
     call: Call,
-    workers: usize,
+    workers: WorkerCount,
     told: &mut Told,
-) -> Said
-    requires some { 1 ≤ workers }
-    requires few { workers ≤ MAX_WORKERS }
-{
+) -> Said {
     let mut plant = plain(workers);
     let reply = book.apply(rt, 0, call, &mut plant, told);
     Said::of(&reply)
@@ -63,11 +58,8 @@ fn ask_kind<R: AllocGlobal + Threads + Sync>(
     book: &mut Book,
     row: Row,
     kind: Kind,
-    workers: usize,
-) -> Option<Said>
-    requires some { 1 ≤ workers }
-    requires few { workers ≤ MAX_WORKERS }
-{
+    workers: WorkerCount,
+) -> Option<Said> {
     let call = kind.call(rt, row)?;
     Some(ask(rt, book, call, workers, &mut Told::nothing()))
 }
@@ -78,12 +70,9 @@ fn try_kind<R: AllocGlobal + Eprint + Threads + Sync>(
     book: &mut Book,
     row: Row,
     kind: Kind,
-    workers: usize,
+    workers: WorkerCount,
     told: &mut Told,
-) -> Option<Said>
-    requires some { 1 ≤ workers }
-    requires few { workers ≤ MAX_WORKERS }
-{
+) -> Option<Said> {
     let call = kind.call(rt, row)?;
     begin(rt);
     let said = ask(rt, book, call, workers, told);
@@ -94,7 +83,13 @@ fn try_kind<R: AllocGlobal + Eprint + Threads + Sync>(
 /// Peeks until the history has so many entries.
 pub fn fill<R: Threads + Sync>(rt: &R, book: &mut Book, entries: usize) {
     for _ in book.history().len()..entries {
-        ask(rt, book, Call::Peek(1, FIRST), 1, &mut Told::nothing());
+        ask(
+            rt,
+            book,
+            Call::Peek(1, FIRST),
+            WorkerCount::ONE,
+            &mut Told::nothing(),
+        );
     }
 }
 
@@ -106,10 +101,10 @@ fn prepare<R: AllocGlobal + Threads + Sync>(
     kind: Kind,
 ) -> Option<()> {
     if !matches!(kind.before(), Before::Empty) {
-        ask_kind(rt, book, row, Kind::Submit, 1)?;
+        ask_kind(rt, book, row, Kind::Submit, WorkerCount::ONE)?;
     }
     if matches!(kind.before(), Before::Settled) {
-        ask_kind(rt, book, row, Kind::Settle, 1)?;
+        ask_kind(rt, book, row, Kind::Settle, WorkerCount::ONE)?;
     }
     fill(rt, book, ENTRIES);
     Some(())
@@ -135,11 +130,8 @@ fn try_on<R: AllocGlobal + Eprint + Threads + Sync>(
     book: &mut Book,
     row: Row,
     kind: Kind,
-    workers: usize,
-) -> Option<Tried>
-    requires some { 1 ≤ workers }
-    requires few { workers ≤ MAX_WORKERS }
-{
+    workers: WorkerCount,
+) -> Option<Tried> {
     prepare(rt, book, row, kind)?;
     let mut told = Told::nothing();
     let said = try_kind(rt, book, row, kind, workers, &mut told)?;
@@ -157,11 +149,8 @@ fn apply_to<R: AllocGlobal + Eprint + Threads + Sync>(
     book: &mut Book,
     row: Row,
     kind: Kind,
-    workers: usize,
-) -> Option<Met>
-    requires some { 1 ≤ workers }
-    requires few { workers ≤ MAX_WORKERS }
-{
+    workers: WorkerCount,
+) -> Option<Met> {
     let tried = try_on(rt, book, row, kind, workers)?;
     Some(tried.met(kind.said(row), is_after(rt.alloc(), book, row, kind)))
 }
@@ -171,11 +160,8 @@ pub fn apply<R: AllocGlobal + Eprint + Threads + Sync>(
     rt: &R,
     row: Row,
     kind: Kind,
-    workers: usize,
-) -> Option<Met>
-    requires some { 1 ≤ workers }
-    requires few { workers ≤ MAX_WORKERS }
-{
+    workers: WorkerCount,
+) -> Option<Met> {
     let mut book = marked_book(rt.alloc(), row)?;
     apply_to(rt, &mut book, row, kind, workers)
 }

@@ -1,7 +1,5 @@
 //! The calls that may want memory, by their names.
 
-ghost use Rattle.std.specs.Prelude.{◌≤◌};
-
 use crate::calls::Workers::{One, Two};
 use crate::kinds::{Kind, Row};
 use crate::met::Met;
@@ -9,7 +7,7 @@ use crate::{
     answer_calls, batch_calls, book_calls, exchange_calls, graph_calls, memory_calls, plan_calls,
     session_calls, still_calls,
 };
-use schedule_certificate::MAX_WORKERS;
+use exchange_limits::WorkerCount;
 use std::sync::Wait;
 use std::thread::Threads;
 
@@ -21,13 +19,10 @@ pub enum Workers {
 }
 
 impl Workers {
-    fn count(self) -> usize
-        ensures some { 1 ≤ result }
-        ensures few { result ≤ MAX_WORKERS }
-    {
+    fn count(self) -> WorkerCount {
         match self {
-            Workers::One => 1,
-            Workers::Two => 2,
+            Workers::One => WorkerCount::ONE,
+            Workers::Two => WorkerCount::new(2).unwrap(),
         }
     }
 }

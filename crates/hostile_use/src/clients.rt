@@ -1,6 +1,6 @@
 //! Sessions side by side on one exchange, and the history that they leave.
 
-ghost use Rattle.std.specs.Prelude.{◌≡◌, ◌≤◌, All, Some};
+ghost use Rattle.std.specs.Prelude.{◌≡◌, All, Some};
 ghost use Rattle.progress_word.specs.declared.limits.TheConstants.{ALL_PARTS};
 
 use crate::exchange_calls::{Exchange, PlainClosed, fault_of, seat_of};
@@ -10,9 +10,10 @@ use batch::Shape;
 use batch_book::{Seat, Unclosed};
 use client_session::{ServeFault, serve};
 use crossbar::MemoryPort;
+use exchange_limits::WorkerCount;
 use module_memory::Rack;
 use peek_poke::PlainWires;
-use schedule_certificate::{MAX_WORKERS, OpenGate};
+use schedule_certificate::OpenGate;
 use std::alloc::{AllocError, Global};
 use std::io::Write;
 use std::marker::Brand;
@@ -22,8 +23,10 @@ use std::sync::{Mutex, Wait};
 use std::thread::Threads;
 use std::{fs, io, thread};
 
-/// How many workers plan and run for each session.
-const WORKERS: usize = 2;
+/// How many workers plan and run for each session: two.
+fn workers() -> WorkerCount {
+    WorkerCount::new(2).unwrap()
+}
 
 /// What the session of a number was told, and the fault that ended it, if one did.
 #[derive(Drop)]
@@ -57,7 +60,7 @@ fn serve_script<L: Ledger, R: AllocGlobal + Threads + Wait + Sync>(
         seat,
         &mut reader,
         &mut lines,
-        WORKERS,
+        workers(),
     );
     let told = Told {
         session,
@@ -140,7 +143,7 @@ fn serve_all<L: Ledger + Send + Sync, R: AllocGlobal + Threads + Wait + Sync>(
     requires name { blank.name ≡ L.name }
     requires parts { (blank.parts ≡ L.parts) × (blank.parts ≡ ALL_PARTS) }
 {
-    let made = Exchange::<L>::new(rt.alloc(), blank, rack, plain(WORKERS), scripts.len());
+    let made = Exchange::<L>::new(rt.alloc(), blank, rack, plain(workers()), scripts.len());
     let Ok((exchange, seats)) = made else {
         return None;
     };

@@ -1,6 +1,6 @@
 //! The calls of an exchange with two seats.
 
-ghost use Rattle.std.specs.Prelude.{◌≡◌, ◌≤◌, [], Some};
+ghost use Rattle.std.specs.Prelude.{◌≡◌, [], Some};
 ghost use Rattle.client_session.specs.Sessions.{seat_back};
 ghost use Rattle.progress_word.specs.declared.limits.TheConstants.{ALL_PARTS};
 
@@ -13,9 +13,10 @@ use crate::rows::{FIRST, is_marked, marked};
 use batch_book::{Call, Closed, Reading, Refusal, Seat, Shared, SharedFault};
 use client_session::ServeFault;
 use crossbar::MemoryPort;
+use exchange_limits::WorkerCount;
 use module_memory::Rack;
 use peek_poke::PlainWires;
-use schedule_certificate::{MAX_WORKERS, OpenGate};
+use schedule_certificate::OpenGate;
 use setting_runner::Plant;
 use std::alloc::Global;
 use std::marker::Brand;
@@ -57,8 +58,6 @@ pub fn seat_of<L: Ledger>(served: Served<L>) -> Seat<L>
 fn opens<L: Ledger>(alloc: Global, blank: Blank, rack: Rack, plant: PlainPlant) -> bool
     requires name { blank.name ≡ L.name }
     requires parts { (blank.parts ≡ L.parts) × (blank.parts ≡ ALL_PARTS) }
-    requires some { 1 ≤ plant.workers }
-    requires few { plant.workers ≤ MAX_WORKERS }
 {
     match Exchange::<L>::new(alloc, blank, rack, plant, 2) {
         Ok((exchange, seats)) => exchange.shape().modules() == 2 && seats.len() == 2,
@@ -74,7 +73,7 @@ fn open_with<L: Ledger, R: AllocGlobal + Eprint>(rt: &R, blank: Blank) -> Option
     let rack = marked(rt.alloc(), Row::OneScript.shape())?;
     let shape = rack.shape();
     begin(rt);
-    let made = Exchange::<L>::new(rt.alloc(), blank, rack, plain(1), 2);
+    let made = Exchange::<L>::new(rt.alloc(), blank, rack, plain(WorkerCount::ONE), 2);
     end(rt);
     Some(match made {
         Ok((exchange, seats)) => Met::row_if(exchange.shape() == shape && seats.len() == 2),
@@ -106,12 +105,10 @@ pub fn open_pair<L: Ledger>(
     alloc: Global,
     blank: Blank,
     rack: Rack,
-    workers: usize,
+    workers: WorkerCount,
 ) -> Option<Pair<L>>
     requires name { blank.name ≡ L.name }
     requires parts { (blank.parts ≡ L.parts) × (blank.parts ≡ ALL_PARTS) }
-    requires some { 1 ≤ workers }
-    requires few { workers ≤ MAX_WORKERS }
 {
     let made = Exchange::<L>::new(alloc, blank, rack, plain(workers), 2);
     let Ok((exchange, mut seats)) = made else {
@@ -235,12 +232,10 @@ fn call_with<L: Ledger, R: AllocGlobal + Eprint + Threads + Wait + Sync>(
     blank: Blank,
     row: Row,
     kind: Kind,
-    workers: usize,
+    workers: WorkerCount,
 ) -> Option<Met>
     requires name { blank.name ≡ L.name }
     requires parts { (blank.parts ≡ L.parts) × (blank.parts ≡ ALL_PARTS) }
-    requires some { 1 ≤ workers }
-    requires few { workers ≤ MAX_WORKERS }
 {
     let rack = marked(rt.alloc(), row.shape())?;
     let mut pair = open_pair::<L>(rt.alloc(), blank, rack, workers)?;
@@ -254,10 +249,7 @@ pub fn call<R: AllocGlobal + Eprint + Threads + Wait + Sync>(
     rt: &R,
     row: Row,
     kind: Kind,
-    workers: usize,
-) -> Option<Met>
-    requires some { 1 ≤ workers }
-    requires few { workers ≤ MAX_WORKERS }
-{
+    workers: WorkerCount,
+) -> Option<Met> {
     call_with::<Brand, R>(rt, Blank::new(16), row, kind, workers)
 }

@@ -1,7 +1,5 @@
 //! The calls that plan, and that run a plan.
 
-ghost use Rattle.std.specs.Prelude.{◌≤◌};
-
 use crate::kinds::Row;
 use crate::marks::{begin, end};
 use crate::met::Met;
@@ -11,9 +9,10 @@ use crate::rows::{
     marked, plan,
 };
 use crossbar::Chip;
+use exchange_limits::WorkerCount;
 use link_graph::Schedule;
 use module_memory::Rack;
-use schedule_certificate::{MAX_WORKERS, OpenGate, Planned, first_fit, schedule};
+use schedule_certificate::{OpenGate, Planned, first_fit, schedule};
 use setting_runner::{Outcome, RunRefusal, run};
 use std::alloc::{AllocError, Global};
 use std::thread::Threads;
@@ -63,10 +62,10 @@ fn met_by_plan(planned: &Result<Planned, AllocError>) -> Met {
 }
 
 /// `schedule` on row three-by-three, with so many workers.
-pub fn plan_batch<R: AllocGlobal + Eprint + Threads + Sync>(rt: &R, workers: usize) -> Option<Met>
-    requires some { 1 ≤ workers }
-    requires few { workers ≤ MAX_WORKERS }
-{
+pub fn plan_batch<R: AllocGlobal + Eprint + Threads + Sync>(
+    rt: &R,
+    workers: WorkerCount,
+) -> Option<Met> {
     let batch = batch(rt.alloc(), THREE_BY_THREE)?;
     begin(rt);
     let planned = schedule(rt, rt.alloc(), batch, workers, &OpenGate);
@@ -150,11 +149,8 @@ fn run_planned<R: AllocGlobal + Eprint + Threads + Sync>(
     rt: &R,
     row: RunRow,
     planned: &Planned,
-    workers: usize,
-) -> Option<Met>
-    requires some { 1 ≤ workers }
-    requires few { workers ≤ MAX_WORKERS }
-{
+    workers: WorkerCount,
+) -> Option<Met> {
     let rack = marked(rt.alloc(), row.shape)?;
     let mut plant = plain(workers);
     let mut told = Told::nothing();
@@ -166,10 +162,10 @@ fn run_planned<R: AllocGlobal + Eprint + Threads + Sync>(
 }
 
 /// `run` on row two-pushes, with so many workers.
-pub fn run_plan<R: AllocGlobal + Eprint + Threads + Sync>(rt: &R, workers: usize) -> Option<Met>
-    requires some { 1 ≤ workers }
-    requires few { workers ≤ MAX_WORKERS }
-{
+pub fn run_plan<R: AllocGlobal + Eprint + Threads + Sync>(
+    rt: &R,
+    workers: WorkerCount,
+) -> Option<Met> {
     let row = RunRow {
         text: Row::TwoPushes.text(),
         shape: Row::TwoPushes.shape(),
@@ -189,5 +185,5 @@ pub fn run_swap<R: AllocGlobal + Eprint + Threads + Sync>(rt: &R) -> Option<Met>
         words: 2,
     };
     let planned = plan(rt, row.text)?;
-    run_planned(rt, row, &planned, 1)
+    run_planned(rt, row, &planned, WorkerCount::ONE)
 }

@@ -1,8 +1,7 @@
 //! What a run needs, and who is told of it.
 
-ghost use Rattle.std.specs.Prelude.{◌≡◌};
-
 use crossbar::{ConfigPort, MemoryPort};
+use exchange_limits::WorkerCount;
 use peek_poke::PlainWires;
 use schedule_certificate::OpenGate;
 use setting_runner::{Notice, Plant};
@@ -31,9 +30,7 @@ impl Notice for Told {
 }
 
 /// A plant with this port, whose wires never fail.
-pub fn with_port<P: ConfigPort>(port: P, workers: usize) -> Plant<P, PlainWires, OpenGate>
-    ensures { result.workers ≡ workers }
-{
+pub fn with_port<P: ConfigPort>(port: P, workers: WorkerCount) -> Plant<P, PlainWires, OpenGate> {
     Plant {
         port,
         wires: PlainWires,
@@ -43,8 +40,6 @@ pub fn with_port<P: ConfigPort>(port: P, workers: usize) -> Plant<P, PlainWires,
 }
 
 /// A plant whose port and wires never fail.
-pub fn plain(workers: usize) -> Plant<MemoryPort, PlainWires, OpenGate>
-    ensures { result.workers ≡ workers }
-{
+pub fn plain(workers: WorkerCount) -> Plant<MemoryPort, PlainWires, OpenGate> {
     with_port(MemoryPort::new(), workers)
 }

@@ -1,6 +1,7 @@
 //! The texts of the worked rows, and what is made of them.
 
 use batch::{Batch, Place, Shape};
+use exchange_limits::WorkerCount;
 use link_graph::{End, Link, LinkGraph};
 use module_memory::Rack;
 use schedule_certificate::{OpenGate, Planned, schedule};
@@ -119,7 +120,7 @@ pub fn graph(alloc: Global, text: &str) -> Option<LinkGraph> {
 /// The plan of a batch text.
 pub fn plan<R: AllocGlobal + Threads + Sync>(rt: &R, text: &str) -> Option<Planned> {
     let batch = batch(rt.alloc(), text)?;
-    schedule(rt, rt.alloc(), batch, 1, &OpenGate).ok()
+    schedule(rt, rt.alloc(), batch, WorkerCount::ONE, &OpenGate).ok()
 }
 
 /// A rack of the shape of a text, each of whose words tells where it stands.

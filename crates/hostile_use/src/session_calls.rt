@@ -1,6 +1,6 @@
 //! The calls that serve sessions, on row one-script.
 
-ghost use Rattle.std.specs.Prelude.{◌≡◌, ◌≤◌, length, IfOk};
+ghost use Rattle.std.specs.Prelude.{◌≡◌, length, IfOk};
 ghost use Rattle.progress_word.specs.declared.limits.TheConstants.{ALL_PARTS};
 
 use crate::exchange_calls::{Pair, close, fault_of, open_pair, seat_of};
@@ -10,8 +10,8 @@ use crate::met::Met;
 use answers::{Answer, answer_serve};
 use batch::Shape;
 use client_session::{ServeFault, serve as serve_session};
+use exchange_limits::WorkerCount;
 use module_memory::Rack;
-use schedule_certificate::MAX_WORKERS;
 use std::alloc::{AllocError, Global};
 use std::io;
 use std::io::Write;
@@ -178,11 +178,9 @@ fn has_entries<L: Ledger>(alloc: Global, pair: Pair<L>) -> Option<bool>
 fn serve_first<L: Ledger, R: AllocGlobal + Eprint + Threads + Wait + Sync>(
     rt: &R,
     pair: Pair<L>,
-    workers: usize,
+    workers: WorkerCount,
 ) -> Option<Met>
     requires parts { L.parts ≡ ALL_PARTS }
-    requires some { 1 ≤ workers }
-    requires few { workers ≤ MAX_WORKERS }
 {
     let Pair {
         exchange,
@@ -222,12 +220,10 @@ fn zeros(alloc: Global) -> Option<Rack> {
 fn serve_with<L: Ledger, R: AllocGlobal + Eprint + Threads + Wait + Sync>(
     rt: &R,
     blank: Blank,
-    workers: usize,
+    workers: WorkerCount,
 ) -> Option<Met>
     requires name { blank.name ≡ L.name }
     requires parts { (blank.parts ≡ L.parts) × (blank.parts ≡ ALL_PARTS) }
-    requires some { 1 ≤ workers }
-    requires few { workers ≤ MAX_WORKERS }
 {
     let rack = zeros(rt.alloc())?;
     let pair = open_pair::<L>(rt.alloc(), blank, rack, workers)?;
@@ -235,10 +231,10 @@ fn serve_with<L: Ledger, R: AllocGlobal + Eprint + Threads + Wait + Sync>(
 }
 
 /// `serve` on row one-script, with so many workers.
-pub fn serve<R: AllocGlobal + Eprint + Threads + Wait + Sync>(rt: &R, workers: usize) -> Option<Met>
-    requires some { 1 ≤ workers }
-    requires few { workers ≤ MAX_WORKERS }
-{
+pub fn serve<R: AllocGlobal + Eprint + Threads + Wait + Sync>(
+    rt: &R,
+    workers: WorkerCount,
+) -> Option<Met> {
     serve_with::<Brand, R>(rt, Blank::new(16), workers)
 }
 
@@ -272,15 +268,12 @@ fn scripts(alloc: Global) -> Result<Vec<Vec<u8>>, AllocError>
 /// `answer_serve` on row one-script, with so many workers.
 pub fn answer<R: AllocGlobal + Eprint + Threads + Wait + Sync>(
     rt: &R,
-    workers: usize,
-) -> Option<Met>
-    requires some { 1 ≤ workers }
-    requires few { workers ≤ MAX_WORKERS }
-{
+    workers: WorkerCount,
+) -> Option<Met> {
     let scripts = scripts(rt.alloc()).ok()?;
     let shape = Row::OneScript.shape().as_bytes();
     begin(rt);
-    let answer = answer_serve(rt, rt.alloc(), shape, workers, scripts.as_slice());
+    let answer = answer_serve(rt, rt.alloc(), shape, None, workers, scripts.as_slice());
     end(rt);
     Some(met_by_answer(&answer))
 }

@@ -1,6 +1,6 @@
 //! Calls that take no memory, between the same marks.
 
-ghost use Rattle.std.specs.Prelude.{◌≡◌, ◌≤◌, ◌<◌, [], length};
+ghost use Rattle.std.specs.Prelude.{◌≡◌, ◌<◌, [], length};
 ghost use Rattle.progress_word.specs.declared.limits.TheConstants.{ALL_PARTS};
 
 use crate::book_calls::{ask, fill, marked_book};
@@ -17,6 +17,7 @@ use crate::rows::{
 use alternating_path::Table;
 use batch::{Batch, Place};
 use batch_book::{Book, Call, MAX_ENTRIES, Refusal, Seat};
+use exchange_limits::WorkerCount;
 use module_memory::Rack;
 use schedule_certificate::Planned;
 use setting_runner::{Notice, Outcome, PairList, run, setting_numbers};
@@ -95,7 +96,7 @@ fn run_begun<R: AllocGlobal + Eprint + Threads + Sync>(
     words: usize,
 ) -> Option<Met> {
     let rack = marked(rt.alloc(), shape)?;
-    let mut plant = plain(1);
+    let mut plant = plain(WorkerCount::ONE);
     let mut notice = Marking { rt };
     let (_rack, outcome) = run(rt, rt.alloc(), rack, &mut plant, planned, &mut notice);
     end(rt);
@@ -138,7 +139,7 @@ fn calls<R: AllocGlobal + Threads + Sync>(rt: &R) -> Option<Vec<Call>> {
 fn are_refused<R: Threads + Sync>(rt: &R, book: &mut Book, calls: Vec<Call>) -> bool {
     let mut is_right = true;
     for call in calls {
-        let said = ask(rt, book, call, 1, &mut Told::nothing());
+        let said = ask(rt, book, call, WorkerCount::ONE, &mut Told::nothing());
         is_right = is_right && said == Said::Refused(Refusal::HistoryFull);
     }
     is_right
@@ -191,7 +192,7 @@ fn close_with<L: Ledger, R: AllocGlobal + Eprint + Threads + Wait + Sync>(
 {
     let room = Vec::with_capacity(rt.alloc(), 2).ok()?;
     let rack = marked(rt.alloc(), Row::OneScript.shape())?;
-    let mut pair = open_pair::<L>(rt.alloc(), blank, rack, 1)?;
+    let mut pair = open_pair::<L>(rt.alloc(), blank, rack, WorkerCount::ONE)?;
     pair.ask(rt, Call::Peek(1, FIRST));
     Some(close_first(rt, room, pair))
 }

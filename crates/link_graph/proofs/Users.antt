@@ -138,7 +138,7 @@ uses_or_not batch link t =
       | inr p ↦ inr (λ used. omega (arith, p.0, used_within batch t link used))
     ]
 
-some_users : (batch : List Transfer) (link : Link) (t : ℕ) → t ≤ length batch → (users : List ℕ) × UsersBelow batch link t users
+pub some_users : (batch : List Transfer) (link : Link) (t : ℕ) → t ≤ length batch → (users : List ℕ) × UsersBelow batch link t users
 some_users batch link zero le = ([], no_users batch link)
 some_users batch link (suc t) le =
     let before = some_users batch link t (omega arith) in

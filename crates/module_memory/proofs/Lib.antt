@@ -4,8 +4,10 @@ pub mod PartLaws
 pub mod Marking
 pub mod Addresses
 pub mod BayLaws
+pub mod Repeats
 pub mod SettingLaws
 pub mod StepLists
 pub mod PartedSettings
 pub mod Held
 pub mod Copies
+pub mod Images

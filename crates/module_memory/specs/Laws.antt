@@ -3,13 +3,14 @@ use Rattle.std.specs.Prelude.{ℕ, ◌≡◌, ◌≢◌, ◌<◌, ◌+◌, None,
 use Rattle.batch.specs.Extent.{Extent, IsShape}
 use Rattle.batch.specs.declared.transfer.Place.{Place}
 use Rattle.batch.specs.Places.{HasPlace}
-use Rattle.module_memory.specs.Store.{Store, set_word, IsWhole, block_of, HasAllBlocks}
+use Rattle.module_memory.specs.Store.{Store, set_word, IsWhole, block_of, HasAllBlocks, word}
 use Rattle.batch.specs.declared.transfer.Transfer.{Transfer}
 use Rattle.batch.specs.Held.{AreHeldSources}
 use Rattle.module_memory.specs.Core.{IsMovedFrom, IsReady, setting_of, at_start, run, times, IsStepList, IsComplete, IsPlacedFrom, found, IsMoved, IsPlaced}
 use Rattle.module_memory.specs.Lending.{BlockAt, place_in, bay_in, AreLendable, Left, AreCopies, found_in, bays_of, without, joined, Rejoins}
 use Rattle.std.specs.List.{concat}
 use Rattle.module_memory.specs.Address.{IsAddress, fault_of, place_of, word_at, word_index, write_at}
+use Rattle.module_memory.specs.Images.{image_of, image_length, word_in_image, word_of_bytes, AreWords, HasImage}
 use Rattle.module_memory.specs.Bays.{AreBaysOf, AreFilled, AreFound, AreLent, AreSamePlaces, destinations_of}
 use Rattle.module_memory.specs.Mark.{IsMarked}
 use Rattle.module_memory.specs.Settings.{IsRun, IsStoppedRun, after_steps, all_words}
@@ -38,6 +39,22 @@ WritesAreApart =
     (s : Store) (m a n b w : ℕ) → IsWhole s → fault_of s.shape m a ≡ None
     → fault_of s.shape n b ≡ None → (m ≢ n) ⊎ (a ≢ b)
     → word_at (write_at s m a w) n b ≡ word_at s n b
+
+-- the image of a whole store has as many bytes as those of its shape
+abbrev pub ImagesAreWhole : Type 0
+ImagesAreWhole = (s : Store) → IsWhole s → length (image_of s) ≡ image_length s.shape
+
+-- a word of a block is that of its four bytes in the image
+abbrev pub WordsAreInImages : Type 0
+WordsAreInImages =
+    (s : Store) (p : Place) (j : ℕ) → IsWhole s → AreWords s → HasPlace s.shape p
+    → j < s.shape.words → word s p j ≡ word_of_bytes (word_in_image s.shape (image_of s) p j)
+
+-- two stores of a shape that have one image are one
+abbrev pub OneImaged : Type 0
+OneImaged =
+    (shape : Extent) (image : List ℕ) (a b : Store) → HasImage shape image a
+    → HasImage shape image b → a ≡ b
 
 -- the destinations of settings one after another can be lent, and the bays from a setting's first
 -- number on are those of its transfers

@@ -42,14 +42,6 @@ DifferBefore places i = (j k : ℕ) → j < k → k < i → place_in places j �
 abbrev pub StandsBefore : List Place → ℕ → Type 0
 StandsBefore places i = (k : ℕ) × (k < i) × (place_in places k ≡ place_in places i)
 
--- the place is one of these
-abbrev pub StandsIn : List Place → Place → Type 0
-StandsIn places place = (k : ℕ) × (k < length places) × (place_in places k ≡ place)
-
--- the place is none of these
-abbrev pub IsNoneOf : List Place → Place → Type 0
-IsNoneOf places place = (k : ℕ) → k < length places → place_in places k ≢ place
-
 -- the first of the places that doesn't exist
 pub record IsFirstMissing (shape : Extent) (places : List Place) (i : ℕ) : Type 0 where
   pub within : i < length places

@@ -1,4 +1,5 @@
 pub mod Store
+pub mod Images
 pub mod Core
 pub mod Settings
 pub mod Address

@@ -1,5 +1,6 @@
-ghost use Rattle.std.specs.Prelude.{◌≡◌, ◌<◌, ◌+◌, ◌^◌, ◌↔◌, [], IsTrue, length, replicate, slice_index, slice_set, slice_get, IfOk};
+ghost use Rattle.std.specs.Prelude.{◌≡◌, ◌<◌, ◌+◌, ◌*◌, ◌%◌, ◌^◌, ◌↔◌, ℕ, ◌++◌, [], IsTrue, length, replicate, slice_index, slice_set, slice_get, IfOk};
 ghost use Rattle.std.specs.List.{range_with_len};
+ghost use Rattle.module_memory.specs.Images.{bytes_of_block};
 
 use std::alloc::{AllocError, Global};
 use std::marker::Model;
@@ -42,6 +43,31 @@ impl Block {
     {
         let words = self.words.clone()?;
         Ok(Block { words })
+    }
+
+    /// The block of these bytes, four to a word, the least significant first.
+    pub fn of_bytes(alloc: Global, bytes: &[u8]) -> Result<Block, AllocError>
+        requires { length bytes.now % 4 ≡ 0 }
+        ensures bytes { IfOk result (λ b. bytes_of_block b ≡ bytes.now) }
+        ensures len { IfOk result (λ b. 4 * length b ≡ length bytes.now) }
+        ensures words { IfOk result (λ b. (j : ℕ) → slice_index b j < 2 ^ 32) }
+    {
+        let (words, _) = bytes.as_chunks::<4>();
+        let words = words
+            .iter()
+            .map(|word| u32::from_le_bytes(*word))
+            .collect(alloc)?;
+        Ok(Block { words })
+    }
+
+    /// Writes the bytes of its words behind these, of each word the least significant first.
+    pub fn write_bytes(&self, bytes: &mut Vec<u8>) -> Result<(), AllocError>
+        ensures { IfOk result (λ _. bytes.new.items ≡ bytes.old.items ++ bytes_of_block self.now) }
+    {
+        for word in &self.words {
+            bytes.extend_from_slice(&word.to_le_bytes())?;
+        }
+        Ok(())
     }
 
     /// How many words there are.

@@ -1,4 +1,4 @@
-//! What can go wrong with addresses and with lending.
+//! What can go wrong with addresses, with images and with lending.
 
 use thiserror::Error;
 
@@ -15,6 +15,18 @@ pub enum MemoryFault {
     /// The address isn't in the module's window.
     #[error("the address is outside the window")]
     Outside,
+}
+
+/// Why there is no rack of an image. The number of bytes is looked at first, and memory is asked for last. This is the
+/// project's choice.
+#[derive(Clone, Copy, Debug, PartialEq, Eq, Error)]
+pub enum ImageFault {
+    /// The image has so many bytes, and the images of the shape have another number.
+    #[error("the image has {is} bytes, and {wanted} are wanted")]
+    Length { is: usize, wanted: usize },
+    /// There was no memory for the words.
+    #[error("no memory")]
+    NoMemory,
 }
 
 /// Why blocks can't be lent. Positions in a list are counted from 0.

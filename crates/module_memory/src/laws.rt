@@ -1,6 +1,6 @@
 //! Laws of a rack's memories and of the machine that moves their words. They make no call.
 
-ghost use Rattle.module_memory.specs.Laws.{AddressesAreKnown, WindowsAreWhole, WritesAreApart, WritesAreKept, BaysAreWide, BaysHoldTheCounts, BaysStayLent, BaysStayWhole, LentBlockIsGone, LentBlockIsItsBay, OtherBlockIsTheRest, SetIsOneWord, SettingsHaveBays, SourcesAreFound, EachPrefix, EndIsPlaced, OneEnd, OneMoved, OnePlaced, OneMarked, AllMovedIsPlaced, CountsAreReached, OneAfterAnother, OthersStayReady, RunIsPlaced, StopIsMoved, WholeBatchIsPlaced};
+ghost use Rattle.module_memory.specs.Laws.{AddressesAreKnown, WindowsAreWhole, WritesAreApart, WritesAreKept, BaysAreWide, BaysHoldTheCounts, BaysStayLent, BaysStayWhole, LentBlockIsGone, LentBlockIsItsBay, OtherBlockIsTheRest, SetIsOneWord, SettingsHaveBays, SourcesAreFound, EachPrefix, EndIsPlaced, ImagesAreWhole, OneEnd, OneImaged, OneMoved, OnePlaced, OneMarked, AllMovedIsPlaced, CountsAreReached, OneAfterAnother, OthersStayReady, RunIsPlaced, StopIsMoved, WholeBatchIsPlaced, WordsAreInImages};
 
 /// Where a batch doesn't overlap, the order in which the words of a setting move doesn't matter. A source that
 /// the batch writes is found in an opening store, and any other in the store as it is; as the setting begins, these
@@ -21,6 +21,13 @@ pub fn addresses()
 pub fn writes()
     ensures kept { WritesAreKept }
     ensures apart { WritesAreApart }
+{}
+
+/// An image has four bytes for each word of the shape, which tell that word, so it is the image of one store.
+pub fn images()
+    ensures whole { ImagesAreWhole }
+    ensures words { WordsAreInImages }
+    ensures one { OneImaged }
 {}
 
 /// A rack of which blocks are lent has the words of the bays and of the rest.

@@ -1,11 +1,16 @@
 //! Whether blocks can be lent.
 
-ghost use Rattle.std.specs.Prelude.{◌≡◌, true, false, length, MatchOption};
-ghost use Rattle.module_memory.specs.Lending.{AreLendable, DifferBefore, ExistBefore, IsFirstMissing, IsFirstRepeated, IsLendFault, IsNoneOf, StandsIn};
+ghost use Rattle.std.specs.Prelude.{◌≡◌, ◌<◌, length, MatchOption};
+ghost use Rattle.batch.specs.Extent.{widest};
+ghost use Rattle.batch.specs.Places.{HasPlace, place_index};
+ghost use Rattle.module_memory.specs.Lending.{AreLendable, DifferBefore, ExistBefore, IsFirstMissing, IsFirstRepeated, IsLendFault};
 
 use crate::address::find_block;
 use crate::fault::LendFault;
-use batch::{Place, Shape};
+use batch::{MAX_BLOCKS, MAX_MODULES, Place, Shape};
+
+/// How many blocks the widest shape has.
+const ALL_PLACES: usize = MAX_MODULES * MAX_BLOCKS;
 
 /// The first place that the shape hasn't.
 fn first_missing(shape: Shape, places: &[Place]) -> Option<usize>
@@ -21,29 +26,29 @@ fn first_missing(shape: Shape, places: &[Place]) -> Option<usize>
     None
 }
 
-/// Whether a place is one of these.
-fn is_among(places: &[Place], place: Place) -> bool
-    ensures yes { result ≡ true → StandsIn places.now place }
-    ensures no { result ≡ false → IsNoneOf places.now place }
+/// Where a block stands among those of the widest shape.
+fn widest_index(shape: Shape, place: Place) -> usize
+    requires { HasPlace shape place }
+    ensures value { result ≡ place_index widest place }
+    ensures below { result < ALL_PLACES }
 {
-    for other in places {
-        if *other == place {
-            return true;
-        }
-    }
-    false
+    place.module * MAX_BLOCKS + place.block
 }
 
-/// The first place that stands before too.
-fn first_repeated(places: &[Place]) -> Option<usize>
+/// The first place that stands before too. The shape has all of them.
+fn first_repeated(shape: Shape, places: &[Place]) -> Option<usize>
+    requires { ExistBefore shape places.now (length places.now) }
     ensures { MatchOption result
         (DifferBefore places.now (length places.now))
         (IsFirstRepeated places.now) }
 {
+    let mut taken = [false; ALL_PLACES];
     for i in 0..places.len() {
-        if is_among(&places[..i], places[i]) {
+        let index = widest_index(shape, places[i]);
+        if taken[index] {
             return Some(i);
         }
+        taken[index] = true;
     }
     None
 }
@@ -60,7 +65,7 @@ pub fn lend_fault(shape: Shape, places: &[Place], held: &[Place]) -> Option<Lend
     if let Some(i) = first_missing(shape, held) {
         return Some(LendFault::NoHeld(i));
     }
-    if let Some(i) = first_repeated(places) {
+    if let Some(i) = first_repeated(shape, places) {
         return Some(LendFault::SamePlace(i));
     }
     None

@@ -9,12 +9,13 @@
 mod address;
 mod block;
 mod fault;
+mod image;
 pub mod laws;
 mod lendable;
 mod lending;
 mod rack;
 
 pub use address::{HOLD_START, WINDOW_START, WORD_BYTES};
-pub use fault::{LendFault, MemoryFault};
+pub use fault::{ImageFault, LendFault, MemoryFault};
 pub use lending::{Bay, Parted, Rest};
 pub use rack::{BLOCK_MARK, MODULE_MARK, Rack};

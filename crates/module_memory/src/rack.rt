@@ -1,6 +1,6 @@
 //! The memories of all modules.
 
-ghost use Rattle.std.specs.Prelude.{◌≡◌, ◌<◌, length, IfOk, IfErr, MatchOption, MatchResult};
+ghost use Rattle.std.specs.Prelude.{◌≡◌, ◌≢◌, ◌<◌, true, false, length, IfOk, IfErr, MatchOption, MatchResult};
 ghost use Rattle.batch.specs.Places.{HasPlace};
 ghost use Rattle.module_memory.specs.Store.{IsWhole, block_of, zeros_of};
 ghost use Rattle.module_memory.specs.Address.{IsMemoryFault, IsWordAt, IsWrittenAt};
@@ -64,6 +64,18 @@ impl Rack {
         Rack { shape, blocks }
     }
 
+    /// All blocks, by module and then by block.
+    pub(crate) fn blocks(&self) -> &[Block]
+        ensures { result.now ≡ self.now.blocks }
+    {
+        &self.blocks
+    }
+
+    /// Where its memory comes from.
+    pub(crate) fn allocator(&self) -> Global {
+        *self.blocks.allocator()
+    }
+
     /// How many modules, blocks and words there are.
     pub fn shape(&self) -> Shape
         ensures value { result ≡ self.now.shape }
@@ -95,6 +107,23 @@ impl Rack {
             shape: self.shape,
             blocks,
         })
+    }
+
+    /// Whether the other rack has the same shape and the same words. Takes time that grows with the number of words, and no
+    /// memory.
+    pub fn is_same(&self, other: &Rack) -> bool
+        ensures same { result ≡ true → self.now ≡ other.now }
+        ensures differ { result ≡ false → self.now ≢ other.now }
+    {
+        if self.shape != other.shape {
+            return false;
+        }
+        for (i, block) in self.blocks.iter().enumerate() {
+            if block.as_slice() != other.blocks[i].as_slice() {
+                return false;
+            }
+        }
+        true
     }
 
     /// Makes each word tell where it stands: word j of block b of module m becomes
@@ -166,8 +195,8 @@ impl Rack {
     /// each of these is copied into the rest. One place may be held more than once. Where a fault is answered the
     /// rack comes back as it was.
     ///
-    /// Takes memory for the list of bays, and for the copies. The time may grow with the square of the number of
-    /// places and, where something is held, with the number of the rack's blocks and of the held words.
+    /// Takes memory for the list of bays, and for the copies. The time grows with the numbers of places and of blocks
+    /// and, where something is held, with the number of the held words.
     pub fn part(self, places: &[Place], held: &[Place]) -> Result<Parted, (Rack, LendFault)>
         ensures lendable { IfOk result (λ _. AreLendable self.shape places.now) }
         ensures bays { IfOk result (λ parted. parted.bays.items ≡ bays_of self places.now) }

@@ -1,4 +1,7 @@
-//! How a word is parted. It is this project's choice.
+//! How a word is parted.
 
-/// How many parts a word has. Each lookout has one at least, so there are never more lookouts than parts.
-pub const ALL_PARTS: usize = 16;
+use exchange_limits::MAX_SESSIONS;
+
+/// How many parts a word has. Each lookout has one at least, so there are never more lookouts than parts, and each
+/// session of an exchange may have one.
+pub const ALL_PARTS: usize = MAX_SESSIONS;

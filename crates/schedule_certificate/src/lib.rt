@@ -5,14 +5,12 @@ mod colouring;
 mod degree;
 mod gate;
 mod greedy;
-mod limits;
 mod planned;
 mod planning;
 mod workers;
 
 pub use gate::{Gate, OpenGate};
 pub use greedy::first_fit;
-pub use limits::MAX_WORKERS;
 pub use planned::Planned;
 pub use planning::schedule;
 pub use workers::Workers;

@@ -6,11 +6,11 @@ ghost use Rattle.schedule_certificate.specs.Plans.{NamesBusiest, IsPlan, IsColou
 
 use crate::colouring::colour_copy;
 use crate::gate::Gate;
-use crate::limits::MAX_WORKERS;
 use crate::planned::Planned;
 use crate::workers::Workers;
 use alternating_path::Coloured;
 use batch::Batch;
+use exchange_limits::WorkerCount;
 use link_graph::{Certificate, LinkGraph};
 use std::alloc::{AllocError, Global};
 use std::thread::Threads;
@@ -57,20 +57,17 @@ fn certificate_of(graph: &LinkGraph) -> Result<Certificate, AllocError>
 /// times the logarithm of that number of uses, and with the transfers that are put in times the
 /// number of uses.
 ///
-/// There may be 1 to [`MAX_WORKERS`] workers, numbered from 1. Two halves are coloured at once where
-/// two workers or more may do it, as far as threads can be had: the first half of their numbers,
-/// rounded up, goes to the one half and the others to the other. Each half first lets the least of
-/// its numbers arrive at the gate. One worker alone never does. The batch is dropped where there is
-/// no memory.
+/// The workers are numbered from 1. Two halves are coloured at once where two workers or more may do
+/// it, as far as threads can be had: the first half of their numbers, rounded up, goes to the one half
+/// and the others to the other. Each half first lets the least of its numbers arrive at the gate. One
+/// worker alone never does. The batch is dropped where there is no memory.
 pub fn schedule<R: Threads + Sync, G: Gate>(
     rt: &R,
     alloc: Global,
     batch: Batch,
-    workers: usize,
+    workers: WorkerCount,
     gate: &G,
 ) -> Result<Planned, AllocError>
-    requires some { 1 ≤ workers }
-    requires few { workers ≤ MAX_WORKERS }
     ensures batch { IfOk result (λ planned. planned.batch ≡ batch) }
     ensures plan { IfOk result (λ planned. IsPlan planned) }
     ensures reinserted { IfOk result (λ planned. HasFewReinsertions planned) }

@@ -1,7 +1,7 @@
-ghost use Rattle.std.specs.Prelude.{◌≡◌, ◌+◌, ◌/◌, ◌≤◌};
-ghost use Rattle.schedule_certificate.specs.declared.limits.TheConstants.{MAX_WORKERS};
+ghost use Rattle.std.specs.Prelude.{◌≡◌, ◌+◌, ◌/◌, ◌<◌, ◌≤◌};
+ghost use Rattle.exchange_limits.specs.declared.limits.TheConstants.{MAX_WORKERS};
 
-use crate::limits::MAX_WORKERS;
+use exchange_limits::{MAX_WORKERS, WorkerCount};
 
 /// The workers who may take part in some work: a range of their numbers, which begin at 1 and end at
 /// [`MAX_WORKERS`].
@@ -16,13 +16,16 @@ pub struct Workers {
 }
 
 impl Workers {
-    /// This many workers, at most [`MAX_WORKERS`], numbered from 1.
-    pub fn all(count: usize) -> Workers
-        requires { count ≤ MAX_WORKERS }
+    /// This many workers, numbered from 1.
+    pub fn all(count: WorkerCount) -> Workers
         ensures least { result.least ≡ 1 }
         ensures count { result.count ≡ count }
+        ensures some { 0 < result.count }
     {
-        Workers { least: 1, count }
+        Workers {
+            least: 1,
+            count: count.get(),
+        }
     }
 
     /// The first half of the range, rounded up, and the rest, which begins where that half ends. Of one

@@ -1,3 +1,5 @@
+use exchange_limits::WorkerCount;
+
 /// What a run works with. It may be used for one run after another.
 #[derive(Debug, Drop)]
 pub struct Plant<P, W, G> {
@@ -7,6 +9,6 @@ pub struct Plant<P, W, G> {
     pub wires: W,
     /// The gate at which workers arrive.
     pub gate: G,
-    /// How many workers there may be, from 1 to `MAX_WORKERS`.
-    pub workers: usize,
+    /// How many workers there may be.
+    pub workers: WorkerCount,
 }

@@ -1,6 +1,6 @@
 //! Runs of planned batches.
 
-ghost use Rattle.std.specs.Prelude.{◌≡◌, ◌≤◌, ◌↔◌, ℕ, [], IsTrue, IfOk, IfErr};
+ghost use Rattle.std.specs.Prelude.{◌≡◌, ◌↔◌, ℕ, [], IsTrue, IfOk, IfErr};
 ghost use Rattle.batch.specs.Overlap.{IsApart, IsFirstOverlap};
 ghost use Rattle.module_memory.specs.Lending.{joined, Rejoins};
 ghost use Rattle.setting_runner.specs.declared.outcome.RunRefusal.TheVariants.{Overlap, Shape, NoMemory};
@@ -19,7 +19,7 @@ use crate::setting::{Setting, run_setting};
 use crossbar::ConfigPort;
 use module_memory::{Bay, Parted, Rack, Rest};
 use peek_poke::WireMaker;
-use schedule_certificate::{Gate, MAX_WORKERS, Planned};
+use schedule_certificate::{Gate, Planned};
 use std::alloc::Global;
 use std::thread::Threads;
 
@@ -32,7 +32,7 @@ use std::thread::Threads;
 /// Then, setting by setting, the switches are set, whatever they were for the first setting and from the setting
 /// before for each later one. A rack of at most 16 modules has one switch, and a wider one has two. All their outputs
 /// are asked whether they stand so, and the words of the setting's transfers are moved over their wires, by as many
-/// workers as the plant may have, from 1 to 64. The notice is told 0 before the first setting, and after each setting
+/// workers as the plant may have. The notice is told 0 before the first setting, and after each setting
 /// how many are done.
 ///
 /// A run is refused where two transfers write one block, where the rack hasn't a block that a transfer names, and
@@ -42,8 +42,9 @@ use std::thread::Threads;
 /// were set last.
 ///
 /// Where a thread can't be had, the worker that wanted it does the work itself. After the notice has been told
-/// 0 the run takes no memory, a thread's start apart. Takes time that grows with the words moved, and with the square
-/// of the number of transfers.
+/// 0 the run takes no memory, a thread's start apart. Takes time that grows with the words moved, with the number of
+/// transfers and with that of the blocks; only where two transfers write one block may the search for the first such
+/// pair take time that grows with the square of the number of transfers.
 pub fn run<R: Threads + Sync, P: ConfigPort, W: WireMaker + Sync, G: Gate + Sync, N: Notice>(
     rt: &R,
     alloc: Global,
@@ -52,9 +53,6 @@ pub fn run<R: Threads + Sync, P: ConfigPort, W: WireMaker + Sync, G: Gate + Sync
     planned: &Planned,
     notice: &mut N,
 ) -> (Rack, Outcome)
-    requires some { 1 ≤ plant.old.workers }
-    requires few { plant.old.workers ≤ MAX_WORKERS }
-
     ensures memories { LeavesMemories rack planned.now result.1 result.0 }
     ensures cause { HasCause (record {
       sure = W.is_sure plant.old.wires;
@@ -133,8 +131,6 @@ fn run_settings<R: Threads + Sync, P: ConfigPort, W: WireMaker + Sync, G: Gate +
     planned: &Planned,
     notice: &mut N,
 ) -> Outcome
-    requires some { 1 ≤ plant.old.workers }
-    requires few { plant.old.workers ≤ MAX_WORKERS }
     requires prepared { IsPrepared rest.now bays.old planned.now }
 
     ensures rejoins { Rejoins rest.now.store bays.new }

@@ -17,7 +17,7 @@ use batch::{Batch, MAX_MODULES};
 use crossbar::ConfigPort;
 use module_memory::{Bay, Rest};
 use peek_poke::WireMaker;
-use schedule_certificate::{Gate, MAX_WORKERS, Workers};
+use schedule_certificate::{Gate, Workers};
 use std::thread::Threads;
 
 /// Why a setting stopped, and how many words its transfers have moved.
@@ -46,8 +46,6 @@ pub fn run_setting<R: Threads + Sync, P: ConfigPort, W: WireMaker + Sync, G: Gat
     rest: &Rest,
     bays: &mut [Bay],
 ) -> Result<(), Stop>
-    requires some { 1 ≤ plant.old.workers }
-    requires few { plant.old.workers ≤ MAX_WORKERS }
     requires standing { AreStanding rest.now.store.shape.modules
         (P.honest plant.old.port) (P.switches plant.old.port) setting.now.standing }
     requires pairs { ArePairs rest.now.store.shape.modules setting.now.pairs }

@@ -1,6 +1,6 @@
 //! Scripts that are served at once.
 
-use answers::answer_serve;
+use answers::{WorkerCount, answer_serve};
 use std::alloc::{AllocError, Global};
 use std::sync::Wait;
 use std::test::Fail;
@@ -45,7 +45,14 @@ fn see_each_other<R: AllocGlobal + Threads + Wait + Sync>(rt: &R) -> Result<bool
     if scripts.len() != 2 {
         return Ok(false);
     }
-    let answer = answer_serve(rt, rt.alloc(), b"1x1x2", 1, scripts.as_slice())?;
+    let answer = answer_serve(
+        rt,
+        rt.alloc(),
+        b"1x1x2",
+        None,
+        WorkerCount::ONE,
+        scripts.as_slice(),
+    )?;
     Ok(are_last(answer.text(), "word 000000bb\n", "word 000000aa\n") && answer.status() == 0)
 }
 

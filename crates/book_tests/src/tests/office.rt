@@ -5,6 +5,7 @@ ghost use Rattle.std.specs.Prelude.{◌<◌};
 use batch::{Batch, Shape};
 use batch_book::{BatchState, Book, Call, Refusal, Reply};
 use crossbar::{Chip, MemoryPort};
+use exchange_limits::WorkerCount;
 use module_memory::Rack;
 use peek_poke::FuseWires;
 use schedule_certificate::{OpenGate, Planned, schedule};
@@ -97,7 +98,7 @@ pub fn batch(alloc: Global, text: &str) -> Option<Batch> {
 /// The plan of a batch text.
 pub fn plan<R: AllocGlobal + Threads + Sync>(rt: &R, text: &str) -> Option<Planned> {
     let batch = batch(rt.alloc(), text)?;
-    schedule(rt, rt.alloc(), batch, 1, &OpenGate).ok()
+    schedule(rt, rt.alloc(), batch, WorkerCount::ONE, &OpenGate).ok()
 }
 
 /// What is asked by a call of one of eight kinds. Those that name a batch name this one.
@@ -171,7 +172,7 @@ fn plant_of(wires: FuseWires) -> Plant<MemoryPort, FuseWires, OpenGate> {
         port: MemoryPort::new(),
         wires,
         gate: OpenGate,
-        workers: 1,
+        workers: WorkerCount::ONE,
     }
 }
 
@@ -208,7 +209,6 @@ impl Office {
 
     /// One call of a session.
     pub fn call<R: Threads + Sync>(&mut self, rt: &R, session: usize, call: Call) -> Said {
-        self.plant.workers = 1;
         let reply = self
             .book
             .apply(rt, session, call, &mut self.plant, &mut self.told);

@@ -7,6 +7,7 @@ use super::office::Said;
 use batch::Shape;
 use batch_book::{Call, Closed, Reading, Seat, Shared, Unclosed};
 use crossbar::MemoryPort;
+use exchange_limits::WorkerCount;
 use module_memory::Rack;
 use peek_poke::WireMaker;
 use schedule_certificate::OpenGate;
@@ -17,14 +18,12 @@ use std::sync::ledger::{Blank, Ledger};
 use std::thread::Threads;
 
 /// A plant of one worker with these wires.
-pub fn plant<W>(wires: W) -> Plant<MemoryPort, W, OpenGate>
-    ensures { result.workers ≡ 1 }
-{
+pub fn plant<W>(wires: W) -> Plant<MemoryPort, W, OpenGate> {
     Plant {
         port: MemoryPort::new(),
         wires,
         gate: OpenGate,
-        workers: 1,
+        workers: WorkerCount::ONE,
     }
 }
 

@@ -1,8 +1,7 @@
 //! An exchange with one seat, and what its calls are answered as plain values.
 
-ghost use Rattle.std.specs.Prelude.{◌≡◌, ◌≤◌, Some};
+ghost use Rattle.std.specs.Prelude.{◌≡◌, Some};
 ghost use Rattle.progress_word.specs.declared.limits.TheConstants.{ALL_PARTS};
-ghost use Rattle.schedule_certificate.specs.declared.limits.TheConstants.{MAX_WORKERS};
 
 use super::office::Said;
 use batch_book::{Call, Closed, Seat, Shared};
@@ -33,8 +32,6 @@ pub fn open_single<L: Ledger, G: Drop>(
 ) -> Option<Single<L, G>>
     requires name { blank.name ≡ L.name }
     requires parts { (blank.parts ≡ L.parts) × (blank.parts ≡ ALL_PARTS) }
-    requires some { 1 ≤ plant.workers }
-    requires few { plant.workers ≤ MAX_WORKERS }
 {
     let made = Shared::<L, MemoryPort, PlainWires, G>::new(alloc, blank, rack, plant, 1);
     let Ok((shared, mut seats)) = made else {

@@ -9,6 +9,7 @@ use super::single::{Single, close_single, open_single};
 use batch::Batch;
 use batch_book::{Book, Call};
 use crossbar::MemoryPort;
+use exchange_limits::WorkerCount;
 use module_memory::Rack;
 use peek_poke::PlainWires;
 use schedule_certificate::{Gate, Planned};
@@ -81,14 +82,12 @@ impl Gate for Meeting {
 }
 
 /// A plant of two workers that meet.
-fn for_two() -> Plant<MemoryPort, PlainWires, Meeting>
-    ensures { result.workers ≡ 2 }
-{
+fn for_two() -> Plant<MemoryPort, PlainWires, Meeting> {
     Plant {
         port: MemoryPort::new(),
         wires: PlainWires,
         gate: Meeting::new(),
-        workers: 2,
+        workers: WorkerCount::new(2).unwrap(),
     }
 }
 
@@ -126,7 +125,7 @@ fn run_of_book<R: Threads + Sync>(
     Worked {
         said: Said::of(&ran),
         is_met: plant.gate.is_met(),
-        workers: plant.workers,
+        workers: plant.workers.get(),
     }
 }
 
@@ -168,7 +167,7 @@ fn run_of_exchange<L: Ledger, R: AllocGlobal + Threads + Wait + Sync>(
     Some(Worked {
         said,
         is_met: closed.plant.gate.is_met(),
-        workers: closed.plant.workers,
+        workers: closed.plant.workers.get(),
     })
 }
 

@@ -5,12 +5,13 @@ use super::cuts::{
 };
 use super::lies::{LyingPort, answer_end};
 use super::rows::{
-    TWO_PUSHES, TWO_PUSHES_SHAPE, Told, are_same, batch, marked, plain, plan, with_port,
+    TWO_PUSHES, TWO_PUSHES_SHAPE, Told, are_same, batch, marked, plain, plan, two, with_port,
 };
 use batch_book::{BatchState, Book, Call, Entry, Refusal, Reply};
 use crossbar::{Chip, ConfigPort, FusePort};
+use exchange_limits::WorkerCount;
 use peek_poke::WireMaker;
-use schedule_certificate::{MAX_WORKERS, OpenGate};
+use schedule_certificate::OpenGate;
 use setting_runner::{Plant, StopCause};
 use std::thread::Threads;
 
@@ -63,7 +64,13 @@ fn state_of(end: End) -> BatchState {
 
 /// One call of session 0 that runs nothing.
 fn ask<R: Threads + Sync>(rt: &R, book: &mut Book, call: Call) -> Reply {
-    book.apply(rt, 0, call, &mut plain(1), &mut Told::nothing())
+    book.apply(
+        rt,
+        0,
+        call,
+        &mut plain(WorkerCount::ONE),
+        &mut Told::nothing(),
+    )
 }
 
 /// A book of a marked rack, in which the row is batch 1 and has its plan.
@@ -119,9 +126,6 @@ fn runs_to<R: AllocGlobal + Threads + Sync, P: ConfigPort, W: WireMaker + Sync>(
     let Some(mut book) = settled(rt) else {
         return false;
     };
-    if plant.workers < 1 || plant.workers > MAX_WORKERS {
-        return false;
-    }
     let mut told = Told::nothing();
     let reply = book.apply(rt, 0, Call::Run(1), plant, &mut told);
     is_told_by(end, &reply)
@@ -133,7 +137,7 @@ fn runs_to<R: AllocGlobal + Threads + Sync, P: ConfigPort, W: WireMaker + Sync>(
 
 /// Whether a book runs the row rightly with a port that takes so many bytes.
 fn is_right_port<R: AllocGlobal + Threads + Sync>(rt: &R, bytes: usize) -> bool {
-    let mut plant = with_port(FusePort::new(bytes), 1);
+    let mut plant = with_port(FusePort::new(bytes), WorkerCount::ONE);
     runs_to(rt, &mut plant, port_end(bytes))
         && plant.port.crossbar(Chip::A).joined(1, 2) == (bytes >= SETTING_BYTES)
 }
@@ -157,7 +161,7 @@ fn each_byte_of_a_port_behind_a_book(rt: HostRuntime) {
 fn first_wrong_wire<R: AllocGlobal + Threads + Sync>(
     rt: &R,
     transfer: usize,
-    workers: usize,
+    workers: WorkerCount,
 ) -> Option<usize> {
     for bytes in 0..WIRE_BYTES + 2 {
         let mut plant = with_fuse(transfer, bytes, workers);
@@ -170,16 +174,16 @@ fn first_wrong_wire<R: AllocGlobal + Threads + Sync>(
 
 #[test]
 fn each_byte_of_a_wire_behind_a_book(rt: HostRuntime) {
-    assert_eq!(rt; first_wrong_wire(&rt, 0, 1), None);
-    assert_eq!(rt; first_wrong_wire(&rt, 0, 2), None);
-    assert_eq!(rt; first_wrong_wire(&rt, 1, 1), None);
-    assert_eq!(rt; first_wrong_wire(&rt, 1, 2), None);
+    assert_eq!(rt; first_wrong_wire(&rt, 0, WorkerCount::ONE), None);
+    assert_eq!(rt; first_wrong_wire(&rt, 0, two()), None);
+    assert_eq!(rt; first_wrong_wire(&rt, 1, WorkerCount::ONE), None);
+    assert_eq!(rt; first_wrong_wire(&rt, 1, two()), None);
 }
 
 /// The first output for which a book runs the row wrongly where the output answers this byte.
 fn first_wrong_output<R: AllocGlobal + Threads + Sync>(rt: &R, reply: u8) -> Option<u8> {
     for output in 0..32u8 {
-        let mut plant = with_port(LyingPort::new(output, reply), 1);
+        let mut plant = with_port(LyingPort::new(output, reply), WorkerCount::ONE);
         if !runs_to(rt, &mut plant, answer_end(output, reply)) {
             return Some(output);
         }

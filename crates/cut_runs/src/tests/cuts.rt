@@ -1,12 +1,13 @@
 //! Runs of row two-pushes whose port or wire is cut at each of its bytes.
 
 use super::rows::{
-    TWO_PUSHES, TWO_PUSHES_SHAPE, Told, are_same, marked, marked_but, plain, plan, with_port,
+    TWO_PUSHES, TWO_PUSHES_SHAPE, Told, are_same, marked, marked_but, plain, plan, two, with_port,
 };
 use crossbar::{Chip, ConfigPort, FusePort, MemoryPort};
+use exchange_limits::{MAX_WORKERS, WorkerCount};
 use module_memory::Rack;
 use peek_poke::{FuseWires, WireMaker};
-use schedule_certificate::{MAX_WORKERS, OpenGate, Planned};
+use schedule_certificate::{OpenGate, Planned};
 use setting_runner::{Outcome, Plant, StopCause, run};
 use std::alloc::Global;
 use std::thread::Threads;
@@ -115,9 +116,6 @@ pub fn runs_to<R: AllocGlobal + Threads + Sync, P: ConfigPort, W: WireMaker + Sy
     plant: &mut Plant<P, W, OpenGate>,
     end: End,
 ) -> bool {
-    if plant.workers < 1 || plant.workers > MAX_WORKERS {
-        return false;
-    }
     let Some(rack) = marked(rt.alloc(), shape) else {
         return false;
     };
@@ -143,7 +141,7 @@ fn is_right_port<R: AllocGlobal + Threads + Sync>(
     rt: &R,
     planned: &Planned,
     bytes: usize,
-    workers: usize,
+    workers: WorkerCount,
 ) -> bool {
     let mut plant = with_port(FusePort::new(bytes), workers);
     let is_right = runs_to(rt, TWO_PUSHES_SHAPE, planned, &mut plant, port_end(bytes));
@@ -153,7 +151,10 @@ fn is_right_port<R: AllocGlobal + Threads + Sync>(
 }
 
 /// How many bytes a port takes where the row first ends as it shouldn't, by so many workers.
-fn first_wrong_port<R: AllocGlobal + Threads + Sync>(rt: &R, workers: usize) -> Option<usize> {
+fn first_wrong_port<R: AllocGlobal + Threads + Sync>(
+    rt: &R,
+    workers: WorkerCount,
+) -> Option<usize> {
     let Some(planned) = plan(rt, TWO_PUSHES) else {
         return Some(0);
     };
@@ -167,15 +168,15 @@ fn first_wrong_port<R: AllocGlobal + Threads + Sync>(rt: &R, workers: usize) -> 
 
 #[test]
 fn each_byte_of_a_port(rt: HostRuntime) {
-    assert_eq!(rt; first_wrong_port(&rt, 1), None);
-    assert_eq!(rt; first_wrong_port(&rt, 2), None);
+    assert_eq!(rt; first_wrong_port(&rt, WorkerCount::ONE), None);
+    assert_eq!(rt; first_wrong_port(&rt, two()), None);
 }
 
 /// A plant whose wire of a transfer carries so many bytes.
 pub fn with_fuse(
     transfer: usize,
     bytes: usize,
-    workers: usize,
+    workers: WorkerCount,
 ) -> Plant<MemoryPort, FuseWires, OpenGate> {
     Plant {
         port: MemoryPort::new(),
@@ -204,7 +205,7 @@ pub fn wire_end(transfer: usize, bytes: usize) -> End {
 fn first_wrong_wire<R: AllocGlobal + Threads + Sync>(
     rt: &R,
     transfer: usize,
-    workers: usize,
+    workers: WorkerCount,
 ) -> Option<usize> {
     let Some(planned) = plan(rt, TWO_PUSHES) else {
         return Some(0);
@@ -221,10 +222,10 @@ fn first_wrong_wire<R: AllocGlobal + Threads + Sync>(
 
 #[test]
 fn each_byte_of_a_wire(rt: HostRuntime) {
-    assert_eq!(rt; first_wrong_wire(&rt, 0, 1), None);
-    assert_eq!(rt; first_wrong_wire(&rt, 0, 2), None);
-    assert_eq!(rt; first_wrong_wire(&rt, 1, 1), None);
-    assert_eq!(rt; first_wrong_wire(&rt, 1, 2), None);
+    assert_eq!(rt; first_wrong_wire(&rt, 0, WorkerCount::ONE), None);
+    assert_eq!(rt; first_wrong_wire(&rt, 0, two()), None);
+    assert_eq!(rt; first_wrong_wire(&rt, 1, WorkerCount::ONE), None);
+    assert_eq!(rt; first_wrong_wire(&rt, 1, two()), None);
 }
 
 /// The first number of workers by which the row doesn't go to its end, over a port and wires that never fail.
@@ -232,10 +233,10 @@ fn first_stopped<R: AllocGlobal + Threads + Sync>(rt: &R) -> Option<usize> {
     let Some(planned) = plan(rt, TWO_PUSHES) else {
         return Some(0);
     };
-    for workers in 1..MAX_WORKERS + 1 {
-        let mut plant = plain(workers);
+    for number in 1..MAX_WORKERS + 1 {
+        let mut plant = plain(WorkerCount::new(number).unwrap());
         if !runs_to(rt, TWO_PUSHES_SHAPE, &planned, &mut plant, End::Complete) {
-            return Some(workers);
+            return Some(number);
         }
     }
     None

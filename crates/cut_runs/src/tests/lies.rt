@@ -3,6 +3,7 @@
 use super::cuts::{End, runs_to};
 use super::rows::{TWO_PUSHES, TWO_PUSHES_SHAPE, plan, with_port};
 use crossbar::{Chip, ConfigPort, MemoryPort, PortFault};
+use exchange_limits::WorkerCount;
 use schedule_certificate::Planned;
 use setting_runner::StopCause;
 use std::thread::Threads;
@@ -79,7 +80,7 @@ fn first_wrong_answer<R: AllocGlobal + Threads + Sync>(
     output: u8,
 ) -> Option<u8> {
     for reply in 0..=255u8 {
-        let mut plant = with_port(LyingPort::new(output, reply), 1);
+        let mut plant = with_port(LyingPort::new(output, reply), WorkerCount::ONE);
         let end = answer_end(output, reply);
         if !runs_to(rt, TWO_PUSHES_SHAPE, planned, &mut plant, end) {
             return Some(reply);

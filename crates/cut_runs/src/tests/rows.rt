@@ -4,6 +4,7 @@ ghost use Rattle.std.specs.Prelude.{◌≡◌};
 
 use batch::{Batch, Place, Shape};
 use crossbar::{ConfigPort, MemoryPort};
+use exchange_limits::WorkerCount;
 use module_memory::Rack;
 use peek_poke::PlainWires;
 use schedule_certificate::{OpenGate, Planned, schedule};
@@ -30,7 +31,7 @@ pub fn batch(alloc: Global, text: &str) -> Option<Batch> {
 /// The plan of a batch text.
 pub fn plan<R: AllocGlobal + Threads + Sync>(rt: &R, text: &str) -> Option<Planned> {
     let batch = batch(rt.alloc(), text)?;
-    schedule(rt, rt.alloc(), batch, 1, &OpenGate).ok()
+    schedule(rt, rt.alloc(), batch, WorkerCount::ONE, &OpenGate).ok()
 }
 
 /// A rack of the shape of a text, each of whose words tells where it stands.
@@ -110,10 +111,13 @@ impl Notice for Told {
     }
 }
 
+/// Two workers.
+pub fn two() -> WorkerCount {
+    WorkerCount::new(2).unwrap()
+}
+
 /// A plant with this port, whose wires never fail.
-pub fn with_port<P: ConfigPort>(port: P, workers: usize) -> Plant<P, PlainWires, OpenGate>
-    ensures { result.workers ≡ workers }
-{
+pub fn with_port<P: ConfigPort>(port: P, workers: WorkerCount) -> Plant<P, PlainWires, OpenGate> {
     Plant {
         port,
         wires: PlainWires,
@@ -123,9 +127,7 @@ pub fn with_port<P: ConfigPort>(port: P, workers: usize) -> Plant<P, PlainWires,
 }
 
 /// A plant whose port and wires never fail.
-pub fn plain(workers: usize) -> Plant<MemoryPort, PlainWires, OpenGate>
-    ensures { result.workers ≡ workers }
-{
+pub fn plain(workers: WorkerCount) -> Plant<MemoryPort, PlainWires, OpenGate> {
     with_port(MemoryPort::new(), workers)
 }
 

@@ -1,17 +1,18 @@
 //! The same cuts in a session: what it is told, its seat's list, the history and the words.
 
-ghost use Rattle.std.specs.Prelude.{◌≡◌, ◌≤◌, IfSome, Some};
+ghost use Rattle.std.specs.Prelude.{◌≡◌, IfSome, Some};
 ghost use Rattle.progress_word.specs.declared.limits.TheConstants.{ALL_PARTS};
 ghost use Rattle.client_session.specs.Sessions.{seat_back};
 
 use super::cuts::{End, PORT_BYTES, WIRE_BYTES, moved_rack, port_end, wire_end, with_fuse};
 use super::lies::{LyingPort, answer_end};
-use super::rows::{FIRST, Kept, TWO_PUSHES_SHAPE, are_same, marked, with_port};
+use super::rows::{FIRST, Kept, TWO_PUSHES_SHAPE, are_same, marked, two, with_port};
 use batch_book::{Closed, Seat, Shared};
 use client_session::{ServeFault, serve};
 use crossbar::{ConfigPort, FusePort};
+use exchange_limits::WorkerCount;
 use peek_poke::WireMaker;
-use schedule_certificate::{MAX_WORKERS, OpenGate};
+use schedule_certificate::OpenGate;
 use setting_runner::{Plant, StopCause};
 use std::alloc::{AllocError, Global};
 use std::marker::Brand;
@@ -55,8 +56,6 @@ fn open<L: Ledger, P: Drop, W: Drop>(
 ) -> Option<Alone<L, P, W>>
     requires name { blank.name ≡ L.name }
     requires parts { (blank.parts ≡ L.parts) × (blank.parts ≡ ALL_PARTS) }
-    requires some { 1 ≤ plant.workers }
-    requires few { plant.workers ≤ MAX_WORKERS }
 {
     let rack = marked(alloc, TWO_PUSHES_SHAPE)?;
     let made = Shared::<L, P, W, OpenGate>::new(alloc, blank, rack, plant, 1);
@@ -87,7 +86,15 @@ impl<L: Ledger, P: ConfigPort + Drop, W: WireMaker + Sync + Drop> Alone<L, P, W>
     ) -> Option<Alone<L, P, W>> {
         let Alone { exchange, seat } = self;
         let mut reader = SCRIPT.as_bytes();
-        let ended = serve(rt, rt.alloc(), &exchange, seat, &mut reader, told, 1);
+        let ended = serve(
+            rt,
+            rt.alloc(),
+            &exchange,
+            seat,
+            &mut reader,
+            told,
+            WorkerCount::ONE,
+        );
         let seat = back(ended)?;
         Some(Alone { exchange, seat })
     }
@@ -193,8 +200,6 @@ fn is_served<
 >(rt: &R, blank: Blank, plant: Plant<P, W, OpenGate>, end: End) -> Option<bool>
     requires name { blank.name ≡ L.name }
     requires parts { (blank.parts ≡ L.parts) × (blank.parts ≡ ALL_PARTS) }
-    requires some { 1 ≤ plant.workers }
-    requires few { plant.workers ≤ MAX_WORKERS }
 {
     let alone = open::<L, P, W>(rt.alloc(), blank, plant)?;
     let mut told = Kept::new();
@@ -210,16 +215,17 @@ fn runs_to<
     P: ConfigPort + Drop,
     W: WireMaker + Sync + Drop,
 >(rt: &R, plant: Plant<P, W, OpenGate>, end: End) -> bool {
-    if plant.workers < 1 || plant.workers > MAX_WORKERS {
-        return false;
-    }
     is_served::<Brand, R, P, W>(rt, Blank::new(16), plant, end) == Some(true)
 }
 
 /// How many bytes a port takes where the session is first told wrongly.
 fn first_wrong_port<R: AllocGlobal + Threads + Wait + Sync>(rt: &R) -> Option<usize> {
     for bytes in 0..PORT_BYTES + 2 {
-        if !runs_to(rt, with_port(FusePort::new(bytes), 1), port_end(bytes)) {
+        if !runs_to(
+            rt,
+            with_port(FusePort::new(bytes), WorkerCount::ONE),
+            port_end(bytes),
+        ) {
             return Some(bytes);
         }
     }
@@ -235,7 +241,7 @@ fn each_byte_of_a_port_in_a_session(rt: HostRuntime) {
 fn first_wrong_wire<R: AllocGlobal + Threads + Wait + Sync>(
     rt: &R,
     transfer: usize,
-    workers: usize,
+    workers: WorkerCount,
 ) -> Option<usize> {
     for bytes in 0..WIRE_BYTES + 2 {
         let plant = with_fuse(transfer, bytes, workers);
@@ -248,16 +254,16 @@ fn first_wrong_wire<R: AllocGlobal + Threads + Wait + Sync>(
 
 #[test]
 fn each_byte_of_a_wire_in_a_session(rt: HostRuntime) {
-    assert_eq!(rt; first_wrong_wire(&rt, 0, 1), None);
-    assert_eq!(rt; first_wrong_wire(&rt, 0, 2), None);
-    assert_eq!(rt; first_wrong_wire(&rt, 1, 1), None);
-    assert_eq!(rt; first_wrong_wire(&rt, 1, 2), None);
+    assert_eq!(rt; first_wrong_wire(&rt, 0, WorkerCount::ONE), None);
+    assert_eq!(rt; first_wrong_wire(&rt, 0, two()), None);
+    assert_eq!(rt; first_wrong_wire(&rt, 1, WorkerCount::ONE), None);
+    assert_eq!(rt; first_wrong_wire(&rt, 1, two()), None);
 }
 
 /// The first output for which the session is told wrongly where the output answers this byte.
 fn first_wrong_output<R: AllocGlobal + Threads + Wait + Sync>(rt: &R, reply: u8) -> Option<u8> {
     for output in 0..32u8 {
-        let plant = with_port(LyingPort::new(output, reply), 1);
+        let plant = with_port(LyingPort::new(output, reply), WorkerCount::ONE);
         if !runs_to(rt, plant, answer_end(output, reply)) {
             return Some(output);
         }

@@ -3,6 +3,7 @@
 use super::cuts::{End, runs_to};
 use super::rows::{TWO_PUSHES, plan, with_port};
 use crossbar::{Chip, ConfigPort, FusePort, MemoryPort, PortFault, joined_wide};
+use exchange_limits::WorkerCount;
 use schedule_certificate::Planned;
 use setting_runner::StopCause;
 use std::thread::Threads;
@@ -69,7 +70,7 @@ fn is_right_port<R: AllocGlobal + Threads + Sync>(rt: &R, planned: &Planned, byt
     } else {
         None
     };
-    let mut plant = with_port(FusePort::new(bytes), 1);
+    let mut plant = with_port(FusePort::new(bytes), WorkerCount::ONE);
     let has_ended = runs_to(rt, SHAPE, planned, &mut plant, end_of(cause));
     let (a, b) = (plant.port.crossbar(Chip::A), plant.port.crossbar(Chip::B));
     let is_set = joined_wide(a, b, 0, 1) && joined_wide(a, b, 1, 2);
@@ -127,7 +128,7 @@ fn first_wrong_answer<R: AllocGlobal + Threads + Sync>(
 ) -> Option<u8> {
     for reply in 0..=255u8 {
         let end = end_of(cause_of(chip, output, reply));
-        let mut plant = with_port(LyingPort::new(chip, output, reply), 1);
+        let mut plant = with_port(LyingPort::new(chip, output, reply), WorkerCount::ONE);
         if !runs_to(rt, SHAPE, planned, &mut plant, end) {
             return Some(reply);
         }

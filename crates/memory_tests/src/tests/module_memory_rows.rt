@@ -5,8 +5,8 @@ use super::prints::prints;
 use super::racks::{marked_rack, parted, zero_rack};
 use batch::{Place, Shape};
 use module_memory::{
-    BLOCK_MARK, Bay, HOLD_START, LendFault, MODULE_MARK, MemoryFault, Rack, Rest, WINDOW_START,
-    WORD_BYTES,
+    BLOCK_MARK, Bay, HOLD_START, ImageFault, LendFault, MODULE_MARK, MemoryFault, Rack, Rest,
+    WINDOW_START, WORD_BYTES,
 };
 use std::alloc::Global;
 
@@ -280,6 +280,89 @@ fn bays_are_written(rt: HostRuntime) {
     assert!(rt; bay_is_written(rt.alloc()));
 }
 
+/// The image of `image-by-hand`.
+const BY_HAND: [u8; 48] = [
+    0x00, 0x01, 0x02, 0x03, 0x04, 0x05, 0x06, 0x07, 0x08, 0x09, 0x0a, 0x0b, 0x0c, 0x0d, 0x0e, 0x0f,
+    0x10, 0x11, 0x12, 0x13, 0x14, 0x15, 0x16, 0x17, 0x18, 0x19, 0x1a, 0x1b, 0x1c, 0x1d, 0x1e, 0x1f,
+    0x20, 0x21, 0x22, 0x23, 0x24, 0x25, 0x26, 0x27, 0x28, 0x29, 0x2a, 0x2b, 0x2c, 0x2d, 0x2e, 0x2f,
+];
+
+/// The image of a marked rack `2x1x2`.
+const OF_MARKS: [u8; 16] = [0, 0, 0, 0, 1, 0, 0, 0, 0, 0, 1, 0, 1, 0, 1, 0];
+
+/// Whether this is the image of the rack.
+fn has_image(rack: &Rack, bytes: &[u8]) -> bool {
+    match rack.image() {
+        Ok(image) => image.as_slice() == bytes,
+        Err(_) => false,
+    }
+}
+
+/// Whether the rack of `image-by-hand` has these words.
+fn has_words_by_hand(rack: &Rack) -> bool {
+    let words = [
+        rack.read(0, 0x8000_0800),
+        rack.read(0, 0x8000_0808),
+        rack.read(1, 0x8000_0800),
+        rack.read(2, 0x8000_080c),
+    ];
+    words
+        == [
+            Ok(0x0302_0100),
+            Ok(0x0b0a_0908),
+            Ok(0x1312_1110),
+            Ok(0x2f2e_2d2c),
+        ]
+}
+
+/// The rack of an image, of a shape of these numbers.
+fn imaged_rack(alloc: Global, numbers: [usize; 3], bytes: &[u8]) -> Result<Rack, ImageFault> {
+    let [modules, blocks, words] = numbers;
+    match Shape::new(modules, blocks, words) {
+        Ok(shape) => Rack::of_image(alloc, shape, bytes),
+        Err(_) => Err(ImageFault::NoMemory),
+    }
+}
+
+/// Whether the image is read as it has to be, and written as it was read.
+fn by_hand_is_read_and_written(alloc: Global) -> bool {
+    match imaged_rack(alloc, [3, 2, 2], &BY_HAND) {
+        Ok(rack) => has_words_by_hand(&rack) && has_image(&rack, &BY_HAND),
+        Err(_) => false,
+    }
+}
+
+/// Whether the marked rack has its image, and the rack of that image has it too.
+fn marks_are_written_and_read(alloc: Global) -> bool {
+    let written = match marked_rack(alloc, 2, 1, 2) {
+        Some(rack) => has_image(&rack, &OF_MARKS),
+        None => false,
+    };
+    match imaged_rack(alloc, [2, 1, 2], &OF_MARKS) {
+        Ok(rack) => written && rack.read(1, 0x8000_0804) == Ok(0x0001_0001),
+        Err(_) => false,
+    }
+}
+
+#[test]
+fn images_are_read_and_written(rt: HostRuntime) {
+    assert!(rt; by_hand_is_read_and_written(rt.alloc()));
+    assert!(rt; marks_are_written_and_read(rt.alloc()));
+}
+
+#[test]
+fn image_length(rt: HostRuntime) {
+    let alloc = rt.alloc();
+    let faults = [
+        imaged_rack(alloc, [3, 2, 2], &BY_HAND[..47]).err(),
+        imaged_rack(alloc, [2, 1, 1], &BY_HAND[..9]).err(),
+        imaged_rack(alloc, [3, 2, 2], &[]).err(),
+        imaged_rack(alloc, [32, 64, 256], &BY_HAND).err(),
+    ];
+    let lengths = [(47, 48), (9, 8), (0, 48), (48, 2_097_152)];
+    assert!(rt; faults == lengths.map(|(is, wanted)| Some(ImageFault::Length { is, wanted })));
+}
+
 #[test]
 fn faults_are_printed(rt: HostRuntime) {
     let alloc = rt.alloc();
@@ -287,5 +370,12 @@ fn faults_are_printed(rt: HostRuntime) {
     assert!(rt; prints(alloc, &LendFault::NoPlace(0), "place 0 does not exist"));
     assert!(rt; prints(alloc, &LendFault::NoHeld(1), "held place 1 does not exist"));
     assert!(rt; prints(alloc, &LendFault::NoMemory, "no memory"));
+    assert!(rt;
+        prints(
+            alloc,
+            &ImageFault::Length { is: 47, wanted: 48 },
+            "the image has 47 bytes, and 48 are wanted"
+        )
+    );
     assert!(rt; prints(alloc, &MemoryFault::Misaligned, "the address is misaligned"));
 }

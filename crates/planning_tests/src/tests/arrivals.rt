@@ -1,7 +1,8 @@
 //! Who comes to the gate while a batch is planned, and how often.
 
 use super::texts::{THREE_TRANSFERS, all_to_all, equal_transfers, read};
-use schedule_certificate::{Gate, MAX_WORKERS, schedule};
+use exchange_limits::{MAX_WORKERS, WorkerCount};
+use schedule_certificate::{Gate, schedule};
 use std::alloc::{AllocError, Global};
 use std::sync::atomic::AtomicUsize;
 use std::sync::atomic::Ordering::SeqCst;
@@ -50,9 +51,7 @@ fn arrivals<R: AllocGlobal + Threads + Sync>(
     text: &str,
     workers: usize,
 ) -> Option<Vec<usize>> {
-    if workers == 0 || MAX_WORKERS < workers {
-        return None;
-    }
+    let workers = WorkerCount::new(workers)?;
     let batch = read(rt.alloc(), text).ok()?;
     let gate = CountingGate::new(rt.alloc()).ok()?;
     schedule(rt, rt.alloc(), batch, workers, &gate).ok()?;

@@ -1,9 +1,7 @@
-ghost use Rattle.std.specs.Prelude.{◌≤◌};
-ghost use Rattle.schedule_certificate.specs.declared.limits.TheConstants.{MAX_WORKERS};
-
 use super::texts::{FIRST_FIT_LOSES, THREE_TRANSFERS, all_to_all, equal_transfers, read};
+use exchange_limits::{MAX_WORKERS, WorkerCount};
 use link_graph::{End, Link, Schedule};
-use schedule_certificate::{Gate, MAX_WORKERS, OpenGate, Planned, Workers, first_fit, schedule};
+use schedule_certificate::{Gate, OpenGate, Planned, Workers, first_fit, schedule};
 use std::alloc::{AllocError, Global};
 use std::sync::atomic::AtomicBool;
 use std::sync::atomic::Ordering::SeqCst;
@@ -15,11 +13,8 @@ use std::thread::Threads;
 fn plan_by<R: AllocGlobal + Threads + Sync>(
     rt: &R,
     text: &str,
-    workers: usize,
-) -> Result<Planned, Fail>
-    requires some { 1 ≤ workers }
-    requires few { workers ≤ MAX_WORKERS }
-{
+    workers: WorkerCount,
+) -> Result<Planned, Fail> {
     let batch = read(rt.alloc(), text)?;
     Ok(schedule(rt, rt.alloc(), batch, workers, &OpenGate)?)
 }
@@ -28,12 +23,9 @@ fn plan_by<R: AllocGlobal + Threads + Sync>(
 fn gives<R: AllocGlobal + Threads + Sync>(
     rt: &R,
     text: &str,
-    workers: usize,
+    workers: WorkerCount,
     planned: &Planned,
-) -> Result<bool, Fail>
-    requires some { 1 ≤ workers }
-    requires few { workers ≤ MAX_WORKERS }
-{
+) -> Result<bool, Fail> {
     let other = plan_by(rt, text, workers)?;
     Ok(*planned == other)
 }
@@ -45,10 +37,10 @@ fn all_give<R: AllocGlobal + Threads + Sync>(
     planned: &Planned,
 ) -> Result<bool, Fail> {
     Ok(
-        gives(rt, text, 2, planned)?
-            && gives(rt, text, 3, planned)?
-            && gives(rt, text, 16, planned)?
-            && gives(rt, text, MAX_WORKERS, planned)?,
+        gives(rt, text, WorkerCount::new(2).unwrap(), planned)?
+            && gives(rt, text, WorkerCount::new(3).unwrap(), planned)?
+            && gives(rt, text, WorkerCount::new(16).unwrap(), planned)?
+            && gives(rt, text, WorkerCount::new(MAX_WORKERS).unwrap(), planned)?,
     )
 }
 
@@ -87,7 +79,7 @@ fn names_the_first_link(planned: &Planned, transfers: &[usize]) -> bool {
 
 #[test]
 fn three_transfers(rt: HostRuntime) -> Result<(), Fail> {
-    let planned = plan_by(&rt, THREE_TRANSFERS, 1)?;
+    let planned = plan_by(&rt, THREE_TRANSFERS, WorkerCount::ONE)?;
     assert!(rt; has_settings(planned.schedule(), &[[0, 2].as_slice(), [1].as_slice()]));
     assert!(rt; names_the_first_link(&planned, &[0, 1]));
     assert_eq!(rt; planned.batch().len(), 3);
@@ -101,7 +93,7 @@ fn three_transfers(rt: HostRuntime) -> Result<(), Fail> {
 #[test]
 fn empty_batch(rt: HostRuntime) -> Result<(), Fail> {
     let text = "batch 0\n";
-    let planned = plan_by(&rt, text, 1)?;
+    let planned = plan_by(&rt, text, WorkerCount::ONE)?;
     assert_eq!(rt; planned.schedule().settings(), 0);
     assert_eq!(rt; planned.certificate().link(), None);
     assert_eq!(rt; planned.reinserted(), 0);
@@ -121,7 +113,7 @@ fn first_fit_loses(rt: HostRuntime) -> Result<(), Fail> {
             &[[0, 1].as_slice(), [2].as_slice(), [3].as_slice()]
         )
     );
-    let planned = plan_by(&rt, FIRST_FIT_LOSES, 1)?;
+    let planned = plan_by(&rt, FIRST_FIT_LOSES, WorkerCount::ONE)?;
     assert!(rt; has_settings(planned.schedule(), &[[0, 2].as_slice(), [1, 3].as_slice()]));
     assert!(rt; names_the_first_link(&planned, &[0, 3]));
     assert!(rt; all_give(&rt, FIRST_FIT_LOSES, &planned)?);
@@ -131,7 +123,7 @@ fn first_fit_loses(rt: HostRuntime) -> Result<(), Fail> {
 #[test]
 fn thrice_the_same(rt: HostRuntime) -> Result<(), Fail> {
     let text = equal_transfers(rt.alloc(), 3)?;
-    let planned = plan_by(&rt, text.as_str(), 1)?;
+    let planned = plan_by(&rt, text.as_str(), WorkerCount::ONE)?;
     assert!(rt;
         has_settings(
             planned.schedule(),
@@ -146,7 +138,7 @@ fn thrice_the_same(rt: HostRuntime) -> Result<(), Fail> {
 #[test]
 fn four_by_four(rt: HostRuntime) -> Result<(), Fail> {
     let text = all_to_all(rt.alloc(), 4)?;
-    let planned = plan_by(&rt, text.as_str(), 1)?;
+    let planned = plan_by(&rt, text.as_str(), WorkerCount::ONE)?;
     assert!(rt; has_shape(planned.schedule(), 4, 4));
     assert_eq!(rt; planned.reinserted(), 0);
     assert!(rt; names_the_first_link(&planned, &[0, 1, 2, 3]));
@@ -157,7 +149,7 @@ fn four_by_four(rt: HostRuntime) -> Result<(), Fail> {
 #[test]
 fn three_by_three(rt: HostRuntime) -> Result<(), Fail> {
     let text = all_to_all(rt.alloc(), 3)?;
-    let planned = plan_by(&rt, text.as_str(), 1)?;
+    let planned = plan_by(&rt, text.as_str(), WorkerCount::ONE)?;
     assert!(rt; has_shape(planned.schedule(), 3, 3));
     assert!(rt; planned.reinserted() <= 2);
     assert!(rt; names_the_first_link(&planned, &[0, 1, 2]));
@@ -168,7 +160,7 @@ fn three_by_three(rt: HostRuntime) -> Result<(), Fail> {
 #[test]
 fn largest_batch(rt: HostRuntime) -> Result<(), Fail> {
     let text = equal_transfers(rt.alloc(), 4096)?;
-    let planned = plan_by(&rt, text.as_str(), 1)?;
+    let planned = plan_by(&rt, text.as_str(), WorkerCount::ONE)?;
     assert!(rt; has_shape(planned.schedule(), 4096, 1));
     assert_eq!(rt; planned.reinserted(), 0);
     assert_eq!(rt; planned.certificate().transfers().len(), 4096);
@@ -198,7 +190,7 @@ fn multiples_of_16(alloc: Global) -> Result<Vec<usize>, AllocError> {
 #[test]
 fn sixty_three_settings(rt: HostRuntime) -> Result<(), Fail> {
     let text = sixty_three_text(rt.alloc())?;
-    let planned = plan_by(&rt, text.as_str(), 1)?;
+    let planned = plan_by(&rt, text.as_str(), WorkerCount::ONE)?;
     assert_eq!(rt; planned.schedule().settings(), 63);
     assert!(rt; all_give(&rt, text.as_str(), &planned)?);
     let named = multiples_of_16(rt.alloc())?;
@@ -253,7 +245,7 @@ impl Gate for PairGate {
 fn both_halves_at_once(rt: HostRuntime) -> Result<(), Fail> {
     let batch = read(rt.alloc(), all_to_all(rt.alloc(), 4)?.as_str())?;
     let gate = PairGate::new();
-    let planned = schedule(&rt, rt.alloc(), batch, 2, &gate)?;
+    let planned = schedule(&rt, rt.alloc(), batch, WorkerCount::new(2).unwrap(), &gate)?;
     assert!(rt; gate.first.load(SeqCst));
     assert!(rt; gate.second.load(SeqCst));
     assert!(rt; !gate.gave_up.load(SeqCst));
@@ -328,7 +320,7 @@ impl Gate for QuarterGate {
 fn quarters_at_once(rt: HostRuntime) -> Result<(), Fail> {
     let batch = read(rt.alloc(), all_to_all(rt.alloc(), 4)?.as_str())?;
     let gate = QuarterGate::new();
-    let planned = schedule(&rt, rt.alloc(), batch, 4, &gate)?;
+    let planned = schedule(&rt, rt.alloc(), batch, WorkerCount::new(4).unwrap(), &gate)?;
     assert!(rt; gate.pair.first.load(SeqCst));
     assert!(rt; gate.pair.second.load(SeqCst));
     assert!(rt; !gate.pair.gave_up.load(SeqCst));
@@ -341,7 +333,7 @@ fn quarters_at_once(rt: HostRuntime) -> Result<(), Fail> {
 fn one_worker_never_arrives(rt: HostRuntime) -> Result<(), Fail> {
     let batch = read(rt.alloc(), all_to_all(rt.alloc(), 4)?.as_str())?;
     let gate = PairGate::new();
-    let planned = schedule(&rt, rt.alloc(), batch, 1, &gate)?;
+    let planned = schedule(&rt, rt.alloc(), batch, WorkerCount::ONE, &gate)?;
     assert!(rt; !gate.first.load(SeqCst));
     assert!(rt; !gate.second.load(SeqCst));
     assert!(rt; has_shape(planned.schedule(), 4, 4));
@@ -354,19 +346,14 @@ fn are_numbered(workers: Workers, least: usize, count: usize) -> bool {
 }
 
 #[test]
-fn sizes(rt: HostRuntime) {
-    assert_eq!(rt; MAX_WORKERS, 64);
-}
-
-#[test]
 fn halves_of_workers(rt: HostRuntime) {
-    let (first, rest) = Workers::all(5).halves();
+    let (first, rest) = Workers::all(WorkerCount::new(5).unwrap()).halves();
     assert!(rt; are_numbered(first, 1, 3));
     assert!(rt; are_numbered(rest, 4, 2));
     let (first, rest) = rest.halves();
     assert!(rt; are_numbered(first, 4, 1));
     assert!(rt; are_numbered(rest, 5, 1));
-    let (first, rest) = Workers::all(MAX_WORKERS).halves();
+    let (first, rest) = Workers::all(WorkerCount::new(MAX_WORKERS).unwrap()).halves();
     assert!(rt; are_numbered(first, 1, 32));
     assert!(rt; are_numbered(rest, 33, 32));
 }

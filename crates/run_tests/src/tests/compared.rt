@@ -2,6 +2,7 @@
 
 use super::runs::{Block, block_of, completed, run_with};
 use crossbar::MemoryPort;
+use exchange_limits::WorkerCount;
 use peek_poke::{PlainWire, Wire, WireFault, WireMaker};
 use schedule_certificate::OpenGate;
 use setting_runner::Plant;
@@ -95,7 +96,7 @@ fn carries<R: AllocGlobal + Threads + Sync>(
             carried: &carried,
         },
         gate: OpenGate,
-        workers: 1,
+        workers: WorkerCount::ONE,
     };
     let seen = run_with(rt, "2x2x2", text, &mut plant, blocks)?;
     let mut all: usize = 0;

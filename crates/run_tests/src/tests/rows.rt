@@ -1,11 +1,15 @@
 //! The worked rows with ports and wires that never fail.
 
 use super::runs::{Block, MOVED, TWO_PUSHES, UNMOVED, comes_to, completed, plain, run_with};
+use exchange_limits::WorkerCount;
 use setting_runner::{Chip, Outcome, RunRefusal, line_bits};
 use std::thread::Threads;
 
 /// Whether row two-pushes runs by so many workers, and leaves the switch set to both pairs.
 fn two_pushes_by<R: AllocGlobal + Threads + Sync>(rt: &R, workers: usize) -> bool {
+    let Some(workers) = WorkerCount::new(workers) else {
+        return false;
+    };
     let mut plant = plain(workers);
     let Some(seen) = run_with(rt, "3x2x2", TWO_PUSHES, &mut plant, &MOVED) else {
         return false;

@@ -2,9 +2,10 @@
 
 use batch::{Batch, Place, Shape};
 use crossbar::{ConfigPort, MemoryPort};
+use exchange_limits::WorkerCount;
 use module_memory::Rack;
 use peek_poke::{FuseWires, PlainWires, WireMaker};
-use schedule_certificate::{Gate, MAX_WORKERS, OpenGate, Planned, schedule};
+use schedule_certificate::{Gate, OpenGate, Planned, schedule};
 use setting_runner::{Moved, Notice, Outcome, Plant, StopCause, run};
 use std::alloc::Global;
 use std::thread::Threads;
@@ -148,7 +149,7 @@ fn marked(alloc: Global, shape: &str) -> Option<Rack> {
 /// The plan of a batch text.
 fn plan<R: AllocGlobal + Threads + Sync>(rt: &R, text: &str) -> Option<Planned> {
     let batch = Batch::read(rt.alloc(), text.as_bytes(), Shape::WIDEST).ok()?;
-    schedule(rt, rt.alloc(), batch, 1, &OpenGate).ok()
+    schedule(rt, rt.alloc(), batch, WorkerCount::ONE, &OpenGate).ok()
 }
 
 /// Whether all these blocks have the words that are expected.
@@ -180,9 +181,6 @@ fn run_planned<
     notice: &mut N,
     blocks: &[Block<'_>],
 ) -> Option<(Outcome, bool)> {
-    if plant.workers < 1 || plant.workers > MAX_WORKERS {
-        return None;
-    }
     let (rack, outcome) = run(rt, rt.alloc(), rack, plant, planned, notice);
     Some((outcome, has_blocks(&rack, blocks)))
 }
@@ -236,7 +234,7 @@ pub fn with_port<P>(port: P) -> Plant<P, PlainWires, OpenGate> {
         port,
         wires: PlainWires,
         gate: OpenGate,
-        workers: 1,
+        workers: WorkerCount::ONE,
     }
 }
 
@@ -246,12 +244,12 @@ pub fn with_wires<W>(wires: W) -> Plant<MemoryPort, W, OpenGate> {
         port: MemoryPort::new(),
         wires,
         gate: OpenGate,
-        workers: 1,
+        workers: WorkerCount::ONE,
     }
 }
 
 /// A plant whose port and wires never fail.
-pub fn plain(workers: usize) -> Plant<MemoryPort, PlainWires, OpenGate> {
+pub fn plain(workers: WorkerCount) -> Plant<MemoryPort, PlainWires, OpenGate> {
     Plant {
         port: MemoryPort::new(),
         wires: PlainWires,
@@ -299,6 +297,9 @@ pub fn comes_to<R: AllocGlobal + Threads + Sync>(
     outcome: Outcome,
     blocks: &[Block<'_>],
 ) -> bool {
+    let Some(workers) = WorkerCount::new(workers) else {
+        return false;
+    };
     match run_with(rt, shape, text, &mut plain(workers), blocks) {
         Some(seen) => seen.is_ended(outcome),
         None => false,

@@ -7,6 +7,7 @@ use super::runs::{
     stopped, with_port,
 };
 use crossbar::{FusePort, joined_wide};
+use exchange_limits::WorkerCount;
 use setting_runner::{Chip, StopCause};
 use std::thread::Threads;
 
@@ -48,7 +49,7 @@ const BOTH_CHIPS: [u8; 16] = [
 
 /// Whether row wide_rack is run and leaves the switches set to its pairs.
 fn runs_across<R: AllocGlobal + Threads + Sync>(rt: &R) -> bool {
-    let mut plant = plain(1);
+    let mut plant = plain(WorkerCount::ONE);
     let Some(seen) = run_with(rt, "17x2x1", TWO_ACROSS, &mut plant, &ACROSS) else {
         return false;
     };

@@ -2,6 +2,7 @@
 
 use super::runs::{FOUR_PUSHES, MOVED, TURNED_ROUND, TWO_PUSHES, block_of, completed, run_with};
 use crossbar::MemoryPort;
+use exchange_limits::WorkerCount;
 use peek_poke::{PlainWire, PlainWires, Wire, WireFault, WireMaker};
 use schedule_certificate::{Gate, OpenGate};
 use setting_runner::Plant;
@@ -12,7 +13,7 @@ use std::thread::{Threads, yield_now};
 const TURNS: usize = 10_000_000;
 
 /// A plant with these wires and this gate.
-fn with_gate<W, G>(wires: W, gate: G, workers: usize) -> Plant<MemoryPort, W, G> {
+fn with_gate<W, G>(wires: W, gate: G, workers: WorkerCount) -> Plant<MemoryPort, W, G> {
     Plant {
         port: MemoryPort::new(),
         wires,
@@ -75,7 +76,7 @@ impl Gate for Meeting {
 
 /// Whether both workers of row two-pushes meet at the gate, and all its words are moved.
 fn two_pushes_meet<R: AllocGlobal + Threads + Sync>(rt: &R) -> bool {
-    let mut plant = with_gate(PlainWires, Meeting::new(), 2);
+    let mut plant = with_gate(PlainWires, Meeting::new(), WorkerCount::new(2).unwrap());
     let Some(seen) = run_with(rt, "3x2x2", TWO_PUSHES, &mut plant, &MOVED) else {
         return false;
     };
@@ -138,7 +139,8 @@ fn arrivals_of<R: AllocGlobal + Threads + Sync>(
     run: Run,
     worker: usize,
 ) -> Option<(usize, usize)> {
-    let mut plant = with_gate(PlainWires, Counting::of(worker), run.workers);
+    let workers = WorkerCount::new(run.workers)?;
+    let mut plant = with_gate(PlainWires, Counting::of(worker), workers);
     let words = [run.word];
     let written = [block_of(1, 1, &words)];
     let seen = run_with(rt, "32x2x1", run.text, &mut plant, &written)?;
@@ -403,9 +405,12 @@ fn are_held<R: AllocGlobal + Threads + Sync>(
     transfers: usize,
     words: usize,
 ) -> bool {
+    let Some(workers) = WorkerCount::new(transfers) else {
+        return false;
+    };
     let company = Company::of(transfers);
     let wires = HeldLines { company: &company };
-    let mut plant = with_gate(wires, OpenGate, transfers);
+    let mut plant = with_gate(wires, OpenGate, workers);
     let Some(seen) = run_with(rt, shape, text, &mut plant, &[]) else {
         return false;
     };
@@ -526,7 +531,7 @@ fn arrive_early<R: AllocGlobal + Threads + Sync>(rt: &R) -> bool {
     let gate = NotingGate {
         arrivals: &arrivals,
     };
-    let mut plant = with_gate(wires, gate, 4);
+    let mut plant = with_gate(wires, gate, WorkerCount::new(4).unwrap());
     let Some(seen) = run_with(rt, "4x2x1", FOUR_PUSHES, &mut plant, &[]) else {
         return false;
     };

@@ -9,6 +9,7 @@ use batch::Shape;
 use batch_book::{Closed, Seat, Shared};
 use client_session::{ServeFault, serve};
 use crossbar::MemoryPort;
+use exchange_limits::WorkerCount;
 use module_memory::Rack;
 use peek_poke::FuseWires;
 use schedule_certificate::OpenGate;
@@ -37,14 +38,12 @@ pub struct Office<L: Ledger> {
 }
 
 /// A plant of one worker with these wires.
-fn plant(wires: FuseWires) -> Plant<MemoryPort, FuseWires, OpenGate>
-    ensures { result.workers ≡ 1 }
-{
+fn plant(wires: FuseWires) -> Plant<MemoryPort, FuseWires, OpenGate> {
     Plant {
         port: MemoryPort::new(),
         wires,
         gate: OpenGate,
-        workers: 1,
+        workers: WorkerCount::ONE,
     }
 }
 
@@ -112,7 +111,15 @@ impl<L: Ledger> Office<L> {
             first,
             second,
         } = self;
-        let ended = serve(rt, rt.alloc(), &shared, first, reader, writer, 1);
+        let ended = serve(
+            rt,
+            rt.alloc(),
+            &shared,
+            first,
+            reader,
+            writer,
+            WorkerCount::ONE,
+        );
         let (first, fault) = back(ended);
         let office = Office {
             shared,
@@ -220,7 +227,15 @@ fn seat_behind<L: Ledger, R: AllocGlobal + Threads + Wait + Sync, I: Read>(
     requires { seat.exchange ≡ Some shared.now.word }
     ensures { result.exchange ≡ seat.exchange }
 {
-    let ended = serve(rt, rt.alloc(), shared, seat, reader, heard, 1);
+    let ended = serve(
+        rt,
+        rt.alloc(),
+        shared,
+        seat,
+        reader,
+        heard,
+        WorkerCount::ONE,
+    );
     let (seat, _fault) = back(ended);
     seat
 }

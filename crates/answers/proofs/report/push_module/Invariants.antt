@@ -4,4 +4,4 @@ use Rattle.answers.specs.Reports.{block_text}
 use Rattle.answers.proofs.report.push_module.Given as goal
 
 abbrev pub invariant-loop-block : goal.invariant-loop-block
-invariant-loop-block l = (string_bytes l.text ≡ string_bytes l.initial.text ++ flat_map (block_text l.batch l.rack l.«module») (range_with_len 0 l.block)) × (l.block-end ≡ l.rack.shape.blocks)
+invariant-loop-block l = (string_bytes l.text ≡ string_bytes l.initial.text ++ flat_map (block_text l.written l.rack l.«module») (range_with_len 0 l.block)) × (l.block-end ≡ l.rack.shape.blocks)

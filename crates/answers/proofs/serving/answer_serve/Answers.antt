@@ -1,13 +1,20 @@
-use Rattle.std.proofs.Common.{ap, map, subst}
+use Rattle.std.proofs.Common.{◌≡◌, map, ◌∙◌}
 use Rattle.std.proofs.lemmas.Result.{IfOk-weaker}
-use Rattle.batch.specs.Extent.{Extent}
-use Rattle.module_memory.specs.Store.{Store}
-use Rattle.answers.specs.Serving.{AreServed, IsServeAnswer, served}
+use Rattle.answers.specs.Openings.{bytes_of}
+use Rattle.answers.specs.Refusals.{IsRefused, image_words}
+use Rattle.answers.specs.Serving.{AreServed, IsServeAnswer, served, image_refused}
 use Rattle.answers.proofs.serving.answer_serve.Goals as goal
 
-pub returns : goal.returns
-returns g c =
+pub returns-in-Ok-opening_rack : goal.returns-in-Ok-opening_rack
+returns-in-Ok-opening_rack g c =
     let scripts = map (λ s. s.items) c.args.scripts.now in
-    let shape = ap (λ (r : Store). r.shape) c.in_ok-rack.ensures in
-    IfOk-weaker c.host.result (AreServed c.in_ok-rack.rack.shape scripts) (IsServeAnswer c.args.shape.now scripts)
-    (λ p is. served c.in-Ok.shape c.in-Ok.ensures.shape (subst (λ (x : Extent). AreServed x scripts p) shape is)) c.host.ensures
+    let rack = c.in-Ok-opening_rack.rack in
+    IfOk-weaker c.host.result (AreServed rack scripts) (IsServeAnswer c.args.shape.now (bytes_of c.args.image) scripts)
+    (λ p is. served c.in-Ok.shape rack c.in-Ok.ensures.shape c.in-Ok-opening_rack.ensures.rack is) c.host.ensures
+
+pub returns-in_ok-image_words-in-Err : goal.returns-in_ok-image_words-in-Err
+returns-in_ok-image_words-in-Err g c =
+    let scripts = map (λ s. s.items) c.args.scripts.now in
+    let said : c.as_str.result.now ≡ image_words c.in-Err.fault = c.as_str.ensures.value ∙ c.in_ok-image_words-in-Err.ensures.text in
+    IfOk-weaker c.refused-in-Err.result (IsRefused c.as_str.result.now) (IsServeAnswer c.args.shape.now (bytes_of c.args.image) scripts)
+    (λ p is. image_refused c.in-Ok.shape c.in-Err.fault c.in-Ok.ensures.shape (c.in-Err.ensures.wrong c.in_ok-image_words-in-Err.ensures.real) (rw said at is)) c.refused-in-Err.ensures

@@ -10,5 +10,5 @@ returns-then-not-branch g c =
     let framed : c.in_ok-text.text.items ≡ sessions_text sessions = rw c.as_slice.ensures.value at c.in_ok-text.ensures in
     let text : c.failed.result.text ≡ sessions_text sessions ++ disagree_line = rw (c.failed.ensures.text, c.in_ok-extend_from_slice.ensures.items, framed) refl in
     let differ : c.in_ok-close.field-0 ≡ false = search rules in
-    let another : HaveAnotherHistory c.args.rack.shape sessions = rw c.in-Ok.ensures.shape at (c.in_ok-close.ensures.disagree differ) in
+    let another : HaveAnotherHistory c.args.rack sessions = rw c.in_ok-opening.ensures at (c.in_ok-close.ensures.disagree differ) in
     (sessions, rw c.in-Ok.ensures.shape at c.in_ok-sessions.ensures.of_scripts, disagree another text c.failed.ensures.status)

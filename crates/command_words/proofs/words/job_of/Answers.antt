@@ -59,3 +59,25 @@ returns-then-eq-6-clause-lack c =
     let named : c.args.name.now ≡ codes "switch" = search rules in
     IfErr-weaker c.switch_job.result _ _
     (λ lack means job is. means (wanted_of c.args.name.now (codes "switch") (rows_of (found_of c.args.found.now)) job named is)) c.switch_job.ensures.lack
+
+pub returns-then-eq-7-clause-job : goal.returns-then-eq-7-clause-job
+returns-then-eq-7-clause-job c =
+    let named : c.args.name.now ≡ codes "direct" = search rules in
+    subst (λ (name : Text). IfOk c.direct_job.result (λ (job : Job). IsJob name (rows_of (found_of c.args.found.now)) job)) (sym named) c.direct_job.ensures.job
+
+pub returns-then-eq-7-clause-lack : goal.returns-then-eq-7-clause-lack
+returns-then-eq-7-clause-lack c =
+    let named : c.args.name.now ≡ codes "direct" = search rules in
+    IfErr-weaker c.direct_job.result _ _
+    (λ lack means job is. means (wanted_of c.args.name.now (codes "direct") (rows_of (found_of c.args.found.now)) job named is)) c.direct_job.ensures.lack
+
+pub returns-then-eq-8-clause-job : goal.returns-then-eq-8-clause-job
+returns-then-eq-8-clause-job c =
+    let named : c.args.name.now ≡ codes "apply" = search rules in
+    subst (λ (name : Text). IfOk c.apply_job.result (λ (job : Job). IsJob name (rows_of (found_of c.args.found.now)) job)) (sym named) c.apply_job.ensures.job
+
+pub returns-then-eq-8-clause-lack : goal.returns-then-eq-8-clause-lack
+returns-then-eq-8-clause-lack c =
+    let named : c.args.name.now ≡ codes "apply" = search rules in
+    IfErr-weaker c.apply_job.result _ _
+    (λ lack means job is. means (wanted_of c.args.name.now (codes "apply") (rows_of (found_of c.args.found.now)) job named is)) c.apply_job.ensures.lack

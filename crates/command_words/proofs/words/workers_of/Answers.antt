@@ -1,10 +1,14 @@
-use Rattle.std.proofs.Common.{◌≡◌, ◌∙◌, sym, codes, ℕ, List, Option, Some, None, arith}
-use Rattle.clap.specs.Words.{found_of, rows_of}
+use Rattle.std.proofs.Common.{◌≡◌, ◌≤◌, ◌∙◌, sym, refl, codes, ℕ, List, Option, Some, None, Result, Ok, Err, false, true}
+use Rattle.std.specs.Prelude.{◌↔◌, IfOk, IfSome, IsSome}
+use Rattle.std.specs.Result.{result_ok}
+use Rattle.clap.specs.Words.{Row, found_of, rows_of}
 use Rattle.clap.specs.Matches.{ReadsOne, one_text}
 use Rattle.clap.specs.declared.parser.matches.Found.{Found}
 use Rattle.clap.proofs.WalkLemmas.{one_text-rows}
 use Rattle.std.specs.contracts.prelude.UsizeFromStr.TheImpl.{from_str_gives-value}
-use Rattle.command_words.specs.Jobs.{HasWorkers}
+use Rattle.exchange_limits.specs.declared.limits.TheConstants.{MAX_WORKERS}
+use Rattle.command_words.specs.Jobs.{HasWorkers, LacksMemory}
+use Rattle.command_words.specs.declared.words.Lack.{Lack}
 use Rattle.command_words.proofs.ReadText.{read_text, read_number}
 use Rattle.command_words.proofs.words.workers_of.Goals as goal
 
@@ -14,25 +18,41 @@ read : (found : Found) (r : Option ℕ) (n : ℕ) → ((t : List ℕ) → one_te
 read found r n reads has =
     read_number _ from_str_gives-value.it (λ t x gives. gives.0) has.0 r n (reads has.0 (one_text-rows found (codes "workers") ∙ has.1)) has.2 has.3 has.5
 
-pub returns-in-Some-clause-workers : goal.returns-in-Some-clause-workers
-returns-in-Some-clause-workers c =
+-- what is taken is the number, which is within the bounds
+taken : (rows : List Row) (n : ℕ) (o : Option ℕ) (r : Result ℕ Lack) → (IsSome o ↔ ((1 ≤ n) × (n ≤ MAX_WORKERS))) → IfSome o (λ w. w ≡ n) → o ≡ result_ok r
+    → ((1 ≤ n) → (n ≤ MAX_WORKERS) → HasWorkers rows n) → IfOk r (λ w. HasWorkers rows w)
+taken rows n None (Ok v) some same is has = absurd (let bad : None ≡ Some v = is in cc)
+taken rows n (Some w) (Ok v) some same is has =
+    let number : v ≡ n = cc in
+    let within = some.0 refl in
+    rw number (has within.0 within.1)
+taken rows n None (Err e) some same is has = tt
+taken rows n (Some w) (Err e) some same is has = tt
+
+-- nothing within the bounds is refused
+refused : (has : Type 0) (n : ℕ) (o : Option ℕ) (r : Result ℕ Lack) → (IsSome o ↔ ((1 ≤ n) × (n ≤ MAX_WORKERS))) → o ≡ result_ok r
+    → (has → (1 ≤ n) × (n ≤ MAX_WORKERS)) → LacksMemory has r
+refused has n None (Ok v) some is within = tt
+refused has n (Some w) (Ok v) some is within = tt
+refused has n None (Err e) some is within = λ there. absurd (let bad : false ≡ true = some.1 (within there) in cc)
+refused has n (Some w) (Err e) some is within = absurd (let bad : Some w ≡ None = is in cc)
+
+pub returns-clause-workers : goal.returns-clause-workers
+returns-clause-workers c =
     let found = found_of c.args.matches.now in
-    let t = read_text _ from_str_gives-value.it (one_text found (codes "workers")) c.get_one.result c.in-Some.n c.in-Some.is c.get_one.ensures.none c.get_one.ensures.value in
-    (t.0, sym (one_text-rows found (codes "workers")) ∙ t.1, t.2.0.0.0, t.2.0.1, c.if-n-ge1.true, c.if-n-le-MAX_WORKERS.true)
+    let t = read_text _ from_str_gives-value.it (one_text found (codes "workers")) c.get_one.result c.in-Some.number c.in-Some.is c.get_one.ensures.none c.get_one.ensures.value in
+    taken (rows_of found) c.in-Some.number c.new.result c.ok_or.result c.new.ensures.some c.new.ensures.count c.ok_or.ensures.ok_part
+    (λ some few. (t.0, sym (one_text-rows found (codes "workers")) ∙ t.1, t.2.0.0.0, t.2.0.1, some, few))
+
+pub returns-clause-lack : goal.returns-clause-lack
+returns-clause-lack c =
+    refused _ c.in-Some.number c.new.result c.ok_or.result c.new.ensures.some c.ok_or.ensures.ok_part
+    (λ has.
+    let same : Some c.in-Some.number ≡ Some has.0 = sym c.in-Some.is ∙ read (found_of c.args.matches.now) c.get_one.result has.0 c.get_one.ensures.value has.1 in
+    let number : c.in-Some.number ≡ has.0 = cc in
+    rw number (has.1.4, has.1.5))
 
 pub returns-in_default-clause-lack : goal.returns-in_default-clause-lack
 returns-in_default-clause-lack c = λ has.
-    let same : Some c.in-Some.n ≡ Some has.0 = sym c.in-Some.is ∙ read (found_of c.args.matches.now) c.get_one.result has.0 c.get_one.ensures.value has.1 in
-    let number : c.in-Some.n ≡ has.0 = cc in
-    absurd (omega (arith, number, c.if-n-le-MAX_WORKERS.false, has.1.5))
-
-pub returns-in_default-2-clause-lack : goal.returns-in_default-2-clause-lack
-returns-in_default-2-clause-lack c = λ has.
-    let same : Some c.in-Some.n ≡ Some has.0 = sym c.in-Some.is ∙ read (found_of c.args.matches.now) c.get_one.result has.0 c.get_one.ensures.value has.1 in
-    let number : c.in-Some.n ≡ has.0 = cc in
-    absurd (omega (arith, number, c.if-n-ge1.false, has.1.4))
-
-pub returns-in_default-3-clause-lack : goal.returns-in_default-3-clause-lack
-returns-in_default-3-clause-lack c = λ has.
     let bad : None ≡ Some has.0 = sym c.in_default.is ∙ read (found_of c.args.matches.now) c.get_one.result has.0 c.get_one.ensures.value has.1 in
     cc

@@ -5,4 +5,4 @@ pub returns-clause-second : goal.returns-clause-second
 returns-clause-second g c =
     let old = g.I.Read.remaining c.args.input.now in
     let now = g.I.Read.remaining c.read_file.new.input in
-    held_later old now c.args.schedule.now c.in_ok-second.second.items (λ is. c.read_file.ensures.unread (first_is_other c.args.batch.now c.args.schedule.now c.requires is)) c.in_ok-second.ensures.held
+    held_later old now c.args.other.now c.in_ok-second.second.items (λ is. c.read_file.ensures.unread (first_is_other c.args.batch.now c.args.other.now c.requires is)) c.in_ok-second.ensures.held

@@ -1,6 +1,10 @@
-use Rattle.std.proofs.Common.{ℕ, ◌<◌, ◌≢◌}
-use Rattle.module_memory.specs.Lending.{place_in}
+use Rattle.std.proofs.Common.{◌≡◌, length}
+use Rattle.module_memory.specs.declared.lendable.TheConstants.{ALL_PLACES}
+use Rattle.module_memory.proofs.Repeats.{HaveCome}
 use Rattle.module_memory.proofs.lendable.first_repeated.Given as goal
 
 abbrev pub invariant-loop-i : goal.invariant-loop-i
-invariant-loop-i l = (j k : ℕ) → j < k → k < l.i → place_in l.places j ≢ place_in l.places k
+invariant-loop-i l = record {
+  size : length l.taken ≡ ALL_PLACES;
+  come : HaveCome l.places l.i l.taken;
+}

@@ -8,7 +8,7 @@ use Rattle.batch.proofs.batch.Batch.held_sources.Goals.{then-unheld-index+in_ok-
 use Rattle.batch.proofs.batch.Batch.held_sources.Goals as goal
 
 pub loop-transfer-init : goal.loop-transfer-init
-loop-transfer-init c = record { size = search rules; below = held_none c.as_slice-transfers.result.now c.written_blocks-unheld.result c.new-held.result.items (search rules) c.written_blocks-unheld.ensures }
+loop-transfer-init c = record { size = search rules; below = held_none c.as_slice-transfers.result.now c.flags_of-unheld.result c.new-held.result.items (search rules) c.flags_of-unheld.ensures }
 
 pub loop-transfer-preserved : goal.loop-transfer-preserved
 loop-transfer-preserved c =

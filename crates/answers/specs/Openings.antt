@@ -1,0 +1,36 @@
+-- The rack that a command begins with, and what can be wrong with its image. That a rack without an
+-- image has marked words or zeros is this project's choice.
+use Rattle.std.specs.Prelude.{◌≡◌, ℕ, List, length, Option, Some, None, ⊤}
+use Rattle.std.specs.Borrow.{Bor}
+use Rattle.batch.specs.Extent.{Extent}
+use Rattle.module_memory.specs.declared.fault.ImageFault.{ImageFault}
+use Rattle.module_memory.specs.declared.fault.ImageFault.TheVariants.{Length, NoMemory}
+use Rattle.module_memory.specs.Store.{Store, zeros_of}
+use Rattle.module_memory.specs.Mark.{IsMarked}
+use Rattle.module_memory.specs.Images.{HasImage, IsImageFault, image_length}
+
+-- the bytes of an image that is lent, where there is one
+abbrev pub bytes_of : Option (Bor (List ℕ)) → Option (List ℕ)
+bytes_of None = None
+bytes_of (Some lent) = Some lent.now
+
+-- the store of the image, where there is one; else each word tells where it stands
+abbrev pub IsOfImageOrMarked : Extent → Option (List ℕ) → Store → Type 0
+IsOfImageOrMarked extent None s = IsMarked (zeros_of extent) s
+IsOfImageOrMarked extent (Some image) s = HasImage extent image s
+
+-- the store of the image, where there is one; else all words are 0
+abbrev pub IsOfImageOrZeros : Extent → Option (List ℕ) → Store → Type 0
+IsOfImageOrZeros extent None s = s ≡ zeros_of extent
+IsOfImageOrZeros extent (Some image) s = HasImage extent image s
+
+-- what is wrong with the image: it hasn't as many bytes as those of the shape
+abbrev pub IsWrongImage : Extent → Option (List ℕ) → ImageFault → Type 0
+IsWrongImage extent None fault = ⊥
+IsWrongImage extent (Some image) (Length is wanted) = IsImageFault extent image (Length is wanted)
+IsWrongImage extent (Some image) NoMemory = ⊥
+
+-- nothing is wrong with it
+abbrev pub IsRightImage : Extent → Option (List ℕ) → Type 0
+IsRightImage extent None = ⊤
+IsRightImage extent (Some image) = length image ≡ image_length extent

@@ -1,0 +1,6 @@
+pub mod Lines
+pub mod Growing
+pub mod OneReading
+pub mod EndPairs
+pub mod Directed
+pub mod Bounds
