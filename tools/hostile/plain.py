@@ -1,6 +1,6 @@
 """The controller's texts, judged a second time.
 
-This is plain Python that shares no code with the product. It was written from the rules of the texts as docs/ and README.md state
+This is plain Python that shares no code with the product. It was written from the rules of the texts as docs/ states
 them, for clearness alone: nothing here is quick, and nothing is clever.
 """
 

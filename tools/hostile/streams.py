@@ -1,5 +1,5 @@
 #!/usr/bin/env python3
-"""Files and streams that can't be read, and streams that can't be written: one line on the right stream, the status that README.md
+"""Files and streams that can't be read, and streams that can't be written: one line on the right stream, the status that docs/REFUSALS.md
 names, and nothing hangs."""
 
 import os

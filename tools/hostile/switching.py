@@ -1,5 +1,5 @@
 """What `switch` tells, a second time: plain Python, as plain.py, that shares no code with the product. It was written from the rules as
-README.md and docs/DECISIONS.md state them, and from the commands of the C004's configuration link."""
+docs/SWITCHES.md and docs/DECISIONS.md state them, and from the commands of the C004's configuration link."""
 
 import plain
 
