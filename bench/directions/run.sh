@@ -9,6 +9,10 @@
 #
 # Needs valgrind. Build the program first: ./exchange prove
 set -eu
+if ! command -v valgrind >/dev/null; then
+    echo "directions: valgrind is missing, so nothing was counted" >&2
+    exit 1
+fi
 here=$(cd "$(dirname "${BASH_SOURCE[0]}")" && pwd)
 . "$here/../copy.sh"
 program=$here/../../crates/exchange/out/exchange
