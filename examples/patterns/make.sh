@@ -1,5 +1,5 @@
 #!/usr/bin/env bash
-# Makes the patterns' files: the batches by the rules below, the plans and the pictures by the program.
+# Makes the patterns' files: the batches and the moves by the rules below, the batches of moves, the plans and the pictures by the program.
 #
 #     make.sh          makes all of them anew, where they stand
 #     make.sh --check  makes them in a folder of its own, and tells which of those that stand are others
@@ -77,18 +77,6 @@ gather_by_pushes() {
     done
 }
 
-# The same, but that module 0 pulls seven of the blocks.
-gather() {
-    local m
-    for ((m = 1; m < 16; m++)); do
-        if [ "$m" -le 8 ]; then
-            echo "push $m 0 0 $m"
-        else
-            echo "pull 0 $m $m 0"
-        fi
-    done
-}
-
 # Moves of a block from each of 15 modules to module 0, and the other way round: nobody says which end starts.
 gather_moves() {
     local m
@@ -148,10 +136,11 @@ make_all() {
     pattern butterfly.txt butterfly
     pattern halo.txt halo
     pattern gather-by-pushes.txt gather_by_pushes
-    pattern gather.txt gather
     counted moves gather.moves.txt gather_moves
     counted moves scatter.moves.txt scatter_moves
-    "$exchange" direct scatter.moves.txt >scatter.txt
+    for name in gather scatter; do
+        "$exchange" direct "$name.moves.txt" >"$name.txt"
+    done
     for s in 1 2 3 4; do
         pattern "broadcast-$s.txt" broadcast "$s"
     done
