@@ -39,8 +39,8 @@ directed x false =
       far_block = x.source.block;
     }
 
--- The transfers do the first n moves. The ends of these that are in the left half are at the links 0
--- that they use, and the others at the links 3.
+-- The transfers do the first n moves. The ends of these that are in the left half are at the links
+-- 0 that they use, and the others at the links 3.
 pub record AreDirected (moves : List Move) (left : ℕ → Bool) (n : ℕ)
     (transfers : List Transfer) : Type 0 where
   pub done : Directs (take n moves) transfers
