@@ -99,6 +99,15 @@ struct Worked {
     workers: usize,
 }
 
+/// What was answered, and what the plant has behind it.
+fn behind(said: Said, plant: &Plant<MemoryPort, PlainWires, Meeting>) -> Worked {
+    Worked {
+        said,
+        is_met: plant.gate.is_met(),
+        workers: plant.workers.get(),
+    }
+}
+
 /// What is expected of row two-pushes.
 const BY_TWO: Worked = Worked {
     said: Said::Ran(1, 1, 4),
@@ -122,11 +131,7 @@ fn run_of_book<R: Threads + Sync>(
     let _submitted = book.apply(rt, 0, Call::Submit(batch), &mut plant, &mut told);
     let _settled = book.apply(rt, 0, Call::Settle(1, planned), &mut plant, &mut told);
     let ran = book.apply(rt, 0, Call::Run(1), &mut plant, &mut told);
-    Worked {
-        said: Said::of(&ran),
-        is_met: plant.gate.is_met(),
-        workers: plant.workers.get(),
-    }
+    behind(Said::of(&ran), &plant)
 }
 
 /// Row two-pushes on a book.
@@ -164,11 +169,7 @@ fn run_of_exchange<L: Ledger, R: AllocGlobal + Threads + Wait + Sync>(
     let mut single = open_single::<L, Meeting>(rt.alloc(), blank, rack, for_two())?;
     let said = run_of_single(rt, &mut single, batch, planned);
     let closed = close_single(rt.alloc(), single)?;
-    Some(Worked {
-        said,
-        is_met: closed.plant.gate.is_met(),
-        workers: closed.plant.workers.get(),
-    })
+    Some(behind(said, &closed.plant))
 }
 
 /// Row two-pushes on an exchange.
