@@ -1,7 +1,9 @@
 #!/usr/bin/env python3
-"""How well the colours of a picture's modules can be told apart.
+"""How well the colours of a picture's modules can be told apart, and whether text on them can be read.
 
-    colours.py        reads them in crates/schedule_picture/src/style.rt
+    colours.py        reads them in crates/schedule_picture/src/style.rt, and says how well they can be told apart
+    colours.py -      reads them in the picture on standard input, and counts the parts that have a colour, the colours (three or six
+                      hexadecimal digits), the modules with a colour of their own, and the texts whose contrast is less than WCAG 2.1 wants (1.4.3)
 
 A difference is that of CIEDE2000, for D65: G. Sharma, W. Wu and E. N. Dalal, Color Research and Application 30(1), 2005. What people see who
 see no red (protanopia) or no green (deuteranopia) is computed by the matrices for severity 1.0 of G. M. Machado, M. M. Oliveira and L. A. F.
@@ -10,6 +12,7 @@ Fernandes, IEEE Transactions on Visualization and Computer Graphics 15(6), 2009,
 
 import os
 import re
+import sys
 from itertools import combinations
 from math import atan2, cos, degrees, exp, hypot, radians, sin, sqrt
 
@@ -83,9 +86,35 @@ def difference(one, other):
     return sqrt(by_light**2 + by_chroma**2 + by_hue**2 + rotation * by_chroma * by_hue)
 
 
-def main():
+# The colour of a module, of six digits.
+MODULE = r"\.m(\d+)\{fill:#([0-9a-f]{6})\}"
+
+
+def contrast(one, other):
+    """The contrast of two colours, each of three or six digits."""
+    six = [it if len(it) == 6 else "".join(2 * digit for digit in it) for it in (one, other)]
+    dark, light = sorted(luminance(linear(it)) for it in six)
+    return (light + 0.05) / (dark + 0.05)
+
+
+def texts(style, modules):
+    """The texts of a picture, each as its colour and that of its ground: black on the modules and the paper, and grey on the paper."""
+    paper = re.search(r"\.paper\{fill:#(\w+)", style)[1]
+    greys = re.findall(r"\.(?:number|lane text)\{fill:#(\w+)", style)
+    return [("000", it) for it in [paper, *modules]] + [(it, paper) for it in greys]
+
+
+def count(style):
+    """What is to be said of the colours of a picture."""
+    parts, colours = style.count("fill:"), re.findall(r"fill:#((?:[0-9a-f]{3}){1,2})[;}]", style)
+    modules = [colour for module, colour in re.findall(MODULE, style) if int(module) < 32]
+    unreadable = [it for it in texts(style, modules) if contrast(*it) < 4.5]
+    return f"parts {parts} colours {len(colours)} modules {len(set(modules))} unreadable {len(unreadable)}"
+
+
+def compare():
     with open(STYLE) as file:
-        table = dict(re.findall(r"\.m(\d+)\{fill:#([0-9a-f]{6})\}", file.read()))
+        table = dict(re.findall(MODULE, file.read()))
     colours = [table[str(module)] for module in range(32)]
     for vision, matrix in VISIONS.items():
         parts = [seen(it, matrix) for it in colours]
@@ -93,9 +122,12 @@ def main():
         least = [min(difference(*it) for it in combinations(labs[:modules], 2)) for modules in (4, 8, 16, 32)]
         told = ", ".join(f"{modules} modules {it:.1f}" for modules, it in zip((4, 8, 16, 32), least))
         ground = min(difference(it, lab(seen(colour, matrix))) for it in labs for colour in GROUNDS)
-        contrast = min((luminance(it) + 0.05) / 0.05 for it in parts)
-        print(f"{vision}: least difference of {told}, from a ground {ground:.1f}; black text has {contrast:.2f} to 1")
+        least_contrast = min((luminance(it) + 0.05) / 0.05 for it in parts)
+        print(f"{vision}: least difference of {told}, from a ground {ground:.1f}; black text has {least_contrast:.2f} to 1")
 
 
 if __name__ == "__main__":
-    main()
+    if sys.argv[1:] == ["-"]:
+        print(count(sys.stdin.read()))
+    else:
+        compare()

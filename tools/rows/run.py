@@ -33,21 +33,30 @@ HANGS = "it hangs"
 UNREAD = b"nobody reads this\n"
 
 
-def thousand():
-    """The batch of row sixty-three-settings."""
-    pushes = [f"push {t % 16} 0 {(7 * t + t // 16) % 16} 0\n" for t in range(1000)]
-    return "".join(["batch 1000\n", *pushes])
-
-
 def moves(pairs):
     """A text of moves between these modules, each of block 0 to block 0."""
     pairs = list(pairs)
     return "".join([f"moves {len(pairs)}\n", *(f"move {m} 0 {n} 0\n" for m, n in pairs)])
 
 
+def equal_transfers(count):
+    """The batch of so many equal transfers."""
+    return f"batch {count}\n" + "push 0 0 1 0\n" * count
+
+
+def pushes(transfers):
+    """The batch of these pushes."""
+    lines = [f"push {i} {b} {r} {c}\n" for i, b, r, c in transfers]
+    return "".join([f"batch {len(lines)}\n", *lines])
+
+
 # Texts that are too long to stand in a row, by their names.
 MADE = {
-    "thousand": thousand,
+    "thousand": lambda: pushes((t % 16, 0, (7 * t + t // 16) % 16, 0) for t in range(1000)),
+    "largest": lambda: equal_transfers(4096),
+    "thirty-three": lambda: equal_transfers(33),
+    "sixteen": lambda: pushes((i, 4, r, i) for i in range(4) for r in range(4)),
+    "each-module": lambda: pushes((m, 0, m, 1) for m in range(32)),
     "peeks": lambda: "peek 0 80000800\n" * 4097,
     "gather": lambda: moves((m, 0) for m in range(1, 16)),
     "scatter": lambda: moves((0, 1 + t % 31) for t in range(64 * 31)),
@@ -212,7 +221,7 @@ def run(row, line, programs):
         given, held = [put(*it) for it in row.there], Held()
         inputs = [it for it in given if it is not None] + [held.read]
         how = {"stdin": inputs[0], "stdout": subprocess.PIPE, "stderr": subprocess.PIPE, "start_new_session": True}
-        environment = {"PATH": f"{programs}:{os.environ['PATH']}", "LC_ALL": "C"}
+        environment = {"PATH": f"{programs}:{TOP}/tools:{os.environ['PATH']}", "LC_ALL": "C"}
         process = subprocess.Popen(["/bin/sh", "-c", line], env=environment, **how)
         ended = attend(process, Pipes(row), held)
         for it in [*inputs, held.write]:
