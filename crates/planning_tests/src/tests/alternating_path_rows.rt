@@ -1,22 +1,23 @@
-ghost use Rattle.std.specs.Prelude.{◌≡◌, ◌<◌, length, IsTrue, IfOk};
+ghost use Rattle.std.specs.Prelude.{◌≡◌, ◌<◌, length, IsTrue, IfOk, IfSome};
 ghost use Rattle.link_graph.specs.Uses.{AreApart};
 
+use super::prints::prints;
 use super::texts::{FIRST_FIT_LOSES, THREE_TRANSFERS, graph};
 use alternating_path::{Coloured, InsertFault, Table};
 use link_graph::{LINKS, LinkGraph};
 use std::alloc::{AllocError, Global};
-use std::test::Fail;
 
 /// Setting `k`, where there is one.
 fn setting(coloured: &Coloured, k: usize) -> &[usize] {
     coloured.schedule().setting(k).unwrap_or(&[])
 }
 
-/// Whether these are the settings `0 2` and `1 3`.
-fn is_row_of_four(coloured: &Coloured) -> bool {
+/// Whether these are the settings `0 2` and `1 3`, and so many transfers were inserted.
+fn is_row_of_four(coloured: &Coloured, inserted: usize) -> bool {
     coloured.schedule().settings() == 2
         && setting(coloured, 0) == [0, 2].as_slice()
         && setting(coloured, 1) == [1, 3].as_slice()
+        && coloured.inserted() == inserted
 }
 
 /// Whether the two transfers use no common link.
@@ -29,6 +30,20 @@ fn apart(graph: &LinkGraph, t: usize, u: usize) -> bool
     one.0 != other.0 && one.0 != other.1 && one.1 != other.0 && one.1 != other.1
 }
 
+/// The graph of the four transfers, of which 0 and 2 can be in one setting, and 1 and 3.
+fn graph_of_four(alloc: Global) -> Option<LinkGraph>
+    ensures known { IfSome result (λ graph. 3 < length graph) }
+    ensures left { IfSome result (λ graph. AreApart graph 0 2) }
+    ensures right { IfSome result (λ graph. AreApart graph 1 3) }
+{
+    let graph = graph(alloc, FIRST_FIT_LOSES)?;
+    if graph.len() == 4 && apart(&graph, 0, 2) && apart(&graph, 1, 3) {
+        Some(graph)
+    } else {
+        None
+    }
+}
+
 /// The table of `0 2`, and behind it that of `1 3`.
 fn joined(alloc: Global, graph: &LinkGraph) -> Result<Table, AllocError>
     requires known { 3 < length graph.now }
@@ -38,46 +53,55 @@ fn joined(alloc: Global, graph: &LinkGraph) -> Result<Table, AllocError>
 {
     let left = Table::one(alloc, graph, &[0, 2])?;
     let right = Table::one(alloc, graph, &[1, 3])?;
-    let table = Table::join(left, right)?;
-    Ok(table)
+    Table::join(left, right)
 }
 
-/// Two colours leave no choice of the classes.
-#[test]
-fn table_of_four(rt: HostRuntime) -> Result<(), Fail> {
-    let graph = graph(rt.alloc(), FIRST_FIT_LOSES)?;
-    assert_eq!(rt; graph.len(), 4);
-    let mut table = Table::new(rt.alloc(), &graph, 2)?;
-    table.insert(0)?;
-    table.insert(1)?;
-    table.insert(2)?;
-    table.insert(3)?;
-    assert_eq!(rt; table.inserted(), 4);
-    assert_eq!(rt; table.insert(0), Err(InsertFault::Already));
-    let coloured = table.into_schedule()?;
-    assert!(rt; is_row_of_four(&coloured));
-    assert_eq!(rt; coloured.inserted(), 4);
-    let copy = coloured.copy()?;
-    assert!(rt; is_row_of_four(&copy));
-    assert_eq!(rt; copy.inserted(), 4);
-    Ok(())
+/// Whether all four transfers are taken, each once.
+fn takes_four(table: &mut Table<'_>) -> bool
+    requires { 3 < length table.old.batch }
+{
+    table.insert(0).is_ok()
+        && table.insert(1).is_ok()
+        && table.insert(2).is_ok()
+        && table.insert(3).is_ok()
+        && table.inserted() == 4
+        && table.insert(0) == Err(InsertFault::Already)
+}
+
+/// Whether the table's classes are `0 2` and `1 3`, and so many transfers were inserted.
+fn gives_row(table: Table<'_>, inserted: usize) -> bool {
+    match table.into_schedule() {
+        Ok(coloured) => is_row_of_four(&coloured, inserted),
+        Err(_) => false,
+    }
+}
+
+/// Whether two colours take the four transfers of the graph, which leave no choice of the classes.
+fn two_colours_take(alloc: Global, graph: &LinkGraph) -> bool
+    requires { 3 < length graph.now }
+{
+    match Table::new(alloc, graph, 2) {
+        Ok(mut table) => takes_four(&mut table) && gives_row(table, 4),
+        Err(_) => false,
+    }
 }
 
 /// Whether the joined table has the settings `0 2` and `1 3`, none of them inserted.
-fn joins_to_row(alloc: Global, graph: &LinkGraph) -> Result<bool, AllocError>
+fn joins_to_row(alloc: Global, graph: &LinkGraph) -> bool
     requires known { 3 < length graph.now }
     requires left { AreApart graph.now 0 2 }
     requires right { AreApart graph.now 1 3 }
 {
-    let table = joined(alloc, graph)?;
-    let colours = table.colours();
-    let coloured = table.into_schedule()?;
-    Ok(colours == 2 && is_row_of_four(&coloured) && coloured.inserted() == 0)
+    match joined(alloc, graph) {
+        Ok(table) => table.colours() == 2 && gives_row(table, 0),
+        Err(_) => false,
+    }
 }
 
-/// Whether the table has `1 3` as its one colour, and 0 in none.
-fn has_right_alone(table: &Table<'_>) -> bool {
-    table.colours() == 1
+/// Whether the table has `1 3` as its one colour, and 0 in none, and the class is `0 2`.
+fn is_taken_back(table: &Table<'_>, class: &[usize]) -> bool {
+    class == [0, 2].as_slice()
+        && table.colours() == 1
         && table.colour_of(1) == Some(0)
         && table.colour_of(3) == Some(0)
         && table.colour_of(0) == None
@@ -90,48 +114,74 @@ fn gives_back(alloc: Global, graph: &LinkGraph) -> Result<bool, AllocError>
     requires right { AreApart graph.now 1 3 }
 {
     let (table, class) = joined(alloc, graph)?.take_back()?;
-    Ok(class.as_slice() == [0, 2].as_slice() && has_right_alone(&table))
+    Ok(is_taken_back(&table, class.as_slice()))
 }
 
-#[test]
-fn table_of_four_by_halves(rt: HostRuntime) -> Result<(), Fail> {
-    let graph = graph(rt.alloc(), FIRST_FIT_LOSES)?;
-    assert_eq!(rt; graph.len(), 4);
-    assert!(rt; apart(&graph, 0, 2));
-    assert!(rt; apart(&graph, 1, 3));
-    assert_eq!(rt; joins_to_row(rt.alloc(), &graph), Ok(true));
-    assert_eq!(rt; gives_back(rt.alloc(), &graph), Ok(true));
-    Ok(())
-}
-
-#[test]
-fn three_transfers_in_one_colour(rt: HostRuntime) -> Result<(), Fail> {
-    let graph = graph(rt.alloc(), THREE_TRANSFERS)?;
-    assert_eq!(rt; graph.len(), 3);
-    let mut table = Table::new(rt.alloc(), &graph, 1)?;
-    table.insert(0)?;
-    assert_eq!(rt; table.insert(1), Err(InsertFault::NoRoom));
-    assert_eq!(rt; table.colour_of(1), None);
-    assert_eq!(rt; table.colours(), 1);
-    Ok(())
-}
-
-#[test]
-fn more_colours_than_memory(rt: HostRuntime) -> Result<(), Fail> {
-    let graph = graph(rt.alloc(), "batch 1\npush 0 0 1 0\n")?;
-    assert!(rt; Table::new(rt.alloc(), &graph, usize::MAX).is_err());
-    assert!(rt; Table::new(rt.alloc(), &graph, usize::MAX / LINKS).is_err());
-    Ok(())
-}
-
-#[test]
-fn faults_are_printed(rt: HostRuntime) -> Result<(), Fail> {
-    let rows = [
-        (InsertFault::NoRoom, "no room"),
-        (InsertFault::Already, "already"),
-    ];
-    for (fault, text) in rows {
-        assert_eq!(rt; fault.to_string(rt.alloc())?.as_str(), text);
+/// Whether the row is met by insertions, by halves that are joined, and by what is taken back of these.
+fn meets_row(alloc: Global) -> bool {
+    match graph_of_four(alloc) {
+        Some(graph) => {
+            two_colours_take(alloc, &graph)
+                && joins_to_row(alloc, &graph)
+                && gives_back(alloc, &graph) == Ok(true)
+        }
+        None => false,
     }
-    Ok(())
+}
+
+#[test]
+fn table_of_four(rt: HostRuntime) {
+    assert!(rt; meets_row(rt.alloc()));
+}
+
+/// Whether transfer 0 is taken, and there is no room for transfer 1.
+fn has_room_for_one(table: &mut Table<'_>) -> bool
+    requires { 1 < length table.old.batch }
+{
+    table.insert(0).is_ok()
+        && table.insert(1) == Err(InsertFault::NoRoom)
+        && table.colour_of(1).is_none()
+}
+
+/// Whether one colour has room for one of the transfers of the graph.
+fn one_colour_takes_one(alloc: Global, graph: &LinkGraph) -> bool
+    requires { 1 < length graph.now }
+{
+    match Table::new(alloc, graph, 1) {
+        Ok(mut table) => has_room_for_one(&mut table),
+        Err(_) => false,
+    }
+}
+
+/// Whether one colour has room for one of three transfers.
+fn has_no_room(alloc: Global) -> bool {
+    match graph(alloc, THREE_TRANSFERS) {
+        Some(graph) => graph.len() == 3 && one_colour_takes_one(alloc, &graph),
+        None => false,
+    }
+}
+
+#[test]
+fn three_transfers_in_one_colour(rt: HostRuntime) {
+    assert!(rt; has_no_room(rt.alloc()));
+}
+
+/// Whether a table of so many colours can't be had.
+fn is_refused(alloc: Global, colours: usize) -> bool {
+    match graph(alloc, THREE_TRANSFERS) {
+        Some(graph) => Table::new(alloc, &graph, colours).is_err(),
+        None => false,
+    }
+}
+
+#[test]
+fn more_colours_than_memory(rt: HostRuntime) {
+    assert!(rt; is_refused(rt.alloc(), usize::MAX));
+    assert!(rt; is_refused(rt.alloc(), usize::MAX / LINKS));
+}
+
+#[test]
+fn faults_are_printed(rt: HostRuntime) {
+    assert!(rt; prints(rt.alloc(), &InsertFault::NoRoom, "no room"));
+    assert!(rt; prints(rt.alloc(), &InsertFault::Already, "already"));
 }

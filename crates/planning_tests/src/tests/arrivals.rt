@@ -1,13 +1,32 @@
 //! Who comes to the gate while a batch is planned, and how often.
 
-use super::texts::{THREE_TRANSFERS, all_to_all, equal_transfers, read};
-use exchange_limits::{MAX_WORKERS, WorkerCount};
-use schedule_certificate::{Gate, schedule};
+use super::planning::plan_at;
+use super::texts::{FOUR_BY_FOUR, THREE_TRANSFERS};
+use exchange_limits::MAX_WORKERS;
+use schedule_certificate::Gate;
 use std::alloc::{AllocError, Global};
 use std::sync::atomic::AtomicUsize;
 use std::sync::atomic::Ordering::SeqCst;
-use std::test::Fail;
 use std::thread::Threads;
+
+/// Two equal transfers.
+const TWO_EQUAL: &str = "batch 2\npush 0 0 1 0\npush 0 0 1 0\n";
+
+/// Eight equal transfers.
+const EIGHT_EQUAL: &str = "\
+batch 8
+push 0 0 1 0
+push 0 0 1 0
+push 0 0 1 0
+push 0 0 1 0
+push 0 0 1 0
+push 0 0 1 0
+push 0 0 1 0
+push 0 0 1 0
+";
+
+/// Two transfers that share no link.
+const APART: &str = "batch 2\npush 0 0 1 0\npush 1 0 0 0\n";
 
 /// A gate that counts how often each worker has come.
 #[derive(Drop)]
@@ -25,15 +44,14 @@ impl CountingGate {
         Ok(CountingGate { counts })
     }
 
-    /// The numbers of those who have come, ascending, each as often as it came.
-    fn arrivals(&self, alloc: Global) -> Result<Vec<usize>, AllocError> {
-        let mut arrivals = Vec::new(alloc);
+    /// Whether those of the list have come, each as often as it stands there, and nobody else.
+    fn has_seen(&self, arrivals: &[usize]) -> bool {
         for (place, count) in self.counts.iter().enumerate() {
-            for _ in 0..count.load(SeqCst) {
-                arrivals.push(place)?;
+            if count.load(SeqCst) != count_of(arrivals, place) {
+                return false;
             }
         }
-        Ok(arrivals)
+        true
     }
 }
 
@@ -45,17 +63,15 @@ impl Gate for CountingGate {
     }
 }
 
-/// Who comes while so many workers, at least one and at most 64, plan the batch of a text.
-fn arrivals<R: AllocGlobal + Threads + Sync>(
-    rt: &R,
-    text: &str,
-    workers: usize,
-) -> Option<Vec<usize>> {
-    let workers = WorkerCount::new(workers)?;
-    let batch = read(rt.alloc(), text).ok()?;
-    let gate = CountingGate::new(rt.alloc()).ok()?;
-    schedule(rt, rt.alloc(), batch, workers, &gate).ok()?;
-    gate.arrivals(rt.alloc()).ok()
+/// How often a number stands in a list.
+fn count_of(numbers: &[usize], wanted: usize) -> usize {
+    let mut count: usize = 0;
+    for number in numbers {
+        if *number == wanted {
+            count = count.saturating_add(1);
+        }
+    }
+    count
 }
 
 /// Whether just these come while so many workers plan the batch of a text.
@@ -65,71 +81,74 @@ fn come<R: AllocGlobal + Threads + Sync>(
     workers: usize,
     wanted: &[usize],
 ) -> bool {
-    match arrivals(rt, text, workers) {
-        Some(arrivals) => arrivals.as_slice() == wanted,
-        None => false,
+    match CountingGate::new(rt.alloc()) {
+        Ok(gate) => plan_at(rt, text, workers, &gate).is_some() && gate.has_seen(wanted),
+        Err(_) => false,
     }
+}
+
+/// A number of workers, and who comes where as many plan a batch.
+type Arrivals = (usize, &'static [usize]);
+
+/// Whether just those of a list come for each of its numbers of workers.
+fn all_come<R: AllocGlobal + Threads + Sync>(rt: &R, text: &str, rows: &[Arrivals]) -> bool {
+    for (workers, wanted) in rows {
+        if !come(rt, text, *workers, wanted) {
+            return false;
+        }
+    }
+    true
 }
 
 /// Four uses of each link: two levels of halves.
+const TWO_LEVELS: &[Arrivals] = &[
+    (1, &[]),
+    (2, &[1, 2]),
+    (3, &[1, 1, 2, 3]),
+    (4, &[1, 1, 2, 3, 3, 4]),
+    (5, &[1, 1, 3, 4, 4, 5]),
+    (16, &[1, 1, 5, 9, 9, 13]),
+    (64, &[1, 1, 17, 33, 33, 49]),
+];
+
 #[test]
-fn arrivals_of_two_levels(rt: HostRuntime) -> Result<(), Fail> {
-    let text = all_to_all(rt.alloc(), 4)?;
-    let rows: [(usize, &[usize]); 7] = [
-        (1, &[]),
-        (2, &[1, 2]),
-        (3, &[1, 1, 2, 3]),
-        (4, &[1, 1, 2, 3, 3, 4]),
-        (5, &[1, 1, 3, 4, 4, 5]),
-        (16, &[1, 1, 5, 9, 9, 13]),
-        (64, &[1, 1, 17, 33, 33, 49]),
-    ];
-    for (workers, wanted) in rows {
-        assert!(rt; come(&rt, text.as_str(), workers, wanted), "{workers}");
-    }
-    Ok(())
+fn arrivals_of_two_levels(rt: HostRuntime) {
+    assert!(rt; all_come(&rt, FOUR_BY_FOUR, TWO_LEVELS));
 }
 
 /// Eight uses of a link by as many transfers: three levels of halves, of four transfers, two and one.
+const THREE_LEVELS: &[Arrivals] = &[
+    (1, &[]),
+    (2, &[1, 2]),
+    (3, &[1, 1, 2, 3]),
+    (5, &[1, 1, 1, 2, 3, 4, 4, 5]),
+    (8, &[1, 1, 1, 2, 3, 3, 4, 5, 5, 5, 6, 7, 7, 8]),
+    (64, &[1, 1, 1, 9, 17, 17, 25, 33, 33, 33, 41, 49, 49, 57]),
+];
+
 #[test]
-fn arrivals_of_three_levels(rt: HostRuntime) -> Result<(), Fail> {
-    let text = equal_transfers(rt.alloc(), 8)?;
-    let rows: [(usize, &[usize]); 6] = [
-        (1, &[]),
-        (2, &[1, 2]),
-        (3, &[1, 1, 2, 3]),
-        (5, &[1, 1, 1, 2, 3, 4, 4, 5]),
-        (8, &[1, 1, 1, 2, 3, 3, 4, 5, 5, 5, 6, 7, 7, 8]),
-        (64, &[1, 1, 1, 9, 17, 17, 25, 33, 33, 33, 41, 49, 49, 57]),
-    ];
-    for (workers, wanted) in rows {
-        assert!(rt; come(&rt, text.as_str(), workers, wanted), "{workers}");
-    }
-    Ok(())
+fn arrivals_of_three_levels(rt: HostRuntime) {
+    assert!(rt; all_come(&rt, EIGHT_EQUAL, THREE_LEVELS));
 }
 
 /// Two uses of a link: one level, however few the transfers are.
+const ONE_LEVEL: &[Arrivals] = &[
+    (1, &[]),
+    (2, &[1, 2]),
+    (3, &[1, 3]),
+    (4, &[1, 3]),
+    (64, &[1, 33]),
+];
+
 #[test]
-fn arrivals_of_small_parts(rt: HostRuntime) -> Result<(), Fail> {
-    let two = equal_transfers(rt.alloc(), 2)?;
-    let rows: [(usize, &[usize]); 5] = [
-        (1, &[]),
-        (2, &[1, 2]),
-        (3, &[1, 3]),
-        (4, &[1, 3]),
-        (64, &[1, 33]),
-    ];
-    for (workers, wanted) in rows {
-        assert!(rt; come(&rt, two.as_str(), workers, wanted), "{workers}");
-        assert!(rt; come(&rt, THREE_TRANSFERS, workers, wanted), "{workers}");
-    }
-    Ok(())
+fn arrivals_of_small_parts(rt: HostRuntime) {
+    assert!(rt; all_come(&rt, TWO_EQUAL, ONE_LEVEL));
+    assert!(rt; all_come(&rt, THREE_TRANSFERS, ONE_LEVEL));
 }
 
 /// One use of each link, or none: nothing is halved.
 #[test]
 fn nobody_comes_where_nothing_is_halved(rt: HostRuntime) {
-    for text in ["batch 0\n", "batch 2\npush 0 0 1 0\npush 1 0 0 0\n"] {
-        assert!(rt; come(&rt, text, MAX_WORKERS, &[]), "{text:?}");
-    }
+    assert!(rt; come(&rt, "batch 0\n", MAX_WORKERS, &[]));
+    assert!(rt; come(&rt, APART, MAX_WORKERS, &[]));
 }

@@ -5,15 +5,11 @@ ghost use Rattle.link_graph.specs.Certificates.{naming};
 ghost use Rattle.link_graph.specs.Rows.{two_settings, two_named, two_settings_text, certified_text, empty_text};
 ghost use Rattle.link_graph.specs.ScheduleText.{schedule_text, text_with};
 
-use super::texts::{THREE_TRANSFERS, graph, read};
-use batch::{Batch, BatchFault};
+use super::prints::prints;
+use super::texts::{THREE_TRANSFERS, graph};
 use link_graph::laws::link_order;
-use link_graph::{
-    Certificate, CheckFault, End, LINKS, Link, LinkGraph, Schedule, ScheduleFault, Shortest,
-    check_schedule,
-};
-use std::alloc::{AllocError, Global};
-use std::test::Fail;
+use link_graph::{Certificate, CheckFault, End, LINKS, Link, Schedule, ScheduleFault};
+use std::alloc::Global;
 
 /// The definition of the schedule text gives the texts of worked rows.
 fn the_definitions_spell_the_rows()
@@ -37,113 +33,94 @@ const FIRST: Link = Link {
     module: 0,
 };
 
-/// The schedule of these settings.
-fn schedule_of(alloc: Global, settings: &[&[usize]]) -> Result<Schedule, AllocError> {
-    let mut lists = Vec::new(alloc);
-    for setting in settings {
-        lists.push(setting.to_vec(alloc)?)?;
-    }
-    Ok(Schedule::of(lists))
-}
-
-/// The certificate that names the first link and these transfers, or none.
-fn certificate_of(alloc: Global, named: &[usize]) -> Result<Certificate, AllocError> {
-    let certificate = Certificate::of(FIRST, named.to_vec(alloc)?);
-    Ok(certificate.unwrap_or(Certificate::none()))
-}
-
-/// The transfers of row three-transfers that use a link.
-fn users_of(alloc: Global, link: Link) -> Result<Vec<usize>, BatchFault> {
+/// Whether these are the transfers of row three-transfers that use a link.
+fn are_users(alloc: Global, link: Link, wanted: &[usize]) -> Option<bool> {
     let graph = graph(alloc, THREE_TRANSFERS)?;
-    Ok(graph.transfers_of(link)?)
+    let users = graph.transfers_of(link).ok()?;
+    Some(users.as_slice() == wanted)
 }
 
 #[test]
-fn three_transfers(rt: HostRuntime) -> Result<(), Fail> {
-    let graph = graph(rt.alloc(), THREE_TRANSFERS)?;
-    assert_eq!(rt; graph.len(), 3);
-    assert_eq!(rt; graph.busiest(), Some(FIRST));
-    assert_eq!(rt; graph.uses(FIRST), 2);
-    let answering = Link {
-        end: End::Three,
-        module: 2,
-    };
-    assert_eq!(rt; graph.ends(1), Some((FIRST, answering)));
-    Ok(())
-}
-
-#[test]
-fn transfers_of_a_link(rt: HostRuntime) -> Result<(), Fail> {
-    assert_eq!(rt; users_of(rt.alloc(), FIRST)?.as_slice(), [0, 1].as_slice());
-    Ok(())
-}
-
-#[test]
-fn a_schedule(rt: HostRuntime) -> Result<(), Fail> {
-    let schedule = schedule_of(rt.alloc(), &[&[0, 2], &[1]])?;
-    assert_eq!(rt; schedule.settings(), 2);
-    assert_eq!(rt; schedule.setting(1), Some([1].as_slice()));
-    assert_eq!(rt; schedule.iter().count(), 2);
-    assert!(rt; !schedule.is_empty());
-    Ok(())
-}
-
-/// Whether the schedules of these settings are equal.
-fn are_equal(alloc: Global, one: &[&[usize]], other: &[&[usize]]) -> Result<bool, AllocError> {
-    let one = schedule_of(alloc, one)?;
-    let other = schedule_of(alloc, other)?;
-    Ok(one == other)
-}
-
-#[test]
-fn schedules_are_compared(rt: HostRuntime) -> Result<(), Fail> {
-    let alloc = rt.alloc();
-    assert!(rt; are_equal(alloc, &[&[0, 2], &[1]], &[&[0, 2], &[1]])?);
-    assert!(rt; !are_equal(alloc, &[&[0, 2], &[1]], &[&[0, 2]])?);
-    assert!(rt; !are_equal(alloc, &[&[0, 2], &[1]], &[&[2, 0], &[1]])?);
-    assert!(rt; !are_equal(alloc, &[&[0], &[1]], &[&[0, 1], &[]])?);
-    Ok(())
-}
-
-/// Whether the certificates that name the first link and these transfers, or none, are equal.
-fn name_the_same(alloc: Global, one: &[usize], other: &[usize]) -> Result<bool, AllocError> {
-    let one = certificate_of(alloc, one)?;
-    let other = certificate_of(alloc, other)?;
-    Ok(one == other)
-}
-
-#[test]
-fn certificates_are_compared(rt: HostRuntime) -> Result<(), Fail> {
-    let alloc = rt.alloc();
-    assert!(rt; name_the_same(alloc, &[0, 1], &[0, 1])?);
-    assert!(rt; name_the_same(alloc, &[], &[])?);
-    assert!(rt; !name_the_same(alloc, &[0, 1], &[0, 2])?);
-    assert!(rt; !name_the_same(alloc, &[0, 1], &[])?);
-    Ok(())
-}
-
-#[test]
-fn a_certificate(rt: HostRuntime) -> Result<(), Fail> {
-    let certificate = certificate_of(rt.alloc(), &[0, 1])?;
-    assert_eq!(rt; certificate.link(), Some(FIRST));
-    Ok(())
-}
-
-#[test]
-fn empty_batch(rt: HostRuntime) -> Result<(), Fail> {
-    let batch = read(rt.alloc(), "batch 0\n")?;
-    assert_eq!(rt; LinkGraph::of(&batch)?.busiest(), None);
-    let schedule = schedule_of(rt.alloc(), &[])?;
-    assert_eq!(rt;
-        check_schedule(rt.alloc(), &batch, &schedule, &Certificate::none()),
-        Ok(Shortest { settings: 0 })
-    );
-    Ok(())
+fn transfers_of_a_link(rt: HostRuntime) {
+    assert!(rt; are_users(rt.alloc(), FIRST, &[0, 1]) == Some(true));
 }
 
 /// The text of a shortest schedule of the batch of three transfers, with its certificate.
 const CERTIFIED: &[u8] =
     b"settings 2\nsetting 0 2\nsetting 1\nbusiest link 0 module 0\nnamed 0 1\n";
+
+/// What a schedule's text says.
+type Said = (Schedule, Option<Certificate>);
+
+/// Whether two schedules are equal, and whether their certificates are.
+#[derive(Clone, Copy, PartialEq)]
+struct AreEqual {
+    schedules: bool,
+    certificates: bool,
+}
+
+fn compare(one: &Said, other: &Said) -> AreEqual {
+    AreEqual {
+        schedules: one.0 == other.0,
+        certificates: one.1 == other.1,
+    }
+}
+
+/// What is equal of the certified text and another one.
+fn compare_texts(alloc: Global, other: &[u8]) -> Option<AreEqual> {
+    let one = Schedule::read(alloc, CERTIFIED).ok()?;
+    let other = Schedule::read(alloc, other).ok()?;
+    Some(compare(&one, &other))
+}
+
+/// Whether a text says another schedule than the certified one, and the same certificate.
+fn differs_in_schedule(alloc: Global, text: &[u8]) -> bool {
+    let wanted = AreEqual {
+        schedules: false,
+        certificates: true,
+    };
+    compare_texts(alloc, text) == Some(wanted)
+}
+
+/// Whether a text says another certificate than the certified one, and the same schedule.
+fn differs_in_certificate(alloc: Global, text: &[u8]) -> bool {
+    let wanted = AreEqual {
+        schedules: true,
+        certificates: false,
+    };
+    compare_texts(alloc, text) == Some(wanted)
+}
+
+#[test]
+fn schedules_are_compared(rt: HostRuntime) {
+    let alloc = rt.alloc();
+    let fewer = b"settings 1\nsetting 0 2\nbusiest link 0 module 0\nnamed 0 1\n";
+    assert!(rt; differs_in_schedule(alloc, fewer));
+    let turned = b"settings 2\nsetting 2 0\nsetting 1\nbusiest link 0 module 0\nnamed 0 1\n";
+    assert!(rt; differs_in_schedule(alloc, turned));
+    let joined = b"settings 2\nsetting 0 2 1\nsetting\nbusiest link 0 module 0\nnamed 0 1\n";
+    assert!(rt; differs_in_schedule(alloc, joined));
+}
+
+#[test]
+fn certificates_are_compared(rt: HostRuntime) {
+    let alloc = rt.alloc();
+    let named = b"settings 2\nsetting 0 2\nsetting 1\nbusiest link 0 module 0\nnamed 0 2\n";
+    assert!(rt; differs_in_certificate(alloc, named));
+    let link = b"settings 2\nsetting 0 2\nsetting 1\nbusiest link 3 module 0\nnamed 0 1\n";
+    assert!(rt; differs_in_certificate(alloc, link));
+    let none = b"settings 2\nsetting 0 2\nsetting 1\nbusiest none\n";
+    assert!(rt; differs_in_certificate(alloc, none));
+}
+
+#[test]
+fn what_is_said_twice_is_equal(rt: HostRuntime) {
+    let all = AreEqual {
+        schedules: true,
+        certificates: true,
+    };
+    assert!(rt; compare_texts(rt.alloc(), CERTIFIED) == Some(all));
+}
 
 /// Reads a text, and writes what it says: the same text.
 fn copied(alloc: Global, text: &[u8]) -> Result<Vec<u8>, ScheduleFault>
@@ -153,226 +130,51 @@ fn copied(alloc: Global, text: &[u8]) -> Result<Vec<u8>, ScheduleFault>
     Ok(schedule.write(certificate.as_ref())?)
 }
 
-#[test]
-fn texts_are_written_as_they_were_read(rt: HostRuntime) -> Result<(), Fail> {
-    let texts = [
-        CERTIFIED,
-        b"settings 2\nsetting 0 2\nsetting 1\n",
-        b"settings 0\n",
-        b"settings 0\nbusiest none\n",
-        b"settings 2\nsetting\nsetting 999999999\nbusiest link 3 module 15\nnamed 0\n",
-    ];
-    for text in texts {
-        assert_eq!(rt; copied(rt.alloc(), text)?.as_slice(), text);
+/// Whether a text is written as it was read.
+fn is_copied(alloc: Global, text: &[u8]) -> bool {
+    match copied(alloc, text) {
+        Ok(copy) => copy.as_slice() == text,
+        Err(_) => false,
     }
-    Ok(())
 }
 
 #[test]
-fn texts_are_read(rt: HostRuntime) -> Result<(), Fail> {
-    let (schedule, certificate) = Schedule::read(rt.alloc(), CERTIFIED)?;
-    assert_eq!(rt; schedule.settings(), 2);
-    assert_eq!(rt;
-        schedule.setting(0).ok_or("no setting 0")?,
-        [0, 2].as_slice()
-    );
-    assert_eq!(rt; schedule.setting(1).ok_or("no setting 1")?, [1].as_slice());
-    let certificate = certificate.ok_or("no certificate")?;
-    assert_eq!(rt; certificate.link(), Some(FIRST));
-    assert_eq!(rt; certificate.transfers(), [0, 1].as_slice());
-    Ok(())
-}
-
-#[test]
-fn missing_certificates_are_read(rt: HostRuntime) -> Result<(), Fail> {
-    let (schedule, missing) = Schedule::read(rt.alloc(), b"settings 1\nsetting\n")?;
-    assert_eq!(rt; schedule.setting(0).ok_or("no setting 0")?.len(), 0);
-    assert!(rt; missing.is_none());
-    let (_, none) = Schedule::read(rt.alloc(), b"settings 0\nbusiest none\n")?;
-    let none = none.ok_or("no certificate")?;
-    assert_eq!(rt; none.link(), None);
-    assert_eq!(rt; none.transfers().len(), 0);
-    Ok(())
-}
-
-#[test]
-fn bad_setting_lines_are_named(rt: HostRuntime) -> Result<(), Fail> {
-    let rows: [(&[u8], usize); 20] = [
-        (b"", 1),
-        (b"\n", 1),
-        (b"settings 0", 1),
-        (b"settings 00\n", 1),
-        (b"settings\n", 1),
-        (b"settings 1000000000\n", 1),
-        (b"setting 0\n", 1),
-        (b"settings 999999999\n", 2),
-        (b"settings 2\nsetting 0\n", 3),
-        (b"settings 2\nsetting 0\nsetting 1", 3),
-        (b"settings 2\nsetting 0 \nsetting 1\n", 2),
-        (b"settings 2\nsetting 0\nsetting 01\n", 3),
-        (b"settings 2\nsetting 0\nsetting  1\n", 3),
-        (b"settings 2\nsetting 0\nsetting1\n", 3),
-        (b"settings 2\nsetting 0\nsetting 1000000000\n", 3),
-        (b"settings 2\nsetting 0\nsetting 1\r\n", 3),
-        (b"settings 2\nsetting 0\nbusiest none\n", 3),
-        (b"settings 1\nsetting 0\nsetting 1\n", 3),
-        (b"settings 1\nsetting 0\n\n", 3),
-        (b"settings 1\nsetting 0\nx", 3),
-    ];
-    for (text, line) in rows {
-        let fault = Schedule::read(rt.alloc(), text).err();
-        assert_eq!(rt; fault, Some(ScheduleFault::Line(line)));
-    }
-    Ok(())
-}
-
-#[test]
-fn bad_certificate_lines_are_named(rt: HostRuntime) -> Result<(), Fail> {
-    let rows: [(&[u8], usize); 15] = [
-        (b"settings 0\nbusiest none", 2),
-        (b"settings 0\nbusiest\n", 2),
-        (
-            b"settings 0\nbusiest link 1 module 0\nnamed 0\n".as_slice(),
-            2,
-        ),
-        (
-            b"settings 0\nbusiest link 0 module 32\nnamed 0\n".as_slice(),
-            2,
-        ),
-        (
-            b"settings 0\nbusiest link 0 module 00\nnamed 0\n".as_slice(),
-            2,
-        ),
-        (b"settings 0\nbusiest link 0 module 0", 2),
-        (b"settings 0\nnamed 0\n", 2),
-        (b"settings 0\nbusiest none\nnamed 0\n", 3),
-        (b"settings 0\nbusiest none\nx", 3),
-        (b"settings 0\nbusiest link 0 module 0\n", 3),
-        (
-            b"settings 0\nbusiest link 0 module 0\nnamed\n".as_slice(),
-            3,
-        ),
-        (
-            b"settings 0\nbusiest link 0 module 0\nnamed 0".as_slice(),
-            3,
-        ),
-        (
-            b"settings 0\nbusiest link 0 module 0\nnamed 0 \n".as_slice(),
-            3,
-        ),
-        (
-            b"settings 0\nbusiest link 0 module 0\nnamed 0\n\n".as_slice(),
-            4,
-        ),
-        (
-            b"settings 0\nbusiest link 0 module 0\nnamed 0\nx".as_slice(),
-            4,
-        ),
-    ];
-    for (text, line) in rows {
-        let fault = Schedule::read(rt.alloc(), text).err();
-        assert_eq!(rt; fault, Some(ScheduleFault::Line(line)));
-    }
-    Ok(())
-}
-
-/// What the checker says of these settings of row three-transfers, where the first link is named with
-/// these transfers.
-fn checked(
-    alloc: Global,
-    settings: &[&[usize]],
-    named: &[usize],
-) -> Option<Result<Shortest, CheckFault>> {
-    let batch = read(alloc, THREE_TRANSFERS).ok()?;
-    let schedule = schedule_of(alloc, settings).ok()?;
-    let certificate = certificate_of(alloc, named).ok()?;
-    Some(check_schedule(alloc, &batch, &schedule, &certificate))
-}
-
-/// What the checker says of a schedule's text of that row, where it has a certificate.
-fn checked_text(alloc: Global, text: &[u8]) -> Option<Result<Shortest, CheckFault>> {
-    let batch = read(alloc, THREE_TRANSFERS).ok()?;
-    let (schedule, certificate) = Schedule::read(alloc, text).ok()?;
-    let certificate = certificate?;
-    Some(check_schedule(alloc, &batch, &schedule, &certificate))
-}
-
-#[test]
-fn checker(rt: HostRuntime) {
+fn texts_are_written_as_they_were_read(rt: HostRuntime) {
     let alloc = rt.alloc();
-    assert_eq!(rt;
-        checked(alloc, &[&[0, 2], &[1]], &[0, 1]),
-        Some(Ok(Shortest { settings: 2 }))
-    );
-    assert_eq!(rt;
-        checked(alloc, &[&[0, 3], &[1]], &[0, 1]),
-        Some(Err(CheckFault::Unknown(3)))
-    );
-    assert_eq!(rt;
-        checked(alloc, &[&[0, 2], &[1, 2]], &[0, 1]),
-        Some(Err(CheckFault::Repeated(2)))
-    );
-    assert_eq!(rt;
-        checked(alloc, &[&[0], &[1]], &[0, 1]),
-        Some(Err(CheckFault::Missing(2)))
-    );
-    assert_eq!(rt;
-        checked(alloc, &[&[0, 1], &[2]], &[0, 1]),
-        Some(Err(CheckFault::Clash(0, FIRST)))
-    );
-    assert_eq!(rt;
-        checked_text(alloc, CERTIFIED),
-        Some(Ok(Shortest { settings: 2 }))
-    );
+    assert!(rt; is_copied(alloc, CERTIFIED));
+    assert!(rt; is_copied(alloc, b"settings 2\nsetting 0 2\nsetting 1\n"));
+    assert!(rt; is_copied(alloc, b"settings 0\n"));
+    assert!(rt; is_copied(alloc, b"settings 0\nbusiest none\n"));
+    let text = b"settings 2\nsetting\nsetting 999999999\nbusiest link 3 module 15\nnamed 0\n";
+    assert!(rt; is_copied(alloc, text));
 }
 
 #[test]
-fn checker_of_certificates(rt: HostRuntime) {
+fn faults_are_printed(rt: HostRuntime) {
     let alloc = rt.alloc();
-    assert_eq!(rt;
-        checked(alloc, &[&[0, 2], &[1]], &[0, 2]),
-        Some(Err(CheckFault::WrongLink(2)))
+    assert!(rt; prints(alloc, &CheckFault::Unknown(3), "unknown 3"));
+    assert!(rt; prints(alloc, &CheckFault::Repeated(2), "repeated 2"));
+    assert!(rt; prints(alloc, &CheckFault::Missing(2), "missing 2"));
+    let clash = CheckFault::Clash(0, FIRST);
+    assert!(rt; prints(alloc, &clash, "clash in setting 0 at link 0 module 0"));
+    assert!(rt; prints(alloc, &CheckFault::WrongLink(2), "wrong link 2"));
+    assert!(rt;
+        prints(
+            alloc,
+            &CheckFault::CertificateRepeats(0),
+            "certificate repeats 0"
+        )
     );
-    assert_eq!(rt;
-        checked(alloc, &[&[0, 2], &[1]], &[0, 0]),
-        Some(Err(CheckFault::CertificateRepeats(0)))
+    assert!(rt;
+        prints(
+            alloc,
+            &CheckFault::NotTight(3, 2),
+            "not tight: 3 settings, 2 named"
+        )
     );
-    assert_eq!(rt;
-        checked(alloc, &[&[0, 2], &[1]], &[0]),
-        Some(Err(CheckFault::NotTight(2, 1)))
-    );
-    assert_eq!(rt;
-        checked(alloc, &[&[0], &[1], &[2]], &[0, 1]),
-        Some(Err(CheckFault::NotTight(3, 2)))
-    );
-}
-
-#[test]
-fn faults_are_printed(rt: HostRuntime) -> Result<(), Fail> {
-    let rows = [
-        (CheckFault::Unknown(3), "unknown 3"),
-        (CheckFault::Repeated(2), "repeated 2"),
-        (CheckFault::Missing(2), "missing 2"),
-        (
-            CheckFault::Clash(0, FIRST),
-            "clash in setting 0 at link 0 module 0",
-        ),
-        (CheckFault::WrongLink(2), "wrong link 2"),
-        (CheckFault::CertificateRepeats(0), "certificate repeats 0"),
-        (CheckFault::NotTight(3, 2), "not tight: 3 settings, 2 named"),
-        (CheckFault::NoMemory, "no memory"),
-    ];
-    for (fault, text) in rows {
-        assert_eq!(rt; fault.to_string(rt.alloc())?.as_str(), text);
-    }
-    let rows = [
-        (ScheduleFault::Line(3), "line 3"),
-        (ScheduleFault::NoMemory, "no memory"),
-    ];
-    for (fault, text) in rows {
-        assert_eq!(rt; fault.to_string(rt.alloc())?.as_str(), text);
-    }
-    Ok(())
+    assert!(rt; prints(alloc, &CheckFault::NoMemory, "no memory"));
+    assert!(rt; prints(alloc, &ScheduleFault::Line(3), "line 3"));
+    assert!(rt; prints(alloc, &ScheduleFault::NoMemory, "no memory"));
 }
 
 #[test]
@@ -381,11 +183,8 @@ fn links_are_counted(rt: HostRuntime) {
         end: End::Three,
         module: 31,
     };
-    assert_eq!(rt; LINKS, 64);
-    assert_eq!(rt; FIRST.index(), 0);
-    assert_eq!(rt; last.index(), 63);
-    assert_eq!(rt; End::Zero.number(), 0);
-    assert_eq!(rt; End::Three.number(), 3);
+    assert!(rt; LINKS == 64 && FIRST.index() == 0 && last.index() == 63);
+    assert!(rt; End::Zero.number() == 0 && End::Three.number() == 3);
 }
 
 #[test]

@@ -1,201 +1,83 @@
-use super::texts::{FIRST_FIT_LOSES, THREE_TRANSFERS, all_to_all, equal_transfers, read};
+use super::planning::{Plan, plan_at};
+use super::texts::{FIRST_FIT_LOSES, FOUR_BY_FOUR, read};
 use exchange_limits::{MAX_WORKERS, WorkerCount};
-use link_graph::{End, Link, Schedule};
-use schedule_certificate::{Gate, OpenGate, Planned, Workers, first_fit, schedule};
-use std::alloc::{AllocError, Global};
+use link_graph::Schedule;
+use schedule_certificate::{Gate, OpenGate, Workers, first_fit};
+use std::alloc::Global;
 use std::sync::atomic::AtomicBool;
 use std::sync::atomic::Ordering::SeqCst;
-use std::test::Fail;
 use std::thread;
 use std::thread::Threads;
 
-/// The plan of a batch text, by so many workers.
-fn plan_by<R: AllocGlobal + Threads + Sync>(
-    rt: &R,
-    text: &str,
-    workers: WorkerCount,
-) -> Result<Planned, Fail> {
-    let batch = read(rt.alloc(), text)?;
-    Ok(schedule(rt, rt.alloc(), batch, workers, &OpenGate)?)
+/// Whether these are the settings `0 1`, `2` and `3`.
+fn is_first_fit(schedule: &Schedule) -> bool {
+    schedule.settings() == 3
+        && schedule.setting(0) == Some([0, 1].as_slice())
+        && schedule.setting(1) == Some([2].as_slice())
+        && schedule.setting(2) == Some([3].as_slice())
 }
 
-/// Whether so many workers give this plan.
-fn gives<R: AllocGlobal + Threads + Sync>(
-    rt: &R,
-    text: &str,
-    workers: WorkerCount,
-    planned: &Planned,
-) -> Result<bool, Fail> {
-    let other = plan_by(rt, text, workers)?;
-    Ok(*planned == other)
-}
-
-/// Whether more workers give this plan too.
-fn all_give<R: AllocGlobal + Threads + Sync>(
-    rt: &R,
-    text: &str,
-    planned: &Planned,
-) -> Result<bool, Fail> {
-    Ok(
-        gives(rt, text, WorkerCount::new(2).unwrap(), planned)?
-            && gives(rt, text, WorkerCount::new(3).unwrap(), planned)?
-            && gives(rt, text, WorkerCount::new(16).unwrap(), planned)?
-            && gives(rt, text, WorkerCount::new(MAX_WORKERS).unwrap(), planned)?,
-    )
-}
-
-/// Whether the schedule has just these settings.
-fn has_settings(schedule: &Schedule, settings: &[&[usize]]) -> bool {
-    if schedule.settings() != settings.len() {
-        return false;
-    }
-    for k in 0..settings.len() {
-        if schedule.setting(k) != Some(settings[k]) {
-            return false;
-        }
-    }
-    true
-}
-
-/// Whether there are so many settings of so many transfers each.
-fn has_shape(schedule: &Schedule, settings: usize, transfers: usize) -> bool {
-    for k in 0..schedule.settings() {
-        if schedule.setting(k).unwrap_or(&[]).len() != transfers {
-            return false;
-        }
-    }
-    schedule.settings() == settings
-}
-
-/// Whether link 0 of module 0 is named with these transfers.
-fn names_the_first_link(planned: &Planned, transfers: &[usize]) -> bool {
-    let link = Link {
-        end: End::Zero,
-        module: 0,
-    };
-    let certificate = planned.certificate();
-    certificate.link() == Some(link) && certificate.transfers() == transfers
+/// Whether first fit has these settings for the batch of a text.
+fn fits(alloc: Global, text: &str) -> Option<bool> {
+    let batch = read(alloc, text)?;
+    let schedule = first_fit(alloc, &batch).ok()?;
+    Some(is_first_fit(&schedule))
 }
 
 #[test]
-fn three_transfers(rt: HostRuntime) -> Result<(), Fail> {
-    let planned = plan_by(&rt, THREE_TRANSFERS, WorkerCount::ONE)?;
-    assert!(rt; has_settings(planned.schedule(), &[[0, 2].as_slice(), [1].as_slice()]));
-    assert!(rt; names_the_first_link(&planned, &[0, 1]));
-    assert_eq!(rt; planned.batch().len(), 3);
-    assert_eq!(rt; planned.reinserted(), 0);
-    let copy = planned.copy()?;
-    assert!(rt; copy == planned);
-    assert!(rt; all_give(&rt, THREE_TRANSFERS, &planned)?);
-    Ok(())
+fn first_fit_loses(rt: HostRuntime) {
+    assert!(rt; fits(rt.alloc(), FIRST_FIT_LOSES) == Some(true));
+}
+
+/// The plan of row four-by-four, of which no transfer is put back.
+const PLAN_OF_FOUR: Plan = Plan {
+    settings: 4,
+    reinserted: 0,
+};
+
+/// Each of five modules pushes a block to each of them. A half of these transfers may have links with three uses, and is then halved once more,
+/// into two halves that have four colours together.
+const FIVE_BY_FIVE: &str = "\
+batch 25
+push 0 5 0 0
+push 0 5 1 0
+push 0 5 2 0
+push 0 5 3 0
+push 0 5 4 0
+push 1 5 0 1
+push 1 5 1 1
+push 1 5 2 1
+push 1 5 3 1
+push 1 5 4 1
+push 2 5 0 2
+push 2 5 1 2
+push 2 5 2 2
+push 2 5 3 2
+push 2 5 4 2
+push 3 5 0 3
+push 3 5 1 3
+push 3 5 2 3
+push 3 5 3 3
+push 3 5 4 3
+push 4 5 0 4
+push 4 5 1 4
+push 4 5 2 4
+push 4 5 3 4
+push 4 5 4 4
+";
+
+/// Whether so many workers put back as many transfers as one does.
+fn put_back_as_many<R: AllocGlobal + Threads + Sync>(rt: &R, workers: usize) -> bool {
+    let by_one = plan_at(rt, FIVE_BY_FIVE, 1, &OpenGate);
+    by_one.is_some() && plan_at(rt, FIVE_BY_FIVE, workers, &OpenGate) == by_one
 }
 
 #[test]
-fn empty_batch(rt: HostRuntime) -> Result<(), Fail> {
-    let text = "batch 0\n";
-    let planned = plan_by(&rt, text, WorkerCount::ONE)?;
-    assert_eq!(rt; planned.schedule().settings(), 0);
-    assert_eq!(rt; planned.certificate().link(), None);
-    assert_eq!(rt; planned.reinserted(), 0);
-    let copy = planned.copy()?;
-    assert!(rt; copy == planned);
-    assert!(rt; all_give(&rt, text, &planned)?);
-    Ok(())
-}
-
-#[test]
-fn first_fit_loses(rt: HostRuntime) -> Result<(), Fail> {
-    let batch = read(rt.alloc(), FIRST_FIT_LOSES)?;
-    let greedy = first_fit(rt.alloc(), &batch)?;
-    assert!(rt;
-        has_settings(
-            &greedy,
-            &[[0, 1].as_slice(), [2].as_slice(), [3].as_slice()]
-        )
-    );
-    let planned = plan_by(&rt, FIRST_FIT_LOSES, WorkerCount::ONE)?;
-    assert!(rt; has_settings(planned.schedule(), &[[0, 2].as_slice(), [1, 3].as_slice()]));
-    assert!(rt; names_the_first_link(&planned, &[0, 3]));
-    assert!(rt; all_give(&rt, FIRST_FIT_LOSES, &planned)?);
-    Ok(())
-}
-
-#[test]
-fn thrice_the_same(rt: HostRuntime) -> Result<(), Fail> {
-    let text = equal_transfers(rt.alloc(), 3)?;
-    let planned = plan_by(&rt, text.as_str(), WorkerCount::ONE)?;
-    assert!(rt;
-        has_settings(
-            planned.schedule(),
-            &[[0].as_slice(), [1].as_slice(), [2].as_slice()]
-        )
-    );
-    assert!(rt; names_the_first_link(&planned, &[0, 1, 2]));
-    assert!(rt; all_give(&rt, text.as_str(), &planned)?);
-    Ok(())
-}
-
-#[test]
-fn four_by_four(rt: HostRuntime) -> Result<(), Fail> {
-    let text = all_to_all(rt.alloc(), 4)?;
-    let planned = plan_by(&rt, text.as_str(), WorkerCount::ONE)?;
-    assert!(rt; has_shape(planned.schedule(), 4, 4));
-    assert_eq!(rt; planned.reinserted(), 0);
-    assert!(rt; names_the_first_link(&planned, &[0, 1, 2, 3]));
-    assert!(rt; all_give(&rt, text.as_str(), &planned)?);
-    Ok(())
-}
-
-#[test]
-fn three_by_three(rt: HostRuntime) -> Result<(), Fail> {
-    let text = all_to_all(rt.alloc(), 3)?;
-    let planned = plan_by(&rt, text.as_str(), WorkerCount::ONE)?;
-    assert!(rt; has_shape(planned.schedule(), 3, 3));
-    assert!(rt; planned.reinserted() <= 2);
-    assert!(rt; names_the_first_link(&planned, &[0, 1, 2]));
-    assert!(rt; all_give(&rt, text.as_str(), &planned)?);
-    Ok(())
-}
-
-#[test]
-fn largest_batch(rt: HostRuntime) -> Result<(), Fail> {
-    let text = equal_transfers(rt.alloc(), 4096)?;
-    let planned = plan_by(&rt, text.as_str(), WorkerCount::ONE)?;
-    assert!(rt; has_shape(planned.schedule(), 4096, 1));
-    assert_eq!(rt; planned.reinserted(), 0);
-    assert_eq!(rt; planned.certificate().transfers().len(), 4096);
-    assert!(rt; all_give(&rt, text.as_str(), &planned)?);
-    Ok(())
-}
-
-/// The batch of row sixty-three-settings.
-fn sixty_three_text(alloc: Global) -> Result<String, AllocError> {
-    let mut text = format!(in alloc; "batch 1000\n")?;
-    for t in 0..1000usize {
-        let (a, b) = (t % 16, (7 * t + t / 16) % 16);
-        write!(text, "push {a} 0 {b} 0\n")?;
-    }
-    Ok(text)
-}
-
-/// The 63 multiples of 16 from 0 to 992.
-fn multiples_of_16(alloc: Global) -> Result<Vec<usize>, AllocError> {
-    let mut multiples = Vec::new(alloc);
-    for k in 0..63usize {
-        multiples.push(16 * k)?;
-    }
-    Ok(multiples)
-}
-
-#[test]
-fn sixty_three_settings(rt: HostRuntime) -> Result<(), Fail> {
-    let text = sixty_three_text(rt.alloc())?;
-    let planned = plan_by(&rt, text.as_str(), WorkerCount::ONE)?;
-    assert_eq!(rt; planned.schedule().settings(), 63);
-    assert!(rt; all_give(&rt, text.as_str(), &planned)?);
-    let named = multiples_of_16(rt.alloc())?;
-    assert!(rt; names_the_first_link(&planned, &named));
-    Ok(())
+fn reinsertions_of_all_workers(rt: HostRuntime) {
+    assert!(rt; put_back_as_many(&rt, 2));
+    assert!(rt; put_back_as_many(&rt, 3));
+    assert!(rt; put_back_as_many(&rt, 16));
+    assert!(rt; put_back_as_many(&rt, 64));
 }
 
 /// How often a worker looks whether the other has come.
@@ -242,15 +124,12 @@ impl Gate for PairGate {
 }
 
 #[test]
-fn both_halves_at_once(rt: HostRuntime) -> Result<(), Fail> {
-    let batch = read(rt.alloc(), all_to_all(rt.alloc(), 4)?.as_str())?;
+fn both_halves_at_once(rt: HostRuntime) {
     let gate = PairGate::new();
-    let planned = schedule(&rt, rt.alloc(), batch, WorkerCount::new(2).unwrap(), &gate)?;
+    assert!(rt; plan_at(&rt, FOUR_BY_FOUR, 2, &gate) == Some(PLAN_OF_FOUR));
     assert!(rt; gate.first.load(SeqCst));
     assert!(rt; gate.second.load(SeqCst));
     assert!(rt; !gate.gave_up.load(SeqCst));
-    assert!(rt; has_shape(planned.schedule(), 4, 4));
-    Ok(())
 }
 
 /// How often the first worker looks whether the second has come before it.
@@ -317,27 +196,13 @@ impl Gate for QuarterGate {
 }
 
 #[test]
-fn quarters_at_once(rt: HostRuntime) -> Result<(), Fail> {
-    let batch = read(rt.alloc(), all_to_all(rt.alloc(), 4)?.as_str())?;
+fn quarters_at_once(rt: HostRuntime) {
     let gate = QuarterGate::new();
-    let planned = schedule(&rt, rt.alloc(), batch, WorkerCount::new(4).unwrap(), &gate)?;
+    assert!(rt; plan_at(&rt, FOUR_BY_FOUR, 4, &gate) == Some(PLAN_OF_FOUR));
     assert!(rt; gate.pair.first.load(SeqCst));
     assert!(rt; gate.pair.second.load(SeqCst));
     assert!(rt; !gate.pair.gave_up.load(SeqCst));
     assert!(rt; !gate.out_of_order.load(SeqCst));
-    assert!(rt; has_shape(planned.schedule(), 4, 4));
-    Ok(())
-}
-
-#[test]
-fn one_worker_never_arrives(rt: HostRuntime) -> Result<(), Fail> {
-    let batch = read(rt.alloc(), all_to_all(rt.alloc(), 4)?.as_str())?;
-    let gate = PairGate::new();
-    let planned = schedule(&rt, rt.alloc(), batch, WorkerCount::ONE, &gate)?;
-    assert!(rt; !gate.first.load(SeqCst));
-    assert!(rt; !gate.second.load(SeqCst));
-    assert!(rt; has_shape(planned.schedule(), 4, 4));
-    Ok(())
 }
 
 /// Whether the workers are so many, numbered on from the least.
