@@ -9,6 +9,7 @@ tried where EXCHANGE has its words: EXCHANGE="other/exchange" tools/rows/run.py
 
 import array
 import fcntl
+import functools
 import os
 import re
 import shlex
@@ -50,7 +51,30 @@ def pushes(transfers):
     return "".join([f"batch {len(lines)}\n", *lines])
 
 
-# Texts that are too long to stand in a row, by their names.
+def largest_image():
+    """An image of 32x64x256, no two words of which are the same."""
+    return b"".join((n * 0x9E3779B1 % 2**32).to_bytes(4, "little") for n in range(32 * 64 * 256))
+
+
+def moves_of_all_blocks():
+    """From where each block of 32x64x256 goes, and where to: as module and block each."""
+    return [((m, b), ((m + b + 1) % 32, 63 - b)) for m in range(32) for b in range(64)]
+
+
+def all_blocks(times=1):
+    """A batch that moves all blocks of 32x64x256, those of even numbers by a push, so many times over."""
+    lines = [f"push {m} {b} {n} {c}\n" if b % 2 == 0 else f"pull {n} {c} {m} {b}\n" for (m, b), (n, c) in moves_of_all_blocks()]
+    return f"batch {2048 * times}\n" + "".join(lines * times)
+
+
+def moved_image():
+    """The largest image, with all blocks where they go."""
+    image = largest_image()
+    blocks = {to: image[1024 * (64 * m + b) :][:1024] for (m, b), to in moves_of_all_blocks()}
+    return b"".join(blocks[m, b] for m in range(32) for b in range(64))
+
+
+# Files that are too long to stand in a row, by their names.
 MADE = {
     "thousand": lambda: pushes((t % 16, 0, (7 * t + t // 16) % 16, 0) for t in range(1000)),
     "largest": lambda: equal_transfers(4096),
@@ -62,6 +86,10 @@ MADE = {
     "scatter": lambda: moves((0, 1 + t % 31) for t in range(64 * 31)),
     "all-to-all": lambda: moves((m, n) for m in range(16) for n in range(16) if m != n),
     "many-moves": lambda: moves((t % 32, (t // 32) % 32) for t in range(4096)),
+    "all-blocks": all_blocks,
+    "all-blocks-twice": lambda: all_blocks(2),
+    "largest-image": largest_image,
+    "moved-image": moved_image,
 }
 
 
@@ -142,6 +170,13 @@ def digits(text):
     return bytes.fromhex(text.decode())
 
 
+@functools.cache
+def made(name):
+    """The bytes of a file that is too long to stand in a row."""
+    bytes_or_text = MADE[name]()
+    return bytes_or_text.encode() if isinstance(bytes_or_text, str) else bytes_or_text
+
+
 def put(words, text):
     """Makes what a section says that there is, and tells the descriptor that is standard input by it, if it is."""
     kind, name = words[0], words[-1]
@@ -151,7 +186,7 @@ def put(words, text):
         os.mkfifo(name)
     else:
         with open(name, "wb") as file:
-            file.write(MADE[name]().encode() if kind == "made" else digits(text) if kind == "bytes" else text)
+            file.write(made(name) if kind == "made" else digits(text) if kind == "bytes" else text)
         if kind == "input":
             return os.open(name, os.O_RDONLY)
     return None
