@@ -149,16 +149,18 @@ SHAPE is MxKxW: M modules, from 1 to 32, each of K blocks, from 1 to 64, each
 of W words, from 1 to 256. BATCH is a batch text, in the form that
 `exchange plan --help` shows, with modules below M and blocks below K.
 
-Word j of block b of module m is 65536 m + 256 b + j before the run. The
-answer is the line `ran settings S words X bits Y`: how many settings the
-switches had, how many words were moved, and how many bits went over the links
-for them. Then comes each block that was written, by module and then by block:
+Word j of block b of module m is 65536 m + 256 b + j before the run, or that of
+the image where there is one. The answer is the line
+`ran settings S words X bits Y`: how many settings the switches had, how many
+words were moved, and how many bits went over the links for them. Then comes
+each block that was written, by module and then by block:
   block M B hex8 ..   its words, of eight hexadecimal digits each
 
 Else nothing is run, and the answer is the first of these that is wrong:
-  refused file          BATCH can't be read
+  refused file          the image or BATCH can't be read
   refused shape         SHAPE is no shape
   refused ..            BATCH, as `exchange plan --help` shows, in this rack
+  refused image L W     the image has L bytes, and the shape wants W
   refused overlap I J   transfers I and J write one block
 Which of the two came last would show. The first I is told, and its first J. A
 block may be read and written: moved is what it held before the run.
@@ -171,8 +173,8 @@ pub const SERVE_NOTES: &str = "\
 SHAPE is MxKxW, in the form that `exchange run --help` shows. Each SCRIPT is a
 file of session lines; 1 to 16 of them are served at once, each in a thread of
 its own where one can be had. They share one exchange: one rack, whose words are
-0 at first, and its switches. Each may read and write every word, and whose line
-comes first isn't fixed.
+at first 0, or those of the image where there is one, and its switches. Each may
+read and write every word, and whose line comes first isn't fixed.
 
 A line has at most 80 bytes, and single spaces between its words. It is answered
 by one line:
@@ -213,11 +215,12 @@ A session that doesn't end with its script or by `bye` has one line more:
   ended write                there was no memory for an answer
   ended read                 the script can't be read any further
 The line `logs disagree` at the end would say that what the sessions did isn't
-what the exchange's history has of them.
+what the exchange's history has of them, or that it began on another rack.
 
 Else nothing is served, and the answer is the first of these that is wrong:
-  refused file   a SCRIPT can't be read
-  refused shape  SHAPE is no shape
+  refused file               the image or a SCRIPT can't be read
+  refused shape              SHAPE is no shape
+  refused image L W          the image has L bytes, and the shape wants W
 
 Status: 0 each session ended with its script or by `bye`, 1 one of them didn't,
 or the logs disagree, or nothing was served, or there was no memory, 2 the words
@@ -241,7 +244,8 @@ pub const SCHEDULE_HELP: &str = "The file of the schedule, or - for standard inp
 pub const IMAGE_HELP: &str = "The file of the words before, or - for standard input";
 
 /// What is said of `--image`.
-pub const WORDS_HELP: &str = "The file of the rack's first words, as `exchange apply --help` shows";
+pub const WORDS_HELP: &str =
+    "The file of the words before, an image as `exchange apply --help` shows";
 
 /// What is said of a script.
 pub const SCRIPT_HELP: &str = "A file of session lines, or - for standard input";
