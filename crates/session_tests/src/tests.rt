@@ -1,6 +1,6 @@
-//! Worked words and lines, commands, reply lines, and sessions, alone, one after the other and at once.
+//! Reply lines that no program prints, and sessions: over readers and writers that fail, that record when they are called, or that wait
+//! for one another, and over wires with a fuse.
 
-mod commands;
 mod ends;
 mod office;
 mod order;
@@ -9,4 +9,3 @@ mod replies;
 mod rows;
 mod streams;
 mod talks;
-mod words;

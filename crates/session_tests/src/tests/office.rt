@@ -1,10 +1,10 @@
-//! Sessions from two seats of a new exchange, what they were answered, and how they ended.
+//! Sessions at a new exchange with two seats, one after the other and at once.
 
 ghost use Rattle.std.specs.Prelude.{◌≡◌, Some};
 ghost use Rattle.progress_word.specs.declared.limits.TheConstants.{ALL_PARTS};
 ghost use Rattle.client_session.specs.Sessions.{seat_back};
 
-use super::streams::{Sink, Source};
+use super::streams::{Listener, Script, Speaker};
 use batch::Shape;
 use batch_book::{Closed, Seat, Shared};
 use client_session::{ServeFault, serve};
@@ -18,6 +18,7 @@ use std::alloc::Global;
 use std::io::{Read, Write};
 use std::marker::Brand;
 use std::sync::Wait;
+use std::sync::atomic::AtomicUsize;
 use std::sync::ledger::{Blank, Ledger};
 use std::thread::{Threads, join};
 
@@ -27,11 +28,17 @@ pub const NO_FUSE: FuseWires = FuseWires {
     bytes: 0,
 };
 
+/// The exchange of the tests.
+pub type Exchange<L> = Shared<L, MemoryPort, FuseWires, OpenGate>;
+
+/// What is left of it.
+pub type Remains<L> = Closed<L, MemoryPort, FuseWires, OpenGate>;
+
 /// An exchange, and its two seats.
 #[derive(Drop)]
 pub struct Office<L: Ledger> {
-    shared: Shared<L, MemoryPort, FuseWires, OpenGate>,
-    pub first: Seat<L>,
+    shared: Exchange<L>,
+    first: Seat<L>,
     second: Seat<L>,
     ghost of_first: { first.exchange ≡ Some shared.word },
     ghost of_second: { second.exchange ≡ Some shared.word },
@@ -72,6 +79,12 @@ pub fn open<L: Ledger>(
     })
 }
 
+/// A rack of zeros.
+pub fn rack_of(alloc: Global, shape: &str) -> Option<Rack> {
+    let shape = Shape::read(shape.as_bytes()).ok()?;
+    Rack::new(alloc, shape).ok()
+}
+
 /// The seat that came back, and the fault, if there was one.
 fn back<L: Ledger>(ended: Result<Seat<L>, (Seat<L>, ServeFault)>) -> (Seat<L>, Option<ServeFault>)
     ensures { result.0 ≡ seat_back ended }
@@ -82,86 +95,71 @@ fn back<L: Ledger>(ended: Result<Seat<L>, (Seat<L>, ServeFault)>) -> (Seat<L>, O
     }
 }
 
-/// How two sessions ended, how many entries they added, and how many the history has.
-#[derive(Clone, Copy, PartialEq, Eq)]
-pub struct Ended {
-    pub first: Option<ServeFault>,
-    pub second: Option<ServeFault>,
-    pub entries: (usize, usize),
-    pub history: usize,
+/// Plays a script from a seat, which comes back. Whether all was heard, read and ended as the script says.
+fn play<L: Ledger, R: AllocGlobal + Threads + Wait + Sync>(
+    rt: &R,
+    shared: &Exchange<L>,
+    seat: Seat<L>,
+    script: &Script,
+) -> (Seat<L>, bool)
+    requires { seat.exchange ≡ Some shared.now.word }
+    ensures { result.0.exchange ≡ seat.exchange }
+{
+    let flushed = AtomicUsize::new(0);
+    let mut speaker = Speaker::of(script, &flushed);
+    let mut listener = Listener::of(script, &flushed);
+    let before = seat.log().len();
+    let (seat, fault) = back(serve(
+        rt,
+        rt.alloc(),
+        shared,
+        seat,
+        &mut speaker,
+        &mut listener,
+        WorkerCount::ONE,
+    ));
+    let added = seat.log().len().saturating_sub(before);
+    let is_right = speaker.is_right() && is_heard(&listener, script, fault);
+    (seat, is_right && added == script.entries)
 }
 
-/// What a client says, and what it hears.
-#[derive(Drop)]
-pub struct Client<'a> {
-    pub source: Source<'a>,
-    pub sink: Sink,
+/// Whether a client has heard what its script says, and its session has ended so, by this fault.
+fn is_heard(listener: &Listener<'_>, script: &Script, fault: Option<ServeFault>) -> bool {
+    listener.is_right()
+        && fault == script.fault
+        && (listener.is_flushed() || fault == Some(ServeFault::Write))
 }
 
 impl<L: Ledger> Office<L> {
-    /// Serves a client from the first seat.
-    pub fn serve_first<R: AllocGlobal + Threads + Wait + Sync, I: Read, O: Write>(
-        self,
-        rt: &R,
-        reader: &mut I,
-        writer: &mut O,
-    ) -> (Office<L>, Option<ServeFault>) {
+    /// Plays both scripts of a day, one after the other. Whether all is as they say.
+    fn play<R: AllocGlobal + Threads + Wait + Sync>(self, rt: &R, day: &Day) -> (Office<L>, bool) {
         let Office {
             shared,
             first,
             second,
         } = self;
-        let ended = serve(
-            rt,
-            rt.alloc(),
-            &shared,
-            first,
-            reader,
-            writer,
-            WorkerCount::ONE,
-        );
-        let (first, fault) = back(ended);
+        let [one, other] = &day.scripts;
+        let (first, is_right) = play(rt, &shared, first, one);
+        let (first, second) = if day.is_one_seat {
+            (first, second)
+        } else {
+            (second, first)
+        };
+        let (first, is_right_too) = play(rt, &shared, first, other);
         let office = Office {
             shared,
             first,
             second,
         };
-        (office, fault)
+        (office, is_right && is_right_too)
     }
 
-    /// The same exchange, whose first seat is the one that was the second.
-    fn turned(self) -> Office<L> {
-        let Office {
-            shared,
-            first,
-            second,
-        } = self;
-        Office {
-            shared,
-            first: second,
-            second: first,
-        }
-    }
-
-    /// Serves both clients, one after the other.
-    fn serve_both<R: AllocGlobal + Threads + Wait + Sync>(
-        self,
-        rt: &R,
-        clients: &mut (Client<'_>, Client<'_>),
-    ) -> (Office<L>, Option<ServeFault>, Option<ServeFault>) {
-        let (one, other) = clients;
-        let (office, first) = self.serve_first(rt, &mut one.source, &mut one.sink);
-        let office = office.turned();
-        let (office, second) = office.serve_first(rt, &mut other.source, &mut other.sink);
-        (office.turned(), first, second)
-    }
-
-    /// Serves two clients at once, each in a thread, and gives what they hear.
+    /// Serves two clients at once, each in a thread, which are to hear this. Whether both do.
     pub fn serve_at_once<
         R: AllocGlobal + Threads + Wait + Sync,
         I: Read + Send + Drop,
         J: Read + Send + Drop,
-    >(self, rt: &R, reader: I, other: J) -> (Office<L>, Sink, Sink)
+    >(self, rt: &R, one: Saying<I>, other: Saying<J>) -> (Office<L>, bool)
     where
         L: Send + Sync,
     {
@@ -171,29 +169,29 @@ impl<L: Ledger> Office<L> {
             second,
         } = self;
         let lent = &shared;
-        let (one, two) = join(
+        let (one, other) = join(
             rt,
-            move || -> (Seat<L>, Sink)
+            move || -> (Seat<L>, bool)
                 requires { first.exchange ≡ Some lent.now.word }
                 ensures { result.0.exchange ≡ first.exchange }
-            { served(rt, lent, first, reader) },
-            move || -> (Seat<L>, Sink)
+            { hear(rt, lent, first, one) },
+            move || -> (Seat<L>, bool)
                 requires { second.exchange ≡ Some lent.now.word }
                 ensures { result.0.exchange ≡ second.exchange }
-            { served(rt, lent, second, other) },
+            { hear(rt, lent, second, other) },
         );
-        let (first, heard) = one;
-        let (second, other_heard) = two;
+        let (first, is_right) = one;
+        let (second, is_right_too) = other;
         let office = Office {
             shared,
             first,
             second,
         };
-        (office, heard, other_heard)
+        (office, is_right && is_right_too)
     }
 
     /// Closes the exchange.
-    pub fn close(self, alloc: Global) -> Option<Closed<L, MemoryPort, FuseWires, OpenGate>>
+    pub fn close(self, alloc: Global) -> Option<Remains<L>>
         requires { L.parts ≡ ALL_PARTS }
     {
         let Office {
@@ -206,132 +204,87 @@ impl<L: Ledger> Office<L> {
             Err(_) => None,
         }
     }
-
-    /// Closes the exchange, and tells how many entries its history has.
-    pub fn entries(self, alloc: Global) -> Option<usize>
-        requires { L.parts ≡ ALL_PARTS }
-    {
-        let closed = self.close(alloc)?;
-        Some(closed.book.history().len())
-    }
 }
 
-/// Serves a client, and gives the seat back.
-fn seat_behind<L: Ledger, R: AllocGlobal + Threads + Wait + Sync, I: Read>(
+/// A reader that has what a client says, and what the client is to hear.
+#[derive(Drop)]
+pub struct Saying<I> {
+    pub reader: I,
+    pub hears: &'static str,
+}
+
+/// Serves such a client from a seat, which comes back. Whether it hears that.
+fn hear<L: Ledger, R: AllocGlobal + Threads + Wait + Sync, I: Read + Drop>(
     rt: &R,
-    shared: &Shared<L, MemoryPort, FuseWires, OpenGate>,
+    shared: &Exchange<L>,
     seat: Seat<L>,
-    reader: &mut I,
-    heard: &mut Sink,
-) -> Seat<L>
+    client: Saying<I>,
+) -> (Seat<L>, bool)
     requires { seat.exchange ≡ Some shared.now.word }
-    ensures { result.exchange ≡ seat.exchange }
+    ensures { result.0.exchange ≡ seat.exchange }
 {
-    let ended = serve(
+    let Saying { mut reader, hears } = client;
+    let flushed = AtomicUsize::new(0);
+    let mut listener = Listener::of(&Script::of("", hears, 0), &flushed);
+    let (seat, fault) = back(serve(
         rt,
         rt.alloc(),
         shared,
         seat,
-        reader,
-        heard,
+        &mut reader,
+        &mut listener,
         WorkerCount::ONE,
-    );
-    let (seat, _fault) = back(ended);
-    seat
+    ));
+    (seat, fault.is_none() && listener.is_right())
 }
 
-/// Serves a client, and gives the seat back, and what the client hears.
-fn served<L: Ledger, R: AllocGlobal + Threads + Wait + Sync, I: Read + Drop>(
-    rt: &R,
-    shared: &Shared<L, MemoryPort, FuseWires, OpenGate>,
-    seat: Seat<L>,
-    reader: I,
-) -> (Seat<L>, Sink)
-    requires { seat.exchange ≡ Some shared.now.word }
-    ensures { result.0.exchange ≡ seat.exchange }
-{
-    let mut reader = reader;
-    let mut heard = Sink::new(rt.alloc());
-    let seat = seat_behind(rt, shared, seat, &mut reader, &mut heard);
-    (seat, heard)
+/// The scripts of two clients, one after the other.
+#[derive(Clone, Copy)]
+pub struct Day {
+    pub shape: &'static str,
+    pub wires: FuseWires,
+    /// Whether both have the same seat.
+    pub is_one_seat: bool,
+    pub scripts: [Script; 2],
 }
 
-/// Serves two clients at a new exchange, and closes it.
-fn day<L: Ledger, R: AllocGlobal + Threads + Wait + Sync>(
+/// Plays both scripts at an exchange that is closed then. Whether all is as they say, and the history has just their entries.
+fn spend<L: Ledger, R: AllocGlobal + Threads + Wait + Sync>(
     rt: &R,
     blank: Blank,
     rack: Rack,
-    wires: FuseWires,
-    clients: &mut (Client<'_>, Client<'_>),
-) -> Option<Ended>
+    day: &Day,
+) -> bool
     requires name { blank.name ≡ L.name }
     requires parts { (blank.parts ≡ L.parts) × (blank.parts ≡ ALL_PARTS) }
 {
-    let office = open::<L>(rt.alloc(), blank, rack, wires)?;
-    let (office, first, second) = office.serve_both(rt, clients);
-    let entries = (office.first.log().len(), office.second.log().len());
-    let history = office.entries(rt.alloc())?;
-    Some(Ended {
-        first,
-        second,
-        entries,
-        history,
-    })
-}
-
-/// Serves two clients at a new exchange on a rack of zeros, and closes it.
-pub fn day_of<R: AllocGlobal + Threads + Wait + Sync>(
-    rt: &R,
-    shape: &str,
-    wires: FuseWires,
-    clients: &mut (Client<'_>, Client<'_>),
-) -> Option<Ended> {
-    let shape = Shape::read(shape.as_bytes()).ok()?;
-    let rack = Rack::new(rt.alloc(), shape).ok()?;
-    day::<Brand, R>(rt, Blank::new(16), rack, wires, clients)
-}
-
-/// A client that says this.
-pub fn saying<'a>(alloc: Global, script: &'a [u8]) -> Client<'a> {
-    Client {
-        source: Source::of(script),
-        sink: Sink::new(alloc),
+    let Some(office) = open::<L>(rt.alloc(), blank, rack, day.wires) else {
+        return false;
+    };
+    let [one, other] = &day.scripts;
+    let entries = one.entries.saturating_add(other.entries);
+    let (office, is_right) = office.play(rt, day);
+    match office.close(rt.alloc()) {
+        Some(closed) => is_right && closed.book.history().len() == entries,
+        None => false,
     }
 }
 
-/// How two clients end that say this, one after the other. Nothing where they don't hear that.
-pub fn ends_of<R: AllocGlobal + Threads + Wait + Sync>(
-    rt: &R,
-    shape: &str,
-    wires: FuseWires,
-    scripts: (&str, &str),
-    want: (&str, &str),
-) -> Option<Ended> {
-    let mut clients = (
-        saying(rt.alloc(), scripts.0.as_bytes()),
-        saying(rt.alloc(), scripts.1.as_bytes()),
-    );
-    let ended = day_of(rt, shape, wires, &mut clients);
-    let first = clients.0.sink.bytes() == want.0.as_bytes();
-    let second = clients.1.sink.bytes() == want.1.as_bytes();
-    if first && second { ended } else { None }
+/// Whether all is as the scripts of two clients say, on a rack of zeros.
+pub fn is_so<R: AllocGlobal + Threads + Wait + Sync>(rt: &R, plan: &Day) -> bool {
+    match rack_of(rt.alloc(), plan.shape) {
+        Some(rack) => spend::<Brand, R>(rt, Blank::new(16), rack, plan),
+        None => false,
+    }
 }
 
-/// Whether a session of this script, alone at an exchange of this shape, is answered so, ends so, and adds
-/// so many entries.
-pub fn is_answered<R: AllocGlobal + Threads + Wait + Sync>(
-    rt: &R,
-    shape: &str,
-    script: &str,
-    want: &str,
-    fault: Option<ServeFault>,
-    entries: usize,
-) -> bool {
-    let want_ended = Ended {
-        first: fault,
-        second: None,
-        entries: (entries, 0),
-        history: entries,
+/// Whether a client alone is served on the smallest rack as its script says.
+pub fn is_served<R: AllocGlobal + Threads + Wait + Sync>(rt: &R, script: &Script) -> bool {
+    let plan = Day {
+        shape: "1x1x1",
+        wires: NO_FUSE,
+        is_one_seat: false,
+        scripts: [*script, Script::of("", "", 0)],
     };
-    ends_of(rt, shape, NO_FUSE, (script, ""), (want, "")) == Some(want_ended)
+    is_so(rt, &plan)
 }

@@ -3,8 +3,7 @@
 ghost use Rattle.std.specs.Prelude.{◌≡◌, ◌≤◌, length, take};
 ghost use Rattle.progress_word.specs.declared.limits.TheConstants.{ALL_PARTS};
 
-use super::office::{NO_FUSE, is_answered, open};
-use batch::Shape;
+use super::office::{NO_FUSE, Saying, open, rack_of};
 use batch_book::{Call, Entry};
 use module_memory::Rack;
 use std::alloc::{AllocError, Global};
@@ -155,17 +154,37 @@ fn has_entry_between(history: &[Entry]) -> bool {
     false
 }
 
-/// Whether a client was answered while the other planned this batch.
+/// A client of whose replies nothing is said.
+fn unheard<I>(reader: I) -> Saying<I> {
+    Saying { reader, hears: "" }
+}
+
+/// Whether a client was answered while the other planned.
 fn is_outside<L: Ledger + Send + Sync, R: AllocGlobal + Threads + Wait + Sync>(
     rt: &R,
     blank: Blank,
     rack: Rack,
-    text: &[u8],
-) -> Option<bool>
+    planner: Planner<'_>,
+    peeker: Peeker<'_>,
+) -> bool
     requires name { blank.name ≡ L.name }
     requires parts { (blank.parts ≡ L.parts) × (blank.parts ≡ ALL_PARTS) }
 {
-    let office = open::<L>(rt.alloc(), blank, rack, NO_FUSE)?;
+    let Some(office) = open::<L>(rt.alloc(), blank, rack, NO_FUSE) else {
+        return false;
+    };
+    let (office, _) = office.serve_at_once(rt, unheard(planner), unheard(peeker));
+    match office.close(rt.alloc()) {
+        Some(closed) => has_entry_between(closed.book.history()),
+        None => false,
+    }
+}
+
+/// Whether a client on a rack of two modules is answered while another plans this batch.
+fn is_outside_of<R: AllocGlobal + Threads + Wait + Sync>(rt: &R, text: &[u8]) -> bool {
+    let Some(rack) = rack_of(rt.alloc(), "2x1x1") else {
+        return false;
+    };
     let watch = Watch::new();
     let planner = Planner {
         text,
@@ -177,36 +196,12 @@ fn is_outside<L: Ledger + Send + Sync, R: AllocGlobal + Threads + Wait + Sync>(
         peeks: 0,
         watch: &watch,
     };
-    let (office, _, _) = office.serve_at_once(rt, planner, peeker);
-    let closed = office.close(rt.alloc())?;
-    Some(has_entry_between(closed.book.history()))
-}
-
-/// The same on a rack of two modules.
-fn is_outside_of<R: AllocGlobal + Threads + Wait + Sync>(rt: &R) -> Option<bool> {
-    let shape = Shape::read(b"2x1x1").ok()?;
-    let rack = Rack::new(rt.alloc(), shape).ok()?;
-    let text = largest_batch(rt.alloc()).ok()?;
-    is_outside::<Brand, R>(rt, Blank::new(16), rack, text.as_bytes())
+    is_outside::<Brand, R>(rt, Blank::new(16), rack, planner, peeker)
 }
 
 #[test]
-fn others_are_answered_while_a_session_plans(rt: HostRuntime) {
-    assert_eq!(rt; is_outside_of(&rt), Some(true));
-}
-
-/// The script of a session that plans the largest batch.
-fn largest_script(alloc: Global) -> Result<String, AllocError> {
-    let mut script = largest_batch(alloc)?;
-    script.push_str("plan 1\nshow 1\nrun 1\n")?;
-    Ok(script)
-}
-
-#[test]
-fn the_largest_batch_is_taken(rt: HostRuntime) -> Result<(), Fail> {
-    let script = largest_script(rt.alloc())?;
-    let want =
-        "accepted 1\nplanned 1 settings 4096\nbatch 1 transfers 4096 planned\nrefused overlap 0 1\n";
-    assert!(rt; is_answered(&rt, "2x1x1", script.as_str(), want, None, 5));
+fn others_are_answered_while_a_session_plans(rt: HostRuntime) -> Result<(), Fail> {
+    let text = largest_batch(rt.alloc())?;
+    assert!(rt; is_outside_of(&rt, text.as_bytes()));
     Ok(())
 }

@@ -1,66 +1,14 @@
-//! What each reply and each refusal is told as.
+//! Reply lines that no client of the program is told.
 
 ghost use Rattle.std.specs.Prelude.{◌≤◌, length};
 ghost use Rattle.batch.specs.declared.limits.TheConstants.{MAX_MODULES};
 ghost use Rattle.client_session.specs.Steps.{CanBeTold};
 
 use batch::BatchFault;
-use batch_book::{BatchState, Reading, Refusal, Reply};
-use client_session::reply_line::{batch_refused, bye, progress, put_stopped, refused, told};
+use batch_book::{Reading, Refusal, Reply};
+use client_session::reply_line::{batch_refused, progress, put_stopped, told};
 use line_words::Line;
-use module_memory::MemoryFault;
 use setting_runner::{RunRefusal, StopCause};
-
-/// Whether the refusal is told so.
-fn is_refused(refusal: Refusal, want: &str) -> bool {
-    told(7, &Reply::Refused(refusal)).as_bytes() == want.as_bytes()
-}
-
-/// Whether the fault of a batch text is told so.
-fn is_batch_fault(fault: BatchFault, want: &str) -> bool {
-    batch_refused(fault).as_bytes() == want.as_bytes()
-}
-
-/// Whether a batch that has come so far is shown so.
-fn is_shown(state: BatchState, want: &str) -> bool {
-    let reply = Reply::Shown {
-        transfers: 4096,
-        state,
-    };
-    told(7, &reply).as_bytes() == want.as_bytes()
-}
-
-#[test]
-fn refusals_of_the_book(rt: HostRuntime) {
-    assert!(rt; is_refused(Refusal::HistoryFull, "refused history full\n"));
-    assert!(rt; is_refused(Refusal::BookFull, "refused book full\n"));
-    assert!(rt; is_refused(Refusal::Unknown, "refused unknown\n"));
-    assert!(rt; is_refused(Refusal::Unplanned, "refused unplanned\n"));
-    assert!(rt; is_refused(Refusal::Stranger, "refused stranger\n"));
-    assert!(rt; is_refused(Refusal::Already, "refused already\n"));
-    let memory = Refusal::Memory(MemoryFault::NoModule);
-    assert!(rt; is_refused(memory, "refused memory no module\n"));
-    let memory = Refusal::Memory(MemoryFault::Misaligned);
-    assert!(rt; is_refused(memory, "refused memory misaligned\n"));
-    let memory = Refusal::Memory(MemoryFault::Outside);
-    assert!(rt; is_refused(memory, "refused memory outside\n"));
-    assert!(rt; is_refused(Refusal::NoMemory, "refused no memory\n"));
-}
-
-#[test]
-fn refusals_of_texts_and_runs(rt: HostRuntime) {
-    assert!(rt; is_batch_fault(BatchFault::Line(4097), "refused batch line 4097\n"));
-    assert!(rt; is_batch_fault(BatchFault::TooMany, "refused too many\n"));
-    assert!(rt; is_batch_fault(BatchFault::NoModule(0), "refused no module 0\n"));
-    assert!(rt; is_batch_fault(BatchFault::NoBlock(12), "refused no block 12\n"));
-    assert!(rt; is_batch_fault(BatchFault::Count, "refused count\n"));
-    assert!(rt; is_batch_fault(BatchFault::NoMemory, "refused no memory\n"));
-    assert!(rt; refused(b"line").as_bytes() == b"refused line\n".as_slice());
-    let overlap = Reply::RunRefused(RunRefusal::Overlap(0, 10));
-    assert!(rt; is_told(overlap, "refused overlap 0 10\n"));
-    let shape = Reply::RunRefused(RunRefusal::Shape);
-    assert!(rt; is_told(shape, "refused shape\n"));
-}
 
 /// Whether the reply to a command that names batch 12 is told so.
 fn is_told(reply: Reply, want: &str) -> bool
@@ -69,14 +17,24 @@ fn is_told(reply: Reply, want: &str) -> bool
     told(12, &reply).as_bytes() == want.as_bytes()
 }
 
+/// Whether the fault of a batch text is told so.
+fn is_batch_fault(fault: BatchFault, want: &str) -> bool {
+    batch_refused(fault).as_bytes() == want.as_bytes()
+}
+
+/// These have no memory, or a cause that a session doesn't meet.
 #[test]
-fn replies_on_success(rt: HostRuntime) {
-    assert!(rt; is_told(Reply::Accepted(256), "accepted 256\n"));
-    assert!(rt; is_told(Reply::Settled { settings: 63 }, "planned 12 settings 63\n"));
-    assert!(rt; is_told(Reply::Discarded, "dropped 12\n"));
-    assert!(rt; is_told(Reply::Word(0x00ab_cdef), "word 00abcdef\n"));
-    assert!(rt; is_told(Reply::Word(0xffff_ffff), "word ffffffff\n"));
-    assert!(rt; is_told(Reply::Poked, "poked\n"));
+fn refusals(rt: HostRuntime) {
+    assert!(rt; is_told(Reply::Refused(Refusal::Stranger), "refused stranger\n"));
+    assert!(rt; is_told(Reply::Refused(Refusal::NoMemory), "refused no memory\n"));
+    assert!(rt; is_told(Reply::RunRefused(RunRefusal::Shape), "refused shape\n"));
+    assert!(rt; is_batch_fault(BatchFault::Count, "refused count\n"));
+    assert!(rt; is_batch_fault(BatchFault::NoMemory, "refused no memory\n"));
+    assert!(rt; is_batch_fault(BatchFault::Line(4097), "refused batch line 4097\n"));
+}
+
+#[test]
+fn great_numbers(rt: HostRuntime) {
     let ran = Reply::Ran {
         run: 65536,
         settings: 4096,
@@ -89,15 +47,6 @@ fn replies_on_success(rt: HostRuntime) {
         done: 4096,
     };
     assert!(rt; progress(reading).as_bytes() == b"progress run 65536 done 4096\n".as_slice());
-    assert!(rt; bye().as_bytes() == b"bye\n".as_slice());
-}
-
-#[test]
-fn states(rt: HostRuntime) {
-    assert!(rt; is_shown(BatchState::Waiting, "batch 7 transfers 4096 waiting\n"));
-    assert!(rt; is_shown(BatchState::Planned, "batch 7 transfers 4096 planned\n"));
-    assert!(rt; is_shown(BatchState::Ran, "batch 7 transfers 4096 ran\n"));
-    assert!(rt; is_shown(BatchState::Stopped, "batch 7 transfers 4096 stopped\n"));
 }
 
 /// Whether a stop of batch 7 in run 2 is told so.

@@ -3,9 +3,7 @@
 ghost use Rattle.std.specs.Prelude.{◌≡◌};
 ghost use Rattle.progress_word.specs.declared.limits.TheConstants.{ALL_PARTS};
 
-use super::office::{NO_FUSE, open};
-use super::streams::Sink;
-use batch::Shape;
+use super::office::{NO_FUSE, Saying, open, rack_of};
 use module_memory::Rack;
 use std::io;
 use std::io::Read;
@@ -80,34 +78,35 @@ impl Read for Talker<'_> {
     }
 }
 
-/// What both clients of a talk hear that are served at once on this rack.
-fn talk_on<L: Ledger + Send + Sync, R: AllocGlobal + Threads + Wait + Sync>(
+/// Whether both clients of a talk hear this that are served at once on this rack.
+fn hear_on<L: Ledger + Send + Sync, R: AllocGlobal + Threads + Wait + Sync>(
     rt: &R,
     blank: Blank,
     rack: Rack,
     talk: &Talk,
-) -> Option<(Sink, Sink)>
+    wanted: [&'static str; 2],
+) -> bool
     requires name { blank.name ≡ L.name }
     requires parts { (blank.parts ≡ L.parts) × (blank.parts ≡ ALL_PARTS) }
 {
-    let office = open::<L>(rt.alloc(), blank, rack, NO_FUSE)?;
-    let (_office, first, second) = office.serve_at_once(
+    let Some(office) = open::<L>(rt.alloc(), blank, rack, NO_FUSE) else {
+        return false;
+    };
+    let [first, second] = wanted;
+    let (_office, is_right) = office.serve_at_once(
         rt,
-        Talker::of(talk, 0),
-        Talker::of(talk, 1),
+        saying(talk, 0, first),
+        saying(talk, 1, second),
     );
-    Some((first, second))
+    is_right
 }
 
-/// The same on a new rack.
-fn talk_at<R: AllocGlobal + Threads + Wait + Sync>(
-    rt: &R,
-    shape: &str,
-    talk: &Talk,
-) -> Option<(Sink, Sink)> {
-    let shape = Shape::read(shape.as_bytes()).ok()?;
-    let rack = Rack::new(rt.alloc(), shape).ok()?;
-    talk_on::<Brand, R>(rt, Blank::new(16), rack, talk)
+/// A client of a talk, who is to hear this.
+fn saying<'a>(talk: &'a Talk, client: usize, hears: &'static str) -> Saying<Talker<'a>> {
+    Saying {
+        reader: Talker::of(talk, client),
+        hears,
+    }
 }
 
 /// Whether both clients hear these lines, and neither gives up.
@@ -115,17 +114,14 @@ fn hear<R: AllocGlobal + Threads + Wait + Sync>(
     rt: &R,
     shape: &str,
     lines: &'static [(usize, &'static str)],
-    want: (&str, &str),
+    wanted: [&'static str; 2],
 ) -> bool {
+    let Some(rack) = rack_of(rt.alloc(), shape) else {
+        return false;
+    };
     let talk = Talk::of(lines);
-    match talk_at(rt, shape, &talk) {
-        Some((first, second)) => {
-            first.bytes() == want.0.as_bytes()
-                && second.bytes() == want.1.as_bytes()
-                && !talk.gave_up.load(Ordering::SeqCst)
-        }
-        None => false,
-    }
+    hear_on::<Brand, R>(rt, Blank::new(16), rack, &talk, wanted)
+        && !talk.gave_up.load(Ordering::SeqCst)
 }
 
 /// The second client reads before any run and behind each of three runs of the first, which have 0, 1 and 2 settings.
@@ -151,5 +147,5 @@ fn each_reading_is_of_now(rt: HostRuntime) {
         "accepted 1\nplanned 1 settings 0\nran 1 run 1 settings 0 words 0 bits 0\naccepted 2\nplanned 2 settings 1\nran 2 run 2 settings 1 words 1 bits 117\naccepted 3\nplanned 3 settings 2\nran 3 run 3 settings 2 words 2 bits 234\n";
     let readings =
         "progress run 0 done 0\nprogress run 1 done 0\nprogress run 2 done 1\nprogress run 3 done 2\n";
-    assert!(rt; hear(&rt, "3x1x1", &READINGS, (runs, readings)));
+    assert!(rt; hear(&rt, "3x1x1", &READINGS, [runs, readings]));
 }
