@@ -3,13 +3,14 @@
 
     growths.py REFUSE.SO        the library that refuse.c is built to
 
-Calls: `hostile_use NAME` makes a call on its worked row, between two marks. The Nth growth between them is refused, and then the
-Nth and all later ones, for N from 1 until a run meets no refusal. Each time the answer is want of memory, with all that was lent or
-handed back as before, or the row's own answer. Then each start of a thread is refused, which changes no answer. A call whose name says
-that it takes none meets no growth.
+Command lines: the Nth growth of a whole run of the program is refused, and then the Nth and all later ones, for N from 1 until a run
+meets no refusal. Each time the program prints what it prints with memory, which the rows hold, or the one line `refused no memory`; a
+session is told `refused no memory`, and all else as if that command weren't. Then each start of a thread is refused, which changes no
+answer. A file is the standard input. Beside command lines stands which calls of the libraries they make.
 
-Command line: the same with whole runs of the program. It prints what it prints with memory, or the one line `refused no memory`.
-A file is its standard input.
+Calls: `hostile_use NAME` makes a call that the program doesn't make, on its worked row, between two marks. The same is done with the
+growths between them. Each time the answer is want of memory, with all that was lent as before, or the row's own answer. A call whose
+name says that it takes none meets no growth. Nor do the last reading and the closing of an exchange, which `hostile_use clients` makes.
 """
 
 import multiprocessing
@@ -28,6 +29,7 @@ SCHEDULE = "settings 2\nsetting 0 2\nsetting 1\nbusiest link 0 module 0\nnamed 0
 TWO_PUSHES = "batch 2\npush 0 0 1 0\npush 1 1 2 0\n"
 SWAP = "batch 2\npush 0 0 1 0\npush 1 0 0 0\n"
 WIDE = "batch 2\npush 16 0 0 0\npush 16 1 1 0\n"
+NINE = "batch 9\n" + "".join(f"push {module} 3 {other} {module}\n" for module in range(3) for other in range(3))
 SCRIPT = "poke 1 80000808 000000ff\nbatch 1\npull 0 0 1 1\nplan 1\nrun 1\nprogress\npeek 0 80000800\nbye\n"
 REFUSALS = (
     "plan 1\nbatch 1\npush 0 0 1 0\nrun 1\nplan 1\nplan 1\nshow 1\nrun 1\nrun 1\ndrop 1\nshow 1\n"
@@ -37,25 +39,67 @@ PUSHES = TWO_PUSHES + "plan 1\nrun 1\nprogress\npeek 1 80000804\npeek 2 80000800
 # An image of 3x2x2, and moves that are directed both ways.
 IMAGE = "".join(map(chr, range(48)))
 MOVES = "moves 3\nmove 0 0 1 0\nmove 0 1 1 1\nmove 1 2 1 3\n"
+# What a session sees of the words that two pushes write, of batch 1 and of runs.
+LOOK = "peek 1 80000800\npeek 1 80000804\npeek 2 80000800\npeek 2 80000804\nshow 1\nprogress\n"
+# Each call of a book and its exchange, as the command that makes it, and how many calls that command makes before it.
+ASKED = [
+    (TWO_PUSHES, 0), ("plan 1\n", 0), ("plan 2\n", 1), ("run 1\n", 0), ("show 1\n", 0), ("peek 1 80000800\n", 0),
+    ("poke 1 80000800 00000007\n", 0), ("drop 1\n", 0),
+]  # fmt: skip
+
+
+def entries_of(script):
+    """How many calls a session makes by a script."""
+    exchange = sessions.Exchange((3, 2, 2))
+    sessions.Session(exchange, 0, script.encode()).serve()
+    return exchange.entries
+
+
+def asked_twice():
+    """A script in which each call is made when the history and the session's list have as many entries as they have room for, which is
+    four at first and then twice as much each time. Each command is given twice, and what it did is looked at behind both."""
+    script = ""
+    for command, before in ASKED:
+        made, room = entries_of(script) + before, 4
+        while room < made:
+            room *= 2
+        script += "peek 0 80000800\n" * (room - made) + (command + LOOK) * 2
+    return script
+
+
 FILES = {
-    "three": THREE_TRANSFERS, "two": TWO_PUSHES, "schedule": SCHEDULE, "wrong": "batch 01\n",
+    "three": THREE_TRANSFERS, "two": TWO_PUSHES, "nine": NINE, "schedule": SCHEDULE, "wrong": "batch 01\n",
     "script": SCRIPT, "other": "show 1\n", "refusals": REFUSALS,
-    "pushes": PUSHES, "swap": SWAP, "wide": WIDE, "image": IMAGE, "moves": MOVES,
+    "pushes": PUSHES, "swap": SWAP, "wide": WIDE, "image": IMAGE, "moves": MOVES, "twice": asked_twice(),
 }  # fmt: skip
 # The one that is standard input.
 INPUT = "three"
 
 COMMANDS = [
-    ["plan", "three"], ["plan", "three", "--workers", "2"], ["plan", "wrong"], ["plan", "missing"], ["plan", "-"],
-    ["switch", "three"], ["switch", "three", "--workers", "2"], ["switch", "wide"], ["switch", "wide", "--workers", "2"], ["switch", "wrong"], ["switch", "-"],
+    # `read_words`, `Batch::read` and `copy`, `LinkGraph::of` and `transfers_of`, `Table::one_with_room`, `join` and `into_schedule`,
+    # `schedule`, `Schedule::write` and `answer_plan`. Three settings take `Table::take_back` too.
+    ["plan", "three"], ["plan", "three", "--workers", "2"], ["plan", "nine"], ["plan", "nine", "--workers", "2"],
+    ["plan", "wrong"], ["plan", "missing"], ["plan", "-"],
+    # `answer_switch`.
+    ["switch", "three"], ["switch", "three", "--workers", "2"], ["switch", "wide"], ["switch", "wide", "--workers", "2"],
+    ["switch", "wrong"], ["switch", "-"],
+    # `Schedule::read`, `check_schedule` and `answer_check`.
     ["check", "three", "schedule"], ["check", "three", "three"], ["check", "-", "schedule"], ["check", "-", "-"],
-    ["draw", "three", "schedule"], ["draw", "three", "three"], ["run", "3x2x2", "two"], ["run", "3x2x2", "two", "--workers", "2"],
-    ["run", "2x1x1", "swap"], ["run", "3x2", "two"], ["serve", "2x2x2", "script", "other"], ["serve", "2x2x2", "script", "other", "--workers", "2"],
-    ["serve", "3x2x2", "pushes", "--workers", "2"], ["serve", "2x1x1", "refusals"], ["serve", "2x2", "script"], ["serve", "3x2x2", "other", "-"],
-    ["apply", "3x2x2", "two", "image"], ["apply", "3x2x2", "two", "image", "--workers", "2"], ["apply", "3x2x2", "swap", "image"],
-    ["apply", "3x2x1", "two", "image"], ["apply", "3x2x2", "-", "image"], ["run", "3x2x2", "two", "--image", "image"],
-    ["serve", "3x2x2", "other", "--image", "image"], ["serve", "3x2x1", "other", "--image", "image"],
+    # `draw` and `answer_draw`.
+    ["draw", "three", "schedule"], ["draw", "three", "three"],
+    # `Rack::new` and `part`, `run` and `answer_run`. Where blocks are swapped, `Batch::held_sources` and a `Rack::part` that holds them.
+    ["run", "3x2x2", "two"], ["run", "3x2x2", "two", "--workers", "2"], ["run", "2x1x1", "swap"], ["run", "3x2", "two"],
+    ["run", "3x2x2", "two", "--image", "image"],
+    # `TextList::of`, `Rack::copy`, `Book::new`, `Shared::new`, `serve` and `answer_serve`.
+    ["serve", "2x2x2", "script", "other"], ["serve", "2x2x2", "script", "other", "--workers", "2"],
+    ["serve", "3x2x2", "pushes", "--workers", "2"], ["serve", "2x1x1", "refusals"], ["serve", "2x2", "script"],
+    ["serve", "3x2x2", "other", "-"], ["serve", "3x2x2", "other", "--image", "image"], ["serve", "3x2x1", "other", "--image", "image"],
+    # `Book::apply` and `Shared::call` of each call, over words that all differ. `Planned::copy` and `Coloured::copy` where a plan is settled.
+    ["serve", "3x2x2", "twice", "--image", "image"], ["serve", "3x2x2", "twice", "--image", "image", "--workers", "2"],
+    # `Batch::write`.
     ["direct", "moves"], ["direct", "wrong"], ["direct", "-"],
+    ["apply", "3x2x2", "two", "image"], ["apply", "3x2x2", "two", "image", "--workers", "2"], ["apply", "3x2x2", "swap", "image"],
+    ["apply", "3x2x1", "two", "image"], ["apply", "3x2x2", "-", "image"],
     ["--help"], ["help", "run"], ["plan", "--help"], ["chart", "three"], [], ["plan", "three", "--workers", "65"],
 ]  # fmt: skip
 
@@ -116,30 +160,48 @@ def judge_of_command(words, wanted):
     return judge
 
 
-def is_served(words, ended):
-    """Whether sessions were told of the want of memory: each up to there as ever, and from there on as if that command weren't."""
+def served(words):
+    """The shape, the scripts and the image of a `serve` command line."""
     names = [INPUT if word == "-" else word for word in words[2:]]
     scripts = [FILES[name].encode() for before, name in zip(words[1:], names) if name in FILES and before != "--image"]
-    image = FILES["image"].encode() if "--image" in words else None
+    return words[1].encode(), scripts, FILES["image"].encode() if "--image" in words else None
+
+
+def is_served(words, ended):
+    """Whether sessions were told of the want of memory: each up to there as ever, and from there on as if that command weren't."""
+    shape, scripts, image = served(words)
     status = int(b"\nended " in ended.out)
-    well = sessions.is_told_without_memory(words[1].encode(), scripts, ended.out, image)
+    well = sessions.is_told_without_memory(shape, scripts, ended.out, image)
     return well and ended.status == status and ended.err == b""
 
 
 def sweep_call(name):
     swept = sweep(name, CALLS, [name], True, judge_of_call(name))
-    # A call that grows wants memory where all growths are refused, and two workers want a thread, but for the one transfer that the
-    # session moves.
-    wants_thread = "two-workers" in name and not name.startswith("serve")
-    if swept.growths and not swept.found["no memory"] or wants_thread and not swept.unstarted:
+    # A call that grows wants memory where all growths are refused.
+    if swept.growths and not swept.found["no memory"]:
         swept.found["WRONG: nothing was refused"] += 1
     if swept.growths and name.endswith("takes-none"):
         swept.found["WRONG: it takes memory"] += 1
     return swept
 
 
+def sweep_closing(words):
+    """The same for the last reading of a session and the closing of its exchange, each of which stands between marks and takes none."""
+    wanted = ask(*words, program=CALLS)
+    swept = sweep(" ".join(["hostile_use", *words]), CALLS, words, True, judge_of_command(words, wanted))
+    if swept.growths or wanted.status or wanted.err != b"[]\n" * 2 or b"\nhistory\n" not in wanted.out:
+        swept.found["WRONG: it takes memory, or isn't closed"] += 1
+    return swept
+
+
 def sweep_command(words):
-    return sweep(" ".join(["exchange", *words]), EXCHANGE, words, False, judge_of_command(words, ask(*words, given=INPUT)))
+    wanted = ask(*words, given=INPUT)
+    swept = sweep(" ".join(["exchange", *words]), EXCHANGE, words, False, judge_of_command(words, wanted))
+    if words[:1] == ["serve"] and (wanted.out, wanted.status) != sessions.answer_serve(*served(words)):
+        swept.found["WRONG: told otherwise with memory"] += 1
+    if not swept.found["no memory"] or words[-2:] == ["--workers", "2"] and not swept.unstarted:
+        swept.found["WRONG: nothing was refused"] += 1
+    return swept
 
 
 def tell(swept):
@@ -160,10 +222,11 @@ def main():
                 file.write(text)
         with multiprocessing.Pool(len(os.sched_getaffinity(0))) as pool:
             told = [tell(it) for it in pool.imap(sweep_call, names)]
+            told.append(tell(sweep_closing(["clients", "2x2x2", "script"])))
             told += [tell(it) for it in pool.imap(sweep_command, COMMANDS)]
         os.chdir("/")
     wrong = sum(it[1] for it in told)
-    print(f"growths: {len(names)} calls, {len(COMMANDS)} command lines, {sum(it[0] for it in told)} runs, {wrong} wrong")
+    print(f"growths: {len(names) + 1} calls, {len(COMMANDS)} command lines, {sum(it[0] for it in told)} runs, {wrong} wrong")
     return 1 if wrong or not names else 0
 
 

@@ -1,167 +1,190 @@
-//! The calls of a book.
+//! The calls of a book that no session makes, or that take no memory.
 
-use crate::kinds::{Before, ENTRIES, Kind, Row, Said, Tried};
 use crate::marks::{begin, end};
 use crate::met::Met;
-use crate::plants::{Told, plain};
-use crate::rows::{FIRST, is_marked, is_marked_with, marked};
-use batch_book::{Book, Call, Refusal};
-use exchange_limits::WorkerCount;
-use module_memory::Rack;
-use std::alloc::{AllocError, Global};
+use crate::plants::{Unheard, plain};
+use crate::rows::{FIRST, ONE_PUSH, ONE_PUSH_SHAPE, OTHER_PUSH, batch, marked, plan};
+use batch_book::{Book, Call, MAX_ENTRIES, Refusal, Reply};
+use std::alloc::Global;
 use std::thread::Threads;
 
-/// `Book::new` on row book-limits.
-pub fn open<R: AllocGlobal + Eprint>(rt: &R) -> Option<Met> {
-    let rack = marked(rt.alloc(), Row::BookLimits.shape())?;
-    begin(rt);
-    let opened = Book::new(rt.alloc(), rack);
-    end(rt);
-    Some(met_by_opening(rt.alloc(), &opened))
+/// How many entries the history has before the settling that is tried. So many fill the room that it has taken first.
+const ENTRIES: usize = 4;
+
+/// A call on the book of row book-limits.
+#[derive(Clone, Copy)]
+pub enum BookCall {
+    /// `Book::apply` of the plan of another batch.
+    SettleStranger,
+    /// `Book::apply` of one call of each kind at a full history.
+    ApplyFull,
 }
 
-/// What was met by the opening of a book on row book-limits.
-fn met_by_opening(alloc: Global, opened: &Result<Book, (Rack, AllocError)>) -> Met {
-    let shape = Row::BookLimits.shape();
-    match opened {
-        Ok(book) => Met::row_if(
-            book.history().is_empty()
-                && is_marked(alloc, book.rack(), shape)
-                && is_marked(alloc, book.opening(), shape),
-        ),
-        Err((rack, _)) => Met::no_memory_if(is_marked(alloc, rack, shape)),
-    }
-}
-
-/// A book on the marked rack of a row.
-pub fn marked_book(alloc: Global, row: Row) -> Option<Book> {
-    let rack = marked(alloc, row.shape())?;
+/// A new book of the row's rack.
+fn new_book(alloc: Global) -> Option<Book> {
+    let rack = marked(alloc, ONE_PUSH_SHAPE)?;
     Book::new(alloc, rack).ok()
 }
 
-/// One call of session 0, by so many workers.
-pub fn ask<R: Threads + Sync>(
+/// Makes a call on a new book.
+pub fn make<R: AllocGlobal + Eprint + Threads + Sync>(rt: &R, call: BookCall) -> Option<Met> {
+    let mut book = new_book(rt.alloc())?;
+    make_on(rt, &mut book, call)
+}
+
+/// Makes a call on this book.
+fn make_on<R: AllocGlobal + Eprint + Threads + Sync>(
+    rt: &R,
+    book: &mut Book,
+    call: BookCall,
+) -> Option<Met> {
+    match call {
+        BookCall::SettleStranger => settle_stranger(rt, book),
+        BookCall::ApplyFull => apply_full(rt, book),
+    }
+}
+
+/// Why a call was refused, if it was.
+fn refusal_of(reply: &Reply) -> Option<Refusal> {
+    match reply {
+        Reply::Refused(refusal) => Some(*refusal),
+        _ => None,
+    }
+}
+
+/// One call of session 0, and why it was refused, if it was.
+fn refusal<R: Threads + Sync>(rt: &R, book: &mut Book, call: Call) -> Option<Refusal> {
+    let mut plant = plain();
+    let reply = book.apply(rt, 0, call, &mut plant, &mut Unheard);
+    refusal_of(&reply)
+}
+
+/// The same between the marks.
+fn refusal_between<R: Eprint + Threads + Sync>(
     rt: &R,
     book: &mut Book,
     call: Call,
-    workers: WorkerCount,
-    told: &mut Told,
-) -> Said {
-    let mut plant = plain(workers);
-    let reply = book.apply(rt, 0, call, &mut plant, told);
-    Said::of(&reply)
-}
-
-/// One call of this kind, by so many workers.
-fn ask_kind<R: AllocGlobal + Threads + Sync>(
-    rt: &R,
-    book: &mut Book,
-    row: Row,
-    kind: Kind,
-    workers: WorkerCount,
-) -> Option<Said> {
-    let call = kind.call(rt, row)?;
-    Some(ask(rt, book, call, workers, &mut Told::nothing()))
-}
-
-/// The call that is tried, between the marks.
-fn try_kind<R: AllocGlobal + Eprint + Threads + Sync>(
-    rt: &R,
-    book: &mut Book,
-    row: Row,
-    kind: Kind,
-    workers: WorkerCount,
-    told: &mut Told,
-) -> Option<Said> {
-    let call = kind.call(rt, row)?;
+) -> Option<Refusal> {
     begin(rt);
-    let said = ask(rt, book, call, workers, told);
+    let refusal = refusal(rt, book, call);
     end(rt);
-    Some(said)
+    refusal
 }
 
 /// Peeks until the history has so many entries.
-pub fn fill<R: Threads + Sync>(rt: &R, book: &mut Book, entries: usize) {
+fn fill<R: Threads + Sync>(rt: &R, book: &mut Book, entries: usize) {
     for _ in book.history().len()..entries {
-        ask(
-            rt,
-            book,
-            Call::Peek(1, FIRST),
-            WorkerCount::ONE,
-            &mut Told::nothing(),
-        );
+        refusal(rt, book, Call::Peek(1, FIRST));
     }
 }
 
-/// Brings a new book to where it is before the call that is tried.
-fn prepare<R: AllocGlobal + Threads + Sync>(
+/// The submission of the row's batch.
+fn submission(alloc: Global) -> Option<Call> {
+    let batch = batch(alloc, ONE_PUSH)?;
+    Some(Call::Submit(batch))
+}
+
+/// The settling of batch 1 by the plan of a batch text.
+fn settling<R: AllocGlobal + Threads + Sync>(rt: &R, text: &str) -> Option<Call> {
+    let planned = plan(rt, text)?;
+    Some(Call::Settle(1, planned))
+}
+
+/// Whether the book has so many entries, and the words with which it was opened.
+fn is_at(book: &Book, entries: usize) -> bool {
+    book.history().len() == entries && book.rack().is_same(book.opening())
+}
+
+/// Settles the row's batch by the plan of another one, and says why that was refused.
+fn settle<R: AllocGlobal + Threads + Sync>(rt: &R, book: &mut Book) -> Option<Refusal> {
+    let call = settling(rt, OTHER_PUSH)?;
+    refusal(rt, book, call)
+}
+
+/// The same between the marks.
+fn settle_between<R: AllocGlobal + Eprint + Threads + Sync>(
     rt: &R,
     book: &mut Book,
-    row: Row,
-    kind: Kind,
-) -> Option<()> {
-    if !matches!(kind.before(), Before::Empty) {
-        ask_kind(rt, book, row, Kind::Submit, WorkerCount::ONE)?;
-    }
-    if matches!(kind.before(), Before::Settled) {
-        ask_kind(rt, book, row, Kind::Settle, WorkerCount::ONE)?;
-    }
+) -> Option<Refusal> {
+    let call = settling(rt, OTHER_PUSH)?;
+    refusal_between(rt, book, call)
+}
+
+/// Submits the row's batch, and peeks until the history has [`ENTRIES`].
+fn prepare<R: AllocGlobal + Threads + Sync>(rt: &R, book: &mut Book) -> Option<()> {
+    let call = submission(rt.alloc())?;
+    refusal(rt, book, call);
     fill(rt, book, ENTRIES);
     Some(())
 }
 
-/// Whether a book is as it was before the call that is tried: its entries, its words, and nobody was told of a run.
-fn is_as_before(alloc: Global, book: &Book, row: Row, told: Told) -> bool {
-    book.history().len() == ENTRIES
-        && is_marked(alloc, book.rack(), row.shape())
-        && is_marked(alloc, book.opening(), row.shape())
-        && told == Told::nothing()
-}
-
-/// Whether the book has the entry of a call that is answered, and the words that the row says.
-pub fn is_after(alloc: Global, book: &Book, row: Row, kind: Kind) -> bool {
-    book.history().len() == ENTRIES + 1
-        && is_marked_with(alloc, book.rack(), row.shape(), kind.written(row))
-}
-
-/// The call that is tried on a new book, and after want of memory the same call again.
-fn try_on<R: AllocGlobal + Eprint + Threads + Sync>(
+/// What was met by the first settling, given what it was refused for. After want of memory the same call, made again, is
+/// refused as the row says.
+fn met_by_settling<R: AllocGlobal + Threads + Sync>(
     rt: &R,
     book: &mut Book,
-    row: Row,
-    kind: Kind,
-    workers: WorkerCount,
-) -> Option<Tried> {
-    prepare(rt, book, row, kind)?;
-    let mut told = Told::nothing();
-    let said = try_kind(rt, book, row, kind, workers, &mut told)?;
-    if said != Said::Refused(Refusal::NoMemory) {
-        return Some(Tried::Answered(said));
+    tried: Option<Refusal>,
+) -> Met {
+    match tried {
+        Some(Refusal::Stranger) => Met::row_if(is_at(book, ENTRIES + 1)),
+        Some(Refusal::NoMemory) => {
+            let is_left = is_at(book, ENTRIES);
+            let again = settle(rt, book);
+            let is_told = again == Some(Refusal::Stranger) && is_at(book, ENTRIES + 1);
+            Met::no_memory_if(is_left && is_told)
+        }
+        _ => Met::Other,
     }
-    let is_left = is_as_before(rt.alloc(), book, row, told);
-    let said = ask_kind(rt, book, row, kind, workers)?;
-    Some(Tried::Again { is_left, said })
 }
 
-/// What is met by a call on a new book.
-fn apply_to<R: AllocGlobal + Eprint + Threads + Sync>(
+/// `Book::apply` of the settling of the row's batch by the plan of another one.
+fn settle_stranger<R: AllocGlobal + Eprint + Threads + Sync>(
     rt: &R,
     book: &mut Book,
-    row: Row,
-    kind: Kind,
-    workers: WorkerCount,
 ) -> Option<Met> {
-    let tried = try_on(rt, book, row, kind, workers)?;
-    Some(tried.met(kind.said(row), is_after(rt.alloc(), book, row, kind)))
+    prepare(rt, book)?;
+    let tried = settle_between(rt, book);
+    Some(met_by_settling(rt, book, tried))
 }
 
-/// `Book::apply` of a call, with so many workers. After want of memory the same call, made again, has the answer of the row.
-pub fn apply<R: AllocGlobal + Eprint + Threads + Sync>(
+/// Whether a call is refused since the history is full.
+fn is_full_for<R: Eprint + Threads + Sync>(rt: &R, book: &mut Book, call: Call) -> bool {
+    refusal_between(rt, book, call) == Some(Refusal::HistoryFull)
+}
+
+/// Whether a submission is.
+fn is_full_for_submission<R: AllocGlobal + Eprint + Threads + Sync>(
     rt: &R,
-    row: Row,
-    kind: Kind,
-    workers: WorkerCount,
-) -> Option<Met> {
-    let mut book = marked_book(rt.alloc(), row)?;
-    apply_to(rt, &mut book, row, kind, workers)
+    book: &mut Book,
+) -> Option<bool> {
+    let call = submission(rt.alloc())?;
+    Some(is_full_for(rt, book, call))
+}
+
+/// Whether a settling is.
+fn is_full_for_settling<R: AllocGlobal + Eprint + Threads + Sync>(
+    rt: &R,
+    book: &mut Book,
+) -> Option<bool> {
+    let call = settling(rt, ONE_PUSH)?;
+    Some(is_full_for(rt, book, call))
+}
+
+/// Whether each call is that has no batch and no plan.
+fn is_full_for_others<R: Eprint + Threads + Sync>(rt: &R, book: &mut Book) -> bool {
+    is_full_for(rt, book, Call::Fetch(1))
+        && is_full_for(rt, book, Call::Run(1))
+        && is_full_for(rt, book, Call::Show(1))
+        && is_full_for(rt, book, Call::Discard(1))
+        && is_full_for(rt, book, Call::Peek(1, FIRST))
+        && is_full_for(rt, book, Call::Poke(1, FIRST, 7))
+}
+
+/// `Book::apply` of one call of each kind at a full history.
+fn apply_full<R: AllocGlobal + Eprint + Threads + Sync>(rt: &R, book: &mut Book) -> Option<Met> {
+    fill(rt, book, MAX_ENTRIES);
+    let is_right = is_full_for_submission(rt, book)?
+        && is_full_for_settling(rt, book)?
+        && is_full_for_others(rt, book);
+    Some(Met::row_if(is_right && is_at(book, MAX_ENTRIES)))
 }

@@ -1,13 +1,16 @@
 //! Sessions side by side on one exchange, and the history that they leave.
+//!
+//! The last reading of each seat and the closing of the exchange take no memory, and stand between marks.
 
 ghost use Rattle.std.specs.Prelude.{◌≡◌, All, Some};
+ghost use Rattle.client_session.specs.Sessions.{seat_back};
 ghost use Rattle.progress_word.specs.declared.limits.TheConstants.{ALL_PARTS};
 
-use crate::exchange_calls::{Exchange, PlainClosed, fault_of, seat_of};
 use crate::history::push_history;
-use crate::plants::plain;
+use crate::marks::{begin, end};
+use crate::plants::plant_of;
 use batch::Shape;
-use batch_book::{Seat, Unclosed};
+use batch_book::{Closed, Seat, Shared, Unclosed};
 use client_session::{ServeFault, serve};
 use crossbar::MemoryPort;
 use exchange_limits::WorkerCount;
@@ -28,6 +31,36 @@ fn workers() -> WorkerCount {
     WorkerCount::new(2).unwrap()
 }
 
+/// An exchange whose port and wires never fail.
+type Exchange<L> = Shared<L, MemoryPort, PlainWires, OpenGate>;
+
+/// What is left of it when it is closed.
+type PlainClosed<L> = Closed<L, MemoryPort, PlainWires, OpenGate>;
+
+/// That, or why it isn't closed.
+type Closing<L> = Result<PlainClosed<L>, Unclosed<L, MemoryPort, PlainWires, OpenGate>>;
+
+/// How a session ended: with its seat, and the fault that ended it, if one did.
+type Served<L> = Result<Seat<L>, (Seat<L>, ServeFault)>;
+
+/// The fault that ended a session, if one did.
+fn fault_of<L: Ledger>(served: &Served<L>) -> Option<ServeFault> {
+    match served {
+        Ok(_) => None,
+        Err((_, fault)) => Some(*fault),
+    }
+}
+
+/// The seat of a session that ended.
+fn seat_of<L: Ledger>(served: Served<L>) -> Seat<L>
+    ensures { result ≡ seat_back served }
+{
+    match served {
+        Ok(seat) => seat,
+        Err((seat, _fault)) => seat,
+    }
+}
+
 /// What the session of a number was told, and the fault that ended it, if one did.
 #[derive(Drop)]
 struct Told {
@@ -36,8 +69,18 @@ struct Told {
     fault: Option<ServeFault>,
 }
 
+/// A reading of the seat, between the marks.
+fn read_between<L: Ledger, R: Eprint>(rt: &R, exchange: &Exchange<L>, seat: &mut Seat<L>)
+    requires { seat.old.exchange ≡ Some exchange.now.word }
+    ensures { seat.new.exchange ≡ seat.old.exchange }
+{
+    begin(rt);
+    exchange.progress(seat);
+    end(rt);
+}
+
 /// Serves the script of a seat to its end, and keeps what it was told, as far as there is memory.
-fn serve_script<L: Ledger, R: AllocGlobal + Threads + Wait + Sync>(
+fn serve_script<L: Ledger, R: AllocGlobal + Eprint + Threads + Wait + Sync>(
     rt: &R,
     exchange: &Exchange<L>,
     seat: Seat<L>,
@@ -68,7 +111,9 @@ fn serve_script<L: Ledger, R: AllocGlobal + Threads + Wait + Sync>(
         fault: fault_of(&served),
     };
     let _ = all.lock(rt).push(told);
-    seat_of(served)
+    let mut seat = seat_of(served);
+    read_between(rt, exchange, &mut seat);
+    seat
 }
 
 /// The lines of a session: `session I`, what it was told, and `ended ..` where a fault ended it.
@@ -81,9 +126,6 @@ fn push_told(text: &mut Vec<u8>, told: &Told) -> Result<(), AllocError> {
     }
     Ok(())
 }
-
-/// An exchange that is closed, or why it isn't.
-type Closing<L> = Result<PlainClosed<L>, Unclosed<L, MemoryPort, PlainWires, OpenGate>>;
 
 /// Puts what a closed exchange leaves behind a text.
 fn push_closing<L: Ledger>(text: &mut String, closing: &Closing<L>) -> Result<(), AllocError> {
@@ -101,17 +143,19 @@ fn closing_text<L: Ledger>(alloc: Global, closing: &Closing<L>) -> Result<String
     Ok(text)
 }
 
-/// Closes an exchange, and tells what it leaves.
-fn left_by<L: Ledger>(
-    alloc: Global,
+/// Closes an exchange, between the marks, and tells what it leaves.
+fn left_by<L: Ledger, R: AllocGlobal + Eprint>(
+    rt: &R,
     exchange: Exchange<L>,
     seats: Vec<Seat<L>>,
 ) -> Result<String, AllocError>
     requires parts { L.parts ≡ ALL_PARTS }
     requires seats { All (λ s. s.exchange ≡ Some exchange.word) seats.items }
 {
+    begin(rt);
     let closing = exchange.close(seats);
-    closing_text(alloc, &closing)
+    end(rt);
+    closing_text(rt.alloc(), &closing)
 }
 
 /// Puts what all sessions were told, in whatever order they ended, and then the history, behind a text.
@@ -134,7 +178,7 @@ fn told_text(alloc: Global, all: &[Told], left: &Result<String, AllocError>) -> 
 }
 
 /// Serves the scripts side by side on a new exchange, each in a thread of its own where it can be had, and closes it.
-fn serve_all<L: Ledger + Send + Sync, R: AllocGlobal + Threads + Wait + Sync>(
+fn serve_all<L: Ledger + Send + Sync, R: AllocGlobal + Eprint + Threads + Wait + Sync>(
     rt: &R,
     blank: Blank,
     rack: Rack,
@@ -143,7 +187,7 @@ fn serve_all<L: Ledger + Send + Sync, R: AllocGlobal + Threads + Wait + Sync>(
     requires name { blank.name ≡ L.name }
     requires parts { (blank.parts ≡ L.parts) × (blank.parts ≡ ALL_PARTS) }
 {
-    let made = Exchange::<L>::new(rt.alloc(), blank, rack, plain(workers()), scripts.len());
+    let made = Exchange::<L>::new(rt.alloc(), blank, rack, plant_of(workers()), scripts.len());
     let Ok((exchange, seats)) = made else {
         return None;
     };
@@ -156,7 +200,7 @@ fn serve_all<L: Ledger + Send + Sync, R: AllocGlobal + Threads + Wait + Sync>(
     let Ok(seats) = thread::map_vec(rt, seats, &one) else {
         return None;
     };
-    let left = left_by(rt.alloc(), exchange, seats);
+    let left = left_by(rt, exchange, seats);
     let all = all.into_inner();
     told_text(rt.alloc(), all.as_slice(), &left)
 }
@@ -173,7 +217,7 @@ fn read_all<R: AllocGlobal + Files>(rt: &R, files: &[String]) -> io::Result<Vec<
 
 /// Serves the scripts of 1 to 16 files side by side on an exchange with a rack of zeros, and prints what each session was told and the
 /// history.
-pub fn serve_side_by_side<R: AllocGlobal + Files + Print + Threads + Wait + Sync>(
+pub fn serve_side_by_side<R: AllocGlobal + Eprint + Files + Print + Threads + Wait + Sync>(
     rt: &R,
     shape: &str,
     files: &[String],

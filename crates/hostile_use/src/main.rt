@@ -1,29 +1,24 @@
-//! One call that may want memory, on the worked row that is named for it: `hostile_use NAME` makes it and says whether its
-//! answer is the row's, or want of memory that leaves all as before. Without a name each call is made once.
+//! One call that the program `exchange` doesn't make or that takes no memory, on the worked row that is named for it:
+//! `hostile_use NAME` makes it and says whether its answer is the row's, or want of memory that leaves all as before. Without a name
+//! each call is made once.
 //!
 //! `tools/hostile` runs it while the growths of that one call are refused in turn. `hostile_use clients SHAPE SCRIPT..` serves the
 //! scripts side by side, and prints what each session was told and the history.
 #![tactic(auto)]
 
-mod answer_calls;
-mod batch_calls;
 mod book_calls;
 mod calls;
 mod clients;
-mod exchange_calls;
 mod graph_calls;
 mod history;
-mod kinds;
 mod marks;
-mod memory_calls;
 mod met;
 mod plan_calls;
 mod plants;
+mod rack_calls;
 mod rows;
-mod session_calls;
-mod still_calls;
 
-use crate::calls::{GrowingCall, calls};
+use crate::calls::{CALLS, NamedCall};
 use crate::clients::serve_side_by_side;
 use std::rt::Files;
 use std::sync::Wait;
@@ -50,21 +45,21 @@ fn answer<R: AllocGlobal + Eprint + Files + Print + Threads + Wait + Sync>(
 }
 
 /// Makes a call, and says what was met.
-fn make<R: AllocGlobal + Eprint + Print + Threads + Wait + Sync>(
+fn make<R: AllocGlobal + Eprint + Print + Threads + Sync>(
     rt: &R,
     name: &str,
-    call: GrowingCall,
+    call: NamedCall,
 ) -> io::Result<()> {
     let met = call.make(rt).map_or("unprepared", |met| met.words());
     println!(rt; "{name}: {met}")
 }
 
 /// Makes the call of this name.
-fn make_named<R: AllocGlobal + Eprint + Print + Threads + Wait + Sync>(
+fn make_named<R: AllocGlobal + Eprint + Print + Threads + Sync>(
     rt: &R,
     wanted: &str,
 ) -> io::Result<()> {
-    for (name, call) in calls() {
+    for (name, call) in &CALLS {
         if *name == wanted {
             return make(rt, name, *call);
         }
@@ -73,8 +68,8 @@ fn make_named<R: AllocGlobal + Eprint + Print + Threads + Wait + Sync>(
 }
 
 /// Makes each call once.
-fn make_all<R: AllocGlobal + Eprint + Print + Threads + Wait + Sync>(rt: &R) -> io::Result<()> {
-    for (name, call) in calls() {
+fn make_all<R: AllocGlobal + Eprint + Print + Threads + Sync>(rt: &R) -> io::Result<()> {
+    for (name, call) in &CALLS {
         make(rt, name, *call)?;
     }
     Ok(())

@@ -1,20 +1,16 @@
-//! The calls that plan, and that run a plan.
+//! The calls that plan in another way, and those of a plan and its run that take no memory.
 
-use crate::kinds::Row;
 use crate::marks::{begin, end};
 use crate::met::Met;
-use crate::plants::{Told, plain};
+use crate::plants::plain;
 use crate::rows::{
-    FOUR, ONE_PULL, SWAP, SWAP_SHAPE, THREE_BY_THREE, batch, is_batch, is_marked, is_marked_with,
-    marked, plan,
+    FOUR, SWAP, SWAP_SHAPE, THREE_TRANSFERS, TWO_PUSHES, batch, is_batch, marked, plan,
 };
-use crossbar::Chip;
-use exchange_limits::WorkerCount;
+use batch::Batch;
 use link_graph::Schedule;
 use module_memory::Rack;
-use schedule_certificate::{OpenGate, Planned, first_fit, schedule};
-use setting_runner::{Outcome, RunRefusal, run};
-use std::alloc::{AllocError, Global};
+use schedule_certificate::{Planned, first_fit};
+use setting_runner::{Notice, Outcome, PairList, run, setting_numbers};
 use std::thread::Threads;
 
 /// Whether these are the settings `0 1`, `2` and `3`.
@@ -25,165 +21,127 @@ fn is_first_fit(schedule: &Schedule) -> bool {
         && schedule.setting(2) == Some([3].as_slice())
 }
 
-/// What was met by the first fit of row first-fit-loses.
-fn met_by_fit(fitted: &Result<Schedule, AllocError>, is_as_before: bool) -> Met {
+/// `first_fit` of the batch of row first-fit-loses.
+fn fit<R: AllocGlobal + Eprint>(rt: &R, batch: &Batch) -> Met {
+    begin(rt);
+    let fitted = first_fit(rt.alloc(), batch);
+    end(rt);
     match fitted {
-        Ok(schedule) => Met::row_if(is_as_before && is_first_fit(schedule)),
-        Err(_) => Met::no_memory_if(is_as_before),
+        Ok(schedule) => Met::row_if(is_first_fit(&schedule)),
+        Err(_) => Met::NoMemory,
     }
 }
 
-/// `first_fit` on row first-fit-loses.
+/// `first_fit` on row first-fit-loses, whose batch it has to leave as it was.
 pub fn fit_first<R: AllocGlobal + Eprint>(rt: &R) -> Option<Met> {
     let batch = batch(rt.alloc(), FOUR)?;
-    begin(rt);
-    let fitted = first_fit(rt.alloc(), &batch);
-    end(rt);
-    Some(met_by_fit(&fitted, is_batch(rt.alloc(), &batch, FOUR)))
-}
-
-/// Whether this is a plan of row three-by-three: three settings of three transfers each, and the certificate.
-fn is_three_by_three(planned: &Planned) -> bool {
-    let schedule = planned.schedule();
-    for number in 0..3 {
-        if schedule.setting(number).map_or(0, |setting| setting.len()) != 3 {
-            return false;
-        }
-    }
-    schedule.settings() == 3 && planned.certificate().transfers() == [0, 1, 2].as_slice()
-}
-
-/// What was met by the planning of row three-by-three.
-fn met_by_plan(planned: &Result<Planned, AllocError>) -> Met {
-    match planned {
-        Ok(planned) => Met::row_if(is_three_by_three(planned)),
-        Err(_) => Met::NoMemory,
-    }
-}
-
-/// `schedule` on row three-by-three, with so many workers.
-pub fn plan_batch<R: AllocGlobal + Eprint + Threads + Sync>(
-    rt: &R,
-    workers: WorkerCount,
-) -> Option<Met> {
-    let batch = batch(rt.alloc(), THREE_BY_THREE)?;
-    begin(rt);
-    let planned = schedule(rt, rt.alloc(), batch, workers, &OpenGate);
-    end(rt);
-    Some(met_by_plan(&planned))
-}
-
-/// Whether this is the plan of a batch text.
-fn is_plan<R: AllocGlobal + Threads + Sync>(rt: &R, found: &Planned, text: &str) -> bool {
-    match plan(rt, text) {
-        Some(wanted) => *found == wanted,
-        None => false,
-    }
-}
-
-/// What was met by a copy of a plan.
-fn met_by_copy(copied: &Result<Planned, AllocError>, planned: &Planned) -> Met {
-    match copied {
-        Ok(copy) => Met::row_if(*copy == *planned),
-        Err(_) => Met::NoMemory,
-    }
-}
-
-/// `Planned::copy` of this plan.
-fn copy_between<R: Eprint>(rt: &R, planned: &Planned) -> Met {
-    begin(rt);
-    let copied = planned.copy();
-    end(rt);
-    met_by_copy(&copied, planned)
-}
-
-/// `Planned::copy` on row one-script.
-pub fn copy_plan<R: AllocGlobal + Eprint + Threads + Sync>(rt: &R) -> Option<Met> {
-    let planned = plan(rt, ONE_PULL)?;
-    let met = copy_between(rt, &planned);
-    Some(if is_plan(rt, &planned, ONE_PULL) {
+    let met = fit(rt, &batch);
+    Some(if is_batch(rt.alloc(), &batch, FOUR) {
         met
     } else {
         Met::Other
     })
 }
 
-/// A row of one setting that is run on a marked rack.
+/// A call of a plan that takes no memory.
 #[derive(Clone, Copy)]
-struct RunRow {
-    text: &'static str,
-    shape: &'static str,
-    /// The words that it writes, each by its module and address.
-    written: &'static [(usize, u32, u32)],
-    /// How many words it moves.
-    words: usize,
+pub enum PlanCall {
+    /// `PairList::of_setting` and `setting_numbers` on row two-pushes.
+    PairUp,
+    /// `run` behind its beginning, on row three-transfers, which has two settings.
+    RunOn,
+    /// `run` behind its beginning, on row swap, whose blocks are held by then.
+    SwapOn,
 }
 
-/// What was met by a run of a row that left the rack, given the outcome.
-fn met_by_run(
-    alloc: Global,
-    row: RunRow,
-    rack: &Rack,
-    outcome: Outcome,
-    told: Told,
-    is_joined: bool,
-) -> Met {
-    let completed = Outcome::Completed {
-        settings: 1,
-        words: row.words,
-    };
-    if outcome == completed {
-        let is_told = told == Told { times: 2, last: 1 };
-        let is_written = is_marked_with(alloc, rack, row.shape, row.written);
-        return Met::row_if(is_told && is_joined && is_written);
+impl PlanCall {
+    /// The text of the row's batch.
+    fn text(self) -> &'static str {
+        match self {
+            PlanCall::PairUp => TWO_PUSHES,
+            PlanCall::RunOn => THREE_TRANSFERS,
+            PlanCall::SwapOn => SWAP,
+        }
     }
-    if outcome == Outcome::Refused(RunRefusal::NoMemory) {
-        let is_untold = told == Told::nothing();
-        return Met::no_memory_if(is_untold && !is_joined && is_marked(alloc, rack, row.shape));
-    }
-    Met::Other
 }
 
-/// `run` of the plan of a row, with so many workers.
-fn run_planned<R: AllocGlobal + Eprint + Threads + Sync>(
+/// Makes a call on the plan of its row.
+pub fn make<R: AllocGlobal + Eprint + Threads + Sync>(rt: &R, call: PlanCall) -> Option<Met> {
+    let planned = plan(rt, call.text())?;
+    make_on(rt, &planned, call)
+}
+
+/// Makes a call on this plan.
+fn make_on<R: AllocGlobal + Eprint + Threads + Sync>(
     rt: &R,
-    row: RunRow,
     planned: &Planned,
-    workers: WorkerCount,
+    call: PlanCall,
 ) -> Option<Met> {
-    let rack = marked(rt.alloc(), row.shape)?;
-    let mut plant = plain(workers);
-    let mut told = Told::nothing();
+    match call {
+        PlanCall::PairUp => Some(pair_up(rt, planned)),
+        PlanCall::RunOn => run_begun(rt, planned, "3x2x1", 2, 3),
+        PlanCall::SwapOn => run_begun(rt, planned, SWAP_SHAPE, 1, 2),
+    }
+}
+
+/// Whether the plan's one setting has the pairs of row two-pushes.
+fn has_pairs(planned: &Planned) -> bool {
+    if planned.schedule().settings() != 1 {
+        return false;
+    }
+    let pairs = PairList::of_setting(planned.batch(), setting_numbers(planned, 0));
+    let [one, two] = pairs.as_slice() else {
+        return false;
+    };
+    (one.initiator, one.responder) == (0, 1) && (two.initiator, two.responder) == (1, 2)
+}
+
+/// The pairs of the plan's one setting, between the marks.
+fn pair_up<R: Eprint>(rt: &R, planned: &Planned) -> Met {
     begin(rt);
-    let (rack, outcome) = run(rt, rt.alloc(), rack, &mut plant, planned, &mut told);
+    let is_right = has_pairs(planned);
     end(rt);
-    let is_joined = plant.port.crossbar(Chip::A).joined(0, 1);
-    Some(met_by_run(rt.alloc(), row, &rack, outcome, told, is_joined))
+    Met::row_if(is_right)
 }
 
-/// `run` on row two-pushes, with so many workers.
-pub fn run_plan<R: AllocGlobal + Eprint + Threads + Sync>(
+/// A notice that sets the first mark when a run has begun.
+struct Marking<'a, R> {
+    rt: &'a R,
+}
+
+impl<'a, R: Eprint> Notice for Marking<'a, R> {
+    ghost hears = { λ _ _ _. Unit {0} };
+
+    fn done(&mut self, settings: usize) {
+        if settings == 0 {
+            begin(self.rt);
+        }
+    }
+}
+
+/// `run` behind its beginning, of a plan of so many settings and words.
+fn run_begun<R: AllocGlobal + Eprint + Threads + Sync>(
     rt: &R,
-    workers: WorkerCount,
+    planned: &Planned,
+    shape: &str,
+    settings: usize,
+    words: usize,
 ) -> Option<Met> {
-    let row = RunRow {
-        text: Row::TwoPushes.text(),
-        shape: Row::TwoPushes.shape(),
-        written: Row::TwoPushes.moved(),
-        words: Row::TwoPushes.words(),
-    };
-    let planned = plan(rt, row.text)?;
-    run_planned(rt, row, &planned, workers)
+    let rack = marked(rt.alloc(), shape)?;
+    let outcome = outcome_of(rt, planned, rack);
+    Some(Met::row_if(outcome == Outcome::Completed { settings, words }))
 }
 
-/// `run` on row swap, which holds both blocks.
-pub fn run_swap<R: AllocGlobal + Eprint + Threads + Sync>(rt: &R) -> Option<Met> {
-    let row = RunRow {
-        text: SWAP,
-        shape: SWAP_SHAPE,
-        written: &[(0, 0x8000_0800, 0x0001_0000), (1, 0x8000_0800, 0)],
-        words: 2,
-    };
-    let planned = plan(rt, row.text)?;
-    run_planned(rt, row, &planned, WorkerCount::ONE)
+/// How a run ends on this rack, between the marks from its beginning on.
+fn outcome_of<R: AllocGlobal + Eprint + Threads + Sync>(
+    rt: &R,
+    planned: &Planned,
+    rack: Rack,
+) -> Outcome {
+    let mut plant = plain();
+    let mut notice = Marking { rt };
+    let (_rack, outcome) = run(rt, rt.alloc(), rack, &mut plant, planned, &mut notice);
+    end(rt);
+    let Marking { rt: _ } = notice;
+    outcome
 }
