@@ -21,7 +21,7 @@ impl Model for Answer {
 }
 
 impl Answer {
-    /// The bytes that are printed: whole lines.
+    /// The bytes that are printed: whole lines, or an image.
     pub fn text(&self) -> &[u8]
         ensures { result.now ≡ self.now.text }
     {
