@@ -1,4 +1,4 @@
-//! Tests of `batch_book`: the worked rows of the book, each refusal, runs that stop, several sessions, and exchanges in threads.
+//! Tests of `batch_book`: what a seat is answered, an exchange in threads, and the named sizes and texts.
 #![tactic(auto)]
 
 #[cfg(test)]

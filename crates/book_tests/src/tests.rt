@@ -1,15 +1,8 @@
-//! The worked rows of the book, each refusal, runs that stop, several sessions, and exchanges in threads.
+//! What a seat is answered, readings during runs, sixteen seats at once, two workers, and named sizes and texts.
 
 mod days;
 mod exchange;
-mod full;
-mod limits;
 mod office;
-mod pairs;
 mod readings;
-mod refusals;
-mod runs;
-mod sessions;
-mod single;
 mod sizes;
 mod ways;

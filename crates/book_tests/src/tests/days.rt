@@ -1,22 +1,17 @@
-//! Whole days of an exchange: each session calls in a thread of its own, and then all seats are given back.
+//! A whole day of an exchange: each of sixteen sessions makes all kinds of calls in a thread of its own, and then all seats are given back.
 
-ghost use Rattle.std.specs.Prelude.{◌≡◌, ◌<◌, IfSome, All, Some};
+ghost use Rattle.std.specs.Prelude.{◌≡◌, ◌<◌, Some};
 ghost use Rattle.progress_word.specs.declared.limits.TheConstants.{ALL_PARTS};
-ghost use Rattle.batch_book.specs.History.{IsLegal};
-ghost use Rattle.batch_book.specs.Seats.{Agrees};
 
-use super::office::{FIRST, ask_of};
-use super::pairs::{marked, plant};
-use batch_book::{Call, Closed, Entry, Reply, Seat, Shared};
+use super::office::{Ask, FIRST, answer, marked, plant};
+use batch_book::{Call, Entry, Reply, Seat, Shared};
 use crossbar::{ConfigPort, MemoryPort};
 use module_memory::Rack;
 use peek_poke::{FuseWires, WireMaker};
 use schedule_certificate::{Gate, OpenGate};
-use std::alloc::Global;
 use std::marker::Brand;
 use std::sync::Wait;
 use std::sync::ledger::{Blank, Ledger};
-use std::test::Fail;
 use std::thread;
 use std::thread::Threads;
 
@@ -26,12 +21,11 @@ const CUT_SECOND: FuseWires = FuseWires {
     bytes: 9,
 };
 
-/// What each session does: it peeks so often, or makes so many calls of all kinds.
-#[derive(Clone, Copy)]
-enum Work {
-    Peeks(usize),
-    Mixture(usize),
-}
+/// How many calls each session makes.
+const CALLS: usize = 300;
+
+/// How many sessions there are.
+const SESSIONS: usize = 16;
 
 // ---- the mixture
 
@@ -90,48 +84,31 @@ fn kind_of(call: &Call) -> usize
     }
 }
 
-/// What a session does next: a call of this kind, for the batch of this text and this module, or a reading.
-#[derive(Clone, Copy)]
-enum Next {
-    Read,
-    Ask(usize, &'static str, usize),
+/// What a session asks by a call of a kind. It names this batch, or has the batch of this text, or names this module.
+fn ask_of(kind: usize, text: &'static str, id: usize, module: usize) -> Ask {
+    match kind {
+        0 => Ask::Submit(text),
+        1 => Ask::Fetch(id),
+        2 => Ask::Settle(id, text),
+        3 => Ask::Run(id),
+        4 => Ask::Show(id),
+        5 => Ask::Discard(id),
+        6 => Ask::Peek(module, FIRST),
+        _ => Ask::Poke(module, FIRST, 7),
+    }
 }
 
-/// What the numbers choose for a session.
-fn next_of(session: usize, numbers: &mut Numbers) -> Next {
+/// What the numbers choose for a session that was given this number for its last batch. Settling and running come more often. Most batches
+/// of a session have one text. Nothing stands for a reading.
+fn next_of(session: usize, id: usize, numbers: &mut Numbers) -> Option<Ask> {
     let kind = numbers.below(12);
     if kind == 8 {
-        return Next::Read;
+        return None;
     }
-    // Settling and running come more often. Most batches of a session have one text.
     let kind = if kind > 8 { kind % 2 + 2 } else { kind };
     let other = if numbers.below(8) == 0 { 1 } else { 0 };
     let text = TEXTS[(session % 4 + other) % 4];
-    Next::Ask(kind, text, numbers.below(3))
-}
-
-/// One call of a kind that the numbers choose, or a reading.
-fn mix<
-    L: Ledger,
-    P: ConfigPort,
-    W: WireMaker + Sync,
-    G: Gate + Sync,
-    R: AllocGlobal + Threads + Wait + Sync,
->(rt: &R, shared: &Shared<L, P, W, G>, seat: &mut Seat<L>, numbers: &mut Numbers)
-    requires { seat.old.exchange ≡ Some shared.now.word }
-    ensures { seat.new.exchange ≡ seat.old.exchange }
-{
-    match next_of(seat.session(), numbers) {
-        Next::Read => {
-            shared.progress(seat);
-        }
-        Next::Ask(kind, text, module) => {
-            let id = last_accepted(seat.log());
-            if let Some(call) = ask_of(kind, text, id, module).call(rt) {
-                shared.call(rt, seat, call);
-            }
-        }
-    }
+    Some(ask_of(kind, text, id, numbers.below(3)))
 }
 
 // ---- a day
@@ -143,73 +120,31 @@ fn session<
     W: WireMaker + Sync,
     G: Gate + Sync,
     R: AllocGlobal + Threads + Wait + Sync,
->(rt: &R, shared: &Shared<L, P, W, G>, seat: Seat<L>, work: Work) -> Seat<L>
+>(rt: &R, shared: &Shared<L, P, W, G>, seat: Seat<L>) -> Seat<L>
     requires { seat.exchange ≡ Some shared.now.word }
     ensures { result.exchange ≡ seat.exchange }
 {
     let mut seat = seat;
-    match work {
-        Work::Peeks(times) => {
-            for _ in 0..times {
-                let _reply = shared.call(rt, &mut seat, Call::Peek(0, FIRST));
+    let session = seat.session();
+    let mut numbers = Numbers {
+        state: session as u64,
+    };
+    for _ in 0..CALLS {
+        match next_of(session, last_accepted(seat.log()), &mut numbers) {
+            Some(ask) => {
+                answer(rt, shared, &mut seat, ask);
             }
-        }
-        Work::Mixture(times) => {
-            let mut numbers = Numbers {
-                state: seat.session() as u64,
-            };
-            for _ in 0..times {
-                mix(rt, shared, &mut seat, &mut numbers);
+            None => {
+                shared.progress(&mut seat);
             }
         }
     }
     seat
 }
 
-/// The sessions at once, each in a thread. Then the history is legal, and has of each session what it asked.
-fn day<L: Ledger + Send + Sync, R: AllocGlobal + Threads + Wait + Sync>(
-    rt: &R,
-    blank: Blank,
-    rack: Rack,
-    sessions: usize,
-    work: Work,
-) -> Option<Closed<L, MemoryPort, FuseWires, OpenGate>>
-    requires name { blank.name ≡ L.name }
-    requires parts { (blank.parts ≡ L.parts) × (blank.parts ≡ ALL_PARTS) }
-    ensures legal { IfSome result (λ c. IsLegal c.book.opening c.book.history) }
-    ensures filters { IfSome result (λ c. All (Agrees c.book.history) c.seats.items) }
-{
-    let plant = plant(CUT_SECOND);
-    let made = Shared::<L, MemoryPort, FuseWires, OpenGate>::new(
-        rt.alloc(),
-        blank,
-        rack,
-        plant,
-        sessions,
-    );
-    let Ok((shared, seats)) = made else {
-        return None;
-    };
-    let lent = &shared;
-    let one = |seat: Seat<L>| -> Seat<L>
-        requires { seat.exchange ≡ Some lent.now.word }
-        ensures { result.exchange ≡ seat.exchange }
-    { session(rt, lent, seat, work) };
-    let Ok(seats) = thread::map_vec(rt, seats, &one) else {
-        return None;
-    };
-    let Ok(closed) = shared.close(seats) else {
-        return None;
-    };
-    closed.book.history();
-    Some(closed)
-}
-
 /// What is left of a day.
 #[derive(Clone, Copy)]
 struct Remains {
-    /// The entries of the history.
-    entries: usize,
     /// Which of the eight kinds of call it has.
     kinds: [bool; 8],
     /// Whether runs completed, stopped and were refused.
@@ -220,7 +155,6 @@ struct Remains {
 
 fn remains_of(history: &[Entry]) -> Remains {
     let mut left = Remains {
-        entries: history.len(),
         kinds: [false; 8],
         ran: false,
         stopped: false,
@@ -238,45 +172,52 @@ fn remains_of(history: &[Entry]) -> Remains {
     left
 }
 
-fn spend<L: Ledger + Send + Sync, R: AllocGlobal + Threads + Wait + Sync>(
+/// The sessions at once, each in a thread, and what they leave. Nothing where the exchange didn't close.
+fn day<L: Ledger + Send + Sync, R: AllocGlobal + Threads + Wait + Sync>(
     rt: &R,
     blank: Blank,
     rack: Rack,
-    sessions: usize,
-    work: Work,
 ) -> Option<Remains>
     requires name { blank.name ≡ L.name }
     requires parts { (blank.parts ≡ L.parts) × (blank.parts ≡ ALL_PARTS) }
 {
-    let closed = day::<L, R>(rt, blank, rack, sessions, work)?;
-    Some(remains_of(closed.book.history()))
-}
-
-/// What so many sessions leave that do this work. Nothing where the exchange didn't close.
-fn spend_day<R: AllocGlobal + Threads + Wait + Sync>(
-    rt: &R,
-    sessions: usize,
-    work: Work,
-) -> Option<Remains> {
-    let rack = marked(rt.alloc(), "2x2x2")?;
-    spend::<Brand, R>(rt, Blank::new(16), rack, sessions, work)
-}
-
-#[test]
-fn four_seats_peek_100_times(rt: HostRuntime) -> Result<(), Fail> {
-    let left = spend_day(&rt, 4, Work::Peeks(100)).ok_or("not closed")?;
-    assert_eq!(rt; left.entries, 400);
-    assert_eq!(rt;
-        left.kinds,
-        [false, false, false, false, false, false, true, false]
+    let plant = plant(CUT_SECOND);
+    let made = Shared::<L, MemoryPort, FuseWires, OpenGate>::new(
+        rt.alloc(),
+        blank,
+        rack,
+        plant,
+        SESSIONS,
     );
-    Ok(())
+    let Ok((shared, seats)) = made else {
+        return None;
+    };
+    let lent = &shared;
+    let one = |seat: Seat<L>| -> Seat<L>
+        requires { seat.exchange ≡ Some lent.now.word }
+        ensures { result.exchange ≡ seat.exchange }
+    { session(rt, lent, seat) };
+    let Ok(seats) = thread::map_vec(rt, seats, &one) else {
+        return None;
+    };
+    match shared.close(seats) {
+        Ok(closed) => Some(remains_of(closed.book.history())),
+        Err(_) => None,
+    }
+}
+
+/// Whether they leave calls of all kinds, and runs that completed, stopped and were refused, on a marked rack.
+fn has_all<R: AllocGlobal + Threads + Wait + Sync>(rt: &R) -> bool {
+    let Some(rack) = marked(rt.alloc(), "2x2x2") else {
+        return false;
+    };
+    match day::<Brand, R>(rt, Blank::new(16), rack) {
+        Some(left) => left.kinds == [true; 8] && left.ran && left.stopped && left.refused,
+        None => false,
+    }
 }
 
 #[test]
-fn sixteen_seats_mix_all_calls(rt: HostRuntime) -> Result<(), Fail> {
-    let left = spend_day(&rt, 16, Work::Mixture(300)).ok_or("not closed")?;
-    assert_eq!(rt; left.kinds, [true; 8]);
-    assert!(rt; left.ran && left.stopped && left.refused);
-    Ok(())
+fn sixteen_seats_mix_all_calls(rt: HostRuntime) {
+    assert!(rt; has_all(&rt));
 }

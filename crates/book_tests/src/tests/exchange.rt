@@ -1,224 +1,215 @@
-//! Rows of an exchange with two seats.
+//! What the seats of an exchange are answered.
 
-ghost use Rattle.std.specs.Prelude.{◌≡◌};
+ghost use Rattle.std.specs.Prelude.{◌≡◌, IfSome};
 ghost use Rattle.progress_word.specs.declared.limits.TheConstants.{ALL_PARTS};
 
-use super::office::{FIRST, PUSH, Said, TWO_SETTINGS, batch, plan};
-use super::pairs::{Pair, close, close_without_second, marked, open_pair};
-use batch_book::{Call, Reading, Refusal};
+use super::office::{Ask, FIRST, PUSH, Pair, Row, Said, close, marked, open_pair, plant};
+use batch_book::{BatchState, Closed, MAX_ENTRIES, Refusal, Shared, SharedFault, Unclosed};
+use crossbar::MemoryPort;
 use module_memory::Rack;
-use peek_poke::FuseWires;
-use setting_runner::StopCause;
+use peek_poke::PlainWires;
+use schedule_certificate::OpenGate;
+use setting_runner::RunRefusal;
+use std::alloc::Global;
 use std::marker::Brand;
 use std::sync::Wait;
 use std::sync::ledger::{Blank, Ledger};
 use std::thread::Threads;
 
-/// The wire of transfer 1 carries no byte.
-const CUT_SECOND: FuseWires = FuseWires {
-    transfer: 1,
-    bytes: 0,
-};
+/// An exchange of the tests, with two seats.
+type Two<L> = Pair<L, PlainWires, OpenGate>;
 
-/// What is tested on an exchange with two seats.
+/// What is tested of an exchange.
 #[derive(Clone, Copy)]
-enum Row {
-    OneScript,
-    MarkedRack,
-    NoRunYet,
-    EachReading,
-    StoppedInItsSecondSetting,
+enum Case<'a> {
+    /// Its first seat is answered so.
+    Rows(&'a [Row]),
+    /// Its first seat fills the history.
+    Full,
+    /// It isn't closed where its second seat is missing, and goes on.
     SeatMissing,
 }
 
-impl Row {
-    /// The shape of its rack.
-    fn shape(self) -> &'static str {
-        match self {
-            Row::OneScript => "2x2x2",
-            Row::MarkedRack => "2x1x1",
-            Row::NoRunYet | Row::SeatMissing => "2x1x2",
-            Row::EachReading | Row::StoppedInItsSecondSetting => "3x1x1",
-        }
-    }
+/// A batch of as many transfers as [`PUSH`], but another.
+const OTHER: &str = "batch 1\npush 1 0 0 0\n";
+
+/// A transfer to a module that a rack of two hasn't.
+const FAR: &str = "batch 1\npush 0 0 5 0\n";
+
+const UNKNOWN: Said = Said::Refused(Refusal::Unknown);
+
+const STRANGER: Said = Said::Refused(Refusal::Stranger);
+
+const ALREADY: Said = Said::Refused(Refusal::Already);
+
+/// Calls that no session makes stand among others: a plan is handed in for a batch that isn't there, or for another batch, also where the
+/// batch has come further. The rack is the one that was handed in.
+const CALLS: [Row; 16] = [
+    (Ask::Peek(1, FIRST), Said::Word(0x0001_0000)),
+    (Ask::Poke(0, FIRST, 7), Said::Poked),
+    (Ask::Settle(1, PUSH), UNKNOWN),
+    (Ask::Submit(PUSH), Said::Accepted(1)),
+    (Ask::Fetch(1), Said::Fetched(1)),
+    (Ask::Settle(0, PUSH), UNKNOWN),
+    (Ask::Settle(1, OTHER), STRANGER),
+    (Ask::Show(1), Said::Shown(1, BatchState::Waiting)),
+    (Ask::Settle(1, PUSH), Said::Settled(1)),
+    (Ask::Settle(1, OTHER), STRANGER),
+    (Ask::Show(1), Said::Shown(1, BatchState::Planned)),
+    (Ask::Run(1), Said::Ran(1, 1, 1)),
+    (Ask::Peek(1, FIRST), Said::Word(7)),
+    (Ask::Settle(1, PUSH), ALREADY),
+    (Ask::Discard(1), Said::Discarded),
+    (Ask::Settle(1, PUSH), UNKNOWN),
+];
+
+/// A session's batches are those of the rack, so that none is refused for its shape. Such a run leaves its batch planned, and takes no number.
+const SHAPES: [Row; 9] = [
+    (Ask::Submit(FAR), Said::Accepted(1)),
+    (Ask::Settle(1, FAR), Said::Settled(1)),
+    (Ask::Run(1), Said::RunRefused(RunRefusal::Shape)),
+    (Ask::Show(1), Said::Shown(1, BatchState::Planned)),
+    (Ask::Run(1), Said::RunRefused(RunRefusal::Shape)),
+    (Ask::Peek(0, FIRST), Said::Word(0)),
+    (Ask::Submit(PUSH), Said::Accepted(2)),
+    (Ask::Settle(2, PUSH), Said::Settled(1)),
+    (Ask::Run(2), Said::Ran(1, 1, 1)),
+];
+
+/// Whether a closed exchange has as many entries in its history and in the list of its first seat, which is the last here, as there may be, and the
+/// first word is still 0.
+fn is_full<L: Ledger>(closed: &Closed<L, MemoryPort, PlainWires, OpenGate>) -> bool {
+    let listed = match closed.seats.last() {
+        Some(seat) => seat.log().len(),
+        None => 0,
+    };
+    let word = closed.book.rack().read(0, FIRST);
+    listed == 65536 && closed.book.history().len() == 65536 && word == Ok(0)
 }
 
-fn reading(run: u64, done: u64) -> Reading {
-    Reading { run, done }
-}
-
-/// Submits the batch of a text, which the exchange gives this number, and hands in its plan.
-fn settle<L: Ledger, R: AllocGlobal + Threads + Wait + Sync>(
-    rt: &R,
-    pair: &mut Pair<L, FuseWires>,
-    id: usize,
-    text: &str,
-) -> Option<(Said, Said)> {
-    let submitted = pair.ask(rt, Call::Submit(batch(rt.alloc(), text)?));
-    let settled = pair.ask(rt, Call::Settle(id, plan(rt, text)?));
-    Some((submitted, settled))
-}
-
-/// Row one-script: the calls of both scripts.
-fn one_script<L: Ledger, R: AllocGlobal + Threads + Wait + Sync>(
-    rt: &R,
-    pair: &mut Pair<L, FuseWires>,
-) -> bool {
-    let poked = pair.ask(rt, Call::Poke(1, FIRST + 8, 0xff));
-    let settled = settle(rt, pair, 1, "batch 1\npull 0 0 1 1\n");
-    let shown = pair.ask_second(rt, Call::Show(1));
-    let ran = pair.ask(rt, Call::Run(1));
-    let read = pair.read();
-    let peeked = pair.ask(rt, Call::Peek(0, FIRST));
-    poked == Said::Poked
-        && settled == Some((Said::Accepted(1), Said::Settled(1)))
-        && shown == Said::Refused(Refusal::Unknown)
-        && ran == Said::Ran(1, 1, 2)
-        && read == reading(1, 1)
-        && peeked == Said::Word(0xff)
-}
-
-/// The rack is the one that was handed in.
-fn marked_rack<L: Ledger, R: Threads + Wait + Sync>(rt: &R, pair: &mut Pair<L, FuseWires>) -> bool {
-    pair.ask(rt, Call::Peek(1, FIRST)) == Said::Word(0x0001_0000)
-        && pair.ask_second(rt, Call::Peek(1, FIRST)) == Said::Word(0x0001_0000)
-}
-
-/// Before any run a reading is 0 and 0, whatever else was called.
-fn no_run_yet<L: Ledger, R: AllocGlobal + Threads + Wait + Sync>(
-    rt: &R,
-    pair: &mut Pair<L, FuseWires>,
-) -> bool {
-    let before = pair.read();
-    let settled = settle(rt, pair, 1, PUSH);
-    before == reading(0, 0)
-        && settled == Some((Said::Accepted(1), Said::Settled(1)))
-        && pair.ask_second(rt, Call::Run(1)) == Said::Refused(Refusal::Unknown)
-        && pair.read() == reading(0, 0)
-        && pair.read_second() == reading(0, 0)
-}
-
-/// The first seat settles the batch of a text and runs it, and the second reads.
-fn read_behind_run<L: Ledger, R: AllocGlobal + Threads + Wait + Sync>(
-    rt: &R,
-    pair: &mut Pair<L, FuseWires>,
-    id: usize,
-    text: &str,
-) -> Reading {
-    settle(rt, pair, id, text);
-    pair.ask(rt, Call::Run(id));
-    pair.read_second()
-}
-
-/// A reading from the second seat before any run and behind each of three runs of the first is of that moment.
-fn each_reading<L: Ledger, R: AllocGlobal + Threads + Wait + Sync>(
-    rt: &R,
-    pair: &mut Pair<L, FuseWires>,
-) -> bool {
-    pair.read_second() == reading(0, 0)
-        && read_behind_run(rt, pair, 1, PUSH) == reading(1, 1)
-        && read_behind_run(rt, pair, 2, "batch 0\n") == reading(2, 0)
-        && read_behind_run(rt, pair, 3, PUSH) == reading(3, 1)
-}
-
-/// Row second-setting-stops: one setting was done, and in the second one the wire of transfer 1 failed at once.
-fn stopped<L: Ledger, R: AllocGlobal + Threads + Wait + Sync>(
-    rt: &R,
-    pair: &mut Pair<L, FuseWires>,
-) -> bool {
-    let settled = settle(rt, pair, 1, TWO_SETTINGS);
-    let ran = pair.ask(rt, Call::Run(1));
-    settled == Some((Said::Accepted(1), Said::Settled(2)))
-        && ran == Said::Stopped(1, 1, StopCause::Wire(1), Some((1, 0)))
-        && pair.read() == reading(1, 1)
-        && pair.read_second() == reading(1, 1)
-}
-
-/// An exchange isn't closed where one of its seats is missing, and goes on. With both it is.
-fn seat_missing<L: Ledger, R: AllocGlobal + Threads + Wait + Sync>(
-    rt: &R,
-    pair: Pair<L, FuseWires>,
-) -> Option<bool>
+/// Whether 65,536 peeks are answered, and a poke isn't.
+fn fills<L: Ledger, R: AllocGlobal + Threads + Wait + Sync>(rt: &R, pair: Two<L>) -> bool
     requires { L.parts ≡ ALL_PARTS }
 {
     let mut pair = pair;
-    let poked = pair.ask(rt, Call::Poke(0, FIRST, 5));
-    let mut pair = close_without_second(rt.alloc(), pair)?;
-    let is_so = poked == Said::Poked
-        && pair.ask_second(rt, Call::Peek(0, FIRST)) == Said::Word(5)
-        && marked_rack(rt, &mut pair);
-    Some(is_so && close(rt.alloc(), pair).is_some())
-}
-
-/// Whether what a row says is so, of a new exchange.
-fn is_so<L: Ledger, R: AllocGlobal + Threads + Wait + Sync>(
-    rt: &R,
-    pair: &mut Pair<L, FuseWires>,
-    row: Row,
-) -> bool {
-    match row {
-        Row::OneScript => one_script(rt, pair),
-        Row::MarkedRack | Row::SeatMissing => marked_rack(rt, pair),
-        Row::NoRunYet => no_run_yet(rt, pair),
-        Row::EachReading => each_reading(rt, pair),
-        Row::StoppedInItsSecondSetting => stopped(rt, pair),
+    let zeros = pair.zeros(rt, MAX_ENTRIES);
+    let poked = pair.ask(rt, Ask::Poke(0, FIRST, 1));
+    match close(rt.alloc(), pair) {
+        Some(closed) => {
+            zeros == 65536 && poked == Said::Refused(Refusal::HistoryFull) && is_full(&closed)
+        }
+        None => false,
     }
 }
 
-/// Whether what a row says is so, and the exchange closes behind it.
+/// Tries to close the exchange with the first seat alone, and gives the pair back where that is refused for the
+/// seat that is missing.
+fn close_without_second<L: Ledger>(alloc: Global, pair: Two<L>) -> Option<Two<L>>
+    requires { L.parts ≡ ALL_PARTS }
+{
+    let Pair {
+        shared,
+        first,
+        second,
+    } = pair;
+    let Ok(seats) = Vec::from_array(alloc, [first]) else {
+        return None;
+    };
+    let Err(Unclosed::SeatMissing(shared, mut seats)) = shared.close(seats) else {
+        return None;
+    };
+    prove!(seats.len() == 1);
+    let first = seats.remove(0);
+    Some(Pair {
+        shared,
+        first,
+        second,
+    })
+}
+
+/// Whether an exchange isn't closed without its second seat, which is answered then, and is closed with both.
+fn goes_on<L: Ledger, R: AllocGlobal + Threads + Wait + Sync>(rt: &R, pair: Two<L>) -> bool
+    requires { L.parts ≡ ALL_PARTS }
+{
+    let Some(mut pair) = close_without_second(rt.alloc(), pair) else {
+        return false;
+    };
+    let said = pair.ask_second(rt, Ask::Peek(1, FIRST));
+    close(rt.alloc(), pair).is_some() && said == Said::Word(0x0001_0000)
+}
+
+/// What comes back where so many sessions are refused.
+fn refused<L: Ledger>(
+    alloc: Global,
+    blank: Blank,
+    rack: Rack,
+    sessions: usize,
+) -> Option<(Blank, Rack)>
+    requires name { blank.name ≡ L.name }
+    requires parts { (blank.parts ≡ L.parts) × (blank.parts ≡ ALL_PARTS) }
+    ensures name { IfSome result (λ back. back.0.name ≡ L.name) }
+    ensures parts { IfSome result (λ back. (back.0.parts ≡ L.parts) × (back.0.parts ≡ ALL_PARTS)) }
+{
+    let plant = plant(PlainWires);
+    let made = Shared::<L, MemoryPort, PlainWires, OpenGate>::new(
+        alloc, blank, rack, plant, sessions,
+    );
+    match made {
+        Err((blank, rack, _, SharedFault::BadSessions)) => Some((blank, rack)),
+        _ => None,
+    }
+}
+
+/// An exchange with two seats, of what came back where 0 sessions were refused, and then 17.
+fn open_behind_refusals<L: Ledger>(alloc: Global, blank: Blank, rack: Rack) -> Option<Two<L>>
+    requires name { blank.name ≡ L.name }
+    requires parts { (blank.parts ≡ L.parts) × (blank.parts ≡ ALL_PARTS) }
+{
+    let (blank, rack) = refused::<L>(alloc, blank, rack, 0)?;
+    let (blank, rack) = refused::<L>(alloc, blank, rack, 17)?;
+    open_pair(alloc, blank, rack, plant(PlainWires))
+}
+
+/// Whether a case is so of a new exchange.
 fn holds<L: Ledger, R: AllocGlobal + Threads + Wait + Sync>(
     rt: &R,
     blank: Blank,
     rack: Rack,
-    row: Row,
-) -> Option<bool>
+    case: Case<'_>,
+) -> bool
     requires name { blank.name ≡ L.name }
     requires parts { (blank.parts ≡ L.parts) × (blank.parts ≡ ALL_PARTS) }
 {
-    let mut pair = open_pair::<L, FuseWires>(rt.alloc(), blank, rack, CUT_SECOND)?;
-    if !is_so(rt, &mut pair, row) {
-        return Some(false);
-    }
-    match row {
-        Row::SeatMissing => seat_missing(rt, pair),
-        _ => Some(close(rt.alloc(), pair).is_some()),
-    }
-}
-
-/// Whether a row holds of an exchange on a marked rack.
-fn holds_of<R: AllocGlobal + Threads + Wait + Sync>(rt: &R, row: Row) -> bool {
-    let Some(rack) = marked(rt.alloc(), row.shape()) else {
+    let Some(mut pair) = open_behind_refusals::<L>(rt.alloc(), blank, rack) else {
         return false;
     };
-    holds::<Brand, R>(rt, Blank::new(16), rack, row) == Some(true)
+    match case {
+        Case::Rows(rows) => pair.first_wrong(rt, rows).is_none(),
+        Case::Full => fills(rt, pair),
+        Case::SeatMissing => goes_on(rt, pair),
+    }
+}
+
+/// Whether a case is so of an exchange on a marked rack of two modules of one word.
+fn holds_of<R: AllocGlobal + Threads + Wait + Sync>(rt: &R, case: Case<'_>) -> bool {
+    match marked(rt.alloc(), "2x1x1") {
+        Some(rack) => holds::<Brand, R>(rt, Blank::new(16), rack, case),
+        None => false,
+    }
 }
 
 #[test]
-fn one_script_is_answered(rt: HostRuntime) {
-    assert!(rt; holds_of(&rt, Row::OneScript));
+fn calls_that_no_session_makes(rt: HostRuntime) {
+    assert!(rt; holds_of(&rt, Case::Rows(&CALLS)));
+    assert!(rt; holds_of(&rt, Case::Rows(&SHAPES)));
 }
 
 #[test]
-fn the_rack_is_the_one_handed_in(rt: HostRuntime) {
-    assert!(rt; holds_of(&rt, Row::MarkedRack));
-}
-
-#[test]
-fn a_reading_is_0_and_0_before_any_run(rt: HostRuntime) {
-    assert!(rt; holds_of(&rt, Row::NoRunYet));
-}
-
-#[test]
-fn each_reading_is_of_now(rt: HostRuntime) {
-    assert!(rt; holds_of(&rt, Row::EachReading));
-}
-
-#[test]
-fn a_run_is_read_that_stopped_in_its_second_setting(rt: HostRuntime) {
-    assert!(rt; holds_of(&rt, Row::StoppedInItsSecondSetting));
+fn a_full_history_takes_no_poke(rt: HostRuntime) {
+    assert!(rt; holds_of(&rt, Case::Full));
 }
 
 #[test]
 fn one_of_two_seats_is_missing(rt: HostRuntime) {
-    assert!(rt; holds_of(&rt, Row::SeatMissing));
+    assert!(rt; holds_of(&rt, Case::SeatMissing));
 }

@@ -3,14 +3,12 @@
 ghost use Rattle.std.specs.Prelude.{◌≡◌, Some};
 ghost use Rattle.progress_word.specs.declared.limits.TheConstants.{ALL_PARTS};
 
-use super::office::{PUSH, Said, TWO_SETTINGS, batch, plan};
-use super::pairs::{Pair, marked, open_pair};
-use batch::Batch;
-use batch_book::{Call, Reading, Seat, Shared};
+use super::office::{Ask, PUSH, Pair, Said, TWO_SETTINGS, answer, marked, open_pair, plant};
+use batch_book::{Reading, Seat, Shared};
 use crossbar::ConfigPort;
 use module_memory::Rack;
 use peek_poke::{PlainWire, Wire, WireFault, WireMaker};
-use schedule_certificate::{Gate, Planned};
+use schedule_certificate::{Gate, OpenGate};
 use std::marker::Brand;
 use std::sync::Wait;
 use std::sync::atomic::{AtomicBool, Ordering};
@@ -20,12 +18,13 @@ use std::thread::{Threads, join, yield_now};
 /// How long a thread waits for the other.
 const TURNS: usize = 10_000_000;
 
-/// A run of a batch, of which this transfer waits until the other thread has read this.
+/// A run of a batch, of which this transfer waits until the other thread has read this, and what is read behind the run.
 #[derive(Clone, Copy)]
 struct Watched {
     text: &'static str,
     transfer: usize,
     awaited: Reading,
+    last: Reading,
 }
 
 /// Whether that was read, and whether somebody gave up waiting.
@@ -125,37 +124,30 @@ fn look<L: Ledger, P, W, G>(
     hold.gave_up.store(true, Ordering::SeqCst);
 }
 
-/// Runs one batch, and says what was answered, and then read.
-fn run_one<L: Ledger, P: ConfigPort, W: WireMaker + Sync, G: Gate + Sync, R: Threads + Wait + Sync>(
-    rt: &R,
-    shared: &Shared<L, P, W, G>,
-    seat: Seat<L>,
-    batch: Batch,
-    planned: Planned,
-) -> (Said, Reading)
+/// Runs the batch of a text, and says whether it came to its end, and what is read then.
+fn run_one<
+    L: Ledger,
+    P: ConfigPort,
+    W: WireMaker + Sync,
+    G: Gate + Sync,
+    R: AllocGlobal + Threads + Wait + Sync,
+>(rt: &R, shared: &Shared<L, P, W, G>, seat: Seat<L>, text: &'static str) -> (bool, Reading)
     requires { seat.exchange ≡ Some shared.now.word }
 {
     let mut seat = seat;
-    let _submitted = shared.call(rt, &mut seat, Call::Submit(batch));
-    let _settled = shared.call(rt, &mut seat, Call::Settle(1, planned));
-    let ran = shared.call(rt, &mut seat, Call::Run(1));
-    let said = Said::of(&ran);
-    (said, shared.progress(&mut seat))
+    answer(rt, shared, &mut seat, Ask::Submit(text));
+    answer(rt, shared, &mut seat, Ask::Settle(1, text));
+    let said = answer(rt, shared, &mut seat, Ask::Run(1));
+    let read = shared.progress(&mut seat);
+    (matches!(said, Said::Ran(1, _, _)), read)
 }
 
 /// Runs a batch in one thread while another reads.
 fn run_and_look<
     L: Ledger + Send + Sync,
     W: WireMaker + Send + Sync + Drop,
-    R: Threads + Wait + Sync,
->(
-    rt: &R,
-    pair: Pair<L, W>,
-    batch: Batch,
-    planned: Planned,
-    hold: &Hold,
-    awaited: Reading,
-) -> (Said, Reading) {
+    R: AllocGlobal + Threads + Wait + Sync,
+>(rt: &R, pair: Pair<L, W, OpenGate>, hold: &Hold, run: Watched) -> (bool, Reading) {
     let Pair {
         shared,
         first,
@@ -164,47 +156,45 @@ fn run_and_look<
     let lent = &shared;
     let (ran, _) = join(
         rt,
-        move || -> (Said, Reading)
+        move || -> (bool, Reading)
             requires { first.exchange ≡ Some lent.now.word }
-        { run_one(rt, lent, first, batch, planned) },
+        { run_one(rt, lent, first, run.text) },
         move ||
             requires { second.exchange ≡ Some lent.now.word }
-        { look(lent, second, hold, awaited) },
+        { look(lent, second, hold, run.awaited) },
     );
     ran
 }
 
-/// Runs it on this rack.
-fn held<L: Ledger + Send + Sync, R: AllocGlobal + Threads + Wait + Sync>(
+/// Whether a run on this rack, of which a transfer waits for a reading, comes to its end, and is read then.
+fn is_read<L: Ledger + Send + Sync, R: AllocGlobal + Threads + Wait + Sync>(
     rt: &R,
     blank: Blank,
     rack: Rack,
-    hold: &Hold,
     run: Watched,
-) -> Option<(Said, Reading)>
+) -> bool
     requires name { blank.name ≡ L.name }
     requires parts { (blank.parts ≡ L.parts) × (blank.parts ≡ ALL_PARTS) }
 {
-    let batch = batch(rt.alloc(), run.text)?;
-    let planned = plan(rt, run.text)?;
+    let hold = Hold::new();
     let lines = HeldLines {
-        hold,
+        hold: &hold,
         transfer: run.transfer,
     };
-    let pair = open_pair::<L, HeldLines>(rt.alloc(), blank, rack, lines)?;
-    Some(run_and_look(rt, pair, batch, planned, hold, run.awaited))
+    let opened = open_pair::<L, HeldLines, OpenGate>(rt.alloc(), blank, rack, plant(lines));
+    let Some(pair) = opened else {
+        return false;
+    };
+    let (has_run, read) = run_and_look(rt, pair, &hold, run);
+    has_run && read == run.last && hold.is_kept()
 }
 
-/// What the run on a marked rack of this shape was answered, and then read, where nobody gave up waiting.
-fn held_of<R: AllocGlobal + Threads + Wait + Sync>(
-    rt: &R,
-    shape: &str,
-    run: Watched,
-) -> Option<(Said, Reading)> {
-    let rack = marked(rt.alloc(), shape)?;
-    let hold = Hold::new();
-    let answered = held::<Brand, R>(rt, Blank::new(16), rack, &hold, run);
-    if hold.is_kept() { answered } else { None }
+/// The same on a marked rack of three modules.
+fn is_read_of<R: AllocGlobal + Threads + Wait + Sync>(rt: &R, run: Watched) -> bool {
+    match marked(rt.alloc(), "3x1x1") {
+        Some(rack) => is_read::<Brand, R>(rt, Blank::new(16), rack, run),
+        None => false,
+    }
 }
 
 #[test]
@@ -213,9 +203,9 @@ fn progress_waits_for_no_run(rt: HostRuntime) {
         text: PUSH,
         transfer: 0,
         awaited: Reading { run: 1, done: 0 },
+        last: Reading { run: 1, done: 1 },
     };
-    let want = (Said::Ran(1, 1, 1), Reading { run: 1, done: 1 });
-    assert_eq!(rt; held_of(&rt, "2x1x1", run), Some(want));
+    assert!(rt; is_read_of(&rt, run));
 }
 
 #[test]
@@ -224,7 +214,7 @@ fn progress_is_seen_between_two_settings(rt: HostRuntime) {
         text: TWO_SETTINGS,
         transfer: 1,
         awaited: Reading { run: 1, done: 1 },
+        last: Reading { run: 1, done: 2 },
     };
-    let want = (Said::Ran(1, 2, 2), Reading { run: 1, done: 2 });
-    assert_eq!(rt; held_of(&rt, "3x1x1", run), Some(want));
+    assert!(rt; is_read_of(&rt, run));
 }

@@ -3,6 +3,3 @@ use Rattle.book_tests.proofs.tests.days.session.Given as goal
 
 abbrev pub invariant-loop : goal.invariant-loop
 invariant-loop g l = l.seat.exchange ≡ l.fn.seat.exchange
-
-abbrev pub invariant-loop-2 : goal.invariant-loop-2
-invariant-loop-2 g l = l.seat.exchange ≡ l.fn.seat.exchange
