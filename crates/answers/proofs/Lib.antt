@@ -7,3 +7,4 @@ pub mod Sessions
 pub mod OneDrawing
 pub mod Switches
 pub mod Openings
+pub mod DirectedThenPlanned

@@ -12,6 +12,7 @@ mod checking_fault;
 mod directing;
 mod drawing;
 mod frames;
+pub mod laws;
 mod limits;
 mod opening;
 mod planning;
