@@ -33,11 +33,15 @@ bytes_again (suc k) xs e h =
 
 -- ---- blocks that are read
 
+-- the words of all blocks have four bytes
+abbrev pub AreSmall : List (List ℕ) → Type 0
+AreSmall blocks = (k j : ℕ) → get_or (get_or blocks k []) j 0 < 2 ^ 32
+
 -- so many blocks, of so many words each
 pub record AreRead (width n : ℕ) (blocks : List (List ℕ)) : Type 0 where
   pub count : length blocks ≡ n
   pub long : (k : ℕ) → k < length blocks → length (get_or blocks k []) ≡ width
-  pub words : (k j : ℕ) → get_or (get_or blocks k []) j 0 < 2 ^ 32
+  pub words : AreSmall blocks
 
 long_more : (width : ℕ) (blocks : List (List ℕ)) (b : List ℕ) → length b ≡ width → ((k : ℕ) → k < length blocks → length (get_or blocks k []) ≡ width) → (k : ℕ) → k < length (blocks ++ b ∷ []) → length (get_or (blocks ++ b ∷ []) k []) ≡ width
 long_more width [] b e h zero l = e
@@ -45,7 +49,7 @@ long_more width [] b e h (suc k) l = absurd (omega arith)
 long_more width (x ∷ xs) b e h zero l = h 0 (omega arith)
 long_more width (x ∷ xs) b e h (suc k) l = long_more width xs b e (λ (i : ℕ) m. h (suc i) (omega arith)) k (omega arith)
 
-words_more : (blocks : List (List ℕ)) (b : List ℕ) → ((j : ℕ) → get_or b j 0 < 2 ^ 32) → ((k j : ℕ) → get_or (get_or blocks k []) j 0 < 2 ^ 32) → (k j : ℕ) → get_or (get_or (blocks ++ b ∷ []) k []) j 0 < 2 ^ 32
+pub words_more : (blocks : List (List ℕ)) (b : List ℕ) → ((j : ℕ) → get_or b j 0 < 2 ^ 32) → AreSmall blocks → AreSmall (blocks ++ b ∷ [])
 words_more [] b e h zero j = e j
 words_more [] b e h (suc k) j = omega arith
 words_more (x ∷ xs) b e h zero j = h 0 j

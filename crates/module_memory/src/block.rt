@@ -62,7 +62,9 @@ impl Block {
 
     /// Writes the bytes of its words behind these, of each word the least significant first.
     pub fn write_bytes(&self, bytes: &mut Vec<u8>) -> Result<(), AllocError>
-        ensures { IfOk result (λ _. bytes.new.items ≡ bytes.old.items ++ bytes_of_block self.now) }
+        ensures bytes { IfOk result
+            (λ _. bytes.new.items ≡ bytes.old.items ++ bytes_of_block self.now) }
+        ensures words { IfOk result (λ _. (j : ℕ) → slice_index self.now j < 2 ^ 32) }
     {
         for word in &self.words {
             bytes.extend_from_slice(&word.to_le_bytes())?;

@@ -54,10 +54,11 @@ impl Rack {
         Ok(Rack::of(shape, blocks))
     }
 
-    /// The image of the rack, from which an equal rack can be made. Takes memory for the image, and time that grows with the
+    /// The image of the rack: a rack of the same shape that is made of it is equal. Takes memory for the image, and time that grows with the
     /// number of bytes.
     pub fn image(&self) -> Result<Vec<u8>, AllocError>
-        ensures { IfOk result (λ bytes. bytes.items ≡ image_of self.now) }
+        ensures image { IfOk result (λ bytes. bytes.items ≡ image_of self.now) }
+        ensures again { IfOk result (λ bytes. HasImage self.now.shape bytes.items self.now) }
     {
         let mut bytes = Vec::with_capacity(self.allocator(), image_length_of(self.shape()))?;
         for block in self.blocks() {
