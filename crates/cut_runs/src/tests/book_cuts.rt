@@ -1,11 +1,9 @@
 //! The same cuts behind a book: what it replies, what it holds then, and what its history has of it.
 
-use super::cuts::{
-    End, PORT_BYTES, SETTING_BYTES, WIRE_BYTES, moved_rack, port_end, wire_end, with_fuse,
-};
+use super::cuts::{End, PORT_BYTES, SETTING_BYTES, WIRE_BYTES, port_end, wire_end, with_fuse};
 use super::lies::{LyingPort, answer_end};
 use super::rows::{
-    TWO_PUSHES, TWO_PUSHES_SHAPE, Told, are_same, batch, marked, plain, plan, two, with_port,
+    TWO_PUSHES, TWO_PUSHES_RACK, Told, batch, is_moved, marked, plain, plan, two, with_port,
 };
 use batch_book::{BatchState, Book, Call, Entry, Refusal, Reply};
 use crossbar::{Chip, ConfigPort, FusePort};
@@ -13,6 +11,7 @@ use exchange_limits::WorkerCount;
 use peek_poke::WireMaker;
 use schedule_certificate::OpenGate;
 use setting_runner::{Plant, StopCause};
+use std::alloc::Global;
 use std::thread::Threads;
 
 /// Whether the reply tells that the first run went to its end.
@@ -73,13 +72,25 @@ fn ask<R: Threads + Sync>(rt: &R, book: &mut Book, call: Call) -> Reply {
     )
 }
 
-/// A book of a marked rack, in which the row is batch 1 and has its plan.
-fn settled<R: AllocGlobal + Threads + Sync>(rt: &R) -> Option<Book> {
-    let rack = marked(rt.alloc(), TWO_PUSHES_SHAPE)?;
-    let mut book = Book::new(rt.alloc(), rack).ok()?;
-    ask(rt, &mut book, Call::Submit(batch(rt.alloc(), TWO_PUSHES)?));
-    ask(rt, &mut book, Call::Settle(1, plan(rt, TWO_PUSHES)?));
-    Some(book)
+/// A book of a marked rack.
+fn opened(alloc: Global) -> Option<Book> {
+    let rack = marked(alloc, TWO_PUSHES_RACK)?;
+    Book::new(alloc, rack).ok()
+}
+
+/// The calls by which the row is batch 1 and has its plan.
+fn calls<R: AllocGlobal + Threads + Sync>(rt: &R) -> Option<(Call, Call)> {
+    let batch = batch(rt.alloc(), TWO_PUSHES)?;
+    let planned = plan(rt, TWO_PUSHES)?;
+    Some((Call::Submit(batch), Call::Settle(1, planned)))
+}
+
+/// Makes these calls.
+fn settle<R: AllocGlobal + Threads + Sync>(rt: &R, book: &mut Book) {
+    if let Some((submit, settle)) = calls(rt) {
+        ask(rt, book, submit);
+        ask(rt, book, settle);
+    }
 }
 
 /// Whether the third entry is that of a run by session 0, and its reply tells this end.
@@ -94,14 +105,9 @@ fn is_entry(history: &[Entry], end: End) -> bool {
 }
 
 /// Whether the book has the words that a run leaves which ends so, and those that it was opened with.
-fn has_words<R: AllocGlobal>(rt: &R, book: &Book, end: End) -> bool {
-    let (Some(wanted), Some(before)) = (
-        moved_rack(rt.alloc(), TWO_PUSHES_SHAPE, end.words()),
-        marked(rt.alloc(), TWO_PUSHES_SHAPE),
-    ) else {
-        return false;
-    };
-    are_same(book.rack(), &wanted) && are_same(book.opening(), &before)
+fn has_words(book: &Book, end: End) -> bool {
+    is_moved(book.rack(), TWO_PUSHES_RACK, end.words())
+        && is_moved(book.opening(), TWO_PUSHES_RACK, [0, 0])
 }
 
 /// Whether the batch has come so far, and can't be run again.
@@ -117,22 +123,33 @@ fn is_done<R: Threads + Sync>(rt: &R, book: &mut Book, end: End) -> bool {
         )
 }
 
+/// Whether a book of a marked rack runs the row to this end, once it has its plan, and is then as it should be.
+fn ends_so<R: AllocGlobal + Threads + Sync, P: ConfigPort, W: WireMaker + Sync>(
+    rt: &R,
+    book: &mut Book,
+    plant: &mut Plant<P, W, OpenGate>,
+    end: End,
+) -> bool {
+    settle(rt, book);
+    let mut told = Told::nothing();
+    let is_told = is_told_by(end, &book.apply(rt, 0, Call::Run(1), plant, &mut told));
+    is_told
+        && told == end.told()
+        && is_entry(book.history(), end)
+        && has_words(book, end)
+        && is_done(rt, book, end)
+}
+
 /// Whether a book runs the row to this end, with this plant, and is then as it should be.
 fn runs_to<R: AllocGlobal + Threads + Sync, P: ConfigPort, W: WireMaker + Sync>(
     rt: &R,
     plant: &mut Plant<P, W, OpenGate>,
     end: End,
 ) -> bool {
-    let Some(mut book) = settled(rt) else {
-        return false;
-    };
-    let mut told = Told::nothing();
-    let reply = book.apply(rt, 0, Call::Run(1), plant, &mut told);
-    is_told_by(end, &reply)
-        && told == end.told()
-        && is_entry(book.history(), end)
-        && has_words(rt, &book, end)
-        && is_done(rt, &mut book, end)
+    match opened(rt.alloc()) {
+        Some(mut book) => ends_so(rt, &mut book, plant, end),
+        None => false,
+    }
 }
 
 /// Whether a book runs the row rightly with a port that takes so many bytes.
@@ -154,7 +171,7 @@ fn first_wrong_port<R: AllocGlobal + Threads + Sync>(rt: &R) -> Option<usize> {
 
 #[test]
 fn each_byte_of_a_port_behind_a_book(rt: HostRuntime) {
-    assert_eq!(rt; first_wrong_port(&rt), None);
+    assert!(rt; first_wrong_port(&rt).is_none());
 }
 
 /// How many bytes the wire of a transfer carries where a book first runs the row wrongly, by so many workers.
@@ -174,10 +191,10 @@ fn first_wrong_wire<R: AllocGlobal + Threads + Sync>(
 
 #[test]
 fn each_byte_of_a_wire_behind_a_book(rt: HostRuntime) {
-    assert_eq!(rt; first_wrong_wire(&rt, 0, WorkerCount::ONE), None);
-    assert_eq!(rt; first_wrong_wire(&rt, 0, two()), None);
-    assert_eq!(rt; first_wrong_wire(&rt, 1, WorkerCount::ONE), None);
-    assert_eq!(rt; first_wrong_wire(&rt, 1, two()), None);
+    for transfer in 0..2 {
+        assert!(rt; first_wrong_wire(&rt, transfer, WorkerCount::ONE).is_none());
+        assert!(rt; first_wrong_wire(&rt, transfer, two()).is_none());
+    }
 }
 
 /// The first output for which a book runs the row wrongly where the output answers this byte.
@@ -204,5 +221,5 @@ fn first_wrong_answer<R: AllocGlobal + Threads + Sync>(rt: &R, replies: &[u8]) -
 #[test]
 fn answers_behind_a_book(rt: HostRuntime) {
     let replies = [0x00, 0x1f, 0x7f, 0x80, 0x81, 0x91, 0x92, 0xa1, 0xff];
-    assert_eq!(rt; first_wrong_answer(&rt, &replies), None);
+    assert!(rt; first_wrong_answer(&rt, &replies).is_none());
 }

@@ -1,15 +1,13 @@
 //! Runs of row two-pushes whose port or wire is cut at each of its bytes.
 
 use super::rows::{
-    TWO_PUSHES, TWO_PUSHES_SHAPE, Told, are_same, marked, marked_but, plain, plan, two, with_port,
+    Size, TWO_PUSHES, TWO_PUSHES_RACK, Told, is_moved, marked, plain, plan, two, with_port,
 };
 use crossbar::{Chip, ConfigPort, FusePort, MemoryPort};
 use exchange_limits::{MAX_WORKERS, WorkerCount};
-use module_memory::Rack;
 use peek_poke::{FuseWires, WireMaker};
 use schedule_certificate::{OpenGate, Planned};
 use setting_runner::{Outcome, Plant, StopCause, run};
-use std::alloc::Global;
 use std::thread::Threads;
 
 /// How many bytes the row sends to its port: 8 set the switch, and 64 ask it.
@@ -23,30 +21,6 @@ pub const WIRE_BYTES: usize = 18;
 
 /// How many bytes go over a wire for a word.
 const BYTES_OF_A_WORD: usize = 9;
-
-/// The first words of those that transfer 0 moves.
-fn words_of_0(moved: usize) -> &'static [u32] {
-    match moved {
-        0 => &[],
-        1 => &[0],
-        _ => &[0, 1],
-    }
-}
-
-/// The first words of those that transfer 1 moves.
-fn words_of_1(moved: usize) -> &'static [u32] {
-    match moved {
-        0 => &[],
-        1 => &[0x0001_0100],
-        _ => &[0x0001_0100, 0x0001_0101],
-    }
-}
-
-/// The rack of the row on a shape, where its transfers have moved so many words.
-pub fn moved_rack(alloc: Global, shape: &str, moved: [usize; 2]) -> Option<Rack> {
-    let [zero, one] = moved;
-    marked_but(alloc, shape, words_of_0(zero), words_of_1(one))
-}
 
 /// How a run of the row is expected to end.
 #[derive(Clone, Copy)]
@@ -107,24 +81,21 @@ fn is_stop(outcome: &Outcome, wanted: StopCause, words: [usize; 2]) -> bool {
     }
 }
 
-/// Whether the row, run on a marked rack of this shape, comes to this end: its outcome, what its notice is told, and the words of
+/// Whether the row, run on a marked rack, comes to this end: its outcome, what its notice is told, and the words of
 /// the rack.
 pub fn runs_to<R: AllocGlobal + Threads + Sync, P: ConfigPort, W: WireMaker + Sync>(
     rt: &R,
-    shape: &str,
+    size: Size,
     planned: &Planned,
     plant: &mut Plant<P, W, OpenGate>,
     end: End,
 ) -> bool {
-    let Some(rack) = marked(rt.alloc(), shape) else {
+    let Some(rack) = marked(rt.alloc(), size) else {
         return false;
     };
     let mut told = Told::nothing();
     let (rack, outcome) = run(rt, rt.alloc(), rack, plant, planned, &mut told);
-    let Some(wanted) = moved_rack(rt.alloc(), shape, end.words()) else {
-        return false;
-    };
-    end.is_of(&outcome) && told == end.told() && are_same(&rack, &wanted)
+    told == end.told() && end.is_of(&outcome) && is_moved(&rack, size, end.words())
 }
 
 /// How the row ends where its port takes so many bytes: before a word has moved, or, where it takes all, at its end.
@@ -144,7 +115,7 @@ fn is_right_port<R: AllocGlobal + Threads + Sync>(
     workers: WorkerCount,
 ) -> bool {
     let mut plant = with_port(FusePort::new(bytes), workers);
-    let is_right = runs_to(rt, TWO_PUSHES_SHAPE, planned, &mut plant, port_end(bytes));
+    let is_right = runs_to(rt, TWO_PUSHES_RACK, planned, &mut plant, port_end(bytes));
     let switch = plant.port.crossbar(Chip::A);
     let is_set = switch.joined(0, 1) && switch.joined(1, 2);
     is_right && is_set == (bytes >= SETTING_BYTES)
@@ -153,23 +124,15 @@ fn is_right_port<R: AllocGlobal + Threads + Sync>(
 /// How many bytes a port takes where the row first ends as it shouldn't, by so many workers.
 fn first_wrong_port<R: AllocGlobal + Threads + Sync>(
     rt: &R,
+    planned: &Planned,
     workers: WorkerCount,
 ) -> Option<usize> {
-    let Some(planned) = plan(rt, TWO_PUSHES) else {
-        return Some(0);
-    };
     for bytes in 0..PORT_BYTES + 2 {
-        if !is_right_port(rt, &planned, bytes, workers) {
+        if !is_right_port(rt, planned, bytes, workers) {
             return Some(bytes);
         }
     }
     None
-}
-
-#[test]
-fn each_byte_of_a_port(rt: HostRuntime) {
-    assert_eq!(rt; first_wrong_port(&rt, WorkerCount::ONE), None);
-    assert_eq!(rt; first_wrong_port(&rt, two()), None);
 }
 
 /// A plant whose wire of a transfer carries so many bytes.
@@ -204,46 +167,71 @@ pub fn wire_end(transfer: usize, bytes: usize) -> End {
 /// How many bytes the wire of a transfer carries where the row first ends as it shouldn't, by so many workers.
 fn first_wrong_wire<R: AllocGlobal + Threads + Sync>(
     rt: &R,
+    planned: &Planned,
     transfer: usize,
     workers: WorkerCount,
 ) -> Option<usize> {
-    let Some(planned) = plan(rt, TWO_PUSHES) else {
-        return Some(0);
-    };
     for bytes in 0..WIRE_BYTES + 2 {
         let mut plant = with_fuse(transfer, bytes, workers);
         let end = wire_end(transfer, bytes);
-        if !runs_to(rt, TWO_PUSHES_SHAPE, &planned, &mut plant, end) {
+        if !runs_to(rt, TWO_PUSHES_RACK, planned, &mut plant, end) {
             return Some(bytes);
         }
     }
     None
 }
 
-#[test]
-fn each_byte_of_a_wire(rt: HostRuntime) {
-    assert_eq!(rt; first_wrong_wire(&rt, 0, WorkerCount::ONE), None);
-    assert_eq!(rt; first_wrong_wire(&rt, 0, two()), None);
-    assert_eq!(rt; first_wrong_wire(&rt, 1, WorkerCount::ONE), None);
-    assert_eq!(rt; first_wrong_wire(&rt, 1, two()), None);
-}
-
 /// The first number of workers by which the row doesn't go to its end, over a port and wires that never fail.
-fn first_stopped<R: AllocGlobal + Threads + Sync>(rt: &R) -> Option<usize> {
-    let Some(planned) = plan(rt, TWO_PUSHES) else {
-        return Some(0);
-    };
+fn first_stopped<R: AllocGlobal + Threads + Sync>(rt: &R, planned: &Planned) -> Option<usize> {
     for number in 1..MAX_WORKERS + 1 {
         let mut plant = plain(WorkerCount::new(number).unwrap());
-        if !runs_to(rt, TWO_PUSHES_SHAPE, &planned, &mut plant, End::Complete) {
+        if !runs_to(rt, TWO_PUSHES_RACK, planned, &mut plant, End::Complete) {
             return Some(number);
         }
     }
     None
 }
 
+/// What is cut in runs of the row.
+#[derive(Clone, Copy)]
+enum Cut {
+    /// Nothing, for each number of workers.
+    Nothing,
+    /// The port, for so many workers.
+    Port(WorkerCount),
+    /// The wire of a transfer, for so many workers.
+    Wire(usize, WorkerCount),
+}
+
+/// Whether the row ends as it should, whatever is cut.
+fn is_right<R: AllocGlobal + Threads + Sync>(rt: &R, cut: Cut) -> bool {
+    let Some(planned) = plan(rt, TWO_PUSHES) else {
+        return false;
+    };
+    let wrong = match cut {
+        Cut::Nothing => first_stopped(rt, &planned),
+        Cut::Port(workers) => first_wrong_port(rt, &planned, workers),
+        Cut::Wire(transfer, workers) => first_wrong_wire(rt, &planned, transfer, workers),
+    };
+    wrong.is_none()
+}
+
+#[test]
+fn each_byte_of_a_port(rt: HostRuntime) {
+    assert!(rt; is_right(&rt, Cut::Port(WorkerCount::ONE)));
+    assert!(rt; is_right(&rt, Cut::Port(two())));
+}
+
+#[test]
+fn each_byte_of_a_wire(rt: HostRuntime) {
+    for transfer in 0..2 {
+        assert!(rt; is_right(&rt, Cut::Wire(transfer, WorkerCount::ONE)));
+        assert!(rt; is_right(&rt, Cut::Wire(transfer, two())));
+    }
+}
+
 /// Runs without a port or a wire that fails go to their end for each number of workers.
 #[test]
 fn no_cut(rt: HostRuntime) {
-    assert_eq!(rt; first_stopped(&rt), None);
+    assert!(rt; is_right(&rt, Cut::Nothing));
 }

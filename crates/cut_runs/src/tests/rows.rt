@@ -2,7 +2,7 @@
 
 ghost use Rattle.std.specs.Prelude.{◌≡◌};
 
-use batch::{Batch, Place, Shape};
+use batch::{Batch, Shape};
 use crossbar::{ConfigPort, MemoryPort};
 use exchange_limits::WorkerCount;
 use module_memory::Rack;
@@ -14,14 +14,29 @@ use std::io;
 use std::io::Write;
 use std::thread::Threads;
 
-/// Row two-pushes, for the shape [`TWO_PUSHES_SHAPE`].
+/// Row two-pushes, for the rack [`TWO_PUSHES_RACK`].
 pub const TWO_PUSHES: &str = "batch 2\npush 0 0 1 0\npush 1 1 2 0\n";
 
-/// The shape on which row two-pushes is run.
-pub const TWO_PUSHES_SHAPE: &str = "3x2x2";
+/// A rack of blocks of two words, two a module: the text of its shape, and how many modules it has.
+#[derive(Clone, Copy)]
+pub struct Size {
+    pub shape: &'static str,
+    pub modules: usize,
+}
 
-/// The address of the first word of block 0.
-pub const FIRST: u32 = 0x8000_0800;
+/// The rack on which row two-pushes is run.
+pub const TWO_PUSHES_RACK: Size = Size {
+    shape: "3x2x2",
+    modules: 3,
+};
+
+/// The addresses of a module's words, and by how much more a word there tells in a marked rack than the module's first.
+const PLACES: [(u32, u32); 4] = [
+    (0x8000_0800, 0),
+    (0x8000_0804, 1),
+    (0x8000_0808, 0x100),
+    (0x8000_080c, 0x101),
+];
 
 /// The batch of a text.
 pub fn batch(alloc: Global, text: &str) -> Option<Batch> {
@@ -34,58 +49,49 @@ pub fn plan<R: AllocGlobal + Threads + Sync>(rt: &R, text: &str) -> Option<Plann
     schedule(rt, rt.alloc(), batch, WorkerCount::ONE, &OpenGate).ok()
 }
 
-/// A rack of the shape of a text, each of whose words tells where it stands.
-pub fn marked(alloc: Global, shape: &str) -> Option<Rack> {
-    let shape = Shape::read(shape.as_bytes()).ok()?;
+/// A marked rack.
+pub fn marked(alloc: Global, size: Size) -> Option<Rack> {
+    let shape = Shape::read(size.shape.as_bytes()).ok()?;
     let mut rack = Rack::new(alloc, shape).ok()?;
     rack.mark();
     Some(rack)
 }
 
-/// Whether a module of two racks has the same words.
-fn has_same_words(one: &Rack, other: &Rack, module: usize) -> bool {
-    for block in 0..one.shape().blocks() {
-        let place = Place { module, block };
-        if one.block(place) != other.block(place) {
+/// The word at a place of a module, counted from 0, where the transfers of the row have moved so many words.
+fn word_at(module: usize, place: usize, low: u32, moved: [usize; 2]) -> u32 {
+    let [zero, one] = moved;
+    match (module, place) {
+        (1, 0) if zero > 0 => 0,
+        (1, 1) if zero > 1 => 1,
+        (2, 0) if one > 0 => 0x0001_0100,
+        (2, 1) if one > 1 => 0x0001_0101,
+        _ => low.wrapping_add((module % 32) as u32 * 0x1_0000),
+    }
+}
+
+/// Whether a module has the words that it has then.
+fn is_module_moved(rack: &Rack, module: usize, moved: [usize; 2]) -> bool {
+    for (place, (address, low)) in PLACES.iter().enumerate() {
+        let wanted = word_at(module, place, *low, moved);
+        if !matches!(rack.read(module, *address), Ok(word) if word == wanted) {
             return false;
         }
     }
     true
 }
 
-/// Whether two racks have the same shape and the same words.
-pub fn are_same(one: &Rack, other: &Rack) -> bool {
-    if one.shape() != other.shape() {
+/// Whether a rack is the one that was marked, but for the words that the transfers of the row have moved.
+pub fn is_moved(rack: &Rack, size: Size, moved: [usize; 2]) -> bool {
+    let shape = rack.shape();
+    if shape.modules() != size.modules || shape.blocks() != 2 || shape.words() != 2 {
         return false;
     }
-    for module in 0..one.shape().modules() {
-        if !has_same_words(one, other, module) {
+    for module in 0..size.modules {
+        if !is_module_moved(rack, module, moved) {
             return false;
         }
     }
     true
-}
-
-/// Writes words from the first word of block 0 of a module on. Whether they are within its window.
-fn write(rack: &mut Rack, module: usize, words: &[u32]) -> bool {
-    let mut address = FIRST;
-    for word in words {
-        if rack.write(module, address, *word).is_err() {
-            return false;
-        }
-        address = address.wrapping_add(4);
-    }
-    true
-}
-
-/// A marked rack with other words from the first word of block 0 of modules 1 and 2 on.
-pub fn marked_but(alloc: Global, shape: &str, one: &[u32], two: &[u32]) -> Option<Rack> {
-    let mut rack = marked(alloc, shape)?;
-    if write(&mut rack, 1, one) && write(&mut rack, 2, two) {
-        Some(rack)
-    } else {
-        None
-    }
 }
 
 /// A notice that keeps how often it was told, and how many settings it was told last.
@@ -151,8 +157,28 @@ impl Kept {
     }
 
     /// What it has kept.
-    pub fn as_slice(&self) -> &[u8] {
+    fn as_slice(&self) -> &[u8] {
         self.bytes.get(..self.count).unwrap_or(&[])
+    }
+
+    /// Whether two have kept the same.
+    pub fn is_same(&self, other: &Kept) -> bool {
+        self.as_slice() == other.as_slice()
+    }
+
+    /// Keeps a text, as far as there is room.
+    pub fn put(&mut self, text: &[u8]) {
+        for byte in text {
+            self.keep(*byte);
+        }
+    }
+
+    /// Keeps a number below 100, in digits.
+    pub fn put_number(&mut self, number: usize) {
+        if number >= 10 {
+            self.keep(b'0' + (number / 10 % 10) as u8);
+        }
+        self.keep(b'0' + (number % 10) as u8);
     }
 
     /// Keeps a byte, if there is room.
@@ -167,9 +193,7 @@ impl Kept {
 impl Write for Kept {
     fn write(&mut self, buf: &[u8]) -> io::Result<usize> {
         let taken = buf.len().min(ROOM.saturating_sub(self.count));
-        for i in 0..taken {
-            self.keep(buf[i]);
-        }
+        self.put(&buf[..taken]);
         Ok(taken)
     }
 

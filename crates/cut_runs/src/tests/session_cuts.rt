@@ -1,20 +1,20 @@
 //! The same cuts in a session: what it is told, its seat's list, the history and the words.
 
-ghost use Rattle.std.specs.Prelude.{◌≡◌, IfSome, Some};
+ghost use Rattle.std.specs.Prelude.{◌≡◌, Some};
 ghost use Rattle.progress_word.specs.declared.limits.TheConstants.{ALL_PARTS};
 ghost use Rattle.client_session.specs.Sessions.{seat_back};
 
-use super::cuts::{End, PORT_BYTES, WIRE_BYTES, moved_rack, port_end, wire_end, with_fuse};
+use super::cuts::{End, PORT_BYTES, WIRE_BYTES, port_end, wire_end, with_fuse};
 use super::lies::{LyingPort, answer_end};
-use super::rows::{FIRST, Kept, TWO_PUSHES_SHAPE, are_same, marked, two, with_port};
+use super::rows::{Kept, TWO_PUSHES_RACK, is_moved, marked, two, with_port};
 use batch_book::{Closed, Seat, Shared};
 use client_session::{ServeFault, serve};
 use crossbar::{ConfigPort, FusePort};
 use exchange_limits::WorkerCount;
+use module_memory::Rack;
 use peek_poke::WireMaker;
 use schedule_certificate::OpenGate;
 use setting_runner::{Plant, StopCause};
-use std::alloc::{AllocError, Global};
 use std::marker::Brand;
 use std::sync::Wait;
 use std::sync::ledger::{Blank, Ledger};
@@ -40,173 +40,153 @@ bye
 /// How many calls of the book that makes: `plan` makes two.
 const CALLS: usize = 10;
 
-/// An exchange with one seat.
-#[derive(Drop)]
-struct Alone<L: Ledger, P: Drop, W: Drop> {
-    exchange: Shared<L, P, W, OpenGate>,
-    seat: Seat<L>,
-    ghost of_seat: { seat.exchange ≡ Some exchange.word },
-}
-
-/// An exchange with one seat, on a marked rack.
-fn open<L: Ledger, P: Drop, W: Drop>(
-    alloc: Global,
-    blank: Blank,
-    plant: Plant<P, W, OpenGate>,
-) -> Option<Alone<L, P, W>>
-    requires name { blank.name ≡ L.name }
-    requires parts { (blank.parts ≡ L.parts) × (blank.parts ≡ ALL_PARTS) }
-{
-    let rack = marked(alloc, TWO_PUSHES_SHAPE)?;
-    let made = Shared::<L, P, W, OpenGate>::new(alloc, blank, rack, plant, 1);
-    let Ok((exchange, mut seats)) = made else {
-        return None;
-    };
-    prove!(seats.len() == 1);
-    let seat = seats.remove(0);
-    Some(Alone { exchange, seat })
-}
-
-/// The seat that came back from a session that ended by itself.
-fn back<L: Ledger>(ended: Result<Seat<L>, (Seat<L>, ServeFault)>) -> Option<Seat<L>>
-    ensures { IfSome result (λ seat. seat ≡ seat_back ended) }
+/// The seat that came back from a session, and whether that ended by itself.
+fn back<L: Ledger>(ended: Result<Seat<L>, (Seat<L>, ServeFault)>) -> (Seat<L>, bool)
+    ensures { result.0 ≡ seat_back ended }
 {
     match ended {
-        Ok(seat) => Some(seat),
-        Err(_back) => None,
+        Ok(seat) => (seat, true),
+        Err((seat, _)) => (seat, false),
     }
 }
 
-impl<L: Ledger, P: ConfigPort + Drop, W: WireMaker + Sync + Drop> Alone<L, P, W> {
-    /// Serves the session to its end.
-    fn serve<R: AllocGlobal + Threads + Wait + Sync>(
-        self,
-        rt: &R,
-        told: &mut Kept,
-    ) -> Option<Alone<L, P, W>> {
-        let Alone { exchange, seat } = self;
-        let mut reader = SCRIPT.as_bytes();
-        let ended = serve(
-            rt,
-            rt.alloc(),
-            &exchange,
-            seat,
-            &mut reader,
-            told,
-            WorkerCount::ONE,
-        );
-        let seat = back(ended)?;
-        Some(Alone { exchange, seat })
-    }
-
-    /// Closes the exchange.
-    fn close(self, alloc: Global) -> Option<Closed<L, P, W, OpenGate>>
-        requires { L.parts ≡ ALL_PARTS }
-    {
-        let Alone { exchange, seat } = self;
-        let mut seats = Vec::with_capacity(alloc, 1).ok()?;
-        seats.push(seat).ok()?;
-        exchange.close(seats).ok()
-    }
-}
-
-/// What stopped a run, as a session is told it.
-fn cause_words(alloc: Global, cause: StopCause) -> Result<String, AllocError> {
+/// Puts what a session is told of a stop of its run.
+fn put_stop(told: &mut Kept, cause: StopCause, words: [usize; 2]) {
+    let [zero, one] = words;
+    told.put(b"stopped 1 run 1 setting 0 ");
     match cause {
-        StopCause::Port => String::from_str(alloc, "port"),
-        StopCause::SwitchDisagrees(output) => format!(in alloc; "switch {output}"),
-        StopCause::Wire(transfer) => format!(in alloc; "wire {transfer}"),
+        StopCause::Port => told.put(b"port"),
+        StopCause::SwitchDisagrees(output) => {
+            told.put(b"switch ");
+            told.put_number(usize::from(output));
+        }
+        StopCause::Wire(transfer) => {
+            told.put(b"wire ");
+            told.put_number(transfer);
+        }
     }
+    told.put(b" moved 0:");
+    told.put_number(zero);
+    told.put(b" 1:");
+    told.put_number(one);
+    told.put(b"\nbatch 1 transfers 2 stopped\nrefused already\nprogress run 1 done 0\n");
 }
 
-/// What a session is told of its run, and of the batch and the progress behind it.
-fn run_lines(alloc: Global, end: End) -> Result<String, AllocError> {
-    match end {
-        End::Complete => String::from_str(
-            alloc,
-            "\
+/// What a session is told of a run that comes to its end, and of the batch and the progress behind it.
+const RAN: &str = "\
 ran 1 run 1 settings 1 words 4 bits 468
 batch 1 transfers 2 ran
 refused already
 progress run 1 done 1
-",
-        ),
-        End::Stop(cause, words) => {
-            let cause = cause_words(alloc, cause)?;
-            let [zero, one] = words;
-            format!(in alloc;
-                "\
-stopped 1 run 1 setting 0 {cause} moved 0:{zero} 1:{one}
-batch 1 transfers 2 stopped
-refused already
-progress run 1 done 0
-"
-            )
-        }
+";
+
+/// The words of block 0 of module 1, where so many were moved.
+fn words_of_1(moved: usize) -> &'static str {
+    match moved {
+        0 => "word 00010000\nword 00010001\n",
+        1 => "word 00000000\nword 00010001\n",
+        _ => "word 00000000\nword 00000001\n",
     }
 }
 
-/// The words that a session peeks behind a run which ends so.
-fn word_lines(alloc: Global, end: End) -> Option<String> {
-    let rack = moved_rack(alloc, TWO_PUSHES_SHAPE, end.words())?;
-    let words = [
-        rack.read(1, FIRST).ok()?,
-        rack.read(1, FIRST + 4).ok()?,
-        rack.read(2, FIRST).ok()?,
-        rack.read(2, FIRST + 4).ok()?,
-    ];
-    let mut text = String::new(alloc);
-    for word in words {
-        write!(text, "word {word:08x}\n").ok()?;
+/// The same of module 2.
+fn words_of_2(moved: usize) -> &'static str {
+    match moved {
+        0 => "word 00020000\nword 00020001\n",
+        1 => "word 00010100\nword 00020001\n",
+        _ => "word 00010100\nword 00010101\n",
     }
-    Some(text)
 }
 
 /// All that a session is told whose run ends so.
-fn wanted(alloc: Global, end: End) -> Option<String> {
-    let run = run_lines(alloc, end).ok()?;
-    let words = word_lines(alloc, end)?;
-    format!(in alloc; "accepted 1\nplanned 1 settings 1\n{run}{words}bye\n").ok()
+fn wanted(end: End) -> Kept {
+    let mut told = Kept::new();
+    told.put(b"accepted 1\nplanned 1 settings 1\n");
+    match end {
+        End::Complete => told.put(RAN.as_bytes()),
+        End::Stop(cause, words) => put_stop(&mut told, cause, words),
+    }
+    let [zero, one] = end.words();
+    told.put(words_of_1(zero).as_bytes());
+    told.put(words_of_2(one).as_bytes());
+    told.put(b"bye\n");
+    told
+}
+
+/// Serves the session from a seat, which comes back. Whether it ends by itself, and is told what it should be where its run ends so.
+fn session<L: Ledger, R: AllocGlobal + Threads + Wait + Sync, P: ConfigPort, W: WireMaker + Sync>(
+    rt: &R,
+    exchange: &Shared<L, P, W, OpenGate>,
+    seat: Seat<L>,
+    end: End,
+) -> (Seat<L>, bool)
+    requires { seat.exchange ≡ Some exchange.now.word }
+    ensures { result.0.exchange ≡ seat.exchange }
+{
+    let mut reader = SCRIPT.as_bytes();
+    let mut told = Kept::new();
+    let (seat, has_ended) = back(serve(
+        rt,
+        rt.alloc(),
+        exchange,
+        seat,
+        &mut reader,
+        &mut told,
+        WorkerCount::ONE,
+    ));
+    (seat, has_ended && told.is_same(&wanted(end)))
 }
 
 /// Whether an exchange has just the entries of the session, the words that a run leaves which ends so, and those that it was opened
 /// with.
-fn is_left<L: Ledger, P: Drop, W: Drop>(
-    alloc: Global,
-    closed: &Closed<L, P, W, OpenGate>,
-    end: End,
-) -> bool {
-    let (Some(after), Some(before)) = (
-        moved_rack(alloc, TWO_PUSHES_SHAPE, end.words()),
-        marked(alloc, TWO_PUSHES_SHAPE),
-    ) else {
-        return false;
-    };
+fn is_left<L: Ledger, P, W>(closed: &Closed<L, P, W, OpenGate>, end: End) -> bool {
     let [seat] = closed.seats.as_slice() else {
         return false;
     };
     seat.log().len() == CALLS
         && closed.book.history().len() == CALLS
-        && are_same(closed.book.rack(), &after)
-        && are_same(closed.book.opening(), &before)
+        && is_moved(closed.book.rack(), TWO_PUSHES_RACK, end.words())
+        && is_moved(closed.book.opening(), TWO_PUSHES_RACK, [0, 0])
 }
 
-/// Whether the session is told what it should be, alone on a marked rack, where its run ends so.
+/// Whether the session is told what it should be from the one seat of an exchange, where its run ends so, and the exchange is left as it
+/// should be.
+fn is_right<
+    L: Ledger,
+    R: AllocGlobal + Threads + Wait + Sync,
+    P: ConfigPort + Drop,
+    W: WireMaker + Sync + Drop,
+>(rt: &R, exchange: Shared<L, P, W, OpenGate>, seat: Seat<L>, end: End) -> bool
+    requires seat { seat.exchange ≡ Some exchange.word }
+    requires parts { L.parts ≡ ALL_PARTS }
+{
+    let (seat, is_told) = session(rt, &exchange, seat, end);
+    let Ok(seats) = Vec::from_array(rt.alloc(), [seat]) else {
+        return false;
+    };
+    match exchange.close(seats) {
+        Ok(closed) => is_told && is_left(&closed, end),
+        Err(_) => false,
+    }
+}
+
+/// The same of a new exchange with this rack and this plant.
 fn is_served<
     L: Ledger,
     R: AllocGlobal + Threads + Wait + Sync,
     P: ConfigPort + Drop,
     W: WireMaker + Sync + Drop,
->(rt: &R, blank: Blank, plant: Plant<P, W, OpenGate>, end: End) -> Option<bool>
+>(rt: &R, blank: Blank, rack: Rack, plant: Plant<P, W, OpenGate>, end: End) -> bool
     requires name { blank.name ≡ L.name }
     requires parts { (blank.parts ≡ L.parts) × (blank.parts ≡ ALL_PARTS) }
 {
-    let alone = open::<L, P, W>(rt.alloc(), blank, plant)?;
-    let mut told = Kept::new();
-    let alone = alone.serve(rt, &mut told)?;
-    let closed = alone.close(rt.alloc())?;
-    let wanted = wanted(rt.alloc(), end)?;
-    Some(told.as_slice() == wanted.as_bytes() && is_left(rt.alloc(), &closed, end))
+    match Shared::<L, P, W, OpenGate>::new(rt.alloc(), blank, rack, plant, 1) {
+        Ok((exchange, mut seats)) => {
+            prove!(seats.len() == 1);
+            is_right(rt, exchange, seats.remove(0), end)
+        }
+        Err(_) => false,
+    }
 }
 
 /// Whether the session is told what it should be, where its run ends so.
@@ -215,7 +195,10 @@ fn runs_to<
     P: ConfigPort + Drop,
     W: WireMaker + Sync + Drop,
 >(rt: &R, plant: Plant<P, W, OpenGate>, end: End) -> bool {
-    is_served::<Brand, R, P, W>(rt, Blank::new(16), plant, end) == Some(true)
+    match marked(rt.alloc(), TWO_PUSHES_RACK) {
+        Some(rack) => is_served::<Brand, R, P, W>(rt, Blank::new(16), rack, plant, end),
+        None => false,
+    }
 }
 
 /// How many bytes a port takes where the session is first told wrongly.
@@ -234,7 +217,7 @@ fn first_wrong_port<R: AllocGlobal + Threads + Wait + Sync>(rt: &R) -> Option<us
 
 #[test]
 fn each_byte_of_a_port_in_a_session(rt: HostRuntime) {
-    assert_eq!(rt; first_wrong_port(&rt), None);
+    assert!(rt; first_wrong_port(&rt).is_none());
 }
 
 /// How many bytes the wire of a transfer carries where the session is first told wrongly, by so many workers.
@@ -254,10 +237,10 @@ fn first_wrong_wire<R: AllocGlobal + Threads + Wait + Sync>(
 
 #[test]
 fn each_byte_of_a_wire_in_a_session(rt: HostRuntime) {
-    assert_eq!(rt; first_wrong_wire(&rt, 0, WorkerCount::ONE), None);
-    assert_eq!(rt; first_wrong_wire(&rt, 0, two()), None);
-    assert_eq!(rt; first_wrong_wire(&rt, 1, WorkerCount::ONE), None);
-    assert_eq!(rt; first_wrong_wire(&rt, 1, two()), None);
+    for transfer in 0..2 {
+        assert!(rt; first_wrong_wire(&rt, transfer, WorkerCount::ONE).is_none());
+        assert!(rt; first_wrong_wire(&rt, transfer, two()).is_none());
+    }
 }
 
 /// The first output for which the session is told wrongly where the output answers this byte.
@@ -287,5 +270,5 @@ fn first_wrong_answer<R: AllocGlobal + Threads + Wait + Sync>(
 #[test]
 fn answers_in_a_session(rt: HostRuntime) {
     let replies = [0x00, 0x7f, 0x80, 0x81, 0x91, 0x92, 0xa1, 0xff];
-    assert_eq!(rt; first_wrong_answer(&rt, &replies), None);
+    assert!(rt; first_wrong_answer(&rt, &replies).is_none());
 }

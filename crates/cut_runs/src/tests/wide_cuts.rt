@@ -1,15 +1,18 @@
 //! Runs of row two-pushes on a rack with two switches, whose port is cut at each of its bytes or answers anything for either.
 
 use super::cuts::{End, runs_to};
-use super::rows::{TWO_PUSHES, plan, with_port};
+use super::rows::{Size, TWO_PUSHES, plan, with_port};
 use crossbar::{Chip, ConfigPort, FusePort, MemoryPort, PortFault, joined_wide};
 use exchange_limits::WorkerCount;
 use schedule_certificate::Planned;
 use setting_runner::StopCause;
 use std::thread::Threads;
 
-/// A shape whose rack has two switches.
-const SHAPE: &str = "17x2x2";
+/// A rack with two switches.
+const RACK: Size = Size {
+    shape: "17x2x2",
+    modules: 17,
+};
 
 /// How many bytes the row sends to its port: 8 set each switch, and 64 ask it.
 const PORT_BYTES: usize = 144;
@@ -71,28 +74,20 @@ fn is_right_port<R: AllocGlobal + Threads + Sync>(rt: &R, planned: &Planned, byt
         None
     };
     let mut plant = with_port(FusePort::new(bytes), WorkerCount::ONE);
-    let has_ended = runs_to(rt, SHAPE, planned, &mut plant, end_of(cause));
+    let has_ended = runs_to(rt, RACK, planned, &mut plant, end_of(cause));
     let (a, b) = (plant.port.crossbar(Chip::A), plant.port.crossbar(Chip::B));
     let is_set = joined_wide(a, b, 0, 1) && joined_wide(a, b, 1, 2);
     has_ended && is_set == (bytes >= SETTING_BYTES)
 }
 
 /// How many bytes a port takes where the row first ends as it shouldn't.
-fn first_wrong_port<R: AllocGlobal + Threads + Sync>(rt: &R) -> Option<usize> {
-    let Some(planned) = plan(rt, TWO_PUSHES) else {
-        return Some(0);
-    };
+fn first_wrong_port<R: AllocGlobal + Threads + Sync>(rt: &R, planned: &Planned) -> Option<usize> {
     for bytes in 0..PORT_BYTES + 2 {
-        if !is_right_port(rt, &planned, bytes) {
+        if !is_right_port(rt, planned, bytes) {
             return Some(bytes);
         }
     }
     None
-}
-
-#[test]
-fn each_byte_of_a_port_to_two_switches(rt: HostRuntime) {
-    assert_eq!(rt; first_wrong_port(&rt), None);
 }
 
 /// The input that feeds an output of a switch in the row's setting, of those that are fed.
@@ -129,43 +124,63 @@ fn first_wrong_answer<R: AllocGlobal + Threads + Sync>(
     for reply in 0..=255u8 {
         let end = end_of(cause_of(chip, output, reply));
         let mut plant = with_port(LyingPort::new(chip, output, reply), WorkerCount::ONE);
-        if !runs_to(rt, SHAPE, planned, &mut plant, end) {
+        if !runs_to(rt, RACK, planned, &mut plant, end) {
             return Some(reply);
         }
     }
     None
 }
 
-/// The first output of a switch of which an answer doesn't end the row as it should, with that answer.
-fn first_wrong_output<R: AllocGlobal + Threads + Sync>(rt: &R, chip: Chip) -> Option<(u8, u8)> {
-    let Some(planned) = plan(rt, TWO_PUSHES) else {
-        return Some((0, 0));
-    };
+/// The first output of a switch of which an answer doesn't end the row as it should.
+fn first_wrong_output<R: AllocGlobal + Threads + Sync>(
+    rt: &R,
+    planned: &Planned,
+    chip: Chip,
+) -> Option<u8> {
     for output in 0..32u8 {
-        if let Some(reply) = first_wrong_answer(rt, &planned, chip, output) {
-            return Some((output, reply));
+        if first_wrong_answer(rt, planned, chip, output).is_some() {
+            return Some(output);
         }
     }
     None
 }
 
+/// What fails or answers wrongly in runs of the row.
+#[derive(Clone, Copy)]
+enum Fault {
+    /// The port, behind each of its bytes.
+    Port,
+    /// Each output of a switch, by each byte.
+    Answers(Chip),
+}
+
+/// Whether the row ends as it should, whatever fails.
+fn is_right<R: AllocGlobal + Threads + Sync>(rt: &R, fault: Fault) -> bool {
+    let Some(planned) = plan(rt, TWO_PUSHES) else {
+        return false;
+    };
+    match fault {
+        Fault::Port => first_wrong_port(rt, &planned).is_none(),
+        Fault::Answers(chip) => first_wrong_output(rt, &planned, chip).is_none(),
+    }
+}
+
+#[test]
+fn each_byte_of_a_port_to_two_switches(rt: HostRuntime) {
+    assert!(rt; is_right(&rt, Fault::Port));
+}
+
 #[test]
 fn each_answer_of_each_output_of_two_switches(rt: HostRuntime) {
-    assert_eq!(rt; first_wrong_output(&rt, Chip::A), None);
-    assert_eq!(rt; first_wrong_output(&rt, Chip::B), None);
+    assert!(rt; is_right(&rt, Fault::Answers(Chip::A)));
+    assert!(rt; is_right(&rt, Fault::Answers(Chip::B)));
 }
 
 /// Which answers the row calls for, and how another is told.
 #[test]
 fn named_answers_of_two_switches(rt: HostRuntime) {
-    assert_eq!(rt; cause_of(Chip::A, 1, 0x80), None);
-    assert_eq!(rt; cause_of(Chip::B, 0, 0x81), None);
-    assert_eq!(rt;
-        cause_of(Chip::B, 0, 0),
-        Some(StopCause::SwitchDisagrees(32))
-    );
-    assert_eq!(rt;
-        cause_of(Chip::A, 31, 0x9f),
-        Some(StopCause::SwitchDisagrees(31))
-    );
+    assert!(rt; cause_of(Chip::A, 1, 0x80).is_none());
+    assert!(rt; cause_of(Chip::B, 0, 0x81).is_none());
+    assert!(rt; cause_of(Chip::B, 0, 0) == Some(StopCause::SwitchDisagrees(32)));
+    assert!(rt; cause_of(Chip::A, 31, 0x9f) == Some(StopCause::SwitchDisagrees(31)));
 }
