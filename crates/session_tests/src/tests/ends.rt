@@ -12,25 +12,34 @@ fn failing_at(fails_at: usize, step: usize) -> Reading {
     reading
 }
 
-/// A client whose session ends by such a reader, which hands out a byte a call.
-fn mute(says: &'static str, fails_at: usize, hears: &'static str, entries: usize) -> Script {
-    Script::of(says, hears, entries)
-        .ending(ServeFault::Read)
-        .reading(failing_at(fails_at, 1))
-}
-
 const TWO_LINES: &str = "peek 0 80000800\nhello\n";
 
 const TWO_REPLIES: &str = "word 00000000\nrefused line\n";
 
+/// A text, behind how many of its bytes the reader fails, what is heard, and how many entries there are.
+const MUTE: [(&str, usize, &str, usize); 6] = [
+    ("", 0, "", 0),
+    (TWO_LINES, 15, "", 0),
+    (TWO_LINES, 16, "word 00000000\n", 1),
+    (TWO_LINES, 21, "word 00000000\n", 1),
+    (TWO_LINES, 22, TWO_REPLIES, 1),
+    ("batch 1\npush 0 0 0 0\n", 10, "", 0),
+];
+
+/// The reader hands out a byte a call.
 #[test]
 fn session_ends_by_its_reader(rt: HostRuntime) {
-    assert!(rt; is_served(&rt, &mute("", 0, "", 0)));
-    assert!(rt; is_served(&rt, &mute(TWO_LINES, 15, "", 0)));
-    assert!(rt; is_served(&rt, &mute(TWO_LINES, 16, "word 00000000\n", 1)));
-    assert!(rt; is_served(&rt, &mute(TWO_LINES, 21, "word 00000000\n", 1)));
-    assert!(rt; is_served(&rt, &mute(TWO_LINES, 22, TWO_REPLIES, 1)));
-    assert!(rt; is_served(&rt, &mute("batch 1\npush 0 0 0 0\n", 10, "", 0)));
+    for (says, fails_at, hears, entries) in MUTE {
+        let script = Script::of(says, hears, entries)
+            .ending(ServeFault::Read)
+            .reading(failing_at(fails_at, 1));
+        assert!(rt; is_served(&rt, &script), "behind {fails_at}");
+    }
+}
+
+/// The end of the text is the reader's 23rd call.
+#[test]
+fn session_ends_before_its_reader_fails(rt: HostRuntime) {
     let whole = Script::of(TWO_LINES, TWO_REPLIES, 1);
     assert!(rt; is_served(&rt, &whole.reading(failing_at(23, 1))));
 }
@@ -49,21 +58,27 @@ fn with_room(room: usize, full: Full) -> Writing {
     writing
 }
 
-/// A client whose session ends by a writer that fails behind so many bytes.
-fn deaf(room: usize, hears: &'static str) -> Script {
-    Script::of(TWO_LINES, hears, 1)
-        .ending(ServeFault::Write)
-        .writing(with_room(room, Full::Fails))
-}
+/// Behind how many bytes the writer has no room, what it does then, and what was heard.
+const DEAF: [(usize, Full, &str); 5] = [
+    (0, Full::Fails, ""),
+    (5, Full::Fails, "word "),
+    (5, Full::TakesNothing, "word "),
+    (14, Full::Fails, "word 00000000\n"),
+    (26, Full::Fails, "word 00000000\nrefused line"),
+];
 
 #[test]
 fn session_ends_by_its_writer(rt: HostRuntime) {
-    assert!(rt; is_served(&rt, &deaf(0, "")));
-    assert!(rt; is_served(&rt, &deaf(5, "word ")));
-    assert!(rt; is_served(&rt, &deaf(14, "word 00000000\n")));
-    assert!(rt; is_served(&rt, &deaf(26, "word 00000000\nrefused line")));
-    let nothing = deaf(5, "word ").writing(with_room(5, Full::TakesNothing));
-    assert!(rt; is_served(&rt, &nothing));
+    for (room, full, hears) in DEAF {
+        let script = Script::of(TWO_LINES, hears, 1)
+            .ending(ServeFault::Write)
+            .writing(with_room(room, full));
+        assert!(rt; is_served(&rt, &script), "behind {room}");
+    }
+}
+
+#[test]
+fn session_ends_before_its_writer_fails(rt: HostRuntime) {
     let whole = Script::of(TWO_LINES, TWO_REPLIES, 1);
     assert!(rt; is_served(&rt, &whole.writing(with_room(27, Full::Fails))));
 }

@@ -249,6 +249,23 @@ pub struct Day {
 }
 
 /// Plays both scripts at an exchange that is closed then. Whether all is as they say, and the history has just their entries.
+fn is_played<L: Ledger, R: AllocGlobal + Threads + Wait + Sync>(
+    rt: &R,
+    office: Office<L>,
+    day: &Day,
+) -> bool
+    requires { L.parts ≡ ALL_PARTS }
+{
+    let [one, other] = &day.scripts;
+    let entries = one.entries.saturating_add(other.entries);
+    let (office, is_right) = office.play(rt, day);
+    match office.close(rt.alloc()) {
+        Some(closed) => is_right && closed.book.history().len() == entries,
+        None => false,
+    }
+}
+
+/// The same at an exchange on this rack.
 fn spend<L: Ledger, R: AllocGlobal + Threads + Wait + Sync>(
     rt: &R,
     blank: Blank,
@@ -258,14 +275,8 @@ fn spend<L: Ledger, R: AllocGlobal + Threads + Wait + Sync>(
     requires name { blank.name ≡ L.name }
     requires parts { (blank.parts ≡ L.parts) × (blank.parts ≡ ALL_PARTS) }
 {
-    let Some(office) = open::<L>(rt.alloc(), blank, rack, day.wires) else {
-        return false;
-    };
-    let [one, other] = &day.scripts;
-    let entries = one.entries.saturating_add(other.entries);
-    let (office, is_right) = office.play(rt, day);
-    match office.close(rt.alloc()) {
-        Some(closed) => is_right && closed.book.history().len() == entries,
+    match open::<L>(rt.alloc(), blank, rack, day.wires) {
+        Some(office) => is_played(rt, office, day),
         None => false,
     }
 }

@@ -89,16 +89,18 @@ fn hear_on<L: Ledger + Send + Sync, R: AllocGlobal + Threads + Wait + Sync>(
     requires name { blank.name ≡ L.name }
     requires parts { (blank.parts ≡ L.parts) × (blank.parts ≡ ALL_PARTS) }
 {
-    let Some(office) = open::<L>(rt.alloc(), blank, rack, NO_FUSE) else {
-        return false;
-    };
     let [first, second] = wanted;
-    let (_office, is_right) = office.serve_at_once(
-        rt,
-        saying(talk, 0, first),
-        saying(talk, 1, second),
-    );
-    is_right
+    match open::<L>(rt.alloc(), blank, rack, NO_FUSE) {
+        Some(office) => {
+            let (_, is_right) = office.serve_at_once(
+                rt,
+                saying(talk, 0, first),
+                saying(talk, 1, second),
+            );
+            is_right
+        }
+        None => false,
+    }
 }
 
 /// A client of a talk, who is to hear this.
