@@ -6,11 +6,14 @@ use Rattle.batch.specs.Extent.{Extent}
 use Rattle.batch.specs.declared.transfer.Transfer.{Transfer}
 use Rattle.batch.specs.Overlap.{IsApart, IsFirstOverlap}
 use Rattle.module_memory.specs.Store.{Store}
+use Rattle.crossbar.specs.declared.port.ConfigPort.{Ghosts}
 use Rattle.schedule_certificate.specs.Plans.{Plan}
+use Rattle.setting_runner.specs.Plants.{LeavesPlant}
 use Rattle.setting_runner.specs.Runs.{LeavesMemories, IsMisfit, IsRefused, CanMove}
 use Rattle.setting_runner.specs.declared.outcome.Outcome.{Outcome}
 use Rattle.setting_runner.specs.declared.outcome.Outcome.TheVariants as outcome
 use Rattle.setting_runner.specs.declared.outcome.RunRefusal.{RunRefusal}
+use Rattle.setting_runner.specs.declared.plant.Plant.{Plant}
 use Rattle.setting_runner.specs.declared.outcome.RunRefusal.TheVariants as run_refusal
 use Rattle.batch_book.specs.declared.reply.Reply.{Reply}
 use Rattle.batch_book.specs.declared.reply.Reply.TheVariants as reply
@@ -66,6 +69,16 @@ as_told P m id (outcome.Refused run_refusal.Shape) r next any is holds =
     subst (λ (x : Result Reply _). P (outcome_in x)) (sym is.0) (any run_refusal.Shape run_refusal.NoMemory holds)
 as_told P m id (outcome.Refused run_refusal.NoMemory) (Ok x) next any is holds = absurd (false≢true is.0)
 as_told P m id (outcome.Refused run_refusal.NoMemory) (Err e) next any is holds = holds
+
+-- ---- the plant
+
+-- it makes no difference to the plant why a run was refused
+pub refused_so : {P W G : Type 0} (seen : Ghosts P) (sure : W → ℕ → Type 0) (shape : Extent) (ran : Option Plan) (old new : Plant P W G) (why other : RunRefusal)
+    → LeavesPlant seen sure shape ran (outcome.Refused why) old new → LeavesPlant seen sure shape ran (outcome.Refused other) old new
+refused_so seen sure shape ran old new why other is =
+    record { cause = is.cause; switches = is.switches; refused = is.refused; uncalled = is.uncalled; others = is.others; counted = is.counted; honesty = is.honesty }
+
+-- ---- the step of a run
 
 -- the run of a batch that is held and planned
 pub ran_step : {E : Type 0} (m : Machine) (session id : ℕ) (h : Held) (plan : Plan) (r : Result Reply E) (next : Machine)

@@ -1,10 +1,6 @@
--- What a call does to the switches and to the port, if it runs a plan.
-use Rattle.std.specs.Prelude.{◌≡◌, ℕ, [], Option, Some, None}
-use Rattle.batch.specs.Extent.{Extent}
-use Rattle.crossbar.specs.Chips.{Switches}
+-- Which plan a call runs, if any.
+use Rattle.std.specs.Prelude.{ℕ, Option, Some, None}
 use Rattle.schedule_certificate.specs.Plans.{Plan}
-use Rattle.setting_runner.specs.Runs.{LeavesSwitches}
-use Rattle.setting_runner.specs.declared.outcome.Outcome.{Outcome}
 use Rattle.batch_book.specs.declared.call.Call.{Call}
 use Rattle.batch_book.specs.declared.call.Call.TheVariants.{Run}
 use Rattle.batch_book.specs.declared.held.Stage.{Stage}
@@ -25,12 +21,3 @@ plan_in (Some h) = plan_at h.stage
 abbrev pub plan_of : Machine → ℕ → Call → Option Plan
 plan_of m session (Run id) = plan_in (batch_of m session id)
 plan_of m session call = None
-
--- where a plan was run on a rack of this shape, the switches are as its run leaves them
-abbrev pub SetsSwitches : Extent → Option Plan → Outcome → Switches → Type 0
-SetsSwitches shape ran outcome switches =
-    (plan : Plan) → ran ≡ Some plan → LeavesSwitches shape plan outcome switches
-
--- a plan without settings leaves what it was run with
-abbrev pub SparesEmpty : {X : Type 0} → Option Plan → X → X → Type 0
-SparesEmpty ran old new = (plan : Plan) → ran ≡ Some plan → plan.settings ≡ [] → new ≡ old

@@ -1,11 +1,11 @@
 //! The book, and its history.
 
-ghost use Rattle.std.specs.Prelude.{◌+◌, ◌≡◌, ◌↔◌, ◌≤◌, ◌<◌, ◌++◌, ◌∷◌, [], ℕ, true, false, IsTrue, IfOk, IfErr, OnErr, length};
-ghost use Rattle.setting_runner.specs.Plants.{KeepsPlant};
-ghost use Rattle.setting_runner.specs.Runs.{HasCause, TellsOutcome, IsRefused};
+ghost use Rattle.std.specs.Prelude.{◌+◌, ◌≡◌, ◌↔◌, ◌≤◌, ◌<◌, ◌++◌, ◌∷◌, [], ℕ, true, false, IfOk, IfErr, OnErr, length};
+ghost use Rattle.setting_runner.specs.Plants.{LeavesPlant};
+ghost use Rattle.setting_runner.specs.Runs.{TellsOutcome};
 ghost use Rattle.batch_book.specs.Holdings.{spare_of};
 ghost use Rattle.batch_book.specs.Machine.{opened};
-ghost use Rattle.batch_book.specs.Running.{plan_of, SetsSwitches, SparesEmpty};
+ghost use Rattle.batch_book.specs.Running.{plan_of};
 ghost use Rattle.batch_book.specs.Replies.{is_logged, outcome_of, outcome_in};
 ghost use Rattle.batch_book.specs.History.{new_account, IsReplay, IsLegal, IsFull, IsGrown, IsSound};
 
@@ -131,21 +131,10 @@ impl Book {
         ensures full { (result ≡ Reply.Refused Refusal.HistoryFull) ↔ IsFull self.old }
         ensures unchanged { is_logged result ≡ false → self.new ≡ self.old }
 
-        // What a run has done to the plant. Nothing else does anything to it.
-        ensures cause { HasCause (record {
-          sure = W.is_sure plant.old.wires;
-          shape = self.old.machine.store.shape;
-          before = P.failures plant.old.port;
-          after = P.failures plant.new.port;
-          honest = P.honest plant.old.port;
-        }) (outcome_of result) }
-        ensures switches { IsTrue (P.honest plant.old.port) →
-            SetsSwitches self.old.machine.store.shape (plan_of self.old.machine session call)
-            (outcome_of result) (P.switches plant.new.port) }
+        // What a run leaves of the plant, and what the notice is told. Nothing else does anything to them.
+        ensures plant { LeavesPlant P.ConfigPort W.is_sure self.old.machine.store.shape
+            (plan_of self.old.machine session call) (outcome_of result) plant.old plant.new }
         ensures told { TellsOutcome N.hears notice.old (outcome_of result) notice.new }
-        ensures refused { IsRefused (outcome_of result) → plant.new ≡ plant.old }
-        ensures uncalled { SparesEmpty (plan_of self.old.machine session call) plant.old plant.new }
-        ensures plant { KeepsPlant P.failures P.honest plant.old plant.new }
     {
         if self.history.len() >= MAX_ENTRIES {
             return Reply::Refused(Refusal::HistoryFull);
@@ -171,20 +160,9 @@ impl Book {
         ensures logged { IfOk result (λ reply. is_logged reply ≡ true) }
         ensures unchanged { OnErr result (self.new ≡ self.old) }
 
-        ensures cause { HasCause (record {
-          sure = W.is_sure plant.old.wires;
-          shape = self.old.machine.store.shape;
-          before = P.failures plant.old.port;
-          after = P.failures plant.new.port;
-          honest = P.honest plant.old.port;
-        }) (outcome_in result) }
-        ensures switches { IsTrue (P.honest plant.old.port) →
-            SetsSwitches self.old.machine.store.shape (plan_of self.old.machine session call)
-            (outcome_in result) (P.switches plant.new.port) }
+        ensures plant { LeavesPlant P.ConfigPort W.is_sure self.old.machine.store.shape
+            (plan_of self.old.machine session call) (outcome_in result) plant.old plant.new }
         ensures told { TellsOutcome N.hears notice.old (outcome_in result) notice.new }
-        ensures refused { IsRefused (outcome_in result) → plant.new ≡ plant.old }
-        ensures uncalled { SparesEmpty (plan_of self.old.machine session call) plant.old plant.new }
-        ensures plant { KeepsPlant P.failures P.honest plant.old plant.new }
     {
         self.history.reserve(1)?;
         let copies = self.holdings.copies(session, &call)?;

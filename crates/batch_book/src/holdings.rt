@@ -1,15 +1,15 @@
 //! The batches and the memories of a book, and one call at a time.
 
-ghost use Rattle.std.specs.Prelude.{◌≡◌, ◌<◌, ◌+◌, ℕ, nat_eq, IsTrue, IfOk, IfErr, OnErr, Option, Some, None, length};
+ghost use Rattle.std.specs.Prelude.{◌≡◌, ◌<◌, ◌+◌, ℕ, nat_eq, IfOk, IfErr, OnErr, Option, Some, None, length};
 ghost use Rattle.std.specs.Option.{option_copied};
 ghost use Rattle.std.specs.Map.{lookup};
 ghost use Rattle.crossbar.specs.Switch.{Switch};
 ghost use Rattle.module_memory.specs.Store.{Store};
-ghost use Rattle.setting_runner.specs.Plants.{KeepsPlant};
-ghost use Rattle.setting_runner.specs.Runs.{HasCause, TellsOutcome, IsRefused};
+ghost use Rattle.setting_runner.specs.Plants.{LeavesPlant};
+ghost use Rattle.setting_runner.specs.Runs.{TellsOutcome};
 ghost use Rattle.batch_book.specs.Holdings.{Ends, spare_of};
 ghost use Rattle.batch_book.specs.Machine.{Machine, opened, owned, batch_of, set_stage, Gives, submit, fetch, settle, show, discard, peek, poke, run_to, IsRun, IsStep};
-ghost use Rattle.batch_book.specs.Running.{plan_in, plan_of, SetsSwitches, SparesEmpty};
+ghost use Rattle.batch_book.specs.Running.{plan_in, plan_of};
 ghost use Rattle.batch_book.specs.Replies.{TellsNoRun, outcome_of, outcome_in};
 
 use crate::call::Call;
@@ -248,21 +248,9 @@ impl Holdings {
             IsRun self.old id (batch_of self.old session id) reply self.new) }
         ensures unchanged { OnErr result (self.new ≡ self.old) }
 
-        ensures cause { HasCause (record {
-          sure = W.is_sure plant.old.wires;
-          shape = self.old.store.shape;
-          before = P.failures plant.old.port;
-          after = P.failures plant.new.port;
-          honest = P.honest plant.old.port;
-        }) (outcome_in result) }
-        ensures switches { IsTrue (P.honest plant.old.port) →
-            SetsSwitches self.old.store.shape (plan_in (batch_of self.old session id))
-            (outcome_in result) (P.switches plant.new.port) }
+        ensures plant { LeavesPlant P.ConfigPort W.is_sure self.old.store.shape
+            (plan_in (batch_of self.old session id)) (outcome_in result) plant.old plant.new }
         ensures told { TellsOutcome N.hears notice.old (outcome_in result) notice.new }
-        ensures refused { IsRefused (outcome_in result) → plant.new ≡ plant.old }
-        ensures uncalled { SparesEmpty (plan_in (batch_of self.old session id))
-            plant.old plant.new }
-        ensures plant { KeepsPlant P.failures P.honest plant.old plant.new }
     {
         let Some(found) = held_by(&self.held, session, id) else {
             return Ok(Reply::Refused(Refusal::Unknown));
@@ -339,20 +327,9 @@ impl Holdings {
         ensures step { IfOk result (λ reply. IsStep self.old session call reply self.new) }
         ensures unchanged { OnErr result (self.new ≡ self.old) }
 
-        ensures cause { HasCause (record {
-          sure = W.is_sure plant.old.wires;
-          shape = self.old.store.shape;
-          before = P.failures plant.old.port;
-          after = P.failures plant.new.port;
-          honest = P.honest plant.old.port;
-        }) (outcome_in result) }
-        ensures switches { IsTrue (P.honest plant.old.port) →
-            SetsSwitches self.old.store.shape (plan_of self.old session call)
-            (outcome_in result) (P.switches plant.new.port) }
+        ensures plant { LeavesPlant P.ConfigPort W.is_sure self.old.store.shape
+            (plan_of self.old session call) (outcome_in result) plant.old plant.new }
         ensures told { TellsOutcome N.hears notice.old (outcome_in result) notice.new }
-        ensures refused { IsRefused (outcome_in result) → plant.new ≡ plant.old }
-        ensures uncalled { SparesEmpty (plan_of self.old session call) plant.old plant.new }
-        ensures plant { KeepsPlant P.failures P.honest plant.old plant.new }
     {
         match call {
             Call::Submit(batch) => self.submit(session, batch),

@@ -1,5 +1,5 @@
 -- Before a run begins.
-use Rattle.std.proofs.Common.{◌⊎◌, ◌≡◌, ◌<◌, ◌+◌, inl, inr, ℕ, List, [], ◌++◌, length, take, drop, sym, ap₂, arith, refl, subst, append-nil}
+use Rattle.std.proofs.Common.{◌⊎◌, ◌≡◌, ◌<◌, ◌+◌, inl, inr, ℕ, List, length, take, drop, sym, ap₂, arith, refl, subst}
 use Rattle.std.specs.Prelude.{◌↔◌}
 use Rattle.std.specs.List.{concat}
 use Rattle.batch.specs.Extent.{Extent}

@@ -1,10 +1,32 @@
 -- What a run leaves of the plant that it worked with.
-use Rattle.std.specs.Prelude.{◌≡◌, ℕ, ◌≤◌, Bool}
+use Rattle.std.specs.Prelude.{◌≡◌, ℕ, ◌≤◌, [], IsTrue, Option, IfSome}
+use Rattle.batch.specs.Extent.{Extent}
+use Rattle.crossbar.specs.declared.port.ConfigPort.{Ghosts}
+use Rattle.schedule_certificate.specs.Plans.{Plan}
+use Rattle.setting_runner.specs.declared.outcome.Outcome.{Outcome}
 use Rattle.setting_runner.specs.declared.plant.Plant.{Plant}
+use Rattle.setting_runner.specs.Runs.{HasCause, IsRefused, LeavesSwitches}
 
--- All but the port is as it was; the port's failures never fall, and it is as honest as it was.
-pub record KeepsPlant {P W G : Type 0} (failures : P → ℕ) (honest : P → Bool)
-    (old new : Plant P W G) : Type 0 where
+-- What a run of this plan, where there is one, leaves of its plant on a rack of this shape, where it
+-- ends so. The first two say what is seen of the port, and which wires never fail.
+pub record LeavesPlant {P W G : Type 0} (seen : Ghosts P) (sure : W → ℕ → Type 0)
+    (shape : Extent) (ran : Option Plan) (outcome : Outcome) (old new : Plant P W G) : Type 0 where
+  -- a run that stopped has a cause, and the port has failed in no other
+  pub cause :
+      HasCause (record {
+        sure = sure old.wires;
+        shape = shape;
+        before = seen.failures old.port;
+        after = seen.failures new.port;
+        honest = seen.honest old.port;
+      }) outcome
+  -- the switches of an honest port are those of the setting that was run last
+  pub switches : IsTrue (seen.honest old.port) →
+      IfSome ran (λ plan. LeavesSwitches shape plan outcome (seen.switches new.port))
+  -- where the run is refused nothing is done, nor where its plan has no setting
+  pub refused : IsRefused outcome → new ≡ old
+  pub uncalled : IfSome ran (λ plan. plan.settings ≡ [] → new ≡ old)
+  -- all but the port is as it was; its failures never fall, and it is as honest as it was
   pub others : new ≡ record old { port = new.port }
-  pub counted : failures old.port ≤ failures new.port
-  pub honesty : honest new.port ≡ honest old.port
+  pub counted : seen.failures old.port ≤ seen.failures new.port
+  pub honesty : seen.honest new.port ≡ seen.honest old.port

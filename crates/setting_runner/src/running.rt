@@ -1,13 +1,13 @@
 //! Runs of planned batches.
 
-ghost use Rattle.std.specs.Prelude.{◌≡◌, ◌↔◌, ℕ, [], IsTrue, IfOk, IfErr};
+ghost use Rattle.std.specs.Prelude.{◌≡◌, ◌↔◌, ℕ, Some, IfOk, IfErr};
 ghost use Rattle.batch.specs.Overlap.{IsApart, IsFirstOverlap};
 ghost use Rattle.module_memory.specs.Lending.{joined, Rejoins};
 ghost use Rattle.setting_runner.specs.declared.outcome.RunRefusal.TheVariants.{Overlap, Shape, NoMemory};
 ghost use Rattle.setting_runner.specs.declared.outcome.Outcome.TheVariants.{Refused};
 ghost use Rattle.setting_runner.specs.Refusals.{IsRefusal};
-ghost use Rattle.setting_runner.specs.Plants.{KeepsPlant};
-ghost use Rattle.setting_runner.specs.Runs.{IsPrepared, LeavesMemories, HasCause, IsMisfit, IsRefused, CanMove, NeedsMemory, LeavesSwitches, TellsOutcome};
+ghost use Rattle.setting_runner.specs.Plants.{LeavesPlant};
+ghost use Rattle.setting_runner.specs.Runs.{IsPrepared, LeavesMemories, IsMisfit, IsRefused, CanMove, NeedsMemory, TellsOutcome};
 
 use crate::notice::Notice;
 use crate::numbers::setting_numbers;
@@ -54,15 +54,8 @@ pub fn run<R: Threads + Sync, P: ConfigPort, W: WireMaker + Sync, G: Gate + Sync
     notice: &mut N,
 ) -> (Rack, Outcome)
     ensures memories { LeavesMemories rack planned.now result.1 result.0 }
-    ensures cause { HasCause (record {
-      sure = W.is_sure plant.old.wires;
-      shape = rack.shape;
-      before = P.failures plant.old.port;
-      after = P.failures plant.new.port;
-      honest = P.honest plant.old.port;
-    }) result.1 }
-    ensures switches { IsTrue (P.honest plant.old.port) →
-        LeavesSwitches rack.shape planned.now result.1 (P.switches plant.new.port) }
+    ensures plant { LeavesPlant P.ConfigPort W.is_sure rack.shape (Some planned.now) result.1
+        plant.old plant.new }
     ensures told { TellsOutcome N.hears notice.old result.1 notice.new }
 
     // Each refusal comes just where its cause is there and none before it, want of memory aside.
@@ -74,11 +67,6 @@ pub fn run<R: Threads + Sync, P: ConfigPort, W: WireMaker + Sync, G: Gate + Sync
 
     // A run that isn't refused is of transfers that don't overlap and that the rack has.
     ensures free { (IsRefused result.1 → ⊥) → CanMove rack.shape planned.now.batch }
-
-    // The port isn't called where the run is refused or there is nothing to do.
-    ensures refused { IsRefused result.1 → plant.new ≡ plant.old }
-    ensures uncalled { planned.now.settings ≡ [] → plant.new ≡ plant.old }
-    ensures plant { KeepsPlant P.failures P.honest plant.old plant.new }
 {
     match prepare(alloc, rack, planned) {
         Ok(parted) => {
@@ -136,19 +124,10 @@ fn run_settings<R: Threads + Sync, P: ConfigPort, W: WireMaker + Sync, G: Gate +
     ensures rejoins { Rejoins rest.now.store bays.new }
     ensures memories { LeavesMemories
         (joined rest.now.store bays.old) planned.now result (joined rest.now.store bays.new) }
-    ensures cause { HasCause (record {
-      sure = W.is_sure plant.old.wires;
-      shape = rest.now.store.shape;
-      before = P.failures plant.old.port;
-      after = P.failures plant.new.port;
-      honest = P.honest plant.old.port;
-    }) result }
-    ensures switches { IsTrue (P.honest plant.old.port) →
-        LeavesSwitches rest.now.store.shape planned.now result (P.switches plant.new.port) }
+    ensures plant { LeavesPlant P.ConfigPort W.is_sure rest.now.store.shape (Some planned.now) result
+        plant.old plant.new }
     ensures told { TellsOutcome N.hears notice.old result notice.new }
     ensures going { IsRefused result → ⊥ }
-    ensures uncalled { planned.now.settings ≡ [] → plant.new ≡ plant.old }
-    ensures plant { KeepsPlant P.failures P.honest plant.old plant.new }
 {
     let batch = planned.batch();
     let schedule = planned.schedule();

@@ -1,22 +1,19 @@
-use Rattle.std.proofs.Common.{List, sym, subst}
+use Rattle.std.proofs.Common.{List, Some, sym, subst, rules, arith}
+use Rattle.std.proofs.lemmas.Grind.{common_steps}
 use Rattle.batch.specs.Extent.{Extent}
 use Rattle.module_memory.specs.Lending.{BlockAt}
-use Rattle.setting_runner.specs.Runs.{Given, HasCause, IsPrepared, LeavesSwitches}
+use Rattle.setting_runner.specs.Plants.{LeavesPlant}
+use Rattle.setting_runner.specs.Runs.{IsPrepared}
 use Rattle.setting_runner.proofs.Starting.{going_no_memory, going_no_overlap, going_no_shape, memory_of, overlap_of, shape_of}
 use Rattle.setting_runner.proofs.running.run.Goals as goal
 
 pub run_settings-outcome-requires-clause-prepared : goal.run_settings-outcome-requires-clause-prepared
 run_settings-outcome-requires-clause-prepared g c κs within = subst (λ (bays : List BlockAt). IsPrepared c.in-Ok.parted.rest bays c.args.planned.now) (sym c.as_mut_slice.ensures.value) c.in-Ok.ensures.prepared
 
-pub returns-in-Ok-clause-cause : goal.returns-in-Ok-clause-cause
-returns-in-Ok-clause-cause g c =
-    let given : Extent → Given = λ x. record { sure = g.W.WireMaker.is_sure c.args.plant.now.wires; shape = x; before = g.P.ConfigPort.failures c.args.plant.now.port; after = g.P.ConfigPort.failures c.run_settings-outcome.new.plant.port; honest = g.P.ConfigPort.honest c.args.plant.now.port } in
-    subst (λ (x : Extent). HasCause (given x) c.run_settings-outcome.result) c.in-Ok.ensures.shape c.run_settings-outcome.ensures.cause
-
-pub returns-in-Ok-clause-switches : goal.returns-in-Ok-clause-switches
-returns-in-Ok-clause-switches g c = λ honest.
-    let switches = g.P.ConfigPort.switches c.run_settings-outcome.new.plant.port in
-    subst (λ (x : Extent). LeavesSwitches x c.args.planned.now c.run_settings-outcome.result switches) c.in-Ok.ensures.shape (c.run_settings-outcome.ensures.switches honest)
+pub returns-in-Ok-clause-plant : goal.returns-in-Ok-clause-plant
+returns-in-Ok-clause-plant g c =
+    subst (λ (x : Extent). LeavesPlant g.P.ConfigPort g.W.WireMaker.is_sure x (Some c.args.planned.now) c.run_settings-outcome.result c.args.plant.now c.run_settings-outcome.new.plant)
+    c.in-Ok.ensures.shape c.run_settings-outcome.ensures.plant
 
 pub returns-in-Ok-clause-overlap : goal.returns-in-Ok-clause-overlap
 returns-in-Ok-clause-overlap g c = going_no_overlap c.args.rack.shape c.args.planned.now.batch c.run_settings-outcome.result c.run_settings-outcome.ensures.going c.in-Ok.ensures.free
@@ -38,3 +35,9 @@ returns-in-Err-clause-shape g c = shape_of c.args.rack.shape c.args.planned.now.
 
 pub returns-in-Err-clause-memory : goal.returns-in-Err-clause-memory
 returns-in-Err-clause-memory g c = memory_of c.args.rack.shape c.args.planned.now.batch c.in-Err.refusal c.in-Err.ensures.refusal
+
+pub returns-in-Err-clause-plant : goal.returns-in-Err-clause-plant
+returns-in-Err-clause-plant g c = search rules
+
+pub returns-in-Ok-clause-memories : goal.returns-in-Ok-clause-memories
+returns-in-Ok-clause-memories g c = grind (arith, common_steps)

@@ -69,15 +69,24 @@ returns-in-Err-clause-memories g c =
 pub run_setting-requires-clause-pairs : goal.run_setting-requires-clause-pairs
 run_setting-requires-clause-pairs g c κs within = c.of_setting-pairs.ensures.pairs c.args.rest.now.store.shape (rack_fits c.args.rest.now c.args.bays.now c.args.planned.now c.batch-batch.result.now c.requires.prepared c.batch-batch.ensures.batch)
 
-pub returns-in-Err-clause-switches : goal.returns-in-Err-clause-switches
-returns-in-Err-clause-switches g c = λ honest t is.
+pub returns-in-Err-clause-plant : goal.returns-in-Err-clause-plant
+returns-in-Err-clause-plant g c =
     let n = c.loop-number.number in
     let plan = c.args.planned.now in
     let inv = c.loop-number.invariant in
     let fits = rack_fits c.args.rest.now c.args.bays.now plan c.batch-batch.result.now c.requires.prepared c.batch-batch.ensures.batch in
-    setting_switches c.args.rest.now c.args.bays.now plan n c.batch-batch.result.now c.setting_numbers-numbers.result.now c.of_setting-pairs.result (g.P.ConfigPort.switches c.run_setting.new.plant.port)
-    c.requires.prepared c.batch-batch.ensures.batch c.setting_numbers-numbers.ensures.numbers (λ w. c.of_setting-pairs.ensures.switch c.args.rest.now.store.shape w fits)
-    (c.in-Err.ensures.wire t is (subst IsTrue (sym inv.honesty) honest))
+    record {
+      cause = search rules;
+      switches = λ honest t is.
+          setting_switches c.args.rest.now c.args.bays.now plan n c.batch-batch.result.now c.setting_numbers-numbers.result.now c.of_setting-pairs.result (g.P.ConfigPort.switches c.run_setting.new.plant.port)
+          c.requires.prepared c.batch-batch.ensures.batch c.setting_numbers-numbers.ensures.numbers (λ w. c.of_setting-pairs.ensures.switch c.args.rest.now.store.shape w fits)
+          (c.in-Err.ensures.wire t is (subst IsTrue (sym inv.honesty) honest));
+      refused = search rules;
+      uncalled = search rules;
+      others = search rules;
+      counted = search rules;
+      honesty = search rules;
+    }
 
 pub loop-number-preserved : goal.loop-number-preserved
 loop-number-preserved g c =
@@ -133,11 +142,17 @@ returns-clause-memories g c =
     let completed = going_completes c.args.rest.now c.args.bays.now c.loop-number.bays plan c.loop-number.number begun c.loop-number.invariant.going done (c.loop-number.from * c.words.result) (ap₂ (λ (x y : ℕ). x * y) c.loop-number.invariant.from wide) in
     subst (λ (x : ℕ). IsCompleted (joined c.args.rest.now.store c.args.bays.now) plan x (c.loop-number.from * c.words.result) (joined c.args.rest.now.store c.loop-number.bays)) size completed
 
-pub returns-clause-uncalled : goal.returns-clause-uncalled
-returns-clause-uncalled g c = λ empty.
-    let none : length c.args.planned.now.settings ≡ 0 = ap (length {A = List ℕ}) empty in
-    let first : c.loop-number.number ≡ 0 = omega (arith, c.settings-number-end.ensures, ap (length {A = List ℕ}) c.schedule-schedule.ensures.schedule) in
-    c.loop-number.invariant.uncalled first
-
-pub returns-clause-cause : goal.returns-clause-cause
-returns-clause-cause g c = search rules
+pub returns-clause-plant : goal.returns-clause-plant
+returns-clause-plant g c =
+    record {
+      cause = search rules;
+      switches = search rules;
+      refused = search rules;
+      uncalled = λ empty.
+          let none : length c.args.planned.now.settings ≡ 0 = ap (length {A = List ℕ}) empty in
+          let first : c.loop-number.number ≡ 0 = omega (arith, c.settings-number-end.ensures, ap (length {A = List ℕ}) c.schedule-schedule.ensures.schedule) in
+          c.loop-number.invariant.uncalled first;
+      others = search rules;
+      counted = search rules;
+      honesty = search rules;
+    }

@@ -2,8 +2,10 @@ use Rattle.std.proofs.Common.{rules, ◌≡◌, Some, sym, ap, ◌∙◌}
 use Rattle.std.specs.Option.{unwrap_or, option_copied}
 use Rattle.batch_book.specs.Holdings.{no_store}
 use Rattle.batch_book.specs.Machine.{batch_of}
-use Rattle.setting_runner.specs.Runs.{HasCause, LeavesSwitches, TellsOutcome}
-use Rattle.batch_book.proofs.Runs.{AreRefusals, worded, ended, ran_step, as_told}
+use Rattle.batch_book.specs.Running.{plan_at, plan_in}
+use Rattle.setting_runner.specs.Plants.{LeavesPlant}
+use Rattle.setting_runner.specs.Runs.{TellsOutcome}
+use Rattle.batch_book.proofs.Runs.{AreRefusals, worded, ended, ran_step, as_told, refused_so}
 use Rattle.batch_book.proofs.holdings.Holdings.run.Goals as goal
 
 pub returns-clause-step : goal.returns-clause-step
@@ -17,11 +19,19 @@ returns-clause-step g c =
 pub returns-in-Waiting-clause-step : goal.returns-in-Waiting-clause-step
 returns-in-Waiting-clause-step g c = search rules
 
-pub returns-clause-cause : goal.returns-clause-cause
-returns-clause-cause g c = as_told (HasCause _) (worded c.args.self.now c.run-rack.result.0) c.args.id c.run-rack.result.1 c.end.result c.end.new.self (λ why other same. same) (rw (← c.self.view_is) c.end.ensures) (search rules)
-
-pub returns-clause-switches : goal.returns-clause-switches
-returns-clause-switches g c = λ honest plan is. as_told (λ o. LeavesSwitches c.args.self.now.store.shape plan o (g.P.ConfigPort.switches c.run-rack.new.plant.port)) (worded c.args.self.now c.run-rack.result.0) c.args.id c.run-rack.result.1 c.end.result c.end.new.self (λ why other same. same) (rw (← c.self.view_is) c.end.ensures) (search rules)
+pub returns-clause-plant : goal.returns-clause-plant
+returns-clause-plant g c =
+    let own : batch_of c.args.self.now c.args.session c.args.id ≡ Some c.in-Some.found.now = rw (← c.self.view_is) (sym c.held_by.ensures ∙ ap option_copied c.in-Some.is) in
+    let same : c.args.self.now.store ≡ c.in-Some-take.rack = rw (← c.self.view_is) (ap (λ r. unwrap_or r no_store) (sym c.take.ensures.value ∙ c.in-Some-take.is)) in
+    let ran : plan_in (batch_of c.args.self.now c.args.session c.args.id) ≡ Some c.in-Planned.planned = ap plan_in own ∙ ap plan_at c.in-Planned.is in
+    let seen = g.P.ConfigPort in
+    let sure = g.W.WireMaker.is_sure in
+    let old = c.args.plant.now in
+    let new = c.run-rack.new.plant in
+    as_told (λ o. LeavesPlant seen sure c.args.self.now.store.shape (plan_in (batch_of c.args.self.now c.args.session c.args.id)) o old new)
+    (worded c.args.self.now c.run-rack.result.0) c.args.id c.run-rack.result.1 c.end.result c.end.new.self
+    (refused_so seen sure c.args.self.now.store.shape (plan_in (batch_of c.args.self.now c.args.session c.args.id)) old new)
+    (rw (← c.self.view_is) c.end.ensures) (rw ran (rw same c.run-rack.ensures.plant))
 
 pub returns-clause-told : goal.returns-clause-told
 returns-clause-told g c = as_told (λ o. TellsOutcome g.N.Notice.hears c.args.notice.now o c.run-rack.new.notice) (worded c.args.self.now c.run-rack.result.0) c.args.id c.run-rack.result.1 c.end.result c.end.new.self (λ why other same. same) (rw (← c.self.view_is) c.end.ensures) c.run-rack.ensures.told
