@@ -12,10 +12,10 @@ use Rattle.progress_word.specs.declared.limits.TheConstants.{ALL_PARTS}
 use Rattle.module_memory.specs.Store.{Store}
 use Rattle.batch_book.specs.declared.close.Closed.{Closed}
 use Rattle.batch_book.specs.declared.entry.Entry.{Entry}
-use Rattle.batch_book.specs.Closing.{AreClosed, AllAgree, NoneAhead}
+use Rattle.batch_book.specs.Closing.{AreClosed, LogsAgree, NoneAhead}
 use Rattle.batch_book.specs.Exchanges.{Exchange, AreNew, new_seat, parts_at}
 use Rattle.batch_book.specs.History.{IsLegal}
-use Rattle.batch_book.specs.Seats.{Stand, IsSameSeat, Agrees, parts_of, entries_of, own}
+use Rattle.batch_book.specs.Seats.{SeatState, IsSameSeat, LogAgrees, parts_of, entries_of, own}
 use Rattle.batch_book.specs.Values.{greatest}
 use Rattle.client_session.specs.declared.fault.ServeFault.{ServeFault}
 use Rattle.client_session.specs.Seats.{SeatView, seat_view}
@@ -87,7 +87,7 @@ script_at v xs k i x script at lt is text =
     slice_get-map v xs k ∙ ap (option_map v) (slice_get_read xs (length xs) k x refl lt (rw at at is)) ∙ ap Some (sym text)
 
 -- what a session of this script from a new seat leaves
-pub its_script : (x : Exchange) (scripts : List (List ℕ)) (n : ℕ) (old new : Stand) (script rest told : List ℕ) (fault : Option ServeFault)
+pub its_script : (x : Exchange) (scripts : List (List ℕ)) (n : ℕ) (old new : SeatState) (script rest told : List ℕ) (fault : Option ServeFault)
     → IsReady x n old → IsSameSeat old new → slice_get scripts old.session ≡ Some script
     → Passes (Some script) (Some rest) (Some []) (Some told) (seat_view x.shape old) (seat_view x.shape new) (HasEnded fault (Some rest) (seat_view x.shape old) (seat_view x.shape new))
     → HasItsScript x.shape scripts (record { session = new.session; entries = new.log; seen = new.seen; told = told; fault = fault })
@@ -114,14 +114,14 @@ its_script x scripts n old new script rest told fault ready same at p =
 -- ---- all sessions
 
 -- the session of the seat at a place
-pub record IsOfSeat {L : Type 0} (x : Exchange) (scripts : List (List ℕ)) (seats : List Stand) (k : ℕ) (s : Session L) : Type 0 where
-  pub seat : Stand
-  pub at : (e : Stand) → get_or seats k e ≡ seat
+pub record IsOfSeat {L : Type 0} (x : Exchange) (scripts : List (List ℕ)) (seats : List SeatState) (k : ℕ) (s : Session L) : Type 0 where
+  pub seat : SeatState
+  pub at : (e : SeatState) → get_or seats k e ≡ seat
   pub same : IsSameSeat seat s.seat
   pub its : HasItsScript x.shape scripts (transcript s)
 
 -- each seat of a new exchange has had its session
-pub all_served : {L : Type 0} (x : Exchange) (scripts : List (List ℕ)) (n : ℕ) (seats : List Stand) (ss : List (Session L))
+pub all_served : {L : Type 0} (x : Exchange) (scripts : List (List ℕ)) (n : ℕ) (seats : List SeatState) (ss : List (Session L))
     → n ≡ length scripts → AreNew x.word n seats → length ss ≡ length seats → ((k : ℕ) (s : Session L) → k < length seats → IsOfSeat x scripts seats k (get_or ss k s))
     → AreServedAt x scripts ss
 all_served {L} x scripts n seats ss count new len each =
@@ -132,14 +132,14 @@ all_served {L} x scripts n seats ss count new len each =
     (λ k s e lt.
     let o = each k s (omega (arith, len)) in
     let at = get_or-range_with_len 0 (length scripts) k e (omega (arith, len, count, new.count)) in
-    o.same.session ∙ ap (λ (t : Stand). t.session) (begun k s lt) ∙ omega (arith, at)) in
-    let parts : map (λ (s : Session L). s.seat.parts) ss ≡ map (λ (t : Stand). t.parts) seats =
-    map_same (λ (s : Session L). s.seat.parts) (λ (t : Stand). t.parts) ss seats len
-    (λ k s e lt. let o = each k s (omega (arith, len)) in o.same.parts ∙ ap (λ (t : Stand). t.parts) (sym (o.at e))) in
+    o.same.session ∙ ap (λ (t : SeatState). t.session) (begun k s lt) ∙ omega (arith, at)) in
+    let parts : map (λ (s : Session L). s.seat.parts) ss ≡ map (λ (t : SeatState). t.parts) seats =
+    map_same (λ (s : Session L). s.seat.parts) (λ (t : SeatState). t.parts) ss seats len
+    (λ k s e lt. let o = each k s (omega (arith, len)) in o.same.parts ∙ ap (λ (t : SeatState). t.parts) (sym (o.at e))) in
     record {
       all_seats = record {
-        seats = λ k s lt. (let o = each k s (omega (arith, len)) in o.same.exchange ∙ ap (λ (t : Stand). t.exchange) (begun k s lt));
-        parts = sym (sum-map (λ (s : Session L). s.seat.parts) ss) ∙ ap sum parts ∙ sum-map (λ (t : Stand). t.parts) seats ∙ new.parts;
+        seats = λ k s lt. (let o = each k s (omega (arith, len)) in o.same.exchange ∙ ap (λ (t : SeatState). t.exchange) (begun k s lt));
+        parts = sym (sum-map (λ (s : Session L). s.seat.parts) ss) ∙ ap sum parts ∙ sum-map (λ (t : SeatState). t.parts) seats ∙ new.parts;
       };
       of_scripts = record {
         numbers = map-map (λ (t : Transcript). t.session) transcript ss ∙ numbers ∙ map-id (range_with_len 0 (length scripts));
@@ -150,30 +150,30 @@ all_served {L} x scripts n seats ss count new len each =
 -- ---- the exchange is closed
 
 -- all seats of the exchange are there
-pub all_parts : {L : Type 0} (x : Exchange) (ss : List (Session L)) (seats : List Stand) → HaveAllSeats x ss → seats ≡ map (λ (s : Session L). s.seat) ss → parts_of seats ≡ ALL_PARTS
-all_parts {L} x ss seats all are = ap parts_of are ∙ sum_mapped (λ (t : Stand). t.parts) (λ (s : Session L). s.seat) ss ∙ all.parts
+pub all_parts : {L : Type 0} (x : Exchange) (ss : List (Session L)) (seats : List SeatState) → HaveAllSeats x ss → seats ≡ map (λ (s : Session L). s.seat) ss → parts_of seats ≡ ALL_PARTS
+all_parts {L} x ss seats all are = ap parts_of are ∙ sum_mapped (λ (t : SeatState). t.parts) (λ (s : Session L). s.seat) ss ∙ all.parts
 
-pub all_of_it : {L : Type 0} (x : Exchange) (ss : List (Session L)) (seats : List Stand) → HaveAllSeats x ss → seats ≡ map (λ (s : Session L). s.seat) ss → All (λ (t : Stand). t.exchange ≡ Some x.word) seats
+pub all_of_it : {L : Type 0} (x : Exchange) (ss : List (Session L)) (seats : List SeatState) → HaveAllSeats x ss → seats ≡ map (λ (s : Session L). s.seat) ss → All (λ (t : SeatState). t.exchange ≡ Some x.word) seats
 all_of_it {L} x ss seats all are =
-    subst (λ (ts : List Stand). All (λ (t : Stand). t.exchange ≡ Some x.word) ts) (sym are) (All-map (λ (t : Stand). t.exchange ≡ Some x.word) (λ (s : Session L). s.seat) ss all.seats)
+    subst (λ (ts : List SeatState). All (λ (t : SeatState). t.exchange ≡ Some x.word) ts) (sym are) (All-map (λ (t : SeatState). t.exchange ≡ Some x.word) (λ (s : Session L). s.seat) ss all.seats)
 
 -- the history that the exchange kept
-its_history : {L P W G : Type 0} (ss : List (Session L)) (seats : List Stand) (c : Closed L P W G) → seats ≡ map (λ (s : Session L). s.seat) ss
+its_history : {L P W G : Type 0} (ss : List (Session L)) (seats : List SeatState) (c : Closed L P W G) → seats ≡ map (λ (s : Session L). s.seat) ss
     → AreClosed seats c → IsLegal c.book.opening c.book.history → IsHistoryOf c.book.opening (map transcript ss) c.book.history
 its_history {L} ss seats c are closed legal =
     record {
       legal = legal;
-      counted = closed.counted ∙ ap entries_of are ∙ sum_mapped (λ (t : Stand). length t.log) (λ (s : Session L). s.seat) ss ∙ sym (sum_mapped (λ (t : Transcript). length t.entries) transcript ss);
+      counted = closed.counted ∙ ap entries_of are ∙ sum_mapped (λ (t : SeatState). length t.log) (λ (s : Session L). s.seat) ss ∙ sym (sum_mapped (λ (t : Transcript). length t.entries) transcript ss);
     }
 
 -- where their lists agree with it, it is that of its sessions
-pub one_history : {L P W G : Type 0} (opening : Store) (ss : List (Session L)) (seats : List Stand) (c : Closed L P W G) → seats ≡ map (λ (s : Session L). s.seat) ss
-    → AreClosed seats c → AllAgree seats c → NoneAhead seats c → IsLegal c.book.opening c.book.history → c.book.opening ≡ opening
+pub one_history : {L P W G : Type 0} (opening : Store) (ss : List (Session L)) (seats : List SeatState) (c : Closed L P W G) → seats ≡ map (λ (s : Session L). s.seat) ss
+    → AreClosed seats c → LogsAgree seats c → NoneAhead seats c → IsLegal c.book.opening c.book.history → c.book.opening ≡ opening
     → HaveOneHistory opening (map transcript ss)
 one_history {L} opening ss seats c are closed agree behind legal is =
     let h = c.book.history in
-    let Seen : Stand → Type 0 = λ t. t.seen ≤ greatest h in
-    let agrees : All (λ (s : Session L). Agrees h s.seat) ss = of_map (Agrees h) (λ (s : Session L). s.seat) ss (subst (All (Agrees h)) are agree) in
+    let Seen : SeatState → Type 0 = λ t. t.seen ≤ greatest h in
+    let agrees : All (λ (s : Session L). LogAgrees h s.seat) ss = of_map (LogAgrees h) (λ (s : Session L). s.seat) ss (subst (All (LogAgrees h)) are agree) in
     let seen : All (λ (s : Session L). Seen s.seat) ss = of_map Seen (λ (s : Session L). s.seat) ss (subst (All Seen) are behind) in
     record {
       history = h;
@@ -183,7 +183,7 @@ one_history {L} opening ss seats c are closed agree behind legal is =
     }
 
 -- where it is from another store, it is another one
-pub history_elsewhere : {L P W G : Type 0} (opening : Store) (ss : List (Session L)) (seats : List Stand) (c : Closed L P W G) → seats ≡ map (λ (s : Session L). s.seat) ss
+pub history_elsewhere : {L P W G : Type 0} (opening : Store) (ss : List (Session L)) (seats : List SeatState) (c : Closed L P W G) → seats ≡ map (λ (s : Session L). s.seat) ss
     → AreClosed seats c → IsLegal c.book.opening c.book.history → ¬ (c.book.opening ≡ opening) → HaveAnotherHistory opening (map transcript ss)
 history_elsewhere opening ss seats c are closed legal other =
     record {
@@ -194,8 +194,8 @@ history_elsewhere opening ss seats c are closed legal other =
     }
 
 -- and where the lists don't agree with it
-pub another_history : {L P W G : Type 0} (opening : Store) (ss : List (Session L)) (seats : List Stand) (c : Closed L P W G) → seats ≡ map (λ (s : Session L). s.seat) ss
-    → AreClosed seats c → ¬ AllAgree seats c → IsLegal c.book.opening c.book.history → HaveAnotherHistory opening (map transcript ss)
+pub another_history : {L P W G : Type 0} (opening : Store) (ss : List (Session L)) (seats : List SeatState) (c : Closed L P W G) → seats ≡ map (λ (s : Session L). s.seat) ss
+    → AreClosed seats c → ¬ LogsAgree seats c → IsLegal c.book.opening c.book.history → HaveAnotherHistory opening (map transcript ss)
 another_history {L} opening ss seats c are closed differ legal =
     let h = c.book.history in
     record {
@@ -203,5 +203,5 @@ another_history {L} opening ss seats c are closed differ legal =
       history = h;
       is_history = its_history ss seats c are closed legal;
       no_parts = λ _ parts.
-          differ (subst (All (Agrees h)) (sym are) (All-map (Agrees h) (λ (s : Session L). s.seat) ss (of_map (λ (t : Transcript). t.entries ≡ own t.session h) transcript ss parts)));
+          differ (subst (All (LogAgrees h)) (sym are) (All-map (LogAgrees h) (λ (s : Session L). s.seat) ss (of_map (λ (t : Transcript). t.entries ≡ own t.session h) transcript ss parts)));
     }

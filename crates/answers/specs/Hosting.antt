@@ -2,7 +2,7 @@
 use Rattle.std.specs.Prelude.{◌≡◌, ℕ, ◌<◌, List, [], map, All, sum_by, Some}
 use Rattle.progress_word.specs.declared.limits.TheConstants.{ALL_PARTS}
 use Rattle.batch_book.specs.Exchanges.{Exchange}
-use Rattle.batch_book.specs.Seats.{Stand}
+use Rattle.batch_book.specs.Seats.{SeatState}
 use Rattle.answers.specs.declared.session.Session.{Session}
 use Rattle.answers.specs.Frames.{Transcript, session_text}
 use Rattle.answers.specs.Serving.{AreSessionsOf}
@@ -23,7 +23,7 @@ abbrev pub text_of : {L : Type 0} → Session L → List ℕ
 text_of s = session_text (transcript s)
 
 -- a seat of this exchange that has asked nothing and seen nothing, for one of so many scripts
-pub record IsReady (x : Exchange) (scripts : ℕ) (seat : Stand) : Type 0 where
+pub record IsReady (x : Exchange) (scripts : ℕ) (seat : SeatState) : Type 0 where
   pub exchange : seat.exchange ≡ Some x.word
   pub session : seat.session < scripts
   pub log : seat.log ≡ []

@@ -22,7 +22,7 @@ use Rattle.batch_book.specs.declared.reply.Reply.{Reply}
 use Rattle.batch_book.specs.declared.reply.Reply.TheVariants as reply
 use Rattle.batch_book.specs.declared.call.Call.{Call}
 use Rattle.batch_book.specs.declared.call.Call.TheVariants.{Submit, Fetch, Settle, Run, Show, Discard, Peek, Poke}
-use Rattle.batch_book.specs.Machine.{Machine, opened, owned, batch_of, Gives, accept, refuse, fetch, settle_at, settle, show, discard, peek_unless, poke_unless, IsRunOf, IsRunAt, IsRun, IsStep}
+use Rattle.batch_book.specs.Machine.{Machine, opened, owned, batch_of, Gives, accept, refuse, fetch, settle_at, settle, show, discard, peek_unless, poke_unless, IsRunOf, IsRunAt, IsRunStep, IsMachineStep}
 use Rattle.batch_book.specs.History.{Account, IsReplay, IsGrown, HasOwnPlan, HaveOwnPlans, IsSound}
 use Rattle.batch_book.specs.Replies.{is_logged}
 use Rattle.batch_book.specs.Answering.{IsReplyTo}
@@ -134,13 +134,13 @@ run_at m id (stage.Planned plan) r n shape good is = run_of m id plan r n shape 
 run_at m id stage.Ran r n shape good is = gives m (Run id) (refuse m Already) r n (quiet m (Run id) _ tt tt) is
 run_at m id stage.Stopped r n shape good is = gives m (Run id) (refuse m Already) r n (quiet m (Run id) _ tt tt) is
 
-run : (m : Machine) (id : ℕ) (h : Option Held) (r : Reply) (n : Machine) → IsShape m.store.shape → IfSome h HasOwnPlan → IsRun m id h r n → IsAnswer m (Run id) r
+run : (m : Machine) (id : ℕ) (h : Option Held) (r : Reply) (n : Machine) → IsShape m.store.shape → IfSome h HasOwnPlan → IsRunStep m id h r n → IsAnswer m (Run id) r
 run m id None r n shape good is = gives m (Run id) (refuse m Unknown) r n (quiet m (Run id) _ tt tt) is
 run m id (Some h) r n shape good is = run_at m id h.stage r n shape (λ plan staged. (good plan staged).0) is
 
 -- ---- a step
 
-pub answered : (m : Machine) (session : ℕ) (c : Call) (r : Reply) (n : Machine) → IsSound m → IsStep m session c r n → IsAnswer m c r
+pub answered : (m : Machine) (session : ℕ) (c : Call) (r : Reply) (n : Machine) → IsSound m → IsMachineStep m session c r n → IsAnswer m c r
 answered m session (Submit batch) r n sound is = gives m (Submit batch) _ r n (submit_if m session batch (nat_lt (length m.batches) MAX_BATCHES)) is
 answered m session (Fetch id) r n sound is = gives m (Fetch id) _ r n (fetch_of m id (batch_of m session id)) is
 answered m session (Settle id plan) r n sound is = gives m (Settle id plan) _ r n (settle_of m id plan (batch_of m session id)) is.1

@@ -4,18 +4,18 @@ use Rattle.batch_book.specs.declared.limits.TheConstants.{MAX_ENTRIES}
 use Rattle.batch_book.specs.declared.entry.Entry.{Entry}
 use Rattle.batch_book.specs.declared.reply.Reply.{Reply}
 use Rattle.batch_book.specs.declared.call.Call.{Call}
-use Rattle.batch_book.specs.Machine.{Machine, opened, IsStep}
+use Rattle.batch_book.specs.Machine.{Machine, opened, IsMachineStep}
 use Rattle.batch_book.specs.History.{Account, account, IsReplay, IsKeptBook, entry}
 use Rattle.batch_book.proofs.Steps.{small_step}
 
 replay_push : (m : Machine) (es : List Entry) (k : Machine) (session : ℕ) (c : Call) (r : Reply) (n : Machine)
-    → IsReplay m es k → IsStep k session c r n → IsReplay m (es ++ entry session c r ∷ []) n
-replay_push m [] k session c r n led step = (n, subst (λ (x : Machine). IsStep x session c r n) led step, refl)
+    → IsReplay m es k → IsMachineStep k session c r n → IsReplay m (es ++ entry session c r ∷ []) n
+replay_push m [] k session c r n led step = (n, subst (λ (x : Machine). IsMachineStep x session c r n) led step, refl)
 replay_push m (e ∷ es) k session c r n led step = (led.0, led.1, replay_push led.0 es k session c r n led.2 step)
 
 -- one step of the machine and one more entry, where there was room for it
 pub grown : (a : Account) (session : ℕ) (c : Call) (r : Reply) (es : List Entry) (n : Machine)
-    → IsKeptBook a → length a.history < MAX_ENTRIES → es ≡ a.history ++ entry session c r ∷ [] → IsStep a.machine session c r n → IsKeptBook (account a.opening es n)
+    → IsKeptBook a → length a.history < MAX_ENTRIES → es ≡ a.history ++ entry session c r ∷ [] → IsMachineStep a.machine session c r n → IsKeptBook (account a.opening es n)
 grown a session c r es n kept room is step =
     let small = small_step a.machine session c r n step in
     let given = small.given in let runs = small.runs in

@@ -17,8 +17,8 @@ use Rattle.batch_book.specs.declared.reply.Reply.TheVariants as reply
 use Rattle.batch_book.specs.declared.call.Call.{Call}
 use Rattle.batch_book.specs.declared.call.Call.TheVariants.{Submit, Fetch, Settle, Run, Show, Discard, Peek, Poke}
 use Rattle.batch_book.specs.declared.entry.Entry.{Entry}
-use Rattle.batch_book.specs.Machine.{Machine, opened, batch_of, Gives, accept, fetch, settle_at, settle, show, discard, peek_unless, poke_unless, refuse, IsRunOf, IsRunAt, IsRun, IsStep}
-use Rattle.batch_book.specs.History.{IsReplay, batch_number, run_number, numbers}
+use Rattle.batch_book.specs.Machine.{Machine, opened, batch_of, Gives, accept, fetch, settle_at, settle, show, discard, peek_unless, poke_unless, refuse, IsRunOf, IsRunAt, IsRunStep, IsMachineStep}
+use Rattle.batch_book.specs.History.{IsReplay, batch_number, run_number, given_numbers}
 use Rattle.batch_book.specs.Laws.{CountsUp}
 
 -- behind a number that was given last, these were given and no others
@@ -96,11 +96,11 @@ run_at m id (stage.Planned plan) r n is = run_of m id plan r n is
 run_at m id stage.Ran r n is = gives m _ r n (refl, refl) is
 run_at m id stage.Stopped r n is = gives m _ r n (refl, refl) is
 
-run : (m : Machine) (id : ℕ) (h : Option Held) (r : Reply) (n : Machine) → IsRun m id h r n → IsCounted m r n
+run : (m : Machine) (id : ℕ) (h : Option Held) (r : Reply) (n : Machine) → IsRunStep m id h r n → IsCounted m r n
 run m id None r n is = gives m _ r n (refl, refl) is
 run m id (Some h) r n is = run_at m id h.stage r n is
 
-step : (m : Machine) (session : ℕ) (c : Call) (r : Reply) (n : Machine) → IsStep m session c r n → IsCounted m r n
+step : (m : Machine) (session : ℕ) (c : Call) (r : Reply) (n : Machine) → IsMachineStep m session c r n → IsCounted m r n
 step m session (Submit batch) r n is = gives m _ r n (submitted m session batch (nat_lt (length m.batches) MAX_BATCHES)) is
 step m session (Fetch id) r n is = gives m _ r n (fetched m (batch_of m session id)) is
 step m session (Settle id plan) r n is = gives m _ r n (settled m id plan (batch_of m session id)) is.1
@@ -125,7 +125,7 @@ joins last middle next (x ∷ xs) ys is on = (
 )
 
 counted : (m : Machine) (es : List Entry) (n : Machine) → IsReplay m es n
-    → CountOn m.given (numbers batch_number es) n.given × CountOn m.runs (numbers run_number es) n.runs
+    → CountOn m.given (given_numbers batch_number es) n.given × CountOn m.runs (given_numbers run_number es) n.runs
 counted m [] n is = (
   (0, refl, let e = ap (λ (x : Machine). x.given) is in omega arith),
   (0, refl, let e = ap (λ (x : Machine). x.runs) is in omega arith),
@@ -133,8 +133,8 @@ counted m [] n is = (
 counted m (e ∷ es) n is =
     let first = step m e.session e.call e.reply is.0 is.1 in
     let rest = counted is.0 es n is.2 in (
-      joins m.given is.0.given n.given (batch_number e.reply) (numbers batch_number es) first.0 rest.0,
-      joins m.runs is.0.runs n.runs (run_number e.reply) (numbers run_number es) first.1 rest.1,
+      joins m.given is.0.given n.given (batch_number e.reply) (given_numbers batch_number es) first.0 rest.0,
+      joins m.runs is.0.runs n.runs (run_number e.reply) (given_numbers run_number es) first.1 rest.1,
     )
 
 whole : (xs : List ℕ) (next : ℕ) → CountOn 0 xs next → xs ≡ range_with_len 1 next

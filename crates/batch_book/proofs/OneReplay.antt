@@ -12,7 +12,7 @@ use Rattle.batch_book.specs.declared.reply.Reply.{Reply}
 use Rattle.batch_book.specs.declared.reply.Reply.TheVariants as reply
 use Rattle.batch_book.specs.declared.call.Call.{Call}
 use Rattle.batch_book.specs.declared.call.Call.TheVariants.{Submit, Fetch, Settle, Run, Show, Discard, Peek, Poke}
-use Rattle.batch_book.specs.Machine.{Machine, batch_of, run_to, Gives, IsRunOf, IsRunAt, IsRun, IsStep}
+use Rattle.batch_book.specs.Machine.{Machine, batch_of, run_to, Gives, IsRunOf, IsRunAt, IsRunStep, IsMachineStep}
 use Rattle.batch_book.specs.History.{IsReplay}
 use Rattle.batch_book.specs.Laws.{OneAnswer, OneStep, OneReplay, ShapeStays}
 use Rattle.batch_book.proofs.Steps.{small_step}
@@ -38,7 +38,7 @@ one_run_at m id (stage.Planned plan) r a b all x y = one_run_of m id plan r a b 
 one_run_at m id stage.Ran r a b all x y = one_given _ r a b x y
 one_run_at m id stage.Stopped r a b all x y = one_given _ r a b x y
 
-one_run : (m : Machine) (id : ℕ) (h : Option Held) (r : Reply) (a b : Machine) → HasAllBlocks m.store → IsRun m id h r a → IsRun m id h r b → a ≡ b
+one_run : (m : Machine) (id : ℕ) (h : Option Held) (r : Reply) (a b : Machine) → HasAllBlocks m.store → IsRunStep m id h r a → IsRunStep m id h r b → a ≡ b
 one_run m id None r a b all x y = one_given _ r a b x y
 one_run m id (Some h) r a b all x y = one_run_at m id h.stage r a b all x y
 
@@ -65,7 +65,7 @@ one_answer m session (Discard id) r s a b other x y = same_answer _ r s a b x y
 one_answer m session (Peek «module» address) r s a b other x y = same_answer _ r s a b x y
 one_answer m session (Poke «module» address word) r s a b other x y = same_answer _ r s a b x y
 
-still_all : (m n : Machine) (session : ℕ) (c : Call) (r : Reply) → HasAllBlocks m.store → IsStep m session c r n → HasAllBlocks n.store
+still_all : (m n : Machine) (session : ℕ) (c : Call) (r : Reply) → HasAllBlocks m.store → IsMachineStep m session c r n → HasAllBlocks n.store
 still_all m n session c r all step =
     let small = small_step m session c r n step in
     (subst IsShape (sym small.shape) all.0, small.blocks ∙ all.1 ∙ ap (λ (x : Extent). x.modules * x.blocks) (sym small.shape))

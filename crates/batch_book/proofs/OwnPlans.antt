@@ -19,7 +19,7 @@ use Rattle.batch_book.specs.declared.reply.Reply.{Reply}
 use Rattle.batch_book.specs.declared.reply.Reply.TheVariants as reply
 use Rattle.batch_book.specs.declared.call.Call.{Call}
 use Rattle.batch_book.specs.declared.call.Call.TheVariants.{Submit, Fetch, Settle, Run, Show, Discard, Peek, Poke}
-use Rattle.batch_book.specs.Machine.{Machine, held, owned, batch_of, staged, accept, refuse, fetch, settle_at, settle, show, discard, peek_unless, poke_unless, IsRunOf, IsRunAt, IsRun, IsStep}
+use Rattle.batch_book.specs.Machine.{Machine, held, owned, batch_of, staged, accept, refuse, fetch, settle_at, settle, show, discard, peek_unless, poke_unless, IsRunOf, IsRunAt, IsRunStep, IsMachineStep}
 use Rattle.batch_book.specs.History.{HasOwnPlan, HaveOwnPlans}
 use Rattle.batch_book.specs.Laws.{PlansStay}
 
@@ -128,11 +128,11 @@ run_at m id (stage.Planned plan) r n all is = run_of m id plan r n all is
 run_at m id stage.Ran r n all is = behind n _ is.1 all
 run_at m id stage.Stopped r n all is = behind n _ is.1 all
 
-run : (m : Machine) (id : ℕ) (h : Option Held) (r : Reply) (n : Machine) → HaveOwnPlans m → IsRun m id h r n → HaveOwnPlans n
+run : (m : Machine) (id : ℕ) (h : Option Held) (r : Reply) (n : Machine) → HaveOwnPlans m → IsRunStep m id h r n → HaveOwnPlans n
 run m id None r n all is = behind n _ is.1 all
 run m id (Some h) r n all is = run_at m id h.stage r n all is
 
-step : (m : Machine) (session : ℕ) (c : Call) (r : Reply) (n : Machine) → HaveOwnPlans m → IsStep m session c r n → HaveOwnPlans n
+step : (m : Machine) (session : ℕ) (c : Call) (r : Reply) (n : Machine) → HaveOwnPlans m → IsMachineStep m session c r n → HaveOwnPlans n
 step m session (Submit batch) r n all is = behind n _ is.1 (submitted m session batch (nat_lt (length m.batches) MAX_BATCHES) all)
 step m session (Fetch id) r n all is = behind n _ is.1 (fetched m (batch_of m session id) all)
 step m session (Settle id plan) r n all is = behind n _ is.1.1 (settled m session id plan (lookup (nat_eq id) m.batches) refl is.0 all)

@@ -9,7 +9,7 @@ use Rattle.module_memory.specs.Store.{Store}
 use Rattle.crossbar.specs.declared.port.ConfigPort.{Ghosts}
 use Rattle.schedule_certificate.specs.Plans.{Plan}
 use Rattle.setting_runner.specs.Plants.{LeavesPlant}
-use Rattle.setting_runner.specs.Runs.{LeavesMemories, IsMisfit, IsRefused, CanMove}
+use Rattle.setting_runner.specs.Runs.{LeavesMemories, IsMisfit, IsRefusedRun, CanMove}
 use Rattle.setting_runner.specs.declared.outcome.Outcome.{Outcome}
 use Rattle.setting_runner.specs.declared.outcome.Outcome.TheVariants as outcome
 use Rattle.setting_runner.specs.declared.outcome.RunRefusal.{RunRefusal}
@@ -20,15 +20,15 @@ use Rattle.batch_book.specs.declared.reply.Reply.TheVariants as reply
 use Rattle.batch_book.specs.declared.held.Held.{Held}
 use Rattle.batch_book.specs.declared.held.Stage.{Stage}
 use Rattle.batch_book.specs.declared.held.Stage.TheVariants as stage
-use Rattle.batch_book.specs.Holdings.{Ends}
+use Rattle.batch_book.specs.Holdings.{EndsRun}
 use Rattle.batch_book.specs.Replies.{outcome_in}
-use Rattle.batch_book.specs.Machine.{Machine, HasBegun, batch_of, IsRun, IsRunAt, IsRunOf}
+use Rattle.batch_book.specs.Machine.{Machine, HasBegun, batch_of, IsRunStep, IsRunAt, IsRunOf}
 
 -- what the contract of a run says of refusals
 pub record AreRefusals (extent : Extent) (batch : List Transfer) (o : Outcome) : Type 0 where
   pub overlap : (i j : ℕ) → (o ≡ outcome.Refused (run_refusal.Overlap i j)) ↔ IsFirstOverlap batch i j
   pub shape : (o ≡ outcome.Refused run_refusal.Shape) ↔ (IsApart batch × IsMisfit extent batch)
-  pub free : (IsRefused o → ⊥) → CanMove extent batch
+  pub free : (IsRefusedRun o → ⊥) → CanMove extent batch
 
 -- ---- the step
 
@@ -43,7 +43,7 @@ begun : (m : Machine) (plan : Plan) → CanMove m.store.shape plan.batch → Has
 begun m plan can_move = record { can_move = can_move; number = refl }
 
 pub ended : {E : Type 0} (m : Machine) (s : Store) (id : ℕ) (plan : Plan) (o : Outcome) (r : Result Reply E) (next : Machine)
-    → AreRefusals m.store.shape plan.batch o → LeavesMemories m.store plan o s → Ends (worded m s) id o r next → IfOk r (λ reply. IsRunOf m id plan reply next)
+    → AreRefusals m.store.shape plan.batch o → LeavesMemories m.store plan o s → EndsRun (worded m s) id o r next → IfOk r (λ reply. IsRunOf m id plan reply next)
 ended m s id plan (outcome.Completed settings words) r next are left is =
     subst (λ (x : Result Reply _). IfOk x (λ reply. IsRunOf m id plan reply next)) (sym is.0)
     (subst (λ (n : Machine). IsRunOf m id plan (reply.Ran (m.runs + 1) settings words) n) (sym is.1) (begun m plan (are.free (λ no_refusal. no_refusal)), left, refl))
@@ -60,7 +60,7 @@ ended m s id plan (outcome.Refused run_refusal.NoMemory) (Err e) next are left i
 
 -- what holds of how a run ended, holds of what the reply tells of it, if it makes no difference why a run was refused
 pub as_told : {E : Type 0} (P : Outcome → Type 0) (m : Machine) (id : ℕ) (o : Outcome) (r : Result Reply E) (next : Machine)
-    → ((why other : RunRefusal) → P (outcome.Refused why) → P (outcome.Refused other)) → Ends m id o r next → P o → P (outcome_in r)
+    → ((why other : RunRefusal) → P (outcome.Refused why) → P (outcome.Refused other)) → EndsRun m id o r next → P o → P (outcome_in r)
 as_told P m id (outcome.Completed settings words) r next any is holds = subst (λ (x : Result Reply _). P (outcome_in x)) (sym is.0) holds
 as_told P m id (outcome.Stopped setting cause moved) r next any is holds = subst (λ (x : Result Reply _). P (outcome_in x)) (sym is.0) holds
 as_told P m id (outcome.Refused (run_refusal.Overlap i j)) r next any is holds =
@@ -83,7 +83,7 @@ refused_so seen sure shape ran old new why other is =
 -- the run of a batch that is held and planned
 pub ran_step : {E : Type 0} (m : Machine) (session id : ℕ) (h : Held) (plan : Plan) (r : Result Reply E) (next : Machine)
     → batch_of m session id ≡ Some h → h.stage ≡ stage.Planned plan → IfOk r (λ reply. IsRunOf m id plan reply next)
-    → IfOk r (λ reply. IsRun m id (batch_of m session id) reply next)
+    → IfOk r (λ reply. IsRunStep m id (batch_of m session id) reply next)
 ran_step m session id h plan r next own staged step =
-    subst (λ (x : Option Held). IfOk r (λ reply. IsRun m id x reply next)) (sym own)
+    subst (λ (x : Option Held). IfOk r (λ reply. IsRunStep m id x reply next)) (sym own)
     (subst (λ (x : Stage). IfOk r (λ reply. IsRunAt m id x reply next)) (sym staged) step)

@@ -2,7 +2,7 @@
 use Rattle.std.proofs.Common.{◌≡◌, ℕ, zero, suc, ◌+◌, ◌≤◌, max, List, [], ◌∷◌, ◌++◌, length, length-append, if◌then◌else◌, cond, nat_eq, take, drop, Bool, true, false, refl, sym, ap, ◌∙◌, subst, arith}
 use Rattle.std.proofs.Math.Seq.{take-append_seam}
 use Rattle.progress_word.specs.Lookouts.{LookoutView}
-use Rattle.setting_runner.specs.Runs.{Told, TellsOutcome}
+use Rattle.setting_runner.specs.Runs.{ToldUpTo, TellsOutcome}
 use Rattle.batch_book.specs.declared.entry.Entry.{Entry}
 use Rattle.batch_book.specs.declared.reply.Reply.{Reply}
 use Rattle.batch_book.specs.declared.reply.Reply.TheVariants.{Ran, Stopped}
@@ -21,7 +21,7 @@ greatest_push (x ∷ xs) e = omega (arith, greatest_push xs e)
 abbrev pub Hears : {N : Type 0} → (N → LookoutView) → (N → ℕ) → N → ℕ → N → Type 0
 Hears lookout run a k b = Reaches (lookout a) (value_at (run a) k) (lookout b) × (run b ≡ run a)
 
-pub told : {N : Type 0} (lookout : N → LookoutView) (run : N → ℕ) (a : N) (k : ℕ) (b : N) → Told (Hears lookout run) a k b → Hears lookout run a k b
+pub told : {N : Type 0} (lookout : N → LookoutView) (run : N → ℕ) (a : N) (k : ℕ) (b : N) → ToldUpTo (Hears lookout run) a k b → Hears lookout run a k b
 told lookout run a zero b h = h
 told {N} lookout run a (suc k) b h =
     let m = h.0 in

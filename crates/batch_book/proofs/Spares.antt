@@ -16,7 +16,7 @@ use Rattle.batch_book.specs.declared.call.Call.{Call}
 use Rattle.batch_book.specs.declared.call.Call.TheVariants.{Submit, Fetch, Settle, Run, Show, Discard, Peek, Poke}
 use Rattle.batch_book.specs.History.{Account, IsGrown}
 use Rattle.batch_book.specs.Holdings.{batch_in, spare_of}
-use Rattle.batch_book.specs.Machine.{Machine, batch_of, Gives, accept, fetch, settle_at, settle, show, discard, peek_unless, poke_unless, refuse, IsRunOf, IsRunAt, IsRun, IsStep}
+use Rattle.batch_book.specs.Machine.{Machine, batch_of, Gives, accept, fetch, settle_at, settle, show, discard, peek_unless, poke_unless, refuse, IsRunOf, IsRunAt, IsRunStep, IsMachineStep}
 use Rattle.batch_book.specs.Replies.{is_logged, SpareFits}
 
 -- the reply has a batch
@@ -71,7 +71,7 @@ run_at m id (stage.Planned plan) r n is = run_of m id plan r n is
 run_at m id stage.Ran r n is = gives (refuse m Already) r n refl is
 run_at m id stage.Stopped r n is = gives (refuse m Already) r n refl is
 
-run : (m : Machine) (id : ℕ) (h : Option Held) (r : Reply) (n : Machine) → IsRun m id h r n → has_batch r ≡ false
+run : (m : Machine) (id : ℕ) (h : Option Held) (r : Reply) (n : Machine) → IsRunStep m id h r n → has_batch r ≡ false
 run m id None r n is = gives (refuse m Unknown) r n refl is
 run m id (Some h) r n is = run_at m id h.stage r n is
 
@@ -84,7 +84,7 @@ fetched : (m : Machine) (h : Option Held) (r : Reply) (spare : Option (List Tran
 fetched m None r spare n is given = subst (SpareFits spare) (sym given.0) tt
 fetched m (Some h) r spare n is given = subst (SpareFits spare) (sym given.0) is
 
-pub fitting_spare : (m : Machine) (session : ℕ) (c : Call) (r : Reply) (spare : Option (List Transfer)) (n : Machine) → spare ≡ spare_of m session c → IsStep m session c r n → SpareFits spare r
+pub fitting_spare : (m : Machine) (session : ℕ) (c : Call) (r : Reply) (spare : Option (List Transfer)) (n : Machine) → spare ≡ spare_of m session c → IsMachineStep m session c r n → SpareFits spare r
 fitting_spare m session (Submit batch) r spare n is step = unneeded spare r (gives _ r n (submit_if m session batch (nat_lt (length m.batches) MAX_BATCHES)) step)
 fitting_spare m session (Fetch id) r spare n is step = fetched m (batch_of m session id) r spare n is step
 fitting_spare m session (Settle id plan) r spare n is step = unneeded spare r (gives _ r n (settle_of m id plan (batch_of m session id)) step.1)

@@ -15,7 +15,7 @@ use Rattle.batch_book.specs.declared.reply.Reply.{Reply}
 use Rattle.batch_book.specs.declared.reply.Reply.TheVariants as reply
 use Rattle.batch_book.specs.declared.call.Call.{Call}
 use Rattle.batch_book.specs.declared.call.Call.TheVariants.{Submit, Fetch, Settle, Run, Show, Discard, Peek, Poke}
-use Rattle.batch_book.specs.Machine.{Machine, batch_of, Gives, accept, submit, fetch, settle_at, settle, show, discard, peek_unless, poke_unless, refuse, IsRunOf, IsRunAt, IsRun, IsStep}
+use Rattle.batch_book.specs.Machine.{Machine, batch_of, Gives, accept, submit, fetch, settle_at, settle, show, discard, peek_unless, poke_unless, refuse, IsRunOf, IsRunAt, IsRunStep, IsMachineStep}
 use Rattle.batch_book.specs.Replies.{is_logged}
 
 -- the reply goes into the history; one number at most is given to batches, and one to runs; and the rack keeps its shape
@@ -110,11 +110,11 @@ small_run_at m id (stage.Planned plan) r n is = small_run_of m id plan r n is
 small_run_at m id stage.Ran r n is = gives m (refuse m Already) r n (stays m _ m refl refl) is
 small_run_at m id stage.Stopped r n is = gives m (refuse m Already) r n (stays m _ m refl refl) is
 
-small_run : (m : Machine) (id : ℕ) (h : Option Held) (r : Reply) (n : Machine) → IsRun m id h r n → IsSmall m r n
+small_run : (m : Machine) (id : ℕ) (h : Option Held) (r : Reply) (n : Machine) → IsRunStep m id h r n → IsSmall m r n
 small_run m id None r n is = gives m (refuse m Unknown) r n (stays m _ m refl refl) is
 small_run m id (Some h) r n is = small_run_at m id h.stage r n is
 
-pub small_step : (m : Machine) (session : ℕ) (c : Call) (r : Reply) (n : Machine) → IsStep m session c r n → IsSmall m r n
+pub small_step : (m : Machine) (session : ℕ) (c : Call) (r : Reply) (n : Machine) → IsMachineStep m session c r n → IsSmall m r n
 small_step m session (Submit batch) r n is = gives m _ r n (small_submit m session batch) is
 small_step m session (Fetch id) r n is = gives m _ r n (small_fetch m (batch_of m session id)) is
 small_step m session (Settle id plan) r n is = gives m _ r n (small_settle m id plan (batch_of m session id)) is.1

@@ -4,30 +4,30 @@ use Rattle.progress_word.specs.declared.limits.TheConstants.{ALL_PARTS}
 use Rattle.batch_book.specs.declared.close.Closed.{Closed}
 use Rattle.batch_book.specs.declared.close.Unclosed.{Unclosed}
 use Rattle.batch_book.specs.declared.close.Unclosed.TheVariants.{SeatMissing, LogsDisagree}
-use Rattle.batch_book.specs.Seats.{Stand, closed, parts_of, entries_of, Agrees}
+use Rattle.batch_book.specs.Seats.{SeatState, closed, parts_of, entries_of, LogAgrees}
 use Rattle.batch_book.specs.Exchanges.{Exchange}
 use Rattle.batch_book.specs.Values.{greatest}
 
 -- no seat is missing: the seats keep their lists, the history has as many entries as these
 -- together, and the plant can be lent to another run
-pub record AreClosed {L P W G : Type 0} (seats : List Stand) (c : Closed L P W G) : Type 0 where
+pub record AreClosed {L P W G : Type 0} (seats : List SeatState) (c : Closed L P W G) : Type 0 where
   pub all_parts : parts_of seats ≡ ALL_PARTS
   pub kept : c.seats.items ≡ map closed seats
   pub counted : length c.book.history ≡ entries_of seats
 
 -- each seat's list is the history filtered to its session
-abbrev pub AllAgree : {L P W G : Type 0} → List Stand → Closed L P W G → Type 0
-AllAgree seats c = All (Agrees c.book.history) seats
+abbrev pub LogsAgree : {L P W G : Type 0} → List SeatState → Closed L P W G → Type 0
+LogsAgree seats c = All (LogAgrees c.book.history) seats
 
 -- no seat has seen more of the word than the greatest value of the history
-abbrev pub NoneAhead : {L P W G : Type 0} → List Stand → Closed L P W G → Type 0
+abbrev pub NoneAhead : {L P W G : Type 0} → List SeatState → Closed L P W G → Type 0
 NoneAhead seats c = All (λ s. s.seen ≤ greatest c.book.history) seats
 
 -- A seat is missing just where the seats hold fewer than all parts; then nothing has changed. Else
 -- the exchange is closed, and it is Ok just where all lists agree with the history.
-abbrev pub Closes : {L P W G : Type 0} → Exchange → List Stand
+abbrev pub Closes : {L P W G : Type 0} → Exchange → List SeatState
     → Result (Closed L P W G) (Unclosed L P W G) → Type 0
-Closes x seats (Ok c) = AreClosed seats c × AllAgree seats c × NoneAhead seats c
+Closes x seats (Ok c) = AreClosed seats c × LogsAgree seats c × NoneAhead seats c
 Closes x seats (Err (SeatMissing y ss)) =
     (parts_of seats < ALL_PARTS) × (y ≡ x) × (ss.items ≡ seats)
-Closes x seats (Err (LogsDisagree c)) = AreClosed seats c × ¬ AllAgree seats c
+Closes x seats (Err (LogsDisagree c)) = AreClosed seats c × ¬ LogsAgree seats c

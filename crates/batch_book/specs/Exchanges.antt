@@ -4,7 +4,7 @@ use Rattle.std.specs.Coded.{Coded, code_by, coded×, coded_ℕ}
 use Rattle.atomic_table.specs.Seated.{TableId, table_id_coded}
 use Rattle.progress_word.specs.declared.limits.TheConstants.{ALL_PARTS}
 use Rattle.batch.specs.Extent.{Extent, extent}
-use Rattle.batch_book.specs.Seats.{Stand, parts_of}
+use Rattle.batch_book.specs.Seats.{SeatState, parts_of}
 
 -- which exchange it is, by its progress word, and the shape of its rack
 pub record Exchange : Type 0 where
@@ -19,7 +19,7 @@ exchange_coded =
     (λ p. record { word = p.0; shape = extent p.1.0 p.1.1.0 p.1.1.1 }) (λ _. refl)
 
 -- a seat that has asked nothing and seen nothing
-abbrev pub new_seat : TableId → ℕ → ℕ → Stand
+abbrev pub new_seat : TableId → ℕ → ℕ → SeatState
 new_seat word session parts =
     record {
       exchange = Some word;
@@ -35,8 +35,8 @@ abbrev pub parts_at : ℕ → ℕ → ℕ
 parts_at sessions i = if i == 0 then ALL_PARTS + 1 - sessions else 1
 
 -- the seats of a new exchange, one for each session: together they have all parts
-pub record AreNew (word : TableId) (sessions : ℕ) (seats : List Stand) : Type 0 where
+pub record AreNew (word : TableId) (sessions : ℕ) (seats : List SeatState) : Type 0 where
   pub count : length seats ≡ sessions
   pub parts : parts_of seats ≡ ALL_PARTS
-  pub each : (i : ℕ) (d : Stand) → i < sessions
+  pub each : (i : ℕ) (d : SeatState) → i < sessions
       → slice_index_or seats i d ≡ new_seat word i (parts_at sessions i)

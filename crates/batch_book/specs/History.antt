@@ -12,13 +12,13 @@ use Rattle.batch_book.specs.declared.reply.Reply.{Reply}
 use Rattle.batch_book.specs.declared.reply.Reply.TheVariants.{Accepted, Ran, Stopped}
 use Rattle.batch_book.specs.declared.call.Call.{Call}
 use Rattle.batch_book.specs.declared.call.Call.TheVariants.{Run}
-use Rattle.batch_book.specs.Machine.{Machine, opened, IsStep}
+use Rattle.batch_book.specs.Machine.{Machine, opened, IsMachineStep}
 
 -- the entries lead from one machine to another: each reply is one that the machine may give where
 -- those before it lead
 abbrev pub IsReplay : Machine → List Entry → Machine → Type 0
 IsReplay m [] n = n ≡ m
-IsReplay m (e ∷ es) n = (k : Machine) × IsStep m e.session e.call e.reply k × IsReplay k es n
+IsReplay m (e ∷ es) n = (k : Machine) × IsMachineStep m e.session e.call e.reply k × IsReplay k es n
 
 -- a book that was opened with these words may have these entries
 abbrev pub IsLegal : Store → List Entry → Type 0
@@ -56,7 +56,7 @@ pub record IsKeptBook (a : Account) : Type 0 where
 -- one step of the machine, and one entry more
 pub record IsGrown (old : Account) (session : ℕ) (call : Call) (reply : Reply)
     (new : Account) : Type 0 where
-  pub step : IsStep old.machine session call reply new.machine
+  pub step : IsMachineStep old.machine session call reply new.machine
   pub history : new.history ≡ old.history ++ entry session call reply ∷ []
   pub opening : new.opening ≡ old.opening
 
@@ -79,8 +79,8 @@ run_number (Stopped run setting cause moved) = run ∷ []
 run_number reply = []
 
 -- the numbers that the replies of a history give, in order
-abbrev pub numbers : (Reply → List ℕ) → List Entry → List ℕ
-numbers given es = flat_map (λ e. given e.reply) es
+abbrev pub given_numbers : (Reply → List ℕ) → List Entry → List ℕ
+given_numbers given es = flat_map (λ e. given e.reply) es
 
 -- a batch that can be run has a shortest plan of its own transfers
 abbrev pub HasOwnPlan : Held → Type 0

@@ -41,10 +41,10 @@ spare_of m session call = None
 
 -- Behind a run that left the machine's words: the reply that tells of it, and the next machine.
 -- Where there was no memory for the run, there is no reply.
-abbrev pub Ends : {E : Type 0} → Machine → ℕ → Outcome → Result Reply E → Machine → Type 0
-Ends m id (outcome.Completed settings words) r next =
+abbrev pub EndsRun : {E : Type 0} → Machine → ℕ → Outcome → Result Reply E → Machine → Type 0
+EndsRun m id (outcome.Completed settings words) r next =
     (r ≡ Ok (Ran (m.runs + 1) settings words)) × (next ≡ run_to m id stage.Ran m.store)
-Ends m id (outcome.Stopped setting cause moved) r next =
+EndsRun m id (outcome.Stopped setting cause moved) r next =
     (r ≡ Ok (Stopped (m.runs + 1) setting cause moved)) × (next ≡ run_to m id stage.Stopped m.store)
-Ends m id (outcome.Refused run_refusal.NoMemory) r next = IsErr r × (next ≡ m)
-Ends m id (outcome.Refused why) r next = (r ≡ Ok (RunRefused why)) × (next ≡ m)
+EndsRun m id (outcome.Refused run_refusal.NoMemory) r next = IsErr r × (next ≡ m)
+EndsRun m id (outcome.Refused why) r next = (r ≡ Ok (RunRefused why)) × (next ≡ m)

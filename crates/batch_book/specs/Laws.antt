@@ -5,20 +5,20 @@ use Rattle.module_memory.specs.Store.{Store, HasAllBlocks}
 use Rattle.batch_book.specs.declared.entry.Entry.{Entry}
 use Rattle.batch_book.specs.declared.reply.Reply.{Reply}
 use Rattle.batch_book.specs.declared.call.Call.{Call}
-use Rattle.batch_book.specs.Machine.{Machine, opened, IsStep}
-use Rattle.batch_book.specs.History.{HaveOwnPlans, IsReplay, IsRunCall, batch_number, numbers, run_number}
+use Rattle.batch_book.specs.Machine.{Machine, opened, IsMachineStep}
+use Rattle.batch_book.specs.History.{HaveOwnPlans, IsReplay, IsRunCall, batch_number, given_numbers, run_number}
 
 -- all other calls have one reply, and lead to one machine
 abbrev pub OneAnswer : Type 0
 OneAnswer =
     (m : Machine) (session : ℕ) (call : Call) (r s : Reply) (a b : Machine) → (IsRunCall call → ⊥)
-    → IsStep m session call r a → IsStep m session call s b → (r ≡ s) × (a ≡ b)
+    → IsMachineStep m session call r a → IsMachineStep m session call s b → (r ≡ s) × (a ≡ b)
 
 -- a call and its reply lead to one machine
 abbrev pub OneStep : Type 0
 OneStep =
     (m : Machine) (session : ℕ) (call : Call) (reply : Reply) (a b : Machine) → HasAllBlocks m.store
-    → IsStep m session call reply a → IsStep m session call reply b → a ≡ b
+    → IsMachineStep m session call reply a → IsMachineStep m session call reply b → a ≡ b
 
 -- so a history leads to one machine
 abbrev pub OneReplay : Type 0
@@ -30,8 +30,8 @@ OneReplay =
 -- or stopped
 abbrev pub CountsUp : Type 0
 CountsUp = (opening : Store) (es : List Entry) (n : Machine) → IsReplay (opened opening) es n
-    → (numbers batch_number es ≡ range_with_len 1 n.given)
-    × (numbers run_number es ≡ range_with_len 1 n.runs)
+    → (given_numbers batch_number es ≡ range_with_len 1 n.given)
+    × (given_numbers run_number es ≡ range_with_len 1 n.runs)
 
 -- no entry changes the rack's shape
 abbrev pub ShapeStays : Type 0

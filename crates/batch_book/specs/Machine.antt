@@ -172,21 +172,23 @@ IsRunAt m id stage.Waiting reply next = Gives (refuse m Unplanned) reply next
 IsRunAt m id (stage.Planned plan) reply next = IsRunOf m id plan reply next
 IsRunAt m id s reply next = Gives (refuse m Already) reply next
 
-abbrev pub IsRun : Machine → ℕ → Option Held → Reply → Machine → Type 0
-IsRun m id None reply next = Gives (refuse m Unknown) reply next
-IsRun m id (Some h) reply next = IsRunAt m id h.stage reply next
+abbrev pub IsRunStep : Machine → ℕ → Option Held → Reply → Machine → Type 0
+IsRunStep m id None reply next = Gives (refuse m Unknown) reply next
+IsRunStep m id (Some h) reply next = IsRunAt m id h.stage reply next
 
 -- ---- the steps
 
 -- the machine may answer this call of this session so, and is the next one then
-abbrev pub IsStep : Machine → ℕ → Call → Reply → Machine → Type 0
-IsStep m session (Submit batch) reply next = Gives (submit m session batch) reply next
-IsStep m session (Fetch id) reply next = Gives (fetch m (batch_of m session id)) reply next
-IsStep m session (Settle id plan) reply next =
+abbrev pub IsMachineStep : Machine → ℕ → Call → Reply → Machine → Type 0
+IsMachineStep m session (Submit batch) reply next = Gives (submit m session batch) reply next
+IsMachineStep m session (Fetch id) reply next = Gives (fetch m (batch_of m session id)) reply next
+IsMachineStep m session (Settle id plan) reply next =
     IsPlan plan × Gives (settle m id plan (batch_of m session id)) reply next
-IsStep m session (Run id) reply next = IsRun m id (batch_of m session id) reply next
-IsStep m session (Show id) reply next = Gives (show m (batch_of m session id)) reply next
-IsStep m session (Discard id) reply next = Gives (discard m id (batch_of m session id)) reply next
-IsStep m session (Peek «module» address) reply next = Gives (peek m «module» address) reply next
-IsStep m session (Poke «module» address word) reply next =
+IsMachineStep m session (Run id) reply next = IsRunStep m id (batch_of m session id) reply next
+IsMachineStep m session (Show id) reply next = Gives (show m (batch_of m session id)) reply next
+IsMachineStep m session (Discard id) reply next =
+    Gives (discard m id (batch_of m session id)) reply next
+IsMachineStep m session (Peek «module» address) reply next =
+    Gives (peek m «module» address) reply next
+IsMachineStep m session (Poke «module» address word) reply next =
     Gives (poke m «module» address word) reply next

@@ -18,6 +18,6 @@ plan_in None = None
 plan_in (Some h) = plan_at h.stage
 
 -- the plan that a call runs
-abbrev pub plan_of : Machine → ℕ → Call → Option Plan
-plan_of m session (Run id) = plan_in (batch_of m session id)
-plan_of m session call = None
+abbrev pub plan_to_run : Machine → ℕ → Call → Option Plan
+plan_to_run m session (Run id) = plan_in (batch_of m session id)
+plan_to_run m session call = None

@@ -7,7 +7,7 @@ use Rattle.batch_book.specs.declared.entry.Entry.{Entry}
 -- What contracts see of a seat: the word of its exchange (none, once that is closed), its session,
 -- its list, the greatest value that it saw of the word, the greatest to which it raised it, and its
 -- parts
-pub record Stand : Type 0 where
+pub record SeatState : Type 0 where
   pub exchange : Option TableId
   pub session : ℕ
   pub log : List Entry
@@ -16,8 +16,8 @@ pub record Stand : Type 0 where
   pub parts : ℕ
 
 -- a seat with this lookout on the word of its exchange
-abbrev pub stand : LookoutView → ℕ → List Entry → ℕ → Stand
-stand o session log parts =
+abbrev pub open_seat : LookoutView → ℕ → List Entry → ℕ → SeatState
+open_seat o session log parts =
     record {
       exchange = Some o.word;
       session = session;
@@ -28,22 +28,22 @@ stand o session log parts =
     }
 
 -- the seat once its exchange is closed: it keeps its list
-abbrev pub closed : Stand → Stand
+abbrev pub closed : SeatState → SeatState
 closed s =
     record { exchange = None; session = s.session; log = s.log; seen = 0; raised = 0; parts = 0 }
 
 -- it is the seat of the same session at the same exchange, with as many parts
-pub record IsSameSeat (old new : Stand) : Type 0 where
+pub record IsSameSeat (old new : SeatState) : Type 0 where
   pub exchange : new.exchange ≡ old.exchange
   pub session : new.session ≡ old.session
   pub parts : new.parts ≡ old.parts
 
 -- the parts of these seats together
-abbrev pub parts_of : List Stand → ℕ
+abbrev pub parts_of : List SeatState → ℕ
 parts_of seats = sum_by (λ s. s.parts) seats
 
 -- the entries of their lists together
-abbrev pub entries_of : List Stand → ℕ
+abbrev pub entries_of : List SeatState → ℕ
 entries_of seats = sum_by (λ s. length s.log) seats
 
 -- the entries of a session
@@ -51,8 +51,8 @@ abbrev pub own : ℕ → List Entry → List Entry
 own session history = filter (λ e. nat_eq e.session session) history
 
 -- the seat's list is the history filtered to its session
-abbrev pub Agrees : List Entry → Stand → Type 0
-Agrees history seat = seat.log ≡ own seat.session history
+abbrev pub LogAgrees : List Entry → SeatState → Type 0
+LogAgrees history seat = seat.log ≡ own seat.session history
 
 -- a lookout from which the word was raised to a value, or needn't be
 pub record Reaches (old : LookoutView) (value : ℕ) (new : LookoutView) : Type 0 where

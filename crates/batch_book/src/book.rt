@@ -5,7 +5,7 @@ ghost use Rattle.setting_runner.specs.Plants.{LeavesPlant};
 ghost use Rattle.setting_runner.specs.Runs.{TellsOutcome};
 ghost use Rattle.batch_book.specs.Holdings.{spare_of};
 ghost use Rattle.batch_book.specs.Machine.{opened};
-ghost use Rattle.batch_book.specs.Running.{plan_of};
+ghost use Rattle.batch_book.specs.Running.{plan_to_run};
 ghost use Rattle.batch_book.specs.Replies.{is_logged, outcome_of, outcome_in};
 ghost use Rattle.batch_book.specs.History.{new_account, IsReplay, IsLegal, IsFull, IsGrown, IsSound};
 
@@ -133,7 +133,7 @@ impl Book {
 
         // What a run leaves of the plant, and what the notice is told. Nothing else does anything to them.
         ensures plant { LeavesPlant P.ConfigPort W.is_sure self.old.machine.store.shape
-            (plan_of self.old.machine session call) (outcome_of result) plant.old plant.new }
+            (plan_to_run self.old.machine session call) (outcome_of result) plant.old plant.new }
         ensures told { TellsOutcome N.hears notice.old (outcome_of result) notice.new }
     {
         if self.history.len() >= MAX_ENTRIES {
@@ -161,7 +161,7 @@ impl Book {
         ensures unchanged { OnErr result (self.new ≡ self.old) }
 
         ensures plant { LeavesPlant P.ConfigPort W.is_sure self.old.machine.store.shape
-            (plan_of self.old.machine session call) (outcome_in result) plant.old plant.new }
+            (plan_to_run self.old.machine session call) (outcome_in result) plant.old plant.new }
         ensures told { TellsOutcome N.hears notice.old (outcome_in result) notice.new }
     {
         self.history.reserve(1)?;

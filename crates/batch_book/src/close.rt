@@ -4,12 +4,12 @@ ghost use Rattle.std.specs.Prelude.{◌≡◌, ℕ, ◌≤◌, map, All, Some};
 ghost use Rattle.batch_book.specs.Seats.{closed, parts_of, entries_of};
 ghost use Rattle.batch_book.specs.Values.{greatest};
 
+use crate::access::ExchangeAccess;
 use crate::book::Book;
 use crate::lists::{agree, have_all_parts};
 use crate::locked::Locked;
 use crate::seat::Seat;
 use crate::shared::Shared;
-use crate::ticket::Ticket;
 use progress_word::{ALL_PARTS, ProgressWord};
 use setting_runner::Plant;
 use std::sync::ledger::Ledger;
@@ -67,8 +67,8 @@ impl<L: Ledger, P, W, G> Shared<L, P, W, G> {
     }
 }
 
-// One ticket that has all that the seats had.
-fn gather<L: Ledger>(word: &ProgressWord, seats: &mut [Seat<L>]) -> Ticket<L>
+// One access that has all that the seats had.
+fn gather<L: Ledger>(word: &ProgressWord, seats: &mut [Seat<L>]) -> ExchangeAccess<L>
     requires parts { L.parts ≡ ALL_PARTS }
     requires all { ALL_PARTS ≤ parts_of seats.old }
     requires seats { All (λ s. s.exchange ≡ Some word.now) seats.old }
@@ -82,8 +82,8 @@ fn gather<L: Ledger>(word: &ProgressWord, seats: &mut [Seat<L>]) -> Ticket<L>
 {
     let mut all = seats[0].leave();
     for i in 1..seats.len() {
-        let ticket = seats[i].leave();
-        all.join(word, ticket);
+        let access = seats[i].leave();
+        all.join(word, access);
     }
     all
 }

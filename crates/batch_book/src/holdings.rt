@@ -7,9 +7,9 @@ ghost use Rattle.crossbar.specs.Switch.{Switch};
 ghost use Rattle.module_memory.specs.Store.{Store};
 ghost use Rattle.setting_runner.specs.Plants.{LeavesPlant};
 ghost use Rattle.setting_runner.specs.Runs.{TellsOutcome};
-ghost use Rattle.batch_book.specs.Holdings.{Ends, spare_of};
-ghost use Rattle.batch_book.specs.Machine.{Machine, opened, owned, batch_of, set_stage, Gives, submit, fetch, settle, show, discard, peek, poke, run_to, IsRun, IsStep};
-ghost use Rattle.batch_book.specs.Running.{plan_in, plan_of};
+ghost use Rattle.batch_book.specs.Holdings.{EndsRun, spare_of};
+ghost use Rattle.batch_book.specs.Machine.{Machine, opened, owned, batch_of, set_stage, Gives, submit, fetch, settle, show, discard, peek, poke, run_to, IsRunStep, IsMachineStep};
+ghost use Rattle.batch_book.specs.Running.{plan_in, plan_to_run};
 ghost use Rattle.batch_book.specs.Replies.{TellsNoRun, outcome_of, outcome_in};
 
 use crate::call::Call;
@@ -245,7 +245,7 @@ impl Holdings {
         requires number { self.old.runs < MAX_ENTRIES }
 
         ensures step { IfOk result (λ reply.
-            IsRun self.old id (batch_of self.old session id) reply self.new) }
+            IsRunStep self.old id (batch_of self.old session id) reply self.new) }
         ensures unchanged { OnErr result (self.new ≡ self.old) }
 
         ensures plant { LeavesPlant P.ConfigPort W.is_sure self.old.store.shape
@@ -283,7 +283,7 @@ impl Holdings {
     /// The reply that tells of a run, which left these words. A run that was refused leaves its batch planned.
     fn end(&mut self, id: usize, outcome: &Outcome) -> Result<Reply, AllocError>
         requires { self.old.runs < MAX_ENTRIES }
-        ensures { Ends self.old id outcome.now result self.new }
+        ensures { EndsRun self.old id outcome.now result self.new }
     {
         match outcome {
             Outcome::Completed { settings, words } => {
@@ -324,11 +324,11 @@ impl Holdings {
         requires id { self.old.given < MAX_ENTRIES }
         requires number { self.old.runs < MAX_ENTRIES }
 
-        ensures step { IfOk result (λ reply. IsStep self.old session call reply self.new) }
+        ensures step { IfOk result (λ reply. IsMachineStep self.old session call reply self.new) }
         ensures unchanged { OnErr result (self.new ≡ self.old) }
 
         ensures plant { LeavesPlant P.ConfigPort W.is_sure self.old.store.shape
-            (plan_of self.old session call) (outcome_in result) plant.old plant.new }
+            (plan_to_run self.old session call) (outcome_in result) plant.old plant.new }
         ensures told { TellsOutcome N.hears notice.old (outcome_in result) notice.new }
     {
         match call {

@@ -12,6 +12,7 @@
 //! history filtered to its session.
 #![tactic(auto)]
 
+mod access;
 mod book;
 mod call;
 mod close;
@@ -30,7 +31,6 @@ mod reply;
 mod same;
 mod seat;
 mod shared;
-mod ticket;
 
 pub use book::Book;
 pub use call::Call;

@@ -1,7 +1,7 @@
 //! The lists of seats beside the history.
 
 ghost use Rattle.std.specs.Prelude.{◌≡◌, ◌↔◌, ◌≤◌, IsTrue, All};
-ghost use Rattle.batch_book.specs.Seats.{own, Agrees, parts_of};
+ghost use Rattle.batch_book.specs.Seats.{own, LogAgrees, parts_of};
 
 use crate::entry::Entry;
 use crate::seat::Seat;
@@ -29,7 +29,7 @@ fn is_own(history: &[Entry], session: usize, log: &[Entry]) -> bool
 
 /// Whether each seat's list is the history filtered to its session.
 pub(crate) fn agree<L: Ledger>(history: &[Entry], seats: &[Seat<L>]) -> bool
-    ensures { IsTrue result ↔ All (Agrees history.now) seats.now }
+    ensures { IsTrue result ↔ All (LogAgrees history.now) seats.now }
 {
     for seat in seats {
         if !is_own(history, seat.session(), seat.log()) {

@@ -7,6 +7,7 @@ ghost use Rattle.batch_book.specs.Replies.{is_logged};
 ghost use Rattle.batch_book.specs.Seats.{IsSameSeat, Reaches};
 ghost use Rattle.batch_book.specs.Values.{value_of, greatest};
 
+use crate::access::ExchangeAccess;
 use crate::book::Book;
 use crate::call::Call;
 use crate::entry::list;
@@ -15,7 +16,6 @@ use crate::raise::Raise;
 use crate::refusal::Refusal;
 use crate::reply::Reply;
 use crate::seat::Seat;
-use crate::ticket::Ticket;
 use crossbar::ConfigPort;
 use peek_poke::WireMaker;
 use progress_word::ProgressWord;
@@ -95,40 +95,40 @@ impl<L: Ledger, P: ConfigPort, W: WireMaker + Sync, G: Gate + Sync> Locked<L, P,
         seat.log.reserve(1)?;
         let session = seat.session;
         let copies = self.book.copies(session, &call)?;
-        let Some(ticket) = seat.ticket.take() else {
+        let Some(access) = seat.access.take() else {
             unreachable!()
         };
-        let (reply, ticket) = self.ask(rt, word, session, ticket, call);
+        let (reply, access) = self.ask(rt, word, session, access, call);
         list(&mut seat.log, session, copies, &reply);
-        seat.ticket = Some(ticket);
+        seat.access = Some(access);
         Ok(reply)
     }
 
-    // One call of the book, which raises the word from the ticket's lookout, and counts in the ledger.
+    // One call of the book, which raises the word from the access's lookout, and counts in the ledger.
     fn ask<R: Threads + Sync>(
         &mut self,
         rt: &R,
         word: &ProgressWord,
         session: usize,
-        ticket: Ticket<L>,
+        access: ExchangeAccess<L>,
         call: Call,
-    ) -> (Reply, Ticket<L>)
-        requires { ticket.lookout.word ≡ word.now }
+    ) -> (Reply, ExchangeAccess<L>)
+        requires { access.lookout.word ≡ word.now }
         ensures reply { IsReplyTo call result.0 }
         ensures history { is_logged result.0 ≡ true →
             IsGrown self.old.book session call result.0 self.new.book }
         ensures unlogged { is_logged result.0 ≡ false → self.new.book ≡ self.old.book }
-        ensures quiet { value_of result.0 ≡ 0 → result.1.lookout ≡ ticket.lookout }
+        ensures quiet { value_of result.0 ≡ 0 → result.1.lookout ≡ access.lookout }
         ensures amount { result.1.share.amount ≡
-            (if is_logged result.0 then ticket.share.amount + 1 else ticket.share.amount) }
-        ensures parts { result.1.parts ≡ ticket.parts }
-        ensures lookout { Reaches ticket.lookout (value_of result.0) result.1.lookout }
+            (if is_logged result.0 then access.share.amount + 1 else access.share.amount) }
+        ensures parts { result.1.parts ≡ access.parts }
+        ensures lookout { Reaches access.lookout (value_of result.0) result.1.lookout }
     {
-        let Ticket {
+        let ExchangeAccess {
             mut share,
             lookout,
             parts,
-        } = ticket;
+        } = access;
         let mut raise = Raise {
             word,
             lookout,
@@ -145,11 +145,11 @@ impl<L: Ledger, P: ConfigPort, W: WireMaker + Sync, G: Gate + Sync> Locked<L, P,
             lookout,
             run: _,
         } = raise;
-        let ticket = Ticket {
+        let access = ExchangeAccess {
             share,
             lookout,
             parts,
         };
-        (reply, ticket)
+        (reply, access)
     }
 }

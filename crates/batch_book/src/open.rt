@@ -4,11 +4,11 @@ ghost use Rattle.std.specs.Prelude.{◌≡◌, ◌↔◌, ◌≤◌, ◌<◌, �
 ghost use Rattle.progress_word.specs.Lookouts.{lookout_view};
 ghost use Rattle.batch_book.specs.Exchanges.{AreNew};
 
+use crate::access::ExchangeAccess;
 use crate::book::Book;
 use crate::locked::Locked;
 use crate::seat::Seat;
 use crate::shared::Shared;
-use crate::ticket::Ticket;
 use exchange_limits::MAX_SESSIONS;
 use module_memory::Rack;
 use progress_word::{ALL_PARTS, ProgressWord};
@@ -68,7 +68,7 @@ impl<L: Ledger, P, W, G> Shared<L, P, W, G> {
             Err((rack, _)) => return Err((blank, rack, plant, SharedFault::NoMemory)),
         };
         let (entries, share) = blank.open::<L>();
-        let all = Ticket {
+        let all = ExchangeAccess {
             share,
             lookout,
             parts: ALL_PARTS,
@@ -88,7 +88,7 @@ fn deal<L: Ledger>(
     alloc: Global,
     word: &ProgressWord,
     mut seats: Vec<Seat<L>>,
-    mut first: Ticket<L>,
+    mut first: ExchangeAccess<L>,
     sessions: usize,
 ) -> Vec<Seat<L>>
     requires empty { seats.items ≡ [] }
@@ -100,18 +100,18 @@ fn deal<L: Ledger>(
     ensures { AreNew word.now sessions result.items }
 {
     for session in 1..sessions {
-        let ticket = Some(first.split(word));
+        let access = Some(first.split(word));
         let seat = Seat {
             session,
             log: Vec::new(alloc),
-            ticket,
+            access,
         };
         seats.push(seat).unwrap();
     }
     let seat = Seat {
         session: 0,
         log: Vec::new(alloc),
-        ticket: Some(first),
+        access: Some(first),
     };
     seats.insert(0, seat).unwrap();
     seats

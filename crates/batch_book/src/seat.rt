@@ -5,8 +5,8 @@ ghost use Rattle.progress_word.specs.declared.limits.TheConstants.{ALL_PARTS};
 ghost use Rattle.batch_book.specs.Values.{greatest};
 ghost use Rattle.batch_book.specs.Seats.{closed};
 
+use crate::access::ExchangeAccess;
 use crate::entry::Entry;
-use crate::ticket::Ticket;
 use progress_word::ALL_PARTS;
 use std::marker::Model;
 use std::sync::ledger::Ledger;
@@ -18,27 +18,27 @@ pub struct Seat<L: Ledger> {
     pub(crate) session: usize,
     pub(crate) log: Vec<Entry>,
     // Until the exchange is closed.
-    pub(crate) ticket: Option<Ticket<L>>,
+    pub(crate) access: Option<ExchangeAccess<L>>,
 }
 
 impl<L: Ledger> Model for Seat<L> {
     ghost use Rattle.std.specs.Prelude.{◌≡◌, IfSome, length, option_map};
     ghost use Rattle.std.specs.Option.{option_map_or};
     ghost use Rattle.batch_book.specs.Values.{greatest};
-    ghost use Rattle.batch_book.specs.Seats.{Stand};
+    ghost use Rattle.batch_book.specs.Seats.{SeatState};
 
-    ghost Value = { Stand };
+    ghost Value = { SeatState };
 
     ghost view = { λ s. record {
-      exchange = option_map (λ t. t.lookout.word) s.ticket;
+      exchange = option_map (λ t. t.lookout.word) s.access;
       session = s.session;
       log = s.log.items;
-      seen = option_map_or (λ t. t.lookout.seen) s.ticket 0;
-      raised = option_map_or (λ t. t.lookout.raised) s.ticket 0;
-      parts = option_map_or (λ t. t.parts) s.ticket 0;
+      seen = option_map_or (λ t. t.lookout.seen) s.access 0;
+      raised = option_map_or (λ t. t.lookout.raised) s.access 0;
+      parts = option_map_or (λ t. t.parts) s.access 0;
     } };
 
-    ghost invariant = { λ s. IfSome s.ticket (λ t.
+    ghost invariant = { λ s. IfSome s.access (λ t.
         (t.share.amount ≡ length s.log.items) × (t.lookout.raised ≡ greatest s.log.items)) };
 }
 
@@ -62,14 +62,14 @@ impl<L: Ledger> Seat<L> {
         ensures parts { result ≡ self.now.parts }
         ensures limit { result ≤ ALL_PARTS }
     {
-        match &self.ticket {
-            Some(ticket) => ticket.parts,
+        match &self.access {
+            Some(access) => access.parts,
             None => 0,
         }
     }
 
     /// Gives up what the seat has of its exchange, and keeps its list.
-    pub(crate) fn leave(&mut self) -> Ticket<L>
+    pub(crate) fn leave(&mut self) -> ExchangeAccess<L>
         requires { IsSome self.old.exchange }
         ensures seat { self.new ≡ closed self.old }
         ensures word { Some result.lookout.word ≡ self.old.exchange }
@@ -78,8 +78,8 @@ impl<L: Ledger> Seat<L> {
         ensures parts { result.parts ≡ self.old.parts }
         ensures amount { result.share.amount ≡ length self.old.log }
     {
-        match self.ticket.take() {
-            Some(ticket) => ticket,
+        match self.access.take() {
+            Some(access) => access,
             None => unreachable!(),
         }
     }

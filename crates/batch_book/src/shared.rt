@@ -87,8 +87,8 @@ impl<L: Ledger, P, W, G> Shared<L, P, W, G> {
         ensures log { seat.new.log ≡ seat.old.log }
         ensures raised { seat.new.raised ≡ seat.old.raised }
     {
-        let value = match &mut seat.ticket {
-            Some(ticket) => self.word.load(&mut ticket.lookout),
+        let value = match &mut seat.access {
+            Some(access) => self.word.load(&mut access.lookout),
             None => unreachable!(),
         };
         Reading {

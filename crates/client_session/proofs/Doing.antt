@@ -21,8 +21,8 @@ use Rattle.line_words.specs.BatchFaults.{batch_words}
 use Rattle.client_session.specs.declared.command.Command.{Command}
 use Rattle.batch_book.specs.declared.reading.Reading.{Reading}
 use Rattle.client_session.specs.Replies.{reply_line, refused_line, progress_line}
-use Rattle.client_session.specs.Seats.{SeatView, logged, GoesOnFrom, IsCalled, IsRead}
-use Rattle.client_session.specs.Turns.{Answer, answer, tells, settles, Tells, Submits, Settles, Plans, Reads}
+use Rattle.client_session.specs.Seats.{SeatView, logged, GoesOnFrom, IsCalled, IsProgressRead}
+use Rattle.client_session.specs.Turns.{Answer, plain_answer, tells, settles, TellsReply, Submits, Settles, Plans, ReadsProgress}
 use Rattle.client_session.specs.Steps.{CanBeTold, IsNoFetch, Did, Acts}
 use Rattle.client_session.proofs.Lists.{every_weaker, every_append}
 
@@ -60,28 +60,28 @@ can_be_told c Poked other is = tt
 can_be_told c (Refused why) other is = tt
 
 -- nothing was done but to answer
-did_nothing : (p : SeatView) (line : List ℕ) → Did p p (answer [] line)
+did_nothing : (p : SeatView) (line : List ℕ) → Did p p (plain_answer [] line)
 did_nothing p line = record { goes_on = stays p; log = sym (append-nil p.log); low = tt; high = tt }
 
-pub says : (p : SeatView) (IsSo : Answer → Type 0) (words line : List ℕ) → IsSo (answer [] words) → line ≡ words → Acts p p IsSo line
-says p IsSo words line h e = record { answer = answer [] words; did = did_nothing p words; is_so = h; line_is = e }
+pub says : (p : SeatView) (IsSo : Answer → Type 0) (words line : List ℕ) → IsSo (plain_answer [] words) → line ≡ words → Acts p p IsSo line
+says p IsSo words line h e = record { answer = plain_answer [] words; did = did_nothing p words; is_so = h; line_is = e }
 
 shown_if : (seen : ℕ) (b : Bool) (by : ℕ) (c : Call) (r : Reply) → b ≡ is_logged r → value_of r ≤ seen → AllByRecursion (λ v. v ≤ seen) (map (λ (e : Entry). value_of e.reply) (logged by c r))
 shown_if seen true by c r is h = rw (sym is) (h, tt)
 shown_if seen false by c r is h = rw (sym is) tt
 
-did_call : (old new : SeatView) (c : Call) (r : Reply) (line : List ℕ) → IsCalled old c r new → Did old new (answer (logged old.session c r) line)
+did_call : (old new : SeatView) (c : Call) (r : Reply) (line : List ℕ) → IsCalled old c r new → Did old new (plain_answer (logged old.session c r) line)
 did_call old new c r line h = record { goes_on = h.goes_on; log = h.log; low = tt; high = shown_if new.seen (is_logged r) old.session c r refl h.seen }
 
 -- a call was made, and its reply is the line
 acts_call : (old new : SeatView) (id : ℕ) (c : Call) (r : Reply) (line : List ℕ) (IsSo : Answer → Type 0) → IsCalled old c r new → IsSo (tells old.session id c r) → line ≡ reply_line id r → Acts old new IsSo line
 acts_call old new id c r line IsSo h so e = record { answer = tells old.session id c r; did = did_call old new c r _ h; is_so = so; line_is = e }
 
-pub called : (old new : SeatView) (id : ℕ) (c : Call) (r : Reply) (line : List ℕ) → IsCalled old c r new → line ≡ reply_line id r → Acts old new (Tells old.session id c) line
-called old new id c r line h e = acts_call old new id c r line (Tells old.session id c) h (r, h.answers, refl) e
+pub called : (old new : SeatView) (id : ℕ) (c : Call) (r : Reply) (line : List ℕ) → IsCalled old c r new → line ≡ reply_line id r → Acts old new (TellsReply old.session id c) line
+called old new id c r line h e = acts_call old new id c r line (TellsReply old.session id c) h (r, h.answers, refl) e
 
 -- what was done first, and then without a reading
-did_more : (old mid new : SeatView) (a b : List Entry) (x y line : List ℕ) → Did old mid (answer a x) → Did mid new (answer b y) → Did old new (answer (a ++ b) line)
+did_more : (old mid new : SeatView) (a b : List Entry) (x y line : List ℕ) → Did old mid (plain_answer a x) → Did mid new (plain_answer b y) → Did old new (plain_answer (a ++ b) line)
 did_more old mid new a b x y line p q = record {
   goes_on = goes_on old mid new p.goes_on q.goes_on;
   log = q.log ∙ ap (λ l. l ++ b) p.log ∙ append_assoc old.log a b;
@@ -95,7 +95,7 @@ plans : (old new : SeatView) (id : ℕ) (batch : List Transfer) (a : Answer) (li
 plans old new id batch a line did so e = record { answer = a; did = did; is_so = inr (batch, so); line_is = e }
 
 -- a batch was fetched, and its plan settled
-pub settled : (old mid new : SeatView) (id : ℕ) (batch : List Transfer) (plan : Plan) (line : List ℕ) → IsCalled old (call.Fetch id) (Fetched batch) mid → IsPlan plan → plan.batch ≡ batch → Acts mid new (Tells mid.session id (call.Settle id plan)) line → Acts old new (Plans old.session id) line
+pub settled : (old mid new : SeatView) (id : ℕ) (batch : List Transfer) (plan : Plan) (line : List ℕ) → IsCalled old (call.Fetch id) (Fetched batch) mid → IsPlan plan → plan.batch ≡ batch → Acts mid new (TellsReply mid.session id (call.Settle id plan)) line → Acts old new (Plans old.session id) line
 settled old mid new id batch plan line h shortest of acts =
     let r = acts.is_so.0 in
     let same : acts.answer ≡ tells old.session id (call.Settle id plan) r = acts.is_so.2 ∙ ap (λ by. tells by id (call.Settle id plan) r) h.goes_on.session in
@@ -108,7 +108,7 @@ settled old mid new id batch plan line h shortest of acts =
 -- a batch was fetched, and there was no memory to plan it
 pub unplanned : (old mid : SeatView) (id : ℕ) (batch : List Transfer) (line : List ℕ) → IsCalled old (call.Fetch id) (Fetched batch) mid → line ≡ refused_line (codes "no memory") → Acts old mid (Plans old.session id) line
 unplanned old mid id batch line h e =
-    plans old mid id batch (answer (entry old.session (call.Fetch id) (Fetched batch) ∷ []) (refused_line (codes "no memory"))) line (did_call old mid (call.Fetch id) (Fetched batch) _ h) (inr refl) e
+    plans old mid id batch (plain_answer (entry old.session (call.Fetch id) (Fetched batch) ∷ []) (refused_line (codes "no memory"))) line (did_call old mid (call.Fetch id) (Fetched batch) _ h) (inr refl) e
 
 -- the reply to `Fetch`, where it is no batch, can be told, and refuses it
 pub told_unfetched : (id : ℕ) (r : Reply) → IsReplyTo (call.Fetch id) r → ((batch : List Transfer) → r ≡ Fetched batch → ⊥) → CanBeTold r
@@ -123,7 +123,7 @@ unfetched old new id r line h other e = absurd h.answers
 
 -- ---- the progress word
 
-pub read_progress : (old new : SeatView) (r : Reading) (line : List ℕ) → IsRead old r new → line ≡ progress_line r → Acts old new Reads line
+pub read_progress : (old new : SeatView) (r : Reading) (line : List ℕ) → IsProgressRead old r new → line ≡ progress_line r → Acts old new ReadsProgress line
 read_progress old new r line h e = record {
   answer = record { entries = []; reading = Some r; line = progress_line r };
   did = record {

@@ -9,34 +9,34 @@ use Rattle.client_session.specs.declared.input.InputFault.TheVariants as input
 use Rattle.client_session.specs.declared.fault.ServeFault.{ServeFault}
 use Rattle.client_session.specs.declared.fault.ServeFault.TheVariants.{Read, Write, LineTooLong, Cut, Turns, NoMemory}
 use Rattle.batch.specs.Extent.{Extent}
-use Rattle.batch_book.specs.Seats.{Stand, IsSameSeat}
-use Rattle.client_session.specs.Bytes.{Pending, TakesIn}
+use Rattle.batch_book.specs.Seats.{SeatState, IsSameSeat}
+use Rattle.client_session.specs.Bytes.{PendingInput, TakesIn}
 use Rattle.client_session.specs.Faults.{IsFaultAt}
 use Rattle.client_session.specs.Seats.{SeatView, GoesOnFrom, seat_view}
-use Rattle.client_session.specs.Turns.{Turn, IsTurn, GoesOn, turn_text}
-use Rattle.client_session.specs.Sessions.{IsSession, IsPartial, RestAt, GoOn, HasEnded, Passes}
-use Rattle.client_session.specs.Steps.{TurnTaken, TurnStopped, IsCut, of_input}
+use Rattle.client_session.specs.Turns.{Turn, IsTurn, SessionGoesOn, turn_text}
+use Rattle.client_session.specs.Sessions.{IsSession, IsPartialCommand, RestAt, GoOn, HasEnded, Passes}
+use Rattle.client_session.specs.Steps.{TurnTaken, TurnStopped, IsCutLine, of_input}
 use Rattle.client_session.proofs.Known.{Consumes-nil, Consumes-more, Appends-nil, Appends-more}
 use Rattle.client_session.proofs.Lists.{every-push}
 use Rattle.client_session.proofs.Doing.{stays, goes_on}
 use Rattle.client_session.proofs.Readings.{HaveShown, readings_none, readings_push, shown_push}
 
 -- the commands so far, and what is pending behind them
-pub record Going (from to : SeatView) (h : Pending) (bytes : List ℕ) (entries : List Entry) (written : List ℕ) : Type 0 where
+pub record Going (from to : SeatView) (h : PendingInput) (bytes : List ℕ) (entries : List Entry) (written : List ℕ) : Type 0 where
   pub turns : List Turn
   pub session : IsSession from to turns bytes h.pending entries written
   pub go_on : GoOn turns
   pub have_shown : HaveShown to.seen turns
   pub reads : h.reads ≤ length bytes
 
-abbrev pub Serving : (a b w v : Option (List ℕ)) (from to : SeatView) → Pending → Type 0
+abbrev pub Serving : (a b w v : Option (List ℕ)) (from to : SeatView) → PendingInput → Type 0
 Serving a b w v from to h = Passes a b w v from to (Going from to h)
 
 -- how a session has ended
 abbrev pub Ends : (a b w v : Option (List ℕ)) (from to : SeatView) → Option ServeFault → Type 0
 Ends a b w v from to fault = Passes a b w v from to (HasEnded fault b from to)
 
-pub Serving-none : (a w : Option (List ℕ)) (p : SeatView) (h : Pending) → h.pending ≡ [] → h.reads ≡ 0 → Serving a a w w p p h
+pub Serving-none : (a w : Option (List ℕ)) (p : SeatView) (h : PendingInput) → h.pending ≡ [] → h.reads ≡ 0 → Serving a a w w p p h
 Serving-none a w p h e zero = record {
   bytes = [];
   entries = [];
@@ -63,7 +63,7 @@ session_read from to turns bytes more pending grown entries written s e = record
   seat = s.seat;
 }
 
-pub Serving-read : (a b c w v : Option (List ℕ)) (from to : SeatView) (old new : Pending) → Serving a b w v from to old → TakesIn b c old new → Serving a c w v from to new
+pub Serving-read : (a b c w v : Option (List ℕ)) (from to : SeatView) (old new : PendingInput) → Serving a b w v from to old → TakesIn b c old new → Serving a c w v from to new
 Serving-read a b c w v from to old new p more = record {
   bytes = p.bytes ++ more.bytes;
   entries = p.entries;
@@ -91,7 +91,7 @@ more_text turns t bytes pending more rest e f =
 more_of : {X : Type 0} (f : Turn → List X) (turns : List Turn) (t : Turn) (xs ys : List X) → xs ≡ flat_map f turns → ys ≡ f t → xs ++ ys ≡ flat_map f (turns ++ t ∷ [])
 more_of f turns t xs ys e h = ap (λ l. l ++ ys) e ∙ ap (λ l. flat_map f turns ++ l) (h ∙ sym (append-nil (f t))) ∙ sym (flat_map-append f turns (t ∷ []))
 
-session_more : (b c : Option (List ℕ)) (from to next : SeatView) (old new : Pending) (line bytes : List ℕ) (entries : List Entry) (written : List ℕ) (ends : Bool) (s : Going from to old bytes entries written) (t : TurnTaken b c old new to next line ends)
+session_more : (b c : Option (List ℕ)) (from to next : SeatView) (old new : PendingInput) (line bytes : List ℕ) (entries : List Entry) (written : List ℕ) (ends : Bool) (s : Going from to old bytes entries written) (t : TurnTaken b c old new to next line ends)
     → IsSession from next (s.turns ++ t.turn ∷ []) (bytes ++ t.bytes) new.pending (entries ++ t.turn.did.entries) (written ++ line)
 session_more b c from to next old new line bytes entries written ends s t = record {
   each = every-push (IsTurn from.shape from.session) s.turns t.turn s.session.each (subst (λ by. IsTurn from.shape by t.turn) s.session.seat.session (subst (λ (shape : Extent). IsTurn shape to.session t.turn) s.session.seat.shape t.is));
@@ -103,7 +103,7 @@ session_more b c from to next old new line bytes entries written ends s t = reco
 }
 
 -- what has passed then, where so much of the line was written
-passed_more : (a b c w v u : Option (List ℕ)) (from to next : SeatView) (old new : Pending) (line sent : List ℕ) (ends : Bool) (IsSo : List ℕ → List Entry → List ℕ → Type 0) (p : Serving a b w v from to old) (t : TurnTaken b c old new to next line ends)
+passed_more : (a b c w v u : Option (List ℕ)) (from to next : SeatView) (old new : PendingInput) (line sent : List ℕ) (ends : Bool) (IsSo : List ℕ → List Entry → List ℕ → Type 0) (p : Serving a b w v from to old) (t : TurnTaken b c old new to next line ends)
     → Appends v u sent → IsSo (p.bytes ++ t.bytes) (p.entries ++ t.turn.did.entries) (p.written ++ sent) → Passes a c w u from next IsSo
 passed_more a b c w v u from to next old new line sent ends IsSo p t appended so = record {
   bytes = p.bytes ++ t.bytes;
@@ -115,20 +115,20 @@ passed_more a b c w v u from to next old new line sent ends IsSo p t appended so
   is_so = so;
 }
 
-pub Serving-turn : (a b c w v u : Option (List ℕ)) (from to next : SeatView) (old new : Pending) (line : List ℕ) → Serving a b w v from to old → TurnTaken b c old new to next line false → Appends v u line → Serving a c w u from next new
+pub Serving-turn : (a b c w v u : Option (List ℕ)) (from to next : SeatView) (old new : PendingInput) (line : List ℕ) → Serving a b w v from to old → TurnTaken b c old new to next line false → Appends v u line → Serving a c w u from next new
 Serving-turn a b c w v u from to next old new line p t sent =
     let s = p.is_so in
     passed_more a b c w v u from to next old new line line false (Going from next new) p t sent record {
       turns = s.turns ++ t.turn ∷ [];
       session = session_more b c from to next old new line p.bytes p.entries p.written false s t;
-      go_on = every-push (λ (x : Turn). GoesOn x.command) s.turns t.turn s.go_on t.last;
+      go_on = every-push (λ (x : Turn). SessionGoesOn x.command) s.turns t.turn s.go_on t.last;
       have_shown = shown_push to next s.turns t.turn s.have_shown t.did;
       reads = omega (arith, s.reads, t.reads, length-append p.bytes t.bytes);
     }
 
 -- ---- the ends
 
-pub ended_at_end : (a b w v : Option (List ℕ)) (from to : SeatView) (h : Pending) → Serving a b w v from to h → h.pending ≡ [] → IsAtEnd b → Ends a b w v from to None
+pub ended_at_end : (a b w v : Option (List ℕ)) (from to : SeatView) (h : PendingInput) → Serving a b w v from to h → h.pending ≡ [] → IsAtEnd b → Ends a b w v from to None
 ended_at_end a b w v from to h p e end = record {
   bytes = p.bytes;
   entries = p.entries;
@@ -139,7 +139,7 @@ ended_at_end a b w v from to h p e end = record {
   is_so = (p.is_so.turns, h.pending, p.is_so.session, inl (p.is_so.go_on, e, end));
 }
 
-pub ended_by_bye : (a b c w v u : Option (List ℕ)) (from to next : SeatView) (old new : Pending) (line : List ℕ) → Serving a b w v from to old → TurnTaken b c old new to next line true → Appends v u line → Ends a c w u from next None
+pub ended_by_bye : (a b c w v u : Option (List ℕ)) (from to next : SeatView) (old new : PendingInput) (line : List ℕ) → Serving a b w v from to old → TurnTaken b c old new to next line true → Appends v u line → Ends a c w u from next None
 ended_by_bye a b c w v u from to next old new line p t sent =
     let s = p.is_so in
     passed_more a b c w v u from to next old new line line true (HasEnded None c from next) p t sent
@@ -154,9 +154,9 @@ stopped_as Turns known from to turns bytes rest entries written s go at = (turns
 stopped_as NoMemory known from to turns bytes rest entries written s go at = (turns, rest, s, go, at)
 stopped_as Write known from to turns bytes rest entries written s go at = absurd at
 
-rest_at : (f : InputFault) (known : Option (List ℕ)) (h : Pending) (read : ℕ) → h.reads ≤ read → IsFaultAt f known h → RestAt (of_input f) known read h.pending
+rest_at : (f : InputFault) (known : Option (List ℕ)) (h : PendingInput) (read : ℕ) → h.reads ≤ read → IsFaultAt f known h → RestAt (of_input f) known read h.pending
 rest_at f known h read fewer at = left f at where
-  part : IsPartial h.pending
+  part : IsPartialCommand h.pending
   part = record { lines = []; part = h.pending; each = tt; short = tt; whole = refl }
 
   left : (f : InputFault) → IsFaultAt f known h → RestAt (of_input f) known read h.pending
@@ -165,7 +165,7 @@ rest_at f known h read fewer at = left f at where
   left input.Cut at = (part, at.0, at.1, at.2)
   left input.Turns at = (part, at.0, omega (arith, at.1, fewer))
 
-pub stopped_reading : (f : InputFault) (a b w v : Option (List ℕ)) (from to : SeatView) (h : Pending) → Serving a b w v from to h → IsFaultAt f b h → Ends a b w v from to (Some (of_input f))
+pub stopped_reading : (f : InputFault) (a b w v : Option (List ℕ)) (from to : SeatView) (h : PendingInput) → Serving a b w v from to h → IsFaultAt f b h → Ends a b w v from to (Some (of_input f))
 stopped_reading f a b w v from to h p at = record {
   bytes = p.bytes;
   entries = p.entries;
@@ -184,7 +184,7 @@ more_read Turns known few many rest le at = (at.0, at.1, omega (arith, at.2, le)
 more_read NoMemory known few many rest le at = at
 more_read Write known few many rest le at = at
 
-pub stopped_turn : (e : ServeFault) (a b c w v : Option (List ℕ)) (from to next : SeatView) (h : Pending) → Serving a b w v from to h → TurnStopped e b c h to next → Ends a c w v from next (Some e)
+pub stopped_turn : (e : ServeFault) (a b c w v : Option (List ℕ)) (from to next : SeatView) (h : PendingInput) → Serving a b w v from to h → TurnStopped e b c h to next → Ends a c w v from next (Some e)
 stopped_turn e a b c w v from to next h p t = subst (λ (q : SeatView). Ends a c w v from q (Some e)) (sym t.same) record {
   bytes = p.bytes ++ t.bytes;
   entries = p.entries;
@@ -197,7 +197,7 @@ stopped_turn e a b c w v from to next h p t = subst (λ (q : SeatView). Ends a c
       (more_read e c (h.reads + length t.bytes) (length (p.bytes ++ t.bytes)) (h.pending ++ t.bytes) (omega (arith, p.is_so.reads, length-append p.bytes t.bytes)) t.rest);
 }
 
-pub stopped_writing : (e : ServeFault) (a b c w v u : Option (List ℕ)) (from to next : SeatView) (old new : Pending) (line : List ℕ) (ends : Bool) → Serving a b w v from to old → TurnTaken b c old new to next line ends → IsCut e v u line → Ends a c w u from next (Some e)
+pub stopped_writing : (e : ServeFault) (a b c w v u : Option (List ℕ)) (from to next : SeatView) (old new : PendingInput) (line : List ℕ) (ends : Bool) → Serving a b w v from to old → TurnTaken b c old new to next line ends → IsCutLine e v u line → Ends a c w u from next (Some e)
 stopped_writing e a b c w v u from to next old new line ends p t cut = subst (λ (x : ServeFault). Ends a c w u from next (Some x)) (sym cut.fault_is)
     (passed_more a b c w v u from to next old new line cut.front ends (HasEnded (Some Write) c from next) p t cut.appended record {
       before = p.is_so.turns;
@@ -226,7 +226,7 @@ same_seat (Some Cut) known from to bytes entries written h = h.2.seat
 same_seat (Some Turns) known from to bytes entries written h = h.2.seat
 same_seat (Some NoMemory) known from to bytes entries written h = h.2.seat
 
-pub seat_kept : (a b w v : Option (List ℕ)) (shape : Extent) (seat back : Stand) (from to : SeatView) (fault : Option ServeFault) → from ≡ seat_view shape seat → seat_view to.shape back ≡ to → Ends a b w v from to fault → IsSameSeat seat back
+pub seat_kept : (a b w v : Option (List ℕ)) (shape : Extent) (seat back : SeatState) (from to : SeatView) (fault : Option ServeFault) → from ≡ seat_view shape seat → seat_view to.shape back ≡ to → Ends a b w v from to fault → IsSameSeat seat back
 seat_kept a b w v shape seat back from to fault was is ends =
     let s = same_seat fault b from to ends.bytes ends.entries ends.written ends.is_so in
     record {
@@ -235,7 +235,7 @@ seat_kept a b w v shape seat back from to fault was is ends =
       parts = ap (λ (x : SeatView). x.parts) is ∙ s.parts ∙ ap (λ (x : SeatView). x.parts) was;
     }
 
-pub session_kept : (a b w v : Option (List ℕ)) (shape : Extent) (seat back : Stand) (from to : SeatView) (fault : Option ServeFault) → from ≡ seat_view shape seat → seat_view to.shape back ≡ to → Ends a b w v from to fault → Ends a b w v (seat_view shape seat) (seat_view shape back) fault
+pub session_kept : (a b w v : Option (List ℕ)) (shape : Extent) (seat back : SeatState) (from to : SeatView) (fault : Option ServeFault) → from ≡ seat_view shape seat → seat_view to.shape back ≡ to → Ends a b w v from to fault → Ends a b w v (seat_view shape seat) (seat_view shape back) fault
 session_kept a b w v shape seat back from to fault was is ends =
     let s = same_seat fault b from to ends.bytes ends.entries ends.written ends.is_so in
     let same : to ≡ seat_view shape back = sym is ∙ ap (λ (x : Extent). seat_view x back) (s.shape ∙ ap (λ (x : SeatView). x.shape) was) in

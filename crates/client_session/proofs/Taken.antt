@@ -5,7 +5,7 @@ use Rattle.std.proofs.lemmas.List.{take_more, take-append-drop, length_push, len
 use Rattle.std.proofs.lemmas.Grind.{flat_map-append}
 use Rattle.std.proofs.lemmas.Slice.{between_to_end}
 use Rattle.std.specs.List.{between}
-use Rattle.client_session.specs.Bytes.{Pending, HasLine, IsLine, TakesIn}
+use Rattle.client_session.specs.Bytes.{PendingInput, HasLine, IsSessionLine, TakesIn}
 use Rattle.client_session.specs.Faults.{IsFaultAt}
 use Rattle.client_session.specs.declared.input.InputFault.{InputFault}
 use Rattle.client_session.specs.declared.input.InputFault.TheVariants as input
@@ -25,10 +25,10 @@ cut line front rest n e =
 pub line_front : (bytes : List ℕ) (n : ℕ) → HasLine bytes n → with_feed (take n bytes) ≡ take (n + 1) bytes
 line_front bytes n has = sym (take_more bytes n 0 has.0 ∙ ap (λ b. take n bytes ++ b ∷ []) has.1)
 
-pub line_is : (bytes : List ℕ) (n : ℕ) → HasLine bytes n → n ≤ LINE_BYTES → IsLine (take n bytes)
+pub line_is : (bytes : List ℕ) (n : ℕ) → HasLine bytes n → n ≤ LINE_BYTES → IsSessionLine (take n bytes)
 line_is bytes n has short = (has.2, omega (arith, length-take-le n bytes (omega (arith, has.0))))
 
-pub LinesTaken-none : (a : Option (List ℕ)) (h : Pending) (text : List ℕ) → LinesTaken a a h h text text 0
+pub LinesTaken-none : (a : Option (List ℕ)) (h : PendingInput) (text : List ℕ) → LinesTaken a a h h text text 0
 LinesTaken-none a h text = record {
   bytes = [];
   consumed = Consumes-nil a;
@@ -40,7 +40,7 @@ LinesTaken-none a h text = record {
   reads = omega arith;
 }
 
-pub LinesTaken-read : (a b c : Option (List ℕ)) (old mid new : Pending) (before after : List ℕ) (n : ℕ) → LinesTaken a b old mid before after n → TakesIn b c mid new → LinesTaken a c old new before after n
+pub LinesTaken-read : (a b c : Option (List ℕ)) (old mid new : PendingInput) (before after : List ℕ) (n : ℕ) → LinesTaken a b old mid before after n → TakesIn b c mid new → LinesTaken a c old new before after n
 LinesTaken-read a b c old mid new before after n t more = record {
   bytes = t.bytes ++ more.bytes;
   consumed = Consumes-more a b c t.bytes more.bytes t.consumed more.consumed;
@@ -53,7 +53,7 @@ LinesTaken-read a b c old mid new before after n t more = record {
   reads = omega (arith, t.reads, more.reads, length-append t.bytes more.bytes);
 }
 
-pub LinesTaken-line : (a b : Option (List ℕ)) (old mid new : Pending) (before after text : List ℕ) (n k : ℕ) → LinesTaken a b old mid before after n
+pub LinesTaken-line : (a b : Option (List ℕ)) (old mid new : PendingInput) (before after text : List ℕ) (n k : ℕ) → LinesTaken a b old mid before after n
     → HasLine mid.pending k → k ≤ LINE_BYTES → text ≡ after ++ take (k + 1) mid.pending → new.pending ≡ drop (k + 1) mid.pending → new.reads ≡ mid.reads → LinesTaken a b old new before text (n + 1)
 LinesTaken-line a b old mid new before after text n k t has short grows rest same =
     let line : List ℕ = take k mid.pending in
@@ -63,7 +63,7 @@ LinesTaken-line a b old mid new before after text n k t has short grows rest sam
       bytes = t.bytes;
       consumed = t.consumed;
       lines = t.lines ++ line ∷ [];
-      each = every-push IsLine t.lines line t.each (line_is mid.pending k has short);
+      each = every-push IsSessionLine t.lines line t.each (line_is mid.pending k has short);
       count = omega (arith, length_push t.lines line, t.count);
       text = grows ∙ ap (λ l. l ++ take (k + 1) mid.pending) t.text ∙ append_assoc before _ _ ∙ ap (λ l. before ++ l) (sym flat);
       kept = t.kept ∙ ap (λ l. flat_map with_feed t.lines ++ l) (sym (take-append-drop (k + 1) mid.pending))
@@ -72,13 +72,13 @@ LinesTaken-line a b old mid new before after text n k t has short grows rest sam
       reads = omega (arith, t.reads, same);
     }
 
-pub pending_at : (e : InputFault) (known : Option (List ℕ)) (h : Pending) → IsFaultAt e known h → PendingAt (of_input e) known h
+pub pending_at : (e : InputFault) (known : Option (List ℕ)) (h : PendingInput) → IsFaultAt e known h → PendingAt (of_input e) known h
 pending_at input.Read known h at = at
 pending_at input.Turns known h at = at
 pending_at input.LineTooLong known h at = at
 pending_at input.Cut known h at = (at.0, at.2)
 
-pub LinesTaken-same : (a b : Option (List ℕ)) (old new : Pending) (before after text : List ℕ) (n : ℕ) → LinesTaken a b old new before after n → text ≡ after → LinesTaken a b old new before text n
+pub LinesTaken-same : (a b : Option (List ℕ)) (old new : PendingInput) (before after text : List ℕ) (n : ℕ) → LinesTaken a b old new before after n → text ≡ after → LinesTaken a b old new before text n
 LinesTaken-same a b old new before after text n t e = record {
   bytes = t.bytes;
   consumed = t.consumed;

@@ -8,17 +8,17 @@ use Rattle.client_session.specs.declared.command.Command.{Command}
 use Rattle.client_session.specs.declared.command.Command.TheVariants.{Batch, Plan, Run, Show, Drop, Peek, Poke, Progress, Bye}
 use Rattle.client_session.specs.declared.fault.ServeFault.{ServeFault}
 use Rattle.client_session.specs.declared.fault.ServeFault.TheVariants.{Read, Write, LineTooLong, Cut, Turns, NoMemory}
-use Rattle.client_session.specs.Bytes.{Pending, HasLine, fuel}
+use Rattle.client_session.specs.Bytes.{PendingInput, HasLine, fuel}
 use Rattle.client_session.specs.Commands.{Means}
 use Rattle.client_session.specs.Seats.{SeatView}
 use Rattle.client_session.specs.Replies.{with_feed}
-use Rattle.client_session.specs.Turns.{Submits, Does, GoesOn, lines_after}
-use Rattle.client_session.specs.Sessions.{BeginsBatch, IsPartial, RestAt}
+use Rattle.client_session.specs.Turns.{Submits, DoesCommand, SessionGoesOn, lines_after}
+use Rattle.client_session.specs.Sessions.{BeginsBatch, IsPartialCommand, RestAt}
 use Rattle.client_session.specs.Steps.{Acts, LinesTaken, LinesStopped, PendingAt, StandsAlone, TurnTaken, TurnStopped}
 use Rattle.client_session.proofs.Known.{Consumes-nil}
 use Rattle.client_session.proofs.Taken.{line_front, line_is}
 
-pub fuel_skip : (old new : Pending) (k : ℕ) → new.pending ≡ drop (k + 1) old.pending → new.reads ≡ old.reads → k < length old.pending → fuel new < fuel old
+pub fuel_skip : (old new : PendingInput) (k : ℕ) → new.pending ≡ drop (k + 1) old.pending → new.reads ≡ old.reads → k < length old.pending → fuel new < fuel old
 fuel_skip old new k e r h = omega (arith, ap length e, length-drop (k + 1) old.pending, r)
 
 -- the line in front, and what stands behind it
@@ -26,7 +26,7 @@ pub front_is : (bytes : List ℕ) (n : ℕ) → HasLine bytes n → bytes ≡ wi
 front_is bytes n has = sym (take-append-drop (n + 1) bytes) ∙ ap (λ l. l ++ drop (n + 1) bytes) (sym (line_front bytes n has))
 
 -- there was no memory for the first line of a batch
-pub stopped_at_once : (a : Option (List ℕ)) (old : Pending) (seat : SeatView) (n count : ℕ) → HasLine old.pending n → n ≤ LINE_BYTES → length old.pending ≤ LINE_BYTES + 1 → BeginsBatch (take n old.pending) count → TurnStopped NoMemory a a old seat seat
+pub stopped_at_once : (a : Option (List ℕ)) (old : PendingInput) (seat : SeatView) (n count : ℕ) → HasLine old.pending n → n ≤ LINE_BYTES → length old.pending ≤ LINE_BYTES + 1 → BeginsBatch (take n old.pending) count → TurnStopped NoMemory a a old seat seat
 stopped_at_once a old seat n count has short room begins = record {
   bytes = [];
   consumed = Consumes-nil a;
@@ -45,7 +45,7 @@ stopped_at_once a old seat n count has short room begins = record {
 }
 
 -- all that is left behind the first lines of a batch
-lines_are : (a b : Option (List ℕ)) (old mid new : Pending) (n k : ℕ) (before after : List ℕ) → HasLine old.pending n → mid.pending ≡ drop (n + 1) old.pending → (t : LinesTaken a b mid new before after k)
+lines_are : (a b : Option (List ℕ)) (old mid new : PendingInput) (n k : ℕ) (before after : List ℕ) → HasLine old.pending n → mid.pending ≡ drop (n + 1) old.pending → (t : LinesTaken a b mid new before after k)
     → old.pending ++ t.bytes ≡ (with_feed (take n old.pending) ++ flat_map with_feed t.lines) ++ new.pending
 lines_are a b old mid new n k before after has rest t =
     ap (λ l. l ++ t.bytes) (front_is old.pending n has) ∙ append_assoc (with_feed (take n old.pending)) _ _
@@ -53,7 +53,7 @@ lines_are a b old mid new n k before after has rest t =
     ∙ sym (append_assoc (with_feed (take n old.pending)) _ _)
 
 -- a fault came in the lines of a batch
-pub stopped_in_lines : (e : ServeFault) (a b : Option (List ℕ)) (old mid new : Pending) (seat : SeatView) (n count : ℕ) (before after : List ℕ) → HasLine old.pending n → n ≤ LINE_BYTES
+pub stopped_in_lines : (e : ServeFault) (a b : Option (List ℕ)) (old mid new : PendingInput) (seat : SeatView) (n count : ℕ) (before after : List ℕ) → HasLine old.pending n → n ≤ LINE_BYTES
     → BeginsBatch (take n old.pending) count → mid.pending ≡ drop (n + 1) old.pending → mid.reads ≡ old.reads → LinesStopped e a b mid new before after count → TurnStopped e a b old seat seat
 stopped_in_lines e a b old mid new seat n count before after has short begins rest same s = record {
   bytes = t.bytes;
@@ -67,7 +67,7 @@ stopped_in_lines e a b old mid new seat n count before after has short begins re
   whole : old.pending ++ t.bytes ≡ (with_feed (take n old.pending) ++ flat_map with_feed t.lines) ++ new.pending
   whole = lines_are a b old mid new n s.n before after has rest t
 
-  part : IsPartial (old.pending ++ t.bytes)
+  part : IsPartialCommand (old.pending ++ t.bytes)
   part = record {
     lines = take n old.pending ∷ t.lines;
     part = new.pending;
@@ -101,7 +101,7 @@ many_after : (count : ℕ) → MAX_TRANSFERS < count → lines_after (Some (Batc
 many_after count many = rw (lt-ltb MAX_TRANSFERS count many) refl
 
 -- a batch was taken whole, and submitted
-pub batch_taken : (a b : Option (List ℕ)) (old mid new : Pending) (from to : SeatView) (n count : ℕ) (before after all line : List ℕ) → HasLine old.pending n → n ≤ LINE_BYTES
+pub batch_taken : (a b : Option (List ℕ)) (old mid new : PendingInput) (from to : SeatView) (n count : ℕ) (before after all line : List ℕ) → HasLine old.pending n → n ≤ LINE_BYTES
     → BeginsBatch (take n old.pending) count → mid.pending ≡ drop (n + 1) old.pending → before ≡ take (n + 1) old.pending → LinesTaken a b mid new before after count
     → mid.reads ≡ old.reads → all ≡ after → Acts from to (Submits from.shape from.session all) line → TurnTaken a b old new from to line false
 batch_taken a b old mid new from to n count before after all line has short begins rest first t reads same acts =
@@ -138,9 +138,9 @@ none_after (Some Progress) h = refl
 none_after (Some Bye) h = refl
 
 -- a command with no lines behind its own was taken, and done
-pub alone_taken : (a : Option (List ℕ)) (old new : Pending) (from to : SeatView) (n : ℕ) (command : Option Command) (line : List ℕ) (ends : Bool) → HasLine old.pending n → n ≤ LINE_BYTES
+pub alone_taken : (a : Option (List ℕ)) (old new : PendingInput) (from to : SeatView) (n : ℕ) (command : Option Command) (line : List ℕ) (ends : Bool) → HasLine old.pending n → n ≤ LINE_BYTES
     → Means (take n old.pending) command → StandsAlone command → new.pending ≡ drop (n + 1) old.pending → new.reads ≡ old.reads
-    → ((text : List ℕ) → Acts from to (Does from.shape from.session command text) line) → MatchBool ends (command ≡ Some Bye) (GoesOn command) → TurnTaken a a old new from to line ends
+    → ((text : List ℕ) → Acts from to (DoesCommand from.shape from.session command text) line) → MatchBool ends (command ≡ Some Bye) (SessionGoesOn command) → TurnTaken a a old new from to line ends
 alone_taken a old new from to n command line ends has short means alone rest same acts last =
     let done = acts (with_feed (take n old.pending) ++ []) in
     record {

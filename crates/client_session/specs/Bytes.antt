@@ -6,7 +6,7 @@ use Rattle.batch.specs.Text.{line_feed}
 use Rattle.client_session.specs.declared.limits.TheConstants.{LINE_BYTES, MAX_READS}
 
 -- bytes that were read and stand in no line yet, and how often the reader gave some
-pub record Pending : Type 0 where
+pub record PendingInput : Type 0 where
   pub pending : List ℕ
   pub reads : ℕ
 
@@ -14,8 +14,8 @@ abbrev pub HasNoFeed : List ℕ → Type 0
 HasNoFeed bytes = All (λ b. b ≢ line_feed) bytes
 
 -- no line feed, and no more bytes than a line may have
-abbrev pub IsLine : List ℕ → Type 0
-IsLine line = HasNoFeed line × (length line ≤ LINE_BYTES)
+abbrev pub IsSessionLine : List ℕ → Type 0
+IsSessionLine line = HasNoFeed line × (length line ≤ LINE_BYTES)
 
 -- a line of n bytes stands in front, and its line feed
 abbrev pub HasLine : List ℕ → ℕ → Type 0
@@ -23,7 +23,7 @@ HasLine bytes n = (n < length bytes) × (slice_index bytes n ≡ line_feed) × H
 
 -- no byte is lost: what was pending, and what the reader gave, is pending now; each counted read
 -- gave some
-pub record TakesIn (before after : Option (List ℕ)) (old new : Pending) : Type 0 where
+pub record TakesIn (before after : Option (List ℕ)) (old new : PendingInput) : Type 0 where
   pub bytes : List ℕ
   pub consumed : Consumes before after bytes
   pub kept : old.pending ++ bytes ≡ new.pending
@@ -31,5 +31,5 @@ pub record TakesIn (before after : Option (List ℕ)) (old new : Pending) : Type
 
 -- more than the bytes that may still come, by as many as a read may give, with those that are
 -- pending
-abbrev pub fuel : Pending → ℕ
+abbrev pub fuel : PendingInput → ℕ
 fuel h = (LINE_BYTES + 2) * (MAX_READS - h.reads) + length h.pending

@@ -2,7 +2,7 @@
 use Rattle.std.specs.Prelude.{◌≡◌, ℕ, ◌+◌, ◌<◌, List, length, Option}
 use Rattle.std.specs.Io.KnownBytes.{IsAtEnd}
 use Rattle.client_session.specs.declared.limits.TheConstants.{LINE_BYTES, MAX_READS}
-use Rattle.client_session.specs.Bytes.{Pending, HasNoFeed, IsLine}
+use Rattle.client_session.specs.Bytes.{PendingInput, HasNoFeed, IsSessionLine}
 use Rattle.client_session.specs.declared.input.InputFault.{InputFault}
 use Rattle.client_session.specs.declared.input.InputFault.TheVariants.{Read, LineTooLong, Cut, Turns}
 
@@ -14,12 +14,12 @@ IsReadOrTurns LineTooLong reads = ⊥
 IsReadOrTurns Cut reads = ⊥
 
 -- so no byte came
-abbrev pub HasBroughtNothing : InputFault → Pending → Pending → Type 0
+abbrev pub HasBroughtNothing : InputFault → PendingInput → PendingInput → Type 0
 HasBroughtNothing fault old new = (new.pending ≡ old.pending) × IsReadOrTurns fault new.reads
 
 -- what each fault tells of what is left to read, and of what is pending
-abbrev pub IsFaultAt : InputFault → Option (List ℕ) → Pending → Type 0
-IsFaultAt Read known h = IsLine h.pending
-IsFaultAt Turns known h = IsLine h.pending × (h.reads ≡ MAX_READS)
+abbrev pub IsFaultAt : InputFault → Option (List ℕ) → PendingInput → Type 0
+IsFaultAt Read known h = IsSessionLine h.pending
+IsFaultAt Turns known h = IsSessionLine h.pending × (h.reads ≡ MAX_READS)
 IsFaultAt LineTooLong known h = HasNoFeed h.pending × (length h.pending ≡ LINE_BYTES + 1)
-IsFaultAt Cut known h = IsLine h.pending × (0 < length h.pending) × IsAtEnd known
+IsFaultAt Cut known h = IsSessionLine h.pending × (0 < length h.pending) × IsAtEnd known

@@ -10,7 +10,7 @@ use Rattle.batch_book.specs.declared.reply.Reply.{Reply}
 use Rattle.batch_book.specs.Answering.{IsReplyTo}
 use Rattle.batch_book.specs.History.{entry}
 use Rattle.batch_book.specs.Replies.{is_logged}
-use Rattle.batch_book.specs.Seats.{Stand}
+use Rattle.batch_book.specs.Seats.{SeatState}
 use Rattle.batch_book.specs.Values.{value_at, value_of}
 
 -- the word of the seat's exchange, the shape of its rack, the session's number, the seat's parts,
@@ -24,7 +24,7 @@ pub record SeatView : Type 0 where
   pub seen : ℕ
 
 -- the seat, where the rack has this shape
-abbrev pub seat_view : Extent → Stand → SeatView
+abbrev pub seat_view : Extent → SeatState → SeatView
 seat_view shape seat =
     record {
       exchange = seat.exchange;
@@ -59,7 +59,7 @@ pub record IsCalled (old : SeatView) (call : Call) (reply : Reply) (new : SeatVi
   pub seen : value_of reply ≤ new.seen
 
 -- the progress word was read
-pub record IsRead (old : SeatView) (r : Reading) (new : SeatView) : Type 0 where
+pub record IsProgressRead (old : SeatView) (r : Reading) (new : SeatView) : Type 0 where
   pub goes_on : GoesOnFrom old new
   pub log : new.log ≡ old.log
   pub seen : new.seen ≡ reading_value r

@@ -5,23 +5,23 @@ use Rattle.std.specs.Io.KnownBytes.{Consumes, Appends, IsAtEnd}
 use Rattle.batch.specs.Extent.{Extent}
 use Rattle.batch.specs.declared.limits.TheConstants.{MAX_TRANSFERS}
 use Rattle.batch_book.specs.declared.entry.Entry.{Entry}
-use Rattle.batch_book.specs.Seats.{Stand}
+use Rattle.batch_book.specs.Seats.{SeatState}
 use Rattle.client_session.specs.declared.limits.TheConstants.{LINE_BYTES, MAX_READS}
 use Rattle.client_session.specs.declared.command.Command.TheVariants.{Batch, Bye}
 use Rattle.client_session.specs.declared.fault.ServeFault.{ServeFault}
 use Rattle.client_session.specs.declared.fault.ServeFault.TheVariants.{Read, Write, LineTooLong, Cut, Turns, NoMemory}
-use Rattle.client_session.specs.Bytes.{HasNoFeed, IsLine}
+use Rattle.client_session.specs.Bytes.{HasNoFeed, IsSessionLine}
 use Rattle.client_session.specs.Commands.{Means}
 use Rattle.client_session.specs.Seats.{SeatView, GoesOnFrom, seat_view}
-use Rattle.client_session.specs.Turns.{Turn, IsTurn, GoesOn, turn_text, lines_text, AreReadings}
+use Rattle.client_session.specs.Turns.{Turn, IsTurn, SessionGoesOn, turn_text, lines_text, AreReadings}
 
 -- ---- the session
 
 abbrev pub lines_of : List Turn → List ℕ
 lines_of turns = flat_map (λ (t : Turn). t.did.line) turns
 
-abbrev pub entries_of : List Turn → List Entry
-entries_of turns = flat_map (λ (t : Turn). t.did.entries) turns
+abbrev pub added_entries : List Turn → List Entry
+added_entries turns = flat_map (λ (t : Turn). t.did.entries) turns
 
 -- These commands stand in the bytes, one after another, and the rest behind them. Just the entries
 -- of what they did are new in the list of the seat, which is the same one, and the text is their
@@ -30,14 +30,14 @@ pub record IsSession (old new : SeatView) (turns : List Turn) (bytes rest : List
     (entries : List Entry) (text : List ℕ) : Type 0 where
   pub each : AllByRecursion (IsTurn old.shape old.session) turns
   pub bytes_are : bytes ≡ flat_map turn_text turns ++ rest
-  pub entries_are : entries ≡ entries_of turns
+  pub entries_are : entries ≡ added_entries turns
   pub text_is : text ≡ lines_of turns
   pub readings : AreReadings old.seen new.seen turns
   pub seat : GoesOnFrom old new
 
 -- none of them is `bye`
 abbrev pub GoOn : List Turn → Type 0
-GoOn turns = AllByRecursion (λ (t : Turn). GoesOn t.command) turns
+GoOn turns = AllByRecursion (λ (t : Turn). SessionGoesOn t.command) turns
 
 -- the last of them is, and it alone
 abbrev pub EndByBye : List Turn → Type 0
@@ -49,8 +49,8 @@ EndByBye turns =
 
 -- what is left to read where a session has ended by itself: nothing behind a whole command; behind
 -- `bye` it isn't looked at
-abbrev pub IsWhole : List Turn → Option (List ℕ) → List ℕ → Type 0
-IsWhole turns known rest = (GoOn turns × (rest ≡ []) × IsAtEnd known) ⊎ EndByBye turns
+abbrev pub IsWholeSession : List Turn → Option (List ℕ) → List ℕ → Type 0
+IsWholeSession turns known rest = (GoOn turns × (rest ≡ []) × IsAtEnd known) ⊎ EndByBye turns
 
 -- the line of a batch that isn't too long
 abbrev pub BeginsBatch : List ℕ → ℕ → Type 0
@@ -62,10 +62,10 @@ IsShort [] = Unit {0}
 IsShort (head ∷ body) = (count : ℕ) × BeginsBatch head count × (length body < count)
 
 -- less than a whole command: such lines, and what stands behind them
-pub record IsPartial (rest : List ℕ) : Type 0 where
+pub record IsPartialCommand (rest : List ℕ) : Type 0 where
   pub lines : List (List ℕ)
   pub part : List ℕ
-  pub each : AllByRecursion IsLine lines
+  pub each : AllByRecursion IsSessionLine lines
   pub short : IsShort lines
   pub whole : rest ≡ lines_text lines ++ part
 
@@ -76,7 +76,7 @@ pub record IsUnkept (rest : List ℕ) : Type 0 where
   pub body : List (List ℕ)
   pub part : List ℕ
   pub count : ℕ
-  pub each : AllByRecursion IsLine (head ∷ body)
+  pub each : AllByRecursion IsSessionLine (head ∷ body)
   pub begins : BeginsBatch head count
   pub belong : length body ≤ count
   pub room : length part ≤ LINE_BYTES + 1
@@ -85,12 +85,13 @@ pub record IsUnkept (rest : List ℕ) : Type 0 where
 -- what stands behind the commands that were served where a fault ends the session, of whose bytes
 -- so many were read
 abbrev pub RestAt : ServeFault → Option (List ℕ) → ℕ → List ℕ → Type 0
-RestAt Read known read rest = (p : IsPartial rest) × IsLine p.part
+RestAt Read known read rest = (p : IsPartialCommand rest) × IsSessionLine p.part
 RestAt LineTooLong known read rest =
-    (p : IsPartial rest) × HasNoFeed p.part × (length p.part ≡ LINE_BYTES + 1)
+    (p : IsPartialCommand rest) × HasNoFeed p.part × (length p.part ≡ LINE_BYTES + 1)
 RestAt Cut known read rest =
-    (p : IsPartial rest) × IsLine p.part × (0 < length rest) × IsAtEnd known
-RestAt Turns known read rest = (p : IsPartial rest) × IsLine p.part × (MAX_READS ≤ read)
+    (p : IsPartialCommand rest) × IsSessionLine p.part × (0 < length rest) × IsAtEnd known
+RestAt Turns known read rest =
+    (p : IsPartialCommand rest) × IsSessionLine p.part × (MAX_READS ≤ read)
 RestAt NoMemory known read rest = IsUnkept rest
 RestAt Write known read rest = ⊥
 
@@ -111,16 +112,16 @@ abbrev pub HasEnded : Option ServeFault → Option (List ℕ) → SeatView → S
     → List Entry → List ℕ → Type 0
 HasEnded None known old new bytes entries written =
     (turns : List Turn) × (rest : List ℕ) × IsSession old new turns bytes rest entries written
-    × IsWhole turns known rest
+    × IsWholeSession turns known rest
 HasEnded (Some Write) known old new bytes entries written = IsCutOff old new bytes entries written
 HasEnded (Some fault) known old new bytes entries written =
     (turns : List Turn) × (rest : List ℕ) × IsSession old new turns bytes rest entries written
     × GoOn turns × RestAt fault known (length bytes) rest
 
 -- the fault of a result
-abbrev pub fault_of : {T : Type 0} → Result T ServeFault → Option ServeFault
-fault_of (Ok x) = None
-fault_of (Err fault) = Some fault
+abbrev pub fault_in : {T : Type 0} → Result T ServeFault → Option ServeFault
+fault_in (Ok x) = None
+fault_in (Err fault) = Some fault
 
 -- ---- what a session does to a reader, a writer and a seat
 
@@ -139,16 +140,16 @@ pub record Passes (before after held holds : Option (List ℕ)) (old new : SeatV
 -- ---- the session of a seat
 
 -- the seat that comes back, and the fault, if there is one
-abbrev pub seat_back : Result Stand (Stand × ServeFault) → Stand
+abbrev pub seat_back : Result SeatState (SeatState × ServeFault) → SeatState
 seat_back (Ok seat) = seat
 seat_back (Err e) = e.0
 
-abbrev pub fault_back : Result Stand (Stand × ServeFault) → Option ServeFault
+abbrev pub fault_back : Result SeatState (SeatState × ServeFault) → Option ServeFault
 fault_back (Ok seat) = None
 fault_back (Err e) = Some e.1
 
 -- a session was served from this seat of an exchange whose rack has this shape, with this result
-abbrev pub IsServed : Extent → Stand → Result Stand (Stand × ServeFault)
+abbrev pub IsServed : Extent → SeatState → Result SeatState (SeatState × ServeFault)
     → (before after held holds : Option (List ℕ)) → Type 0
 IsServed shape seat result before after held holds =
     let old = seat_view shape seat in

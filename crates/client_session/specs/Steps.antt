@@ -14,9 +14,9 @@ use Rattle.client_session.specs.declared.command.Command.{Command}
 use Rattle.client_session.specs.declared.command.Command.TheVariants.{Batch, Bye}
 use Rattle.client_session.specs.declared.fault.ServeFault.{ServeFault}
 use Rattle.client_session.specs.declared.fault.ServeFault.TheVariants.{Read, Write, LineTooLong, Cut, Turns, NoMemory}
-use Rattle.client_session.specs.Bytes.{Pending, HasNoFeed, IsLine}
+use Rattle.client_session.specs.Bytes.{PendingInput, HasNoFeed, IsSessionLine}
 use Rattle.client_session.specs.Seats.{SeatView, GoesOnFrom}
-use Rattle.client_session.specs.Turns.{Turn, IsTurn, GoesOn, Answer, turn_text, lines_text, readings_of, shown}
+use Rattle.client_session.specs.Turns.{Turn, IsTurn, SessionGoesOn, Answer, turn_text, lines_text, readings_of, shown}
 use Rattle.client_session.specs.Sessions.{RestAt}
 
 abbrev pub of_input : InputFault → ServeFault
@@ -56,36 +56,36 @@ pub record Acts (old new : SeatView) (IsSo : Answer → Type 0) (line : List ℕ
   pub line_is : line ≡ answer.line
 
 -- n lines were taken from the input, and stand behind the text
-pub record LinesTaken (before after : Option (List ℕ)) (old new : Pending)
+pub record LinesTaken (before after : Option (List ℕ)) (old new : PendingInput)
     (text_before text_after : List ℕ) (n : ℕ) : Type 0 where
   pub bytes : List ℕ
   pub consumed : Consumes before after bytes
   pub lines : List (List ℕ)
-  pub each : AllByRecursion IsLine lines
+  pub each : AllByRecursion IsSessionLine lines
   pub count : length lines ≡ n
   pub text : text_after ≡ text_before ++ lines_text lines
   pub kept : old.pending ++ bytes ≡ lines_text lines ++ new.pending
   pub reads : new.reads ≤ old.reads + length bytes
 
 -- what is pending where a fault stopped the taking of lines
-abbrev pub PendingAt : ServeFault → Option (List ℕ) → Pending → Type 0
-PendingAt Read known h = IsLine h.pending
+abbrev pub PendingAt : ServeFault → Option (List ℕ) → PendingInput → Type 0
+PendingAt Read known h = IsSessionLine h.pending
 PendingAt LineTooLong known h = HasNoFeed h.pending × (length h.pending ≡ LINE_BYTES + 1)
-PendingAt Cut known h = IsLine h.pending × IsAtEnd known
-PendingAt Turns known h = IsLine h.pending × (h.reads ≡ MAX_READS)
+PendingAt Cut known h = IsSessionLine h.pending × IsAtEnd known
+PendingAt Turns known h = IsSessionLine h.pending × (h.reads ≡ MAX_READS)
 PendingAt NoMemory known h = length h.pending ≤ LINE_BYTES + 1
 PendingAt Write known h = ⊥
 
 -- some lines were taken, fewer than wanted, and then a fault came
-pub record LinesStopped (fault : ServeFault) (before after : Option (List ℕ)) (old new : Pending)
-    (text_before text_after : List ℕ) (wanted : ℕ) : Type 0 where
+pub record LinesStopped (fault : ServeFault) (before after : Option (List ℕ))
+    (old new : PendingInput) (text_before text_after : List ℕ) (wanted : ℕ) : Type 0 where
   pub n : ℕ
   pub fewer : n < wanted
   pub taken : LinesTaken before after old new text_before text_after n
   pub at : PendingAt fault after new
 
 -- a turn was taken from the input, and done
-pub record TurnTaken (before after : Option (List ℕ)) (old new : Pending) (from to : SeatView)
+pub record TurnTaken (before after : Option (List ℕ)) (old new : PendingInput) (from to : SeatView)
     (line : List ℕ) (ends : Bool) : Type 0 where
   pub turn : Turn
   pub is : IsTurn from.shape from.session turn
@@ -95,10 +95,10 @@ pub record TurnTaken (before after : Option (List ℕ)) (old new : Pending) (fro
   pub reads : new.reads ≤ old.reads + length bytes
   pub did : Did from to turn.did
   pub line_is : line ≡ turn.did.line
-  pub last : MatchBool ends (turn.command ≡ Some Bye) (GoesOn turn.command)
+  pub last : MatchBool ends (turn.command ≡ Some Bye) (SessionGoesOn turn.command)
 
 -- a fault came first
-pub record TurnStopped (fault : ServeFault) (before after : Option (List ℕ)) (old : Pending)
+pub record TurnStopped (fault : ServeFault) (before after : Option (List ℕ)) (old : PendingInput)
     (from to : SeatView) : Type 0 where
   pub bytes : List ℕ
   pub consumed : Consumes before after bytes
@@ -106,7 +106,8 @@ pub record TurnStopped (fault : ServeFault) (before after : Option (List ℕ)) (
   pub rest : RestAt fault after (old.reads + length bytes) (old.pending ++ bytes)
 
 -- writing failed, and so much as a front of the line was written
-pub record IsCut (fault : ServeFault) (held holds : Option (List ℕ)) (line : List ℕ) : Type 0 where
+pub record IsCutLine (fault : ServeFault) (held holds : Option (List ℕ))
+    (line : List ℕ) : Type 0 where
   pub fault_is : fault ≡ Write
   pub front : List ℕ
   pub missing : List ℕ

@@ -23,7 +23,7 @@ use Rattle.batch_book.specs.declared.limits.TheConstants.{RUN_STEP}
 use Rattle.client_session.specs.declared.command.Command.{Command}
 use Rattle.client_session.specs.declared.command.Command.TheVariants.{Batch, Plan as PlanOf, Run, Show, Drop, Peek, Poke, Progress, Bye}
 use Rattle.batch_book.specs.declared.reading.Reading.{Reading}
-use Rattle.client_session.specs.Bytes.{IsLine}
+use Rattle.client_session.specs.Bytes.{IsSessionLine}
 use Rattle.client_session.specs.Commands.{Means}
 use Rattle.client_session.specs.Replies.{with_feed, reply_line, refused_line, progress_line}
 use Rattle.client_session.specs.Seats.{logged, reading_value}
@@ -36,26 +36,26 @@ pub record Answer : Type 0 where
   pub reading : Option Reading
   pub line : List ℕ
 
-abbrev pub answer : List Entry → List ℕ → Answer
-answer entries line = record { entries = entries; reading = None; line = line }
+abbrev pub plain_answer : List Entry → List ℕ → Answer
+plain_answer entries line = record { entries = entries; reading = None; line = line }
 
 -- a refusal in these words, without a call
 abbrev pub refuses : List ℕ → Answer
-refuses words = answer [] (refused_line words)
+refuses words = plain_answer [] (refused_line words)
 
 -- a call was made, and this was its reply, which is the line
 abbrev pub tells : ℕ → ℕ → Call → Reply → Answer
-tells by id call reply = answer (logged by call reply) (reply_line id reply)
+tells by id call reply = plain_answer (logged by call reply) (reply_line id reply)
 
 -- a call was made, and its reply is the line
-abbrev pub Tells : ℕ → ℕ → Call → Answer → Type 0
-Tells by id call a = (reply : Reply) × IsReplyTo call reply × (a ≡ tells by id call reply)
+abbrev pub TellsReply : ℕ → ℕ → Call → Answer → Type 0
+TellsReply by id call a = (reply : Reply) × IsReplyTo call reply × (a ≡ tells by id call reply)
 
 -- The lines of a batch: what they denote was submitted, or their first fault is the line, or there
 -- was no memory for a transfer that they have.
 abbrev pub Submits : Extent → ℕ → List ℕ → Answer → Type 0
 Submits shape by text a =
-    ((batch : List Transfer) × Denotes shape text batch × Tells by 0 (call.Submit batch) a)
+    ((batch : List Transfer) × Denotes shape text batch × TellsReply by 0 (call.Submit batch) a)
     ⊎ ((fault : BatchFault) × (fault ≢ NoMemory) × IsFirstFault shape text fault
     × (a ≡ refuses (batch_words fault)))
     ⊎ (NeedsMemory shape text × (a ≡ refuses (codes "no memory")))
@@ -63,7 +63,7 @@ Submits shape by text a =
 -- a batch was fetched, and a plan of it was settled: this was the reply, which is the line
 abbrev pub settles : ℕ → ℕ → List Transfer → Plan → Reply → Answer
 settles by id batch plan reply =
-    answer (entry by (call.Fetch id) (Fetched batch) ∷ logged by (call.Settle id plan) reply)
+    plain_answer (entry by (call.Fetch id) (Fetched batch) ∷ logged by (call.Settle id plan) reply)
     (reply_line id reply)
 
 -- A batch was fetched: a plan of it was settled, and the reply is the line, or there was no memory
@@ -73,8 +73,8 @@ Settles by id batch a =
     ((plan : Plan) × (reply : Reply) × IsPlan plan × (plan.batch ≡ batch)
     × IsReplyTo (call.Settle id plan) reply
     × (a ≡ settles by id batch plan reply))
-    ⊎ (a
-    ≡ answer (entry by (call.Fetch id) (Fetched batch) ∷ []) (refused_line (codes "no memory")))
+    ⊎ (a ≡ plain_answer (entry by (call.Fetch id) (Fetched batch) ∷ [])
+    (refused_line (codes "no memory")))
 
 -- `plan`: fetching was refused, and that is the line; or a batch was fetched
 abbrev pub Plans : ℕ → ℕ → Answer → Type 0
@@ -84,26 +84,27 @@ Plans by id a =
     ⊎ ((batch : List Transfer) × Settles by id batch a)
 
 -- `progress`: the word was read
-abbrev pub Reads : Answer → Type 0
-Reads a =
+abbrev pub ReadsProgress : Answer → Type 0
+ReadsProgress a =
     (r : Reading) × (r.done < RUN_STEP)
     × (a ≡ record { entries = []; reading = Some r; line = progress_line r })
 
 -- What a command may do: this is the whole table of a session. The text is that of its lines.
-abbrev pub Does : Extent → ℕ → Option Command → List ℕ → Answer → Type 0
-Does shape by None text a = a ≡ refuses (codes "line")
-Does shape by (Some (Batch count)) text a =
+abbrev pub DoesCommand : Extent → ℕ → Option Command → List ℕ → Answer → Type 0
+DoesCommand shape by None text a = a ≡ refuses (codes "line")
+DoesCommand shape by (Some (Batch count)) text a =
     ((MAX_TRANSFERS < count) × (a ≡ refuses (codes "too many")))
     ⊎ ((count ≤ MAX_TRANSFERS) × Submits shape by text a)
-Does shape by (Some (PlanOf id)) text a = Plans by id a
-Does shape by (Some (Run id)) text a = Tells by id (call.Run id) a
-Does shape by (Some (Show id)) text a = Tells by id (call.Show id) a
-Does shape by (Some (Drop id)) text a = Tells by id (call.Discard id) a
-Does shape by (Some (Peek «module» address)) text a = Tells by 0 (call.Peek «module» address) a
-Does shape by (Some (Poke «module» address word)) text a =
-    Tells by 0 (call.Poke «module» address word) a
-Does shape by (Some Progress) text a = Reads a
-Does shape by (Some Bye) text a = a ≡ answer [] (with_feed (codes "bye"))
+DoesCommand shape by (Some (PlanOf id)) text a = Plans by id a
+DoesCommand shape by (Some (Run id)) text a = TellsReply by id (call.Run id) a
+DoesCommand shape by (Some (Show id)) text a = TellsReply by id (call.Show id) a
+DoesCommand shape by (Some (Drop id)) text a = TellsReply by id (call.Discard id) a
+DoesCommand shape by (Some (Peek «module» address)) text a =
+    TellsReply by 0 (call.Peek «module» address) a
+DoesCommand shape by (Some (Poke «module» address word)) text a =
+    TellsReply by 0 (call.Poke «module» address word) a
+DoesCommand shape by (Some Progress) text a = ReadsProgress a
+DoesCommand shape by (Some Bye) text a = a ≡ plain_answer [] (with_feed (codes "bye"))
 
 -- ---- a turn
 
@@ -126,16 +127,16 @@ lines_after (Some (Batch count)) = if nat_lt MAX_TRANSFERS count then 0 else cou
 lines_after command = 0
 
 pub record IsTurn (shape : Extent) (by : ℕ) (t : Turn) : Type 0 where
-  pub head : IsLine t.head
-  pub body : AllByRecursion IsLine t.body
+  pub head : IsSessionLine t.head
+  pub body : AllByRecursion IsSessionLine t.body
   pub means : Means t.head t.command
   pub whole : length t.body ≡ lines_after t.command
-  pub does : Does shape by t.command (turn_text t) t.did
+  pub does : DoesCommand shape by t.command (turn_text t) t.did
 
 -- the session goes on after it
-abbrev pub GoesOn : Option Command → Type 0
-GoesOn (Some Bye) = ⊥
-GoesOn command = Unit {0}
+abbrev pub SessionGoesOn : Option Command → Type 0
+SessionGoesOn (Some Bye) = ⊥
+SessionGoesOn command = Unit {0}
 
 -- ---- the progress that turns tell
 

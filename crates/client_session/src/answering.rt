@@ -1,11 +1,11 @@
 //! What is done for a command, and its reply line.
 
 ghost use Rattle.std.specs.Prelude.{◌≡◌, ℕ, List, Option};
-ghost use Rattle.client_session.specs.Turns.{Tells, Submits, Plans, Does};
+ghost use Rattle.client_session.specs.Turns.{TellsReply, Submits, Plans, DoesCommand};
 ghost use Rattle.client_session.specs.Steps.{IsNoFetch, StandsAlone, Acts};
 
 use crate::command::Command;
-use crate::desk::Desk;
+use crate::exchange_seat::ExchangeSeat;
 use crate::reply_line::{batch_refused, bye, progress, refused, told};
 use batch::Batch;
 use batch_book::{Call, Reply};
@@ -22,14 +22,14 @@ use std::thread::Threads;
 /// Makes a call that fetches no batch, and gives its reply line.
 fn call<R: Threads + Wait + Sync, L: Ledger, P: ConfigPort, W: WireMaker + Sync, G: Gate + Sync>(
     rt: &R,
-    desk: &mut Desk<'_, L, P, W, G>,
+    seat: &mut ExchangeSeat<'_, L, P, W, G>,
     id: usize,
     call: Call,
 ) -> Line
     requires { IsNoFetch call }
-    ensures { Acts desk.old desk.new (Tells desk.old.session id call) result }
+    ensures { Acts seat.old seat.new (TellsReply seat.old.session id call) result }
 {
-    let reply = desk.call(rt, call);
+    let reply = seat.call(rt, call);
     told(id, &reply)
 }
 
@@ -40,12 +40,12 @@ pub(crate) fn submit<
     P: ConfigPort,
     W: WireMaker + Sync,
     G: Gate + Sync,
->(rt: &R, alloc: Global, desk: &mut Desk<'_, L, P, W, G>, text: &[u8]) -> Line
-    ensures { Acts desk.old desk.new
-        (Submits desk.old.shape desk.old.session text.now) result }
+>(rt: &R, alloc: Global, seat: &mut ExchangeSeat<'_, L, P, W, G>, text: &[u8]) -> Line
+    ensures { Acts seat.old seat.new
+        (Submits seat.old.shape seat.old.session text.now) result }
 {
-    match Batch::read(alloc, text, desk.shape()) {
-        Ok(batch) => call(rt, desk, 0, Call::Submit(batch)),
+    match Batch::read(alloc, text, seat.shape()) {
+        Ok(batch) => call(rt, seat, 0, Call::Submit(batch)),
         Err(fault) => batch_refused(fault),
     }
 }
@@ -54,15 +54,15 @@ pub(crate) fn submit<
 fn plan<R: Threads + Wait + Sync, L: Ledger, P: ConfigPort, W: WireMaker + Sync, G: Gate + Sync>(
     rt: &R,
     alloc: Global,
-    desk: &mut Desk<'_, L, P, W, G>,
+    seat: &mut ExchangeSeat<'_, L, P, W, G>,
     id: usize,
     workers: WorkerCount,
 ) -> Line
-    ensures { Acts desk.old desk.new (Plans desk.old.session id) result }
+    ensures { Acts seat.old seat.new (Plans seat.old.session id) result }
 {
-    match desk.call(rt, Call::Fetch(id)) {
+    match seat.call(rt, Call::Fetch(id)) {
         Reply::Fetched(batch) => match schedule(rt, alloc, batch, workers, &OpenGate) {
-            Ok(planned) => call(rt, desk, id, Call::Settle(id, planned)),
+            Ok(planned) => call(rt, seat, id, Call::Settle(id, planned)),
             Err(_) => refused(b"no memory"),
         },
         reply => told(id, &reply),
@@ -79,26 +79,26 @@ pub(crate) fn answer<
 >(
     rt: &R,
     alloc: Global,
-    desk: &mut Desk<'_, L, P, W, G>,
+    seat: &mut ExchangeSeat<'_, L, P, W, G>,
     command: Option<Command>,
     workers: WorkerCount,
 ) -> Line
     requires alone { StandsAlone command }
-    ensures { (text : List ℕ) → Acts desk.old desk.new
-        (Does desk.old.shape desk.old.session command text) result }
+    ensures { (text : List ℕ) → Acts seat.old seat.new
+        (DoesCommand seat.old.shape seat.old.session command text) result }
 {
     match command {
         None => refused(b"line"),
         Some(Command::Batch(_)) => refused(b"too many"),
-        Some(Command::Plan(id)) => plan(rt, alloc, desk, id, workers),
-        Some(Command::Run(id)) => call(rt, desk, id, Call::Run(id)),
-        Some(Command::Show(id)) => call(rt, desk, id, Call::Show(id)),
-        Some(Command::Drop(id)) => call(rt, desk, id, Call::Discard(id)),
-        Some(Command::Peek(module, address)) => call(rt, desk, 0, Call::Peek(module, address)),
+        Some(Command::Plan(id)) => plan(rt, alloc, seat, id, workers),
+        Some(Command::Run(id)) => call(rt, seat, id, Call::Run(id)),
+        Some(Command::Show(id)) => call(rt, seat, id, Call::Show(id)),
+        Some(Command::Drop(id)) => call(rt, seat, id, Call::Discard(id)),
+        Some(Command::Peek(module, address)) => call(rt, seat, 0, Call::Peek(module, address)),
         Some(Command::Poke(module, address, word)) => {
-            call(rt, desk, 0, Call::Poke(module, address, word))
+            call(rt, seat, 0, Call::Poke(module, address, word))
         }
-        Some(Command::Progress) => progress(desk.progress()),
+        Some(Command::Progress) => progress(seat.progress()),
         Some(Command::Bye) => bye(),
     }
 }

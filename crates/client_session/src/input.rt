@@ -2,7 +2,7 @@
 
 ghost use Rattle.std.specs.Prelude.{◌≡◌, ℕ, ◌+◌, ◌-◌, ◌^◌, ◌<◌, ◌≤◌, length, take, drop, [], None, IfSome, MatchResult, MatchOption, IsSome, IfOk, IfErr};
 ghost use Rattle.std.specs.Io.KnownBytes.{IsAtEnd};
-ghost use Rattle.client_session.specs.Bytes.{Pending, HasNoFeed, TakesIn, HasLine, fuel};
+ghost use Rattle.client_session.specs.Bytes.{PendingInput, HasNoFeed, TakesIn, HasLine, fuel};
 ghost use Rattle.client_session.specs.Faults.{HasBroughtNothing, IsFaultAt};
 
 use crate::limits::{LINE_BYTES, MAX_READS};
@@ -33,9 +33,9 @@ pub(crate) struct Input {
 impl Model for Input {
     ghost use Rattle.std.specs.Prelude.{◌≤◌, ◌+◌, take};
     ghost use Rattle.client_session.specs.declared.limits.TheConstants.{LINE_BYTES, MAX_READS};
-    ghost use Rattle.client_session.specs.Bytes.{Pending};
+    ghost use Rattle.client_session.specs.Bytes.{PendingInput};
 
-    ghost Value = { Pending };
+    ghost Value = { PendingInput };
 
     ghost view = { λ s. record { pending = take s.len s.buffer; reads = s.reads } };
 

@@ -7,7 +7,7 @@
 
 mod answering;
 mod command;
-mod desk;
+mod exchange_seat;
 mod fault;
 mod input;
 pub mod laws;

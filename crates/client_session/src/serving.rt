@@ -3,10 +3,10 @@
 ghost use Rattle.std.specs.Prelude.{◌≡◌, Some, OnOk, IfErr};
 ghost use Rattle.std.specs.Io.KnownBytes.{Appends};
 ghost use Rattle.batch_book.specs.Seats.{IsSameSeat};
-ghost use Rattle.client_session.specs.Sessions.{HasEnded, Passes, IsServed, fault_of, seat_back};
-ghost use Rattle.client_session.specs.Steps.{IsCut};
+ghost use Rattle.client_session.specs.Sessions.{HasEnded, Passes, IsServed, fault_in, seat_back};
+ghost use Rattle.client_session.specs.Steps.{IsCutLine};
 
-use crate::desk::Desk;
+use crate::exchange_seat::ExchangeSeat;
 use crate::fault::ServeFault;
 use crate::input::Input;
 use crate::turns::turn;
@@ -25,7 +25,7 @@ use std::thread::Threads;
 fn send<O: Write>(writer: &mut O, line: &[u8]) -> Result<(), ServeFault>
     ensures ok { OnOk result (Appends (O.contents writer.old) (O.contents writer.new) line.now) }
     ensures err { IfErr result (λ e.
-        IsCut e (O.contents writer.old) (O.contents writer.new) line.now) }
+        IsCutLine e (O.contents writer.old) (O.contents writer.new) line.now) }
 {
     let mut rest = line;
     while !rest.is_empty() {
@@ -41,8 +41,8 @@ fn send<O: Write>(writer: &mut O, line: &[u8]) -> Result<(), ServeFault>
     }
 }
 
-/// Serves a session at a desk.
-fn serve_desk<
+/// Serves the session of a seat at its exchange.
+fn serve_seat<
     R: Threads + Wait + Sync,
     L: Ledger,
     P: ConfigPort,
@@ -53,18 +53,18 @@ fn serve_desk<
 >(
     rt: &R,
     alloc: Global,
-    desk: &mut Desk<'_, L, P, W, G>,
+    seat: &mut ExchangeSeat<'_, L, P, W, G>,
     reader: &mut I,
     writer: &mut O,
     workers: WorkerCount,
 ) -> Result<(), ServeFault>
     ensures { Passes (I.remaining reader.old) (I.remaining reader.new)
-        (O.contents writer.old) (O.contents writer.new) desk.old desk.new
-        (HasEnded (fault_of result) (I.remaining reader.new) desk.old desk.new) }
+        (O.contents writer.old) (O.contents writer.new) seat.old seat.new
+        (HasEnded (fault_in result) (I.remaining reader.new) seat.old seat.new) }
 {
     let mut input = Input::new();
     while let Some(n) = input.next_line(reader)? {
-        let (line, ends) = turn(rt, alloc, desk, &mut input, reader, n, workers)?;
+        let (line, ends) = turn(rt, alloc, seat, &mut input, reader, n, workers)?;
         send(writer, line.as_bytes())?;
         if ends {
             return Ok(());
@@ -105,9 +105,9 @@ pub fn serve<
         (I.remaining reader.old) (I.remaining reader.new)
         (O.contents writer.old) (O.contents writer.new) }
 {
-    let mut desk = Desk::new(shared, seat);
-    let ended = serve_desk(rt, alloc, &mut desk, reader, writer, workers);
-    let seat = desk.into_seat();
+    let mut exchange_seat = ExchangeSeat::new(shared, seat);
+    let ended = serve_seat(rt, alloc, &mut exchange_seat, reader, writer, workers);
+    let seat = exchange_seat.into_seat();
     match ended {
         Ok(()) => Ok(seat),
         Err(fault) => Err((seat, fault)),

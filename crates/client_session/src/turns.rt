@@ -2,13 +2,13 @@
 
 ghost use Rattle.std.specs.Prelude.{◌≡◌, ℕ, ◌+◌, ◌<◌, ◌≤◌, List, length, take, Option, Some, IfOk, IfErr, OnOk, MatchOption, MatchBool, false};
 ghost use Rattle.client_session.specs.Bytes.{HasLine, fuel};
-ghost use Rattle.client_session.specs.Turns.{GoesOn};
+ghost use Rattle.client_session.specs.Turns.{SessionGoesOn};
 ghost use Rattle.client_session.specs.Sessions.{BeginsBatch};
 ghost use Rattle.client_session.specs.Steps.{StandsAlone, LinesTaken, LinesStopped, TurnTaken, TurnStopped};
 
 use crate::answering::{answer, submit};
 use crate::command::Command;
-use crate::desk::Desk;
+use crate::exchange_seat::ExchangeSeat;
 use crate::fault::ServeFault;
 use crate::input::Input;
 use crate::limits::LINE_BYTES;
@@ -58,7 +58,7 @@ fn batch<
 >(
     rt: &R,
     alloc: Global,
-    desk: &mut Desk<'_, L, P, W, G>,
+    seat: &mut ExchangeSeat<'_, L, P, W, G>,
     input: &mut Input,
     reader: &mut I,
     n: usize,
@@ -68,15 +68,15 @@ fn batch<
     requires room { length input.old.pending ≤ LINE_BYTES + 1 }
     requires means { BeginsBatch (take n input.old.pending) count }
     ensures ok { IfOk result (λ line. TurnTaken (I.remaining reader.old) (I.remaining reader.new)
-        input.old input.new desk.old desk.new line false) }
+        input.old input.new seat.old seat.new line false) }
     ensures err { IfErr result (λ e. TurnStopped e (I.remaining reader.old) (I.remaining reader.new)
-        input.old desk.old desk.new) }
+        input.old seat.old seat.new) }
     ensures fuel { OnOk result (fuel input.new < fuel input.old) }
 {
     let mut text = Vec::from_slice(alloc, &input.pending()[..n + 1])?;
     input.skip(n + 1);
     take_lines(input, reader, &mut text, count)?;
-    Ok(submit(rt, alloc, desk, text.as_slice()))
+    Ok(submit(rt, alloc, seat, text.as_slice()))
 }
 
 /// How many lines belong to a batch that isn't too long.
@@ -92,7 +92,7 @@ fn lines_behind(command: Option<Command>) -> Option<usize>
 
 /// Whether the session ends with this command.
 fn ends(command: Option<Command>) -> bool
-    ensures { MatchBool result (command ≡ Some Command.Bye) (GoesOn command) }
+    ensures { MatchBool result (command ≡ Some Command.Bye) (SessionGoesOn command) }
 {
     match command {
         Some(Command::Bye) => true,
@@ -112,7 +112,7 @@ pub(crate) fn turn<
 >(
     rt: &R,
     alloc: Global,
-    desk: &mut Desk<'_, L, P, W, G>,
+    seat: &mut ExchangeSeat<'_, L, P, W, G>,
     input: &mut Input,
     reader: &mut I,
     n: usize,
@@ -121,17 +121,17 @@ pub(crate) fn turn<
     requires line { HasLine input.old.pending n × (n ≤ LINE_BYTES) }
     requires room { length input.old.pending ≤ LINE_BYTES + 1 }
     ensures ok { IfOk result (λ r. TurnTaken (I.remaining reader.old) (I.remaining reader.new)
-        input.old input.new desk.old desk.new r.0 r.1) }
+        input.old input.new seat.old seat.new r.0 r.1) }
     ensures err { IfErr result (λ e. TurnStopped e (I.remaining reader.old) (I.remaining reader.new)
-        input.old desk.old desk.new) }
+        input.old seat.old seat.new) }
     ensures fuel { OnOk result (fuel input.new < fuel input.old) }
 {
     let command = Command::read(&input.pending()[..n]);
     match lines_behind(command) {
-        Some(count) => Ok((batch(rt, alloc, desk, input, reader, n, count)?, false)),
+        Some(count) => Ok((batch(rt, alloc, seat, input, reader, n, count)?, false)),
         None => {
             input.skip(n + 1);
-            Ok((answer(rt, alloc, desk, command, workers), ends(command)))
+            Ok((answer(rt, alloc, seat, command, workers), ends(command)))
         }
     }
 }

@@ -22,7 +22,7 @@ use Rattle.setting_runner.specs.declared.outcome.Outcome.TheVariants.{Refused}
 use Rattle.setting_runner.specs.declared.outcome.RunRefusal.{RunRefusal}
 use Rattle.setting_runner.specs.declared.outcome.RunRefusal.TheVariants.{NoMemory, Overlap, Shape}
 use Rattle.setting_runner.specs.Refusals.{IsRefusal}
-use Rattle.setting_runner.specs.Runs.{CanMove, HasOwnBays, IsMisfit, IsRefused, NeedsMemory, numbers_of, plan_destinations}
+use Rattle.setting_runner.specs.Runs.{CanMove, HasOwnBays, IsMisfit, IsRefusedRun, RunNeedsMemory, numbers_of, plan_destinations}
 use Rattle.setting_runner.proofs.Schedules.{split_concat}
 
 abbrev refused : RunRefusal → Outcome
@@ -57,22 +57,22 @@ shape_of shape ts Shape is = (λ e. is, λ both. refl)
 shape_of shape ts NoMemory is = (λ e. absurd cc, λ both. absurd (both.1 is.fits))
 
 -- memory is the cause where there is no other
-pub memory_of : (shape : Extent) (ts : List Transfer) (r : RunRefusal) → IsRefusal shape ts r → refused r ≡ refused NoMemory → NeedsMemory shape ts
+pub memory_of : (shape : Extent) (ts : List Transfer) (r : RunRefusal) → IsRefusal shape ts r → refused r ≡ refused NoMemory → RunNeedsMemory shape ts
 memory_of shape ts (Overlap a b) first e = absurd cc
 memory_of shape ts Shape is e = absurd cc
 memory_of shape ts NoMemory is e = is
 
 -- a run that isn't refused has no cause to be
-not_refused : (o : Outcome) (r : RunRefusal) → (IsRefused o → ⊥) → o ≡ refused r → ⊥
-not_refused o r going e = going (subst IsRefused (sym e) tt)
+not_refused : (o : Outcome) (r : RunRefusal) → (IsRefusedRun o → ⊥) → o ≡ refused r → ⊥
+not_refused o r going e = going (subst IsRefusedRun (sym e) tt)
 
-pub going_no_overlap : (shape : Extent) (ts : List Transfer) (o : Outcome) → (IsRefused o → ⊥) → CanMove shape ts → (i j : ℕ) → (o ≡ refused (Overlap i j)) ↔ IsFirstOverlap ts i j
+pub going_no_overlap : (shape : Extent) (ts : List Transfer) (o : Outcome) → (IsRefusedRun o → ⊥) → CanMove shape ts → (i j : ℕ) → (o ≡ refused (Overlap i j)) ↔ IsFirstOverlap ts i j
 going_no_overlap shape ts o going free i j = (λ e. absurd (not_refused o (Overlap i j) going e), λ first. absurd (no_overlap ts i j free.apart first))
 
-pub going_no_shape : (shape : Extent) (ts : List Transfer) (o : Outcome) → (IsRefused o → ⊥) → CanMove shape ts → (o ≡ refused Shape) ↔ (IsApart ts × IsMisfit shape ts)
+pub going_no_shape : (shape : Extent) (ts : List Transfer) (o : Outcome) → (IsRefusedRun o → ⊥) → CanMove shape ts → (o ≡ refused Shape) ↔ (IsApart ts × IsMisfit shape ts)
 going_no_shape shape ts o going free = (λ e. absurd (not_refused o Shape going e), λ both. absurd (both.1 free.fits))
 
-pub going_no_memory : (shape : Extent) (ts : List Transfer) (o : Outcome) → (IsRefused o → ⊥) → o ≡ refused NoMemory → NeedsMemory shape ts
+pub going_no_memory : (shape : Extent) (ts : List Transfer) (o : Outcome) → (IsRefusedRun o → ⊥) → o ≡ refused NoMemory → RunNeedsMemory shape ts
 going_no_memory shape ts o going e = absurd (not_refused o NoMemory going e)
 
 -- what can be lent isn't refused but for want of memory

@@ -5,9 +5,9 @@ use Rattle.crossbar.specs.declared.port.ConfigPort.{Ghosts}
 use Rattle.schedule_certificate.specs.Plans.{Plan}
 use Rattle.setting_runner.specs.declared.outcome.Outcome.{Outcome}
 use Rattle.setting_runner.specs.declared.plant.Plant.{Plant}
-use Rattle.setting_runner.specs.Runs.{HasCause, IsRefused, LeavesSwitches}
+use Rattle.setting_runner.specs.Runs.{HasCause, IsRefusedRun, LeavesSwitches}
 
--- What a run of this plan, where there is one, leaves of its plant on a rack of this shape, where it
+-- What a run of this plan, if there is one, leaves of its plant on a rack of this shape, where it
 -- ends so. The first two say what is seen of the port, and which wires never fail.
 pub record LeavesPlant {P W G : Type 0} (seen : Ghosts P) (sure : W → ℕ → Type 0)
     (shape : Extent) (ran : Option Plan) (outcome : Outcome) (old new : Plant P W G) : Type 0 where
@@ -24,7 +24,7 @@ pub record LeavesPlant {P W G : Type 0} (seen : Ghosts P) (sure : W → ℕ → 
   pub switches : IsTrue (seen.honest old.port) →
       IfSome ran (λ plan. LeavesSwitches shape plan outcome (seen.switches new.port))
   -- where the run is refused nothing is done, nor where its plan has no setting
-  pub refused : IsRefused outcome → new ≡ old
+  pub refused : IsRefusedRun outcome → new ≡ old
   pub uncalled : IfSome ran (λ plan. plan.settings ≡ [] → new ≡ old)
   -- all but the port is as it was; its failures never fall, and it is as honest as it was
   pub others : new ≡ record old { port = new.port }

@@ -3,7 +3,7 @@ use Rattle.std.specs.Prelude.{List}
 use Rattle.batch.specs.Extent.{Extent}
 use Rattle.batch.specs.Overlap.{IsApart, IsFirstOverlap}
 use Rattle.batch.specs.declared.transfer.Transfer.{Transfer}
-use Rattle.setting_runner.specs.Runs.{IsMisfit, NeedsMemory}
+use Rattle.setting_runner.specs.Runs.{IsMisfit, RunNeedsMemory}
 use Rattle.setting_runner.specs.declared.outcome.RunRefusal.{RunRefusal}
 use Rattle.setting_runner.specs.declared.outcome.RunRefusal.TheVariants.{NoMemory, Overlap, Shape}
 
@@ -11,4 +11,4 @@ use Rattle.setting_runner.specs.declared.outcome.RunRefusal.TheVariants.{NoMemor
 abbrev pub IsRefusal : Extent → List Transfer → RunRefusal → Type 0
 IsRefusal shape batch (Overlap i j) = IsFirstOverlap batch i j
 IsRefusal shape batch Shape = IsApart batch × IsMisfit shape batch
-IsRefusal shape batch NoMemory = NeedsMemory shape batch
+IsRefusal shape batch NoMemory = RunNeedsMemory shape batch

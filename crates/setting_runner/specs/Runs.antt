@@ -161,10 +161,10 @@ abbrev pub IsMisfit : Extent → List Transfer → Type 0
 IsMisfit shape batch = FitsIn shape batch → ⊥
 
 -- the run is refused
-abbrev pub IsRefused : Outcome → Type 0
-IsRefused (Refused refusal) = Unit {0}
-IsRefused (Completed settings words) = ⊥
-IsRefused (Stopped setting cause moved) = ⊥
+abbrev pub IsRefusedRun : Outcome → Type 0
+IsRefusedRun (Refused refusal) = Unit {0}
+IsRefusedRun (Completed settings words) = ⊥
+IsRefusedRun (Stopped setting cause moved) = ⊥
 
 -- the transfers can be moved on a rack of this shape: no two overlap, and the rack has their blocks
 pub record CanMove (shape : Extent) (batch : List Transfer) : Type 0 where
@@ -172,7 +172,7 @@ pub record CanMove (shape : Extent) (batch : List Transfer) : Type 0 where
   pub fits : FitsIn shape batch
 
 -- no cause to refuse the run, but there is something to move
-pub record NeedsMemory (shape : Extent) (batch : List Transfer) : Type 0 where
+pub record RunNeedsMemory (shape : Extent) (batch : List Transfer) : Type 0 where
   pub apart : IsApart batch
   pub fits : FitsIn shape batch
   pub some : 0 < length batch
@@ -190,12 +190,12 @@ LeavesSwitches shape plan (Stopped setting cause moved) switches =
 -- ---- what is told
 
 -- the notice was told 0, then 1, and so on to this number of settings
-abbrev pub Told : {N : Type 0} → (N → ℕ → N → Type 0) → N → ℕ → N → Type 0
-Told {N} hears a zero b = hears a 0 b
-Told {N} hears a (suc k) b = (m : N) × Told hears a k m × hears m (suc k) b
+abbrev pub ToldUpTo : {N : Type 0} → (N → ℕ → N → Type 0) → N → ℕ → N → Type 0
+ToldUpTo {N} hears a zero b = hears a 0 b
+ToldUpTo {N} hears a (suc k) b = (m : N) × ToldUpTo hears a k m × hears m (suc k) b
 
 -- the notice was told of each setting that was run, in order, and of none where the run was refused
 abbrev pub TellsOutcome : {N : Type 0} → (N → ℕ → N → Type 0) → N → Outcome → N → Type 0
-TellsOutcome hears a (Completed settings words) b = Told hears a settings b
+TellsOutcome hears a (Completed settings words) b = ToldUpTo hears a settings b
 TellsOutcome hears a (Refused refusal) b = b ≡ a
-TellsOutcome hears a (Stopped setting cause moved) b = Told hears a setting b
+TellsOutcome hears a (Stopped setting cause moved) b = ToldUpTo hears a setting b

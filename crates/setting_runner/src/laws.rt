@@ -1,7 +1,7 @@
 //! Laws of what a notice is told, and of what switches are sent. They make no call.
 
 ghost use Rattle.std.specs.Prelude.{◌≡◌, Bool, true, ℕ, suc};
-ghost use Rattle.setting_runner.specs.Runs.{Told};
+ghost use Rattle.setting_runner.specs.Runs.{ToldUpTo};
 ghost use Rattle.setting_runner.specs.Laws.{PlansTurn};
 
 use crate::notice::Notice;
@@ -13,8 +13,8 @@ pub fn told<N: Notice>()
     ensures kept { (a : N) (holds : N → ℕ → Bool) →
         ((b : N) → N.hears a 0 b → holds b 0 ≡ true) →
         ((b c : N) (k : ℕ) → holds b k ≡ true → N.hears b (suc k) c → holds c (suc k) ≡ true) →
-        (b : N) (k : ℕ) → Told N.hears a k b → holds b k ≡ true }
-    ensures last { (a b : N) (k : ℕ) → Told N.hears a k b → (m : N) × N.hears m k b }
+        (b : N) (k : ℕ) → ToldUpTo N.hears a k b → holds b k ≡ true }
+    ensures last { (a b : N) (k : ℕ) → ToldUpTo N.hears a k b → (m : N) × N.hears m k b }
 {}
 
 /// What a switch is sent for the first settings of a plan, one after the other, turns it into that of the last of

@@ -7,7 +7,7 @@ ghost use Rattle.setting_runner.specs.declared.outcome.RunRefusal.TheVariants.{O
 ghost use Rattle.setting_runner.specs.declared.outcome.Outcome.TheVariants.{Refused};
 ghost use Rattle.setting_runner.specs.Refusals.{IsRefusal};
 ghost use Rattle.setting_runner.specs.Plants.{LeavesPlant};
-ghost use Rattle.setting_runner.specs.Runs.{IsPrepared, LeavesMemories, IsMisfit, IsRefused, CanMove, NeedsMemory, TellsOutcome};
+ghost use Rattle.setting_runner.specs.Runs.{IsPrepared, LeavesMemories, IsMisfit, IsRefusedRun, CanMove, RunNeedsMemory, TellsOutcome};
 
 use crate::notice::Notice;
 use crate::numbers::setting_numbers;
@@ -63,10 +63,10 @@ pub fn run<R: Threads + Sync, P: ConfigPort, W: WireMaker + Sync, G: Gate + Sync
         (result.1 ≡ Refused (Overlap i j)) ↔ IsFirstOverlap planned.now.batch i j }
     ensures shape { (result.1 ≡ Refused Shape) ↔
         (IsApart planned.now.batch × IsMisfit rack.shape planned.now.batch) }
-    ensures memory { result.1 ≡ Refused NoMemory → NeedsMemory rack.shape planned.now.batch }
+    ensures memory { result.1 ≡ Refused NoMemory → RunNeedsMemory rack.shape planned.now.batch }
 
     // A run that isn't refused is of transfers that don't overlap and that the rack has.
-    ensures free { (IsRefused result.1 → ⊥) → CanMove rack.shape planned.now.batch }
+    ensures free { (IsRefusedRun result.1 → ⊥) → CanMove rack.shape planned.now.batch }
 {
     match prepare(alloc, rack, planned) {
         Ok(parted) => {
@@ -124,10 +124,10 @@ fn run_settings<R: Threads + Sync, P: ConfigPort, W: WireMaker + Sync, G: Gate +
     ensures rejoins { Rejoins rest.now.store bays.new }
     ensures memories { LeavesMemories
         (joined rest.now.store bays.old) planned.now result (joined rest.now.store bays.new) }
-    ensures plant { LeavesPlant P.ConfigPort W.is_sure rest.now.store.shape (Some planned.now) result
-        plant.old plant.new }
+    ensures plant { LeavesPlant P.ConfigPort W.is_sure rest.now.store.shape (Some planned.now)
+        result plant.old plant.new }
     ensures told { TellsOutcome N.hears notice.old result notice.new }
-    ensures going { IsRefused result → ⊥ }
+    ensures going { IsRefusedRun result → ⊥ }
 {
     let batch = planned.batch();
     let schedule = planned.schedule();

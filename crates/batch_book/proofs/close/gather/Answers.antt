@@ -1,6 +1,6 @@
 use Rattle.std.proofs.Common.{◌≡◌, ◌∙◌, sym, ap, arith, refl, length, length-set, ◌≤◌, subst}
 use Rattle.std.proofs.lemmas.List.{same_lists, get_or-map, length-map}
-use Rattle.batch_book.specs.Seats.{Stand}
+use Rattle.batch_book.specs.Seats.{SeatState}
 use Rattle.batch_book.specs.Values.{greatest}
 use Rattle.std.proofs.lemmas.Grind.{common_steps}
 use Rattle.batch_book.specs.Seats.{closed}
@@ -9,7 +9,7 @@ use Rattle.batch_book.proofs.close.gather.Goals as goal
 pub loop-i-preserved : goal.loop-i-preserved
 loop-i-preserved g c =
     let i = c.loop-i.invariant in
-    let e = c.leave-ticket.ensures in
+    let e = c.leave-access.ensures in
     let j = c.join.ensures in
     record {
       left = λ k d below. grind (arith, common_steps, i.left k d, i.here k d, e.seat);
@@ -21,8 +21,8 @@ loop-i-preserved g c =
       raised = λ n all.
           let a = i.raised n (λ k d below. all k d (omega arith)) in
           let s = c.index-seats-i.result in
-          let b : c.leave-ticket.result.lookout.raised ≤ n =
-          subst (λ m. m ≤ n) (sym (e.raised ∙ ap (λ (x : Stand). greatest x.log) (i.here c.loop-i.i s (omega arith)))) (all c.loop-i.i s (omega arith)) in
+          let b : c.leave-access.result.lookout.raised ≤ n =
+          subst (λ m. m ≤ n) (sym (e.raised ∙ ap (λ (x : SeatState). greatest x.log) (i.here c.loop-i.i s (omega arith)))) (all c.loop-i.i s (omega arith)) in
           rw j.lookout (omega (arith, a, b));
     }
 

@@ -3,13 +3,13 @@ use Rattle.client_session.proofs.Served.{seat_kept, session_kept}
 use Rattle.client_session.proofs.serving.serve.Goals as goal
 
 pub returns-in-Ok-clause-seat : goal.returns-in-Ok-clause-seat
-returns-in-Ok-clause-seat g c = seat_kept _ _ _ _ c.args.shared.now.shape c.args.seat c.into_seat-seat.result _ c.serve_desk-ended.new.desk _ c.new-desk.ensures c.into_seat-seat.ensures c.serve_desk-ended.ensures
+returns-in-Ok-clause-seat g c = seat_kept _ _ _ _ c.args.shared.now.shape c.args.seat c.into_seat-seat.result _ c.serve_seat-ended.new.seat _ c.new-exchange_seat.ensures c.into_seat-seat.ensures c.serve_seat-ended.ensures
 
 pub returns-in-Ok-clause-session : goal.returns-in-Ok-clause-session
-returns-in-Ok-clause-session g c = session_kept _ _ _ _ c.args.shared.now.shape c.args.seat c.into_seat-seat.result _ c.serve_desk-ended.new.desk None c.new-desk.ensures c.into_seat-seat.ensures c.in-Ok.ensures
+returns-in-Ok-clause-session g c = session_kept _ _ _ _ c.args.shared.now.shape c.args.seat c.into_seat-seat.result _ c.serve_seat-ended.new.seat None c.new-exchange_seat.ensures c.into_seat-seat.ensures c.in-Ok.ensures
 
 pub returns-in-Err-clause-seat : goal.returns-in-Err-clause-seat
-returns-in-Err-clause-seat g c = seat_kept _ _ _ _ c.args.shared.now.shape c.args.seat c.into_seat-seat.result _ c.serve_desk-ended.new.desk _ c.new-desk.ensures c.into_seat-seat.ensures c.serve_desk-ended.ensures
+returns-in-Err-clause-seat g c = seat_kept _ _ _ _ c.args.shared.now.shape c.args.seat c.into_seat-seat.result _ c.serve_seat-ended.new.seat _ c.new-exchange_seat.ensures c.into_seat-seat.ensures c.serve_seat-ended.ensures
 
 pub returns-in-Err-clause-session : goal.returns-in-Err-clause-session
-returns-in-Err-clause-session g c = session_kept _ _ _ _ c.args.shared.now.shape c.args.seat c.into_seat-seat.result _ c.serve_desk-ended.new.desk (Some c.in-Err.fault) c.new-desk.ensures c.into_seat-seat.ensures c.in-Err.ensures
+returns-in-Err-clause-session g c = session_kept _ _ _ _ c.args.shared.now.shape c.args.seat c.into_seat-seat.result _ c.serve_seat-ended.new.seat (Some c.in-Err.fault) c.new-exchange_seat.ensures c.into_seat-seat.ensures c.in-Err.ensures

@@ -4,7 +4,7 @@ use Rattle.batch.specs.declared.limits.TheConstants.{MAX_TRANSFERS, MAX_WORDS}
 use Rattle.batch.specs.declared.transfer.Transfer.{Transfer}
 use Rattle.module_memory.specs.Lending.{joined}
 use Rattle.setting_runner.specs.Moves.{AreMovable, HaveMoved, none_sure, all_moved}
-use Rattle.setting_runner.specs.Runs.{numbers_of, AreSettingSwitches, Told, IsCompleted}
+use Rattle.setting_runner.specs.Runs.{numbers_of, AreSettingSwitches, ToldUpTo, IsCompleted}
 use Rattle.setting_runner.proofs.Going.{rack_fits, setting_switches, going_next, going_stops, going_completes, next_begins, part_movable}
 use Rattle.setting_runner.proofs.Schedules.{front_few, numbers_are_counted}
 use Rattle.setting_runner.proofs.running.run_settings.Goals as goal
@@ -110,7 +110,7 @@ loop-number-preserved g c =
     record {
       from = omega (arith, next_begins plan n a k below inv.from count);
       going = going_next c.args.rest.now c.args.bays.now c.loop-number.bays new plan n a k begun inv.going below inv.from count moves;
-      told = subst (λ (x : ℕ). Told g.N.Notice.hears c.args.notice.now x c.done-in-loop-number.new.self) (sym (add-one n)) (c.loop-number.notice, inv.told, subst (λ (x : ℕ). g.N.Notice.hears c.loop-number.notice x c.done-in-loop-number.new.self) (add-one n) c.done-in-loop-number.ensures);
+      told = subst (λ (x : ℕ). ToldUpTo g.N.Notice.hears c.args.notice.now x c.done-in-loop-number.new.self) (sym (add-one n)) (c.loop-number.notice, inv.told, subst (λ (x : ℕ). g.N.Notice.hears c.loop-number.notice x c.done-in-loop-number.new.self) (add-one n) c.done-in-loop-number.ensures);
       standing = (c.of_setting-pairs.ensures.pairs c.args.rest.now.store.shape fits, λ honest. c.in_default.ensures.set (subst IsTrue (sym inv.honesty) honest));
       switches = λ j last honest.
           let at : n ≡ j = omega arith in

@@ -28,11 +28,11 @@ pub returns-clause-quiet : goal.returns-clause-quiet
 returns-clause-quiet g c = unheard (λ (r : Raise). r.lookout) (λ (r : Raise). r.run) _ c.apply-reply.new.notice c.args.self.now.book _ _ c.apply-reply.result _
     c.next_run.ensures.sound c.apply-reply.ensures.grown c.apply-reply.ensures.told
 
-pub invariant_of-ticket : goal.invariant_of-ticket
-invariant_of-ticket g c =
+pub invariant_of-access : goal.invariant_of-access
+invariant_of-access g c =
     let r = heard (λ (r : Raise). r.lookout) (λ (r : Raise). r.run) _ c.apply-reply.new.notice c.args.self.now.book _ _ c.apply-reply.result _
     c.next_run.ensures.sound c.next_run.ensures.number c.apply-reply.ensures.grown c.apply-reply.ensures.told in
-    let t = c.args.ticket in
+    let t = c.args.access in
     let parts : c.if-is_logged.share.parts ≡ t.parts = elim c.if-is_logged.branch [ then-is_logged w ↦ omega (arith, ap (λ s. s.parts) w.share-is, w.add.ensures.parts, t.of_ledger) | else-is_logged w ↦ omega (arith, ap (λ s. s.parts) w.share-is, t.of_ledger) ] in
     record { some = t.some; few = t.few; of_ledger = parts; of_word = r.parts ∙ t.of_word }
 

@@ -7,9 +7,9 @@ ghost use Rattle.progress_word.specs.Lookouts.{lookout_view};
 use progress_word::{ALL_PARTS, Lookout, ProgressWord};
 use std::sync::ledger::{Ledger, Share};
 
-/// Parts of the ledger of an exchange, and as many of its word.
+/// What a seat takes part in its exchange by: parts of its ledger, and as many of its word.
 #[derive(Drop)]
-pub struct Ticket<L: Ledger> {
+pub struct ExchangeAccess<L: Ledger> {
     pub share: Share<L>,
     pub lookout: Lookout,
     pub parts: usize,
@@ -19,9 +19,9 @@ pub struct Ticket<L: Ledger> {
     pub ghost of_word: { lookout.parts ≡ parts },
 }
 
-impl<L: Ledger> Ticket<L> {
-    /// A ticket with one of the parts, from whose lookout as much was seen.
-    pub fn split(&mut self, word: &ProgressWord) -> Ticket<L>
+impl<L: Ledger> ExchangeAccess<L> {
+    /// An access with one of the parts, from whose lookout as much was seen.
+    pub fn split(&mut self, word: &ProgressWord) -> ExchangeAccess<L>
         requires word { self.old.lookout.word ≡ word.now }
         requires parts { 1 < self.old.parts }
         ensures parts { (self.new.parts + 1 ≡ self.old.parts) × (result.parts ≡ 1) }
@@ -31,7 +31,7 @@ impl<L: Ledger> Ticket<L> {
         ensures amount { self.new.share.amount ≡ self.old.share.amount }
         ensures nothing { result.share.amount ≡ 0 }
     {
-        let Ticket {
+        let ExchangeAccess {
             share,
             lookout,
             parts,
@@ -39,15 +39,15 @@ impl<L: Ledger> Ticket<L> {
         let part = share.split_off(1, 0);
         let other = word.split(lookout);
         *parts -= 1;
-        Ticket {
+        ExchangeAccess {
             share: part,
             lookout: other,
             parts: 1,
         }
     }
 
-    /// Takes in what another ticket has.
-    pub fn join(&mut self, word: &ProgressWord, other: Ticket<L>)
+    /// Takes in what another access has.
+    pub fn join(&mut self, word: &ProgressWord, other: ExchangeAccess<L>)
         requires all { L.parts ≡ ALL_PARTS }
         requires word { (self.old.lookout.word ≡ word.now) × (other.lookout.word ≡ word.now) }
         ensures parts { self.new.parts ≡ self.old.parts + other.parts }
@@ -57,12 +57,12 @@ impl<L: Ledger> Ticket<L> {
             (self.old.parts + other.parts) }
         ensures amount { self.new.share.amount ≡ self.old.share.amount + other.share.amount }
     {
-        let Ticket {
+        let ExchangeAccess {
             share,
             lookout,
             parts,
         } = self;
-        let Ticket {
+        let ExchangeAccess {
             share: their_share,
             lookout: their_lookout,
             parts: their_parts,

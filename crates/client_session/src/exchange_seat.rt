@@ -1,7 +1,7 @@
 //! A seat, and what its session asks of the exchange.
 
 ghost use Rattle.std.specs.Prelude.{◌≡◌, Some};
-ghost use Rattle.client_session.specs.Seats.{seat_view, IsCalled, IsRead};
+ghost use Rattle.client_session.specs.Seats.{seat_view, IsCalled, IsProgressRead};
 
 use batch::Shape;
 use batch_book::{Call, Reading, Reply, Seat, Shared};
@@ -15,12 +15,12 @@ use std::thread::Threads;
 
 /// A seat beside the exchange that it belongs to. Contracts see the seat as its session does.
 #[derive(Drop)]
-pub(crate) struct Desk<'a, L: Ledger, P, W, G> {
+pub(crate) struct ExchangeSeat<'a, L: Ledger, P, W, G> {
     shared: &'a Shared<L, P, W, G>,
     seat: Seat<L>,
 }
 
-impl<'a, L: Ledger, P, W, G> Model for Desk<'a, L, P, W, G> {
+impl<'a, L: Ledger, P, W, G> Model for ExchangeSeat<'a, L, P, W, G> {
     ghost use Rattle.std.specs.Prelude.{◌≡◌, Some};
     ghost use Rattle.client_session.specs.Seats.{SeatView, seat_view};
 
@@ -31,13 +31,13 @@ impl<'a, L: Ledger, P, W, G> Model for Desk<'a, L, P, W, G> {
     ghost invariant = { λ d. d.seat.exchange ≡ Some d.shared.now.word };
 }
 
-impl<'a, L: Ledger, P, W, G> Desk<'a, L, P, W, G> {
+impl<'a, L: Ledger, P, W, G> ExchangeSeat<'a, L, P, W, G> {
     /// The seat at its exchange.
-    pub fn new(shared: &'a Shared<L, P, W, G>, seat: Seat<L>) -> Desk<'a, L, P, W, G>
+    pub fn new(shared: &'a Shared<L, P, W, G>, seat: Seat<L>) -> ExchangeSeat<'a, L, P, W, G>
         requires { seat.exchange ≡ Some shared.now.word }
         ensures { result ≡ seat_view shared.now.shape seat }
     {
-        Desk { shared, seat }
+        ExchangeSeat { shared, seat }
     }
 
     /// The seat.
@@ -56,13 +56,13 @@ impl<'a, L: Ledger, P, W, G> Desk<'a, L, P, W, G> {
 
     /// Reads the progress word.
     pub fn progress(&mut self) -> Reading
-        ensures { IsRead self.old result self.new }
+        ensures { IsProgressRead self.old result self.new }
     {
         self.shared.progress(&mut self.seat)
     }
 }
 
-impl<L: Ledger, P: ConfigPort, W: WireMaker + Sync, G: Gate + Sync> Desk<'_, L, P, W, G> {
+impl<L: Ledger, P: ConfigPort, W: WireMaker + Sync, G: Gate + Sync> ExchangeSeat<'_, L, P, W, G> {
     /// Makes a call of the book.
     pub fn call<R: Threads + Wait + Sync>(&mut self, rt: &R, call: Call) -> Reply
         ensures { IsCalled self.old call result self.new }

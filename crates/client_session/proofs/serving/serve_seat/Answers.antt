@@ -1,7 +1,7 @@
 use Rattle.std.proofs.Common.{ap}
 use Rattle.std.proofs.lemmas.Result.{err_from_is_err_and}
 use Rattle.client_session.proofs.Served.{Serving-none, Serving-read, Serving-turn, ended_at_end, ended_by_bye, stopped_reading, stopped_turn, stopped_writing, none_of}
-use Rattle.client_session.proofs.serving.serve_desk.Goals as goal
+use Rattle.client_session.proofs.serving.serve_seat.Goals as goal
 
 pub loop-n-init : goal.loop-n-init
 loop-n-init g c = Serving-none _ _ _ c.new-input.result (ap (λ h. h.pending) c.new-input.ensures) (ap (λ h. h.reads) c.new-input.ensures)
