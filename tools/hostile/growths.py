@@ -94,7 +94,8 @@ COMMANDS = [
     ["serve", "2x2x2", "script", "other"], ["serve", "2x2x2", "script", "other", "--workers", "2"],
     ["serve", "3x2x2", "pushes", "--workers", "2"], ["serve", "2x1x1", "refusals"], ["serve", "2x2", "script"],
     ["serve", "3x2x2", "other", "-"], ["serve", "3x2x2", "other", "--image", "image"], ["serve", "3x2x1", "other", "--image", "image"],
-    # `Book::apply` and `Shared::call` of each call, over words that all differ. `Planned::copy` and `Coloured::copy` where a plan is settled.
+    # `Book::apply` and `Shared::call` of each call, over words that all differ; `Planned::copy` and `Coloured::copy` too, for a plan that is
+    # settled.
     ["serve", "3x2x2", "twice", "--image", "image"], ["serve", "3x2x2", "twice", "--image", "image", "--workers", "2"],
     # `Batch::write`.
     ["direct", "moves"], ["direct", "wrong"], ["direct", "-"],

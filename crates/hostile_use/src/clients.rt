@@ -215,6 +215,22 @@ fn read_all<R: AllocGlobal + Files>(rt: &R, files: &[String]) -> io::Result<Vec<
     Ok(scripts)
 }
 
+/// What is told of scripts that are served side by side on an exchange with a rack of zeros of this shape, if they can be served.
+fn served_text<R: AllocGlobal + Eprint + Threads + Wait + Sync>(
+    rt: &R,
+    shape: &str,
+    scripts: &[Vec<u8>],
+) -> Option<Vec<u8>> {
+    let shape = Shape::read(shape.as_bytes()).ok()?;
+    let rack = Rack::new(rt.alloc(), shape).ok()?;
+    serve_all::<Brand, R>(rt, Blank::new(16), rack, scripts)
+}
+
+/// Prints this text, or that there is none.
+fn print_text<R: Print>(rt: &R, text: Option<&[u8]>) -> io::Result<()> {
+    io::writer(rt).write_all(text.unwrap_or(b"not served\n"))
+}
+
 /// Serves the scripts of 1 to 16 files side by side on an exchange with a rack of zeros, and prints what each session was told and the
 /// history.
 pub fn serve_side_by_side<R: AllocGlobal + Eprint + Files + Print + Threads + Wait + Sync>(
@@ -223,12 +239,6 @@ pub fn serve_side_by_side<R: AllocGlobal + Eprint + Files + Print + Threads + Wa
     files: &[String],
 ) -> io::Result<()> {
     let scripts = read_all(rt, files)?;
-    let Ok(shape) = Shape::read(shape.as_bytes()) else {
-        return println!(rt; "no shape");
-    };
-    let rack = Rack::new(rt.alloc(), shape)?;
-    match serve_all::<Brand, R>(rt, Blank::new(16), rack, scripts.as_slice()) {
-        Some(text) => io::writer(rt).write_all(text.as_slice()),
-        None => println!(rt; "not served"),
-    }
+    let text = served_text(rt, shape, scripts.as_slice());
+    print_text(rt, text.as_deref())
 }

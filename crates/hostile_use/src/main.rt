@@ -39,8 +39,8 @@ fn answer<R: AllocGlobal + Eprint + Files + Print + Threads + Wait + Sync>(
         [_, name, shape, files @ ..] if name.as_str() == "clients" => {
             serve_side_by_side(rt, shape.as_str(), files)
         }
-        [_, name, ..] => make_named(rt, name.as_str()),
-        _ => make_all(rt),
+        [_, name, ..] => make_wanted(rt, Some(name.as_str())),
+        _ => make_wanted(rt, None),
     }
 }
 
@@ -54,23 +54,15 @@ fn make<R: AllocGlobal + Eprint + Print + Threads + Sync>(
     println!(rt; "{name}: {met}")
 }
 
-/// Makes the call of this name.
-fn make_named<R: AllocGlobal + Eprint + Print + Threads + Sync>(
+/// Makes the call of this name, or each call once where there is no name.
+fn make_wanted<R: AllocGlobal + Eprint + Print + Threads + Sync>(
     rt: &R,
-    wanted: &str,
+    wanted: Option<&str>,
 ) -> io::Result<()> {
     for (name, call) in &CALLS {
-        if *name == wanted {
-            return make(rt, name, *call);
+        if *name == wanted.unwrap_or(*name) {
+            make(rt, name, *call)?;
         }
-    }
-    println!(rt; "{wanted}: no such call")
-}
-
-/// Makes each call once.
-fn make_all<R: AllocGlobal + Eprint + Print + Threads + Sync>(rt: &R) -> io::Result<()> {
-    for (name, call) in &CALLS {
-        make(rt, name, *call)?;
     }
     Ok(())
 }
