@@ -2,6 +2,5 @@
 
 mod module_memory_rows;
 mod peek_poke_rows;
-mod places;
 mod prints;
 mod racks;
