@@ -1,108 +1,110 @@
+//! The worked rows, ports, answers and printed faults.
+
+use super::prints::prints;
 use c004_commands::{
     Answer, AnswerFormat, CONNECTED, Command, CommandFault, CommandReader, LONGEST_COMMAND, PORTS,
     PortNo, write,
 };
-use std::test::Fail;
 
-#[test]
-fn bad_commands(rt: HostRuntime) -> Result<(), Fail> {
-    let mut reader = CommandReader::new();
-    assert_eq!(rt; reader.feed(0x07), Err(CommandFault::UnknownCommand(7)));
-    assert!(rt; reader.at_rest());
-    assert_eq!(rt; reader.feed(0x00), Ok(None));
-    assert_eq!(rt; reader.feed(0x20), Err(CommandFault::BadPort(32)));
-    assert!(rt; reader.at_rest());
-    assert_eq!(rt; reader.feed(0x00), Ok(None));
-    assert!(rt; !reader.at_rest());
-    Ok(())
+/// Whether a reader gives this command at a byte, and is at rest then.
+fn gives(reader: &mut CommandReader, byte: u8, command: Command) -> bool {
+    reader.feed(byte) == Ok(Some(command)) && reader.at_rest()
+}
+
+/// Whether a reader takes two bytes of a command, gives nothing, and isn't at rest then.
+fn begins(reader: &mut CommandReader, bytes: [u8; 2]) -> bool {
+    let [first, second] = bytes;
+    reader.feed(first) == Ok(None) && reader.feed(second) == Ok(None) && !reader.at_rest()
 }
 
 #[test]
-fn half_command(rt: HostRuntime) -> Result<(), Fail> {
+fn half_command(rt: HostRuntime) {
     let mut reader = CommandReader::new();
-    assert_eq!(rt; reader.feed(0x01), Ok(None));
-    assert_eq!(rt; reader.feed(0x00), Ok(None));
-    assert!(rt; !reader.at_rest());
-    let link1 = PortNo::new(0).ok_or("0 is a port")?;
-    let link2 = PortNo::new(17).ok_or("17 is a port")?;
-    assert_eq!(rt; reader.feed(0x11), Ok(Some(Command::Join { link1, link2 })));
-    assert!(rt; reader.at_rest());
-    Ok(())
+    assert!(rt; begins(&mut reader, [0x01, 0x00]));
+    let link1 = PortNo::new(0).unwrap();
+    let link2 = PortNo::new(17).unwrap();
+    assert!(rt; gives(&mut reader, 0x11, Command::Join { link1, link2 }));
 }
 
-// What a command is written as, and how many of these bytes are its own.
-fn written(command: Command) -> ([u8; LONGEST_COMMAND], usize) {
+/// Whether a command is written by so many bytes, with zeros behind them.
+fn is_written(command: Command, bytes: [u8; LONGEST_COMMAND], count: usize) -> bool {
     let mut out = [9; LONGEST_COMMAND];
-    let number = write(command, &mut out);
-    (out, number)
+    write(command, &mut out) == count && out == bytes
 }
 
-/// Row written-commands.
+/// Whether the commands that set outputs are written so for ports 3 and 7.
+fn connections_are_written(link1: PortNo, link2: PortNo) -> bool {
+    let connect = Command::Connect {
+        input: link1,
+        output: link2,
+    };
+    is_written(connect, [0x00, 0x03, 0x07], 3)
+        && is_written(Command::Join { link1, link2 }, [0x01, 0x03, 0x07], 3)
+        && is_written(Command::CutPair { link1, link2 }, [0x06, 0x03, 0x07], 3)
+}
+
+/// Whether the other commands are written so for output 7.
+fn others_are_written(output: PortNo) -> bool {
+    is_written(Command::Enquire { output }, [0x02, 0x07, 0x00], 2)
+        && is_written(Command::Settle, [0x03, 0x00, 0x00], 1)
+        && is_written(Command::Reset, [0x04, 0x00, 0x00], 1)
+        && is_written(Command::Cut { output }, [0x05, 0x07, 0x00], 2)
+}
+
 #[test]
-fn written_bytes(rt: HostRuntime) -> Result<(), Fail> {
-    let link1 = PortNo::new(3).ok_or("3 is a port")?;
-    let link2 = PortNo::new(7).ok_or("7 is a port")?;
-    let (input, output) = (link1, link2);
-    assert_eq!(rt;
-        written(Command::Connect { input, output }),
-        ([0x00, 0x03, 0x07], 3)
-    );
-    assert_eq!(rt;
-        written(Command::Join { link1, link2 }),
-        ([0x01, 0x03, 0x07], 3)
-    );
-    assert_eq!(rt;
-        written(Command::Enquire { output }),
-        ([0x02, 0x07, 0x00], 2)
-    );
-    assert_eq!(rt; written(Command::Settle), ([0x03, 0x00, 0x00], 1));
-    assert_eq!(rt; written(Command::Reset), ([0x04, 0x00, 0x00], 1));
-    assert_eq!(rt; written(Command::Cut { output }), ([0x05, 0x07, 0x00], 2));
-    assert_eq!(rt;
-        written(Command::CutPair { link1, link2 }),
-        ([0x06, 0x03, 0x07], 3)
-    );
-    Ok(())
+fn written_commands(rt: HostRuntime) {
+    let three = PortNo::new(3).unwrap();
+    let seven = PortNo::new(7).unwrap();
+    assert!(rt; connections_are_written(three, seven));
+    assert!(rt; others_are_written(seven));
 }
 
 #[test]
 fn named_sizes(rt: HostRuntime) {
-    assert_eq!(rt; PORTS, 32);
-    assert_eq!(rt; CONNECTED, 0x80);
-    assert_eq!(rt; LONGEST_COMMAND, 3);
+    assert!(rt; PORTS == 32 && CONNECTED == 0x80 && LONGEST_COMMAND == 3);
+    assert!(rt; PortNo::new(PORTS).is_none() && PortNo::new(PORTS - 1).unwrap().get() == 31);
 }
 
-#[test]
-fn ports_of_the_chip(rt: HostRuntime) -> Result<(), Fail> {
-    assert_eq!(rt; PortNo::new(PORTS), None);
-    let last = PortNo::new(PORTS - 1).ok_or("31 is a port")?;
-    assert_eq!(rt; last.get(), 31);
-    Ok(())
-}
-
-#[test]
-fn answers(rt: HostRuntime) -> Result<(), Fail> {
-    let input = PortNo::new(17).ok_or("17 is a port")?;
-    assert_eq!(rt; Answer::read(0x91), Ok(Answer::Connected(input)));
-    for byte in [0x00, 0x60] {
-        assert_eq!(rt; Answer::read(byte), Ok(Answer::Loose));
+/// Whether all these bytes answer that an output is loose.
+fn are_loose(bytes: &[u8]) -> bool {
+    for byte in bytes {
+        if Answer::read(*byte) != Ok(Answer::Loose) {
+            return false;
+        }
     }
-    for byte in [0xa0, 0xc0] {
-        assert_eq!(rt; Answer::read(byte), Err(AnswerFormat::BadAnswer));
+    true
+}
+
+/// Whether none of these bytes is an answer.
+fn are_refused(bytes: &[u8]) -> bool {
+    for byte in bytes {
+        if Answer::read(*byte) != Err(AnswerFormat::BadAnswer) {
+            return false;
+        }
     }
-    Ok(())
+    true
 }
 
 #[test]
-fn printed_faults(rt: HostRuntime) -> Result<(), Fail> {
-    let unknown = format!(in rt.alloc(); "{}", CommandFault::UnknownCommand(7))?;
-    assert_eq!(rt; unknown.as_str(), "no command begins with the byte 7");
-    let port = format!(in rt.alloc(); "{}", CommandFault::BadPort(32))?;
-    assert_eq!(rt; port.as_str(), "no port has the number 32");
-    let answer = format!(in rt.alloc(); "{}", AnswerFormat::BadAnswer)?;
-    assert_eq!(rt;
-        answer.as_str(),
-        "the answer names an input that the switch doesn't have"
+fn answers(rt: HostRuntime) {
+    let input = PortNo::new(17).unwrap();
+    assert!(rt; Answer::read(0x91) == Ok(Answer::Connected(input)));
+    assert!(rt; are_loose(&[0x00, 0x60]));
+    assert!(rt; are_refused(&[0xa0, 0xc0]));
+}
+
+#[test]
+fn faults_are_printed(rt: HostRuntime) {
+    let alloc = rt.alloc();
+    let unknown = CommandFault::UnknownCommand(7);
+    assert!(rt; prints(alloc, unknown, "no command begins with the byte 7"));
+    assert!(rt;
+        prints(
+            alloc,
+            CommandFault::BadPort(32),
+            "no port has the number 32"
+        )
     );
-    Ok(())
+    let text = "the answer names an input that the switch doesn't have";
+    assert!(rt; prints(alloc, AnswerFormat::BadAnswer, text));
 }

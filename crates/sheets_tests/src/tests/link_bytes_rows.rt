@@ -1,92 +1,70 @@
-//! The worked rows, and a link's bits from end to end.
+//! The worked rows, named sizes, and a printed fault.
 
-ghost use Rattle.std.specs.Prelude.{◌≡◌};
-ghost use Rattle.link_bytes.specs.declared.packet.Packet.TheVariants.{Ack, Byte};
+use super::prints::prints;
+use link_bytes::{ACK, BitReader, DATA_BITS, FRAME_BITS, HalfLink, LinkFault, Packet, frame};
 
-use link_bytes::{ACK, BitReader, DATA_BITS, FRAME_BITS, HalfLink, LinkFault, Packet, frame, laws};
-use std::test::Fail;
+/// The bits of row frame-of-five.
+const FIVE: [bool; 11] = [
+    true, true, true, false, true, false, false, false, false, false, false,
+];
+
+/// Whether a reader gives nothing at any of these bits.
+fn is_silent(reader: &mut BitReader, bits: &[bool]) -> bool {
+    for bit in bits {
+        if reader.feed(*bit) != Ok(None) {
+            return false;
+        }
+    }
+    true
+}
+
+/// Whether a reader gives a packet at the last bit and none before.
+fn gives(reader: &mut BitReader, bits: &[bool], last: bool, packet: Packet) -> bool {
+    is_silent(reader, bits) && reader.feed(last) == Ok(Some(packet))
+}
+
+/// Whether a reader has a framing fault at the last bit, and at each bit after it.
+fn has_fault(reader: &mut BitReader, bits: &[bool], last: bool) -> bool {
+    is_silent(reader, bits)
+        && reader.feed(last) == Err(LinkFault::Framing)
+        && reader.feed(false) == Err(LinkFault::Framing)
+}
 
 #[test]
 fn frame_of_five(rt: HostRuntime) {
-    let bits = frame(5);
-    let row = [
-        true, true, true, false, true, false, false, false, false, false, false,
-    ];
-    assert_eq!(rt; bits, row);
+    assert!(rt; frame(5) == FIVE);
     let mut reader = BitReader::new();
-    for bit in &row[..10] {
-        assert_eq!(rt; reader.feed(*bit), Ok(None));
-    }
-    assert_eq!(rt; reader.feed(false), Ok(Some(Packet::Byte(5))));
-    assert_eq!(rt; reader.feed(true), Ok(None));
-    assert_eq!(rt; reader.feed(false), Ok(Some(Packet::Ack)));
-    for bit in &row[..10] {
-        assert_eq!(rt; reader.feed(*bit), Ok(None));
-    }
-    assert_eq!(rt; reader.feed(true), Err(LinkFault::Framing));
-    assert_eq!(rt; reader.feed(false), Err(LinkFault::Framing));
+    assert!(rt; gives(&mut reader, &FIVE[..10], false, Packet::Byte(5)));
+    assert!(rt; gives(&mut reader, &[true], false, Packet::Ack));
+    assert!(rt; has_fault(&mut reader, &FIVE[..10], true));
 }
 
 #[test]
 fn named_sizes(rt: HostRuntime) {
-    assert_eq!(rt; DATA_BITS, 8);
-    assert_eq!(rt; FRAME_BITS, 11);
-    assert_eq!(rt; ACK, [true, false]);
+    assert!(rt; DATA_BITS == 8 && FRAME_BITS == 11 && ACK == [true, false]);
+}
+
+/// Whether an end of a link sends one byte at a time.
+fn is_sent_in_turn(link: &mut HalfLink) -> bool {
+    link.send(5) == Ok(frame(5)) && link.send(6) == Err(LinkFault::Busy)
+}
+
+/// Whether it takes just one acknowledge then, and a byte.
+fn is_acknowledged_once(link: &mut HalfLink) -> bool {
+    link.take(Packet::Ack) == Ok(None)
+        && link.take(Packet::Ack) == Err(LinkFault::StrayAck)
+        && link.take(Packet::Byte(9)) == Ok(Some(9))
 }
 
 #[test]
 fn half_link(rt: HostRuntime) {
     let mut link = HalfLink::new();
-    assert_eq!(rt; link.send(5), Ok(frame(5)));
-    assert_eq!(rt; link.send(6), Err(LinkFault::Busy));
-    assert_eq!(rt; link.take(Packet::Ack), Ok(None));
-    assert_eq!(rt; link.take(Packet::Ack), Err(LinkFault::StrayAck));
-    assert_eq!(rt; link.take(Packet::Byte(9)), Ok(Some(9)));
+    assert!(rt; is_sent_in_turn(&mut link));
+    assert!(rt; is_acknowledged_once(&mut link));
 }
 
 #[test]
-fn faults_are_printed(rt: HostRuntime) -> Result<(), Fail> {
-    let text = format!(in rt.alloc(); "{}", LinkFault::StrayAck)?;
-    assert_eq!(rt;
-        text.as_str(),
-        "an acknowledge came, and no byte waits for one"
-    );
-    Ok(())
-}
-
-#[test]
-fn packets_are_carried(rt: HostRuntime) {
-    assert_eq!(rt; carried(5), Ok(Some(Packet::Byte(5))));
-    assert_eq!(rt; acknowledged(), Ok(Some(Packet::Ack)));
-}
-
-// What a new reader gives at the last bit of a byte's frame, or `None` if it gives a packet before.
-fn carried(b: u8) -> Result<Option<Packet>, LinkFault>
-    ensures { result ≡ Ok (Some (Byte b)) }
-{
-    laws::one_packet();
-    laws::frame_size();
-    let bits = frame(b);
-    let mut reader = BitReader::new();
-    for k in 0..FRAME_BITS - 1 {
-        let given = reader.feed(bits[k])?;
-        if given.is_some() {
-            return Ok(None);
-        }
-    }
-    reader.feed(bits[FRAME_BITS - 1])
-}
-
-// What a new reader gives at the last bit of an acknowledge, or `None` if it gives a packet before.
-fn acknowledged() -> Result<Option<Packet>, LinkFault>
-    ensures { result ≡ Ok (Some Ack) }
-{
-    laws::one_packet();
-    laws::acknowledge();
-    let mut reader = BitReader::new();
-    let given = reader.feed(ACK[0])?;
-    if given.is_some() {
-        return Ok(None);
-    }
-    reader.feed(ACK[1])
+fn faults_are_printed(rt: HostRuntime) {
+    let text = "an acknowledge came, and no byte waits for one";
+    assert!(rt; prints(rt.alloc(), LinkFault::StrayAck, text));
 }

@@ -1,0 +1,12 @@
+//! Printed values.
+
+use std::alloc::Global;
+use std::fmt::Display;
+
+/// Whether a value is printed as this text.
+pub fn prints<T: Display + Copy>(alloc: Global, value: T, text: &str) -> bool {
+    match value.to_string(alloc) {
+        Ok(printed) => printed.as_str() == text,
+        Err(_) => false,
+    }
+}
