@@ -1,12 +1,11 @@
-//! The worked rows, ports and wires that fail or answer wrongly, and when and by whom the wires are made.
+//! Ports and wires that record, fail or answer wrongly, when and by whom wires are made, and the bytes that go to the switch. What runs over ports and wires that
+//! never fail leave in the blocks is shown by rows of `run`.
 
 mod bytes;
 mod compared;
-mod held;
 mod notices;
 mod ports;
 mod recording;
-mod rows;
 mod runs;
 mod wide;
 mod wires;

@@ -6,8 +6,8 @@ ghost use Rattle.crossbar.specs.Pairs.{ArePairs};
 use c004_commands::PORTS;
 use crossbar::JOINED_MODULES;
 use setting_runner::{
-    CHANGE_BYTES, Chip, ENQUIRY_BYTES, Pair, WIDE_CHANGE_BYTES, WIDE_SETTING_BYTES, Wiring,
-    bytes_for, change_bytes, enquiry_bytes, line_bits, setting_bytes, wide_bytes, wide_change,
+    CHANGE_BYTES, Chip, ENQUIRY_BYTES, Pair, WIDE_CHANGE_BYTES, WIDE_SETTING_BYTES, change_bytes,
+    line_bits, setting_bytes, wide_bytes, wide_change,
 };
 
 fn pair(initiator: u8, responder: u8) -> Pair
@@ -25,15 +25,6 @@ fn is_setting(pairs: &[Pair], bytes: &[u8]) -> bool
 {
     let mut out = [0; CHANGE_BYTES];
     let count = setting_bytes(pairs, &mut out);
-    &out[..count] == bytes
-}
-
-/// Whether a run sends just these bytes first.
-fn is_first(pairs: &[Pair], bytes: &[u8]) -> bool
-    requires { ArePairs JOINED_MODULES pairs.now }
-{
-    let mut out = [0; WIDE_CHANGE_BYTES];
-    let count = bytes_for(Wiring::Both, &None, pairs, &mut out);
     &out[..count] == bytes
 }
 
@@ -75,18 +66,6 @@ fn change_of_pairs(rt: HostRuntime) {
     assert!(rt; is_setting(&old, &[0x04, 0x01, 0x00, 0x11, 0x01, 0x01, 0x12, 0x03]));
 }
 
-#[test]
-fn last_enquiries(rt: HostRuntime) {
-    assert!(rt; &enquiry_bytes()[60..] == [0x02, 0x1e, 0x02, 0x1f].as_slice());
-}
-
-/// Row two-pushes: what a run sends first.
-#[test]
-fn first_bytes_of_a_run(rt: HostRuntime) {
-    let pairs = [pair(0, 1), pair(1, 2)];
-    assert!(rt; is_first(&pairs, &[0x04, 0x01, 0x00, 0x11, 0x01, 0x01, 0x12, 0x03]));
-}
-
 /// Row wide_rack.
 #[test]
 fn setting_of_a_wide_rack(rt: HostRuntime) {
@@ -108,9 +87,7 @@ fn change_of_a_wide_rack(rt: HostRuntime) {
 
 #[test]
 fn named_sizes(rt: HostRuntime) {
-    assert!(rt; CHANGE_BYTES == 97);
-    assert!(rt; WIDE_SETTING_BYTES == 98 && WIDE_CHANGE_BYTES == 161);
+    assert!(rt; CHANGE_BYTES == 97 && WIDE_SETTING_BYTES == 98 && WIDE_CHANGE_BYTES == 161);
     assert!(rt; ENQUIRY_BYTES == 64);
-    assert!(rt; line_bits(1) == 117);
-    assert!(rt; line_bits(1_048_576) == 122_683_392);
+    assert!(rt; line_bits(1) == 117 && line_bits(1_048_576) == 122_683_392);
 }

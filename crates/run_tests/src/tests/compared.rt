@@ -1,11 +1,8 @@
 //! Wires whose bytes are compared with those that are expected.
 
-use super::runs::{Block, block_of, completed, run_with};
-use crossbar::MemoryPort;
-use exchange_limits::WorkerCount;
+use super::runs::{Block, block_of, completed, run_with, with_wires};
 use peek_poke::{PlainWire, Wire, WireFault, WireMaker};
-use schedule_certificate::OpenGate;
-use setting_runner::Plant;
+use setting_runner::Outcome;
 use std::sync::atomic::{AtomicUsize, Ordering};
 use std::thread::Threads;
 
@@ -79,35 +76,47 @@ impl<'a> WireMaker for ComparedLines<'a> {
     }
 }
 
-/// Whether a run on the rack `2x2x2` of a batch of so many settings, if there is one, leaves these blocks, and each transfer's wire
-/// carries just these bytes, and there are no other wires.
+impl Carried {
+    /// Whether so many bytes were carried, all of them expected, and so many wires were made.
+    fn is_just(&self, bytes: usize, wires: usize) -> bool {
+        self.right.load(Ordering::SeqCst) == bytes
+            && self.wrong.load(Ordering::SeqCst) == 0
+            && self.wires.load(Ordering::SeqCst) == wires
+    }
+}
+
+/// Whether a run on the rack `2x2x2` of a batch ends so, and leaves these blocks.
+fn comes_to<R: AllocGlobal + Threads + Sync>(
+    rt: &R,
+    text: &str,
+    wires: ComparedLines<'_>,
+    outcome: Outcome,
+    blocks: &[Block<'_>],
+) -> bool {
+    match run_with(rt, "2x2x2", text, &mut with_wires(wires), blocks) {
+        Some(seen) => seen.is_ended(outcome),
+        None => false,
+    }
+}
+
+/// Whether a run on the rack `2x2x2` of a batch of so many settings leaves these blocks, each transfer's wire carries just
+/// these bytes, 18 each, and there are no other wires.
 fn carries<R: AllocGlobal + Threads + Sync>(
     rt: &R,
     text: &str,
     settings: usize,
     expected: &[&[u8]],
     blocks: &[Block<'_>],
-) -> Option<bool> {
+) -> bool {
     let carried = Carried::nothing();
-    let mut plant = Plant {
-        port: MemoryPort::new(),
-        wires: ComparedLines {
-            expected,
-            carried: &carried,
-        },
-        gate: OpenGate,
-        workers: WorkerCount::ONE,
+    let wires = ComparedLines {
+        expected,
+        carried: &carried,
     };
-    let seen = run_with(rt, "2x2x2", text, &mut plant, blocks)?;
-    let mut all: usize = 0;
-    for bytes in expected {
-        all = all.saturating_add(bytes.len());
-    }
-    let is_ran = seen.outcome == completed(settings, expected.len().saturating_mul(2));
-    let right = carried.right.load(Ordering::SeqCst);
-    let wrong = carried.wrong.load(Ordering::SeqCst);
-    let wires = carried.wires.load(Ordering::SeqCst);
-    Some(is_ran && seen.has_blocks && right == all && wrong == 0 && wires == expected.len())
+    let transfers = expected.len();
+    let outcome = completed(settings, transfers.saturating_mul(2));
+    comes_to(rt, text, wires, outcome, blocks)
+        && carried.is_just(transfers.saturating_mul(18), transfers)
 }
 
 /// Held blocks are peeked at 80010808 and 8001080c hex, in the hold window, and another block at 80000800 and 80000804.
@@ -134,7 +143,7 @@ fn held_blocks_are_peeked_in_the_hold_window(rt: HostRuntime) {
         block_of(1, 1, &[0x0100, 0x0101]),
         block_of(1, 0, &[0, 1]),
     ];
-    assert!(rt; carries(&rt, text, 2, &expected, &blocks) == Some(true));
+    assert!(rt; carries(&rt, text, 2, &expected, &blocks));
 }
 
 /// The words of held blocks are poked where their destinations stand, at 80000808 and 8000080c hex. The copying uses no
@@ -156,5 +165,5 @@ fn held_blocks_are_poked_into_the_window(rt: HostRuntime) {
         block_of(0, 1, &[0x0001_0100, 0x0001_0101]),
         block_of(1, 1, &[0x0100, 0x0101]),
     ];
-    assert!(rt; carries(&rt, text, 1, &expected, &blocks) == Some(true));
+    assert!(rt; carries(&rt, text, 1, &expected, &blocks));
 }

@@ -1,11 +1,7 @@
 //! What a port is sent, and ports that fail.
 
-use super::recording::{Manner, Recorded, is_sent, run_recorded};
-use super::runs::{
-    Block, MOVED, Stop, THREE_TRANSFERS, TWO_PUSHES, UNMOVED, completed, run_with, stopped,
-    with_port,
-};
-use crossbar::{Chip, FusePort};
+use super::recording::{Manner, Recorded, run_recorded};
+use super::runs::{Block, MOVED, Stop, THREE_TRANSFERS, TWO_PUSHES, UNMOVED, completed, stopped};
 use setting_runner::{Outcome, RunRefusal, StopCause};
 use std::thread::Threads;
 
@@ -71,52 +67,20 @@ fn switch_stops_setting(rt: HostRuntime) {
     assert!(rt; is_answered(&rt));
 }
 
-#[test]
-fn recorded_change(rt: HostRuntime) {
+/// Whether row three-transfers sends the bytes of both settings, each with its enquiries.
+fn is_changed<R: AllocGlobal + Threads + Sync>(rt: &R) -> bool {
     let settings = [BOTH_PAIRS.as_slice(), ONE_PAIR.as_slice()];
-    let ran = completed(2, 3);
-    assert!(rt;
-        is_sent(
-            &rt,
-            "3x2x1",
-            THREE_TRANSFERS,
-            Manner::Rightly,
-            ran,
-            &settings,
-            &[]
-        )
-    );
-}
-
-/// Whether row two-pushes stops at its port before a word has moved, where the port fails each call.
-fn stops_failing<R: AllocGlobal + Threads + Sync>(rt: &R) -> bool {
-    match run_recorded(rt, "3x2x2", TWO_PUSHES, Manner::Fails, &UNMOVED) {
-        Some(ran) => ran
-            .seen
-            .is_stopped(stopped(StopCause::Port, (0, 0), Some((1, 0)))),
+    match run_recorded(rt, "3x2x1", THREE_TRANSFERS, Manner::Rightly, &[]) {
+        Some(ran) => {
+            ran.seen.is_ended(completed(2, 3)) && ran.calls.sent.is_of_settings(&settings)
+        }
         None => false,
     }
 }
 
 #[test]
-fn switch_stops_failing_port(rt: HostRuntime) {
-    assert!(rt; stops_failing(&rt));
-}
-
-/// Whether row two-pushes stops at a port that takes so many bytes before a word has moved, and whether its
-/// switch is ready then.
-fn stops_after<R: AllocGlobal + Threads + Sync>(rt: &R, bytes: usize) -> Option<(bool, bool)> {
-    let mut plant = with_port(FusePort::new(bytes));
-    let seen = run_with(rt, "3x2x2", TWO_PUSHES, &mut plant, &UNMOVED)?;
-    let stops = seen.is_stopped(stopped(StopCause::Port, (0, 0), Some((1, 0))));
-    Some((stops, plant.port.crossbar(Chip::A).is_ready()))
-}
-
-/// Seven bytes are those of the setting but the last, and eight all of them.
-#[test]
-fn switch_stops_fused_port(rt: HostRuntime) {
-    assert!(rt; stops_after(&rt, 7) == Some((true, false)));
-    assert!(rt; stops_after(&rt, 8) == Some((true, true)));
+fn recorded_change(rt: HostRuntime) {
+    assert!(rt; is_changed(&rt));
 }
 
 /// Whether row two-pushes stops at this output before a word has moved, and nothing is sent behind the
@@ -150,37 +114,12 @@ fn stops_at_answer<R: AllocGlobal + Threads + Sync>(rt: &R, output: u8, reply: u
     stops_with(rt, manner, output)
 }
 
-/// Row switch-answers: another input, an input where there is to be none, bytes that the switch never
-/// answers, and the last output.
+/// Row switch-answers: another input, and an input where there is to be none. Each byte in place of each output's answer is tried in
+/// `cut_runs`.
 #[test]
 fn wrong_answers(rt: HostRuntime) {
     assert!(rt; stops_at_answer(&rt, 0, 0x92));
-    assert!(rt; stops_at_answer(&rt, 5, 0x85));
-    assert!(rt; stops_at_answer(&rt, 17, 0xff));
-    assert!(rt; stops_at_answer(&rt, 18, 0xa1));
     assert!(rt; stops_at_answer(&rt, 31, 0x80));
-}
-
-/// Of a loose output's answer only the top bit counts.
-#[test]
-fn loose_answers(rt: HostRuntime) {
-    let manner = Manner::Answers {
-        round: 0,
-        output: 5,
-        reply: 0x7f,
-    };
-    let settings = [BOTH_PAIRS.as_slice()];
-    assert!(rt;
-        is_sent(
-            &rt,
-            "3x2x2",
-            TWO_PUSHES,
-            manner,
-            completed(1, 4),
-            &settings,
-            &MOVED
-        )
-    );
 }
 
 /// Whether row three-transfers has stopped in setting 1 at this output: transfers 0 and 2 have moved,

@@ -3,7 +3,6 @@
 use super::runs::{Block, Seen, run_with, with_port};
 use crossbar::{Chip, ConfigPort, MemoryPort, PortFault};
 use failure_count::FailureCount;
-use setting_runner::Outcome;
 use std::thread::Threads;
 
 /// How many bytes a record keeps.
@@ -134,8 +133,6 @@ impl Record {
 /// What a port of the tests does.
 #[derive(Clone, Copy)]
 pub enum Manner {
-    /// It fails every call.
-    Fails,
     /// It fails one call, of which there are so many before, and answers the others rightly.
     FailsOnce(usize),
     /// From this round of enquiries on it answers each of them by 0, and else rightly.
@@ -198,7 +195,6 @@ impl OtherPort {
     /// Whether it fails the call that has so many before it.
     fn fails(&self, before: usize) -> bool {
         match self.manner {
-            Manner::Fails => true,
             Manner::FailsOnce(failing) => before == failing,
             _ => false,
         }
@@ -274,21 +270,4 @@ pub fn run_recorded<R: AllocGlobal + Threads + Sync>(
     let seen = run_with(rt, shape, text, &mut plant, blocks)?;
     let calls = plant.port.calls;
     Some(Recorded { seen, calls })
-}
-
-/// Whether a batch text run with a port of this manner has this outcome and leaves these blocks, and the port was sent just
-/// these settings, each with its enquiries.
-pub fn is_sent<R: AllocGlobal + Threads + Sync>(
-    rt: &R,
-    shape: &str,
-    text: &str,
-    manner: Manner,
-    outcome: Outcome,
-    settings: &[&[u8]],
-    blocks: &[Block<'_>],
-) -> bool {
-    match run_recorded(rt, shape, text, manner, blocks) {
-        Some(ran) => ran.seen.is_ended(outcome) && ran.calls.sent.is_of_settings(settings),
-        None => false,
-    }
 }

@@ -180,9 +180,30 @@ fn run_planned<
     plant: &mut Plant<P, W, G>,
     notice: &mut N,
     blocks: &[Block<'_>],
-) -> Option<(Outcome, bool)> {
+) -> (Outcome, bool) {
     let (rack, outcome) = run(rt, rt.alloc(), rack, plant, planned, notice);
-    Some((outcome, has_blocks(&rack, blocks)))
+    (outcome, has_blocks(&rack, blocks))
+}
+
+/// Runs a plan on a marked rack with a plant and a notice, and tells the same.
+fn run_on_marked<
+    R: AllocGlobal + Threads + Sync,
+    P: ConfigPort,
+    W: WireMaker + Sync,
+    G: Gate + Sync,
+    N: Notice,
+>(
+    rt: &R,
+    shape: &str,
+    planned: &Planned,
+    plant: &mut Plant<P, W, G>,
+    notice: &mut N,
+    blocks: &[Block<'_>],
+) -> Option<(Outcome, bool)> {
+    match marked(rt.alloc(), shape) {
+        Some(rack) => Some(run_planned(rt, rack, planned, plant, notice, blocks)),
+        None => None,
+    }
 }
 
 /// Runs a batch text on a marked rack with a plant.
@@ -199,12 +220,14 @@ pub fn run_with<
     blocks: &[Block<'_>],
 ) -> Option<Seen> {
     let mut told = Told::nothing();
-    let (outcome, has_blocks) = run_told(rt, shape, text, plant, &mut told, blocks)?;
-    Some(Seen {
-        outcome,
-        told,
-        has_blocks,
-    })
+    match run_told(rt, shape, text, plant, &mut told, blocks) {
+        Some((outcome, has_blocks)) => Some(Seen {
+            outcome,
+            told,
+            has_blocks,
+        }),
+        None => None,
+    }
 }
 
 /// Runs a batch text on a marked rack with a plant and a notice, and tells the outcome and whether the rack then has
@@ -223,9 +246,10 @@ pub fn run_told<
     notice: &mut N,
     blocks: &[Block<'_>],
 ) -> Option<(Outcome, bool)> {
-    let planned = plan(rt, text)?;
-    let rack = marked(rt.alloc(), shape)?;
-    run_planned(rt, rack, &planned, plant, notice, blocks)
+    match plan(rt, text) {
+        Some(planned) => run_on_marked(rt, shape, &planned, plant, notice, blocks),
+        None => None,
+    }
 }
 
 /// A plant of one worker with this port, whose wires never fail.
@@ -245,16 +269,6 @@ pub fn with_wires<W>(wires: W) -> Plant<MemoryPort, W, OpenGate> {
         wires,
         gate: OpenGate,
         workers: WorkerCount::ONE,
-    }
-}
-
-/// A plant whose port and wires never fail.
-pub fn plain(workers: WorkerCount) -> Plant<MemoryPort, PlainWires, OpenGate> {
-    Plant {
-        port: MemoryPort::new(),
-        wires: PlainWires,
-        gate: OpenGate,
-        workers,
     }
 }
 
@@ -284,25 +298,6 @@ impl Seen {
         let times = times_told(self.outcome);
         let last = times.checked_sub(1);
         self.has_blocks && self.told.in_order && self.told.times == times && self.told.last == last
-    }
-}
-
-/// Whether a batch text, run by so many workers with a port and wires that never fail, has this outcome and leaves these
-/// blocks.
-pub fn comes_to<R: AllocGlobal + Threads + Sync>(
-    rt: &R,
-    shape: &str,
-    text: &str,
-    workers: usize,
-    outcome: Outcome,
-    blocks: &[Block<'_>],
-) -> bool {
-    let Some(workers) = WorkerCount::new(workers) else {
-        return false;
-    };
-    match run_with(rt, shape, text, &mut plain(workers), blocks) {
-        Some(seen) => seen.is_ended(outcome),
-        None => false,
     }
 }
 

@@ -3,11 +3,9 @@
 use super::ports::{BOTH_PAIRS, ONE_PAIR, SECOND_UNMOVED};
 use super::recording::{Calls, Manner, run_recorded};
 use super::runs::{
-    Block, Seen, Stop, THREE_TRANSFERS, TURNED_ROUND, comes_to, completed, plain, run_with,
-    stopped, with_port,
+    Block, Seen, Stop, THREE_TRANSFERS, TURNED_ROUND, completed, run_with, stopped, with_port,
 };
-use crossbar::{FusePort, joined_wide};
-use exchange_limits::WorkerCount;
+use crossbar::FusePort;
 use setting_runner::{Chip, StopCause};
 use std::thread::Threads;
 
@@ -46,21 +44,6 @@ const NOT_ACROSS: [Block<'static>; 2] = [
 const BOTH_CHIPS: [u8; 16] = [
     0x04, 0x00, 0x00, 0x10, 0x00, 0x10, 0x00, 0x03, 0x04, 0x00, 0x10, 0x00, 0x00, 0x00, 0x10, 0x03,
 ];
-
-/// Whether row wide_rack is run and leaves the switches set to its pairs.
-fn runs_across<R: AllocGlobal + Threads + Sync>(rt: &R) -> bool {
-    let mut plant = plain(WorkerCount::ONE);
-    let Some(seen) = run_with(rt, "17x2x1", TWO_ACROSS, &mut plant, &ACROSS) else {
-        return false;
-    };
-    let (a, b) = (plant.port.crossbar(Chip::A), plant.port.crossbar(Chip::B));
-    seen.is_ended(completed(1, 2)) && joined_wide(a, b, 16, 0) && joined_wide(a, b, 0, 16)
-}
-
-#[test]
-fn wide_rack(rt: HostRuntime) {
-    assert!(rt; runs_across(&rt));
-}
 
 /// Whether both chips were sent row wide_rack's setting, and then asked.
 fn has_one_setting(calls: &Calls) -> bool {
@@ -275,50 +258,6 @@ fn calls_a_alone<R: AllocGlobal + Threads + Sync>(rt: &R) -> bool {
 #[test]
 fn rack_of_16_modules(rt: HostRuntime) {
     assert!(rt; calls_a_alone(&rt));
-}
-
-/// The blocks that row three-transfers writes.
-const THREE_MOVED: [Block<'static>; 3] = [
-    Block {
-        module: 1,
-        block: 0,
-        words: &[0x0000_0000],
-    },
-    Block {
-        module: 2,
-        block: 0,
-        words: &[0x0000_0100],
-    },
-    Block {
-        module: 2,
-        block: 1,
-        words: &[0x0001_0100],
-    },
-];
-
-/// One module more doesn't change what comes of the others.
-#[test]
-fn one_module_more(rt: HostRuntime) {
-    assert!(rt;
-        comes_to(
-            &rt,
-            "16x2x1",
-            THREE_TRANSFERS,
-            1,
-            completed(2, 3),
-            &THREE_MOVED
-        )
-    );
-    assert!(rt;
-        comes_to(
-            &rt,
-            "17x2x1",
-            THREE_TRANSFERS,
-            1,
-            completed(2, 3),
-            &THREE_MOVED
-        )
-    );
 }
 
 /// Some of the blocks that these transfers write.

@@ -48,6 +48,18 @@ fn a_failed_wire_lets_the_others_go_on(rt: HostRuntime) {
     assert!(rt; stops_at_fuse(&rt, "3x2x2", TWO_PUSHES, 9, stop, &HALF_MOVED));
 }
 
+/// Row swap with a wire that carries one word and five bytes of the next.
+#[test]
+fn swap_stops(rt: HostRuntime) {
+    let blocks = [
+        block_of(0, 0, &[0x0001_0000, 0x0001_0001]),
+        block_of(1, 0, &[0, 0x0001_0001]),
+    ];
+    let stop = stopped(wire_stop(0), (0, 1), Some((1, 2)));
+    let swap = "batch 2\npush 0 0 1 0\npush 1 0 0 0\n";
+    assert!(rt; stops_at_fuse(&rt, "2x1x2", swap, 14, stop, &blocks));
+}
+
 /// A line of which one call fails, and the calls before it and behind it don't.
 #[derive(Drop)]
 struct HoledLine {
@@ -109,10 +121,12 @@ fn stops_with_one_word<R: AllocGlobal + Threads + Sync>(
         failing_call: 12,
         made: &made,
     });
-    let Some(seen) = run_with(rt, "2x1x2", text, &mut plant, &[written]) else {
-        return false;
+    let stop = stopped(wire_stop(0), (0, 1), None);
+    let stops = match run_with(rt, "2x1x2", text, &mut plant, &[written]) {
+        Some(seen) => seen.is_stopped(stop),
+        None => false,
     };
-    seen.is_stopped(stopped(wire_stop(0), (0, 1), None)) && made.load(Ordering::SeqCst) == 1
+    stops && made.load(Ordering::SeqCst) == 1
 }
 
 /// A wire that has failed isn't tried again, though it would carry the bytes then.

@@ -1,6 +1,8 @@
 //! When workers arrive at the gate, and whether they move words at once.
 
-use super::runs::{FOUR_PUSHES, MOVED, TURNED_ROUND, TWO_PUSHES, block_of, completed, run_with};
+use super::runs::{
+    Block, FOUR_PUSHES, MOVED, TURNED_ROUND, TWO_PUSHES, block_of, completed, run_with,
+};
 use crossbar::MemoryPort;
 use exchange_limits::WorkerCount;
 use peek_poke::{PlainWire, PlainWires, Wire, WireFault, WireMaker};
@@ -19,6 +21,21 @@ fn with_gate<W, G>(wires: W, gate: G, workers: WorkerCount) -> Plant<MemoryPort,
         wires,
         gate,
         workers,
+    }
+}
+
+/// Whether a batch of one setting, run with this plant, moves so many words and leaves these blocks.
+fn moves<R: AllocGlobal + Threads + Sync, W: WireMaker + Sync, G: Gate + Sync>(
+    rt: &R,
+    shape: &str,
+    text: &str,
+    plant: &mut Plant<MemoryPort, W, G>,
+    words: usize,
+    blocks: &[Block<'_>],
+) -> bool {
+    match run_with(rt, shape, text, plant, blocks) {
+        Some(seen) => seen.is_ended(completed(1, words)),
+        None => false,
     }
 }
 
@@ -64,23 +81,28 @@ impl Meeting {
     }
 }
 
-impl Gate for Meeting {
+/// A gate at which two workers meet.
+#[derive(Clone, Copy)]
+struct MeetingGate<'a> {
+    meeting: &'a Meeting,
+}
+
+impl<'a> Gate for MeetingGate<'a> {
     fn arrive(&self, place: usize) {
         match place {
-            1 => self.meet(true),
-            2 => self.meet(false),
-            _ => self.gave_up.store(true, Ordering::SeqCst),
+            1 => self.meeting.meet(true),
+            2 => self.meeting.meet(false),
+            _ => self.meeting.gave_up.store(true, Ordering::SeqCst),
         }
     }
 }
 
 /// Whether both workers of row two-pushes meet at the gate, and all its words are moved.
 fn two_pushes_meet<R: AllocGlobal + Threads + Sync>(rt: &R) -> bool {
-    let mut plant = with_gate(PlainWires, Meeting::new(), WorkerCount::new(2).unwrap());
-    let Some(seen) = run_with(rt, "3x2x2", TWO_PUSHES, &mut plant, &MOVED) else {
-        return false;
-    };
-    seen.outcome == completed(1, 4) && seen.has_blocks && plant.gate.is_met()
+    let meeting = Meeting::new();
+    let gate = MeetingGate { meeting: &meeting };
+    let mut plant = with_gate(PlainWires, gate, WorkerCount::new(2).unwrap());
+    moves(rt, "3x2x2", TWO_PUSHES, &mut plant, 4, &MOVED) && meeting.is_met()
 }
 
 #[test]
@@ -88,7 +110,7 @@ fn two_pushes_meet_at_the_gate(rt: HostRuntime) {
     assert!(rt; two_pushes_meet(&rt));
 }
 
-/// A gate that counts how often one worker arrives, and how often any does.
+/// How often one worker arrives, and how often any does.
 #[derive(Drop)]
 struct Counting {
     worker: usize,
@@ -105,51 +127,73 @@ impl Counting {
         }
     }
 
-    /// How often the worker has arrived, and how often any has.
-    fn counts(&self) -> (usize, usize) {
-        (
-            self.times.load(Ordering::SeqCst),
-            self.all.load(Ordering::SeqCst),
-        )
+    /// Whether the worker has arrived so often, and all together so often.
+    fn is_just(&self, times: usize, all: usize) -> bool {
+        self.times.load(Ordering::SeqCst) == times && self.all.load(Ordering::SeqCst) == all
     }
 }
 
-impl Gate for Counting {
-    fn arrive(&self, place: usize) {
-        if place == self.worker {
-            self.times.fetch_add(1, Ordering::SeqCst);
-        }
-        self.all.fetch_add(1, Ordering::SeqCst);
-    }
-}
-
-/// A run of a batch of one setting by so many workers, and what it leaves in block 1 of module 1 of a rack of 32 modules whose
-/// blocks have one word.
+/// A gate that counts.
 #[derive(Clone, Copy)]
-struct Run {
+struct CountingGate<'a> {
+    counting: &'a Counting,
+}
+
+impl<'a> Gate for CountingGate<'a> {
+    fn arrive(&self, place: usize) {
+        if place == self.counting.worker {
+            self.counting.times.fetch_add(1, Ordering::SeqCst);
+        }
+        self.counting.all.fetch_add(1, Ordering::SeqCst);
+    }
+}
+
+/// A run of a batch of one setting by so many workers, what it leaves in block 1 of module 1 of a rack of 32 modules whose
+/// blocks have one word, and how often each worker who arrives does.
+#[derive(Clone, Copy)]
+struct Row {
     text: &'static str,
     transfers: usize,
     workers: usize,
     word: u32,
+    arrivals: &'static [(usize, usize)],
 }
 
-/// How often one worker arrives in a run, and how often any does, if it goes to its end.
-fn arrivals_of<R: AllocGlobal + Threads + Sync>(
+/// Whether the row's run goes to its end with this gate.
+fn goes_through<R: AllocGlobal + Threads + Sync>(
     rt: &R,
-    run: Run,
+    row: &Row,
+    workers: WorkerCount,
+    gate: CountingGate<'_>,
+) -> bool {
+    let words = [row.word];
+    let mut plant = with_gate(PlainWires, gate, workers);
+    moves(
+        rt,
+        "32x2x1",
+        row.text,
+        &mut plant,
+        row.transfers,
+        &[block_of(1, 1, &words)],
+    )
+}
+
+/// Whether in the row's run one worker arrives so often, and all together so often.
+fn arrives<R: AllocGlobal + Threads + Sync>(
+    rt: &R,
+    row: &Row,
     worker: usize,
-) -> Option<(usize, usize)> {
-    let workers = WorkerCount::new(run.workers)?;
-    let mut plant = with_gate(PlainWires, Counting::of(worker), workers);
-    let words = [run.word];
-    let written = [block_of(1, 1, &words)];
-    let seen = run_with(rt, "32x2x1", run.text, &mut plant, &written)?;
-    let counts = plant.gate.counts();
-    if seen.outcome == completed(1, run.transfers) && seen.has_blocks {
-        Some(counts)
-    } else {
-        None
-    }
+    times: usize,
+    all: usize,
+) -> bool {
+    let Some(workers) = WorkerCount::new(row.workers) else {
+        return false;
+    };
+    let counting = Counting::of(worker);
+    let gate = CountingGate {
+        counting: &counting,
+    };
+    goes_through(rt, row, workers, gate) && counting.is_just(times, all)
 }
 
 /// How many arrivals a list has.
@@ -161,115 +205,29 @@ fn sum(arrivals: &[(usize, usize)]) -> usize {
     all
 }
 
-/// Whether in a run just these workers arrive, each so often.
-fn arrive_just<R: AllocGlobal + Threads + Sync>(
-    rt: &R,
-    run: Run,
-    arrivals: &[(usize, usize)],
-) -> bool {
-    let all = sum(arrivals);
-    for (worker, times) in arrivals {
-        if arrivals_of(rt, run, *worker) != Some((*times, all)) {
+/// Whether in the row's run just its workers arrive, each so often.
+fn arrive_just<R: AllocGlobal + Threads + Sync>(rt: &R, row: &Row) -> bool {
+    let all = sum(row.arrivals);
+    for (worker, times) in row.arrivals {
+        if !arrives(rt, row, *worker, *times, all) {
             return false;
         }
     }
     true
 }
 
-/// The same of a batch of four transfers.
-fn four_arrive<R: AllocGlobal + Threads + Sync>(
-    rt: &R,
-    workers: usize,
-    arrivals: &[(usize, usize)],
-) -> bool {
-    let run = Run {
-        text: FOUR_PUSHES,
-        transfers: 4,
-        workers,
-        word: 0,
-    };
-    arrive_just(rt, run, arrivals)
-}
-
-#[test]
-fn one_worker_never_arrives(rt: HostRuntime) {
-    assert!(rt; four_arrive(&rt, 1, &[(1, 0)]));
-}
-
-/// Four workers fork twice: 1 and 2 from 3 and 4, and then each from the other.
-#[test]
-fn four_workers_arrive(rt: HostRuntime) {
-    assert!(rt; four_arrive(&rt, 4, &[(1, 2), (2, 1), (3, 2), (4, 1)]));
-}
-
-/// A half that is one worker doesn't fork. Of three and of five workers the first half has one more than the other.
-#[test]
-fn other_numbers_of_workers_arrive(rt: HostRuntime) {
-    assert!(rt; four_arrive(&rt, 2, &[(1, 1), (2, 1)]));
-    assert!(rt; four_arrive(&rt, 3, &[(1, 2), (2, 1), (3, 1)]));
-    assert!(rt; four_arrive(&rt, 5, &[(1, 2), (3, 1), (4, 2), (5, 1)]));
-}
-
-/// Workers beyond the transfers are halved like all others: of sixteen the second half begins with worker 9, of 64 with 33.
-#[test]
-fn more_workers_than_transfers_arrive(rt: HostRuntime) {
-    assert!(rt; four_arrive(&rt, 16, &[(1, 2), (5, 1), (9, 2), (13, 1)]));
-    let mut run = Run {
-        text: "batch 2\npush 0 0 1 1\npush 1 0 2 1\n",
-        transfers: 2,
-        workers: 16,
-        word: 0,
-    };
-    assert!(rt; arrive_just(&rt, run, &[(1, 1), (9, 1)]));
-    run.workers = 64;
-    assert!(rt; arrive_just(&rt, run, &[(1, 1), (33, 1)]));
-}
-
-/// One transfer is moved without a fork; of three, the first half has one.
-#[test]
-fn workers_of_odd_settings_arrive(rt: HostRuntime) {
-    let one = Run {
-        text: "batch 1\npush 0 0 1 1\n",
-        transfers: 1,
-        workers: 4,
-        word: 0,
-    };
-    assert!(rt; arrive_just(&rt, one, &[(1, 0)]));
-    let three = Run {
-        text: "batch 3\npush 0 0 1 1\npush 1 0 2 1\npush 2 0 3 1\n",
-        transfers: 3,
-        workers: 4,
-        word: 0,
-    };
-    assert!(rt; arrive_just(&rt, three, &[(1, 1), (3, 2), (4, 1)]));
-}
-
-/// The widest setting, by so many workers.
-fn widest_by(workers: usize) -> Run {
-    Run {
-        text: TURNED_ROUND,
-        transfers: 32,
-        workers,
-        word: 0x001e_0000,
+/// The number of the first row whose run doesn't have just its arrivals.
+fn first_wrong<R: AllocGlobal + Threads + Sync>(rt: &R, rows: &[Row]) -> Option<usize> {
+    for (number, row) in rows.iter().enumerate() {
+        if !arrive_just(rt, row) {
+            return Some(number);
+        }
     }
+    None
 }
 
-/// Two workers and eight, who have more than one transfer each.
-#[test]
-fn workers_of_the_widest_setting_arrive(rt: HostRuntime) {
-    assert!(rt; arrive_just(&rt, widest_by(2), &[(1, 1), (2, 1)]));
-    let eight = [
-        (1, 3),
-        (2, 1),
-        (3, 2),
-        (4, 1),
-        (5, 3),
-        (6, 1),
-        (7, 2),
-        (8, 1),
-    ];
-    assert!(rt; arrive_just(&rt, widest_by(8), &eight));
-}
+/// Two transfers of one setting.
+const TWO_TO_THREE: &str = "batch 2\npush 0 0 1 1\npush 1 0 2 1\n";
 
 /// How often each of 32 workers arrives at the widest setting: a worker arrives at each of the five forks at which its part
 /// begins with it, 17 at each as 1 does.
@@ -308,9 +266,119 @@ const EACH_OF_32: [(usize, usize); 32] = [
     (32, 1),
 ];
 
+/// Row arrivals.
+const ARRIVALS: [Row; 13] = [
+    // Four transfers. One worker doesn't fork.
+    Row {
+        text: FOUR_PUSHES,
+        transfers: 4,
+        workers: 1,
+        word: 0,
+        arrivals: &[(1, 0)],
+    },
+    Row {
+        text: FOUR_PUSHES,
+        transfers: 4,
+        workers: 2,
+        word: 0,
+        arrivals: &[(1, 1), (2, 1)],
+    },
+    // A half that is one worker doesn't fork. Of three and of five workers the first half has one more than the other.
+    Row {
+        text: FOUR_PUSHES,
+        transfers: 4,
+        workers: 3,
+        word: 0,
+        arrivals: &[(1, 2), (2, 1), (3, 1)],
+    },
+    // Four workers fork twice: 1 and 2 from 3 and 4, and then each from the other.
+    Row {
+        text: FOUR_PUSHES,
+        transfers: 4,
+        workers: 4,
+        word: 0,
+        arrivals: &[(1, 2), (2, 1), (3, 2), (4, 1)],
+    },
+    Row {
+        text: FOUR_PUSHES,
+        transfers: 4,
+        workers: 5,
+        word: 0,
+        arrivals: &[(1, 2), (3, 1), (4, 2), (5, 1)],
+    },
+    // Workers beyond the transfers are halved like all others: of sixteen the second half begins with worker 9, of 64 with 33.
+    Row {
+        text: FOUR_PUSHES,
+        transfers: 4,
+        workers: 16,
+        word: 0,
+        arrivals: &[(1, 2), (5, 1), (9, 2), (13, 1)],
+    },
+    Row {
+        text: TWO_TO_THREE,
+        transfers: 2,
+        workers: 16,
+        word: 0,
+        arrivals: &[(1, 1), (9, 1)],
+    },
+    Row {
+        text: TWO_TO_THREE,
+        transfers: 2,
+        workers: 64,
+        word: 0,
+        arrivals: &[(1, 1), (33, 1)],
+    },
+    // One transfer is moved without a fork; of three, the first half has one.
+    Row {
+        text: "batch 1\npush 0 0 1 1\n",
+        transfers: 1,
+        workers: 4,
+        word: 0,
+        arrivals: &[(1, 0)],
+    },
+    Row {
+        text: "batch 3\npush 0 0 1 1\npush 1 0 2 1\npush 2 0 3 1\n",
+        transfers: 3,
+        workers: 4,
+        word: 0,
+        arrivals: &[(1, 1), (3, 2), (4, 1)],
+    },
+    // Two workers and eight, who have more than one transfer each.
+    Row {
+        text: TURNED_ROUND,
+        transfers: 32,
+        workers: 2,
+        word: 0x001e_0000,
+        arrivals: &[(1, 1), (2, 1)],
+    },
+    Row {
+        text: TURNED_ROUND,
+        transfers: 32,
+        workers: 8,
+        word: 0x001e_0000,
+        arrivals: &[
+            (1, 3),
+            (2, 1),
+            (3, 2),
+            (4, 1),
+            (5, 3),
+            (6, 1),
+            (7, 2),
+            (8, 1),
+        ],
+    },
+    Row {
+        text: TURNED_ROUND,
+        transfers: 32,
+        workers: 32,
+        word: 0x001e_0000,
+        arrivals: &EACH_OF_32,
+    },
+];
+
 #[test]
-fn each_of_32_workers_arrives(rt: HostRuntime) {
-    assert!(rt; arrive_just(&rt, widest_by(32), &EACH_OF_32));
+fn workers_arrive(rt: HostRuntime) {
+    assert!(rt; first_wrong(&rt, &ARRIVALS).is_none());
 }
 
 /// Lines that wait until so many of them have begun.
@@ -402,36 +470,38 @@ fn are_held<R: AllocGlobal + Threads + Sync>(
     rt: &R,
     shape: &str,
     text: &str,
-    transfers: usize,
+    workers: WorkerCount,
     words: usize,
 ) -> bool {
-    let Some(workers) = WorkerCount::new(transfers) else {
-        return false;
-    };
-    let company = Company::of(transfers);
+    let company = Company::of(workers.get());
     let wires = HeldLines { company: &company };
     let mut plant = with_gate(wires, OpenGate, workers);
-    let Some(seen) = run_with(rt, shape, text, &mut plant, &[]) else {
-        return false;
-    };
-    seen.outcome == completed(1, words) && company.is_met()
+    moves(rt, shape, text, &mut plant, words, &[]) && company.is_met()
 }
 
 #[test]
 fn two_wires_are_held(rt: HostRuntime) {
-    assert!(rt; are_held(&rt, "4x2x2", TWO_PUSHES, 2, 4));
+    assert!(rt; are_held(&rt, "4x2x2", TWO_PUSHES, WorkerCount::new(2).unwrap(), 4));
 }
 
 /// Four workers move four transfers at once, each its own.
 #[test]
 fn four_wires_are_held(rt: HostRuntime) {
-    assert!(rt; are_held(&rt, "4x2x2", FOUR_PUSHES, 4, 8));
+    assert!(rt; are_held(&rt, "4x2x2", FOUR_PUSHES, WorkerCount::new(4).unwrap(), 8));
 }
 
 /// 32 workers move all transfers of the widest setting at once.
 #[test]
 fn all_wires_are_held(rt: HostRuntime) {
-    assert!(rt; are_held(&rt, "32x2x1", TURNED_ROUND, 32, 32));
+    assert!(rt;
+        are_held(
+            &rt,
+            "32x2x1",
+            TURNED_ROUND,
+            WorkerCount::new(32).unwrap(),
+            32
+        )
+    );
 }
 
 /// Which workers have arrived, and whether a wire was made, or a byte carried, before its worker had.
@@ -532,10 +602,7 @@ fn arrive_early<R: AllocGlobal + Threads + Sync>(rt: &R) -> bool {
         arrivals: &arrivals,
     };
     let mut plant = with_gate(wires, gate, WorkerCount::new(4).unwrap());
-    let Some(seen) = run_with(rt, "4x2x1", FOUR_PUSHES, &mut plant, &[]) else {
-        return false;
-    };
-    seen.outcome == completed(1, 4) && !arrivals.early.load(Ordering::SeqCst)
+    moves(rt, "4x2x1", FOUR_PUSHES, &mut plant, 4, &[]) && !arrivals.early.load(Ordering::SeqCst)
 }
 
 #[test]
