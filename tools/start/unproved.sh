@@ -18,6 +18,11 @@ limit='' answer_status=''
 
 # Answers the words, and ends. Where `rt try` can't answer, the program is proved and built first.
 answer_unproved() {
+    if is_live "$@"; then
+        say "a session of talk is answered line by line, which takes the built program: so that is proved and built first"
+        prove
+        answer_live "$@"
+    fi
     say "this answer comes from the program as it stands, not proved yet, and takes about a minute;" \
         "./exchange prove proves and builds it, from when on answers come at once"
     if hand_all_over "$@" && try_words; then
@@ -26,6 +31,15 @@ answer_unproved() {
     say "rt try has no answer: $limit; so the program is proved and built first"
     prove
     answer_proved
+}
+
+# Whether the words want a session that goes on while it is answered, and no help.
+is_live() {
+    local word
+    [ "${1-}" = talk ] || return 1
+    for word in "$@"; do
+        [ "$word" != --help ] && [ "$word" != -h ] || return 1
+    done
 }
 
 # Hands over all texts that the words name. The first word is the command, and one behind `--workers` a number.
@@ -197,6 +211,13 @@ numbered_error() {
     "Broken pipe") number=32 ;;
     esac
     echo "$error${number:+ (os error $number)}"
+}
+
+# Answers by the program that was proved meanwhile, which reads what there is of standard input, and ends.
+answer_live() {
+    local status=0
+    attend "$program" "$@" || status=$?
+    exit "$status"
 }
 
 # Answers by the program that was proved meanwhile, and ends.

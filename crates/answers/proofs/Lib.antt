@@ -8,3 +8,4 @@ pub mod OneDrawing
 pub mod Switches
 pub mod Openings
 pub mod DirectedThenPlanned
+pub mod Talks

@@ -8,22 +8,25 @@ use Rattle.std.proofs.lemmas.List.FromFn.{get_or-range_with_len, length-range_wi
 use Rattle.std.proofs.lemmas.Option.{slice_get-map, slice_get_read}
 use Rattle.std.proofs.lemmas.List.Sums.{sum-map}
 use Rattle.std.proofs.lemmas.Simd.{map-map}
-use Rattle.progress_word.specs.declared.limits.TheConstants.{ALL_PARTS}
+use Rattle.std.specs.Io.KnownBytes.{Appends}
 use Rattle.module_memory.specs.Store.{Store}
+use Rattle.batch.specs.Extent.{Extent}
 use Rattle.batch_book.specs.declared.close.Closed.{Closed}
 use Rattle.batch_book.specs.declared.entry.Entry.{Entry}
 use Rattle.batch_book.specs.Closing.{AreClosed, LogsAgree, NoneAhead}
 use Rattle.batch_book.specs.Exchanges.{Exchange, AreNew, new_seat, parts_at}
 use Rattle.batch_book.specs.History.{IsLegal}
-use Rattle.batch_book.specs.Seats.{SeatState, IsSameSeat, LogAgrees, parts_of, entries_of, own}
+use Rattle.batch_book.specs.Seats.{SeatState, IsSameSeat, own}
 use Rattle.batch_book.specs.Values.{greatest}
 use Rattle.client_session.specs.declared.fault.ServeFault.{ServeFault}
 use Rattle.client_session.specs.Seats.{SeatView, seat_view}
 use Rattle.client_session.specs.Sessions.{Passes, HasEnded}
 use Rattle.answers.specs.declared.session.Session.{Session}
 use Rattle.answers.specs.Frames.{Transcript, session_text, sessions_text, has_fault}
-use Rattle.answers.specs.Serving.{HasItsScript, IsHistoryOf, HaveOneHistory, HaveAnotherHistory}
-use Rattle.answers.specs.Hosting.{transcript, IsReady, HaveAllSeats, AreServedAt}
+use Rattle.answers.specs.Histories.{Part, part_of, IsHistoryOf, HaveOneHistory, HaveAnotherHistory}
+use Rattle.answers.specs.Serving.{HasItsScript}
+use Rattle.answers.specs.Sessions.{IsAttended}
+use Rattle.answers.specs.Hosting.{transcript, IsFresh, AreServedAt}
 
 -- ---- lists
 
@@ -86,30 +89,40 @@ pub script_at : {A : Type 0} (v : A → List ℕ) (xs : List A) (k i : ℕ) (x :
 script_at v xs k i x script at lt is text =
     slice_get-map v xs k ∙ ap (option_map v) (slice_get_read xs (length xs) k x refl lt (rw at at is)) ∙ ap Some (sym text)
 
--- what a session of this script from a new seat leaves
-pub its_script : (x : Exchange) (scripts : List (List ℕ)) (n : ℕ) (old new : SeatState) (script rest told : List ℕ) (fault : Option ServeFault)
-    → IsReady x n old → IsSameSeat old new → slice_get scripts old.session ≡ Some script
-    → Passes (Some script) (Some rest) (Some []) (Some told) (seat_view x.shape old) (seat_view x.shape new) (HasEnded fault (Some rest) (seat_view x.shape old) (seat_view x.shape new))
-    → HasItsScript x.shape scripts (record { session = new.session; entries = new.log; seen = new.seen; told = told; fault = fault })
-its_script x scripts n old new script rest told fault ready same at p =
+-- what a session from a new seat leaves
+pub its_session : (x : Exchange) (old new : SeatState) (before after held holds : Option (List ℕ)) (fault : Option ServeFault)
+    → IsFresh x old → IsSameSeat old new
+    → Passes before after held holds (seat_view x.shape old) (seat_view x.shape new) (HasEnded fault after (seat_view x.shape old) (seat_view x.shape new))
+    → (told : List ℕ) × Appends held holds told × IsAttended x.shape before after (record { part = part_of new; told = told; fault = fault })
+its_session x old new before after held holds fault fresh same p =
     let seat : SeatView = seat_view x.shape old in
     let left : SeatView = record seat { log = new.log; seen = new.seen } in
     let kept : seat_view x.shape new ≡ left = rw (same.exchange, same.session, same.parts) refl in
-    let entries : p.entries ≡ new.log = sym (p.logged ∙ ap (λ (es : List Entry). es ++ p.entries) ready.log) in
-    let End : SeatView → List Entry → List ℕ → Type 0 = λ v es w. HasEnded fault (Some rest) seat v p.bytes es w in
-    let one : End left p.entries p.written = subst (λ v. End v p.entries p.written) kept p.is_so in
-    let two : End left new.log p.written = subst (λ es. End left es p.written) entries one in (
-      script,
-      ap (slice_get scripts) same.session ∙ at,
+    let entries : p.entries ≡ new.log = sym (p.logged ∙ ap (λ (es : List Entry). es ++ p.entries) fresh.log) in
+    let End : SeatView → List Entry → Type 0 = λ v es. HasEnded fault after seat v p.bytes es p.written in
+    let one : End left p.entries = subst (λ v. End v p.entries) kept p.is_so in (
+      p.written,
+      p.appended,
       record {
         seat = seat;
-        is_new = record { shape_is = refl; session_is = sym same.session; log = ready.log; seen = ready.seen };
+        is_new = record { shape_is = refl; session_is = sym same.session; log = fresh.log; seen = fresh.seen };
         read = p.bytes;
-        rest = rest;
-        front = p.consumed;
-        ended = subst (λ w. End left new.log w) (sym p.appended) two;
+        consumed = p.consumed;
+        ended = subst (λ es. End left es) entries one;
       },
     )
+
+-- what one of this script leaves
+pub its_script : (shape : Extent) (scripts : List (List ℕ)) (old new : SeatState) (script rest told : List ℕ) (fault : Option ServeFault)
+    → IsSameSeat old new → slice_get scripts old.session ≡ Some script
+    → ((w : List ℕ) × Appends (Some []) (Some told) w × IsAttended shape (Some script) (Some rest) (record { part = part_of new; told = w; fault = fault }))
+    → HasItsScript shape scripts (record { part = part_of new; told = told; fault = fault })
+its_script shape scripts old new script rest told fault same at s = (
+  script,
+  rest,
+  ap (slice_get scripts) same.session ∙ at,
+  subst (λ (v : List ℕ). IsAttended shape (Some script) (Some rest) (record { part = part_of new; told = v; fault = fault })) (sym s.1) s.2,
+)
 
 -- ---- all sessions
 
@@ -138,70 +151,59 @@ all_served {L} x scripts n seats ss count new len each =
     (λ k s e lt. let o = each k s (omega (arith, len)) in o.same.parts ∙ ap (λ (t : SeatState). t.parts) (sym (o.at e))) in
     record {
       all_seats = record {
-        seats = λ k s lt. (let o = each k s (omega (arith, len)) in o.same.exchange ∙ ap (λ (t : SeatState). t.exchange) (begun k s lt));
-        parts = sym (sum-map (λ (s : Session L). s.seat.parts) ss) ∙ ap sum parts ∙ sum-map (λ (t : SeatState). t.parts) seats ∙ new.parts;
+        each = All-map (λ (t : SeatState). t.exchange ≡ Some x.word) (λ (s : Session L). s.seat) ss (λ k s lt. (let o = each k s (omega (arith, len)) in o.same.exchange ∙ ap (λ (t : SeatState). t.exchange) (begun k s lt)));
+        parts = sum_mapped (λ (t : SeatState). t.parts) (λ (s : Session L). s.seat) ss ∙ sym (sum-map (λ (s : Session L). s.seat.parts) ss) ∙ ap sum parts ∙ sum-map (λ (t : SeatState). t.parts) seats ∙ new.parts;
       };
       of_scripts = record {
-        numbers = map-map (λ (t : Transcript). t.session) transcript ss ∙ numbers ∙ map-id (range_with_len 0 (length scripts));
+        numbers = map-map (λ (t : Transcript). t.part.session) transcript ss ∙ numbers ∙ map-id (range_with_len 0 (length scripts));
         each = All-map (HasItsScript x.shape scripts) transcript ss (λ k s lt. (each k s (omega (arith, len))).its);
       };
     }
 
 -- ---- the exchange is closed
 
--- all seats of the exchange are there
-pub all_parts : {L : Type 0} (x : Exchange) (ss : List (Session L)) (seats : List SeatState) → HaveAllSeats x ss → seats ≡ map (λ (s : Session L). s.seat) ss → parts_of seats ≡ ALL_PARTS
-all_parts {L} x ss seats all are = ap parts_of are ∙ sum_mapped (λ (t : SeatState). t.parts) (λ (s : Session L). s.seat) ss ∙ all.parts
-
-pub all_of_it : {L : Type 0} (x : Exchange) (ss : List (Session L)) (seats : List SeatState) → HaveAllSeats x ss → seats ≡ map (λ (s : Session L). s.seat) ss → All (λ (t : SeatState). t.exchange ≡ Some x.word) seats
-all_of_it {L} x ss seats all are =
-    subst (λ (ts : List SeatState). All (λ (t : SeatState). t.exchange ≡ Some x.word) ts) (sym are) (All-map (λ (t : SeatState). t.exchange ≡ Some x.word) (λ (s : Session L). s.seat) ss all.seats)
-
 -- the history that the exchange kept
-its_history : {L P W G : Type 0} (ss : List (Session L)) (seats : List SeatState) (c : Closed L P W G) → seats ≡ map (λ (s : Session L). s.seat) ss
-    → AreClosed seats c → IsLegal c.book.opening c.book.history → IsHistoryOf c.book.opening (map transcript ss) c.book.history
-its_history {L} ss seats c are closed legal =
-    record {
-      legal = legal;
-      counted = closed.counted ∙ ap entries_of are ∙ sum_mapped (λ (t : SeatState). length t.log) (λ (s : Session L). s.seat) ss ∙ sym (sum_mapped (λ (t : Transcript). length t.entries) transcript ss);
-    }
+its_history : {L P W G : Type 0} (seats : List SeatState) (c : Closed L P W G)
+    → AreClosed seats c → IsLegal c.book.opening c.book.history → IsHistoryOf c.book.opening (map part_of seats) c.book.history
+its_history {L} seats c closed legal =
+    record { legal = legal; counted = closed.counted ∙ sym (sum_mapped (λ (p : Part). length p.entries) part_of seats) }
 
 -- where their lists agree with it, it is that of its sessions
-pub one_history : {L P W G : Type 0} (opening : Store) (ss : List (Session L)) (seats : List SeatState) (c : Closed L P W G) → seats ≡ map (λ (s : Session L). s.seat) ss
+pub one_history : {L P W G : Type 0} (opening : Store) (seats : List SeatState) (c : Closed L P W G)
     → AreClosed seats c → LogsAgree seats c → NoneAhead seats c → IsLegal c.book.opening c.book.history → c.book.opening ≡ opening
-    → HaveOneHistory opening (map transcript ss)
-one_history {L} opening ss seats c are closed agree behind legal is =
+    → HaveOneHistory opening (map part_of seats)
+one_history {L} opening seats c closed agree behind legal is =
     let h = c.book.history in
-    let Seen : SeatState → Type 0 = λ t. t.seen ≤ greatest h in
-    let agrees : All (λ (s : Session L). LogAgrees h s.seat) ss = of_map (LogAgrees h) (λ (s : Session L). s.seat) ss (subst (All (LogAgrees h)) are agree) in
-    let seen : All (λ (s : Session L). Seen s.seat) ss = of_map Seen (λ (s : Session L). s.seat) ss (subst (All Seen) are behind) in
     record {
       history = h;
-      is_history = subst (λ (s : Store). IsHistoryOf s (map transcript ss) h) is (its_history ss seats c are closed legal);
-      parts = All-map (λ (t : Transcript). t.entries ≡ own t.session h) transcript ss agrees;
-      seen = All-map (λ (t : Transcript). t.seen ≤ greatest h) transcript ss seen;
+      is_history = subst (λ (s : Store). IsHistoryOf s (map part_of seats) h) is (its_history seats c closed legal);
+      are_parts = All-map (λ (p : Part). p.entries ≡ own p.session h) part_of seats agree;
+      seen = All-map (λ (p : Part). p.seen ≤ greatest h) part_of seats behind;
     }
 
 -- where it is from another store, it is another one
-pub history_elsewhere : {L P W G : Type 0} (opening : Store) (ss : List (Session L)) (seats : List SeatState) (c : Closed L P W G) → seats ≡ map (λ (s : Session L). s.seat) ss
-    → AreClosed seats c → IsLegal c.book.opening c.book.history → ¬ (c.book.opening ≡ opening) → HaveAnotherHistory opening (map transcript ss)
-history_elsewhere opening ss seats c are closed legal other =
+pub history_elsewhere : {L P W G : Type 0} (opening : Store) (seats : List SeatState) (c : Closed L P W G)
+    → AreClosed seats c → IsLegal c.book.opening c.book.history → ¬ (c.book.opening ≡ opening) → HaveAnotherHistory opening (map part_of seats)
+history_elsewhere opening seats c closed legal other =
     record {
       kept = c.book.opening;
       history = c.book.history;
-      is_history = its_history ss seats c are closed legal;
+      is_history = its_history seats c closed legal;
       no_parts = λ is parts. other is;
     }
 
 -- and where the lists don't agree with it
-pub another_history : {L P W G : Type 0} (opening : Store) (ss : List (Session L)) (seats : List SeatState) (c : Closed L P W G) → seats ≡ map (λ (s : Session L). s.seat) ss
-    → AreClosed seats c → ¬ LogsAgree seats c → IsLegal c.book.opening c.book.history → HaveAnotherHistory opening (map transcript ss)
-another_history {L} opening ss seats c are closed differ legal =
+pub another_history : {L P W G : Type 0} (opening : Store) (seats : List SeatState) (c : Closed L P W G)
+    → AreClosed seats c → ¬ LogsAgree seats c → IsLegal c.book.opening c.book.history → HaveAnotherHistory opening (map part_of seats)
+another_history {L} opening seats c closed differ legal =
     let h = c.book.history in
     record {
       kept = c.book.opening;
       history = h;
-      is_history = its_history ss seats c are closed legal;
-      no_parts = λ _ parts.
-          differ (subst (All (LogAgrees h)) (sym are) (All-map (LogAgrees h) (λ (s : Session L). s.seat) ss (of_map (λ (t : Transcript). t.entries ≡ own t.session h) transcript ss parts)));
+      is_history = its_history seats c closed legal;
+      no_parts = λ _ parts. differ (of_map (λ (p : Part). p.entries ≡ own p.session h) part_of seats parts);
     }
+
+-- the parts of sessions are those of their seats
+pub parts_are : {L : Type 0} (ss : List (Session L)) (seats : List SeatState) → seats ≡ map (λ (s : Session L). s.seat) ss → map (λ (t : Transcript). t.part) (map transcript ss) ≡ map part_of seats
+parts_are {L} ss seats are = map-map (λ (t : Transcript). t.part) transcript ss ∙ sym (map-map part_of (λ (s : Session L). s.seat) ss) ∙ ap (map part_of) (sym are)

@@ -2,17 +2,14 @@
 use Rattle.std.specs.Prelude.{ℕ, ◌-◌, ◌==◌, if◌then◌else◌, Bool, List, [], ◌∷◌, ◌++◌, codes, flat_map, length, slice_get, Option, Some, None, is_some}
 use Rattle.std.specs.Fmt.{decimal}
 use Rattle.std.specs.List.{list_any}
-use Rattle.batch_book.specs.declared.entry.Entry.{Entry}
 use Rattle.client_session.specs.declared.fault.ServeFault.{ServeFault}
 use Rattle.client_session.specs.declared.fault.ServeFault.TheVariants.{Read, Write, LineTooLong, Cut, Turns, NoMemory}
-use Rattle.answers.specs.declared.limits.TheConstants.{DONE, REFUSED}
+use Rattle.answers.specs.Histories.{Part}
 
--- a session that has ended: its number, the entries of its calls, how far it saw the runs come,
--- what it was told, and the fault that ended it, where one did
+-- a session that has ended: its part of the history, what it was told, and the fault that ended it,
+-- where one did
 pub record Transcript : Type 0 where
-  pub session : ℕ
-  pub entries : List Entry
-  pub seen : ℕ
+  pub part : Part
   pub told : List ℕ
   pub fault : Option ServeFault
 
@@ -46,7 +43,7 @@ heading session = codes "session " ++ decimal session ++ codes "\n"
 
 -- what is printed of a session
 abbrev pub session_text : Transcript → List ℕ
-session_text t = heading t.session ++ (t.told ++ end_text t.told t.fault)
+session_text t = heading t.part.session ++ (t.told ++ end_text t.told t.fault)
 
 -- what is printed of sessions, one after another
 abbrev pub sessions_text : List Transcript → List ℕ
@@ -55,11 +52,3 @@ sessions_text sessions = flat_map session_text sessions
 -- a fault ended one of them
 abbrev pub has_fault : List Transcript → Bool
 has_fault sessions = list_any (λ t. is_some t.fault) sessions
-
--- the status of sessions
-abbrev pub status_of : List Transcript → ℕ
-status_of sessions = if has_fault sessions then REFUSED else DONE
-
--- the last line where the sessions have no one history
-abbrev pub disagree_line : List ℕ
-disagree_line = codes "logs disagree\n"

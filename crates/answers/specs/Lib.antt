@@ -6,7 +6,10 @@ pub mod Answers
 pub mod Tellings
 pub mod Directing
 pub mod Switching
+pub mod Histories
 pub mod Frames
+pub mod Sessions
 pub mod Serving
 pub mod Hosting
+pub mod Talking
 pub use Rattle.batch.specs.Extent

@@ -10,7 +10,7 @@ use std::alloc::{AllocError, Global};
 use std::sync::ledger::Ledger;
 
 /// The line that tells of a fault which ended a session.
-fn ended_line(fault: ServeFault) -> &'static [u8]
+pub fn ended_line(fault: ServeFault) -> &'static [u8]
     ensures { result.now ≡ ended_line fault }
 {
     match fault {

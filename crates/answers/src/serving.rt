@@ -1,37 +1,30 @@
 //! The command `serve`.
 
-ghost use Rattle.std.specs.Prelude.{◌≡◌, ◌≤◌, IfOk, length, map, true, false};
+ghost use Rattle.std.specs.Prelude.{◌≡◌, ◌≤◌, IfOk, length, map};
 ghost use Rattle.progress_word.specs.declared.limits.TheConstants.{ALL_PARTS};
 ghost use Rattle.batch_book.specs.Exchanges.{AreNew};
 ghost use Rattle.batch_book.specs.Seats.{IsSameSeat};
-ghost use Rattle.answers.specs.Hosting.{transcript, IsReady, HaveAllSeats, AreServedAt};
+ghost use Rattle.answers.specs.Hosting.{transcript, IsReady, AreServedAt};
 ghost use Rattle.answers.specs.Openings.{bytes_of};
-ghost use Rattle.answers.specs.Serving.{HasItsScript, HaveOneHistory, HaveAnotherHistory, AreServed, IsServeAnswer};
+ghost use Rattle.answers.specs.Serving.{HasItsScript, AreServed, IsServeAnswer};
 
 use crate::answer::Answer;
 use crate::frames::{frame, has_fault};
+use crate::hall::{PlainExchange, attend, finish, open_exchange};
 use crate::opening::opening_rack;
 use crate::refusal::image_words;
 use crate::session::Session;
 use batch::Shape;
-use batch_book::{Seat, Shared, Unclosed};
-use client_session::serve;
-use crossbar::MemoryPort;
+use batch_book::Seat;
 use exchange_limits::{MAX_SESSIONS, WorkerCount};
 use module_memory::Rack;
-use peek_poke::PlainWires;
 use progress_word::ALL_PARTS;
-use schedule_certificate::OpenGate;
-use setting_runner::Plant;
 use std::alloc::{AllocError, Global};
 use std::marker::Brand;
 use std::sync::Wait;
 use std::sync::ledger::{Blank, Ledger};
 use std::thread;
 use std::thread::Threads;
-
-/// An exchange whose port and wires never fail.
-type PlainExchange<L> = Shared<L, MemoryPort, PlainWires, OpenGate>;
 
 /// Serves the script at the place of the seat's session, to the session's end.
 fn serve_script<L: Ledger, R: Threads + Wait + Sync>(
@@ -49,18 +42,8 @@ fn serve_script<L: Ledger, R: Threads + Wait + Sync>(
 {
     let mut reader = scripts[seat.session()].as_slice();
     let mut told = Vec::new(alloc);
-    match serve(rt, alloc, exchange, seat, &mut reader, &mut told, workers) {
-        Ok(seat) => Session {
-            seat,
-            told,
-            fault: None,
-        },
-        Err((seat, fault)) => Session {
-            seat,
-            told,
-            fault: Some(fault),
-        },
-    }
+    let (seat, fault) = attend(rt, alloc, exchange, seat, &mut reader, &mut told, workers);
+    Session { seat, told, fault }
 }
 
 /// Serves the scripts side by side, one thread for each where it can be had. The sessions come in the order
@@ -96,36 +79,6 @@ fn seats_of<L: Ledger>(alloc: Global, sessions: Vec<Session<L>>) -> Result<Vec<S
         .collect(alloc)
 }
 
-/// Closes the exchange, and says whether the lists of its sessions are those of its history, which began on this rack.
-fn close<L: Ledger>(
-    alloc: Global,
-    exchange: PlainExchange<L>,
-    sessions: Vec<Session<L>>,
-    opening: &Rack,
-) -> Result<bool, AllocError>
-    requires parts { L.parts ≡ ALL_PARTS }
-    requires seats { HaveAllSeats exchange sessions.items }
-    ensures agree { IfOk result (λ agree. agree ≡ true
-        → HaveOneHistory opening.now (map transcript sessions.items)) }
-    ensures disagree { IfOk result (λ agree. agree ≡ false
-        → HaveAnotherHistory opening.now (map transcript sessions.items)) }
-{
-    // The history is asked for only for its contract, which says that it is legal.
-    match exchange.close(seats_of(alloc, sessions)?) {
-        Ok(closed) => {
-            closed.book.history();
-            // A book that comes from under a lock could have been opened with any rack, as far as contracts tell.
-            let is_opening = closed.book.opening().is_same(opening);
-            Ok(is_opening)
-        }
-        Err(Unclosed::LogsDisagree(closed)) => {
-            closed.book.history();
-            Ok(false)
-        }
-        Err(Unclosed::SeatMissing(..)) => unreachable!(),
-    }
-}
-
 /// The answer of the scripts' sessions on one exchange with this rack.
 fn host<L: Ledger + Send + Sync, R: Threads + Wait + Sync>(
     rt: &R,
@@ -137,36 +90,17 @@ fn host<L: Ledger + Send + Sync, R: Threads + Wait + Sync>(
 ) -> Result<Answer, AllocError>
     requires name { blank.name ≡ L.name }
     requires parts { (blank.parts ≡ L.parts) × (blank.parts ≡ ALL_PARTS) }
+    requires some_scripts { 1 ≤ length scripts.now }
+    requires few_scripts { length scripts.now ≤ MAX_SESSIONS }
     ensures { IfOk result (AreServed rack (map (λ s. s.items) scripts.now)) }
 {
-    let plant = Plant {
-        port: MemoryPort::new(),
-        wires: PlainWires,
-        gate: OpenGate,
-        workers,
-    };
     let opening = rack.copy()?;
-    let made = Shared::<L, MemoryPort, PlainWires, OpenGate>::new(
-        alloc,
-        blank,
-        rack,
-        plant,
-        scripts.len(),
-    );
-    let Ok((exchange, seats)) = made else {
-        return Err(AllocError);
-    };
+    let (exchange, seats) = open_exchange::<L>(alloc, blank, rack, workers, scripts.len())?;
     let sessions = serve_all(rt, alloc, &exchange, seats, scripts, workers)?;
-    let mut text = frame(alloc, sessions.as_slice())?;
+    let text = frame(alloc, sessions.as_slice())?;
     let failed = has_fault(sessions.as_slice());
-    if !close(alloc, exchange, sessions, &opening)? {
-        text.extend_from_slice(b"logs disagree\n")?;
-        return Ok(Answer::failed(text));
-    }
-    if failed {
-        return Ok(Answer::failed(text));
-    }
-    Ok(Answer::done(text))
+    let seats = seats_of(alloc, sessions)?;
+    finish(exchange, seats, &opening, text, failed)
 }
 
 /// The answer of `exchange serve`: what the sessions of the scripts were told, on one exchange that has a rack

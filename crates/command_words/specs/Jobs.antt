@@ -9,7 +9,7 @@ use Rattle.clap.specs.declared.error.kind.ErrorKind.TheVariants.{DisplayHelp, Di
 use Rattle.exchange_limits.specs.declared.limits.TheConstants.{MAX_WORKERS}
 use Rattle.command_words.specs.declared.limits.TheConstants.{MAX_SCRIPTS}
 use Rattle.command_words.specs.declared.words.Job.{Job}
-use Rattle.command_words.specs.declared.words.Job.TheVariants.{Plan, Check, Draw, Switch, Direct, Apply, Run, Serve}
+use Rattle.command_words.specs.declared.words.Job.TheVariants.{Plan, Check, Draw, Switch, Direct, Apply, Run, Serve, Talk}
 use Rattle.command_words.specs.declared.words.WordsFault.{WordsFault}
 use Rattle.command_words.specs.declared.words.WordsFault.TheVariants.{NoMemory}
 use Rattle.command_words.specs.declared.words.Lack.{Lack}
@@ -60,6 +60,8 @@ IsJob name rows (Run shape batch image workers) =
 IsJob name rows (Serve shape scripts image workers) =
     (name ≡ codes "serve") × HasShape rows shape × HasScripts rows scripts
     × (first_of (codes "image") rows ≡ image) × HasWorkers rows workers
+IsJob name rows (Talk shape image) =
+    (name ≡ codes "talk") × HasShape rows shape × (first_of (codes "image") rows ≡ image)
 
 -- the words as lists of their bytes
 abbrev pub texts_of : {Z : Type 0} → List (String Z) → List Text
@@ -87,12 +89,13 @@ IsWithinLimits (Direct moves) = ⊤
 IsWithinLimits (Apply shape batch image workers) = ⊤
 IsWithinLimits (Run shape batch image workers) = ⊤
 IsWithinLimits (Serve shape scripts image workers) = AreScripts scripts
+IsWithinLimits (Talk shape image) = ⊤
 
 -- the name of a file that stands for standard input
 abbrev pub input_name : Text
 input_name = codes "-"
 
--- the names of a job's files, in the order in which they are read
+-- the names of a job's files, in the order in which they are read; one client is standard input
 abbrev pub files_of : Job → List Text
 files_of (Plan file workers) = file ∷ []
 files_of (Check batch schedule) = batch ∷ schedule ∷ []
@@ -102,6 +105,7 @@ files_of (Direct moves) = moves ∷ []
 files_of (Apply shape batch image workers) = batch ∷ image ∷ []
 files_of (Run shape batch image workers) = option_to_list image ++ batch ∷ []
 files_of (Serve shape scripts image workers) = option_to_list image ++ scripts
+files_of (Talk shape image) = option_to_list image ++ input_name ∷ []
 
 -- no two of these names stand for standard input
 abbrev pub NameInputOnce : List Text → Type 0

@@ -65,6 +65,10 @@ serve =
     image)
     workers
 
+-- `talk SHAPE [--image FILE]`
+abbrev pub talk : App
+talk = with_rule (with_rule (new_app (codes "talk")) (word (codes "SHAPE"))) image
+
 -- `switch BATCH [--workers N]`
 abbrev pub switch : App
 switch = with_rule (with_rule (new_app (codes "switch")) (word (codes "BATCH"))) workers
@@ -90,7 +94,10 @@ planner =
 
 -- the whole program
 abbrev pub program : App
-program = with_subcommand (with_subcommand (with_subcommand planner apply.top) run.top) serve.top
+program =
+    with_subcommand
+    (with_subcommand (with_subcommand (with_subcommand planner apply.top) run.top) serve.top)
+    talk.top
 
 -- the command has no argument that the commands below it share
 abbrev pub IsLocal : Command → Type 0

@@ -226,6 +226,28 @@ Status: 0 each session ended with its script or by `bye`, 1 one of them didn't,
 or the logs disagree, or nothing was served, or there was no memory, 2 the words
 fit no command, 3 the answer couldn't be written.";
 
+/// What `talk --help` says below its options.
+pub const TALK_NOTES: &str = "\
+SHAPE is MxKxW, in the form that `exchange run --help` shows. The session's lines
+are read from standard input, in the form that `exchange serve --help` shows, and
+each is answered on standard output before the next is read:
+  printf 'poke 0 80000800 000000ff\\npeek 0 80000800\\n' | exchange talk 1x1x1
+prints `poked` and `word 000000ff`. The words of the rack are at first 0, or those
+of the image where there is one. Standard input is the session, so the image
+can't be `-`.
+
+The session ends with the input or by `bye`; where it doesn't, its last line is
+`ended ..`, as `exchange serve --help` shows.
+
+Else nothing is read, and the answer is the first of these that is wrong:
+  refused file       the image can't be read
+  refused shape      SHAPE is no shape
+  refused image L W  the image has L bytes, and the shape wants W
+
+Status: 0 the session ended with its input or by `bye`, 1 it didn't, or it was
+refused, or there was no memory, 2 the words fit no command, 3 the answer
+couldn't be written.";
+
 /// What `--help` says below the commands.
 pub const TOP_NOTES: &str = "\
 `exchange plan --help` shows the form of a batch. Where a file's name is `-`,

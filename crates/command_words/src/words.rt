@@ -8,14 +8,14 @@ ghost use Rattle.command_words.specs.declared.words.Lack.TheVariants.{Memory};
 ghost use Rattle.command_words.specs.declared.words.WordsFault.TheVariants.{NoMemory};
 ghost use Rattle.command_words.specs.Program.{IsLocal, IsCommand, AddsRule, AddsTexts, AddsCommand, word, words, workers, image};
 ghost use Rattle.command_words.specs.Program.{top, planner, program};
-ghost use Rattle.command_words.specs.Program.{plan as plan_app, check as check_app, draw as draw_app, switch as switch_app, direct as direct_app, apply as apply_app, run as run_app, serve as serve_app};
+ghost use Rattle.command_words.specs.Program.{plan as plan_app, check as check_app, draw as draw_app, switch as switch_app, direct as direct_app, apply as apply_app, run as run_app, serve as serve_app, talk as talk_app};
 ghost use Rattle.command_words.specs.Jobs.{Holds, HasShape, HasTexts, HasScripts, HasWorkers, IsJob, IsWithinLimits, AreMatchesOf, IsTaken, NameInputOnce, files_of, texts_of};
 ghost use Rattle.command_words.specs.Jobs.{HasWord, HasBoth, HasSomeScripts, HasSomeWorkers, HasWorked, HasApply, HasRun, HasServe, LacksMemory, RefusesForMemory};
 
 use crate::help::{
     APPLY_NOTES, BATCH_HELP, CHECK_NOTES, DIRECT_NOTES, DRAW_NOTES, IMAGE_HELP, MOVES_HELP,
-    PLAN_NOTES, RUN_NOTES, SCHEDULE_HELP, SCRIPT_HELP, SERVE_NOTES, SWITCH_NOTES, TOP_NOTES,
-    WORDS_HELP, WORKERS_HELP,
+    PLAN_NOTES, RUN_NOTES, SCHEDULE_HELP, SCRIPT_HELP, SERVE_NOTES, SWITCH_NOTES, TALK_NOTES,
+    TOP_NOTES, WORDS_HELP, WORKERS_HELP,
 };
 use crate::input::{is_input, name_input_once_behind};
 use crate::limits::{MAX_SCRIPTS, VERSION};
@@ -77,6 +77,12 @@ pub enum Job {
         scripts: TextList,
         image: Option<Text>,
         workers: WorkerCount,
+    },
+    /// Serve one client, which is standard input and output, on an exchange with a rack of the shape, which may begin with the
+    /// words of an image's file.
+    Talk {
+        shape: Text,
+        image: Option<Text>,
     },
 }
 
@@ -292,6 +298,16 @@ fn serve<'a>(alloc: Global) -> Result<Command<'a>, AllocError>
     with_workers(alloc, serve)
 }
 
+/// `talk SHAPE [--image FILE]`.
+fn talk<'a>(alloc: Global) -> Result<Command<'a>, AllocError>
+    ensures { IfOk result (IsCommand talk_app) }
+{
+    let about = "Serves you on the terminal: a session of one client, line by line";
+    let talk = command(alloc, "talk", about, TALK_NOTES);
+    let talk = with_shape(alloc, talk)?;
+    with_image(alloc, talk)
+}
+
 /// The command with one more command below it, where that could be had.
 fn with_command<'a>(
     command: Command<'a>,
@@ -330,7 +346,8 @@ fn program<'a>(alloc: Global) -> Result<Command<'a>, AllocError>
     let planner = planner(alloc)?;
     let applier = with_command(planner, apply(alloc))?;
     let runner = with_command(applier, run(alloc))?;
-    with_command(runner, serve(alloc))
+    let server = with_command(runner, serve(alloc))?;
+    with_command(server, talk(alloc))
 }
 
 /// The matches of the words.
@@ -563,6 +580,17 @@ fn serve_job(alloc: Global, found: &ArgMatches<'_>) -> Result<Job, Lack>
     })
 }
 
+/// The job of `talk`.
+fn talk_job(alloc: Global, found: &ArgMatches<'_>) -> Result<Job, Lack>
+    ensures job { IfOk result (λ job. IsJob (codes "talk") (rows_of (found_of found.now)) job) }
+    ensures limits { IfOk result (λ job. IsWithinLimits job) }
+    ensures lack { LacksMemory (HasWord (codes "SHAPE") (rows_of (found_of found.now))) result }
+{
+    let shape = shape_of(alloc, found)?;
+    let image = image_of(alloc, found)?;
+    Ok(Job::Talk { shape, image })
+}
+
 /// The job of a command by its name and matches.
 fn job_of(alloc: Global, name: &str, found: &ArgMatches<'_>) -> Result<Job, Lack>
     ensures job { IfOk result (λ job. IsJob name.now (rows_of (found_of found.now)) job) }
@@ -593,6 +621,9 @@ fn job_of(alloc: Global, name: &str, found: &ArgMatches<'_>) -> Result<Job, Lack
     }
     if name == "apply" {
         return apply_job(alloc, found);
+    }
+    if name == "talk" {
+        return talk_job(alloc, found);
     }
     Err(Lack::Word)
 }
@@ -627,6 +658,7 @@ fn reads_input_once(job: &Job) -> bool
         Job::Apply { batch, image, .. } => !(batch.is_input() && image.is_input()),
         Job::Run { batch, image, .. } => !(is_input(image) && batch.is_input()),
         Job::Serve { scripts, image, .. } => name_input_once_behind(image, scripts.as_slice()),
+        Job::Talk { image, .. } => !is_input(image),
     }
 }
 

@@ -1,5 +1,5 @@
 -- What the program prints for a job.
-use Rattle.std.specs.Prelude.{◌≡◌, ◌⊎◌, ◌<◌, ℕ, List, [], Option, Some, None, Result, Ok, Err, IfOk, IfSome, codes, ⊤, length, slice_index_or}
+use Rattle.std.specs.Prelude.{◌≡◌, ◌⊎◌, ◌<◌, ℕ, List, [], ◌++◌, Option, Some, None, Result, Ok, Err, IfOk, IfSome, codes, ⊤, length, slice_index_or}
 use Rattle.std.specs.Io.KnownBytes.{Appends}
 use Rattle.answers.specs.Extent.{widest}
 use Rattle.answers.specs.Answers.{IsPlanned, IsChecked, IsDrawn, IsRunAnswer, image_alone}
@@ -8,9 +8,10 @@ use Rattle.answers.specs.Refusals.{Printed}
 use Rattle.answers.specs.Reports.{report_of}
 use Rattle.answers.specs.Serving.{IsServeAnswer}
 use Rattle.answers.specs.Switching.{IsSwitched}
+use Rattle.answers.specs.Talking.{IsTalkAnswer}
 use Rattle.answers.specs.declared.limits.TheConstants.{DONE, REFUSED}
 use Rattle.command_words.specs.declared.words.Job.{Job}
-use Rattle.command_words.specs.declared.words.Job.TheVariants.{Plan, Check, Draw, Switch, Direct, Apply, Run, Serve}
+use Rattle.command_words.specs.declared.words.Job.TheVariants.{Plan, Check, Draw, Switch, Direct, Apply, Run, Serve, Talk}
 use Rattle.command_words.specs.declared.words.WordsFault.{WordsFault}
 use Rattle.command_words.specs.declared.words.WordsFault.TheVariants as words_fault
 use Rattle.command_words.specs.Jobs.{Holds, AsksForHelp, RefusesForMemory, input_name}
@@ -82,6 +83,17 @@ IsSomeServe input shape files image_file answer =
     (scripts : List (List ℕ)) × (image : Option (List ℕ)) × AreHeld input files scripts
     × IsHeldImage input image_file image × IsServeAnswer shape image scripts answer
 
+-- an answer of `talk` to this shape's text, to what this file holds and to standard input, where the
+-- session was told this
+abbrev pub IsSomeTalk : Option (List ℕ) → List ℕ → Option (List ℕ) → List ℕ → Printed → Type 0
+IsSomeTalk input shape image_file told answer =
+    (image after : Option (List ℕ)) × IsHeldImage input image_file image
+    × IsTalkAnswer shape image input after told answer
+
+-- what is printed, behind what a session was told before
+abbrev pub behind_told : List ℕ → Printed → Printed
+behind_told told printed = record { text = told ++ printed.text; status = printed.status }
+
 -- the answer to a job, whatever bytes its files hold, but for those of standard input
 abbrev pub IsAnswerTo : Option (List ℕ) → Job → Printed → Type 0
 IsAnswerTo input (Plan file workers) answer = IsSomePlan input file answer
@@ -93,6 +105,14 @@ IsAnswerTo input (Apply shape batch image workers) answer = IsSomeApply input sh
 IsAnswerTo input (Run shape batch image workers) answer = IsSomeRun input shape batch image answer
 IsAnswerTo input (Serve shape scripts image workers) answer =
     IsSomeServe input shape scripts image answer
+IsAnswerTo input (Talk shape image) answer =
+    (told : List ℕ) × (end : Printed) × (answer ≡ behind_told told end)
+    × IsSomeTalk input shape image told end
+
+-- what a session is told before there is an answer; there is one with `talk` alone
+abbrev pub IsToldBy : Job → List ℕ → Type 0
+IsToldBy (Talk shape image) told = ⊤
+IsToldBy job told = told ≡ []
 
 -- the line where there is no answer
 abbrev pub unanswered_line : Unanswered → List ℕ
@@ -103,10 +123,12 @@ unanswered_line NoMemory = codes "refused no memory\n"
 abbrev pub unanswered : Unanswered → Printed
 unanswered why = record { text = unanswered_line why; status = REFUSED }
 
--- the answer to a job, or why there is none
+-- the answer to a job, or why there is none, behind what a session was told
 abbrev pub IsResponseTo : Option (List ℕ) → Job → Printed → Type 0
 IsResponseTo input job printed =
-    IsAnswerTo input job printed ⊎ ((why : Unanswered) × (printed ≡ unanswered why))
+    IsAnswerTo input job printed
+    ⊎ ((told : List ℕ) × (why : Unanswered) × IsToldBy job told
+    × (printed ≡ behind_told told (unanswered why)))
 
 -- this was printed behind what stood there, and ends with its status
 pub record IsPrinted (before after : Option (List ℕ)) (printed : Printed) (code : ℕ) : Type 0 where

@@ -1,19 +1,20 @@
 //! From the words of the command line to what is printed, and the status that the program ends with.
 
-ghost use Rattle.std.specs.Prelude.{◌≡◌, ◌≢◌, ◌⊎◌, ◌∷◌, ◌++◌, [], IfOk, OnErr, Some, map, option_map, option_to_list};
+ghost use Rattle.std.specs.Prelude.{◌≡◌, ◌≢◌, ◌⊎◌, ◌∷◌, ◌++◌, [], List, ℕ, IfOk, OnErr, Some, map, option_map, option_to_list};
+ghost use Rattle.std.specs.Io.KnownBytes.{Appends};
 ghost use Rattle.std.specs.Process.{exit_status};
 ghost use Rattle.answers.specs.Openings.{bytes_of};
 ghost use Rattle.answers.specs.Refusals.{Printed};
 ghost use Rattle.command_words.specs.Jobs.{AreScripts, IsWithinLimits, NameInputOnce, files_of, input_name, texts_of};
-ghost use Rattle.exchange.specs.Responses.{IsHeld, IsHeldImage, AreHeld, IsSomePlan, IsSomeCheck, IsSomeDraw, IsSomeSwitch, IsSomeDirect, IsSomeApply, IsSomeRun, IsSomeServe};
-ghost use Rattle.exchange.specs.Responses.{IsAnswerTo, IsResponseTo, IsPrinted};
-ghost use Rattle.exchange.specs.Responses.{unanswered, IsEndFor, IsEndForWords, IsEndWithoutWords};
+ghost use Rattle.exchange.specs.Responses.{IsHeld, IsHeldImage, AreHeld, IsSomePlan, IsSomeCheck, IsSomeDraw, IsSomeSwitch, IsSomeDirect, IsSomeApply, IsSomeRun, IsSomeServe, IsSomeTalk};
+ghost use Rattle.exchange.specs.Responses.{IsAnswerTo, IsToldBy, IsResponseTo, IsPrinted};
+ghost use Rattle.exchange.specs.Responses.{behind_told, unanswered, IsEndFor, IsEndForWords, IsEndWithoutWords};
 
 use crate::limits::{MISUSED, UNWRITTEN};
 use crate::unanswered::Unanswered;
 use answers::{
     Answer, DONE, REFUSED, answer_apply, answer_check, answer_direct, answer_draw, answer_plan,
-    answer_run, answer_serve, answer_switch,
+    answer_run, answer_serve, answer_switch, answer_talk,
 };
 use command_words::{Job, Text, TextList, WordsFault, WorkerCount, read_words};
 use std::alloc::AllocError;
@@ -117,21 +118,24 @@ fn carry_out<R: AllocGlobal + Files + Threads + Wait + Sync, I: Read, O: Write>(
     ensures { IfOk result (λ status. (p : Printed) × IsResponseTo (I.remaining input.old) job p
         × IsPrinted (O.contents out.old) (O.contents out.new) p status) }
 {
-    match answer_to(rt, job, input) {
+    match answer_to(rt, job, input, out) {
         Ok(answer) => print(&answer, out),
         Err(why) => refuse(why, out),
     }
 }
 
-/// The answer to a job, or why it has none.
-fn answer_to<R: AllocGlobal + Files + Threads + Wait + Sync, I: Read>(
+/// The answer to a job, or why it has none. A session of `talk` is told its replies on `out` before.
+fn answer_to<R: AllocGlobal + Files + Threads + Wait + Sync, I: Read, O: Write>(
     rt: &R,
     job: Job,
     input: &mut I,
+    out: &mut O,
 ) -> Result<Answer, Unanswered>
     requires limits { IsWithinLimits job }
     requires input { NameInputOnce (files_of job) }
-    ensures { IfOk result (IsAnswerTo (I.remaining input.old) job) }
+    ensures { (told : List ℕ) × Appends (O.contents out.old) (O.contents out.new) told
+        × IsToldBy job told
+        × IfOk result (λ answer. IsAnswerTo (I.remaining input.old) job (behind_told told answer)) }
 {
     match job {
         Job::Plan { file, workers } => plan(rt, &file, workers, input),
@@ -157,6 +161,7 @@ fn answer_to<R: AllocGlobal + Files + Threads + Wait + Sync, I: Read>(
             image,
             workers,
         } => serve(rt, &shape, &scripts, &image, workers, input),
+        Job::Talk { shape, image } => talk(rt, &shape, &image, input, out),
     }
 }
 
@@ -295,6 +300,24 @@ fn serve<R: AllocGlobal + Files + Threads + Wait + Sync, I: Read>(
         workers,
         files.as_slice(),
     )?)
+}
+
+/// The answer of `exchange talk SHAPE`, behind a session over `input` and `out`. The image's file, if one is named, is
+/// read first.
+fn talk<R: AllocGlobal + Files + Threads + Wait + Sync, I: Read, O: Write>(
+    rt: &R,
+    shape: &Text,
+    image: &Option<Text>,
+    input: &mut I,
+    out: &mut O,
+) -> Result<Answer, Unanswered>
+    requires input { NameInputOnce (option_to_list image.now ++ input_name ∷ []) }
+    ensures { (told : List ℕ) × Appends (O.contents out.old) (O.contents out.new) told
+        × IfOk result (IsSomeTalk (I.remaining input.old) shape.now image.now told) }
+{
+    let image = read_image(rt, image, input)?;
+    let shape = shape.as_str().as_bytes();
+    Ok(answer_talk(rt, rt.alloc(), shape, slice_of(&image), input, out)?)
 }
 
 /// What an image's file holds, where one is named.

@@ -20,7 +20,7 @@ fn workers_of(job: &Job) -> Option<usize> {
         | Job::Apply { workers, .. }
         | Job::Run { workers, .. }
         | Job::Serve { workers, .. } => Some(workers.get()),
-        Job::Check { .. } | Job::Draw { .. } | Job::Direct { .. } => None,
+        Job::Check { .. } | Job::Draw { .. } | Job::Direct { .. } | Job::Talk { .. } => None,
     }
 }
 

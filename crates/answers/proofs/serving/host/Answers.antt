@@ -1,14 +1,19 @@
-use Rattle.std.proofs.Common.{◌≡◌, ◌++◌, false, map, refl, rules}
-use Rattle.answers.specs.Frames.{sessions_text, disagree_line}
+use Rattle.std.proofs.Common.{◌≡◌, map, sym}
+use Rattle.std.proofs.lemmas.Result.{IfOk-weaker}
+use Rattle.answers.specs.Frames.{Transcript, sessions_text, has_fault}
+use Rattle.answers.specs.Histories.{part_of, IsClosing}
 use Rattle.answers.specs.Hosting.{transcript}
-use Rattle.answers.specs.Serving.{HaveAnotherHistory, disagree}
+use Rattle.answers.specs.Serving.{AreServed}
+use Rattle.answers.proofs.Sessions.{parts_are}
 use Rattle.answers.proofs.serving.host.Goals as goal
 
-pub returns-then-not-branch : goal.returns-then-not-branch
-returns-then-not-branch g c =
-    let sessions = map transcript c.in_ok-sessions.sessions.items in
+pub returns : goal.returns
+returns g c =
+    let ss = c.in_ok-sessions.sessions.items in
+    let seats = c.in_ok-seats.seats.items in
+    let sessions = map transcript ss in
     let framed : c.in_ok-text.text.items ≡ sessions_text sessions = rw c.as_slice.ensures.value at c.in_ok-text.ensures in
-    let text : c.failed.result.text ≡ sessions_text sessions ++ disagree_line = rw (c.failed.ensures.text, c.in_ok-extend_from_slice.ensures.items, framed) refl in
-    let differ : c.in_ok-close.field-0 ≡ false = search rules in
-    let another : HaveAnotherHistory c.args.rack sessions = rw c.in_ok-opening.ensures at (c.in_ok-close.ensures.disagree differ) in
-    (sessions, rw c.in-Ok.ensures.shape at c.in_ok-sessions.ensures.of_scripts, disagree another text c.failed.ensures.status)
+    let fails : c.has_fault-failed.result ≡ has_fault sessions = rw c.as_slice-2.ensures.value at c.has_fault-failed.ensures in
+    let parts : map (λ (t : Transcript). t.part) sessions ≡ map part_of seats = parts_are ss seats c.in_ok-seats.ensures in
+    IfOk-weaker c.finish.result (IsClosing c.in_ok-opening.opening (map part_of seats) c.in_ok-text.text.items c.has_fault-failed.result) (AreServed c.args.rack (map (λ s. s.items) c.args.scripts.now))
+    (λ printed closed. (sessions, rw c.in_ok-exchange.ensures.shape at c.in_ok-sessions.ensures.of_scripts, rw (c.in_ok-opening.ensures, framed, fails, sym parts) at closed)) c.finish.ensures

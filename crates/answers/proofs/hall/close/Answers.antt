@@ -1,26 +1,23 @@
 use Rattle.std.proofs.Common.{◌≡◌, sym, ◌∙◌, rules}
 use Rattle.batch_book.specs.History.{IsLegal}
-use Rattle.answers.proofs.Sessions.{all_of_it, one_history, history_elsewhere, another_history}
-use Rattle.answers.proofs.serving.close.Goals as goal
-
-pub close-requires-clause-seats : goal.close-requires-clause-seats
-close-requires-clause-seats g c = all_of_it c.args.exchange c.args.sessions.items c.in_ok-seats_of.field-0.items c.requires.seats c.in_ok-seats_of.ensures
+use Rattle.answers.proofs.Sessions.{one_history, history_elsewhere, another_history}
+use Rattle.answers.proofs.hall.close.Goals as goal
 
 pub returns-in-Ok-clause-agree : goal.returns-in-Ok-clause-agree
 returns-in-Ok-clause-agree g c =
     let e = c.in-Ok.ensures in
     let legal : IsLegal c.in-Ok.closed.book.opening c.in-Ok.closed.book.history = search rules in
     let opened : c.opening.result.now ≡ c.in-Ok.closed.book.opening = search rules in
-    λ same. one_history c.args.opening.now c.args.sessions.items c.in_ok-seats_of.field-0.items c.in-Ok.closed c.in_ok-seats_of.ensures e.0 e.1 e.2 legal (sym opened ∙ c.is_same-is_opening.ensures.same same)
+    λ same. one_history c.args.opening.now c.args.seats.items c.in-Ok.closed e.0 e.1 e.2 legal (sym opened ∙ c.is_same-is_opening.ensures.same same)
 
 pub returns-in-Ok-clause-disagree : goal.returns-in-Ok-clause-disagree
 returns-in-Ok-clause-disagree g c =
     let legal : IsLegal c.in-Ok.closed.book.opening c.in-Ok.closed.book.history = search rules in
     let opened : c.opening.result.now ≡ c.in-Ok.closed.book.opening = search rules in
-    λ other. history_elsewhere c.args.opening.now c.args.sessions.items c.in_ok-seats_of.field-0.items c.in-Ok.closed c.in_ok-seats_of.ensures c.in-Ok.ensures.0 legal (λ is. c.is_same-is_opening.ensures.differ other (opened ∙ is))
+    λ other. history_elsewhere c.args.opening.now c.args.seats.items c.in-Ok.closed c.in-Ok.ensures.0 legal (λ is. c.is_same-is_opening.ensures.differ other (opened ∙ is))
 
 pub returns-in-Err-LogsDisagree-clause-disagree : goal.returns-in-Err-LogsDisagree-clause-disagree
 returns-in-Err-LogsDisagree-clause-disagree g c =
     let e = rw c.in-Err-LogsDisagree.field-0-is at c.in-Err-LogsDisagree.ensures in
     let legal : IsLegal c.in-Err-LogsDisagree.closed.book.opening c.in-Err-LogsDisagree.closed.book.history = search rules in
-    λ _. another_history c.args.opening.now c.args.sessions.items c.in_ok-seats_of.field-0.items c.in-Err-LogsDisagree.closed c.in_ok-seats_of.ensures e.0 e.1 legal
+    λ _. another_history c.args.opening.now c.args.seats.items c.in-Err-LogsDisagree.closed e.0 e.1 legal

@@ -1,0 +1,69 @@
+-- An exchange of one client.
+use Rattle.std.proofs.Common.{◌≡◌, ℕ, ◌+◌, zero, suc, Bool, List, [], ◌∷◌, ◌++◌, length, get_or, map, All, Option, Some, is_some, refl, sym, ap, ◌∙◌, subst, arith}
+use Rattle.std.proofs.lemmas.List.{length-append}
+use Rattle.progress_word.specs.declared.limits.TheConstants.{ALL_PARTS}
+use Rattle.batch.specs.Extent.{Extent}
+use Rattle.module_memory.specs.Store.{Store}
+use Rattle.batch_book.specs.Exchanges.{Exchange, AreNew, new_seat, parts_at}
+use Rattle.batch_book.specs.Seats.{SeatState, IsSameSeat, parts_of}
+use Rattle.client_session.specs.declared.fault.ServeFault.{ServeFault}
+use Rattle.answers.specs.Frames.{Transcript}
+use Rattle.answers.specs.Histories.{part_of, IsClosing}
+use Rattle.answers.specs.Hosting.{IsFresh, AreAllSeats}
+use Rattle.answers.specs.Refusals.{Printed}
+use Rattle.answers.specs.Sessions.{IsAttended}
+use Rattle.answers.specs.Talking.{HasTalked, end_line}
+
+empty_front : (xs : List SeatState) (x : SeatState) → length (xs ++ x ∷ []) ≡ 1 → xs ≡ []
+empty_front [] x len = refl
+empty_front (y ∷ ys) x len = absurd (omega (arith, len, length-append ys (x ∷ [])))
+
+all_of_one : (P : SeatState → Type 0) (x : SeatState) → P x → All P (x ∷ [])
+all_of_one P x p zero d lt = p
+all_of_one P x p (suc k) d lt = absurd (omega (arith, lt))
+
+-- the one seat of a new exchange, which was taken from the others
+pub record IsAlone (x : Exchange) (rest : List SeatState) (seat : SeatState) : Type 0 where
+  pub nothing : rest ≡ []
+  pub fresh : IsFresh x seat
+  pub first : seat.session ≡ 0
+  pub parts : seat.parts ≡ ALL_PARTS
+
+pub alone : (x : Exchange) (all rest : List SeatState) (seat : SeatState) → AreNew x.word 1 all → all ≡ rest ++ seat ∷ [] → IsAlone x rest seat
+alone x all rest seat new is =
+    let nothing : rest ≡ [] = empty_front rest seat (sym (ap length is) ∙ new.count) in
+    let one : all ≡ seat ∷ [] = is ∙ ap (λ (ys : List SeatState). ys ++ seat ∷ []) nothing in
+    let begun : seat ≡ new_seat x.word 0 (parts_at 1 0) = ap (λ (ys : List SeatState). get_or ys 0 seat) (sym one) ∙ new.each 0 seat (omega arith) in
+    let whole : parts_of (seat ∷ []) ≡ ALL_PARTS = ap parts_of (sym one) ∙ new.parts in
+    record {
+      nothing = nothing;
+      fresh = record {
+        exchange = ap (λ (s : SeatState). s.exchange) begun;
+        log = ap (λ (s : SeatState). s.log) begun;
+        seen = ap (λ (s : SeatState). s.seen) begun;
+      };
+      first = ap (λ (s : SeatState). s.session) begun;
+      parts = omega (arith, whole);
+    }
+
+-- it comes back as the seat of the same session
+pub all_there : (x : Exchange) (rest : List SeatState) (old new : SeatState) → IsAlone x rest old → IsSameSeat old new → AreAllSeats x (rest ++ new ∷ [])
+all_there x rest old new one same =
+    let kept : new.exchange ≡ Some x.word = same.exchange ∙ one.fresh.exchange in
+    let each = all_of_one (λ (s : SeatState). s.exchange ≡ Some x.word) new kept in
+    let parts : new.parts ≡ ALL_PARTS = same.parts ∙ one.parts in
+    subst (λ (ys : List SeatState). AreAllSeats x (ys ++ new ∷ [])) (sym one.nothing) (record { each = each; parts = omega (arith, parts) })
+
+-- what a session from it leaves is what was talked
+pub has_talked : (opening rack : Store) (x : Exchange) (rest : List SeatState) (old new : SeatState) (before after : Option (List ℕ)) (line told : List ℕ) (fault : Option ServeFault) (failed : Bool)
+    → IsAlone x rest old → IsSameSeat old new → x.shape ≡ rack.shape → opening ≡ rack → line ≡ end_line fault → failed ≡ is_some fault
+    → IsAttended x.shape before after (record { part = part_of new; told = told; fault = fault })
+    → (printed : Printed) → IsClosing opening (map part_of (rest ++ new ∷ [])) line failed printed → HasTalked rack before after told printed
+has_talked opening rack x rest old new before after line told fault failed one same shape copied said fails session printed closed =
+    let t : Transcript = record { part = part_of new; told = told; fault = fault } in (
+      t,
+      same.session ∙ one.first,
+      refl,
+      subst (λ (s : Extent). IsAttended s before after t) shape session,
+      rw (copied, one.nothing, said, fails) at closed,
+    )

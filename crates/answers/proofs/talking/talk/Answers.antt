@@ -1,0 +1,37 @@
+use Rattle.std.proofs.Common.{◌≡◌, ◌++◌, ◌∷◌, [], is_some, map, sym, subst, rules}
+use Rattle.std.proofs.lemmas.Result.{IfOk-weaker}
+use Rattle.answers.specs.Histories.{part_of, IsClosing}
+use Rattle.answers.specs.Hosting.{AreAllSeats}
+use Rattle.answers.specs.Talking.{HasTalked}
+use Rattle.answers.proofs.Talks.{alone, all_there, has_talked}
+use Rattle.answers.proofs.talking.talk.Goals as goal
+
+pub finish-requires-clause-seats : goal.finish-requires-clause-seats
+finish-requires-clause-seats g c =
+    let x = c.in_ok-exchange.exchange in
+    let rest = c.pop.new.self.items in
+    let back = c.attend-seat.result.0 in
+    let one = alone x c.in_ok-exchange.seats.items rest c.in-Some.seat c.in_ok-exchange.ensures.seats c.in-Some.ensures.items in
+    let pushed : c.push.new.self.items ≡ rest ++ back ∷ [] = search rules in
+    subst (AreAllSeats x) (sym pushed) (all_there x rest c.in-Some.seat back one c.attend-seat.ensures.same)
+
+pub returns : goal.returns
+returns g c =
+    let x = c.in_ok-exchange.exchange in
+    let opening = c.in_ok-opening.opening in
+    let rest = c.pop.new.self.items in
+    let back = c.attend-seat.result.0 in
+    let fault = c.attend-seat.result.1 in
+    let line = c.in_ok-line.line.items in
+    let failed = c.is_some.result in
+    let s = c.attend-seat.ensures.session in
+    let one = alone x c.in_ok-exchange.seats.items rest c.in-Some.seat c.in_ok-exchange.ensures.seats c.in-Some.ensures.items in
+    let pushed : c.push.new.self.items ≡ rest ++ back ∷ [] = search rules in
+    let fails : failed ≡ is_some fault = search rules in (
+      s.0,
+      s.1,
+      IfOk-weaker c.finish.result (IsClosing opening (map part_of c.push.new.self.items) line failed)
+          (HasTalked c.args.rack (g.I.Read.remaining c.args.reader.now) (g.I.Read.remaining c.attend-seat.new.reader) s.0)
+          (λ printed closed.
+          has_talked opening c.args.rack x rest c.in-Some.seat back _ _ line s.0 fault failed one c.attend-seat.ensures.same c.in_ok-exchange.ensures.shape c.in_ok-opening.ensures c.in_ok-line.ensures fails s.2 printed (rw pushed at closed)) c.finish.ensures,
+    )

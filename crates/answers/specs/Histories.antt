@@ -1,0 +1,63 @@
+-- The history of an exchange, and the parts of it that its sessions have.
+use Rattle.std.specs.Prelude.{◌≡◌, ℕ, ◌≤◌, if◌then◌else◌, Bool, List, ◌++◌, codes, length, All, sum_by}
+use Rattle.module_memory.specs.Store.{Store}
+use Rattle.batch_book.specs.declared.entry.Entry.{Entry}
+use Rattle.batch_book.specs.History.{IsLegal}
+use Rattle.batch_book.specs.Seats.{SeatState, own}
+use Rattle.batch_book.specs.Values.{greatest}
+use Rattle.answers.specs.declared.limits.TheConstants.{DONE, REFUSED}
+use Rattle.answers.specs.Refusals.{Printed}
+
+-- what a session has of a history: its number, the entries of its calls, and how far it saw the
+-- runs come
+pub record Part : Type 0 where
+  pub session : ℕ
+  pub entries : List Entry
+  pub seen : ℕ
+
+-- the part of the session that had this seat
+abbrev pub part_of : SeatState → Part
+part_of seat = record { session = seat.session; entries = seat.log; seen = seat.seen }
+
+-- a history of an exchange, which is legal from this opening store and has as many entries as these
+-- parts
+pub record IsHistoryOf (opening : Store) (parts : List Part) (history : List Entry) : Type 0 where
+  pub legal : IsLegal opening history
+  pub counted : length history ≡ sum_by (λ p. length p.entries) parts
+
+-- the entries of each part are those of its session in the history
+abbrev pub AreParts : List Part → List Entry → Type 0
+AreParts parts history = All (λ p. p.entries ≡ own p.session history) parts
+
+-- The sessions have one history from this opening store: it has just their entries, those of each
+-- session in its order. No session saw the runs come further than it tells.
+pub record HaveOneHistory (opening : Store) (parts : List Part) : Type 0 where
+  pub history : List Entry
+  pub is_history : IsHistoryOf opening parts history
+  pub are_parts : AreParts parts history
+  pub seen : All (λ p. p.seen ≤ greatest history) parts
+
+-- the history that was kept of the sessions has another opening store, or isn't that of their
+-- entries
+pub record HaveAnotherHistory (opening : Store) (parts : List Part) : Type 0 where
+  pub kept : Store
+  pub history : List Entry
+  pub is_history : IsHistoryOf kept parts history
+  pub no_parts : kept ≡ opening → ¬ AreParts parts history
+
+-- the last line where the sessions have no one history
+abbrev pub disagree_line : List ℕ
+disagree_line = codes "logs disagree\n"
+
+-- the status where a fault ended one of the sessions, or none
+abbrev pub status_at : Bool → ℕ
+status_at failed = if failed then REFUSED else DONE
+
+-- The sessions with these parts were on an exchange that began with this store, and this text is
+-- printed of them. Where another history was kept of them, that is said by a last line.
+pub data IsClosing (opening : Store) (parts : List Part) (text : List ℕ) (failed : Bool)
+    (printed : Printed) : Type 0 where
+  agree : HaveOneHistory opening parts → printed.text ≡ text → printed.status ≡ status_at failed
+      → IsClosing opening parts text failed printed
+  disagree : HaveAnotherHistory opening parts → printed.text ≡ text ++ disagree_line
+      → printed.status ≡ REFUSED → IsClosing opening parts text failed printed
