@@ -7,4 +7,3 @@ pub mod OwnPlans
 pub mod Numbers
 pub mod Answering
 pub mod Seats
-pub mod Spares

@@ -55,9 +55,6 @@ words_more [] b e h (suc k) j = omega arith
 words_more (x ∷ xs) b e h zero j = h 0 j
 words_more (x ∷ xs) b e h (suc k) j = words_more xs b e (λ (i : ℕ). h (suc i)) k j
 
-pub none_read : (width : ℕ) → AreRead width 0 []
-none_read width = record { count = refl; long = λ k l. absurd (omega arith); words = λ k j. omega arith }
-
 pub more_read : (width n : ℕ) (blocks : List (List ℕ)) (b : List ℕ) → length b ≡ width → ((j : ℕ) → get_or b j 0 < 2 ^ 32) → AreRead width n blocks → AreRead width (n + 1) (blocks ++ b ∷ [])
 more_read width n blocks b e f h = record {
   count = omega (arith, length-append blocks (b ∷ []), h.count);

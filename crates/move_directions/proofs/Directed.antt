@@ -51,9 +51,6 @@ passing_two module_of m n p =
     let two : 2 * (n + 1) ≡ suc (suc (2 * n)) = omega arith in
     rw (two, add-one) (omega arith)
 
-pub none_directed : (moves : List Move) (left : ℕ → Bool) → AreDirected moves left 0 []
-none_directed moves left = record { done = refl; starting = λ m. refl; answering = λ m. refl }
-
 module _ (moves : List Move) (left : ℕ → Bool) (n : ℕ) (ts : List Transfer) (x : Move) (within : n < length moves) (opposed : left (2 * n) ≡ not (left (2 * n + 1))) (so_far : AreDirected moves left n ts) where
   abbrev next : Move
   next = get_or moves n x
