@@ -7,3 +7,6 @@ pub returns-clause-equal : goal.returns-clause-equal
 returns-clause-equal c =
     let same : c.eq.result ≡ same_transfers c.args.self.now c.args.other.now = search rules in
     rw same (same_transfers-Decides c.args.self.now c.args.other.now)
+
+pub returns-clause-value : goal.returns-clause-value
+returns-clause-value c = search rules
