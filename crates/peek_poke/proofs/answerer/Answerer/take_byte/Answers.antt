@@ -1,3 +1,4 @@
+use Rattle.std.proofs.lemmas.Grind.{common_steps}
 use Rattle.std.proofs.Common.{rules, ◌≡◌, [], ◌∷◌, ◌++◌, arith, ap, ◌∙◌, sym, subst, inl, inr, refl, get_or, set, ◌⊎◌}
 use Rattle.peek_poke.specs.declared.message.TheConstants.{POKE, POKE_BYTES, PEEK_BYTES}
 use Rattle.peek_poke.specs.Messages.{Pending}
@@ -39,3 +40,24 @@ returns-in-Err-clause-step g c =
           (cause_of g.S.WordStore.read_gives g.S.WordStore.write_gives c.args.self.now c.args.store.now b c.in-Err.fault (ap (λ (p : Pending). p.failed) (sym c.self.view_is) ∙ c.if-self.false)
           (c.message_in-message.result, c.message_in-message.ensures.fits, ap (λ (p : Pending). p.bytes ++ b ∷ []) (sym c.self.view_is) ∙ text, c.in-Err.ensures.0)),
     )
+
+pub returns-then-self-clause-step : goal.returns-then-self-clause-step
+returns-then-self-clause-step g c = search rules
+
+pub returns-then-self-whole-clause-step : goal.returns-then-self-whole-clause-step
+returns-then-self-whole-clause-step g c = grind (arith, common_steps)
+
+pub returns-in-Ok-clause-taken : goal.returns-in-Ok-clause-taken
+returns-in-Ok-clause-taken g c = search rules
+
+pub returns-in-Err-clause-taken : goal.returns-in-Err-clause-taken
+returns-in-Err-clause-taken g c = search rules
+
+pub returns-then-byte-gt-PEEK-clause-taken : goal.returns-then-byte-gt-PEEK-clause-taken
+returns-then-byte-gt-PEEK-clause-taken g c = search rules
+
+pub returns-then-self-clause-taken : goal.returns-then-self-clause-taken
+returns-then-self-clause-taken g c = search rules
+
+pub returns-then-self-whole-clause-taken : goal.returns-then-self-whole-clause-taken
+returns-then-self-whole-clause-taken g c = search rules

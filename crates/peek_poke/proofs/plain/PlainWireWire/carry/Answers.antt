@@ -60,3 +60,12 @@ returns-clause-added c =
     let read = c.bring.ensures (Byte c.args.byte) c.ranges.byte.fits bits in
     let grown : c.bring.new.self.bytes ≡ c.args.self.now ++ c.args.byte ∷ [] = ap (λ (l : Brought). l.bytes) read.1 ∙ ap (λ (xs : List ℕ). xs ++ c.args.byte ∷ []) c.self.view_is in
     search rules
+
+pub returns-clause-sure : goal.returns-clause-sure
+returns-clause-sure c = search rules
+
+pub returns-clause-fault : goal.returns-clause-fault
+returns-clause-fault c = search rules
+
+pub returns-clause-kept : goal.returns-clause-kept
+returns-clause-kept c = search rules
