@@ -1,4 +1,4 @@
-use Rattle.std.proofs.Common.{◌≡◌, ◌∙◌, sym, length, ap}
+use Rattle.std.proofs.Common.{◌≡◌, ◌∙◌, sym, length, ap, rules}
 use Rattle.std.proofs.lemmas.List.{length-map}
 use Rattle.std.proofs.lemmas.Result.{err_from_is_err_and, on_ok_weaker, IfErr-weaker}
 use Rattle.link_graph.specs.Schedules.{IsScheduleOf}
@@ -31,3 +31,12 @@ pub returns-clause-accepted : goal.returns-clause-accepted
 returns-clause-accepted c = λ r.
     let many : length c.args.schedule.now ≡ length c.lists-lists.result.now = ap length (sym c.lists-lists.ensures) ∙ length-map c.lists-lists.result.now (λ v. v.items) in
     IfErr-weaker c.check_certificate.result _ _ (λ fault err. only_memory _ _ _ fault (λ real. err.1 c.args.schedule.now r.schedule many) r.schedule r.certificate) c.check_certificate.ensures.err
+
+pub returns-in-Some-clause-schedule : goal.returns-in-Some-clause-schedule
+returns-in-Some-clause-schedule c = search rules
+
+pub returns-in-Some-clause-certificate : goal.returns-in-Some-clause-certificate
+returns-in-Some-clause-certificate c = search rules
+
+pub returns-in-Some-clause-shortest : goal.returns-in-Some-clause-shortest
+returns-in-Some-clause-shortest c = search rules

@@ -12,3 +12,6 @@ loop-t-preserved c =
 
 pub returns-clause-users : goal.returns-clause-users
 returns-clause-users c = (all_users _ _ _ _ (omega (arith, c.loop-t-test.false, c.len-t-end.ensures.value)) c.loop-t.invariant).0
+
+pub returns-clause-count : goal.returns-clause-count
+returns-clause-count c = (all_users _ _ _ _ (omega (arith, c.loop-t-test.false, c.len-t-end.ensures.value)) c.loop-t.invariant).1

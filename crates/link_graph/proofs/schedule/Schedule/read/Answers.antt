@@ -1,4 +1,5 @@
-use Rattle.std.proofs.Common.{◌≡◌, ◌∙◌, ℕ, List, length}
+use Rattle.std.proofs.lemmas.Grind.{common_steps}
+use Rattle.std.proofs.Common.{◌≡◌, ◌∙◌, ℕ, List, length, arith}
 use Rattle.std.specs.Global.{Vec}
 use Rattle.std.proofs.lemmas.List.{length-map}
 use Rattle.std.proofs.lemmas.Result.{err_from_is_err_and}
@@ -24,3 +25,6 @@ pub returns-in_err-certificate-clause-fault : goal.returns-in_err-certificate-cl
 returns-in_err-certificate-clause-fault c =
     let p = err_from_is_err_and c.from_residual-in_err-certificate.result c.from_residual-in_err-certificate.ensures.1 in
     rw (p.1, p.2) (certified_fault c.args.text.now c.in-Some.line.now c.in-Some.rest.now c.in-Some-settings_count.count (lists_of c.in_ok-lists.lists.items) c.in_ok-lists.rest.now c.in_err-certificate.field-0.0 c.in-Some.ensures.some c.in-Some-settings_count.ensures.some (long _ _ c.in_ok-lists.ensures.counted) c.in_ok-lists.ensures.numbers c.in_ok-lists.ensures.text c.in_err-certificate.ensures.err)
+
+pub returns-clause-says : goal.returns-clause-says
+returns-clause-says c = grind (arith, common_steps)
