@@ -3,6 +3,7 @@
 ghost use Rattle.std.specs.Prelude.{◌≡◌, ℕ, ◌+◌, ◌*◌, ◌<◌, ◌≤◌, ◌↔◌, min, length, replicate, set, All, Contains, Some, None, Err, IfOk, OnOk, OnErr, MatchOption, IfSome, IfNone, OnSome};
 ghost use Rattle.batch.specs.Batches.{IsBatch};
 ghost use Rattle.link_graph.specs.declared.link.End.TheVariants.{Zero, Three};
+ghost use Rattle.link_graph.specs.Certificates.{AreDistinct};
 ghost use Rattle.link_graph.specs.Uses.{Uses, IsMatching};
 ghost use Rattle.alternating_path.specs.Colouring.{colour_at, IsPlaced, nothing_placed, IsProperTable, IsFreeAt, TakesAt, with_colour, PlacesOnly, PlacesJust, ArePlacedApart, counted, IsJoined};
 ghost use Rattle.alternating_path.specs.Classes.{AreClassesOf, ScheduleIfAll, class_size, IsSmallestClass, IsTakenBack};
@@ -109,6 +110,36 @@ impl<'a> Table<'a> {
         let mut table = Table::empty(graph, 1, cells);
         for t in members {
             table.put_in(*t, 0);
+        }
+        Ok(table)
+    }
+
+    /// A table with a colour for each member, in their order, in which just the members are placed:
+    /// distinct numbers of transfers. There is room for this many colours, as in
+    /// [`one_with_room`](Table::one_with_room).
+    ///
+    /// Takes time that grows with the number of members.
+    pub fn each_with_room(
+        alloc: Global,
+        graph: &'a LinkGraph,
+        members: &[usize],
+        colours: usize,
+    ) -> Result<Table<'a>, AllocError>
+        requires known { All (λ t. t < length graph.now) members.now }
+        requires distinct { AreDistinct members.now }
+        ensures batch { IfOk result (λ table. table.batch ≡ graph.now) }
+        ensures colours { IfOk result (λ table. table.colours ≡ length members.now) }
+        ensures placed { IfOk result (λ table. PlacesOnly table.colour members.now) }
+        ensures inserted { IfOk result (λ table. table.inserted ≡ 0) }
+        ensures proper { IfOk result IsProperTable }
+    {
+        let count = members.len();
+        let room = colours.max(count).saturating_mul(LINKS);
+        let mut cells = Vec::with_capacity(alloc, room)?;
+        cells.resize(count.saturating_mul(LINKS), None)?;
+        let mut table = Table::empty(graph, count, cells);
+        for (colour, t) in members.iter().enumerate() {
+            table.put_in(*t, colour);
         }
         Ok(table)
     }

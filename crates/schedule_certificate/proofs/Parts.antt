@@ -1,12 +1,12 @@
 -- The halves of a part, and how its colouring comes from theirs.
-use Rattle.std.proofs.Common.{◌≡◌, ◌==◌, ℕ, zero, suc, ◌+◌, ◌-◌, ◌*◌, ◌/◌, ◌<◌, ◌≤◌, ◌⊎◌, ◌↔◌, inl, inr, List, ◌++◌, length, map, All, Option, Some, None, IsSome, cond, refl, sym, ap, ◌∙◌, subst, arith}
+use Rattle.std.proofs.Common.{◌≡◌, ◌==◌, ℕ, zero, suc, ◌+◌, ◌-◌, ◌*◌, ◌/◌, ◌<◌, ◌≤◌, ◌⊎◌, ◌↔◌, inl, inr, List, ◌++◌, length, map, take, drop, All, Option, Some, None, IsSome, cond, refl, sym, ap, ◌∙◌, subst, arith}
 use Rattle.std.specs.Prelude.{Contains, IfSome}
 use Rattle.std.proofs.lemmas.Bool.{false≢true, cases_lt}
 use Rattle.std.proofs.lemmas.Bool.Decides.{eqb_tells}
 use Rattle.std.proofs.lemmas.Option.{same_Some}
-use Rattle.std.proofs.lemmas.List.{length-append, get_or-map, get_or_past, length-map}
+use Rattle.std.proofs.lemmas.List.{length-append, length-take, length-drop, take-append-drop}
 use Rattle.std.proofs.lemmas.List.Elements.{Contains-append_left, Contains-append_right, Contains-append_cases}
-use Rattle.std.proofs.lemmas.List.Sorted.{IsPermutation-sym, All-permutation, Contains-permutation, sum_by-IsPermutation, length_permutation}
+use Rattle.std.proofs.lemmas.List.Sorted.{IsPermutation-refl, IsPermutation-sym, All-permutation, Contains-permutation, sum_by-IsPermutation, length_permutation}
 use Rattle.std.proofs.lemmas.List.Sums.{sum_by-append}
 use Rattle.std.proofs.Math.Nat.{mul_comm}
 use Rattle.batch.specs.declared.transfer.Transfer.{Transfer}
@@ -24,7 +24,7 @@ use Rattle.alternating_path.specs.Counts.{uses_link}
 use Rattle.alternating_path.specs.Classes.{without_colour, IsTakenBack}
 use Rattle.alternating_path.proofs.Removed.{without-at}
 use Rattle.schedule_certificate.specs.Reinsertions.{AreFew}
-use Rattle.schedule_certificate.specs.Parts.{IsPart, IsDegree, IsColouredPart, HasRoomFor}
+use Rattle.schedule_certificate.specs.Parts.{IsPart, IsDegree, AreHalves, IsColouredPart, HasRoomFor}
 use Rattle.schedule_certificate.proofs.Bounds.{few_le, few_halves}
 use Rattle.schedule_certificate.proofs.Counting.{uses_counted, placed_few}
 
@@ -34,6 +34,27 @@ pub single_matching : (batch : List Transfer) (part : List ℕ) (d : ℕ) → Is
 single_matching batch part d degree low = matching_from_none_shared batch part (λ link shared. omega (arith, count_from_shared batch part link shared, degree.most link))
 
 -- ---- the halves
+
+same_degree : (batch : List Transfer) (whole : List ℕ) (d e : ℕ) → IsDegree (members batch whole) d → IsDegree (members batch whole) e → d ≡ e
+same_degree batch whole d e one other =
+    let low : (a b : ℕ) → IsDegree (members batch whole) a → IsDegree (members batch whole) b → a ≤ b = λ a b x y. elim x.reached [ inl none ↦ omega arith | inr at ↦ omega (arith, at.1, y.most at.0) ] in
+    omega (arith, low d e one other, low e d other one)
+
+-- halves of each link's uses are halves of the degree
+pub halves_of_split : (batch : List Transfer) (whole left right : List ℕ) → IsSplit batch whole left right → AreHalves batch whole left right
+halves_of_split batch whole left right s = record {
+  parts = s.parts;
+  left_uses = λ link d degree. omega (arith, s.left_uses link, degree.most link);
+  right_uses = λ link d degree. omega (arith, s.right_uses link, degree.most link);
+}
+
+-- and so are the front and the back of a part whose degree is its length
+pub halves_in_order : (batch : List Transfer) (whole : List ℕ) (d k : ℕ) → IsDegree (members batch whole) d → d ≡ length whole → k ≡ (d + 1) / 2 → AreHalves batch whole (take k whole) (drop k whole)
+halves_in_order batch whole d k degree all is = record {
+  parts = rw take-append-drop (IsPermutation-refl whole);
+  left_uses = λ link e other. omega (arith, is, all, same_degree batch whole d e degree other, uses_few (members batch (take k whole)) link, members_few batch (take k whole), length-take k whole);
+  right_uses = λ link e other. omega (arith, is, all, same_degree batch whole d e degree other, uses_few (members batch (drop k whole)) link, members_few batch (drop k whole), length-drop k whole);
+}
 
 stands_once : (xs : List ℕ) (t : ℕ) → AreDistinct xs → standings t xs ≤ 1
 stands_once xs t distinct = elim (cases_lt 0 (standings t xs)) [
@@ -45,7 +66,7 @@ one_of : (a b : ℕ) → 0 < a + b → (0 < a) ⊎ (0 < b)
 one_of zero b h = inr (omega arith)
 one_of (suc a) b h = inl (omega arith)
 
-module _ (batch : List Transfer) (whole left right : List ℕ) (part : IsPart batch whole) (s : IsSplit batch whole left right) where
+module _ (batch : List Transfer) (whole left right : List ℕ) (part : IsPart batch whole) (s : AreHalves batch whole left right) where
   both_standings : (t : ℕ) → standings t left + standings t right ≡ standings t whole
   both_standings t = omega (arith, sum_by-append (λ u. cond (u == t) 1 0) left right, sum_by-IsPermutation (λ u. cond (u == t) 1 0) whole (left ++ right) s.parts)
 
@@ -77,8 +98,8 @@ module _ (batch : List Transfer) (whole left right : List ℕ) (part : IsPart ba
   both_less d degree high = elim degree.reached [
     | inl none ↦ absurd (omega arith)
     | inr at ↦
-        let in_left : 0 < uses_among batch left at.0 = omega (arith, at.1, both_uses at.0, s.right_uses at.0) in
-        let in_right : 0 < uses_among batch right at.0 = omega (arith, at.1, both_uses at.0, s.left_uses at.0) in
+        let in_left : 0 < uses_among batch left at.0 = omega (arith, at.1, both_uses at.0, s.right_uses at.0 d degree) in
+        let in_right : 0 < uses_among batch right at.0 = omega (arith, at.1, both_uses at.0, s.left_uses at.0 d degree) in
         (omega (arith, in_right, uses_few (members batch right) at.0, members_few batch right, both_lengths), omega (arith, in_left, uses_few (members batch left) at.0, members_few batch left, both_lengths))
   ]
 
@@ -86,12 +107,12 @@ module _ (batch : List Transfer) (whole left right : List ℕ) (part : IsPart ba
   half_degrees : (d h : ℕ) → IsDegree (members batch whole) d → h + h ≡ d → IsDegree (members batch left) h × IsDegree (members batch right) h
   half_degrees d h degree is = (
     record {
-      most = λ link. omega (arith, s.left_uses link, degree.most link);
-      reached = elim degree.reached [ inl none ↦ inl (omega (arith, none)) | inr at ↦ inr (at.0, omega (arith, at.1, both_uses at.0, s.left_uses at.0, s.right_uses at.0)) ];
+      most = λ link. omega (arith, s.left_uses link d degree, degree.most link);
+      reached = elim degree.reached [ inl none ↦ inl (omega (arith, none)) | inr at ↦ inr (at.0, omega (arith, at.1, both_uses at.0, s.left_uses at.0 d degree, s.right_uses at.0 d degree)) ];
     },
     record {
-      most = λ link. omega (arith, s.right_uses link, degree.most link);
-      reached = elim degree.reached [ inl none ↦ inl (omega (arith, none)) | inr at ↦ inr (at.0, omega (arith, at.1, both_uses at.0, s.left_uses at.0, s.right_uses at.0)) ];
+      most = λ link. omega (arith, s.right_uses link d degree, degree.most link);
+      reached = elim degree.reached [ inl none ↦ inl (omega (arith, none)) | inr at ↦ inr (at.0, omega (arith, at.1, both_uses at.0, s.left_uses at.0 d degree, s.right_uses at.0 d degree)) ];
     },
   )
 
@@ -111,7 +132,7 @@ module _ (batch : List Transfer) (whole left right : List ℕ) (part : IsPart ba
   not_in_both : (t : ℕ) → Contains left t → Contains right t → ⊥
   not_in_both t in_left in_right = omega (arith, once_from_distinct t left left_part.distinct in_left, once_from_distinct t right right_part.distinct in_right, both_standings t, stands_once whole t part.distinct)
 
-half_degree : (batch : List Transfer) (whole half : List ℕ) (d e : ℕ) → IsDegree (members batch whole) d → IsDegree (members batch half) e → ((link : Link) → uses_among batch half link ≤ (uses_among batch whole link + 1) / 2) → e ≤ (d + 1) / 2
+half_degree : (batch : List Transfer) (whole half : List ℕ) (d e : ℕ) → IsDegree (members batch whole) d → IsDegree (members batch half) e → ((link : Link) → uses_among batch half link ≤ (d + 1) / 2) → e ≤ (d + 1) / 2
 half_degree batch whole half d e degree here less = elim here.reached [
   | inl none ↦ omega arith
   | inr at ↦ omega (arith, at.1, less at.0, degree.most at.0)
@@ -156,15 +177,15 @@ had_colour c (Some d) h = elim (eqb_tells d c) [
 
 -- ---- from the tables of the halves to that of the whole
 
-module _ (batch : List Transfer) (whole left right : List ℕ) (d : ℕ) (t₁ t₂ : Colouring) (part : IsPart batch whole) (degree : IsDegree (members batch whole) d) (high : 1 < d) (s : IsSplit batch whole left right) (c₁ : IsColouredPart batch left t₁) (c₂ : IsColouredPart batch right t₂) where
+module _ (batch : List Transfer) (whole left right : List ℕ) (d : ℕ) (t₁ t₂ : Colouring) (part : IsPart batch whole) (degree : IsDegree (members batch whole) d) (high : 1 < d) (s : AreHalves batch whole left right) (c₁ : IsColouredPart batch left t₁) (c₂ : IsColouredPart batch right t₂) where
   pub apart : ArePlacedApart t₁.colour t₂.colour
   apart t one other = not_in_both batch whole left right part s t ((c₁.placed t).0 one) ((c₂.placed t).0 other)
 
   left_degree : c₁.degree ≤ (d + 1) / 2
-  left_degree = half_degree batch whole left d c₁.degree degree c₁.is_degree s.left_uses
+  left_degree = half_degree batch whole left d c₁.degree degree c₁.is_degree (λ link. s.left_uses link d degree)
 
   right_degree : c₂.degree ≤ (d + 1) / 2
-  right_degree = half_degree batch whole right d c₂.degree degree c₂.is_degree s.right_uses
+  right_degree = half_degree batch whole right d c₂.degree degree c₂.is_degree (λ link. s.right_uses link d degree)
 
   both_degrees : d ≤ c₁.degree + c₂.degree
   both_degrees = elim degree.reached [

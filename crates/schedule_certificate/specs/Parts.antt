@@ -1,5 +1,6 @@
 -- Parts of the transfers of a batch, and colourings of just these.
-use Rattle.std.specs.Prelude.{◌≡◌, ◌↔◌, ℕ, ◌<◌, ◌≤◌, ◌⊎◌, max, List, length, Option, None, All, Contains, IfSome}
+use Rattle.std.specs.Prelude.{◌≡◌, ◌↔◌, ℕ, ◌+◌, ◌/◌, ◌<◌, ◌≤◌, ◌⊎◌, max, List, ◌++◌, length, Option, None, All, Contains, IfSome}
+use Rattle.std.specs.List.Sorted.{IsPermutation}
 use Rattle.batch.specs.declared.transfer.Transfer.{Transfer}
 use Rattle.link_graph.specs.declared.link.Link.{Link}
 use Rattle.link_graph.specs.Certificates.{AreDistinct}
@@ -22,6 +23,15 @@ pub record IsDegree (transfers : List Transfer) (d : ℕ) : Type 0 where
 -- distinct transfers, whose degree may be known
 abbrev pub IsPartBy : List Transfer → List ℕ → Option ℕ → Type 0
 IsPartBy batch part known = IsPart batch part × IfSome known (IsDegree (members batch part))
+
+-- The two halves together are the whole in another order. In each a link has at most half of the
+-- whole's degree, rounded up.
+pub record AreHalves (batch : List Transfer) (whole left right : List ℕ) : Type 0 where
+  pub parts : IsPermutation whole (left ++ right)
+  pub left_uses : (link : Link) (d : ℕ) → IsDegree (members batch whole) d
+      → uses_among batch left link ≤ (d + 1) / 2
+  pub right_uses : (link : Link) (d : ℕ) → IsDegree (members batch whole) d
+      → uses_among batch right link ≤ (d + 1) / 2
 
 -- just the transfers of the part are placed, in as many colours as its degree (one where that is
 -- 0), and few were put in one by one

@@ -1,8 +1,9 @@
 //! Colouring a part of a graph by its halves.
 
-ghost use Rattle.std.specs.Prelude.{◌≡◌, ◌+◌, ◌≤◌, length, IfOk};
+ghost use Rattle.std.specs.Prelude.{◌≡◌, ◌+◌, ◌≤◌, length, take, drop, IfOk};
 ghost use Rattle.std.specs.Thread.{IsSync};
-ghost use Rattle.schedule_certificate.specs.Parts.{IsPartBy, IsColouredPart, HasRoomFor, PlacesClass};
+ghost use Rattle.link_graph.specs.Marks.{members};
+ghost use Rattle.schedule_certificate.specs.Parts.{IsPart, IsDegree, IsPartBy, AreHalves, IsColouredPart, HasRoomFor, PlacesClass};
 
 use crate::degree::{degree_of, half_of};
 use crate::gate::Gate;
@@ -30,13 +31,32 @@ fn put_back(table: &mut Table<'_>, class: &[usize])
     }
 }
 
+/// Permutes a part so that one of two halves stands in front of the other, and says how many transfers
+/// that has. The uses of each link are halved, but where all transfers share one link, which is enough
+/// for halves of half the degree: these stay in their order, so that they get the same colours from one
+/// worker and from several.
+fn halve_part(graph: &LinkGraph, part: &mut [usize], degree: usize, scratch: &mut Scratch) -> usize
+    requires part { IsPart graph.now part.old }
+    requires degree { IsDegree (members graph.now part.old) degree }
+    requires places { length part.old ≤ scratch.old }
+    ensures within { result ≤ length part.old }
+    ensures halves { AreHalves graph.now part.old (take result part.new) (drop result part.new) }
+    ensures places { scratch.new ≡ scratch.old }
+{
+    if degree == part.len() {
+        return degree.div_ceil(2);
+    }
+    split_in_place(graph, part, scratch)
+}
+
 /// Colours a part with as many colours as its busiest link has uses, its degree, and with one where
 /// that is 0. The degree may be known. Room for this many colours is taken at once, so that others
 /// can be joined to these without a move.
 ///
-/// The part is halved, in place, so that the uses of each link are, each half is coloured by itself,
-/// and the two tables are joined. Where the degree is odd, that may be one colour too many: then a
-/// smallest class is given up, and its transfers are put into the other colours (Gabow 1976).
+/// Where all transfers share one link, one worker gives each a colour of its own, in their order. Else
+/// the part is halved, in place, each half is coloured by itself, and the two tables are joined. Where
+/// the degree is odd, that may be one colour too many: then a smallest class is given up, and its
+/// transfers are put into the other colours (Gabow 1976).
 #[cycle(halves)]
 pub(crate) fn colour_part<'a, R: Threads + Sync, G: Gate>(
     rt: &R,
@@ -58,7 +78,10 @@ pub(crate) fn colour_part<'a, R: Threads + Sync, G: Gate>(
     if degree <= 1 {
         return Table::one_with_room(alloc, graph, part, room.max(1));
     }
-    let middle = split_in_place(graph, part, scratch);
+    if workers.count < 2 && degree == part.len() {
+        return Table::each_with_room(alloc, graph, part, room);
+    }
+    let middle = halve_part(graph, part, degree, scratch);
     let (left, right) = part.split_at_mut(middle);
     let half = half_of(degree);
     // The halves may have one colour too many.

@@ -1,8 +1,7 @@
 use Rattle.std.proofs.Common.{◌≡◌, ◌≤◌, ◌<◌, ◌+◌, ◌*◌, List, ℕ, max, length, arith, rules}
 use Rattle.std.specs.Prelude.{IfSome}
 use Rattle.link_graph.specs.Marks.{members}
-use Rattle.euler_split.specs.Split.{IsSplit}
-use Rattle.schedule_certificate.specs.Parts.{IsPart, IsDegree}
+use Rattle.schedule_certificate.specs.Parts.{IsPart, IsDegree, AreHalves}
 use Rattle.schedule_certificate.proofs.Parts.{single_matching, left_part, right_part, both_less, known_halves, apart, joined_coloured, has_room, put_back_coloured}
 use Rattle.schedule_certificate.proofs.colouring.+halves.Goals as goal
 
@@ -17,7 +16,7 @@ colour_part-colour_halves-requires g t c κs within =
     let back : List ℕ = c.split_at_mut-left.result.1.now in
     let d : ℕ = c.degree_of-degree.result in
     let high : 1 < d = omega arith in
-    let halves : IsSplit batch whole front back = rw (c.split_at_mut-left.ensures.front, c.split_at_mut-left.ensures.back) c.split_in_place-middle.ensures.split in
+    let halves : AreHalves batch whole front back = rw (c.split_at_mut-left.ensures.front, c.split_at_mut-left.ensures.back) c.halve_part-middle.ensures.halves in
     let less = both_less batch whole front back c.requires.part.0 halves d c.degree_of-degree.ensures high in
     let front_less : length front < length whole = less.0 in
     let back_less : length back < length whole = less.1 in
@@ -26,9 +25,9 @@ colour_part-colour_halves-requires g t c κs within =
     let known = known_halves batch whole front back c.requires.part.0 halves d c.half_of-half.result c.degree_of-degree.ensures c.half_of-half.ensures.some in
     let left_known : IfSome c.half_of-half.result (IsDegree (members batch front)) = known.0 in
     let right_known : IfSome c.half_of-half.result (IsDegree (members batch back)) = known.1 in
-    let room : c.split_in_place-middle.new.scratch ≡ c.args.scratch.now = c.split_in_place-middle.ensures.room in
-    let left_places : length front ≤ c.split_in_place-middle.new.scratch = omega (arith, room, front_less, c.requires.places) in
-    let right_places : length back ≤ c.split_in_place-middle.new.scratch = omega (arith, room, back_less, c.requires.places) in
+    let room : c.halve_part-middle.new.scratch ≡ c.args.scratch.now = c.halve_part-middle.ensures.places in
+    let left_places : length front ≤ c.halve_part-middle.new.scratch = omega (arith, room, front_less, c.requires.places) in
+    let right_places : length back ≤ c.halve_part-middle.new.scratch = omega (arith, room, back_less, c.requires.places) in
     let falls : 5 * max (length front) (length back) + 4 < 5 * length whole = omega arith in
     search rules
 
@@ -40,7 +39,7 @@ colour_part-join-requires-clause-apart g t c =
     let back : List ℕ = c.split_at_mut-left.result.1.now in
     let d : ℕ = c.degree_of-degree.result in
     let high : 1 < d = omega arith in
-    let halves : IsSplit batch whole front back = rw (c.split_at_mut-left.ensures.front, c.split_at_mut-left.ensures.back) c.split_in_place-middle.ensures.split in
+    let halves : AreHalves batch whole front back = rw (c.split_at_mut-left.ensures.front, c.split_at_mut-left.ensures.back) c.halve_part-middle.ensures.halves in
     apart batch whole front back d c.in_ok-left.left c.in_ok-left.right c.requires.part.0 c.degree_of-degree.ensures high halves c.in_ok-left.ensures.left c.in_ok-left.ensures.right
 
 pub colour_part-returns-then-colours-degree-clause-coloured : goal.colour_part-returns-then-colours-degree-clause-coloured
@@ -51,7 +50,7 @@ colour_part-returns-then-colours-degree-clause-coloured g t c =
     let back : List ℕ = c.split_at_mut-left.result.1.now in
     let d : ℕ = c.degree_of-degree.result in
     let high : 1 < d = omega arith in
-    let halves : IsSplit batch whole front back = rw (c.split_at_mut-left.ensures.front, c.split_at_mut-left.ensures.back) c.split_in_place-middle.ensures.split in
+    let halves : AreHalves batch whole front back = rw (c.split_at_mut-left.ensures.front, c.split_at_mut-left.ensures.back) c.halve_part-middle.ensures.halves in
     let j = c.in_ok-joined.ensures.joined in
     joined_coloured batch whole front back d c.in_ok-left.left c.in_ok-left.right c.requires.part.0 c.degree_of-degree.ensures high halves c.in_ok-left.ensures.left c.in_ok-left.ensures.right
     c.in_ok-joined.joined j.batch j.colours j.classes (omega (arith, j.inserted)) (omega arith)
@@ -64,7 +63,7 @@ colour_part-put_back-requires g t c =
     let back : List ℕ = c.split_at_mut-left.result.1.now in
     let d : ℕ = c.degree_of-degree.result in
     let high : 1 < d = omega arith in
-    let halves : IsSplit batch whole front back = rw (c.split_at_mut-left.ensures.front, c.split_at_mut-left.ensures.back) c.split_in_place-middle.ensures.split in
+    let halves : AreHalves batch whole front back = rw (c.split_at_mut-left.ensures.front, c.split_at_mut-left.ensures.back) c.halve_part-middle.ensures.halves in
     let j = c.in_ok-joined.ensures.joined in
     rw c.deref.ensures.value (has_room batch whole front back d c.in_ok-left.left c.in_ok-left.right c.requires.part.0 c.degree_of-degree.ensures high halves c.in_ok-left.ensures.left c.in_ok-left.ensures.right
     c.in_ok-joined.joined j.batch j.colours j.classes (omega (arith, j.inserted)) c.in_ok-table.table c.in_ok-table.class.items (omega arith) c.in_ok-table.ensures.taken)
@@ -77,7 +76,7 @@ colour_part-returns-clause-coloured g t c =
     let back : List ℕ = c.split_at_mut-left.result.1.now in
     let d : ℕ = c.degree_of-degree.result in
     let high : 1 < d = omega arith in
-    let halves : IsSplit batch whole front back = rw (c.split_at_mut-left.ensures.front, c.split_at_mut-left.ensures.back) c.split_in_place-middle.ensures.split in
+    let halves : AreHalves batch whole front back = rw (c.split_at_mut-left.ensures.front, c.split_at_mut-left.ensures.back) c.halve_part-middle.ensures.halves in
     let j = c.in_ok-joined.ensures.joined in
     let p = rw c.deref.ensures.value at c.put_back.ensures in
     put_back_coloured batch whole front back d c.in_ok-left.left c.in_ok-left.right c.requires.part.0 c.degree_of-degree.ensures high halves c.in_ok-left.ensures.left c.in_ok-left.ensures.right

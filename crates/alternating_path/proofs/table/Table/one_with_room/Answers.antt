@@ -5,7 +5,7 @@ use Rattle.alternating_path.proofs.Singles.{none_held, next_out, next_free, next
 use Rattle.alternating_path.proofs.table.Table.one_with_room.Goals as goal
 
 pub loop-t-init : goal.loop-t-init
-loop-t-init c = rw c.empty-table.ensures (none_held _ _)
+loop-t-init c = rw c.empty-table.ensures (none_held _ _ _)
 
 pub put_in-requires-clause-out : goal.put_in-requires-clause-out
 put_in-requires-clause-out c = next_out c.args.graph.now c.args.members.now c.loop-t.t-index c.loop-t.table c.requires.known c.requires.matching c.loop-t-test.true c.loop-t.invariant
@@ -17,7 +17,7 @@ pub put_in-requires-clause-three_free : goal.put_in-requires-clause-three_free
 put_in-requires-clause-three_free c = next_free c.args.graph.now c.args.members.now c.loop-t.t-index c.loop-t.table c.requires.known c.requires.matching c.loop-t-test.true c.loop-t.invariant Three 0
 
 pub loop-t-preserved : goal.loop-t-preserved
-loop-t-preserved c = next_held c.args.graph.now c.args.members.now c.loop-t.t-index c.loop-t.table c.requires.known c.requires.matching c.loop-t-test.true c.loop-t.invariant c.put_in.new.self c.put_in.ensures.written c.put_in.ensures.proper
+loop-t-preserved c = next_held c.args.graph.now 1 c.args.members.now c.loop-t.t-index c.loop-t.table c.requires.known c.loop-t-test.true c.loop-t.invariant 0 c.put_in.new.self c.put_in.ensures.written c.put_in.ensures.proper
 
 pub returns-clause-placed : goal.returns-clause-placed
 returns-clause-placed c =
