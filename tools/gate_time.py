@@ -17,8 +17,6 @@ import threading
 import time
 
 STEPS = ("proof", "tests", "first edit", "other edits", "programs")
-OTHERS = ("tools/start/run.sh", "tools/rows/run.py", "bench/planning/run.sh --check", "tools/hostile/run.sh")
-
 
 class Meter:
     """Adds up the processor seconds of processes by crate and step."""
@@ -127,8 +125,9 @@ def main():
         # (what has ended by then is in the table)
         status = 130
     subprocess.Popen = plain
+    others = [it for it in open("tools/try_programs.sh") if re.match(r"(tools|bench)/", it)]
     gate, lines, total = time.time() - began, [], sum(meter.seconds.values()) + sum(os.times()[:2])
-    for it in OTHERS:
+    for it in map(str.strip, others):
         if not status:
             before, started = children(), time.time()
             status = subprocess.run(it.split(), stdin=subprocess.DEVNULL).returncode

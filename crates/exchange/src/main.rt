@@ -1,13 +1,9 @@
 //! The controller of a rack of transputer modules whose links meet in one crossbar switch or two.
 //!
-//! The commands of the program: each reads the files that its words name and prints one answer.
+//! The program hands the words of the command line and the system's own streams to `dispatch`.
 #![tactic(auto)]
 
-mod dispatch;
-mod limits;
-mod unanswered;
-
-use crate::dispatch::respond;
+use dispatch::respond;
 use std::process::ExitCode;
 use std::rt::Env;
 use std::{env, io};

@@ -1,0 +1,56 @@
+-- What files hold of which one may be standard input.
+use Rattle.std.proofs.Common.{◌≡◌, ◌<◌, ◌+◌, ℕ, List, [], ◌∷◌, ◌++◌, Option, Some, None, suc, IfSome, length, get_or, map, Result, is_ok, if◌then◌else◌, true, refl, ap, sym, ◌∙◌, subst, arith, below_more}
+use Rattle.std.specs.Prelude.{◌≢◌, option_to_list}
+use Rattle.std.proofs.Math.Seq.{get_or-append_seam}
+use Rattle.std.proofs.lemmas.List.{get_or_append_left, get_or_default, map-append}
+use Rattle.command_words.specs.Jobs.{NameInputOnce, input_name}
+use Rattle.command_words.proofs.Inputs.{behind_first}
+use Rattle.dispatch.specs.Responses.{IsHeld, AreHeld}
+
+-- where files that were read before aren't standard input, this has the bytes that it had then
+pub held_later : (old now : Option (List ℕ)) (name bytes : List ℕ) → (name ≡ input_name → now ≡ old) → IsHeld now name bytes → IsHeld old name bytes
+held_later old now name bytes unread held = λ is. subst (λ (o : Option (List ℕ)). IfSome o (λ known. bytes ≡ known)) (unread is) (held is)
+
+-- of two files the one that is read first isn't standard input where the second is
+pub first_is_other : (first second : List ℕ) → NameInputOnce (first ∷ second ∷ []) → second ≡ input_name → first ≢ input_name
+first_is_other first second once is = λ e. once 0 1 first (omega arith) (omega arith) e is
+
+-- of names those before one aren't standard input where this is
+pub earlier_are_others : (names : List (List ℕ)) (i : ℕ) (name : List ℕ) → i < length names → name ≡ get_or names i name → NameInputOnce names → name ≡ input_name → (k : ℕ) → k < i → get_or names k [] ≢ input_name
+earlier_are_others names i name below is once input k before =
+    λ e. once k i [] before below e (get_or_default names i [] name below ∙ sym is ∙ input)
+
+-- the file that is read before all of these isn't standard input where one of these is
+pub image_is_other : (image : Option (List ℕ)) (names : List (List ℕ)) (k : ℕ) → NameInputOnce (option_to_list image ++ names) → k < length names → get_or names k [] ≡ input_name → image ≢ Some input_name
+image_is_other None names k once below is = λ e. cc
+image_is_other (Some image) names k once below is = λ e. (let first : image ≡ input_name = cc in once 0 (suc k) [] (omega arith) (omega (arith, below)) first is)
+
+pub names_behind : (image : Option (List ℕ)) (names : List (List ℕ)) → NameInputOnce (option_to_list image ++ names) → NameInputOnce names
+names_behind None names once = once
+names_behind (Some image) names once = behind_first image names once
+
+-- the same of many files
+pub all_held_later : (old now : Option (List ℕ)) (names files : List (List ℕ)) → ((k : ℕ) → k < length names → get_or names k [] ≡ input_name → now ≡ old) → AreHeld now names files → AreHeld old names files
+all_held_later old now names files unread held = record {
+  count = held.count;
+  each = λ k below. held_later old now (get_or names k []) (get_or files k []) (unread k below) (held.each k below);
+}
+
+-- what a push that went well leaves
+pub pushed_items : {X A B E F : Type 0} (r : Result A E) (s : Result B F) (old new : List X) (x : X) → new ≡ (if is_ok r then old ++ x ∷ [] else old) → is_ok s ≡ is_ok r → is_ok s ≡ true → new ≡ old ++ x ∷ []
+pushed_items r s old new x is same ok = is ∙ rw (sym same ∙ ok) refl
+
+pub mapped_more : {X : Type 0} (f : X → List ℕ) (old new : List X) (x : X) → new ≡ old ++ x ∷ [] → map f new ≡ map f old ++ f x ∷ []
+mapped_more f old new x is = ap (map f) is ∙ map-append f old (x ∷ [])
+
+-- one file more
+pub one_more_file : (input : Option (List ℕ)) (names files : List (List ℕ)) (i : ℕ) (name file : List ℕ) → i < length names → name ≡ get_or names i name → length files ≡ i
+    → ((k : ℕ) → k < i → IsHeld input (get_or names k []) (get_or files k [])) → IsHeld input name file
+    → (k : ℕ) → k < i + 1 → IsHeld input (get_or names k []) (get_or (files ++ file ∷ []) k [])
+one_more_file input names files i name file below is count before here =
+    let at : name ≡ get_or names i [] = is ∙ get_or_default names i name [] below in
+    let last : get_or (files ++ file ∷ []) i [] ≡ file = subst (λ (n : ℕ). get_or (files ++ file ∷ []) n [] ≡ file) count (get_or-append_seam files file [] []) in
+    let earlier : (k : ℕ) → k < i → IsHeld input (get_or names k []) (get_or (files ++ file ∷ []) k []) = λ k lt.
+    subst (IsHeld input (get_or names k [])) (sym (get_or_append_left files (file ∷ []) [] k (omega arith))) (before k lt) in
+    let latest : IsHeld input (get_or names i []) (get_or (files ++ file ∷ []) i []) = subst (λ (n : List ℕ). IsHeld input n (get_or (files ++ file ∷ []) i [])) at (subst (IsHeld input name) (sym last) here) in
+    below_more (λ k. IsHeld input (get_or names k []) (get_or (files ++ file ∷ []) k [])) i earlier latest

@@ -1,0 +1,160 @@
+-- What the program prints for a job.
+use Rattle.std.specs.Prelude.{◌≡◌, ◌⊎◌, ◌<◌, ℕ, List, [], ◌++◌, Option, Some, None, Result, Ok, Err, IfOk, IfSome, codes, ⊤, length, slice_index_or}
+use Rattle.std.specs.Io.KnownBytes.{Appends}
+use Rattle.answers.specs.Extent.{widest}
+use Rattle.answers.specs.Answers.{IsPlanned, IsChecked, IsDrawn, IsRunAnswer, image_alone}
+use Rattle.answers.specs.Directing.{IsDirected}
+use Rattle.answers.specs.Refusals.{Printed}
+use Rattle.answers.specs.Reports.{report_of}
+use Rattle.answers.specs.Serving.{IsServeAnswer}
+use Rattle.answers.specs.Switching.{IsSwitched}
+use Rattle.answers.specs.Talking.{IsTalkAnswer}
+use Rattle.answers.specs.declared.limits.TheConstants.{DONE, REFUSED}
+use Rattle.command_words.specs.declared.words.Job.{Job}
+use Rattle.command_words.specs.declared.words.Job.TheVariants.{Plan, Check, Draw, Switch, Direct, Apply, Run, Serve, Talk}
+use Rattle.command_words.specs.declared.words.WordsFault.{WordsFault}
+use Rattle.command_words.specs.declared.words.WordsFault.TheVariants as words_fault
+use Rattle.command_words.specs.Jobs.{Holds, AsksForHelp, RefusesForMemory, input_name}
+use Rattle.dispatch.specs.declared.limits.TheConstants.{MISUSED}
+use Rattle.dispatch.specs.declared.unanswered.Unanswered.{Unanswered}
+use Rattle.dispatch.specs.declared.unanswered.Unanswered.TheVariants.{File, NoMemory}
+
+-- what a file of this name holds, where standard input had these bytes: it may be standard input,
+-- and then it holds them, as far as they are known
+abbrev pub IsHeld : Option (List ℕ) → List ℕ → List ℕ → Type 0
+IsHeld input name bytes = name ≡ input_name → IfSome input (λ known. bytes ≡ known)
+
+-- what the file of an image holds, where one is named
+abbrev pub IsHeldImage : Option (List ℕ) → Option (List ℕ) → Option (List ℕ) → Type 0
+IsHeldImage input None None = ⊤
+IsHeldImage input None (Some bytes) = ⊥
+IsHeldImage input (Some name) None = ⊥
+IsHeldImage input (Some name) (Some bytes) = IsHeld input name bytes
+
+-- what the files of these names hold
+pub record AreHeld (input : Option (List ℕ)) (names files : List (List ℕ)) : Type 0 where
+  pub count : length files ≡ length names
+  pub each : (k : ℕ) → k < length names
+      → IsHeld input (slice_index_or names k []) (slice_index_or files k [])
+
+-- an answer of `plan` to what this file holds
+abbrev pub IsSomePlan : Option (List ℕ) → List ℕ → Printed → Type 0
+IsSomePlan input file answer =
+    (batch : List ℕ) × IsHeld input file batch × IsPlanned widest batch answer
+
+-- an answer of `check` to what these files hold
+abbrev pub IsSomeCheck : Option (List ℕ) → List ℕ → List ℕ → Printed → Type 0
+IsSomeCheck input batch_file schedule_file answer =
+    (batch schedule : List ℕ) × IsHeld input batch_file batch × IsHeld input schedule_file schedule
+    × IsChecked widest batch schedule answer
+
+-- an answer of `draw` to what these files hold
+abbrev pub IsSomeDraw : Option (List ℕ) → List ℕ → List ℕ → Printed → Type 0
+IsSomeDraw input batch_file schedule_file answer =
+    (batch schedule : List ℕ) × IsHeld input batch_file batch × IsHeld input schedule_file schedule
+    × IsDrawn widest batch schedule answer
+
+-- an answer of `switch` to what this file holds
+abbrev pub IsSomeSwitch : Option (List ℕ) → List ℕ → Printed → Type 0
+IsSomeSwitch input file answer =
+    (batch : List ℕ) × IsHeld input file batch × IsSwitched widest batch answer
+
+-- an answer of `direct` to what this file holds
+abbrev pub IsSomeDirect : Option (List ℕ) → List ℕ → Printed → Type 0
+IsSomeDirect input file answer =
+    (moves : List ℕ) × IsHeld input file moves × IsDirected moves answer
+
+-- an answer of `apply` to this shape's text and to what these files hold
+abbrev pub IsSomeApply : Option (List ℕ) → List ℕ → List ℕ → List ℕ → Printed → Type 0
+IsSomeApply input shape file image_file answer =
+    (batch image : List ℕ) × IsHeld input file batch × IsHeld input image_file image
+    × IsRunAnswer image_alone shape batch (Some image) answer
+
+-- an answer of `run` to this shape's text and to what these files hold
+abbrev pub IsSomeRun : Option (List ℕ) → List ℕ → List ℕ → Option (List ℕ) → Printed → Type 0
+IsSomeRun input shape file image_file answer =
+    (batch : List ℕ) × (image : Option (List ℕ)) × IsHeld input file batch
+    × IsHeldImage input image_file image × IsRunAnswer report_of shape batch image answer
+
+-- an answer of `serve` to this shape's text and to what these files hold
+abbrev pub IsSomeServe : Option (List ℕ) → List ℕ → List (List ℕ) → Option (List ℕ) → Printed
+    → Type 0
+IsSomeServe input shape files image_file answer =
+    (scripts : List (List ℕ)) × (image : Option (List ℕ)) × AreHeld input files scripts
+    × IsHeldImage input image_file image × IsServeAnswer shape image scripts answer
+
+-- an answer of `talk` to this shape's text, to what this file holds and to standard input, where the
+-- session was told this
+abbrev pub IsSomeTalk : Option (List ℕ) → List ℕ → Option (List ℕ) → List ℕ → Printed → Type 0
+IsSomeTalk input shape image_file told answer =
+    (image after : Option (List ℕ)) × IsHeldImage input image_file image
+    × IsTalkAnswer shape image input after told answer
+
+-- what is printed, behind what a session was told before
+abbrev pub behind_told : List ℕ → Printed → Printed
+behind_told told printed = record { text = told ++ printed.text; status = printed.status }
+
+-- the answer to a job, whatever bytes its files hold, but for those of standard input
+abbrev pub IsAnswerTo : Option (List ℕ) → Job → Printed → Type 0
+IsAnswerTo input (Plan file workers) answer = IsSomePlan input file answer
+IsAnswerTo input (Check batch schedule) answer = IsSomeCheck input batch schedule answer
+IsAnswerTo input (Draw batch schedule) answer = IsSomeDraw input batch schedule answer
+IsAnswerTo input (Switch batch workers) answer = IsSomeSwitch input batch answer
+IsAnswerTo input (Direct moves) answer = IsSomeDirect input moves answer
+IsAnswerTo input (Apply shape batch image workers) answer = IsSomeApply input shape batch image answer
+IsAnswerTo input (Run shape batch image workers) answer = IsSomeRun input shape batch image answer
+IsAnswerTo input (Serve shape scripts image workers) answer =
+    IsSomeServe input shape scripts image answer
+IsAnswerTo input (Talk shape image) answer =
+    (told : List ℕ) × (end : Printed) × (answer ≡ behind_told told end)
+    × IsSomeTalk input shape image told end
+
+-- what a session is told before there is an answer; there is one with `talk` alone
+abbrev pub IsToldBy : Job → List ℕ → Type 0
+IsToldBy (Talk shape image) told = ⊤
+IsToldBy job told = told ≡ []
+
+-- the line where there is no answer
+abbrev pub unanswered_line : Unanswered → List ℕ
+unanswered_line File = codes "refused file\n"
+unanswered_line NoMemory = codes "refused no memory\n"
+
+-- what is printed where there is no answer
+abbrev pub unanswered : Unanswered → Printed
+unanswered why = record { text = unanswered_line why; status = REFUSED }
+
+-- the answer to a job, or why there is none, behind what a session was told
+abbrev pub IsResponseTo : Option (List ℕ) → Job → Printed → Type 0
+IsResponseTo input job printed =
+    IsAnswerTo input job printed
+    ⊎ ((told : List ℕ) × (why : Unanswered) × IsToldBy job told
+    × (printed ≡ behind_told told (unanswered why)))
+
+-- this was printed behind what stood there, and ends with its status
+pub record IsPrinted (before after : Option (List ℕ)) (printed : Printed) (code : ℕ) : Type 0 where
+  pub text : Appends before after printed.text
+  pub status : code ≡ printed.status
+
+-- how the program ends where standard input had these bytes and the words hold this job, or are at
+-- fault: what it prints behind what stood there, and its status
+abbrev pub IsEndFor : Option (List ℕ) → Result Job WordsFault → Option (List ℕ) → Option (List ℕ)
+    → ℕ → Type 0
+IsEndFor input (Ok job) before after code =
+    (printed : Printed) × IsResponseTo input job printed × IsPrinted before after printed code
+IsEndFor input (Err words_fault.NoMemory) before after code =
+    IsPrinted before after (unanswered NoMemory) code
+IsEndFor input (Err (words_fault.Clap error)) before after code =
+    (AsksForHelp error → code ≡ DONE)
+    × ((AsksForHelp error → ⊥) → (code ≡ MISUSED) × (after ≡ before))
+
+-- how it ends for these words
+abbrev pub IsEndForWords : List (List ℕ) → Option (List ℕ) → Option (List ℕ) → Option (List ℕ) → ℕ
+    → Type 0
+IsEndForWords words input before after code =
+    (job : Result Job WordsFault) × IfOk job (Holds words) × RefusesForMemory words job
+    × IsEndFor input job before after code
+
+-- how it ends where the words can't be had as texts
+abbrev pub IsEndWithoutWords : Option (List ℕ) → Option (List ℕ) → ℕ → Type 0
+IsEndWithoutWords before after code =
+    IsPrinted before after (unanswered NoMemory) code ⊎ ((code ≡ MISUSED) × (after ≡ before))

@@ -1,0 +1,12 @@
+//! The commands of the program: each reads the files that its words name, and prints one answer.
+//!
+//! Nothing here names the system's own streams or words: who calls [`respond`] hands them in.
+#![tactic(auto)]
+
+mod limits;
+mod responding;
+mod unanswered;
+
+pub use limits::{MISUSED, UNWRITTEN};
+pub use responding::{respond, respond_to};
+pub use unanswered::Unanswered;
