@@ -15,15 +15,32 @@ fn is_end(alloc: Global, told: &str, fault: Option<ServeFault>, end: &str) -> bo
 fn ends_are_framed(rt: HostRuntime) {
     let alloc = rt.alloc();
     assert!(rt; is_end(alloc, "bye\n", None, ""));
-    for (told, fault, end) in [
-        ("", ServeFault::Read, "ended read\n"),
-        ("bye\n", ServeFault::Write, "ended write\n"),
-        ("word 0000", ServeFault::Write, "\nended write\n"),
-        ("poked\n", ServeFault::LineTooLong, "ended line too long\n"),
-        ("poked\n", ServeFault::Cut, "ended cut\n"),
-        ("poked\n", ServeFault::Turns, "ended turns\n"),
-        ("poked\n", ServeFault::NoMemory, "ended no memory\n"),
-    ] {
-        assert!(rt; is_end(alloc, told, Some(fault), end), "{end}");
-    }
+    assert!(rt; is_end(alloc, "", Some(ServeFault::Read), "ended read\n"));
+    assert!(rt; is_end(alloc, "bye\n", Some(ServeFault::Write), "ended write\n"));
+    assert!(rt;
+        is_end(
+            alloc,
+            "word 0000",
+            Some(ServeFault::Write),
+            "\nended write\n"
+        )
+    );
+    assert!(rt;
+        is_end(
+            alloc,
+            "poked\n",
+            Some(ServeFault::LineTooLong),
+            "ended line too long\n"
+        )
+    );
+    assert!(rt; is_end(alloc, "poked\n", Some(ServeFault::Cut), "ended cut\n"));
+    assert!(rt; is_end(alloc, "poked\n", Some(ServeFault::Turns), "ended turns\n"));
+    assert!(rt;
+        is_end(
+            alloc,
+            "poked\n",
+            Some(ServeFault::NoMemory),
+            "ended no memory\n"
+        )
+    );
 }

@@ -3,13 +3,12 @@
 use command_words::{Job, WordsFault, read_words};
 use std::alloc::{AllocError, Global};
 
-/// The words of a line, which one space parts.
-fn words(alloc: Global, line: &str) -> Result<Vec<String>, AllocError> {
-    let mut words = Vec::new(alloc);
+/// Puts the words of a line, which one space parts.
+fn push_words(alloc: Global, words: &mut Vec<String>, line: &str) -> Result<(), AllocError> {
     for word in line.split(' ') {
         words.push(String::from_str(alloc, word)?)?;
     }
-    Ok(words)
+    Ok(())
 }
 
 /// The number of workers of a job, which no judging has.
@@ -24,20 +23,34 @@ fn workers_of(job: &Job) -> Option<usize> {
     }
 }
 
-/// Whether the words of a line name a job with so many workers.
-fn names_workers(alloc: Global, line: &str, workers: usize) -> bool {
-    let Ok(words) = words(alloc, line) else {
-        return false;
-    };
-    match read_words(alloc, words.as_slice()) {
-        Ok(job) => workers_of(&job) == Some(workers),
-        Err(_fault) => false,
+/// The number of workers of the job that words name.
+fn named_workers(alloc: Global, words: &[String]) -> Option<usize> {
+    match read_words(alloc, words) {
+        Ok(job) => workers_of(&job),
+        Err(_fault) => None,
     }
+}
+
+/// Whether the words of a line name a job with so many workers.
+fn name_workers(alloc: Global, line: &str, workers: usize) -> bool {
+    let mut words = Vec::new(alloc);
+    push_words(alloc, &mut words, line).is_ok()
+        && named_workers(alloc, words.as_slice()) == Some(workers)
+}
+
+/// Whether each line names a job with as many workers as stand beside it.
+fn all_name_workers(alloc: Global, rows: &[(&str, usize)]) -> bool {
+    for (line, workers) in rows {
+        if !name_workers(alloc, line, *workers) {
+            return false;
+        }
+    }
+    true
 }
 
 #[test]
 fn words_name_workers(rt: HostRuntime) {
-    for (line, workers) in [
+    let rows = [
         ("exchange plan F", 1),
         ("exchange plan F --workers 64", 64),
         ("exchange plan F --workers +5", 5),
@@ -49,9 +62,8 @@ fn words_name_workers(rt: HostRuntime) {
         ("exchange serve S A", 1),
         ("exchange serve S A B --workers 64", 64),
         ("exchange serve --workers 2 S A B", 2),
-    ] {
-        assert!(rt; names_workers(rt.alloc(), line, workers), "{line}");
-    }
+    ];
+    assert!(rt; all_name_workers(rt.alloc(), &rows));
 }
 
 /// Whether want of memory within clap is want of memory, and nothing that is to be printed.
