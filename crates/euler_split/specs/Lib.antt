@@ -1,4 +1,6 @@
 pub mod Split
 pub mod Pairs
 pub mod Walks
+pub mod Masks
+pub mod Trails
 pub mod Deals

@@ -1,29 +1,68 @@
-ghost use Rattle.std.specs.Prelude.{◌≡◌, ◌<◌, ◌≤◌, length, take, drop, All, None, IfOk};
+ghost use Rattle.std.specs.Prelude.{◌≡◌, ℕ, ◌<◌, ◌≤◌, length, take, drop, All, IfOk, false};
 ghost use Rattle.batch.specs.Batches.{IsBatch};
 ghost use Rattle.link_graph.specs.Certificates.{AreDistinct};
+ghost use Rattle.link_graph.specs.declared.link.End.TheVariants.{Zero, Three};
 ghost use Rattle.euler_split.specs.Split.{IsSplit};
-ghost use Rattle.euler_split.specs.Deals.{AreDealt};
+ghost use Rattle.euler_split.specs.Pairs.{module_in, modules_in};
+ghost use Rattle.euler_split.specs.Masks.{has_pair, AreToggled, AreMirrored};
+ghost use Rattle.euler_split.specs.Deals.{flips, in_turn, IsDealt};
 
-use crate::pairing::pair;
+use crate::pairs::{Masks, Pairs, has, toggle};
 use crate::scratch::Scratch;
-use crate::walking::halve;
+use crate::trails::left_of;
 use batch::MAX_TRANSFERS;
 use link_graph::LinkGraph;
 use std::alloc::{AllocError, Global};
 
-/// Permutes the members so that those of the left half stand in front, and says how many these are. Both
-/// halves keep their order. There is room beside for as many.
-fn deal(members: &mut [usize], halves: &[Option<bool>], others: &mut [usize]) -> usize
-    requires sized { length halves.now ≡ length members.old }
-    requires room { length others.old ≡ length members.old }
+/// The pairs of links that an odd number of the members use.
+fn odd_pairs(graph: &LinkGraph, members: &[usize]) -> Pairs
+    requires batch { IsBatch graph.now }
+    requires known { All (λ t. t < length graph.now) members.now }
+    ensures odd { (u v : ℕ) → has_pair result.zero u v
+        ≡ flips (λ _ _. false) (modules_in graph.now members.now) (length members.now) u v }
+    ensures mirrored { AreMirrored result.zero result.three }
+{
+    let mut pairs = Pairs::none();
+    for place in 0..members.len() {
+        let (start, answer) = graph.ends(members[place]).unwrap();
+        pairs.toggle(start.module, answer.module);
+    }
+    pairs
+}
+
+/// Whether it is the left half's turn at the pair of links that a transfer uses. Then it is the other
+/// one's.
+fn take_turn(graph: &LinkGraph, turns: &mut Masks, t: usize) -> bool
+    requires batch { IsBatch graph.now }
+    requires known { t < length graph.now }
+    ensures turn { result
+        ≡ has_pair turns.old (module_in graph.now Zero t) (module_in graph.now Three t) }
+    ensures next { AreToggled turns.old turns.new
+        (module_in graph.now Zero t) (module_in graph.now Three t) }
+{
+    let (start, answer) = graph.ends(t).unwrap();
+    let is_left = has(turns, start.module, answer.module);
+    toggle(turns, start.module, answer.module);
+    is_left
+}
+
+/// Permutes the members so that those of the left half stand in front, and says how many these are:
+/// those of a pair of links go to the halves in turn. Both halves keep their order. There is room
+/// beside for as many.
+fn deal(graph: &LinkGraph, members: &mut [usize], turns: &mut Masks, others: &mut [usize]) -> usize
+    requires batch { IsBatch graph.now }
+    requires known { All (λ t. t < length graph.now) members.old }
+    requires room { length members.old ≤ length others.old }
     ensures within { result ≤ length members.old }
-    ensures dealt { AreDealt members.old halves.now (take result members.new) (drop result members.new) }
+    ensures dealt { IsDealt members.old (length members.old)
+        (in_turn (has_pair turns.old) (modules_in graph.now members.old))
+        (take result members.new) (drop result members.new) }
 {
     let mut left = 0;
     let mut right = 0;
     for place in 0..members.len() {
         let member = members[place];
-        if halves[place].unwrap_or(false) {
+        if take_turn(graph, turns, member) {
             members[left] = member;
             left += 1;
         } else {
@@ -33,64 +72,6 @@ fn deal(members: &mut [usize], halves: &[Option<bool>], others: &mut [usize]) ->
     }
     members[left..].copy_from_slice(&others[..right]);
     left
-}
-
-/// Permutes the members so that those of the one half stand in front of the other's, by cells for each
-/// place, and says how many these are.
-fn split_by(
-    graph: &LinkGraph,
-    members: &mut [usize],
-    zero: &mut [Option<u16>],
-    three: &mut [Option<u16>],
-    halves: &mut [Option<bool>],
-    others: &mut [usize],
-) -> usize
-    requires batch { IsBatch graph.now }
-    requires known { All (λ t. t < length graph.now) members.old }
-    requires few { length members.old ≤ MAX_TRANSFERS }
-    requires zero_sized { length zero.old ≡ length members.old }
-    requires three_sized { length three.old ≡ length members.old }
-    requires halves_sized { length halves.old ≡ length members.old }
-    requires others_sized { length others.old ≡ length members.old }
-    ensures within { result ≤ length members.old }
-    ensures split { IsSplit graph.now members.old (take result members.new) (drop result members.new) }
-{
-    zero.fill(None);
-    three.fill(None);
-    halves.fill(None);
-    pair(graph, members, zero, three);
-    halve(zero, three, halves);
-    deal(members, halves, others)
-}
-
-/// Permutes the members as `split_by` does, by the first of the cells, of which there may be more.
-fn split_by_front(
-    graph: &LinkGraph,
-    members: &mut [usize],
-    zero: &mut [Option<u16>],
-    three: &mut [Option<u16>],
-    halves: &mut [Option<bool>],
-    others: &mut [usize],
-) -> usize
-    requires batch { IsBatch graph.now }
-    requires known { All (λ t. t < length graph.now) members.old }
-    requires few { length members.old ≤ MAX_TRANSFERS }
-    requires zero_room { length members.old ≤ length zero.old }
-    requires three_room { length members.old ≤ length three.old }
-    requires halves_room { length members.old ≤ length halves.old }
-    requires others_room { length members.old ≤ length others.old }
-    ensures within { result ≤ length members.old }
-    ensures split { IsSplit graph.now members.old (take result members.new) (drop result members.new) }
-{
-    let count = members.len();
-    split_by(
-        graph,
-        members,
-        &mut zero[..count],
-        &mut three[..count],
-        &mut halves[..count],
-        &mut others[..count],
-    )
 }
 
 /// Permutes transfers so that one of two halves stands in front of the other, and says how many these
@@ -106,15 +87,10 @@ pub fn split_in_place(graph: &LinkGraph, members: &mut [usize], scratch: &mut Sc
     ensures split { IsSplit graph.now members.old (take result members.new) (drop result members.new) }
     ensures room { scratch.new ≡ scratch.old }
 {
-    prove!(members.len() <= graph.len());
-    split_by_front(
-        graph,
-        members,
-        &mut scratch.zero,
-        &mut scratch.three,
-        &mut scratch.halves,
-        &mut scratch.others,
-    )
+    prove!(graph.len() <= MAX_TRANSFERS);
+    let mut odd = odd_pairs(graph, members);
+    let mut turns = left_of(&mut odd);
+    deal(graph, members, &mut turns, &mut scratch.others)
 }
 
 /// Two halves of some transfers, in which each link's uses are halved too, rounded up where they are

@@ -1,18 +1,21 @@
 //! Halving the transfers of a batch so that the uses of each link are halved too.
 //!
-//! The transfers are edges between the links of the modules, and the walks along them are Euler's:
-//! the edges at each link are paired, a walk goes from an edge to its partner at one end, on to that
-//! one's partner at the other end, and so on, and its edges fall into the two halves in turn. So of
-//! each pair one edge is in each half (Gabow 1976).
+//! The transfers are edges between the links of the modules. Of those that join the same two links the
+//! halves get equally many, and where their number is odd, one is left over. These leftovers are a
+//! simple graph, and the walks along them are Euler's: each takes out the edges that it meets, and
+//! they fall into the two halves in turn, until it comes to a link that has none left. So at each link
+//! the halves have equally many of the edges, or one more or less (Gabow 1976).
 //!
-//! Pairing and walking know only places and their partners. They are public for others that have places to
-//! put into two halves.
+//! Places that have partners at two ends are halved by walks from partner to partner. These are public
+//! for others that have places to put into two halves.
 #![tactic(auto)]
 
 mod halving;
 mod limits;
 mod pairing;
+mod pairs;
 mod scratch;
+mod trails;
 mod walking;
 
 pub use halving::{split, split_in_place};

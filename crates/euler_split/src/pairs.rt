@@ -1,0 +1,72 @@
+//! Pairs of a link 0 and a link 3, as masks.
+
+ghost use Rattle.std.specs.Prelude.{◌≡◌, ℕ, ◌<◌, true, false, IfSome, IfNone};
+ghost use Rattle.euler_split.specs.Masks.{has_bit, has_pair, toggled, AreMirrored, AreToggled};
+
+use batch::MAX_MODULES;
+
+/// A mask of modules for each module.
+pub(crate) type Masks = [u32; MAX_MODULES];
+
+/// The least module of a mask.
+pub(crate) fn first(mask: u32) -> Option<usize>
+    ensures some { IfSome result (λ bit. (bit < MAX_MODULES) × (has_bit mask bit ≡ true)) }
+    ensures none { IfNone result ((bit : ℕ) → has_bit mask bit ≡ false) }
+{
+    if mask == 0 {
+        return None;
+    }
+    Some(mask.trailing_zeros() as usize)
+}
+
+/// Whether the masks have a pair of modules.
+pub(crate) fn has(masks: &Masks, module: usize, other: usize) -> bool
+    requires module { «module» < MAX_MODULES }
+    requires other { other < MAX_MODULES }
+    ensures { result ≡ has_pair masks.now «module» other }
+{
+    masks[module] >> other & 1 == 1
+}
+
+/// Takes a pair of modules out where the masks have it, and else puts it in.
+pub(crate) fn toggle(masks: &mut Masks, module: usize, other: usize)
+    requires module { «module» < MAX_MODULES }
+    requires other { other < MAX_MODULES }
+    ensures { AreToggled masks.old masks.new «module» other }
+{
+    masks[module] ^= 1u32 << other;
+}
+
+/// Pairs of a link 0 and a link 3, each at most once.
+#[derive(Drop)]
+pub(crate) struct Pairs {
+    /// For each module the modules whose links 3 are paired with its link 0.
+    pub(crate) zero: Masks,
+    /// For each module the modules whose links 0 are paired with its link 3.
+    pub(crate) three: Masks,
+}
+
+impl Pairs {
+    /// No pairs.
+    pub(crate) fn none() -> Pairs
+        ensures none { (u v : ℕ) → has_pair result.zero u v ≡ false }
+        ensures mirrored { AreMirrored result.zero result.three }
+    {
+        Pairs {
+            zero: [0; MAX_MODULES],
+            three: [0; MAX_MODULES],
+        }
+    }
+
+    /// Takes a pair out where it is one of these, and else puts it in.
+    pub(crate) fn toggle(&mut self, zero: usize, three: usize)
+        requires zero_in { zero < MAX_MODULES }
+        requires three_in { three < MAX_MODULES }
+        requires mirrored { AreMirrored self.old.zero self.old.three }
+        ensures toggled { AreToggled self.old.zero self.new.zero zero three }
+        ensures mirrored { AreMirrored self.new.zero self.new.three }
+    {
+        toggle(&mut self.zero, zero, three);
+        toggle(&mut self.three, three, zero);
+    }
+}
