@@ -25,8 +25,8 @@ VISIONS = {
     "no green": ((0.367322, 0.860646, -0.227968), (0.280085, 0.672501, 0.047413), (-0.011820, 0.042940, 0.968881)),
 }
 
-# The paper, the ground of a row, and the frame of the busiest link.
-GROUNDS = ("ffffff", "eeeeee", "000000")
+# Where the looks of a dark page begin.
+DARK = "@media (prefers-color-scheme:dark){"
 
 
 def linear(colour):
@@ -92,16 +92,40 @@ MODULE = r"\.m(\d+)\{fill:#([0-9a-f]{6})\}"
 
 def contrast(one, other):
     """The contrast of two colours, each of three or six digits."""
-    six = [it if len(it) == 6 else "".join(2 * digit for digit in it) for it in (one, other)]
-    dark, light = sorted(luminance(linear(it)) for it in six)
+    dark, light = sorted(luminance(linear(six(it))) for it in (one, other))
     return (light + 0.05) / (dark + 0.05)
 
 
+def pages(style):
+    """The looks of a light page, and those of a dark one where the picture has them."""
+    return style.split(DARK)
+
+
+def six(colour):
+    """A colour of three or six digits, by six."""
+    return colour if len(colour) == 6 else "".join(2 * digit for digit in colour)
+
+
+def colours_of(page, *parts):
+    """The colours of some parts of a page."""
+    return re.findall(r"(?:%s)\{fill:#(\w+)" % "|".join(map(re.escape, parts)), page)
+
+
+def grounds(page):
+    """The paper, the ground of a row, and the frame of the busiest link."""
+    return [six(it) for it in colours_of(page, ".paper", ".lane rect", ".busiest rect")]
+
+
+def texts_on_paper(page):
+    """The texts on the paper, each as its colour and the paper's: black unless the page says another, and grey."""
+    [paper] = colours_of(page, ".paper")
+    plain = colours_of(page, ".busiest text") or ["000"]
+    return [(it, paper) for it in plain + colours_of(page, ".number", ".lane text")]
+
+
 def texts(style, modules):
-    """The texts of a picture, each as its colour and that of its ground: black on the modules and the paper, and grey on the paper."""
-    paper = re.search(r"\.paper\{fill:#(\w+)", style)[1]
-    greys = re.findall(r"\.(?:number|lane text)\{fill:#(\w+)", style)
-    return [("000", it) for it in [paper, *modules]] + [(it, paper) for it in greys]
+    """The texts of a picture, each as its colour and that of its ground: black on the modules, and those on the paper of each page."""
+    return [("000", it) for it in modules] + [it for page in pages(style) for it in texts_on_paper(page)]
 
 
 def count(style):
@@ -114,16 +138,20 @@ def count(style):
 
 def compare():
     with open(STYLE) as file:
-        table = dict(re.findall(MODULE, file.read()))
+        style = file.read()
+    table = dict(re.findall(MODULE, style))
+    named = [(name, grounds(page)) for name, page in zip(("white", "dark"), pages(style))]
     colours = [table[str(module)] for module in range(32)]
     for vision, matrix in VISIONS.items():
         parts = [seen(it, matrix) for it in colours]
         labs = [lab(it) for it in parts]
         least = [min(difference(*it) for it in combinations(labs[:modules], 2)) for modules in (4, 8, 16, 32)]
         told = ", ".join(f"{modules} modules {it:.1f}" for modules, it in zip((4, 8, 16, 32), least))
-        ground = min(difference(it, lab(seen(colour, matrix))) for it in labs for colour in GROUNDS)
+        apart = ", ".join(f"{name} {min(difference(it, lab(seen(colour, matrix))) for it in labs for colour in all_of):.1f}" for name, all_of in named)
         least_contrast = min((luminance(it) + 0.05) / 0.05 for it in parts)
-        print(f"{vision}: least difference of {told}, from a ground {ground:.1f}; black text has {least_contrast:.2f} to 1")
+        print(f"{vision}: least difference of {told}, from the grounds of a page {apart}; black text has {least_contrast:.2f} to 1")
+    for page in pages(style):
+        print("text on the paper has", ", ".join(f"{contrast(*it):.1f}" for it in texts_on_paper(page)), "to 1")
 
 
 if __name__ == "__main__":

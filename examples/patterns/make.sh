@@ -117,9 +117,10 @@ pattern() {
     counted batch "$@"
 }
 
-# Makes the plan and the picture of a batch, which the program draws only where it accepts the plan: draw NAME
+# Makes the plan and the picture of a batch, where the program accepts the plan: draw NAME
 draw() {
     "$exchange" plan "$1.txt" >"$1.plan.txt"
+    "$exchange" check "$1.txt" "$1.plan.txt" >/dev/null
     "$exchange" draw "$1.txt" "$1.plan.txt" >"$1.svg"
 }
 

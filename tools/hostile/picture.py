@@ -24,39 +24,59 @@ def fixed_text(name):
     return text
 
 
+# A range of settings, both ends of which are in it.
+RANGE = re.compile(plain.NUMBER + rb"\.\." + plain.NUMBER)
+
 STYLE, EXPLAINED = fixed_text("STYLE"), fixed_text("EXPLAINED")
 
 
 class Picture:
-    """What is drawn: transfers, their settings, and the link that the certificate names, or None."""
+    """What is drawn: transfers, their settings, the certificate, which names a link or None, or no certificate, and the numbers of those
+    settings that are shown."""
 
-    def __init__(self, transfers, settings, link):
-        self.transfers, self.settings, self.link = transfers, settings, link
+    def __init__(self, transfers, settings, certificate, shown):
+        self.transfers, self.settings, self.shown = transfers, settings, shown
+        busiest, named = plain.busiest(transfers)
+        self.fewest = len(named)
+        self.standing = standing_of(transfers, settings, certificate)
+        self.link = certificate[0] if self.standing == "certified" else busiest if transfers else None
         self.modules = sorted({transfer[side] for transfer in transfers for side in (1, 3)})
-        self.panels = [range(at, min(at + PANEL, len(settings))) for at in range(0, len(settings), PANEL)]
+        self.panels = [range(at, min(at + PANEL, len(shown))) for at in range(0, len(shown), PANEL)]
 
     def top(self, module, end):
         """Where a link's half of a row begins, link 0 above."""
         return ABOVE + ROW * self.modules.index(module) + (HALF if end == 3 else 0)
 
-    def left(self, setting):
+    def left(self, column):
         """Where a column begins: left of it stand the labels of its panel and of all panels before."""
-        return BESIDE + LABELS * (1 + setting // PANEL) + COLUMN * setting
+        return BESIDE + LABELS * (1 + column // PANEL) + COLUMN * column
+
+    def heading(self):
+        """How many transfers and settings there are, and whether these are the fewest."""
+        count, enough = len(self.settings), "1 is" if self.fewest == 1 else f"{self.fewest} are"
+        length = "the fewest" if count == self.fewest else f"where {enough} enough"
+        return f"transfers {len(self.transfers)}, settings {count}, {length}"
+
+    def note(self):
+        """Which link is framed, how the certificate stands, and which settings are shown, unless that are all."""
+        busiest = "link {} module {}".format(*self.link) if self.link else "none"
+        shown = "" if len(self.shown) == len(self.settings) else f", shown {self.shown[0]} to {self.shown[-1]}"
+        return f"busiest {busiest}, {self.standing}{shown}"
 
     def text(self):
         legend = ABOVE + ROW * len(self.modules)
-        width = max(LEAST_WIDTH, 2 * BESIDE + LABELS * len(self.panels) + COLUMN * len(self.settings))
+        width = max(LEAST_WIDTH, 2 * BESIDE + LABELS * len(self.panels) + COLUMN * len(self.shown))
         height = legend + BELOW
-        heading = f"transfers {len(self.transfers)}, settings {len(self.settings)}"
-        if self.link:
-            heading += ", busiest link {} module {}".format(*self.link)
+        heading, note = self.heading(), self.note()
         parts = [
             f"<svg xmlns='http://www.w3.org/2000/svg' width='{width}' height='{height}' viewBox='0 0 {width} {height}'>\n",
-            f"<title>{heading}</title>\n{STYLE}",
+            f"<title>{heading}, {note}</title>\n{STYLE}",
             f"<rect class='paper' width='{width}' height='{height}'/>\n<text class='heading' x='16' y='36'>{heading}</text>\n",
+            f"<text class='note' x='16' y='58'>{note}</text>\n",
         ]
         parts += [self.row_part(module, panel) for module in self.modules for panel in self.panels]
-        parts += [self.column(number) for number in range(len(self.settings))]
+        parts += [number_above(self.left(panel[0]) - 24, "setting") for panel in self.panels]
+        parts += [self.column(column, number) for column, number in enumerate(self.shown)]
         parts.append(f"<g transform='translate(16,{legend})'>\n{EXPLAINED}</g>\n</svg>\n")
         return "".join(parts)
 
@@ -70,11 +90,10 @@ class Picture:
             text += rectangle(labels + LABELS, top, COLUMN * len(panel), HALF) + writing(labels + 104, top + 14, f"link {end}") + "</g>\n"
         return text
 
-    def column(self, number):
+    def column(self, column, number):
         """A setting's number, and two cells for each of its transfers."""
-        left = self.left(number)
-        text = f"<text class='number' x='{left + 16}' y='{ABOVE - 10}'>{number}</text>\n"
-        return text + "".join(self.cell(t, end, left) for t in self.settings[number] for end in (0, 3))
+        left = self.left(column)
+        return number_above(left + 16, number) + "".join(self.cell(t, end, left) for t in self.settings[number] for end in (0, 3))
 
     def cell(self, t, end, left):
         """A transfer as one of its two modules sees it: link 0 starts it, link 3 answers it. The words of a push leave the module that
@@ -83,8 +102,34 @@ class Picture:
         module, partner = (initiator, responder) if end == 0 else (responder, initiator)
         leaves = (kind == "push") == (end == 0)
         top, arrow = self.top(module, end), "&#8594;" if leaves else "&#8592;"
-        text = f"<g><title>transfer {t}: {kind} {initiator} {own} {responder} {far}</title>"
+        way = {"push": "to", "pull": "from"}[kind]
+        text = f"<g><title>transfer {t}: {kind} module {initiator} link 0 block {own} {way} module {responder} link 3 block {far}</title>"
         return text + rectangle(left + 2, top + 2, 28, 16, partner) + writing(left + 16, top + 14, f"{arrow}{partner}") + "</g>\n"
+
+
+def standing_of(transfers, settings, certificate):
+    """How the certificate of a schedule stands."""
+    if certificate is None:
+        return "no certificate"
+    try:
+        plain.check(transfers, settings, certificate)
+        return "certified"
+    except Refused:
+        return "wrong certificate"
+
+
+def check_settings(transfers, settings):
+    """Refuses what is no schedule of the transfers, as `check` does: no certificate is looked at before that is."""
+    try:
+        plain.check(transfers, settings, (None, []))
+    except Refused as why:
+        if not str(why).startswith("check not tight "):
+            raise
+
+
+def number_above(middle, words):
+    """What stands above a column, or before the first of a panel."""
+    return f"<text class='number' x='{middle}' y='{ABOVE - 10}'>{words}</text>\n"
 
 
 def rectangle(left, top, width, height, module=None):
@@ -97,11 +142,24 @@ def writing(left, top, words):
     return f"<text x='{left}' y='{top}'>{words}</text>"
 
 
-def answer_draw(batch, schedule):
-    """What `draw` prints of two texts."""
+def read_range(text):
+    """The first and the last setting of the text of a range."""
+    found = RANGE.fullmatch(text)
+    if not found or int(found[1]) > int(found[2]):
+        raise Refused("settings")
+    return int(found[1]), int(found[2])
+
+
+def answer_draw(batch, schedule, settings=None):
+    """What `draw` prints of two texts, and of that of a range, if there is one."""
     try:
-        transfers, settings, certificate = plain.read_both(batch, schedule)
-        plain.check(transfers, settings, certificate)
-        return Picture(transfers, settings, certificate[0]).text().encode()
+        wanted = None if settings is None else read_range(settings)
+        transfers = plain.read_batch(batch, plain.WIDEST)
+        lists, certificate = plain.read_schedule(schedule)
+        check_settings(transfers, lists)
+        first, last = wanted or (0, len(lists) - 1)
+        if last >= len(lists):
+            raise Refused(f"no setting {max(first, len(lists))}")
+        return Picture(transfers, lists, certificate, range(first, last + 1)).text().encode()
     except Refused as why:
         return f"refused {why}\n".encode()

@@ -160,12 +160,37 @@ def try_check(draw):
 
 
 def try_draw(draw):
-    """A spoilt schedule text, put to `draw`, whose certificate names any of the busiest links. Few modules have many settings."""
+    """A spoilt schedule text, put to `draw`, whose certificate names any of the busiest links. Few modules have many settings. In half of
+    the cases some settings alone are wanted, by a text that is spoilt now and then."""
     shape = (draw.choice([1, 2, 3, 8, plain.MODULES]), plain.BLOCKS, plain.WORDS)
     batch, text = spoilt_schedule(draw, shape, draw.choice([3, 10, 40, 120]), lambda it: draw.choice(plain.busiest_links(it)))
-    answer = ask_of(draw, ["draw"], [keep("batch", batch), keep("schedule", text)])
-    wanted = picture.answer_draw(batch, text)
-    return is_answer(answer, wanted), wanted, [batch, text], answer
+    files = [keep("batch", batch), keep("schedule", text)]
+    settings = range_text(draw, text.count(b"\nsetting"))
+    if settings is None:
+        answer = ask_of(draw, ["draw"], files)
+    else:
+        answer = ask_of(draw, ["draw", "--settings=" + os.fsdecode(settings)], files)
+    wanted = picture.answer_draw(batch, text, settings)
+    return is_answer(answer, wanted), wanted, [batch, text, settings or b""], answer
+
+
+def range_text(draw, count):
+    """For half of the runs the text of a range of about so many settings."""
+    if draw.random() < 0.5:
+        return None
+    first = draw.randint(0, count)
+    text = b"%d..%d" % (first, draw.randint(first, max(first, count)))
+    if draw.random() < 0.2:
+        text = spoil.spoil(draw, text)
+    return b"0..0" if is_no_text(text) else text
+
+
+def is_no_text(text):
+    """Whether a word of the command line can't be this text."""
+    try:
+        return b"\0" in text or not text.decode()
+    except UnicodeDecodeError:
+        return True
 
 
 def try_shape(draw):

@@ -4,6 +4,7 @@ pub mod OneRun
 pub mod Reporting
 pub mod Fewest
 pub mod Sessions
+pub mod Ranges
 pub mod OneDrawing
 pub mod Switches
 pub mod Openings

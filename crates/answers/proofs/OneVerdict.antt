@@ -25,11 +25,11 @@ pub refused_same : (words : List ℕ) (p q : Printed) → IsRefused words p → 
 refused_same words p q a b = printed_same p q (a.line ∙ sym b.line) (a.status ∙ sym b.status)
 
 -- a schedule text that says something has no line at fault
-none_bad : (schedule : List ℕ) (s : Said) (fault : ScheduleFault) → Says schedule s → IsFirstScheduleFault schedule fault → ⊥
+pub none_bad : (schedule : List ℕ) (s : Said) (fault : ScheduleFault) → Says schedule s → IsFirstScheduleFault schedule fault → ⊥
 none_bad schedule s (schedule_fault.Line n) says bad = says_or_faults schedule s n says bad
 none_bad schedule s schedule_fault.NoMemory says bad = bad
 
-one_schedule_fault : (schedule : List ℕ) (f g : ScheduleFault) → IsFirstScheduleFault schedule f → IsFirstScheduleFault schedule g → f ≡ g
+pub one_schedule_fault : (schedule : List ℕ) (f g : ScheduleFault) → IsFirstScheduleFault schedule f → IsFirstScheduleFault schedule g → f ≡ g
 one_schedule_fault schedule (schedule_fault.Line n) (schedule_fault.Line m) a b = ap schedule_fault.Line (one_bad_line schedule n m a b)
 one_schedule_fault schedule (schedule_fault.Line n) schedule_fault.NoMemory a b = absurd b
 one_schedule_fault schedule schedule_fault.NoMemory g a b = absurd a

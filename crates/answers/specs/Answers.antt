@@ -17,7 +17,6 @@ use Rattle.link_graph.specs.Certificates.{Naming, IsShortest, IsCertificate, IsC
 use Rattle.link_graph.specs.Checks.{IsFirstCheckFault}
 use Rattle.link_graph.specs.ScheduleText.{said, Says}
 use Rattle.link_graph.specs.ScheduleFaults.{IsFirstBadLine}
-use Rattle.schedule_picture.specs.Picture.{picture_of}
 use Rattle.schedule_certificate.specs.Plans.{Plan, IsPlan, HasFewReinsertions}
 use Rattle.schedule_certificate.specs.Parts.{IsDegree}
 use Rattle.answers.specs.declared.limits.TheConstants.{DONE}
@@ -103,23 +102,6 @@ pub data IsChecked (shape : Extent) (batch schedule : List ℕ) (printed : Print
       → printed.status ≡ DONE → IsChecked shape batch schedule printed
   refused : (fault : CheckingFault) → IsFirstWrong shape batch schedule fault
       → IsRefused (checking_words fault) printed → IsChecked shape batch schedule printed
-
--- ---- `draw`
-
--- the texts are those of a batch and of a shortest schedule of it, and this is the picture of that
-pub record IsDrawing (shape : Extent) (batch schedule text : List ℕ) : Type 0 where
-  pub transfers : List Transfer
-  pub settings : List (List ℕ)
-  pub named : Naming
-  pub judged : IsJudged shape batch schedule transfers settings named
-  pub drawing : text ≡ picture_of transfers settings named.link
-
--- the picture, or the refusal of what `check` refuses, each under its status
-pub data IsDrawn (shape : Extent) (batch schedule : List ℕ) (printed : Printed) : Type 0 where
-  drawn : IsDrawing shape batch schedule printed.text → printed.status ≡ DONE
-      → IsDrawn shape batch schedule printed
-  undrawn : (fault : CheckingFault) → IsFirstWrong shape batch schedule fault
-      → IsRefused (checking_words fault) printed → IsDrawn shape batch schedule printed
 
 -- ---- `run` and `apply`
 

@@ -3,6 +3,7 @@ pub mod Refusals
 pub mod Reports
 pub mod Openings
 pub mod Answers
+pub mod Drawings
 pub mod Tellings
 pub mod Directing
 pub mod Switching

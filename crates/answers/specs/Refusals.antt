@@ -15,6 +15,8 @@ use Rattle.link_graph.specs.ScheduleText.{end_number}
 use Rattle.answers.specs.declared.limits.TheConstants.{REFUSED}
 use Rattle.answers.specs.declared.checking_fault.CheckingFault.{CheckingFault}
 use Rattle.answers.specs.declared.checking_fault.CheckingFault.TheVariants as checking
+use Rattle.answers.specs.declared.drawing_fault.DrawingFault.{DrawingFault}
+use Rattle.answers.specs.declared.drawing_fault.DrawingFault.TheVariants as drawing
 use Rattle.answers.specs.declared.running_fault.RunningFault.{RunningFault}
 use Rattle.answers.specs.declared.running_fault.RunningFault.TheVariants as running
 
@@ -69,6 +71,13 @@ checking_words (checking.Schedule fault) = schedule_words fault
 checking_words checking.NoCertificate = codes "no certificate"
 checking_words (checking.Check fault) = check_words fault
 
+-- what `draw` says behind `refused`
+abbrev pub drawing_words : DrawingFault → List ℕ
+drawing_words drawing.Settings = codes "settings"
+drawing_words (drawing.Checking fault) = checking_words fault
+drawing_words (drawing.NoSetting k) = codes "no setting " ++ decimal k
+drawing_words drawing.NoMemory = codes "no memory"
+
 -- what `run` and `apply` say behind `refused`
 abbrev pub running_words : RunningFault → List ℕ
 running_words running.Shape = codes "shape"
@@ -83,6 +92,13 @@ IsRealChecking (checking.Batch fault) = fault ≢ batch_fault.NoMemory
 IsRealChecking (checking.Schedule fault) = fault ≢ schedule_fault.NoMemory
 IsRealChecking checking.NoCertificate = ⊤
 IsRealChecking (checking.Check fault) = fault ≢ check_fault.NoMemory
+
+-- `draw` refuses for another cause than want of memory
+abbrev pub IsRealDrawing : DrawingFault → Type 0
+IsRealDrawing drawing.Settings = ⊤
+IsRealDrawing (drawing.Checking fault) = IsRealChecking fault
+IsRealDrawing (drawing.NoSetting k) = ⊤
+IsRealDrawing drawing.NoMemory = ⊥
 
 -- a run is refused for another cause than want of memory
 abbrev pub IsRealRunning : RunningFault → Type 0

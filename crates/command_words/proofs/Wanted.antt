@@ -28,7 +28,7 @@ HasWanted name rows =
 pub wanted : (name : Text) (rows : List Row) (job : Job) → IsJob name rows job → HasWanted name rows
 wanted name rows (Plan file workers) is = rw is.0 ((file, is.1), (workers, is.2))
 wanted name rows (Check batch schedule) is = rw is.0 ((batch, is.1.0), (schedule, is.1.1))
-wanted name rows (Draw batch schedule) is = rw is.0 ((batch, is.1.0), (schedule, is.1.1))
+wanted name rows (Draw batch schedule settings) is = rw is.0 ((batch, is.1.0), (schedule, is.1.1))
 wanted name rows (Switch batch workers) is = rw is.0 ((batch, is.1), (workers, is.2))
 wanted name rows (Direct moves) is = rw is.0 (moves, is.1)
 wanted name rows (Apply shape batch image workers) is = rw is.0 ((shape, is.1), (batch, is.2), ((image, is.3), (workers, is.4)))
@@ -60,7 +60,7 @@ files_in name rows =
 files_are : (name : Text) (rows : List Row) (job : Job) → IsJob name rows job → files_of job ≡ files_in name rows
 files_are name rows (Plan file workers) is = rw (is.0, is.1) refl
 files_are name rows (Check batch schedule) is = rw (is.0, is.1.0, is.1.1) refl
-files_are name rows (Draw batch schedule) is = rw (is.0, is.1.0, is.1.1) refl
+files_are name rows (Draw batch schedule settings) is = rw (is.0, is.1.0, is.1.1) refl
 files_are name rows (Switch batch workers) is = rw (is.0, is.1) refl
 files_are name rows (Direct moves) is = rw (is.0, is.1) refl
 files_are name rows (Apply shape batch image workers) is = rw (is.0, is.2, is.3) refl

@@ -46,7 +46,9 @@ abbrev pub IsJob : Text → List Row → Job → Type 0
 IsJob name rows (Plan file workers) =
     (name ≡ codes "plan") × (first_of (codes "FILE") rows ≡ Some file) × HasWorkers rows workers
 IsJob name rows (Check batch schedule) = (name ≡ codes "check") × HasTexts rows batch schedule
-IsJob name rows (Draw batch schedule) = (name ≡ codes "draw") × HasTexts rows batch schedule
+IsJob name rows (Draw batch schedule settings) =
+    (name ≡ codes "draw") × HasTexts rows batch schedule
+    × (first_of (codes "settings") rows ≡ settings)
 IsJob name rows (Switch batch workers) =
     (name ≡ codes "switch") × (first_of (codes "BATCH") rows ≡ Some batch) × HasWorkers rows workers
 IsJob name rows (Direct moves) =
@@ -83,7 +85,7 @@ IsTaken words = takes program words ≡ true
 abbrev pub IsWithinLimits : Job → Type 0
 IsWithinLimits (Plan file workers) = ⊤
 IsWithinLimits (Check batch schedule) = ⊤
-IsWithinLimits (Draw batch schedule) = ⊤
+IsWithinLimits (Draw batch schedule settings) = ⊤
 IsWithinLimits (Switch batch workers) = ⊤
 IsWithinLimits (Direct moves) = ⊤
 IsWithinLimits (Apply shape batch image workers) = ⊤
@@ -99,7 +101,7 @@ input_name = codes "-"
 abbrev pub files_of : Job → List Text
 files_of (Plan file workers) = file ∷ []
 files_of (Check batch schedule) = batch ∷ schedule ∷ []
-files_of (Draw batch schedule) = batch ∷ schedule ∷ []
+files_of (Draw batch schedule settings) = batch ∷ schedule ∷ []
 files_of (Switch batch workers) = batch ∷ []
 files_of (Direct moves) = moves ∷ []
 files_of (Apply shape batch image workers) = batch ∷ image ∷ []

@@ -30,6 +30,10 @@ workers = record (new_rule (codes "workers")) {
 abbrev pub image : Rule
 image = record (new_rule (codes "image")) { long = Some (codes "image"); value_names = 1 }
 
+-- `--settings`, which may be left out
+abbrev pub settings : Rule
+settings = record (new_rule (codes "settings")) { long = Some (codes "settings"); value_names = 1 }
+
 -- `plan FILE [--workers N]`
 abbrev pub plan : App
 plan = with_rule (with_rule (new_app (codes "plan")) (word (codes "FILE"))) workers
@@ -39,10 +43,14 @@ abbrev pub check : App
 check =
     with_rule (with_rule (new_app (codes "check")) (word (codes "BATCH"))) (word (codes "SCHEDULE"))
 
--- `draw BATCH SCHEDULE`
+-- `draw BATCH SCHEDULE [--settings A..B]`
 abbrev pub draw : App
 draw =
-    with_rule (with_rule (new_app (codes "draw")) (word (codes "BATCH"))) (word (codes "SCHEDULE"))
+    with_rule
+    (with_rule
+    (with_rule (new_app (codes "draw")) (word (codes "BATCH")))
+    (word (codes "SCHEDULE")))
+    settings
 
 -- the command with the words of a shape and of a batch
 abbrev pub on_rack : App → App

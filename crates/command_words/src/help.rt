@@ -55,8 +55,8 @@ words fit no command, 3 the answer couldn't be written.";
 
 /// What `draw --help` says below its options.
 pub const DRAW_NOTES: &str = "\
-BATCH is a batch text and SCHEDULE a schedule text with the certificate part,
-in the form that `exchange plan --help` shows.
+BATCH is a batch text and SCHEDULE a schedule text, with the certificate part or
+without it, in the form that `exchange plan --help` shows.
 
 The answer is a picture of the schedule, the text of an SVG file for a browser:
   exchange draw BATCH SCHEDULE > schedule.svg
@@ -65,10 +65,21 @@ of a row shows the transfers that link 0 of the module starts, the lower half
 those that link 3 answers. A cell has the number and the colour of the module at
 the other end, and an arrow to the right where words go there, or to the left
 where they come from there. Point at a cell, and the browser shows its transfer.
-The half of the link that SCHEDULE names as the busiest is framed.
+The half of the busiest link is framed.
 
-The texts are judged as `exchange check --help` shows, and what that refuses
-isn't drawn: the answer is the same refusal.
+Any schedule of BATCH is drawn. The picture's title says whether it has `the
+fewest` settings or `where F are enough`, and `certified`, `wrong certificate`
+or `no certificate`. With --settings it has the columns of settings A to B
+alone, counted from 0, both of them:
+  exchange draw BATCH SCHEDULE --settings 0..31 > first.svg
+
+Else it is the first of these that is wrong:
+  refused file            a file can't be read
+  refused settings        A..B isn't two numbers, or A is above B
+  refused ..              BATCH, as `exchange plan --help` shows
+  refused schedule line N as `exchange check --help` shows
+  refused check ..        the same, where SCHEDULE is no schedule of BATCH
+  refused no setting K    A..B has K, and SCHEDULE hasn't
 
 Status: 0 a picture was printed, 1 it was refused or there was no memory, 2 the
 words fit no command, 3 the answer couldn't be written.";
@@ -261,6 +272,9 @@ pub const MOVES_HELP: &str = "The file of the moves, or - for standard input";
 
 /// What is said of a schedule's file.
 pub const SCHEDULE_HELP: &str = "The file of the schedule, or - for standard input";
+
+/// What is said of `--settings`.
+pub const SETTINGS_HELP: &str = "The settings to draw, A to B, counted from 0";
 
 /// What is said of an image's file.
 pub const IMAGE_HELP: &str = "The file of the words before, or - for standard input";

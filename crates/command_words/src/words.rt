@@ -6,7 +6,7 @@ ghost use Rattle.clap.specs.declared.error.kind.ErrorKind.TheVariants.{OutOfMemo
 ghost use Rattle.command_words.specs.declared.words.Job.{Job};
 ghost use Rattle.command_words.specs.declared.words.Lack.TheVariants.{Memory};
 ghost use Rattle.command_words.specs.declared.words.WordsFault.TheVariants.{NoMemory};
-ghost use Rattle.command_words.specs.Program.{IsLocal, IsCommand, AddsRule, AddsTexts, AddsCommand, word, words, workers, image};
+ghost use Rattle.command_words.specs.Program.{IsLocal, IsCommand, AddsRule, AddsTexts, AddsCommand, word, words, workers, image, settings};
 ghost use Rattle.command_words.specs.Program.{top, planner, program};
 ghost use Rattle.command_words.specs.Program.{plan as plan_app, check as check_app, draw as draw_app, switch as switch_app, direct as direct_app, apply as apply_app, run as run_app, serve as serve_app, talk as talk_app};
 ghost use Rattle.command_words.specs.Jobs.{Holds, HasShape, HasTexts, HasScripts, HasWorkers, IsJob, IsWithinLimits, AreMatchesOf, IsTaken, NameInputOnce, files_of, texts_of};
@@ -14,8 +14,8 @@ ghost use Rattle.command_words.specs.Jobs.{HasWord, HasBoth, HasSomeScripts, Has
 
 use crate::help::{
     APPLY_NOTES, BATCH_HELP, CHECK_NOTES, DIRECT_NOTES, DRAW_NOTES, IMAGE_HELP, MOVES_HELP,
-    PLAN_NOTES, RUN_NOTES, SCHEDULE_HELP, SCRIPT_HELP, SERVE_NOTES, SWITCH_NOTES, TALK_NOTES,
-    TOP_NOTES, WORDS_HELP, WORKERS_HELP,
+    PLAN_NOTES, RUN_NOTES, SCHEDULE_HELP, SCRIPT_HELP, SERVE_NOTES, SETTINGS_HELP, SWITCH_NOTES,
+    TALK_NOTES, TOP_NOTES, WORDS_HELP, WORKERS_HELP,
 };
 use crate::input::{is_input, name_input_once_behind};
 use crate::limits::{MAX_SCRIPTS, VERSION};
@@ -40,10 +40,11 @@ pub enum Job {
         batch: Text,
         schedule: Text,
     },
-    /// Draw the schedule of a file, which is one of the batch of another.
+    /// Draw the schedule of a file, which is one of the batch of another, or of its settings those of the range.
     Draw {
         batch: Text,
         schedule: Text,
+        settings: Option<Text>,
     },
     /// Tell what a run of the batch of a file sends the switches, with so many workers.
     Switch {
@@ -205,6 +206,24 @@ fn with_image<'a>(alloc: Global, command: Command<'a>) -> Result<Command<'a>, Al
     command.arg(image(alloc))
 }
 
+/// `--settings A..B`.
+fn settings<'a>(alloc: Global) -> Arg<'a>
+    ensures rule { rule_of result ≡ settings }
+    ensures local { result.global ≡ false }
+{
+    Arg::new(alloc, "settings")
+        .long("settings")
+        .value_name("A..B")
+        .help(SETTINGS_HELP)
+}
+
+/// The command with `--settings A..B`.
+fn with_settings<'a>(alloc: Global, command: Command<'a>) -> Result<Command<'a>, AllocError>
+    ensures { IfOk result (AddsRule command.entry settings) }
+{
+    command.arg(settings(alloc))
+}
+
 /// The command with the word of the scripts.
 fn with_scripts<'a>(alloc: Global, command: Command<'a>) -> Result<Command<'a>, AllocError>
     ensures { IfOk result (AddsRule command.entry words) }
@@ -231,13 +250,14 @@ fn check<'a>(alloc: Global) -> Result<Command<'a>, AllocError>
     with_texts(alloc, check)
 }
 
-/// `draw BATCH SCHEDULE`.
+/// `draw BATCH SCHEDULE [--settings A..B]`.
 fn draw<'a>(alloc: Global) -> Result<Command<'a>, AllocError>
     ensures { IfOk result (IsCommand draw_app) }
 {
     let about = "Draws a schedule of a batch: a picture in SVG, to be looked at in a browser";
     let draw = command(alloc, "draw", about, DRAW_NOTES);
-    with_texts(alloc, draw)
+    let draw = with_texts(alloc, draw)?;
+    with_settings(alloc, draw)
 }
 
 /// `switch BATCH [--workers N]`.
@@ -430,14 +450,21 @@ fn shape_of(alloc: Global, matches: &ArgMatches<'_>) -> Result<Text, Lack>
     text_of(alloc, matches, "SHAPE")
 }
 
+/// The text of an option, where it is there.
+fn option_of(alloc: Global, matches: &ArgMatches<'_>, id: &str) -> Result<Option<Text>, AllocError>
+    ensures { IfOk result (λ text. first_of id.now (rows_of (found_of matches.now)) ≡ text) }
+{
+    match matches.get_str(id) {
+        Some(text) => Ok(Some(Text::of(alloc, text)?)),
+        None => Ok(None),
+    }
+}
+
 /// The text of `--image`, where it is there.
 fn image_of(alloc: Global, matches: &ArgMatches<'_>) -> Result<Option<Text>, AllocError>
     ensures { IfOk result (λ image. first_of (codes "image") (rows_of (found_of matches.now)) ≡ image) }
 {
-    match matches.get_str("image") {
-        Some(text) => Ok(Some(Text::of(alloc, text)?)),
-        None => Ok(None),
-    }
+    option_of(alloc, matches, "image")
 }
 
 /// The texts of a batch and of a schedule.
@@ -502,7 +529,12 @@ fn draw_job(alloc: Global, found: &ArgMatches<'_>) -> Result<Job, Lack>
     ensures lack { LacksMemory (HasBoth (rows_of (found_of found.now))) result }
 {
     let (batch, schedule) = texts_named(alloc, found)?;
-    Ok(Job::Draw { batch, schedule })
+    let settings = option_of(alloc, found, "settings")?;
+    Ok(Job::Draw {
+        batch,
+        schedule,
+        settings,
+    })
 }
 
 /// The job of `switch`.
@@ -652,7 +684,11 @@ fn reads_input_once(job: &Job) -> bool
     match job {
         Job::Plan { .. } => true,
         Job::Check { batch, schedule } => !(batch.is_input() && schedule.is_input()),
-        Job::Draw { batch, schedule } => !(batch.is_input() && schedule.is_input()),
+        Job::Draw {
+            batch,
+            schedule,
+            ..
+        } => !(batch.is_input() && schedule.is_input()),
         Job::Switch { .. } => true,
         Job::Direct { .. } => true,
         Job::Apply { batch, image, .. } => !(batch.is_input() && image.is_input()),

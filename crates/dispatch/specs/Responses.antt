@@ -2,7 +2,8 @@
 use Rattle.std.specs.Prelude.{◌≡◌, ◌⊎◌, ◌<◌, ℕ, List, [], ◌++◌, Option, Some, None, Result, Ok, Err, IfOk, IfSome, codes, ⊤, length, slice_index_or}
 use Rattle.std.specs.Io.KnownBytes.{Appends}
 use Rattle.answers.specs.Extent.{widest}
-use Rattle.answers.specs.Answers.{IsPlanned, IsChecked, IsDrawn, IsRunAnswer, image_alone}
+use Rattle.answers.specs.Answers.{IsPlanned, IsChecked, IsRunAnswer, image_alone}
+use Rattle.answers.specs.Drawings.{IsDrawn}
 use Rattle.answers.specs.Directing.{IsDirected}
 use Rattle.answers.specs.Refusals.{Printed}
 use Rattle.answers.specs.Reports.{report_of}
@@ -48,11 +49,11 @@ IsSomeCheck input batch_file schedule_file answer =
     (batch schedule : List ℕ) × IsHeld input batch_file batch × IsHeld input schedule_file schedule
     × IsChecked widest batch schedule answer
 
--- an answer of `draw` to what these files hold
-abbrev pub IsSomeDraw : Option (List ℕ) → List ℕ → List ℕ → Printed → Type 0
-IsSomeDraw input batch_file schedule_file answer =
+-- an answer of `draw` to what these files hold, with the range of settings where one is given
+abbrev pub IsSomeDraw : Option (List ℕ) → List ℕ → List ℕ → Option (List ℕ) → Printed → Type 0
+IsSomeDraw input batch_file schedule_file settings answer =
     (batch schedule : List ℕ) × IsHeld input batch_file batch × IsHeld input schedule_file schedule
-    × IsDrawn widest batch schedule answer
+    × IsDrawn widest batch schedule settings answer
 
 -- an answer of `switch` to what this file holds
 abbrev pub IsSomeSwitch : Option (List ℕ) → List ℕ → Printed → Type 0
@@ -98,7 +99,8 @@ behind_told told printed = record { text = told ++ printed.text; status = printe
 abbrev pub IsAnswerTo : Option (List ℕ) → Job → Printed → Type 0
 IsAnswerTo input (Plan file workers) answer = IsSomePlan input file answer
 IsAnswerTo input (Check batch schedule) answer = IsSomeCheck input batch schedule answer
-IsAnswerTo input (Draw batch schedule) answer = IsSomeDraw input batch schedule answer
+IsAnswerTo input (Draw batch schedule settings) answer =
+    IsSomeDraw input batch schedule settings answer
 IsAnswerTo input (Switch batch workers) answer = IsSomeSwitch input batch answer
 IsAnswerTo input (Direct moves) answer = IsSomeDirect input moves answer
 IsAnswerTo input (Apply shape batch image workers) answer = IsSomeApply input shape batch image answer

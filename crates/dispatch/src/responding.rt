@@ -140,7 +140,11 @@ fn answer_to<R: AllocGlobal + Files + Threads + Wait + Sync, I: Read, O: Write>(
     match job {
         Job::Plan { file, workers } => plan(rt, &file, workers, input),
         Job::Check { batch, schedule } => check(rt, &batch, &schedule, input),
-        Job::Draw { batch, schedule } => draw(rt, &batch, &schedule, input),
+        Job::Draw {
+            batch,
+            schedule,
+            settings,
+        } => draw(rt, &batch, &schedule, &settings, input),
         Job::Switch { batch, workers } => switch(rt, &batch, workers, input),
         Job::Direct { moves } => direct(rt, &moves, input),
         Job::Apply {
@@ -192,18 +196,31 @@ fn check<R: AllocGlobal + Files, I: Read>(
     Ok(answer_check(rt.alloc(), batch.as_slice(), schedule.as_slice())?)
 }
 
-/// The answer of `exchange draw BATCH SCHEDULE`.
+/// The answer of `exchange draw BATCH SCHEDULE`. The files are read before the range of settings is looked at.
 fn draw<R: AllocGlobal + Files, I: Read>(
     rt: &R,
     batch: &Text,
     schedule: &Text,
+    settings: &Option<Text>,
     input: &mut I,
 ) -> Result<Answer, Unanswered>
     requires { NameInputOnce (batch.now ∷ schedule.now ∷ []) }
-    ensures { IfOk result (IsSomeDraw (I.remaining input.old) batch.now schedule.now) }
+    ensures { IfOk result
+        (IsSomeDraw (I.remaining input.old) batch.now schedule.now settings.now) }
 {
     let (batch, schedule) = read_texts(rt, batch, schedule, input)?;
-    Ok(answer_draw(rt.alloc(), batch.as_slice(), schedule.as_slice())?)
+    let (batch, schedule) = (batch.as_slice(), schedule.as_slice());
+    Ok(answer_draw(rt.alloc(), batch, schedule, bytes_in(settings))?)
+}
+
+/// The bytes of a text, where there is one.
+fn bytes_in(text: &Option<Text>) -> Option<&[u8]>
+    ensures { bytes_of result ≡ text.now }
+{
+    match text {
+        Some(text) => Some(text.as_str().as_bytes()),
+        None => None,
+    }
 }
 
 /// The answer of `exchange switch BATCH`.

@@ -1,5 +1,5 @@
 -- Each cell stands beside the labels, within the width, and above the legend.
-use Rattle.std.proofs.Common.{◌≡◌, ℕ, ◌+◌, ◌*◌, ◌/◌, ◌<◌, ◌≤◌, List, length, Some, slice_get, subst, arith}
+use Rattle.std.proofs.Common.{◌≡◌, ℕ, ◌+◌, ◌*◌, ◌/◌, ◌<◌, ◌≤◌, List, Some, slice_get, subst, arith}
 use Rattle.std.proofs.Math.Nat.{le-max_right}
 use Rattle.std.proofs.lemmas.Option.{slice_get_within, get_or_from_slice_get}
 use Rattle.batch.specs.declared.transfer.Transfer.{Transfer}
@@ -41,14 +41,14 @@ in_rack batch t x Three b at = omega (arith, (has_modules batch t x b at).1)
 
 pub in_view : AllIsInView
 unfolding row_place legend_place
-in_view batch settings b k i x e s =
+in_view batch settings shown b k i x e s =
     let grows = rows_grow (takes_part batch) (module_at e x) rack_modules (in_rack batch s.number x e b s.in_batch) (has_row batch s.number x e s.in_batch) in
     record {
       in_column = (omega arith, omega arith);
       in_half = (omega arith, omega arith);
       behind_labels = behind k;
       before_labels = before k;
-      within_width = within k (length settings) (slice_get_within settings k s.setting s.in_schedule);
+      within_width = within k shown.count s.is_shown;
       below_top = omega arith;
       above_legend = omega (arith, grows, half_below e);
     }

@@ -1,5 +1,6 @@
 pub mod Texts
 pub mod Table
-pub mod Few
+pub mod Fewest
+pub mod OneVerdict
 pub mod Overlaps
 pub mod InView

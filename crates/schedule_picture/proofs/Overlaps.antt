@@ -12,6 +12,7 @@ use Rattle.link_graph.specs.Counts.{count_below, module_at}
 use Rattle.link_graph.specs.Uses.{Uses, IsMatching}
 use Rattle.link_graph.specs.Schedules.{IsScheduleOf}
 use Rattle.schedule_picture.specs.declared.layout.TheConstants.{TOP, ROW, INSET, CELL_WIDTH, CELL_HEIGHT}
+use Rattle.schedule_picture.specs.declared.shown.Shown.{Shown}
 use Rattle.schedule_picture.specs.Places.{takes_part, row_of, row_place, half_place, column_place}
 use Rattle.schedule_picture.specs.Cells.{cell_left}
 use Rattle.schedule_picture.specs.RowsText.{link_of}
@@ -83,19 +84,19 @@ matching_at : (batch : List Transfer) (settings : List (List ℕ)) (k : ℕ) (se
 matching_at batch settings k setting here s = subst (λ (q : List ℕ). IsMatching batch q) (get_or_from_slice_get settings k setting [] here) (s.matchings k [] (slice_get_within settings k setting here))
 
 -- cells of one setting in the half of one link stand at one position
-one_cell : (batch : List Transfer) (settings : List (List ℕ)) (k i j : ℕ) (x y : Transfer) (e : End) → IsScheduleOf batch settings → Stands batch settings k i x → Stands batch settings k j y → module_at e x ≡ module_at e y → i ≡ j
-one_cell batch settings k i j x y e s here there same =
+one_cell : (batch : List Transfer) (settings : List (List ℕ)) (shown : Shown) (l i j : ℕ) (x y : Transfer) (e : End) → IsScheduleOf batch settings → Stands batch settings shown l i x → Stands batch settings shown l j y → module_at e x ≡ module_at e y → i ≡ j
+one_cell batch settings shown l i j x y e s here there same =
     let setting : there.setting ≡ here.setting = cc (here.in_schedule, there.in_schedule) in
     let at = subst (λ (q : List ℕ). slice_get q j ≡ Some there.number) setting there.in_setting in
     let used = subst (λ (m : ℕ). Uses batch there.number (link_of e m)) (sym same) (uses_own batch there.number y e there.in_batch) in
-    same_position batch here.setting i j here.number there.number (link_of e (module_at e x)) (matching_at batch settings k here.setting here.in_schedule s) here.in_setting at (uses_own batch here.number x e here.in_batch) used
+    same_position batch here.setting i j here.number there.number (link_of e (module_at e x)) (matching_at batch settings (shown.first + l) here.setting here.in_schedule s) here.in_setting at (uses_own batch here.number x e here.in_batch) used
 
 pub overlapping : NothingOverlaps
 unfolding row_place
-overlapping batch settings s k i x e l j y f here there over =
-    let setting = same_column k l over.not_right over.not_left in
+overlapping batch settings shown s k i x e l j y f here there over =
+    let column = same_column k l over.not_right over.not_left in
     let half = same_half (row_of batch (module_at e x)) (row_of batch (module_at f y)) e f over.not_below over.not_above in
     let same = same_row batch (module_at e x) (module_at f y) (has_row batch here.number x e here.in_batch) (has_row batch there.number y f there.in_batch) half.0 in
-    let there_now = subst (λ (n : ℕ). Stands batch settings n j y) (sym setting) there in
+    let there_now = subst (λ (n : ℕ). Stands batch settings shown n j y) (sym column) there in
     let same_end = subst (λ (g : End). module_at e x ≡ module_at g y) (sym half.1) same in
-    (setting, one_cell batch settings k i j x y e s here there_now same_end, half.1)
+    (column, one_cell batch settings shown k i j x y e s here there_now same_end, half.1)

@@ -1,6 +1,6 @@
--- The cells of a picture. A transfer has two, in the column of its setting: one in the row of its
--- initiator, in the half of link 0, and one in the row of its responder, in the half of link 3.
--- Each has the number and the colour of the module at the other end.
+-- The cells of a picture. A transfer that is shown has two, in the column of its setting: one in the
+-- row of its initiator, in the half of link 0, and one in the row of its responder, in the half of
+-- link 3. Each has the number and the colour of the module at the other end.
 use Rattle.std.specs.Prelude.{ℕ, ◌+◌, ◌-◌, List, ◌++◌, codes}
 use Rattle.std.specs.Fmt.{decimal}
 use Rattle.std.specs.List.{flat_map}
@@ -11,6 +11,7 @@ use Rattle.batch.specs.Overlap.{transfer_at}
 use Rattle.link_graph.specs.declared.link.End.{End}
 use Rattle.link_graph.specs.declared.link.End.TheVariants.{Zero, Three}
 use Rattle.link_graph.specs.Links.{other_end}
+use Rattle.link_graph.specs.ScheduleText.{end_number}
 use Rattle.link_graph.specs.Counts.{module_at}
 use Rattle.schedule_picture.specs.declared.layout.TheConstants.{TOP, INSET, CELL_WIDTH, CELL_HEIGHT}
 use Rattle.schedule_picture.specs.Places.{row_place, half_place, column_place}
@@ -20,12 +21,23 @@ abbrev pub word_of : Kind → List ℕ
 word_of Push = codes "push"
 word_of Pull = codes "pull"
 
--- the title, `transfer T: push I b R c` or `transfer T: pull I b R c`
+-- a push goes to its responder, a pull fetches from it
+abbrev pub way_of : Kind → List ℕ
+way_of Push = codes " to "
+way_of Pull = codes " from "
+
+-- `module M link E block B`
+unfoldable pub place_text : ℕ → End → ℕ → List ℕ
+place_text m end block =
+    codes "module " ++ decimal m ++ codes " link " ++ decimal (end_number end) ++ codes " block "
+    ++ decimal block
+
+-- the title: the transfer's number, its word, and both places, the initiator's first
 unfoldable pub title_text : ℕ → Transfer → List ℕ
 title_text t x =
     codes "<g><title>transfer " ++ decimal t ++ codes ": " ++ word_of x.kind ++ codes " "
-    ++ decimal x.initiator ++ codes " " ++ decimal x.own_block ++ codes " " ++ decimal x.responder
-    ++ codes " " ++ decimal x.far_block ++ codes "</title>"
+    ++ place_text x.initiator Zero x.own_block ++ way_of x.kind
+    ++ place_text x.responder Three x.far_block ++ codes "</title>"
 
 abbrev pub to_partner : List ℕ
 to_partner = codes "&#8594;"
@@ -45,9 +57,9 @@ arrow_of Pull Three = to_partner
 abbrev pub half_top : List Transfer → Transfer → End → ℕ
 half_top batch x end = row_place batch (module_at end x) + half_place end
 
--- where the cells of setting k begin, from the left
+-- where the cells of column j begin, from the left
 abbrev pub cell_left : ℕ → ℕ
-cell_left k = column_place k + INSET
+cell_left j = column_place j + INSET
 
 -- where the cell at an end of a transfer begins, from the top
 abbrev pub cell_top : List Transfer → Transfer → End → ℕ
@@ -57,22 +69,22 @@ cell_top batch x end = half_top batch x end + INSET
 abbrev pub partner_of : Transfer → End → ℕ
 partner_of x end = module_at (other_end end) x
 
--- the cell at an end of transfer t, in the column of setting k
+-- the cell at an end of transfer t, in column j
 unfoldable pub cell_text : List Transfer → ℕ → ℕ → Transfer → End → List ℕ
-cell_text batch k t x end = title_text t x
-    ++ coloured_box (partner_of x end) (cell_left k) (cell_top batch x end) CELL_WIDTH CELL_HEIGHT
-    ++ text_start (column_place k + 16) (half_top batch x end + 14) ++ arrow_of x.kind end
+cell_text batch j t x end = title_text t x
+    ++ coloured_box (partner_of x end) (cell_left j) (cell_top batch x end) CELL_WIDTH CELL_HEIGHT
+    ++ text_start (column_place j + 16) (half_top batch x end + 14) ++ arrow_of x.kind end
     ++ decimal (partner_of x end) ++ codes "</text></g>\n"
 
 -- both cells of transfer t
 unfoldable pub transfer_cells : List Transfer → ℕ → ℕ → List ℕ
-transfer_cells batch k t =
-    cell_text batch k t (transfer_at batch t) Zero
-    ++ cell_text batch k t (transfer_at batch t) Three
+transfer_cells batch j t =
+    cell_text batch j t (transfer_at batch t) Zero
+    ++ cell_text batch j t (transfer_at batch t) Three
 
--- the number of setting k above its column, and the cells of its transfers
-unfoldable pub column_text : List Transfer → ℕ → List ℕ → List ℕ
-column_text batch k setting =
-    codes "<text class='number' x='" ++ decimal (column_place k + 16) ++ codes "' y='"
+-- column j: the number k of its setting above it, and the cells of the setting's transfers
+unfoldable pub column_text : List Transfer → ℕ → ℕ → List ℕ → List ℕ
+column_text batch j k setting =
+    codes "<text class='number' x='" ++ decimal (column_place j + 16) ++ codes "' y='"
     ++ decimal (TOP - 10) ++ codes "'>" ++ decimal k ++ codes "</text>\n"
-    ++ flat_map (λ t. transfer_cells batch k t) setting
+    ++ flat_map (λ t. transfer_cells batch j t) setting

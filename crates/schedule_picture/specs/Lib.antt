@@ -1,4 +1,5 @@
 pub mod Places
+pub mod Verdicts
 pub mod Elements
 pub mod Cells
 pub mod RowsText

@@ -1,25 +1,54 @@
 -- The picture of a schedule: the text of an SVG file.
-use Rattle.std.specs.Prelude.{ℕ, List, [], ◌++◌, length, Option, Some, None, codes, slice_index_or}
+use Rattle.std.specs.Prelude.{ℕ, ◌+◌, ◌-◌, ◌==◌, if◌then◌else◌, List, [], ◌++◌, length, Option, Some, None, codes, slice_index_or}
 use Rattle.std.specs.Fmt.{decimal}
 use Rattle.std.specs.List.{flat_map, range_with_len}
 use Rattle.batch.specs.declared.transfer.Transfer.{Transfer}
 use Rattle.link_graph.specs.declared.link.Link.{Link}
+use Rattle.schedule_picture.specs.declared.shown.Shown.{Shown}
+use Rattle.schedule_picture.specs.declared.verdict.Standing.{Standing}
+use Rattle.schedule_picture.specs.declared.verdict.Standing.TheVariants.{Certified, Wrong, Missing}
+use Rattle.schedule_picture.specs.declared.verdict.Verdict.{Verdict}
 use Rattle.schedule_picture.specs.declared.style.TheConstants.{STYLE, EXPLAINED}
 use Rattle.schedule_picture.specs.Places.{rack_modules, legend_place, height_of, width_of}
 use Rattle.schedule_picture.specs.Elements.{link_words}
 use Rattle.schedule_picture.specs.Cells.{column_text}
-use Rattle.schedule_picture.specs.RowsText.{row_text}
+use Rattle.schedule_picture.specs.RowsText.{row_text, headings_text}
 
--- `, busiest link E module M`, where a link is named
-abbrev pub busiest_words : Option Link → List ℕ
-busiest_words None = []
-busiest_words (Some link) = codes ", busiest " ++ link_words link
+-- `, the fewest`, or how many are enough
+unfoldable pub length_words : ℕ → ℕ → List ℕ
+length_words settings fewest =
+    if settings == fewest then codes ", the fewest"
+    else if fewest == 1 then codes ", where 1 is enough"
+    else codes ", where " ++ decimal fewest ++ codes " are enough"
 
--- `transfers N, settings S`, and the busiest link
-unfoldable pub heading_text : ℕ → ℕ → Option Link → List ℕ
-heading_text transfers settings busiest =
+-- the heading: `transfers N, settings S`, and whether there are more than are enough
+unfoldable pub heading_text : ℕ → ℕ → ℕ → List ℕ
+heading_text transfers settings fewest =
     codes "transfers " ++ decimal transfers ++ codes ", settings " ++ decimal settings
-    ++ busiest_words busiest
+    ++ length_words settings fewest
+
+-- `busiest link E module M`, or `busiest none` where no link is named
+abbrev pub busiest_words : Option Link → List ℕ
+busiest_words None = codes "busiest none"
+busiest_words (Some link) = codes "busiest " ++ link_words link
+
+-- how the certificate stands
+abbrev pub standing_words : Standing → List ℕ
+standing_words Certified = codes ", certified"
+standing_words Wrong = codes ", wrong certificate"
+standing_words Missing = codes ", no certificate"
+
+-- which settings are shown, where these aren't all
+abbrev pub shown_words : ℕ → Shown → List ℕ
+shown_words settings shown =
+    if shown.count == settings then []
+    else codes ", shown " ++ decimal shown.first ++ codes " to "
+    ++ decimal (shown.first + shown.count - 1)
+
+-- what stands below the heading
+unfoldable pub note_text : ℕ → Verdict → Shown → List ℕ
+note_text settings verdict shown =
+    busiest_words verdict.busiest ++ standing_words verdict.standing ++ shown_words settings shown
 
 -- the looks of everything
 unfoldable pub style_text : List ℕ
@@ -43,21 +72,25 @@ ground_text width height =
     ++ codes "'/>\n<text class='heading' x='16' y='36'>"
 
 -- the size and the title
-unfoldable pub title_part : List Transfer → ℕ → Option Link → List ℕ
-title_part batch settings busiest =
-    size_text (width_of settings) (height_of batch) ++ heading_text (length batch) settings busiest
-    ++ codes "</title>\n"
+unfoldable pub title_part : List Transfer → ℕ → Verdict → Shown → List ℕ
+title_part batch settings verdict shown =
+    size_text (width_of shown.count) (height_of batch)
+    ++ heading_text (length batch) settings verdict.fewest ++ codes ", "
+    ++ note_text settings verdict shown ++ codes "</title>\n"
 
--- the ground, and the heading on it
-unfoldable pub caption_part : List Transfer → ℕ → Option Link → List ℕ
-caption_part batch settings busiest =
-    ground_text (width_of settings) (height_of batch)
-    ++ heading_text (length batch) settings busiest ++ codes "</text>\n"
+-- the ground, and on it the heading and the note below that
+unfoldable pub caption_part : List Transfer → ℕ → Verdict → Shown → List ℕ
+caption_part batch settings verdict shown =
+    ground_text (width_of shown.count) (height_of batch)
+    ++ heading_text (length batch) settings verdict.fewest
+    ++ codes "</text>\n<text class='note' x='16' y='58'>" ++ note_text settings verdict shown
+    ++ codes "</text>\n"
 
 -- what stands before the rows
-unfoldable pub opening_text : List Transfer → ℕ → Option Link → List ℕ
-opening_text batch settings busiest =
-    title_part batch settings busiest ++ style_text ++ caption_part batch settings busiest
+unfoldable pub opening_text : List Transfer → ℕ → Verdict → Shown → List ℕ
+opening_text batch settings verdict shown =
+    title_part batch settings verdict shown ++ style_text
+    ++ caption_part batch settings verdict shown
 
 -- what stands behind the columns: the legend, below the rows
 unfoldable pub closing_text : List Transfer → List ℕ
@@ -69,18 +102,25 @@ closing_text batch =
 abbrev pub setting_at : List (List ℕ) → ℕ → List ℕ
 setting_at settings k = slice_index_or settings k []
 
--- the rows of the modules that take part, in their order
+-- the rows of the modules that take part, in their order, with so many columns
 unfoldable pub rows_text : List Transfer → ℕ → Option Link → List ℕ
-rows_text batch settings busiest =
-    flat_map (row_text batch settings busiest) (range_with_len 0 rack_modules)
+rows_text batch columns busiest =
+    flat_map (row_text batch columns busiest) (range_with_len 0 rack_modules)
 
--- the columns of the settings, in their order
-unfoldable pub columns_text : List Transfer → List (List ℕ) → List ℕ
-columns_text batch settings =
-    flat_map (λ k. column_text batch k (setting_at settings k)) (range_with_len 0 (length settings))
+-- the columns of the settings that are shown, in their order
+unfoldable pub columns_text : List Transfer → List (List ℕ) → Shown → List ℕ
+columns_text batch settings shown =
+    flat_map
+    (λ j. column_text batch j (shown.first + j) (setting_at settings (shown.first + j)))
+    (range_with_len 0 shown.count)
 
--- the rows, the columns of cells over them, and the legend below
-abbrev pub picture_of : List Transfer → List (List ℕ) → Option Link → List ℕ
-picture_of batch settings busiest =
-    opening_text batch (length settings) busiest ++ rows_text batch (length settings) busiest
-    ++ columns_text batch settings ++ closing_text batch
+-- the rows, the headings of the columns, the columns of cells over the rows, and the legend below
+abbrev pub picture_of : List Transfer → List (List ℕ) → Verdict → Shown → List ℕ
+picture_of batch settings verdict shown =
+    opening_text batch (length settings) verdict shown
+    ++ rows_text batch shown.count verdict.busiest ++ headings_text shown.count
+    ++ columns_text batch settings shown ++ closing_text batch
+
+-- all settings
+abbrev pub whole : ℕ → Shown
+whole settings = record { first = 0; count = settings }

@@ -42,14 +42,14 @@ height_of batch = legend_place batch + LEGEND
 
 -- ---- columns
 
--- Settings have columns, in their order. Before the first of them, and before each further one that
--- begins a panel, the labels of the rows stand.
+-- The settings that are shown have columns, in their order, which are counted from 0. Before the
+-- first column, and before each further one that begins a panel, the labels of the rows stand.
 unfoldable pub column_place : ℕ → ℕ
-column_place k = MARGIN + (k / PANEL + 1) * LABELS + k * COLUMN
+column_place j = MARGIN + (j / PANEL + 1) * LABELS + j * COLUMN
 
--- how many panels so many settings fill, the last of them perhaps in part
+-- how many panels so many columns fill, the last of them perhaps in part
 abbrev pub panels_of : ℕ → ℕ
-panels_of settings = (settings + PANEL - 1) / PANEL
+panels_of columns = (columns + PANEL - 1) / PANEL
 
 -- where the labels of a panel begin
 unfoldable pub panel_place : ℕ → ℕ
@@ -57,11 +57,11 @@ panel_place panel = MARGIN + panel * (LABELS + PANEL * COLUMN)
 
 -- how wide its columns are together
 unfoldable pub panel_width : ℕ → ℕ → ℕ
-panel_width settings panel = COLUMN * min PANEL (settings - panel * PANEL)
+panel_width columns panel = COLUMN * min PANEL (columns - panel * PANEL)
 
 -- the panels, or the legend where that is wider
 unfoldable pub width_of : ℕ → ℕ
-width_of settings = max LEAST (2 * MARGIN + panels_of settings * LABELS + settings * COLUMN)
+width_of columns = max LEAST (2 * MARGIN + panels_of columns * LABELS + columns * COLUMN)
 
 -- ---- the table of rows
 

@@ -1,6 +1,6 @@
 -- The rows of a picture: in each panel the label of the module, in its colour, and for each of its
 -- two links the ground on which the cells stand.
-use Rattle.std.specs.Prelude.{ℕ, ◌+◌, Bool, true, false, ◌==◌, ◌&&◌, if◌then◌else◌, List, [], ◌++◌, Option, Some, None, codes}
+use Rattle.std.specs.Prelude.{ℕ, ◌+◌, ◌-◌, Bool, true, false, ◌==◌, ◌&&◌, if◌then◌else◌, List, [], ◌++◌, Option, Some, None, codes}
 use Rattle.std.specs.Fmt.{decimal}
 use Rattle.std.specs.List.{flat_map, range_with_len}
 use Rattle.batch.specs.declared.transfer.Transfer.{Transfer}
@@ -8,11 +8,11 @@ use Rattle.link_graph.specs.declared.link.End.{End}
 use Rattle.link_graph.specs.declared.link.End.TheVariants.{Zero, Three}
 use Rattle.link_graph.specs.declared.link.Link.{Link}
 use Rattle.link_graph.specs.ScheduleText.{end_number}
-use Rattle.schedule_picture.specs.declared.layout.TheConstants.{LABELS, HALF}
+use Rattle.schedule_picture.specs.declared.layout.TheConstants.{TOP, LABELS, HALF}
 use Rattle.schedule_picture.specs.Places.{takes_part, row_place, half_place, panels_of, panel_place, panel_width}
 use Rattle.schedule_picture.specs.Elements.{box_text, coloured_box, text_start, link_words}
 
--- this is the busiest link
+-- this is the link that is framed
 abbrev pub marks : Option Link → Link → Bool
 marks None link = false
 marks (Some busiest) link =
@@ -46,21 +46,31 @@ link_of end m = record { end = end; «module» = m }
 
 -- the half of a link in a panel
 unfoldable pub half_text : List Transfer → ℕ → Option Link → Link → ℕ → List ℕ
-half_text batch settings busiest link panel =
+half_text batch columns busiest link panel =
     lane_text
     (marks busiest link) link (panel_place panel) (row_place batch link.«module»)
-    (panel_width settings panel)
+    (panel_width columns panel)
 
 -- the part of a module's row that stands in a panel
 unfoldable pub part_text : List Transfer → ℕ → Option Link → ℕ → ℕ → List ℕ
-part_text batch settings busiest m panel =
+part_text batch columns busiest m panel =
     label_text m (panel_place panel) (row_place batch m)
-    ++ half_text batch settings busiest (link_of Zero m) panel
-    ++ half_text batch settings busiest (link_of Three m) panel
+    ++ half_text batch columns busiest (link_of Zero m) panel
+    ++ half_text batch columns busiest (link_of Three m) panel
 
 -- the row of a module, where it takes part
 abbrev pub row_text : List Transfer → ℕ → Option Link → ℕ → List ℕ
-row_text batch settings busiest m =
+row_text batch columns busiest m =
     if takes_part batch m
-    then flat_map (part_text batch settings busiest m) (range_with_len 0 (panels_of settings))
+    then flat_map (part_text batch columns busiest m) (range_with_len 0 (panels_of columns))
     else []
+
+-- `setting`, before the numbers of a panel's columns
+unfoldable pub heading_at : ℕ → List ℕ
+heading_at panel =
+    codes "<text class='number' x='" ++ decimal (panel_place panel + 104) ++ codes "' y='"
+    ++ decimal (TOP - 10) ++ codes "'>setting</text>\n"
+
+-- the same in each panel that so many columns fill
+unfoldable pub headings_text : ℕ → List ℕ
+headings_text columns = flat_map heading_at (range_with_len 0 (panels_of columns))

@@ -2,15 +2,16 @@
 
 ghost use Rattle.std.specs.Prelude.{◌≡◌, ◌<◌, ◌≤◌, List, length, All, OnOk, Some, slice_get, codes};
 ghost use Rattle.batch.specs.Overlap.{transfer_at};
+ghost use Rattle.batch.specs.Text.{IsNumber};
 ghost use Rattle.link_graph.specs.declared.link.End.{End};
 ghost use Rattle.link_graph.specs.Counts.{module_at as module_of};
 ghost use Rattle.schedule_picture.specs.Elements.{Adds};
-ghost use Rattle.schedule_picture.specs.Cells.{word_of, arrow_of, title_text, cell_text, transfer_cells, column_text};
+ghost use Rattle.schedule_picture.specs.Cells.{word_of, way_of, arrow_of, place_text, title_text, cell_text, transfer_cells, column_text};
 
 use crate::elements::{push_coloured, push_text_start};
 use crate::layout::{CELL_HEIGHT, CELL_WIDTH, INSET, TOP, column_left, half_below};
 use crate::rows::Rows;
-use batch::{Kind, MAX_MODULES, MAX_TRANSFERS, Transfer};
+use batch::{Kind, MAX_MODULES, Transfer};
 use link_graph::End;
 use std::alloc::AllocError;
 
@@ -21,6 +22,16 @@ fn kind_word(kind: Kind) -> &'static str
     match kind {
         Kind::Push => "push",
         Kind::Pull => "pull",
+    }
+}
+
+/// The word between the places of a transfer.
+fn way_word(kind: Kind) -> &'static str
+    ensures { result.now ≡ way_of kind }
+{
+    match kind {
+        Kind::Push => " to ",
+        Kind::Pull => " from ",
     }
 }
 
@@ -44,35 +55,41 @@ fn module_at(end: End, transfer: &Transfer) -> usize
     }
 }
 
+/// Puts a place at the end of the text: a module with the link through which its block goes.
+fn push_place(text: &mut String, module: usize, end: End, block: usize) -> Result<(), AllocError>
+    ensures { OnOk result (Adds text.old text.new (place_text «module» end block)) }
+{
+    let link = end.number();
+    write!(text, "module {module} link {link} block {block}")
+}
+
 /// Puts the beginning of a cell at the end of the text: its title, which says the transfer.
 fn push_title(text: &mut String, number: usize, transfer: &Transfer) -> Result<(), AllocError>
     ensures { OnOk result (Adds text.old text.new (title_text number transfer.now)) }
 {
     let word = kind_word(transfer.kind);
-    let (initiator, own_block) = (transfer.initiator, transfer.own_block);
-    let (responder, far_block) = (transfer.responder, transfer.far_block);
-    write!(text, "<g><title>transfer {number}: {word}")?;
-    write!(
-        text,
-        " {initiator} {own_block} {responder} {far_block}</title>"
-    )
+    write!(text, "<g><title>transfer {number}: {word} ")?;
+    push_place(text, transfer.initiator, End::Zero, transfer.own_block)?;
+    text.push_str(way_word(transfer.kind))?;
+    push_place(text, transfer.responder, End::Three, transfer.far_block)?;
+    text.push_str("</title>")
 }
 
-/// Puts the cell at an end of a transfer at the end of the text, in the column of a setting.
+/// Puts the cell at an end of a transfer at the end of the text, in a column.
 fn push_cell(
     text: &mut String,
     rows: &Rows<'_>,
-    setting: usize,
+    column: usize,
     number: usize,
     transfer: &Transfer,
     end: End,
 ) -> Result<(), AllocError>
-    requires setting { setting ≤ MAX_TRANSFERS }
+    requires column { IsNumber column }
     requires in_rack { module_of end transfer.now < MAX_MODULES }
-    ensures { OnOk result (Adds text.old text.new (cell_text rows.now setting number transfer.now end)) }
+    ensures { OnOk result (Adds text.old text.new (cell_text rows.now column number transfer.now end)) }
 {
     let partner = module_at(end.other(), transfer);
-    let left = column_left(setting);
+    let left = column_left(column);
     let top = rows.top(module_at(end, transfer)) + half_below(end);
     push_title(text, number, transfer)?;
     push_coloured(
@@ -88,40 +105,41 @@ fn push_cell(
     write!(text, "{partner}</text></g>\n")
 }
 
-/// Puts the two cells of a transfer at the end of the text, in the column of a setting.
+/// Puts the two cells of a transfer at the end of the text, in a column.
 fn push_transfer(
     text: &mut String,
     rows: &Rows<'_>,
-    setting: usize,
+    column: usize,
     number: usize,
 ) -> Result<(), AllocError>
-    requires setting { setting ≤ MAX_TRANSFERS }
+    requires column { IsNumber column }
     requires known { number < length rows.now }
-    ensures { OnOk result (Adds text.old text.new (transfer_cells rows.now setting number)) }
+    ensures { OnOk result (Adds text.old text.new (transfer_cells rows.now column number)) }
 {
     let transfer = &rows.transfers()[number];
-    push_cell(text, rows, setting, number, transfer, End::Zero)?;
-    push_cell(text, rows, setting, number, transfer, End::Three)
+    push_cell(text, rows, column, number, transfer, End::Zero)?;
+    push_cell(text, rows, column, number, transfer, End::Three)
 }
 
-/// Puts the column of a setting at the end of the text: its number, and the cells of its transfers.
+/// Puts a column at the end of the text: the number of its setting, and the cells of the setting's transfers.
 pub(crate) fn push_column(
     text: &mut String,
     rows: &Rows<'_>,
+    column: usize,
     setting: usize,
     numbers: &[usize],
 ) -> Result<(), AllocError>
-    requires setting { setting ≤ MAX_TRANSFERS }
+    requires column { IsNumber column }
     requires known { All (λ t. t < length rows.now) numbers.now }
-    ensures { OnOk result (Adds text.old text.new (column_text rows.now setting numbers.now)) }
+    ensures { OnOk result (Adds text.old text.new (column_text rows.now column setting numbers.now)) }
 {
-    let (middle, above) = (column_left(setting) + 16, TOP - 10);
+    let (middle, above) = (column_left(column) + 16, TOP - 10);
     write!(
         text,
         "<text class='number' x='{middle}' y='{above}'>{setting}</text>\n"
     )?;
     for number in numbers {
-        push_transfer(text, rows, setting, *number)?;
+        push_transfer(text, rows, column, *number)?;
     }
     Ok(())
 }

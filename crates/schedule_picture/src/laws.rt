@@ -1,14 +1,20 @@
 //! Laws of pictures. They do nothing.
 
-ghost use Rattle.schedule_picture.specs.Laws.{NothingOverlaps, AllIsInView};
+ghost use Rattle.schedule_picture.specs.Laws.{NothingOverlaps, AllIsInView, TellsFewest};
 
 /// In the picture of a schedule no cell lies over another, not even in part.
 pub fn nothing_overlaps()
     ensures { NothingOverlaps }
 {}
 
-/// Each cell of a picture stands whole in its setting's column and its link's half of a row, and neither on a
+/// Each cell of a picture stands whole in its column and its link's half of a row, and neither on a
 /// label of a row nor on the legend.
 pub fn all_is_in_view()
     ensures { AllIsInView }
+{}
+
+/// As many settings as a verdict tells are the fewest: no schedule of the batch has fewer, and each that
+/// has a certificate, as a plan has, has just so many.
+pub fn tells_fewest()
+    ensures { TellsFewest }
 {}

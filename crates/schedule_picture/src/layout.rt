@@ -2,10 +2,10 @@
 //! this project's choice.
 
 ghost use Rattle.std.specs.Prelude.{◌≡◌, ◌<◌, ◌≤◌, ◌^◌};
+ghost use Rattle.batch.specs.Text.{IsNumber};
 ghost use Rattle.link_graph.specs.declared.link.End.{End};
 ghost use Rattle.schedule_picture.specs.Places.{column_place, panel_place, panels_of, panel_width, half_place, width_of};
 
-use batch::MAX_TRANSFERS;
 use link_graph::End;
 
 /// How far the picture's contents stand from its left side, and from its right.
@@ -14,7 +14,7 @@ pub const MARGIN: usize = 16;
 /// How far the first row stands from the top.
 pub const TOP: usize = 88;
 
-/// How many settings stand side by side before the labels of the rows come again.
+/// How many columns stand side by side before the labels of the rows come again.
 pub const PANEL: usize = 32;
 
 /// The width of the labels before each panel.
@@ -44,39 +44,39 @@ pub const LEGEND: usize = 112;
 /// The least width of a picture: that of the legend.
 pub const LEAST: usize = 760;
 
-/// Where the column of a setting begins, from the left.
-pub(crate) fn column_left(setting: usize) -> usize
-    requires { setting ≤ MAX_TRANSFERS }
-    ensures value { result ≡ column_place setting }
-    ensures small { result < 2 ^ 20 }
+/// Where a column begins, from the left.
+pub(crate) fn column_left(column: usize) -> usize
+    requires { IsNumber column }
+    ensures value { result ≡ column_place column }
+    ensures small { result < 2 ^ 40 }
 {
-    MARGIN + (setting / PANEL + 1) * LABELS + setting * COLUMN
+    MARGIN + (column / PANEL + 1) * LABELS + column * COLUMN
 }
 
-/// How many panels so many settings fill, the last of them perhaps in part.
-pub(crate) fn panels(settings: usize) -> usize
-    requires { settings ≤ MAX_TRANSFERS }
-    ensures value { result ≡ panels_of settings }
+/// How many panels so many columns fill, the last of them perhaps in part.
+pub(crate) fn panels(columns: usize) -> usize
+    requires { IsNumber columns }
+    ensures value { result ≡ panels_of columns }
 {
-    settings.div_ceil(PANEL)
+    columns.div_ceil(PANEL)
 }
 
 /// Where the labels of a panel begin, from the left.
 pub(crate) fn panel_left(panel: usize) -> usize
-    requires { panel ≤ MAX_TRANSFERS }
+    requires { IsNumber panel }
     ensures value { result ≡ panel_place panel }
-    ensures small { result < 2 ^ 24 }
+    ensures small { result < 2 ^ 48 }
 {
     MARGIN + panel * (LABELS + PANEL * COLUMN)
 }
 
-/// How wide a panel's columns are together, of so many settings in all.
-pub(crate) fn panel_columns(settings: usize, panel: usize) -> usize
-    requires settings { settings ≤ MAX_TRANSFERS }
-    requires panel { panel < panels_of settings }
-    ensures { result ≡ panel_width settings panel }
+/// How wide a panel's columns are together, of so many columns in all.
+pub(crate) fn panel_columns(columns: usize, panel: usize) -> usize
+    requires columns { IsNumber columns }
+    requires panel { panel < panels_of columns }
+    ensures { result ≡ panel_width columns panel }
 {
-    COLUMN * PANEL.min(settings - panel * PANEL)
+    COLUMN * PANEL.min(columns - panel * PANEL)
 }
 
 /// How far the half of an end stands below the top of its row.
@@ -90,10 +90,10 @@ pub(crate) fn half_below(end: End) -> usize
     }
 }
 
-/// How wide a picture of so many settings is.
-pub(crate) fn width(settings: usize) -> usize
-    requires { settings ≤ MAX_TRANSFERS }
-    ensures { result ≡ width_of settings }
+/// How wide a picture of so many columns is.
+pub(crate) fn width(columns: usize) -> usize
+    requires { IsNumber columns }
+    ensures { result ≡ width_of columns }
 {
-    LEAST.max(2 * MARGIN + panels(settings) * LABELS + settings * COLUMN)
+    LEAST.max(2 * MARGIN + panels(columns) * LABELS + columns * COLUMN)
 }

@@ -1,43 +1,98 @@
 //! The whole picture.
 
-ghost use Rattle.std.specs.Prelude.{◌≡◌, ◌<◌, ◌≤◌, All, IfOk, OnOk, length, string_bytes};
-ghost use Rattle.link_graph.specs.Certificates.{IsCertified};
+ghost use Rattle.std.specs.Prelude.{◌≡◌, ◌<◌, ◌≤◌, ◌+◌, All, IfOk, OnOk, length, string_bytes};
+ghost use Rattle.batch.specs.Text.{IsNumber};
+ghost use Rattle.link_graph.specs.Schedules.{IsScheduleOf};
 ghost use Rattle.schedule_picture.specs.Elements.{Adds};
-ghost use Rattle.schedule_picture.specs.Picture.{busiest_words, heading_text, size_text, ground_text, title_part, caption_part, opening_text, rows_text, columns_text, closing_text, picture_of};
+ghost use Rattle.schedule_picture.specs.Picture.{busiest_words, length_words, heading_text, standing_words, shown_words, note_text, size_text, ground_text, title_part, caption_part, opening_text, rows_text, columns_text, closing_text, picture_of};
 
 use crate::cells::push_column;
 use crate::elements::push_link;
 use crate::layout::width;
 use crate::rows::Rows;
-use crate::rows_text::push_row;
+use crate::rows_text::{push_headings, push_row};
+use crate::shown::Shown;
 use crate::style::{EXPLAINED, STYLE};
-use batch::{Batch, MAX_MODULES, MAX_TRANSFERS};
-use link_graph::{Certificate, Link, Schedule};
+use crate::verdict::{Standing, Verdict};
+use batch::{Batch, MAX_MODULES};
+use link_graph::{Link, Schedule};
 use std::alloc::{AllocError, Global};
 
-/// Puts the name of the busiest link at the end of the text, where there is one.
-fn push_busiest(text: &mut String, busiest: Option<Link>) -> Result<(), AllocError>
-    ensures { OnOk result (Adds text.old text.new (busiest_words busiest)) }
+/// Puts at the end of the text whether so many settings are the fewest, or how many are enough.
+fn push_length(text: &mut String, settings: usize, fewest: usize) -> Result<(), AllocError>
+    ensures { OnOk result (Adds text.old text.new (length_words settings fewest)) }
 {
-    let Some(link) = busiest else {
-        return Ok(());
-    };
-    text.push_str(", busiest ")?;
-    push_link(text, link)
+    if settings == fewest {
+        return text.push_str(", the fewest");
+    }
+    if fewest == 1 {
+        return text.push_str(", where 1 is enough");
+    }
+    write!(text, ", where {fewest} are enough")
 }
 
-/// Puts the heading at the end of the text: how many transfers and settings there are, and the busiest
-/// link.
+/// Puts the heading at the end of the text: how many transfers and settings there are, and whether fewer
+/// settings are enough.
 fn push_heading(
     text: &mut String,
     transfers: usize,
     settings: usize,
-    busiest: Option<Link>,
+    fewest: usize,
 ) -> Result<(), AllocError>
-    ensures { OnOk result (Adds text.old text.new (heading_text transfers settings busiest)) }
+    ensures { OnOk result (Adds text.old text.new (heading_text transfers settings fewest)) }
 {
     write!(text, "transfers {transfers}, settings {settings}")?;
-    push_busiest(text, busiest)
+    push_length(text, settings, fewest)
+}
+
+/// Puts the name of the busiest link at the end of the text.
+fn push_busiest(text: &mut String, busiest: Option<Link>) -> Result<(), AllocError>
+    ensures { OnOk result (Adds text.old text.new (busiest_words busiest)) }
+{
+    let Some(link) = busiest else {
+        return text.push_str("busiest none");
+    };
+    text.push_str("busiest ")?;
+    push_link(text, link)
+}
+
+/// How a certificate stands, in words.
+fn standing_word(standing: Standing) -> &'static str
+    ensures { result.now ≡ standing_words standing }
+{
+    match standing {
+        Standing::Certified => ", certified",
+        Standing::Wrong => ", wrong certificate",
+        Standing::Missing => ", no certificate",
+    }
+}
+
+/// Puts at the end of the text which settings are shown, where these aren't all.
+fn push_shown(text: &mut String, settings: usize, shown: Shown) -> Result<(), AllocError>
+    requires { IsNumber (shown.first + shown.count) }
+    ensures { OnOk result (Adds text.old text.new (shown_words settings shown)) }
+{
+    if shown.count == settings {
+        return Ok(());
+    }
+    let (first, last) = (shown.first, (shown.first + shown.count).saturating_sub(1));
+    write!(text, ", shown {first} to {last}")
+}
+
+/// Puts at the end of the text what stands below the heading: the busiest link, how the certificate
+/// stands, and which settings are shown.
+fn push_note(
+    text: &mut String,
+    settings: usize,
+    verdict: Verdict,
+    shown: Shown,
+) -> Result<(), AllocError>
+    requires { IsNumber (shown.first + shown.count) }
+    ensures { OnOk result (Adds text.old text.new (note_text settings verdict shown)) }
+{
+    push_busiest(text, verdict.busiest)?;
+    text.push_str(standing_word(verdict.standing))?;
+    push_shown(text, settings, shown)
 }
 
 /// Puts the size of the picture at the end of the text, and the beginning of its title.
@@ -67,28 +122,34 @@ fn push_title(
     text: &mut String,
     rows: &Rows<'_>,
     settings: usize,
-    busiest: Option<Link>,
+    verdict: Verdict,
+    shown: Shown,
 ) -> Result<(), AllocError>
-    requires { settings ≤ MAX_TRANSFERS }
-    ensures { OnOk result (Adds text.old text.new (title_part rows.now settings busiest)) }
+    requires { IsNumber (shown.first + shown.count) }
+    ensures { OnOk result (Adds text.old text.new (title_part rows.now settings verdict shown)) }
 {
-    push_size(text, width(settings), rows.height())?;
-    push_heading(text, rows.transfers().len(), settings, busiest)?;
+    push_size(text, width(shown.count), rows.height())?;
+    push_heading(text, rows.transfers().len(), settings, verdict.fewest)?;
+    text.push_str(", ")?;
+    push_note(text, settings, verdict, shown)?;
     text.push_str("</title>\n")
 }
 
-/// Puts the ground of the picture at the end of the text, and the heading on it.
+/// Puts the ground of the picture at the end of the text, and the heading and the note on it.
 fn push_caption(
     text: &mut String,
     rows: &Rows<'_>,
     settings: usize,
-    busiest: Option<Link>,
+    verdict: Verdict,
+    shown: Shown,
 ) -> Result<(), AllocError>
-    requires { settings ≤ MAX_TRANSFERS }
-    ensures { OnOk result (Adds text.old text.new (caption_part rows.now settings busiest)) }
+    requires { IsNumber (shown.first + shown.count) }
+    ensures { OnOk result (Adds text.old text.new (caption_part rows.now settings verdict shown)) }
 {
-    push_ground(text, width(settings), rows.height())?;
-    push_heading(text, rows.transfers().len(), settings, busiest)?;
+    push_ground(text, width(shown.count), rows.height())?;
+    push_heading(text, rows.transfers().len(), settings, verdict.fewest)?;
+    text.push_str("</text>\n<text class='note' x='16' y='58'>")?;
+    push_note(text, settings, verdict, shown)?;
     text.push_str("</text>\n")
 }
 
@@ -97,43 +158,51 @@ fn push_opening(
     text: &mut String,
     rows: &Rows<'_>,
     settings: usize,
-    busiest: Option<Link>,
+    verdict: Verdict,
+    shown: Shown,
 ) -> Result<(), AllocError>
-    requires { settings ≤ MAX_TRANSFERS }
-    ensures { OnOk result (Adds text.old text.new (opening_text rows.now settings busiest)) }
+    requires { IsNumber (shown.first + shown.count) }
+    ensures { OnOk result (Adds text.old text.new (opening_text rows.now settings verdict shown)) }
 {
-    push_title(text, rows, settings, busiest)?;
+    push_title(text, rows, settings, verdict, shown)?;
     text.push_str(STYLE)?;
-    push_caption(text, rows, settings, busiest)
+    push_caption(text, rows, settings, verdict, shown)
 }
 
-/// Puts the rows of all modules that take part at the end of the text.
+/// Puts the rows of all modules that take part at the end of the text, with so many columns.
 fn push_rows(
     text: &mut String,
     rows: &Rows<'_>,
-    settings: usize,
+    columns: usize,
     busiest: Option<Link>,
 ) -> Result<(), AllocError>
-    requires { settings ≤ MAX_TRANSFERS }
-    ensures { OnOk result (Adds text.old text.new (rows_text rows.now settings busiest)) }
+    requires { IsNumber columns }
+    ensures { OnOk result (Adds text.old text.new (rows_text rows.now columns busiest)) }
 {
     for module in 0..MAX_MODULES {
-        push_row(text, rows, settings, busiest, module)?;
+        push_row(text, rows, columns, busiest, module)?;
     }
     Ok(())
 }
 
-/// Puts the columns of all settings at the end of the text.
-fn push_columns(text: &mut String, rows: &Rows<'_>, schedule: &Schedule) -> Result<(), AllocError>
-    requires settings { length schedule.now ≤ MAX_TRANSFERS }
+/// Puts the columns of the settings that are shown at the end of the text.
+fn push_columns(
+    text: &mut String,
+    rows: &Rows<'_>,
+    schedule: &Schedule,
+    shown: Shown,
+) -> Result<(), AllocError>
+    requires settings { IsNumber (length schedule.now) }
+    requires shown { shown.first + shown.count ≤ length schedule.now }
     requires known { All (All (λ t. t < length rows.now)) schedule.now }
-    ensures { OnOk result (Adds text.old text.new (columns_text rows.now schedule.now)) }
+    ensures { OnOk result (Adds text.old text.new (columns_text rows.now schedule.now shown)) }
 {
-    for k in 0..schedule.settings() {
+    for j in 0..shown.count {
+        let k = shown.first + j;
         let Some(numbers) = schedule.setting(k) else {
             unreachable!();
         };
-        push_column(text, rows, k, numbers)?;
+        push_column(text, rows, j, k, numbers)?;
     }
     Ok(())
 }
@@ -148,29 +217,33 @@ fn push_closing(text: &mut String, rows: &Rows<'_>) -> Result<(), AllocError>
     text.push_str("</g>\n</svg>\n")
 }
 
-/// The picture of a schedule of the batch, which the certificate shows to be shortest: the text of an
-/// SVG file.
+/// The picture of some settings of a schedule of the batch: the text of an SVG file.
 ///
-/// The modules that take part stand in rows, in their order, and the settings in columns. A transfer has
-/// two cells in its setting's column: one in the upper half of its initiator's row, for link 0, and one
-/// in the lower half of its responder's, for link 3. Each has the number and the colour of the module at
-/// the other side, and a title that says the transfer. The half of the certificate's link is marked.
-/// All numbers are whole. Takes time that grows with the length of the text.
+/// The modules that take part in the batch stand in rows, in their order, and the settings that are shown
+/// in columns. A transfer of these has two cells in its setting's column: one in the upper half of its
+/// initiator's row, for link 0, and one in the lower half of its responder's, for link 3. Each has the
+/// number and the colour of the module at the other side, and a title that says the transfer. The half of
+/// the busiest link is marked. The title says what the verdict is, and which settings are shown where
+/// these aren't all. All numbers are whole. Takes time that grows with the length of the text.
 pub fn draw(
     alloc: Global,
     batch: &Batch,
     schedule: &Schedule,
-    certificate: &Certificate,
+    verdict: Verdict,
+    shown: Shown,
 ) -> Result<String, AllocError>
-    requires { IsCertified batch.now schedule.now certificate.now }
+    requires schedule { IsScheduleOf batch.now schedule.now }
+    requires settings { IsNumber (length schedule.now) }
+    requires shown { shown.first + shown.count ≤ length schedule.now }
     ensures { IfOk result (λ text. string_bytes text
-        ≡ picture_of batch.now schedule.now certificate.now.link) }
+        ≡ picture_of batch.now schedule.now verdict shown) }
 {
-    let (rows, settings, busiest) = (Rows::of(batch), schedule.settings(), certificate.link());
+    let (rows, settings) = (Rows::of(batch), schedule.settings());
     let mut text = String::new(alloc);
-    push_opening(&mut text, &rows, settings, busiest)?;
-    push_rows(&mut text, &rows, settings, busiest)?;
-    push_columns(&mut text, &rows, schedule)?;
+    push_opening(&mut text, &rows, settings, verdict, shown)?;
+    push_rows(&mut text, &rows, shown.count, verdict.busiest)?;
+    push_headings(&mut text, shown.count)?;
+    push_columns(&mut text, &rows, schedule, shown)?;
     push_closing(&mut text, &rows)?;
     Ok(text)
 }

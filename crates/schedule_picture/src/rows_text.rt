@@ -1,15 +1,16 @@
 //! The rows of a picture: the labels of the modules, and the ground on which their cells stand.
 
 ghost use Rattle.std.specs.Prelude.{◌≡◌, ◌<◌, ◌≤◌, ◌^◌, Option, OnOk};
+ghost use Rattle.batch.specs.Text.{IsNumber};
 ghost use Rattle.link_graph.specs.declared.link.Link.{Link};
 ghost use Rattle.schedule_picture.specs.Places.{panels_of};
 ghost use Rattle.schedule_picture.specs.Elements.{Adds};
-ghost use Rattle.schedule_picture.specs.RowsText.{marks, label_text, looks_of, lane_title, lane_text, half_text, part_text, row_text};
+ghost use Rattle.schedule_picture.specs.RowsText.{heading_at, headings_text, marks, label_text, looks_of, lane_title, lane_text, half_text, part_text, row_text};
 
 use crate::elements::{push_box, push_coloured, push_link, push_text_start};
-use crate::layout::{HALF, LABELS, half_below, panel_columns, panel_left, panels};
+use crate::layout::{HALF, LABELS, TOP, half_below, panel_columns, panel_left, panels};
 use crate::rows::Rows;
-use batch::{MAX_MODULES, MAX_TRANSFERS};
+use batch::MAX_MODULES;
 use link_graph::{End, Link};
 use std::alloc::AllocError;
 
@@ -25,7 +26,7 @@ fn is_busiest(busiest: Option<Link>, link: Link) -> bool
 
 /// Puts the label of a module at the end of the text, in its colour.
 fn push_label(text: &mut String, module: usize, left: usize, top: usize) -> Result<(), AllocError>
-    requires left { left < 2 ^ 24 }
+    requires left { left < 2 ^ 48 }
     requires top { top < 2 ^ 20 }
     ensures { OnOk result (Adds text.old text.new (label_text «module» left top)) }
 {
@@ -64,7 +65,7 @@ fn push_lane(
     top: usize,
     width: usize,
 ) -> Result<(), AllocError>
-    requires left { left < 2 ^ 24 }
+    requires left { left < 2 ^ 48 }
     requires top { top < 2 ^ 20 }
     ensures { OnOk result (Adds text.old text.new (lane_text marked link left top width)) }
 {
@@ -80,18 +81,18 @@ fn push_lane(
 fn push_half(
     text: &mut String,
     rows: &Rows<'_>,
-    settings: usize,
+    columns: usize,
     busiest: Option<Link>,
     link: Link,
     panel: usize,
 ) -> Result<(), AllocError>
-    requires settings { settings ≤ MAX_TRANSFERS }
-    requires panel { panel < panels_of settings }
+    requires columns { IsNumber columns }
+    requires panel { panel < panels_of columns }
     requires in_rack { link.«module» < MAX_MODULES }
-    ensures { OnOk result (Adds text.old text.new (half_text rows.now settings busiest link panel)) }
+    ensures { OnOk result (Adds text.old text.new (half_text rows.now columns busiest link panel)) }
 {
     let (left, top) = (panel_left(panel), rows.top(link.module));
-    let width = panel_columns(settings, panel);
+    let width = panel_columns(columns, panel);
     push_lane(text, is_busiest(busiest, link), link, left, top, width)
 }
 
@@ -99,15 +100,15 @@ fn push_half(
 fn push_part(
     text: &mut String,
     rows: &Rows<'_>,
-    settings: usize,
+    columns: usize,
     busiest: Option<Link>,
     module: usize,
     panel: usize,
 ) -> Result<(), AllocError>
-    requires settings { settings ≤ MAX_TRANSFERS }
-    requires panel { panel < panels_of settings }
+    requires columns { IsNumber columns }
+    requires panel { panel < panels_of columns }
     requires in_rack { «module» < MAX_MODULES }
-    ensures { OnOk result (Adds text.old text.new (part_text rows.now settings busiest «module» panel)) }
+    ensures { OnOk result (Adds text.old text.new (part_text rows.now columns busiest «module» panel)) }
 {
     let zero = Link {
         end: End::Zero,
@@ -118,27 +119,50 @@ fn push_part(
         module,
     };
     push_label(text, module, panel_left(panel), rows.top(module))?;
-    push_half(text, rows, settings, busiest, zero, panel)?;
-    push_half(text, rows, settings, busiest, three, panel)
+    push_half(text, rows, columns, busiest, zero, panel)?;
+    push_half(text, rows, columns, busiest, three, panel)
 }
 
 /// Puts the row of a module at the end of the text.
 pub(crate) fn push_row(
     text: &mut String,
     rows: &Rows<'_>,
-    settings: usize,
+    columns: usize,
     busiest: Option<Link>,
     module: usize,
 ) -> Result<(), AllocError>
-    requires settings { settings ≤ MAX_TRANSFERS }
+    requires columns { IsNumber columns }
     requires in_rack { «module» < MAX_MODULES }
-    ensures { OnOk result (Adds text.old text.new (row_text rows.now settings busiest «module»)) }
+    ensures { OnOk result (Adds text.old text.new (row_text rows.now columns busiest «module»)) }
 {
     if !rows.has(module) {
         return Ok(());
     }
-    for panel in 0..panels(settings) {
-        push_part(text, rows, settings, busiest, module, panel)?;
+    for panel in 0..panels(columns) {
+        push_part(text, rows, columns, busiest, module, panel)?;
+    }
+    Ok(())
+}
+
+/// Puts the heading of a panel's columns at the end of the text.
+fn push_heading(text: &mut String, panel: usize) -> Result<(), AllocError>
+    requires { IsNumber panel }
+    ensures { OnOk result (Adds text.old text.new (heading_at panel)) }
+{
+    let (middle, above) = (panel_left(panel) + 104, TOP - 10);
+    write!(
+        text,
+        "<text class='number' x='{middle}' y='{above}'>setting</text>\n"
+    )
+}
+
+/// Puts the headings of so many columns at the end of the text, one in each panel.
+pub(crate) fn push_headings(text: &mut String, columns: usize) -> Result<(), AllocError>
+    requires { IsNumber columns }
+    ensures { OnOk result (Adds text.old text.new (headings_text columns)) }
+{
+    for panel in 0..panels(columns) {
+        push_heading(text, panel)?;
     }
     Ok(())
 }

@@ -1,7 +1,8 @@
 //! The fixed parts of a picture's text. They are this project's choice.
 
 /// The looks of a picture's parts, with a colour for each module that a rack may have. Text on any of
-/// these colours is black.
+/// these colours is black. In a browser that wants dark pages the paper and the grounds are dark, and the
+/// text on the paper is light.
 pub const STYLE: &str = "\
 <style>\n\
 text{font:12px sans-serif;text-anchor:middle}\n\
@@ -21,6 +22,14 @@ text{font:12px sans-serif;text-anchor:middle}\n\
 .m20{fill:#00a0c0}.m21{fill:#ffe0c0}.m22{fill:#ffa060}.m23{fill:#a0c0e0}\n\
 .m24{fill:#e06080}.m25{fill:#a0e0a0}.m26{fill:#00a040}.m27{fill:#ffffa0}\n\
 .m28{fill:#4080c0}.m29{fill:#ffe000}.m30{fill:#ff6080}.m31{fill:#8080e0}\n\
+@media (prefers-color-scheme:dark){\n\
+svg{background:#111}\n\
+.paper{fill:#111}\n\
+.heading,.note,.busiest text{fill:#eee}\n\
+.number,.lane text{fill:#aaa}\n\
+.lane rect{fill:#333}\n\
+.busiest rect{fill:#fff}\n\
+}\n\
 </style>\n\
 ";
 
@@ -34,7 +43,7 @@ it.</text>\n\
 <g class='busiest'><rect y='36' width='32' height='20'/></g><rect class='m1' x='2' y='38' \
 width='28' height='16'/>\n\
 <text x='16' y='50'>&#8594;1</text><text class='note' x='44' y='50'>Framed: the busiest \
-link. Each setting has a transfer of it, so no schedule has fewer settings.</text>\n\
+link. No two of its transfers share a setting, so it wants a setting for each.</text>\n\
 <text class='note' y='78'>Columns are settings of the switch. In a module's row, link 0 \
 above starts transfers, and link 3 below answers them.</text>\n\
 ";

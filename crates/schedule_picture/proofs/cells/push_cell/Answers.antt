@@ -6,7 +6,7 @@ use Rattle.schedule_picture.proofs.cells.push_cell.Goals as goal
 pub returns : goal.returns
 unfolding cell_text
 returns c =
-    five c.write.result _ _ _ _ _ _ _ _ _ _ _ (cell_text c.args.rows.now c.args.setting c.args.number c.args.transfer.now c.args.end)
+    five c.write.result _ _ _ _ _ _ _ _ _ _ _ (cell_text c.args.rows.now c.args.column c.args.number c.args.transfer.now c.args.end)
     c.in_ok-push_title.ensures
     c.in_ok-push_coloured.ensures
     c.in_ok-push_text_start.ensures

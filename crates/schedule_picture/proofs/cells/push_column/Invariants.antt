@@ -4,4 +4,4 @@ use Rattle.schedule_picture.specs.Cells.{transfer_cells}
 use Rattle.schedule_picture.proofs.cells.push_column.Given as goal
 
 abbrev pub invariant-loop-number : goal.invariant-loop-number
-invariant-loop-number l = string_bytes l.text ≡ string_bytes l.initial.text ++ flat_map (transfer_cells l.rows l.setting) (take l.number-index l.numbers)
+invariant-loop-number l = string_bytes l.text ≡ string_bytes l.initial.text ++ flat_map (transfer_cells l.rows l.column) (take l.number-index l.numbers)

@@ -6,7 +6,7 @@ use Rattle.schedule_picture.proofs.picture.push_opening.Goals as goal
 pub returns : goal.returns
 unfolding opening_text style_text
 returns c =
-    three c.push_caption.result _ _ _ _ _ _ _ (opening_text c.args.rows.now c.args.settings c.args.busiest)
+    three c.push_caption.result _ _ _ _ _ _ _ (opening_text c.args.rows.now c.args.settings c.args.verdict c.args.shown)
     c.in_ok-push_title.ensures
     c.in_ok-push_str.ensures.bytes
     c.push_caption.ensures

@@ -1,0 +1,47 @@
+-- What is known of how many settings a schedule has: how many the busiest link wants, and whether a
+-- certificate shows that no schedule is shorter.
+use Rattle.std.specs.Prelude.{◌≡◌, ℕ, List, [], Option, Some, None}
+use Rattle.batch.specs.declared.transfer.Transfer.{Transfer}
+use Rattle.link_graph.specs.declared.link.Link.{Link}
+use Rattle.link_graph.specs.Counts.{uses, IsBusiest}
+use Rattle.link_graph.specs.Certificates.{Naming, IsCertificate}
+use Rattle.schedule_picture.specs.declared.verdict.Standing.{Standing}
+use Rattle.schedule_picture.specs.declared.verdict.Standing.TheVariants.{Certified, Wrong, Missing}
+use Rattle.schedule_picture.specs.declared.verdict.Verdict.{Verdict}
+
+-- the link that most transfers use, and the first among equals; none where there is no transfer
+abbrev pub IsBusiestOf : List Transfer → Option Link → Type 0
+IsBusiestOf batch None = batch ≡ []
+IsBusiestOf batch (Some link) = IsBusiest batch link
+
+-- how many transfers use the link, where one is named
+abbrev pub uses_of : List Transfer → Option Link → ℕ
+uses_of batch None = 0
+uses_of batch (Some link) = uses batch link
+
+-- what is named shows that no schedule of the batch is shorter, or doesn't
+abbrev pub IsProofOf : List Transfer → List (List ℕ) → Naming → Standing → Type 0
+IsProofOf batch settings named Certified = IsCertificate batch settings named
+IsProofOf batch settings named Wrong = IsCertificate batch settings named → ⊥
+IsProofOf batch settings named Missing = ⊥
+
+-- how the certificate stands, where there is one
+abbrev pub IsStanding : List Transfer → List (List ℕ) → Option Naming → Standing → Type 0
+IsStanding batch settings None standing = standing ≡ Missing
+IsStanding batch settings (Some named) standing = IsProofOf batch settings named standing
+
+-- the link of a certificate that shows it, and else this one
+abbrev pub link_named : Option Link → Standing → Option Naming → Option Link
+link_named busiest Certified (Some named) = named.link
+link_named busiest Certified None = busiest
+link_named busiest Wrong certificate = busiest
+link_named busiest Missing certificate = busiest
+
+-- what is known of a schedule of the batch, with the certificate that it has
+pub record IsVerdict (batch : List Transfer) (settings : List (List ℕ))
+    (certificate : Option Naming) (verdict : Verdict) : Type 0 where
+  pub link : Option Link
+  pub most : IsBusiestOf batch link
+  pub fewest : verdict.fewest ≡ uses_of batch link
+  pub standing : IsStanding batch settings certificate verdict.standing
+  pub busiest : verdict.busiest ≡ link_named link verdict.standing certificate

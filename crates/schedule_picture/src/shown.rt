@@ -1,0 +1,10 @@
+//! Which settings a picture has columns for.
+
+/// The settings that have columns in a picture, one behind the other.
+#[derive(Clone, Copy, Debug, PartialEq, Eq)]
+pub struct Shown {
+    /// The first of them, counted from 0.
+    pub first: usize,
+    /// How many there are.
+    pub count: usize,
+}
