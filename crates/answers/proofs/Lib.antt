@@ -10,3 +10,4 @@ pub mod Switches
 pub mod Openings
 pub mod DirectedThenPlanned
 pub mod Talks
+pub mod Visits

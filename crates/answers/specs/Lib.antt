@@ -13,4 +13,6 @@ pub mod Sessions
 pub mod Serving
 pub mod Hosting
 pub mod Talking
+pub mod Hosts
+pub mod Visits
 pub use Rattle.batch.specs.Extent

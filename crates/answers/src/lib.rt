@@ -7,13 +7,17 @@
 #![tactic(auto)]
 
 mod answer;
+mod attended;
 mod checking;
 mod checking_fault;
 mod directing;
+mod doors;
 mod drawing;
 mod drawing_fault;
 mod frames;
 mod hall;
+mod hosting;
+mod latch;
 pub mod laws;
 mod limits;
 mod opening;
@@ -29,14 +33,17 @@ mod switching;
 mod talking;
 
 pub use answer::Answer;
+pub use attended::Ending;
 pub use checking::answer_check;
 pub use checking_fault::CheckingFault;
 pub use client_session::{LINE_BYTES, MAX_READS};
 pub use directing::answer_direct;
+pub use doors::Doors;
 pub use drawing::answer_draw;
 pub use drawing_fault::DrawingFault;
 pub use exchange_limits::WorkerCount;
 pub use frames::push_end;
+pub use hosting::{Hosted, answer_host};
 pub use limits::{DONE, REFUSED};
 pub use planning::answer_plan;
 pub use running::{answer_apply, answer_run};

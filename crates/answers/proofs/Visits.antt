@@ -1,0 +1,190 @@
+-- The sessions of a host's clients, and the seats of their exchange.
+use Rattle.std.proofs.Common.{◌≡◌, ℕ, ◌+◌, ◌<◌, Bool, true, false, ◌||◌, List, [], ◌∷◌, ◌++◌, length, get_or, map, All, Option, Some, Result, Ok, IfOk, IfSome, refl, sym, ap, ap₂, ◌∙◌, subst, take, arith}
+use Rattle.std.specs.List.{range_with_len, sum, list_any, flat_map}
+use Rattle.std.proofs.lemmas.List.{flat_map_more, get_or-map, length-map, map-id, append_assoc, map-append}
+use Rattle.std.proofs.lemmas.List.Elements.{All-map, All-push}
+use Rattle.std.proofs.lemmas.List.Folds.{list_any_at, list_any_more}
+use Rattle.std.proofs.lemmas.List.FromFn.{get_or-range_with_len, length-range_with_len}
+use Rattle.std.proofs.lemmas.List.Sums.{sum-map}
+use Rattle.std.proofs.lemmas.Simd.{map-map}
+use Rattle.std.specs.Io.KnownBytes.{Appends}
+use Rattle.batch.specs.Extent.{Extent}
+use Rattle.batch_book.specs.Exchanges.{Exchange, AreNew, new_seat, parts_at}
+use Rattle.batch_book.specs.Seats.{SeatState, IsSameSeat}
+use Rattle.client_session.specs.declared.fault.ServeFault.{ServeFault}
+use Rattle.module_memory.specs.Store.{Store}
+use Rattle.answers.specs.declared.attended.Attended.{Attended}
+use Rattle.answers.specs.declared.attended.Ending.{Ending}
+use Rattle.answers.specs.declared.attended.Ending.TheVariants.{Unopened, Served}
+use Rattle.answers.specs.Histories.{Part, part_of, IsClosing}
+use Rattle.answers.specs.Hosting.{IsFresh}
+use Rattle.answers.specs.Hosts.{Guests, Visit, End, WasServed, AreHosted, IsVisit, end_of, ending_line, has_failed, visit_heading, visit_text}
+use Rattle.answers.specs.Refusals.{Printed}
+use Rattle.answers.specs.Sessions.{IsAttended}
+use Rattle.answers.specs.Visits.{visit, IsOfSeat, AreVisitsAt}
+use Rattle.answers.proofs.Sessions.{map_same, sum_mapped, one_more}
+
+-- ---- a session
+
+same_seat : (seat : SeatState) → IsSameSeat seat seat
+same_seat seat = record { exchange = refl; session = refl; parts = refl }
+
+-- the seat of a client whose files weren't opened
+pub idle : {L C : Type 0} (x : Exchange) (g : Guests) (received : C → Option (List ℕ)) (s : Attended L C) → IsFresh x s.seat → s.ending ≡ Unopened
+    → IsOfSeat x g received s.seat s
+idle x g received s fresh is =
+    let its : IsVisit x.shape g (part_of s.seat) (end_of received Unopened) = record { entries = fresh.log; seen = fresh.seen } in
+    record { same = same_seat s.seat; its = rw is its }
+
+-- what a client's session leaves
+pub was_served : {L C : Type 0} (x : Exchange) (g : Guests) (received : C → Option (List ℕ)) (old : SeatState) (s : Attended L C) (said rest held closed : Option (List ℕ))
+    (fault : Option ServeFault) (receipt : C)
+    → IsSameSeat old s.seat → said ≡ g.says old.session → held ≡ g.holds old.session → received receipt ≡ closed → s.ending ≡ Served fault receipt
+    → ((told : List ℕ) × Appends held closed told × IsAttended x.shape said rest (record { part = part_of s.seat; told = told; fault = fault }))
+    → IsOfSeat x g received old s
+was_served x g received old s said rest held closed fault receipt same says holds got is session =
+    let says' : said ≡ g.says s.seat.session = says ∙ ap g.says (sym same.session) in
+    let holds' : held ≡ g.holds s.seat.session = holds ∙ ap g.holds (sym same.session) in
+    let served : WasServed x.shape said held closed fault (part_of s.seat) = record { rest = rest; told = session.0; session = session.2; wrote = session.1 } in
+    let its : IsVisit x.shape g (part_of s.seat) (end_of received (Served fault receipt)) = rw (says', holds', sym got) at served in
+    record { same = same; its = rw is its }
+
+-- ---- all sessions
+
+-- each seat of a new exchange has had its session
+pub all_visited : {L C : Type 0} (x : Exchange) (g : Guests) (received : C → Option (List ℕ)) (n : ℕ) (seats : List SeatState) (ss : List (Attended L C))
+    → AreNew x.word n seats → length ss ≡ length seats → ((k : ℕ) (s : Attended L C) (d : SeatState) → k < length seats → IsOfSeat x g received (get_or seats k d) (get_or ss k s))
+    → AreVisitsAt x g received n ss
+all_visited {L} {C} x g received n seats ss new len each =
+    let at : (k : ℕ) (s : Attended L C) → k < length ss → IsOfSeat x g received (new_seat x.word k (parts_at n k)) (get_or ss k s) =
+    λ k s lt. (let d = new_seat x.word k (parts_at n k) in
+    subst (λ (seat : SeatState). IsOfSeat x g received seat (get_or ss k s)) (new.each k d (omega (arith, len, new.count, lt))) (each k s d (omega (arith, len, lt)))) in
+    let numbers : map (λ (s : Attended L C). s.seat.session) ss ≡ map (λ (n : ℕ). n) (range_with_len 0 n) =
+    map_same (λ (s : Attended L C). s.seat.session) (λ (n : ℕ). n) ss (range_with_len 0 n) (omega (arith, len, new.count, length-range_with_len 0 n))
+    (λ k s e lt.
+    let here = get_or-range_with_len 0 n k e (omega (arith, len, new.count)) in
+    (at k s lt).same.session ∙ omega (arith, here)) in
+    let parts : map (λ (s : Attended L C). s.seat.parts) ss ≡ map (λ (t : SeatState). t.parts) seats =
+    map_same (λ (s : Attended L C). s.seat.parts) (λ (t : SeatState). t.parts) ss seats len
+    (λ k s e lt. (each k s e (omega (arith, len, lt))).same.parts) in
+    record {
+      all_seats = record {
+        each = All-map (λ (t : SeatState). t.exchange ≡ Some x.word) (λ (s : Attended L C). s.seat) ss (λ k s lt. (at k s lt).same.exchange);
+        parts = sum_mapped (λ (t : SeatState). t.parts) (λ (s : Attended L C). s.seat) ss ∙ sym (sum-map (λ (s : Attended L C). s.seat.parts) ss) ∙ ap sum parts ∙ sum-map (λ (t : SeatState). t.parts) seats ∙ new.parts;
+      };
+      of_clients = record {
+        numbers = map-map (λ (v : Visit). v.part.session) (visit received) ss ∙ numbers ∙ map-id (range_with_len 0 n);
+        each = All-map (λ (v : Visit). IsVisit x.shape g v.part v.end) (visit received) ss (λ k s lt. (at k s lt).its);
+      };
+    }
+
+-- ---- what is printed of them
+
+same_line : {C : Type 0} (received : C → Option (List ℕ)) (e : Ending C) → ending_line (end_of received e) ≡ ending_line e
+same_line received Unopened = refl
+same_line received (Served fault receipt) = refl
+
+same_failure : {C : Type 0} (received : C → Option (List ℕ)) (e : Ending C) → has_failed (end_of received e) ≡ has_failed e
+same_failure received Unopened = refl
+same_failure received (Served fault receipt) = refl
+
+-- one more session is printed
+pub one_more_end : {L C : Type 0} (g : Guests) (received : C → Option (List ℕ)) (ss : List (Attended L C)) (i : ℕ) (s : Attended L C) (before headed after : List ℕ)
+    → i < length ss → s ≡ get_or ss i s → before ≡ flat_map (visit_text g) (map (visit received) (take i ss))
+    → headed ≡ before ++ visit_heading g s.seat.session → after ≡ headed ++ ending_line s.ending
+    → after ≡ flat_map (visit_text g) (map (visit received) (take (i + 1) ss))
+one_more_end g received ss i s before headed after lt is printed head end =
+    let whole : after ≡ before ++ visit_text g (visit received s) =
+    end ∙ ap₂ (λ (xs ys : List ℕ). xs ++ ys) head (sym (same_line received s.ending)) ∙ append_assoc before (visit_heading g s.seat.session) (ending_line (end_of received s.ending)) in
+    whole ∙ ap (λ (xs : List ℕ). xs ++ visit_text g (visit received s)) printed
+    ∙ flat_map_more (visit_text g) [] (map (visit received) (take i ss)) (visit received s) ∙ ap (flat_map (visit_text g)) (one_more (visit received) ss i s lt is)
+
+-- one that failed
+pub fails_here : {L C : Type 0} (ss : List (Attended L C)) (i : ℕ) (s : Attended L C) → i < length ss → s ≡ get_or ss i s → has_failed s.ending ≡ true
+    → list_any has_failed (map (λ s. s.ending) ss) ≡ true
+fails_here {L} {C} ss i s lt is failed =
+    let End : Attended L C → Ending C = λ s. s.ending in
+    let there : get_or (map End ss) i (End s) ≡ End s = get_or-map End ss i s (End s) lt ∙ ap End (sym is) in
+    list_any_at has_failed (map End ss) i (End s) (omega (arith, lt, length-map ss End)) (ap has_failed there ∙ failed)
+
+pub none_failed_yet : {L C : Type 0} (ss : List (Attended L C)) (i : ℕ) (s : Attended L C) → i < length ss → s ≡ get_or ss i s
+    → list_any has_failed (take i (map (λ s. s.ending) ss)) ≡ false → has_failed s.ending ≡ false → list_any has_failed (take (i + 1) (map (λ s. s.ending) ss)) ≡ false
+none_failed_yet {L} {C} ss i s lt is before none =
+    let End : Attended L C → Ending C = λ s. s.ending in
+    let there : get_or (map End ss) i (End s) ≡ End s = get_or-map End ss i s (End s) lt ∙ ap End (sym is) in
+    list_any_more has_failed (map End ss) i (End s) (omega (arith, lt, length-map ss End)) ∙ ap₂ ◌||◌ before (ap has_failed there ∙ none)
+
+-- those that failed
+pub same_failures : {C : Type 0} (received : C → Option (List ℕ)) (es : List (Ending C)) → list_any has_failed (map (end_of received) es) ≡ list_any has_failed es
+same_failures received [] = refl
+same_failures received (e ∷ es) = ap₂ ◌||◌ (same_failure received e) (same_failures received es)
+
+-- ---- what is taken from a list one by one
+
+-- one more of them is moved behind others
+pub moved : {A : Type 0} (all xs more ys rest : List A) (y : A) → more ≡ xs ++ y ∷ [] → ys ≡ y ∷ rest → xs ++ ys ≡ all → more ++ rest ≡ all
+moved all xs more ys rest y pushed first was = ap (λ zs. zs ++ rest) pushed ∙ append_assoc xs (y ∷ []) rest ∙ ap (λ zs. xs ++ zs) (sym first) ∙ was
+
+-- each seat of a new exchange has done nothing
+pub all_fresh : (x : Exchange) (n : ℕ) (seats : List SeatState) → AreNew x.word n seats → All (IsFresh x) seats
+all_fresh x n seats new k d lt =
+    let is : get_or seats k d ≡ new_seat x.word k (parts_at n k) = new.each k d (omega (arith, lt, new.count)) in
+    record { exchange = ap (λ (t : SeatState). t.exchange) is; log = ap (λ (t : SeatState). t.log) is; seen = ap (λ (t : SeatState). t.seen) is }
+
+-- one more of them has a thread
+pub one_more_thread : {T S : Type 0} (f : T → S) (all : List S) (old new : List T) (t : T) (s : S) (ys rest : List S) → new ≡ old ++ t ∷ [] → ys ≡ s ∷ rest → f t ≡ s
+    → map f old ++ ys ≡ all → map f new ++ rest ≡ all
+one_more_thread f all old new t s ys rest pushed first is was =
+    moved all (map f old) (map f new) ys rest (f t) (ap (map f) pushed ∙ map-append f old (t ∷ [])) (first ∙ ap (λ y. y ∷ rest) (sym is)) was
+
+-- and what has been taken from
+pub one_more_taken : {T S : Type 0} (f : T → S) (all : List S) (old new : List S) (s : S) (t : T) (ts rest : List T) → new ≡ old ++ s ∷ [] → ts ≡ t ∷ rest → s ≡ f t
+    → old ++ map f ts ≡ all → new ++ map f rest ≡ all
+one_more_taken f all old new s t ts rest pushed first is was = moved all old new (map f ts) (map f rest) s pushed (ap (map f) first ∙ ap (λ y. y ∷ map f rest) (sym is)) was
+
+-- what holds of all holds with one more
+pub all_pushed : {T : Type 0} (old new : List T) (t : T) (P : T → Type 0) → new ≡ old ++ t ∷ [] → All P old → P t → All P new
+all_pushed old new t P pushed all one = subst (λ ts. All P ts) (sym pushed) (All-push P old t all one)
+
+-- what was had
+pub had : {X E : Type 0} (r : Result (Option X) E) (o : Option X) (x : X) (P : X → Type 0) → r ≡ Ok o → o ≡ Some x → IfOk r (λ s. IfSome s P) → P x
+had {X} {E} r o x P is some p =
+    let q = subst (λ (z : Result (Option X) E). IfOk z (λ (s : Option X). IfSome s P)) is p in
+    subst (λ (z : Option X). IfSome z P) some q
+
+-- as many as before
+pub as_many : {H S : Type 0} (f : H → S) (hs : List H) (seats : List S) → map f hs ≡ seats → length hs ≡ length seats
+as_many f hs seats mapped = sym (length-map hs f) ∙ ap length mapped
+
+-- the threads of seats give back their sessions
+pub kept_each : {H L C : Type 0} (hs : List H) (exchange_of : H → Exchange) (guests_of : H → Guests) (seat_of : H → SeatState) (x : Exchange) (g : Guests) (received : C → Option (List ℕ))
+    (seats : List SeatState) (ss : List (Attended L C))
+    → map seat_of hs ≡ seats
+    → ((k : ℕ) (h : H) → k < length hs → (exchange_of (get_or hs k h) ≡ x) × (guests_of (get_or hs k h) ≡ g))
+    → ((k : ℕ) (s : Attended L C) → k < length hs → (h : H) × (h ≡ get_or hs k h) × IsOfSeat (exchange_of h) (guests_of h) received (seat_of h) (get_or ss k s))
+    → (k : ℕ) (s : Attended L C) (d : SeatState) → k < length seats → IsOfSeat x g received (get_or seats k d) (get_or ss k s)
+kept_each {H} {L} {C} hs exchange_of guests_of seat_of x g received seats ss mapped there each k s d lt =
+    let below : k < length hs = omega (arith, lt, sym (ap length mapped), length-map hs seat_of) in
+    let o = each k s below in
+    let t = there k o.0 below in
+    let seat : seat_of o.0 ≡ get_or seats k d = ap seat_of o.1 ∙ sym (get_or-map seat_of hs k o.0 d below) ∙ ap (λ ys. get_or ys k d) mapped in
+    let exchange : exchange_of o.0 ≡ x = ap exchange_of o.1 ∙ t.0 in
+    let guests : guests_of o.0 ≡ g = ap guests_of o.1 ∙ t.1 in
+    rw (exchange, guests, seat) at o.2
+
+-- ---- the exchange is closed
+
+-- what is printed of the sessions is what the host answers
+pub are_hosted : {L C : Type 0} (x : Exchange) (opening rack : Store) (g : Guests) (received : C → Option (List ℕ)) (n clients : ℕ) (ss : List (Attended L C))
+    (seats : List SeatState) (endings : List (Ending C)) (text : List ℕ) (failed : Bool) (printed : Printed)
+    → AreVisitsAt x g received n ss → n ≡ clients → x.shape ≡ rack.shape → opening ≡ rack
+    → seats ≡ map (λ s. s.seat) ss → endings ≡ map (λ s. s.ending) ss → text ≡ flat_map (visit_text g) (map (visit received) ss) → failed ≡ list_any has_failed (map (λ s. s.ending) ss)
+    → IsClosing opening (map part_of seats) text failed printed → AreHosted rack g clients (map (end_of received) endings) printed
+are_hosted {L} {C} x opening rack g received n clients ss seats endings text failed printed visited count shape copied seated ended framed fails closed =
+    let Seat : Attended L C → SeatState = λ s. s.seat in
+    let How : Attended L C → Ending C = λ s. s.ending in
+    let visits : List Visit = map (visit received) ss in
+    let ends : map (λ (v : Visit). v.end) visits ≡ map (end_of received) endings = map-map (λ (v : Visit). v.end) (visit received) ss ∙ sym (map-map (end_of received) How ss) ∙ ap (map (end_of received)) (sym ended) in
+    let parts : map part_of seats ≡ map (λ (v : Visit). v.part) visits = ap (map part_of) seated ∙ map-map part_of Seat ss ∙ sym (map-map (λ (v : Visit). v.part) (visit received) ss) in
+    let failures : failed ≡ list_any has_failed (map (end_of received) endings) = fails ∙ ap (list_any has_failed) (sym ended) ∙ sym (same_failures received endings) in
+    (visits, ends, rw (count, shape) at visited.of_clients, rw (copied, parts, framed, failures) at closed)

@@ -1,0 +1,9 @@
+use Rattle.std.proofs.Common.{◌≡◌, map, take}
+use Rattle.std.specs.List.{flat_map}
+use Rattle.answers.specs.Hosts.{visit_text}
+use Rattle.answers.specs.Visits.{visit}
+use Rattle.answers.proofs.hosting.ends_of.Given as goal
+
+abbrev pub invariant-loop-session : goal.invariant-loop-session
+invariant-loop-session g l =
+    l.text.items ≡ flat_map (visit_text (g.D.Doors.guests l.doors)) (map (visit g.D.Doors.received) (take l.session-index l.sessions))

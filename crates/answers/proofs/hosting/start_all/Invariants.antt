@@ -1,0 +1,12 @@
+use Rattle.std.proofs.Common.{◌≡◌, ◌++◌, All, map}
+use Rattle.std.specs.Vec.Iter.{into_iter_items}
+use Rattle.answers.specs.Hosting.{IsFresh}
+use Rattle.answers.proofs.hosting.start_all.Given as goal
+
+abbrev pub invariant-loop-seat : goal.invariant-loop-seat
+invariant-loop-seat g l =
+    (goal.iterator-loop-seat g).can_next l.seat-iterator ×
+    (goal.iterator-loop-seat g).is_finite l.seat-iterator ×
+    (map (λ t. t.promise.seat.value) l.threads.items ++ into_iter_items l.seat-iterator ≡ l.fn.seats.items) ×
+    All (λ t. (t.promise.exchange ≡ l.fn.floor.exchange) × (t.promise.doors ≡ l.fn.floor.doors)) l.threads.items ×
+    All (IsFresh l.fn.floor.exchange.now) (into_iter_items l.seat-iterator)

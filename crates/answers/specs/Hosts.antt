@@ -1,0 +1,113 @@
+-- What `host` answers.
+use Rattle.std.specs.Prelude.{◌≡◌, ℕ, Bool, true, List, [], ◌++◌, codes, flat_map, map, All, Option, is_some}
+use Rattle.std.specs.Fmt.{decimal}
+use Rattle.std.specs.Io.KnownBytes.{Appends}
+use Rattle.std.specs.List.{list_any, range_with_len}
+use Rattle.batch.specs.Extent.{Extent}
+use Rattle.batch.specs.ShapeText.{DenotesShape, IsBadShape}
+use Rattle.module_memory.specs.declared.fault.ImageFault.{ImageFault}
+use Rattle.module_memory.specs.Store.{Store}
+use Rattle.client_session.specs.declared.fault.ServeFault.{ServeFault}
+use Rattle.answers.specs.declared.attended.Ending.{Ending}
+use Rattle.answers.specs.declared.attended.Ending.TheVariants.{Unopened, Served}
+use Rattle.answers.specs.Openings.{IsOfImageOrZeros, IsWrongImage}
+use Rattle.answers.specs.Refusals.{Printed, IsRefused, image_words}
+use Rattle.answers.specs.Histories.{Part, IsClosing}
+use Rattle.answers.specs.Sessions.{IsAttended}
+use Rattle.answers.specs.Talking.{end_line}
+
+-- what is known of the clients of a host: what each says, what its writer holds at first, and its
+-- name
+pub record Guests : Type 0 where
+  pub says : ℕ → Option (List ℕ)
+  pub holds : ℕ → Option (List ℕ)
+  pub named : ℕ → List ℕ
+
+-- How a client's session ended: in place of the receipt of its writer it has the bytes that this
+-- was closed with, where they are known.
+abbrev pub End : Type 0
+End = Ending (Option (List ℕ))
+
+abbrev pub end_of : {C : Type 0} → (C → Option (List ℕ)) → Ending C → End
+end_of received Unopened = Unopened
+end_of received (Served fault receipt) = Served fault (received receipt)
+
+-- a client's session at a host: its part of the history, and how it ended
+pub record Visit : Type 0 where
+  pub part : Part
+  pub end : End
+
+-- nothing was asked, and nothing seen
+pub record IsIdle (part : Part) : Type 0 where
+  pub entries : part.entries ≡ []
+  pub seen : part.seen ≡ 0
+
+-- The session read of what its client said. What it told stands in its closed writer, behind what
+-- that held at first.
+pub record WasServed (shape : Extent) (said held closed : Option (List ℕ))
+    (fault : Option ServeFault) (part : Part) : Type 0 where
+  pub rest : Option (List ℕ)
+  pub told : List ℕ
+  pub session : IsAttended shape said rest (record { part = part; told = told; fault = fault })
+  pub wrote : Appends held closed told
+
+-- what a client's part and end may be
+abbrev pub IsVisit : Extent → Guests → Part → End → Type 0
+IsVisit shape g part Unopened = IsIdle part
+IsVisit shape g part (Served fault closed) =
+    WasServed shape (g.says part.session) (g.holds part.session) closed fault part
+
+-- each client had its session, in their order
+pub record AreVisits (shape : Extent) (g : Guests) (clients : ℕ) (visits : List Visit)
+    : Type 0 where
+  pub numbers : map (λ v. v.part.session) visits ≡ range_with_len 0 clients
+  pub each : All (λ v. IsVisit shape g v.part v.end) visits
+
+-- the line that tells how a session ended, unless it ended by itself
+abbrev pub ending_line : {C : Type 0} → Ending C → List ℕ
+ending_line Unopened = codes "ended open\n"
+ending_line (Served fault receipt) = end_line fault
+
+-- `session I CLIENT`
+abbrev pub visit_heading : Guests → ℕ → List ℕ
+visit_heading g session =
+    codes "session " ++ decimal session ++ codes " " ++ g.named session ++ codes "\n"
+
+-- what is printed of a session
+abbrev pub visit_text : Guests → Visit → List ℕ
+visit_text g v = visit_heading g v.part.session ++ ending_line v.end
+
+-- it didn't end by itself
+abbrev pub has_failed : {C : Type 0} → Ending C → Bool
+has_failed Unopened = true
+has_failed (Served fault receipt) = is_some fault
+
+-- the sessions of so many clients, which ended so, on one exchange whose rack has this store at
+-- first
+abbrev pub AreHosted : Store → Guests → ℕ → List End → Printed → Type 0
+AreHosted opening g clients ends printed =
+    (visits : List Visit) × (map (λ v. v.end) visits ≡ ends)
+    × AreVisits opening.shape g clients visits
+    × IsClosing opening (map (λ v. v.part) visits) (flat_map (visit_text g) visits)
+    (list_any has_failed ends) printed
+
+-- such sessions, or none, where not all of their threads could be had
+pub data IsHosting (opening : Store) (g : Guests) (clients : ℕ) (ends : List End)
+    (printed : Printed) : Type 0 where
+  hosted : AreHosted opening g clients ends printed → IsHosting opening g clients ends printed
+  threads_refused : IsRefused (codes "threads") printed → ends ≡ []
+      → IsHosting opening g clients ends printed
+
+-- the sessions of so many clients on a rack of the shape that the text denotes, whose words are
+-- first those of the image or, where there is none, 0; or the refusal where it denotes none, or
+-- else of the image, and no session
+pub data IsHostAnswer (shape : List ℕ) (image : Option (List ℕ)) (g : Guests) (clients : ℕ)
+    (ends : List End) (printed : Printed) : Type 0 where
+  opened : (extent : Extent) (opening : Store) → DenotesShape shape extent
+      → IsOfImageOrZeros extent image opening → IsHosting opening g clients ends printed
+      → IsHostAnswer shape image g clients ends printed
+  shape_refused : IsBadShape shape → IsRefused (codes "shape") printed → ends ≡ []
+      → IsHostAnswer shape image g clients ends printed
+  image_refused : (extent : Extent) (fault : ImageFault) → DenotesShape shape extent
+      → IsWrongImage extent image fault → IsRefused (image_words fault) printed → ends ≡ []
+      → IsHostAnswer shape image g clients ends printed

@@ -1,0 +1,36 @@
+ghost use Rattle.std.specs.Prelude.{◌≡◌, ℕ, List, Option, IfOk};
+ghost use Rattle.answers.specs.Hosts.{Guests};
+
+use std::io;
+use std::io::{Read, Write};
+
+/// What opens and closes the two files of each client of a host, and knows its name.
+pub trait Doors: Sync {
+    /// What a client says is read from this.
+    type Reader: Read + Send + Drop;
+    /// What a client is told is written to this.
+    type Writer: Write + Send + Drop;
+    /// What is left of a writer that was closed.
+    type Receipt: Send + Drop;
+
+    /// What is known of the clients.
+    ghost guests: { Self → Guests };
+
+    /// The bytes of the writer of which this is left, where they are known.
+    ghost received: { Self.Receipt → Option (List ℕ) };
+
+    /// The name of the client of this number.
+    fn name(&self, client: usize) -> &str
+        ensures { result.now ≡ (guests self.now).named client };
+
+    /// Opens the files of a client. It may wait until the client has opened them too.
+    fn open(&self, client: usize) -> io::Result<(Self::Reader, Self::Writer)>
+        ensures reader { IfOk result (λ ends.
+            Self.Reader.remaining ends.0 ≡ (guests self.now).says client) }
+        ensures writer { IfOk result (λ ends.
+            Self.Writer.contents ends.1 ≡ (guests self.now).holds client) };
+
+    /// Closes the writer of a client.
+    fn close(&self, writer: Self::Writer) -> Self::Receipt
+        ensures { received result ≡ Self.Writer.contents writer };
+}

@@ -1,0 +1,372 @@
+//! The command `host`.
+
+ghost use Rattle.std.specs.Prelude.{◌≡◌, ◌≤◌, ◌++◌, [], All, IfOk, IfSome, OnOk, length, map, flat_map};
+ghost use Rattle.std.specs.List.{list_any};
+ghost use Rattle.progress_word.specs.declared.limits.TheConstants.{ALL_PARTS};
+ghost use Rattle.batch_book.specs.Exchanges.{AreNew};
+ghost use Rattle.answers.specs.Openings.{bytes_of};
+ghost use Rattle.answers.specs.Refusals.{IsRefused};
+ghost use Rattle.answers.specs.Hosting.{IsFresh};
+ghost use Rattle.answers.specs.Hosts.{end_of, ending_line, visit_heading, visit_text, has_failed, IsHosting, IsHostAnswer};
+ghost use Rattle.answers.specs.Visits.{visit, IsOfSeat, AreVisitsAt};
+
+use crate::answer::Answer;
+use crate::attended::{Attended, Ending};
+use crate::doors::Doors;
+use crate::frames::ended_line;
+use crate::hall::{PlainExchange, attend, finish, open_exchange};
+use crate::latch::Latch;
+use crate::opening::opening_rack;
+use crate::refusal::image_words;
+use batch::Shape;
+use batch_book::Seat;
+use exchange_limits::{MAX_SESSIONS, WorkerCount};
+use module_memory::Rack;
+use progress_word::ALL_PARTS;
+use std::alloc::{AllocError, Global};
+use std::marker::Brand;
+use std::snapshot::Snapshot;
+use std::sync::Wait;
+use std::sync::ledger::{Blank, Ledger};
+use std::thread;
+use std::thread::{Promise, PromisedHandle, Scope, Threads};
+
+/// What is left of a host: its answer, and how the session of each client ended, in their order. There are no sessions behind a
+/// refusal.
+#[derive(Drop)]
+pub struct Hosted<C> {
+    /// What is said of the sessions' ends, or the refusal.
+    pub answer: Answer,
+    /// How each session ended.
+    pub endings: Vec<Ending<C>>,
+}
+
+/// What the threads of a host share.
+#[derive(Drop)]
+struct Floor<'a, L: Ledger, R, D> {
+    rt: &'a R,
+    alloc: Global,
+    exchange: &'a PlainExchange<L>,
+    doors: &'a D,
+    workers: WorkerCount,
+    latch: &'a Latch,
+}
+
+/// That a thread gives back a session of this seat.
+#[derive(Drop)]
+struct OfSeat<'a, L: Ledger, D> {
+    exchange: &'a PlainExchange<L>,
+    doors: &'a D,
+    seat: Snapshot<Seat<L>>,
+}
+
+impl<'a, L: Ledger, D: Doors> Promise<Attended<L, D::Receipt>> for OfSeat<'a, L, D> {
+    ghost kept_by = { λ p s. IsOfSeat p.exchange.now (D.guests p.doors.now) D.received p.seat.value s };
+}
+
+/// The thread of a client's session.
+type SessionThread<'a, L, D> = PromisedHandle<Attended<L, <D as Doors>::Receipt>, OfSeat<'a, L, D>>;
+
+/// Serves the client of a seat, once it has opened its files.
+fn host_client<L: Ledger, R: Threads + Wait + Sync, D: Doors>(
+    floor: &Floor<'_, L, R, D>,
+    seat: Seat<L>,
+) -> Attended<L, D::Receipt>
+    requires seat { IsFresh floor.now.exchange.now seat }
+    ensures { IsOfSeat floor.now.exchange.now (D.guests floor.now.doors.now) D.received
+        seat result }
+{
+    let Ok((mut reader, mut writer)) = floor.doors.open(seat.session()) else {
+        return Attended {
+            seat,
+            ending: Ending::Unopened,
+        };
+    };
+    let (seat, fault) = attend(
+        floor.rt,
+        floor.alloc,
+        floor.exchange,
+        seat,
+        &mut reader,
+        &mut writer,
+        floor.workers,
+    );
+    let receipt = floor.doors.close(writer);
+    Attended {
+        seat,
+        ending: Ending::Served { fault, receipt },
+    }
+}
+
+/// Serves the client of a seat once all threads were had, or leaves its files closed where they weren't.
+fn wait_and_host<L: Ledger, R: Threads + Wait + Sync, D: Doors>(
+    floor: &Floor<'_, L, R, D>,
+    seat: Seat<L>,
+) -> Attended<L, D::Receipt>
+    requires seat { IsFresh floor.now.exchange.now seat }
+    ensures { IsOfSeat floor.now.exchange.now (D.guests floor.now.doors.now) D.received
+        seat result }
+{
+    if floor.latch.wait(floor.rt) {
+        host_client(floor, seat)
+    } else {
+        Attended {
+            seat,
+            ending: Ending::Unopened,
+        }
+    }
+}
+
+/// Gives each of these seats a thread, which waits for the latch: none where one of them can't be had.
+fn start_all<'s, E, L: Ledger + Send + Sync, R: Threads + Wait + Sync, D: Doors>(
+    scope: &Scope<'s, E>,
+    floor: &'s Floor<'s, L, R, D>,
+    seats: Vec<Seat<L>>,
+) -> Result<Option<Vec<SessionThread<'s, L, D>>>, AllocError>
+    requires { AreNew floor.now.exchange.now.word (length seats.items) seats.items }
+    ensures seats { IfOk result (λ started. IfSome started (λ threads.
+        map (λ t. t.promise.seat.value) threads.items ≡ seats.items)) }
+    ensures floor { IfOk result (λ started. IfSome started (λ threads. All (λ t.
+        (t.promise.exchange ≡ floor.now.exchange) × (t.promise.doors ≡ floor.now.doors)) threads.items)) }
+{
+    let mut threads = Vec::new(floor.alloc);
+    for seat in seats {
+        let promise = OfSeat {
+            exchange: floor.exchange,
+            doors: floor.doors,
+            seat: Snapshot::of(&seat),
+        };
+        let serve = move || -> Attended<L, D::Receipt>
+            requires { IsFresh floor.now.exchange.now seat }
+        { wait_and_host(floor, seat) };
+        let Ok(thread) = scope.spawn_with(promise, serve) else {
+            return Ok(None);
+        };
+        threads.push(thread)?;
+    }
+    Ok(Some(threads))
+}
+
+/// Serves the clients of these seats side by side, once each has a thread: none where one of these can't be had.
+fn host_all<'s, E, L: Ledger + Send + Sync, R: Threads + Wait + Sync, D: Doors>(
+    scope: &Scope<'s, E>,
+    floor: &'s Floor<'s, L, R, D>,
+    seats: Vec<Seat<L>>,
+) -> Result<Option<Vec<Attended<L, D::Receipt>>>, AllocError>
+    requires { AreNew floor.now.exchange.now.word (length seats.items) seats.items }
+    ensures { IfOk result (λ hosted. IfSome hosted (λ sessions.
+        AreVisitsAt floor.now.exchange.now (D.guests floor.now.doors.now) D.received
+        (length seats.items) sessions.items)) }
+{
+    let started = start_all(scope, floor, seats);
+    let all_there = match &started {
+        Ok(Some(_)) => true,
+        _ => false,
+    };
+    floor.latch.decide(floor.rt, all_there);
+    let Some(threads) = started? else {
+        return Ok(None);
+    };
+    match thread::join_promised(floor.rt, threads) {
+        Ok(sessions) => Ok(Some(sessions)),
+        Err(_) => Err(AllocError),
+    }
+}
+
+/// The sessions of the clients of these seats.
+fn host_seats<'a, L: Ledger + Send + Sync, R: Threads + Wait + Sync, D: Doors>(
+    rt: &'a R,
+    alloc: Global,
+    exchange: &'a PlainExchange<L>,
+    seats: Vec<Seat<L>>,
+    doors: &'a D,
+    workers: WorkerCount,
+) -> Result<Option<Vec<Attended<L, D::Receipt>>>, AllocError>
+    requires { AreNew exchange.now.word (length seats.items) seats.items }
+    ensures { IfOk result (λ hosted. IfSome hosted (λ sessions.
+        AreVisitsAt exchange.now (D.guests doors.now) D.received
+        (length seats.items) sessions.items)) }
+{
+    let latch = Latch::new();
+    let all = Floor {
+        rt,
+        alloc,
+        exchange,
+        doors,
+        workers,
+        latch: &latch,
+    };
+    let floor = &all;
+    thread::scope(
+        thread::scope_env(),
+        rt,
+        move |scope| -> Result<Option<Vec<Attended<L, D::Receipt>>>, AllocError>
+            requires { AreNew floor.now.exchange.now.word (length seats.items) seats.items }
+            ensures { IfOk result (λ hosted. IfSome hosted (λ sessions.
+                AreVisitsAt floor.entry.now.exchange.now (D.guests floor.entry.now.doors.now) D.received
+                (length seats.items) sessions.items)) }
+        { host_all(scope, floor, seats) },
+    )
+}
+
+/// Puts the line of a session's number and its client's name at the end of the text.
+fn push_heading<D: Doors>(
+    alloc: Global,
+    text: &mut Vec<u8>,
+    doors: &D,
+    session: usize,
+) -> Result<(), AllocError>
+    ensures { OnOk result (text.new.items ≡ text.old.items ++ visit_heading (D.guests doors.now) session) }
+{
+    let name = doors.name(session);
+    let line = format!(in alloc; "session {session} {name}\n")?;
+    text.extend_from_slice(line.as_str().as_bytes())
+}
+
+/// Puts the line of a session's end at the end of the text, unless the session ended by itself.
+fn push_ending<C>(text: &mut Vec<u8>, ending: &Ending<C>) -> Result<(), AllocError>
+    ensures { OnOk result (text.new.items ≡ text.old.items ++ ending_line ending.now) }
+{
+    match ending {
+        Ending::Unopened => text.extend_from_slice(b"ended open\n"),
+        Ending::Served {
+            fault: Some(fault),
+            ..
+        } => text.extend_from_slice(ended_line(*fault)),
+        Ending::Served { fault: None, .. } => Ok(()),
+    }
+}
+
+/// What is printed of the sessions, one after another.
+fn ends_of<L: Ledger, D: Doors>(
+    alloc: Global,
+    doors: &D,
+    sessions: &[Attended<L, D::Receipt>],
+) -> Result<Vec<u8>, AllocError>
+    ensures { IfOk result (λ text.
+        text.items ≡ flat_map (visit_text (D.guests doors.now)) (map (visit D.received) sessions.now)) }
+{
+    let mut text = Vec::new(alloc);
+    for session in sessions {
+        push_heading(alloc, &mut text, doors, session.seat.session())?;
+        push_ending(&mut text, &session.ending)?;
+    }
+    Ok(text)
+}
+
+/// Whether a session didn't end by itself.
+fn has_failed<C>(ending: &Ending<C>) -> bool
+    ensures { result ≡ has_failed ending.now }
+{
+    match ending {
+        Ending::Unopened => true,
+        Ending::Served { fault, .. } => fault.is_some(),
+    }
+}
+
+/// Whether one of the sessions didn't end by itself.
+fn any_failed<L: Ledger, C>(sessions: &[Attended<L, C>]) -> bool
+    ensures { result ≡ list_any has_failed (map (λ s. s.ending) sessions.now) }
+{
+    for session in sessions {
+        if has_failed(&session.ending) {
+            return true;
+        }
+    }
+    false
+}
+
+/// The seats of sessions, and how these ended.
+fn part<L: Ledger, C: Drop>(
+    alloc: Global,
+    sessions: Vec<Attended<L, C>>,
+) -> Result<(Vec<Seat<L>>, Vec<Ending<C>>), AllocError>
+    ensures seats { IfOk result (λ p. p.0.items ≡ map (λ s. s.seat) sessions.items) }
+    ensures endings { IfOk result (λ p. p.1.items ≡ map (λ s. s.ending) sessions.items) }
+{
+    let mut seats = Vec::new(alloc);
+    let mut endings = Vec::new(alloc);
+    for session in sessions {
+        let Attended { seat, ending } = session;
+        seats.push(seat)?;
+        endings.push(ending)?;
+    }
+    Ok((seats, endings))
+}
+
+/// A refusal, which leaves no sessions.
+fn refused<C>(alloc: Global, words: &str) -> Result<Hosted<C>, AllocError>
+    ensures refusal { IfOk result (λ hosted. IsRefused words.now hosted.answer) }
+    ensures none { IfOk result (λ hosted. hosted.endings.items ≡ []) }
+{
+    let answer = Answer::refused(alloc, words)?;
+    Ok(Hosted {
+        answer,
+        endings: Vec::new(alloc),
+    })
+}
+
+/// What is left of the sessions of so many clients on an exchange with this rack.
+fn host<L: Ledger + Send + Sync, R: Threads + Wait + Sync, D: Doors>(
+    rt: &R,
+    alloc: Global,
+    blank: Blank,
+    rack: Rack,
+    workers: WorkerCount,
+    doors: &D,
+    clients: usize,
+) -> Result<Hosted<D::Receipt>, AllocError>
+    requires name { blank.name ≡ L.name }
+    requires parts { (blank.parts ≡ L.parts) × (blank.parts ≡ ALL_PARTS) }
+    requires some { 1 ≤ clients }
+    requires few { clients ≤ MAX_SESSIONS }
+    ensures { IfOk result (λ hosted. IsHosting rack (D.guests doors.now) clients
+        (map (end_of D.received) hosted.endings.items) hosted.answer) }
+{
+    let opening = rack.copy()?;
+    let (exchange, seats) = open_exchange::<L>(alloc, blank, rack, workers, clients)?;
+    let Some(sessions) = host_seats(rt, alloc, &exchange, seats, doors, workers)? else {
+        return refused(alloc, "threads");
+    };
+    let text = ends_of(alloc, doors, sessions.as_slice())?;
+    let failed = any_failed(sessions.as_slice());
+    let (seats, endings) = part(alloc, sessions)?;
+    let answer = finish(exchange, seats, &opening, text, failed)?;
+    Ok(Hosted { answer, endings })
+}
+
+/// What `exchange host` leaves: the sessions of so many clients, 1 to [`MAX_SESSIONS`], on one exchange that has a rack of
+/// the shape which the shape text denotes, whose words are first those of the image or, where there is none, 0; or the
+/// refusal of the shape, or else of the image, or of the threads, before a file is opened.
+///
+/// Each client is served in a thread of its own, from the files that its doors open there. It waits for its own files, and
+/// while the exchange answers a call of another. Planning and runs are given so many workers each. Each reply line is written,
+/// and the writer flushed, before the client's next command is read. For each client, in order, comes the line `session I NAME`,
+/// and where a fault ended the session, or its files couldn't be opened, a line `ended ..` that says so, under the status
+/// [`REFUSED`](crate::REFUSED). Under that status too, a last line `logs disagree` would say that the sessions' lists aren't
+/// those of the exchange's history, or that this began on another rack.
+pub fn answer_host<R: Threads + Wait + Sync, D: Doors>(
+    rt: &R,
+    alloc: Global,
+    shape: &[u8],
+    image: Option<&[u8]>,
+    workers: WorkerCount,
+    doors: &D,
+    clients: usize,
+) -> Result<Hosted<D::Receipt>, AllocError>
+    requires some_clients { 1 ≤ clients }
+    requires few_clients { clients ≤ MAX_SESSIONS }
+    ensures { IfOk result (λ hosted. IsHostAnswer shape.now (bytes_of image.entry)
+        (D.guests doors.now) clients (map (end_of D.received) hosted.endings.items) hosted.answer) }
+{
+    let Ok(shape) = Shape::read(shape) else {
+        return refused(alloc, "shape");
+    };
+    match opening_rack(alloc, shape, image) {
+        Ok(rack) => {
+            let blank = Blank::new(ALL_PARTS as u64);
+            host::<Brand, R, D>(rt, alloc, blank, rack, workers, doors, clients)
+        }
+        Err(fault) => refused(alloc, image_words(alloc, fault)?.as_str()),
+    }
+}
