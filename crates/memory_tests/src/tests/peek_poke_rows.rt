@@ -1,4 +1,4 @@
-//! The worked rows of messages, named sizes and printed faults. What goes over wires is tested in `run_tests`.
+//! The worked rows of messages, named sizes and printed faults. What goes over wires is tested in `rack_tests`.
 
 use super::prints::prints;
 use super::racks::{marked_rack, place};

@@ -1,4 +1,4 @@
-//! The worked rows of the switch and of two, and a printed fault. What ports carry out, and fuses, are tested in `run_tests`.
+//! The worked rows of the switch and of two, and a printed fault. What ports carry out, and fuses, are tested in `rack_tests`.
 
 use super::prints::prints;
 use c004_commands::{CommandFault, CommandReader, PortNo};

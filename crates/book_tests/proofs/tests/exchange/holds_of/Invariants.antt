@@ -1,4 +1,0 @@
-use Rattle.book_tests.proofs.tests.exchange.holds_of.Given as goal
-
-abbrev pub ghosts-holds : goal.ghosts-holds
-ghosts-holds g a = record { name = a.blank.name; parts = a.blank.parts }

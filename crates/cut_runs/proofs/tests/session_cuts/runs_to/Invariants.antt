@@ -1,4 +1,0 @@
-use Rattle.cut_runs.proofs.tests.session_cuts.runs_to.Given as goal
-
-abbrev pub ghosts-is_served : goal.ghosts-is_served
-ghosts-is_served g a = record { name = a.blank.name; parts = a.blank.parts }

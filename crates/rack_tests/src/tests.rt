@@ -1,0 +1,8 @@
+//! Tests of the crates from `setting_runner` to `client_session`.
+
+mod book;
+mod common;
+mod cuts;
+mod meeting;
+mod runs;
+mod sessions;

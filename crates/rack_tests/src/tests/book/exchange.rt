@@ -1,0 +1,216 @@
+//! What the seats of an exchange are answered.
+
+ghost use Rattle.std.specs.Prelude.{◌≡◌, IfSome};
+ghost use Rattle.progress_word.specs.declared.limits.TheConstants.{ALL_PARTS};
+
+use super::office::{Ask, FIRST, PUSH, Pair, Row, Said, close, open_pair};
+use crate::tests::common::{marked, with_wires};
+use batch_book::{BatchState, Closed, MAX_ENTRIES, Refusal, Shared, SharedFault, Unclosed};
+use crossbar::MemoryPort;
+use module_memory::Rack;
+use peek_poke::PlainWires;
+use schedule_certificate::OpenGate;
+use setting_runner::RunRefusal;
+use std::alloc::Global;
+use std::marker::Brand;
+use std::sync::Wait;
+use std::sync::ledger::{Blank, Ledger};
+use std::thread::Threads;
+
+/// An exchange of the tests, with two seats.
+type Two<L> = Pair<L, PlainWires, OpenGate>;
+
+/// What is tested of an exchange.
+#[derive(Clone, Copy)]
+enum Case<'a> {
+    /// Its first seat is answered so.
+    Rows(&'a [Row]),
+    /// Its first seat fills the history.
+    Full,
+    /// It isn't closed where its second seat is missing, and goes on.
+    SeatMissing,
+}
+
+/// A batch of as many transfers as [`PUSH`], but another.
+const OTHER: &str = "batch 1\npush 1 0 0 0\n";
+
+/// A transfer to a module that a rack of two hasn't.
+const FAR: &str = "batch 1\npush 0 0 5 0\n";
+
+const UNKNOWN: Said = Said::Refused(Refusal::Unknown);
+
+const STRANGER: Said = Said::Refused(Refusal::Stranger);
+
+const ALREADY: Said = Said::Refused(Refusal::Already);
+
+/// Calls that no session makes stand among others: a plan is handed in for a batch that isn't there, or for another batch, also where the
+/// batch has come further. The rack is the one that was handed in.
+const CALLS: [Row; 16] = [
+    (Ask::Peek(1, FIRST), Said::Word(0x0001_0000)),
+    (Ask::Poke(0, FIRST, 7), Said::Poked),
+    (Ask::Settle(1, PUSH), UNKNOWN),
+    (Ask::Submit(PUSH), Said::Accepted(1)),
+    (Ask::Fetch(1), Said::Fetched(1)),
+    (Ask::Settle(0, PUSH), UNKNOWN),
+    (Ask::Settle(1, OTHER), STRANGER),
+    (Ask::Show(1), Said::Shown(1, BatchState::Waiting)),
+    (Ask::Settle(1, PUSH), Said::Settled(1)),
+    (Ask::Settle(1, OTHER), STRANGER),
+    (Ask::Show(1), Said::Shown(1, BatchState::Planned)),
+    (Ask::Run(1), Said::Ran(1, 1, 1)),
+    (Ask::Peek(1, FIRST), Said::Word(7)),
+    (Ask::Settle(1, PUSH), ALREADY),
+    (Ask::Discard(1), Said::Discarded),
+    (Ask::Settle(1, PUSH), UNKNOWN),
+];
+
+/// A session's batches are those of the rack, so that none is refused for its shape. Such a run leaves its batch planned, and takes no number.
+const SHAPES: [Row; 9] = [
+    (Ask::Submit(FAR), Said::Accepted(1)),
+    (Ask::Settle(1, FAR), Said::Settled(1)),
+    (Ask::Run(1), Said::RunRefused(RunRefusal::Shape)),
+    (Ask::Show(1), Said::Shown(1, BatchState::Planned)),
+    (Ask::Run(1), Said::RunRefused(RunRefusal::Shape)),
+    (Ask::Peek(0, FIRST), Said::Word(0)),
+    (Ask::Submit(PUSH), Said::Accepted(2)),
+    (Ask::Settle(2, PUSH), Said::Settled(1)),
+    (Ask::Run(2), Said::Ran(1, 1, 1)),
+];
+
+/// Whether a closed exchange has as many entries in its history and in the list of its first seat, which is the last here, as there may be, and the
+/// first word is still 0.
+fn is_full<L: Ledger>(closed: &Closed<L, MemoryPort, PlainWires, OpenGate>) -> bool {
+    let listed = match closed.seats.last() {
+        Some(seat) => seat.log().len(),
+        None => 0,
+    };
+    let word = closed.book.rack().read(0, FIRST);
+    listed == 65536 && closed.book.history().len() == 65536 && word == Ok(0)
+}
+
+/// Whether 65,536 peeks are answered, and a poke isn't.
+fn fills<L: Ledger, R: AllocGlobal + Threads + Wait + Sync>(rt: &R, pair: Two<L>) -> bool
+    requires { L.parts ≡ ALL_PARTS }
+{
+    let mut pair = pair;
+    let zeros = pair.zeros(rt, MAX_ENTRIES);
+    let poked = pair.ask(rt, Ask::Poke(0, FIRST, 1));
+    match close(rt.alloc(), pair) {
+        Some(closed) => {
+            zeros == 65536 && poked == Said::Refused(Refusal::HistoryFull) && is_full(&closed)
+        }
+        None => false,
+    }
+}
+
+/// Tries to close the exchange with the first seat alone, and gives the pair back where that is refused for the
+/// seat that is missing.
+fn close_without_second<L: Ledger>(alloc: Global, pair: Two<L>) -> Option<Two<L>>
+    requires { L.parts ≡ ALL_PARTS }
+{
+    let Pair {
+        shared,
+        first,
+        second,
+    } = pair;
+    let Ok(seats) = Vec::from_array(alloc, [first]) else {
+        return None;
+    };
+    let Err(Unclosed::SeatMissing(shared, mut seats)) = shared.close(seats) else {
+        return None;
+    };
+    prove!(seats.len() == 1);
+    let first = seats.remove(0);
+    Some(Pair {
+        shared,
+        first,
+        second,
+    })
+}
+
+/// Whether an exchange isn't closed without its second seat, which is answered then, and is closed with both.
+fn goes_on<L: Ledger, R: AllocGlobal + Threads + Wait + Sync>(rt: &R, pair: Two<L>) -> bool
+    requires { L.parts ≡ ALL_PARTS }
+{
+    let Some(mut pair) = close_without_second(rt.alloc(), pair) else {
+        return false;
+    };
+    let said = pair.ask_second(rt, Ask::Peek(1, FIRST));
+    close(rt.alloc(), pair).is_some() && said == Said::Word(0x0001_0000)
+}
+
+/// What comes back where so many sessions are refused.
+fn refused<L: Ledger>(
+    alloc: Global,
+    blank: Blank,
+    rack: Rack,
+    sessions: usize,
+) -> Option<(Blank, Rack)>
+    requires name { blank.name ≡ L.name }
+    requires parts { (blank.parts ≡ L.parts) × (blank.parts ≡ ALL_PARTS) }
+    ensures name { IfSome result (λ back. back.0.name ≡ L.name) }
+    ensures parts { IfSome result (λ back. (back.0.parts ≡ L.parts) × (back.0.parts ≡ ALL_PARTS)) }
+{
+    let plant = with_wires(PlainWires);
+    let made = Shared::<L, MemoryPort, PlainWires, OpenGate>::new(
+        alloc, blank, rack, plant, sessions,
+    );
+    match made {
+        Err((blank, rack, _, SharedFault::BadSessions)) => Some((blank, rack)),
+        _ => None,
+    }
+}
+
+/// An exchange with two seats, of what came back where 0 sessions were refused, and then 17.
+fn open_behind_refusals<L: Ledger>(alloc: Global, blank: Blank, rack: Rack) -> Option<Two<L>>
+    requires name { blank.name ≡ L.name }
+    requires parts { (blank.parts ≡ L.parts) × (blank.parts ≡ ALL_PARTS) }
+{
+    let (blank, rack) = refused::<L>(alloc, blank, rack, 0)?;
+    let (blank, rack) = refused::<L>(alloc, blank, rack, 17)?;
+    open_pair(alloc, blank, rack, with_wires(PlainWires))
+}
+
+/// Whether a case is so of a new exchange.
+fn holds<L: Ledger, R: AllocGlobal + Threads + Wait + Sync>(
+    rt: &R,
+    blank: Blank,
+    rack: Rack,
+    case: Case<'_>,
+) -> bool
+    requires name { blank.name ≡ L.name }
+    requires parts { (blank.parts ≡ L.parts) × (blank.parts ≡ ALL_PARTS) }
+{
+    let Some(mut pair) = open_behind_refusals::<L>(rt.alloc(), blank, rack) else {
+        return false;
+    };
+    match case {
+        Case::Rows(rows) => pair.first_wrong(rt, rows).is_none(),
+        Case::Full => fills(rt, pair),
+        Case::SeatMissing => goes_on(rt, pair),
+    }
+}
+
+/// Whether a case is so of an exchange on a marked rack of two modules of one word.
+fn holds_of<R: AllocGlobal + Threads + Wait + Sync>(rt: &R, case: Case<'_>) -> bool {
+    match marked(rt.alloc(), "2x1x1") {
+        Some(rack) => holds::<Brand, R>(rt, Blank::new(16), rack, case),
+        None => false,
+    }
+}
+
+#[test]
+fn calls_that_no_session_makes(rt: HostRuntime) {
+    assert!(rt; holds_of(&rt, Case::Rows(&CALLS)));
+    assert!(rt; holds_of(&rt, Case::Rows(&SHAPES)));
+}
+
+#[test]
+fn a_full_history_takes_no_poke(rt: HostRuntime) {
+    assert!(rt; holds_of(&rt, Case::Full));
+}
+
+#[test]
+fn one_of_two_seats_is_missing(rt: HostRuntime) {
+    assert!(rt; holds_of(&rt, Case::SeatMissing));
+}

@@ -1,0 +1,203 @@
+//! An exchange with two seats, what they ask, and what they are answered as plain values.
+
+ghost use Rattle.std.specs.Prelude.{◌≡◌, Some};
+ghost use Rattle.progress_word.specs.declared.limits.TheConstants.{ALL_PARTS};
+
+use crate::tests::common::{batch, plan};
+use batch_book::{BatchState, Call, Closed, Refusal, Reply, Seat, Shared};
+use crossbar::{ConfigPort, MemoryPort};
+use module_memory::Rack;
+use peek_poke::WireMaker;
+use schedule_certificate::Gate;
+use setting_runner::{Plant, RunRefusal};
+use std::alloc::Global;
+use std::sync::Wait;
+use std::sync::ledger::{Blank, Ledger};
+use std::thread::Threads;
+
+/// The address of the first word of block 0.
+pub const FIRST: u32 = 0x8000_0800;
+
+/// The batch of row book-limits.
+pub const PUSH: &str = "batch 1\npush 0 0 1 0\n";
+
+/// Two transfers that can't be in one setting: transfer 1 is in the second one.
+pub const TWO_SETTINGS: &str = "batch 2\npush 0 0 1 0\npush 0 0 2 0\n";
+
+/// What a reply says. Of a batch it says how many transfers it has.
+#[derive(Clone, Copy, PartialEq, Eq)]
+pub enum Said {
+    Accepted(usize),
+    Fetched(usize),
+    Settled(usize),
+    Ran(usize, usize, usize),
+    Stopped,
+    RunRefused(RunRefusal),
+    Shown(usize, BatchState),
+    Discarded,
+    Word(u32),
+    Poked,
+    Refused(Refusal),
+    /// The call couldn't be made, for want of memory or since its text is none of a batch.
+    NotAsked,
+}
+
+impl Said {
+    fn of(reply: &Reply) -> Said {
+        match reply {
+            Reply::Accepted(id) => Said::Accepted(*id),
+            Reply::Fetched(batch) => Said::Fetched(batch.len()),
+            Reply::Settled { settings } => Said::Settled(*settings),
+            Reply::Ran {
+                run,
+                settings,
+                words,
+            } => Said::Ran(*run, *settings, *words),
+            Reply::Stopped { .. } => Said::Stopped,
+            Reply::RunRefused(refusal) => Said::RunRefused(*refusal),
+            Reply::Shown { transfers, state } => Said::Shown(*transfers, *state),
+            Reply::Discarded => Said::Discarded,
+            Reply::Word(word) => Said::Word(*word),
+            Reply::Poked => Said::Poked,
+            Reply::Refused(refusal) => Said::Refused(*refusal),
+        }
+    }
+}
+
+/// What a session asks, by texts and numbers.
+#[derive(Clone, Copy)]
+pub enum Ask {
+    Submit(&'static str),
+    Fetch(usize),
+    Settle(usize, &'static str),
+    Run(usize),
+    Show(usize),
+    Discard(usize),
+    Peek(usize, u32),
+    Poke(usize, u32, u32),
+}
+
+impl Ask {
+    /// The call.
+    fn call<R: AllocGlobal + Threads + Sync>(self, rt: &R) -> Option<Call> {
+        Some(match self {
+            Ask::Submit(text) => Call::Submit(batch(rt.alloc(), text)?),
+            Ask::Fetch(id) => Call::Fetch(id),
+            Ask::Settle(id, text) => Call::Settle(id, plan(rt, text)?),
+            Ask::Run(id) => Call::Run(id),
+            Ask::Show(id) => Call::Show(id),
+            Ask::Discard(id) => Call::Discard(id),
+            Ask::Peek(module, address) => Call::Peek(module, address),
+            Ask::Poke(module, address, word) => Call::Poke(module, address, word),
+        })
+    }
+}
+
+/// What a seat asks, and is answered.
+pub fn answer<
+    L: Ledger,
+    P: ConfigPort,
+    W: WireMaker + Sync,
+    G: Gate + Sync,
+    R: AllocGlobal + Threads + Wait + Sync,
+>(rt: &R, shared: &Shared<L, P, W, G>, seat: &mut Seat<L>, ask: Ask) -> Said
+    requires { seat.old.exchange ≡ Some shared.now.word }
+    ensures { seat.new.exchange ≡ seat.old.exchange }
+{
+    match ask.call(rt) {
+        Some(call) => Said::of(&shared.call(rt, seat, call)),
+        None => Said::NotAsked,
+    }
+}
+
+/// An exchange, and its two seats.
+#[derive(Drop)]
+pub struct Pair<L: Ledger, W, G> {
+    pub shared: Shared<L, MemoryPort, W, G>,
+    pub first: Seat<L>,
+    pub second: Seat<L>,
+    pub ghost of_first: { first.exchange ≡ Some shared.word },
+    pub ghost of_second: { second.exchange ≡ Some shared.word },
+}
+
+/// An exchange with two seats on this rack, with this plant.
+pub fn open_pair<L: Ledger, W: Drop, G: Drop>(
+    alloc: Global,
+    blank: Blank,
+    rack: Rack,
+    plant: Plant<MemoryPort, W, G>,
+) -> Option<Pair<L, W, G>>
+    requires name { blank.name ≡ L.name }
+    requires parts { (blank.parts ≡ L.parts) × (blank.parts ≡ ALL_PARTS) }
+{
+    let made = Shared::<L, MemoryPort, W, G>::new(alloc, blank, rack, plant, 2);
+    let Ok((shared, mut seats)) = made else {
+        return None;
+    };
+    prove!(seats.len() == 2);
+    let second = seats.remove(1);
+    let first = seats.remove(0);
+    Some(Pair {
+        shared,
+        first,
+        second,
+    })
+}
+
+/// Closes the exchange with both seats, the second one first.
+pub fn close<L: Ledger, W: Drop, G: Drop>(
+    alloc: Global,
+    pair: Pair<L, W, G>,
+) -> Option<Closed<L, MemoryPort, W, G>>
+    requires { L.parts ≡ ALL_PARTS }
+{
+    let Pair {
+        shared,
+        first,
+        second,
+    } = pair;
+    match Vec::from_array(alloc, [second, first]) {
+        Ok(seats) => shared.close(seats).ok(),
+        Err(_) => None,
+    }
+}
+
+/// What the first seat of an exchange asks, and is answered.
+pub type Row = (Ask, Said);
+
+impl<L: Ledger, W: WireMaker + Sync, G: Gate + Sync> Pair<L, W, G> {
+    /// What the first seat asks, and is answered.
+    pub fn ask<R: AllocGlobal + Threads + Wait + Sync>(&mut self, rt: &R, ask: Ask) -> Said {
+        answer(rt, &self.shared, &mut self.first, ask)
+    }
+
+    /// What the second seat asks, and is answered.
+    pub fn ask_second<R: AllocGlobal + Threads + Wait + Sync>(&mut self, rt: &R, ask: Ask) -> Said {
+        answer(rt, &self.shared, &mut self.second, ask)
+    }
+
+    /// The first of these rows in which the first seat is answered otherwise. Those behind it aren't asked.
+    pub fn first_wrong<R: AllocGlobal + Threads + Wait + Sync>(
+        &mut self,
+        rt: &R,
+        rows: &[Row],
+    ) -> Option<usize> {
+        for (place, (ask, said)) in rows.iter().enumerate() {
+            if answer(rt, &self.shared, &mut self.first, *ask) != *said {
+                return Some(place);
+            }
+        }
+        None
+    }
+
+    /// How many of so many peeks of a word are answered that it is 0.
+    pub fn zeros<R: AllocGlobal + Threads + Wait + Sync>(&mut self, rt: &R, times: usize) -> usize {
+        let mut zeros: usize = 0;
+        for _ in 0..times {
+            if answer(rt, &self.shared, &mut self.first, Ask::Peek(0, FIRST)) == Said::Word(0) {
+                zeros = zeros.saturating_add(1);
+            }
+        }
+        zeros
+    }
+}

@@ -1,0 +1,221 @@
+//! A reading waits for no run, and sees each setting of it.
+
+ghost use Rattle.std.specs.Prelude.{◌≡◌, Some};
+ghost use Rattle.progress_word.specs.declared.limits.TheConstants.{ALL_PARTS};
+
+use super::office::{Ask, PUSH, Pair, Said, TWO_SETTINGS, answer, open_pair};
+use crate::tests::common::{marked, with_wires};
+use batch_book::{Reading, Seat, Shared};
+use crossbar::ConfigPort;
+use module_memory::Rack;
+use peek_poke::{PlainWire, Wire, WireFault, WireMaker};
+use schedule_certificate::{Gate, OpenGate};
+use std::marker::Brand;
+use std::sync::Wait;
+use std::sync::atomic::{AtomicBool, Ordering};
+use std::sync::ledger::{Blank, Ledger};
+use std::thread::{Threads, join, yield_now};
+
+/// How long a thread waits for the other.
+const TURNS: usize = 10_000_000;
+
+/// A run of a batch, of which this transfer waits until the other thread has read this, and what is read behind the run.
+#[derive(Clone, Copy)]
+struct Watched {
+    text: &'static str,
+    transfer: usize,
+    awaited: Reading,
+    last: Reading,
+}
+
+/// Whether that was read, and whether somebody gave up waiting.
+#[derive(Drop)]
+struct Hold {
+    seen: AtomicBool,
+    gave_up: AtomicBool,
+}
+
+impl Hold {
+    fn new() -> Hold {
+        Hold {
+            seen: AtomicBool::new(false),
+            gave_up: AtomicBool::new(false),
+        }
+    }
+
+    /// Waits until it was read.
+    fn wait(&self) {
+        for _ in 0..TURNS {
+            if self.seen.load(Ordering::SeqCst) {
+                return;
+            }
+            yield_now();
+        }
+        self.gave_up.store(true, Ordering::SeqCst);
+    }
+
+    /// Whether it was read, and nobody gave up.
+    fn is_kept(&self) -> bool {
+        self.seen.load(Ordering::SeqCst) && !self.gave_up.load(Ordering::SeqCst)
+    }
+}
+
+/// A line whose next byte waits, where it is held.
+#[derive(Drop)]
+struct HeldLine<'a> {
+    plain: PlainWire,
+    hold: &'a Hold,
+    is_held: bool,
+}
+
+impl<'a> Wire for HeldLine<'a> {
+    ghost failures = { λ _. 0 };
+
+    ghost carried = { λ line. line.plain };
+
+    ghost never_fails = { λ _. Unit {0} };
+
+    fn carry(&mut self, byte: u8) -> Result<u8, WireFault> {
+        if self.is_held {
+            self.is_held = false;
+            self.hold.wait();
+        }
+        self.plain.carry(byte)
+    }
+}
+
+/// Gives this transfer a line that is held.
+#[derive(Clone, Copy)]
+struct HeldLines<'a> {
+    hold: &'a Hold,
+    transfer: usize,
+}
+
+impl<'a> WireMaker for HeldLines<'a> {
+    type Line = HeldLine<'a>;
+
+    ghost is_sure = { λ _ _. Unit {0} };
+
+    fn line(&self, transfer: usize) -> HeldLine<'a> {
+        HeldLine {
+            plain: PlainWire::new(),
+            hold: self.hold,
+            is_held: transfer == self.transfer,
+        }
+    }
+}
+
+/// Reads until this was read, and says so to the hold. It is given no `Wait`.
+fn look<L: Ledger, P, W, G>(
+    shared: &Shared<L, P, W, G>,
+    seat: Seat<L>,
+    hold: &Hold,
+    awaited: Reading,
+)
+    requires { seat.exchange ≡ Some shared.now.word }
+{
+    let mut seat = seat;
+    for _ in 0..TURNS {
+        if shared.progress(&mut seat) == awaited {
+            hold.seen.store(true, Ordering::SeqCst);
+            return;
+        }
+        yield_now();
+    }
+    hold.gave_up.store(true, Ordering::SeqCst);
+}
+
+/// Runs the batch of a text, and says whether it came to its end, and what is read then.
+fn run_one<
+    L: Ledger,
+    P: ConfigPort,
+    W: WireMaker + Sync,
+    G: Gate + Sync,
+    R: AllocGlobal + Threads + Wait + Sync,
+>(rt: &R, shared: &Shared<L, P, W, G>, seat: Seat<L>, text: &'static str) -> (bool, Reading)
+    requires { seat.exchange ≡ Some shared.now.word }
+{
+    let mut seat = seat;
+    answer(rt, shared, &mut seat, Ask::Submit(text));
+    answer(rt, shared, &mut seat, Ask::Settle(1, text));
+    let said = answer(rt, shared, &mut seat, Ask::Run(1));
+    let read = shared.progress(&mut seat);
+    (matches!(said, Said::Ran(1, _, _)), read)
+}
+
+/// Runs a batch in one thread while another reads.
+fn run_and_look<
+    L: Ledger + Send + Sync,
+    W: WireMaker + Send + Sync + Drop,
+    R: AllocGlobal + Threads + Wait + Sync,
+>(rt: &R, pair: Pair<L, W, OpenGate>, hold: &Hold, run: Watched) -> (bool, Reading) {
+    let Pair {
+        shared,
+        first,
+        second,
+    } = pair;
+    let lent = &shared;
+    let (ran, _) = join(
+        rt,
+        move || -> (bool, Reading)
+            requires { first.exchange ≡ Some lent.now.word }
+        { run_one(rt, lent, first, run.text) },
+        move ||
+            requires { second.exchange ≡ Some lent.now.word }
+        { look(lent, second, hold, run.awaited) },
+    );
+    ran
+}
+
+/// Whether a run on this rack, of which a transfer waits for a reading, comes to its end, and is read then.
+fn is_read<L: Ledger + Send + Sync, R: AllocGlobal + Threads + Wait + Sync>(
+    rt: &R,
+    blank: Blank,
+    rack: Rack,
+    run: Watched,
+) -> bool
+    requires name { blank.name ≡ L.name }
+    requires parts { (blank.parts ≡ L.parts) × (blank.parts ≡ ALL_PARTS) }
+{
+    let hold = Hold::new();
+    let lines = HeldLines {
+        hold: &hold,
+        transfer: run.transfer,
+    };
+    let opened = open_pair::<L, HeldLines, OpenGate>(rt.alloc(), blank, rack, with_wires(lines));
+    let Some(pair) = opened else {
+        return false;
+    };
+    let (has_run, read) = run_and_look(rt, pair, &hold, run);
+    has_run && read == run.last && hold.is_kept()
+}
+
+/// The same on a marked rack of three modules.
+fn is_read_of<R: AllocGlobal + Threads + Wait + Sync>(rt: &R, run: Watched) -> bool {
+    match marked(rt.alloc(), "3x1x1") {
+        Some(rack) => is_read::<Brand, R>(rt, Blank::new(16), rack, run),
+        None => false,
+    }
+}
+
+#[test]
+fn progress_waits_for_no_run(rt: HostRuntime) {
+    let run = Watched {
+        text: PUSH,
+        transfer: 0,
+        awaited: Reading { run: 1, done: 0 },
+        last: Reading { run: 1, done: 1 },
+    };
+    assert!(rt; is_read_of(&rt, run));
+}
+
+#[test]
+fn progress_is_seen_between_two_settings(rt: HostRuntime) {
+    let run = Watched {
+        text: TWO_SETTINGS,
+        transfer: 1,
+        awaited: Reading { run: 1, done: 1 },
+        last: Reading { run: 1, done: 2 },
+    };
+    assert!(rt; is_read_of(&rt, run));
+}

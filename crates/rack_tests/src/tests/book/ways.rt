@@ -1,0 +1,66 @@
+//! Runs are made by as many workers as the plant has, and the exchange gives back the plant that it was made with.
+
+ghost use Rattle.std.specs.Prelude.{◌≡◌};
+ghost use Rattle.progress_word.specs.declared.limits.TheConstants.{ALL_PARTS};
+
+use super::office::{Ask, Row, Said, close, open_pair};
+use crate::tests::common::{TWO_PUSHES, marked, two, with_gate};
+use crate::tests::meeting::Meeting;
+use crossbar::MemoryPort;
+use module_memory::Rack;
+use peek_poke::PlainWires;
+use setting_runner::Plant;
+use std::marker::Brand;
+use std::sync::Wait;
+use std::sync::ledger::{Blank, Ledger};
+use std::thread::Threads;
+
+/// Row two-pushes.
+const ROWS: [Row; 3] = [
+    (Ask::Submit(TWO_PUSHES), Said::Accepted(1)),
+    (Ask::Settle(1, TWO_PUSHES), Said::Settled(1)),
+    (Ask::Run(1), Said::Ran(1, 1, 4)),
+];
+
+/// Whether the workers of a plant have met, and it has two as yet.
+fn has_two(plant: &Plant<MemoryPort, PlainWires, Meeting>) -> bool {
+    plant.gate.is_met() && plant.workers.get() == 2
+}
+
+/// Whether an exchange runs the row by two workers, and gives the plant back with as many.
+fn runs_by_two<L: Ledger, R: AllocGlobal + Threads + Wait + Sync>(
+    rt: &R,
+    blank: Blank,
+    rack: Rack,
+) -> bool
+    requires name { blank.name ≡ L.name }
+    requires parts { (blank.parts ≡ L.parts) × (blank.parts ≡ ALL_PARTS) }
+{
+    let opened = open_pair::<L, PlainWires, Meeting>(
+        rt.alloc(),
+        blank,
+        rack,
+        with_gate(PlainWires, Meeting::new(), two()),
+    );
+    let Some(mut pair) = opened else {
+        return false;
+    };
+    let wrong = pair.first_wrong(rt, &ROWS);
+    match close(rt.alloc(), pair) {
+        Some(closed) => wrong.is_none() && has_two(&closed.plant),
+        None => false,
+    }
+}
+
+/// The same on the row's rack.
+fn runs_by_two_of<R: AllocGlobal + Threads + Wait + Sync>(rt: &R) -> bool {
+    match marked(rt.alloc(), "3x2x2") {
+        Some(rack) => runs_by_two::<Brand, R>(rt, Blank::new(16), rack),
+        None => false,
+    }
+}
+
+#[test]
+fn two_workers_run_a_batch(rt: HostRuntime) {
+    assert!(rt; runs_by_two_of(&rt));
+}

@@ -1,0 +1,284 @@
+//! Sessions at a new exchange with two seats, one after the other and at once.
+
+ghost use Rattle.std.specs.Prelude.{◌≡◌, Some};
+ghost use Rattle.progress_word.specs.declared.limits.TheConstants.{ALL_PARTS};
+ghost use Rattle.client_session.specs.Sessions.{seat_back};
+
+use super::streams::{Listener, Script, Speaker};
+use crate::tests::common::{with_wires, zeros};
+use batch_book::{Closed, Seat, Shared};
+use client_session::{ServeFault, serve};
+use crossbar::MemoryPort;
+use exchange_limits::WorkerCount;
+use module_memory::Rack;
+use peek_poke::FuseWires;
+use schedule_certificate::OpenGate;
+use std::alloc::Global;
+use std::io::Read;
+use std::marker::Brand;
+use std::sync::Wait;
+use std::sync::atomic::AtomicUsize;
+use std::sync::ledger::{Blank, Ledger};
+use std::thread::{Threads, join};
+
+/// Wires of which none has a fuse: no transfer has this number.
+pub const NO_FUSE: FuseWires = FuseWires {
+    transfer: 4096,
+    bytes: 0,
+};
+
+/// The exchange of the tests.
+pub type Exchange<L> = Shared<L, MemoryPort, FuseWires, OpenGate>;
+
+/// What is left of it.
+pub type Remains<L> = Closed<L, MemoryPort, FuseWires, OpenGate>;
+
+/// An exchange, and its two seats.
+#[derive(Drop)]
+pub struct Office<L: Ledger> {
+    shared: Exchange<L>,
+    first: Seat<L>,
+    second: Seat<L>,
+    ghost of_first: { first.exchange ≡ Some shared.word },
+    ghost of_second: { second.exchange ≡ Some shared.word },
+}
+
+/// Opens an exchange of two seats.
+pub fn open<L: Ledger>(
+    alloc: Global,
+    blank: Blank,
+    rack: Rack,
+    wires: FuseWires,
+) -> Option<Office<L>>
+    requires name { blank.name ≡ L.name }
+    requires parts { (blank.parts ≡ L.parts) × (blank.parts ≡ ALL_PARTS) }
+{
+    let plant = with_wires(wires);
+    let made = Shared::<L, MemoryPort, FuseWires, OpenGate>::new(alloc, blank, rack, plant, 2);
+    let Ok((shared, mut seats)) = made else {
+        return None;
+    };
+    prove!(seats.len() == 2);
+    let second = seats.remove(1);
+    let first = seats.remove(0);
+    Some(Office {
+        shared,
+        first,
+        second,
+    })
+}
+
+/// The seat that came back, and the fault, if there was one.
+fn back<L: Ledger>(ended: Result<Seat<L>, (Seat<L>, ServeFault)>) -> (Seat<L>, Option<ServeFault>)
+    ensures { result.0 ≡ seat_back ended }
+{
+    match ended {
+        Ok(seat) => (seat, None),
+        Err((seat, fault)) => (seat, Some(fault)),
+    }
+}
+
+/// Plays a script from a seat, which comes back. Whether all was heard, read and ended as the script says.
+fn play<L: Ledger, R: AllocGlobal + Threads + Wait + Sync>(
+    rt: &R,
+    shared: &Exchange<L>,
+    seat: Seat<L>,
+    script: &Script,
+) -> (Seat<L>, bool)
+    requires { seat.exchange ≡ Some shared.now.word }
+    ensures { result.0.exchange ≡ seat.exchange }
+{
+    let flushed = AtomicUsize::new(0);
+    let mut speaker = Speaker::of(script, &flushed);
+    let mut listener = Listener::of(script, &flushed);
+    let before = seat.log().len();
+    let (seat, fault) = back(serve(
+        rt,
+        rt.alloc(),
+        shared,
+        seat,
+        &mut speaker,
+        &mut listener,
+        WorkerCount::ONE,
+    ));
+    let added = seat.log().len().saturating_sub(before);
+    let is_right = speaker.is_right() && is_heard(&listener, script, fault);
+    (seat, is_right && added == script.entries)
+}
+
+/// Whether a client has heard what its script says, and its session has ended so, by this fault.
+fn is_heard(listener: &Listener<'_>, script: &Script, fault: Option<ServeFault>) -> bool {
+    listener.is_right()
+        && fault == script.fault
+        && (listener.is_flushed() || fault == Some(ServeFault::Write))
+}
+
+impl<L: Ledger> Office<L> {
+    /// Plays both scripts of a day, one after the other. Whether all is as they say.
+    fn play<R: AllocGlobal + Threads + Wait + Sync>(self, rt: &R, day: &Day) -> (Office<L>, bool) {
+        let Office {
+            shared,
+            first,
+            second,
+        } = self;
+        let [one, other] = &day.scripts;
+        let (first, is_right) = play(rt, &shared, first, one);
+        let (first, second) = if day.is_one_seat {
+            (first, second)
+        } else {
+            (second, first)
+        };
+        let (first, is_right_too) = play(rt, &shared, first, other);
+        let office = Office {
+            shared,
+            first,
+            second,
+        };
+        (office, is_right && is_right_too)
+    }
+
+    /// Serves two clients at once, each in a thread, which are to hear this. Whether both do.
+    pub fn serve_at_once<
+        R: AllocGlobal + Threads + Wait + Sync,
+        I: Read + Send + Drop,
+        J: Read + Send + Drop,
+    >(self, rt: &R, one: Saying<I>, other: Saying<J>) -> (Office<L>, bool)
+    where
+        L: Send + Sync,
+    {
+        let Office {
+            shared,
+            first,
+            second,
+        } = self;
+        let lent = &shared;
+        let (one, other) = join(
+            rt,
+            move || -> (Seat<L>, bool)
+                requires { first.exchange ≡ Some lent.now.word }
+                ensures { result.0.exchange ≡ first.exchange }
+            { hear(rt, lent, first, one) },
+            move || -> (Seat<L>, bool)
+                requires { second.exchange ≡ Some lent.now.word }
+                ensures { result.0.exchange ≡ second.exchange }
+            { hear(rt, lent, second, other) },
+        );
+        let (first, is_right) = one;
+        let (second, is_right_too) = other;
+        let office = Office {
+            shared,
+            first,
+            second,
+        };
+        (office, is_right && is_right_too)
+    }
+
+    /// Closes the exchange.
+    pub fn close(self, alloc: Global) -> Option<Remains<L>>
+        requires { L.parts ≡ ALL_PARTS }
+    {
+        let Office {
+            shared,
+            first,
+            second,
+        } = self;
+        match Vec::from_array(alloc, [first, second]) {
+            Ok(seats) => shared.close(seats).ok(),
+            Err(_) => None,
+        }
+    }
+}
+
+/// A reader that has what a client says, and what the client is to hear.
+#[derive(Drop)]
+pub struct Saying<I> {
+    pub reader: I,
+    pub hears: &'static str,
+}
+
+/// Serves such a client from a seat, which comes back. Whether it hears that.
+fn hear<L: Ledger, R: AllocGlobal + Threads + Wait + Sync, I: Read + Drop>(
+    rt: &R,
+    shared: &Exchange<L>,
+    seat: Seat<L>,
+    client: Saying<I>,
+) -> (Seat<L>, bool)
+    requires { seat.exchange ≡ Some shared.now.word }
+    ensures { result.0.exchange ≡ seat.exchange }
+{
+    let Saying { mut reader, hears } = client;
+    let flushed = AtomicUsize::new(0);
+    let mut listener = Listener::of(&Script::of("", hears, 0), &flushed);
+    let (seat, fault) = back(serve(
+        rt,
+        rt.alloc(),
+        shared,
+        seat,
+        &mut reader,
+        &mut listener,
+        WorkerCount::ONE,
+    ));
+    (seat, fault.is_none() && listener.is_right())
+}
+
+/// The scripts of two clients, one after the other.
+#[derive(Clone, Copy)]
+pub struct Day {
+    pub shape: &'static str,
+    pub wires: FuseWires,
+    /// Whether both have the same seat.
+    pub is_one_seat: bool,
+    pub scripts: [Script; 2],
+}
+
+/// Plays both scripts at an exchange that is closed then. Whether all is as they say, and the history has just their entries.
+fn is_played<L: Ledger, R: AllocGlobal + Threads + Wait + Sync>(
+    rt: &R,
+    office: Office<L>,
+    day: &Day,
+) -> bool
+    requires { L.parts ≡ ALL_PARTS }
+{
+    let [one, other] = &day.scripts;
+    let entries = one.entries.saturating_add(other.entries);
+    let (office, is_right) = office.play(rt, day);
+    match office.close(rt.alloc()) {
+        Some(closed) => is_right && closed.book.history().len() == entries,
+        None => false,
+    }
+}
+
+/// The same at an exchange on this rack.
+fn spend<L: Ledger, R: AllocGlobal + Threads + Wait + Sync>(
+    rt: &R,
+    blank: Blank,
+    rack: Rack,
+    day: &Day,
+) -> bool
+    requires name { blank.name ≡ L.name }
+    requires parts { (blank.parts ≡ L.parts) × (blank.parts ≡ ALL_PARTS) }
+{
+    match open::<L>(rt.alloc(), blank, rack, day.wires) {
+        Some(office) => is_played(rt, office, day),
+        None => false,
+    }
+}
+
+/// Whether all is as the scripts of two clients say, on a rack of zeros.
+pub fn is_so<R: AllocGlobal + Threads + Wait + Sync>(rt: &R, plan: &Day) -> bool {
+    match zeros(rt.alloc(), plan.shape) {
+        Some(rack) => spend::<Brand, R>(rt, Blank::new(16), rack, plan),
+        None => false,
+    }
+}
+
+/// Whether a client alone is served on the smallest rack as its script says.
+pub fn is_served<R: AllocGlobal + Threads + Wait + Sync>(rt: &R, script: &Script) -> bool {
+    let plan = Day {
+        shape: "1x1x1",
+        wires: NO_FUSE,
+        is_one_seat: false,
+        scripts: [*script, Script::of("", "", 0)],
+    };
+    is_so(rt, &plan)
+}

@@ -1,4 +1,0 @@
-use Rattle.session_tests.proofs.tests.office.is_so.Given as goal
-
-abbrev pub ghosts-spend : goal.ghosts-spend
-ghosts-spend g a = record { name = a.blank.name; parts = a.blank.parts }

@@ -1,4 +1,0 @@
-use Rattle.session_tests.proofs.tests.outside.is_outside_of.Given as goal
-
-abbrev pub ghosts-is_outside : goal.ghosts-is_outside
-ghosts-is_outside g a = record { name = a.blank.name; parts = a.blank.parts }

@@ -1,4 +1,0 @@
-use Rattle.session_tests.proofs.tests.talks.hear.Given as goal
-
-abbrev pub ghosts-hear_on : goal.ghosts-hear_on
-ghosts-hear_on g a = record { name = a.blank.name; parts = a.blank.parts }
