@@ -1,0 +1,5 @@
+use Rattle.std.proofs.Common.{rules}
+use Rattle.refusal_notes.proofs.note.LineNote.of_head.Goals as goal
+
+pub told-requires : goal.told-requires
+told-requires c = search rules

@@ -1,0 +1,5 @@
+pub mod Lines
+pub mod Causes
+pub mod Notes
+pub mod Refusals
+pub mod Pairs

@@ -1,0 +1,28 @@
+-- Two transfers of a batch that share what only one may have.
+use Rattle.std.specs.Prelude.{◌≡◌, ℕ, ◌+◌, ◌<◌, if◌then◌else◌, List, Some, slice_get, nat_eq, codes}
+use Rattle.std.specs.List.{starts_with}
+use Rattle.std.specs.Fmt.{decimal}
+use Rattle.batch.specs.Text.{IsNumber}
+use Rattle.refusal_notes.specs.Lines.{line_at, words}
+
+-- this word of the line is this number
+abbrev pub HasNumber : List ℕ → ℕ → ℕ → Type 0
+HasNumber line place n = IsNumber n × (slice_get (words line) place ≡ Some (decimal n))
+
+-- the line of a transfer, which is counted from 0
+abbrev pub transfer_at : List ℕ → ℕ → List ℕ
+transfer_at batch t = line_at batch (t + 2)
+
+-- two words of a setting's line are these transfers, and both name the module in this word of theirs
+pub record Clashes (batch setting : List ℕ) (place m t u : ℕ) : Type 0 where
+  pub first : (j : ℕ) × (k : ℕ) × (j < k) × HasNumber setting j t × HasNumber setting k u
+  pub one : HasNumber (transfer_at batch t) place m
+  pub other : HasNumber (transfer_at batch u) place m
+
+-- the word of a transfer's line that names the module it writes; the block stands behind it
+abbrev pub written_place : List ℕ → ℕ
+written_place line = if starts_with nat_eq line (codes "push ") then 3 else 1
+
+-- the transfer's line says that it writes this block of this module
+abbrev pub Writes : List ℕ → ℕ → ℕ → Type 0
+Writes line m b = HasNumber line (written_place line) m × HasNumber line (written_place line + 1) b

@@ -1,0 +1,40 @@
+//! The lines of a text, and the words of a line.
+
+ghost use Rattle.std.specs.Prelude.{◌≡◌, IfSome, option_map, slice_get};
+ghost use Rattle.refusal_notes.specs.Lines.{is_ended as the_end, line_at as the_line, pieces};
+ghost use Rattle.refusal_notes.specs.Pairs.{HasNumber};
+
+use batch::number_from_digits;
+
+/// Piece `n`, counted from 0, of those that this byte ends. Takes time that grows with the number of
+/// bytes before it.
+pub(crate) fn piece(bytes: &[u8], end: u8, n: usize) -> Option<&[u8]>
+    ensures { option_map (λ piece. piece.now) result ≡ slice_get (pieces end bytes.now) n }
+{
+    bytes.split(|b| *b == end).nth(n)
+}
+
+/// The line of this number, counted from 1, without its line feed; nothing where there is none.
+pub(crate) fn line_at(text: &[u8], number: usize) -> &[u8]
+    ensures { result.now ≡ the_line text.now number }
+{
+    match piece(text, b'\n', number.saturating_sub(1)) {
+        Some(line) => line,
+        None => &[],
+    }
+}
+
+/// Whether a line feed ends the line of this number.
+pub(crate) fn is_ended(text: &[u8], number: usize) -> bool
+    ensures { result ≡ the_end text.now number }
+{
+    piece(text, b'\n', number).is_some()
+}
+
+/// The number that this word of the line is.
+pub(crate) fn number_at(line: &[u8], place: usize) -> Option<usize>
+    ensures { IfSome result (λ n. HasNumber line.now place n) }
+{
+    let n = number_from_digits(piece(line, b' ', place)?)?;
+    Some(n)
+}

@@ -1,0 +1,80 @@
+//! Two transfers of a batch that share what only one may have.
+
+ghost use Rattle.std.specs.Prelude.{◌≡◌, ◌≤◌, ◌+◌, IfSome, IsTrue};
+ghost use Rattle.batch.specs.Text.{IsNumber};
+ghost use Rattle.refusal_notes.specs.Pairs.{Clashes, HasNumber, Writes, transfer_at, written_place};
+
+use crate::lines::{line_at, number_at};
+use batch::MAX_TRANSFERS;
+
+/// The line of a transfer, which is counted from 0.
+fn transfer_line(batch: &[u8], t: usize) -> &[u8]
+    requires { IsNumber t }
+    ensures { result.now ≡ transfer_at batch.now t }
+{
+    line_at(batch, t + 2)
+}
+
+/// Whether this word of a transfer's line is this module.
+fn names(batch: &[u8], t: usize, place: usize, module: usize) -> bool
+    requires { IsNumber t }
+    ensures { IsTrue result → HasNumber (transfer_at batch.now t) place «module» }
+{
+    match number_at(transfer_line(batch, t), place) {
+        Some(n) => n == module,
+        None => false,
+    }
+}
+
+/// The first word of a setting's line, from this one on, that is a transfer which names the module in
+/// this word of its line; and the transfer.
+fn user_from(
+    batch: &[u8],
+    setting: &[u8],
+    from: usize,
+    place: usize,
+    module: usize,
+) -> Option<(usize, usize)>
+    ensures place { IfSome result (λ x. (from ≤ x.0) × (x.0 ≤ MAX_TRANSFERS)) }
+    ensures word { IfSome result (λ x. HasNumber setting.now x.0 x.1) }
+    ensures names { IfSome result (λ x. HasNumber (transfer_at batch.now x.1) place «module») }
+{
+    for k in from..MAX_TRANSFERS + 1 {
+        let t = number_at(setting, k)?;
+        if names(batch, t, place, module) {
+            return Some((k, t));
+        }
+    }
+    None
+}
+
+/// The first two transfers of a setting's line that name the module in this word of theirs.
+pub(crate) fn clashing(
+    batch: &[u8],
+    setting: &[u8],
+    place: usize,
+    module: usize,
+) -> Option<(usize, usize)>
+    ensures { IfSome result (λ x. Clashes batch.now setting.now place «module» x.0 x.1) }
+{
+    let (at, t) = user_from(batch, setting, 1, place, module)?;
+    let (_, u) = user_from(batch, setting, at + 1, place, module)?;
+    Some((t, u))
+}
+
+/// The word of a transfer's line that names the module which it writes.
+fn place_written(line: &[u8]) -> usize
+    ensures { result ≡ written_place line.now }
+{
+    if line.starts_with(b"push ") { 3 } else { 1 }
+}
+
+/// The module and the block that a transfer writes, as its line says.
+pub(crate) fn written(line: &[u8]) -> Option<(usize, usize)>
+    ensures { IfSome result (λ x. Writes line.now x.0 x.1) }
+{
+    let place = place_written(line);
+    let module = number_at(line, place)?;
+    let block = number_at(line, place + 1)?;
+    Some((module, block))
+}

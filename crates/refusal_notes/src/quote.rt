@@ -1,0 +1,57 @@
+//! The beginning of a line.
+
+ghost use Rattle.refusal_notes.specs.Notes.{IsQuoteOf};
+
+use std::fmt;
+
+/// How many bytes of a line are quoted. This is the project's choice.
+pub const MAX_QUOTED: usize = 60;
+
+/// The beginning of a line.
+#[derive(Clone, Copy)]
+pub struct Quote<'a> {
+    /// At most [`MAX_QUOTED`] bytes.
+    pub bytes: &'a [u8],
+    /// Whether the line goes on behind them.
+    pub is_cut: bool,
+}
+
+impl<'a> Quote<'a> {
+    /// The beginning of this line.
+    pub(crate) fn of(line: &'a [u8]) -> Quote<'a>
+        ensures { IsQuoteOf line.entry.now result }
+    {
+        if line.len() > MAX_QUOTED {
+            return Quote {
+                bytes: &line[..MAX_QUOTED],
+                is_cut: true,
+            };
+        }
+        Quote {
+            bytes: line,
+            is_cut: false,
+        }
+    }
+}
+
+impl<'a> fmt::Display for Quote<'a> {
+    fn fmt<W: fmt::Write>(&self, f: &mut fmt::Formatter<W>) -> fmt::Result {
+        f.write_char('"')?;
+        for byte in self.bytes {
+            write_byte(f, *byte)?;
+        }
+        f.write_str(if self.is_cut { "\".." } else { "\"" })
+    }
+}
+
+/// A byte as it is shown: as it is where it is printable.
+fn write_byte<W: fmt::Write>(f: &mut fmt::Formatter<W>, byte: u8) -> fmt::Result {
+    match byte {
+        b'"' => f.write_str("\\\""),
+        b'\\' => f.write_str("\\\\"),
+        b'\t' => f.write_str("\\t"),
+        b'\r' => f.write_str("\\r"),
+        b' '..=b'~' => f.write_char(char::from(byte)),
+        _ => write!(f, "\\x{byte:02x}"),
+    }
+}
