@@ -11,12 +11,14 @@ import os
 import re
 import resource
 import shutil
+import signal
 import subprocess
 import sys
 import threading
 import time
 
 STEPS = ("proof", "tests", "first edit", "other edits", "programs")
+
 
 class Meter:
     """Adds up the processor seconds of processes by crate and step."""
@@ -111,12 +113,19 @@ def table(meter, order):
     return lines
 
 
+def interrupted(number, frame):
+    """Ends the run early, also where a shell has started it in the background."""
+    raise KeyboardInterrupt
+
+
 def main():
     os.chdir(os.path.dirname(os.path.dirname(os.path.realpath(__file__))))
     if not os.path.isfile("crates.txt"):
         sys.exit("gate_time: no crates.txt stands above this tool")
     order = [re.match(r"\w+", it)[0] for it in open("crates.txt") if re.match(r"\w", it)]
     meter, began = Meter(), time.time()
+    for it in (signal.SIGINT, signal.SIGTERM):
+        signal.signal(it, interrupted)
     rt = rt_module()
     plain, subprocess.Popen = subprocess.Popen, counted(meter)
     try:
