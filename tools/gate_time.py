@@ -2,7 +2,8 @@
 """Runs the test command of the repository, and prints as a table how much processor time each crate takes in each of its steps.
 
 It runs `rt ci` by rt's own code, with each process that rt starts counted for the crate and the step that the process's words name. Then it
-runs what else the test command has. Times are user and system time, in seconds, of the processes and of all that they start.
+runs what else the test command has. Times are user and system time, in seconds, of the processes and of all that they start. The signal USR1
+makes it print what it has by then.
 """
 import collections
 import importlib.machinery
@@ -113,19 +114,14 @@ def table(meter, order):
     return lines
 
 
-def interrupted(number, frame):
-    """Ends the run early, also where a shell has started it in the background."""
-    raise KeyboardInterrupt
-
-
 def main():
     os.chdir(os.path.dirname(os.path.dirname(os.path.realpath(__file__))))
     if not os.path.isfile("crates.txt"):
         sys.exit("gate_time: no crates.txt stands above this tool")
     order = [re.match(r"\w+", it)[0] for it in open("crates.txt") if re.match(r"\w", it)]
     meter, began = Meter(), time.time()
-    for it in (signal.SIGINT, signal.SIGTERM):
-        signal.signal(it, interrupted)
+    # (rt has handlers of its own for the signals that end a process)
+    signal.signal(signal.SIGUSR1, lambda number, frame: print("\n".join(table(meter, order)), flush=True))
     rt = rt_module()
     plain, subprocess.Popen = subprocess.Popen, counted(meter)
     try:
