@@ -38,7 +38,7 @@ trap 'rm -rf "$work"' EXIT
 
 # About a twelfth more than was counted last, since other versions of both compilers count a little differently
 declare -A greatest=(
-    [scrambled]=1.26 [scrambled-1024]=1.26 [one_link]=1.70 [one_link-1024]=1.63 [odd]=1.20 [star]=1.72 [two_by_two]=1.45 [part]=1.62 [wide]=1.25
+    [scrambled]=1.21 [scrambled-1024]=1.25 [one_link]=0.79 [one_link-1024]=0.88 [odd]=1.11 [star]=0.81 [two_by_two]=1.38 [part]=0.73 [wide]=1.23
 )
 greatest_growth=5
 
