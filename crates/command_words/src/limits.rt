@@ -5,6 +5,6 @@ use exchange_limits::MAX_SESSIONS;
 /// The most scripts of `serve`: each is a session, and an exchange has as many at most.
 pub const MAX_SCRIPTS: usize = MAX_SESSIONS;
 
-/// The program's version, and the kit that it is proved and built with, as `rt version` tells it. The script that starts
-/// the program builds it with no other kit.
-pub const VERSION: &str = "1.0.0 (rattle-kit-13b logic dac8208d650f15bf)";
+/// The program's version, and the kit that its proofs were last seen to hold with, as `rt version` tells it. The script that
+/// starts the program says so where it builds it with another kit.
+pub const VERSION: &str = "1.0.0 (rattle-kit-13f logic dac8208d650f15bf)";
