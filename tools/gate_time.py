@@ -2,8 +2,9 @@
 """Runs the test command of the repository, and prints as a table how much processor time each crate takes in each of its steps.
 
 It runs `rt ci` by rt's own code, with each process that rt starts counted for the crate and the step that the process's words name. Then it
-runs what else the test command has. Times are user and system time, in seconds, of the processes and of all that they start. The signal USR1
-makes it print what it has by then.
+runs what else the test command has. With names of crates it runs `rt ci` of these and of those below them alone. Times are user and system
+time, in seconds, of the processes and of all that they start. What `rt ci` kept of an earlier run isn't done again, and isn't counted. The
+signal USR1 makes it print what it has by then.
 """
 import collections
 import importlib.machinery
@@ -125,12 +126,12 @@ def main():
     rt = rt_module()
     plain, subprocess.Popen = subprocess.Popen, counted(meter)
     try:
-        status = rt.main(["ci"])
+        status = rt.main(["ci", *sys.argv[1:]])
     except KeyboardInterrupt:
         # (what has ended by then is in the table)
         status = 130
     subprocess.Popen = plain
-    others = [it for it in open("tools/try_programs.sh") if re.match(r"(tools|bench)/", it)]
+    others = [it for it in open("tools/try_programs.sh") if re.match(r"(tools|bench)/", it)] if not sys.argv[1:] else []
     gate, lines, total = time.time() - began, [], sum(meter.seconds.values()) + sum(os.times()[:2])
     for it in map(str.strip, others):
         if not status:
