@@ -12,11 +12,21 @@ use std::marker::Model;
 /// No setting is empty, so there are at most as many as transfers. Numbers ascend in each setting,
 /// and the settings are in the order of their least numbers. The certificate names the busiest link,
 /// the first in the order of links among equals, and all transfers that use it, ascending.
-#[derive(Drop)]
 pub struct Planned {
     batch: Batch,
     coloured: Coloured,
     certificate: Certificate,
+}
+
+// Said once, so that no function that lets go of one has to say it again.
+impl Drop for Planned {
+    fn drop(self) {
+        let Planned {
+            batch: _,
+            coloured: _,
+            certificate: _,
+        } = self;
+    }
 }
 
 impl Model for Planned {
