@@ -1,5 +1,5 @@
 -- The sessions of a host's clients, and the seats of their exchange.
-use Rattle.std.proofs.Common.{◌≡◌, ℕ, ◌+◌, ◌<◌, Bool, true, false, ◌||◌, List, [], ◌∷◌, ◌++◌, length, get_or, map, All, Option, Some, Result, Ok, IfOk, IfSome, refl, sym, ap, ap₂, ◌∙◌, subst, take, arith}
+use Rattle.std.proofs.Common.{◌≡◌, ℕ, ◌+◌, ◌<◌, Bool, true, false, ◌||◌, List, [], ◌∷◌, ◌++◌, length, get_or, map, All, Option, Some, None, Result, Ok, IfOk, IfSome, refl, sym, ap, ap₂, ◌∙◌, subst, take, arith}
 use Rattle.std.specs.List.{range_with_len, sum, list_any, flat_map}
 use Rattle.std.proofs.lemmas.List.{flat_map_more, get_or-map, length-map, map-id, append_assoc, map-append}
 use Rattle.std.proofs.lemmas.List.Elements.{All-map, All-push}
@@ -24,38 +24,14 @@ use Rattle.answers.specs.Sessions.{IsAttended}
 use Rattle.answers.specs.Visits.{visit, IsOfSeat, AreVisitsAt}
 use Rattle.answers.proofs.Sessions.{map_same, sum_mapped, one_more}
 
--- ---- a session
-
-same_seat : (seat : SeatState) → IsSameSeat seat seat
-same_seat seat = record { exchange = refl; session = refl; parts = refl }
-
--- the seat of a client whose files weren't opened
-pub idle : {L C : Type 0} (x : Exchange) (g : Guests) (received : C → Option (List ℕ)) (s : Attended L C) → IsFresh x s.seat → s.ending ≡ Unopened
-    → IsOfSeat x g received s.seat s
-idle x g received s fresh is =
-    let its : IsVisit x.shape g (part_of s.seat) (end_of received Unopened) = record { entries = fresh.log; seen = fresh.seen } in
-    record { same = same_seat s.seat; its = rw is its }
-
--- what a client's session leaves
-pub was_served : {L C : Type 0} (x : Exchange) (g : Guests) (received : C → Option (List ℕ)) (old : SeatState) (s : Attended L C) (said rest held closed : Option (List ℕ))
-    (fault : Option ServeFault) (receipt : C)
-    → IsSameSeat old s.seat → said ≡ g.says old.session → held ≡ g.holds old.session → received receipt ≡ closed → s.ending ≡ Served fault receipt
-    → ((told : List ℕ) × Appends held closed told × IsAttended x.shape said rest (record { part = part_of s.seat; told = told; fault = fault }))
-    → IsOfSeat x g received old s
-was_served x g received old s said rest held closed fault receipt same says holds got is session =
-    let says' : said ≡ g.says s.seat.session = says ∙ ap g.says (sym same.session) in
-    let holds' : held ≡ g.holds s.seat.session = holds ∙ ap g.holds (sym same.session) in
-    let served : WasServed x.shape said held closed fault (part_of s.seat) = record { rest = rest; told = session.0; session = session.2; wrote = session.1 } in
-    let its : IsVisit x.shape g (part_of s.seat) (end_of received (Served fault receipt)) = rw (says', holds', sym got) at served in
-    record { same = same; its = rw is its }
-
 -- ---- all sessions
 
 -- each seat of a new exchange has had its session
-pub all_visited : {L C : Type 0} (x : Exchange) (g : Guests) (received : C → Option (List ℕ)) (n : ℕ) (seats : List SeatState) (ss : List (Attended L C))
-    → AreNew x.word n seats → length ss ≡ length seats → ((k : ℕ) (s : Attended L C) (d : SeatState) → k < length seats → IsOfSeat x g received (get_or seats k d) (get_or ss k s))
-    → AreVisitsAt x g received n ss
-all_visited {L} {C} x g received n seats ss new len each =
+pub all_visited : {L C : Type 0} (x : Exchange) (g : Guests) (received : C → Option (List ℕ)) (seats : List SeatState) (ss : List (Attended L C))
+    → AreNew x.word g.clients seats → length ss ≡ length seats → ((k : ℕ) (s : Attended L C) (d : SeatState) → k < length seats → IsOfSeat x g received (get_or seats k d) (get_or ss k s))
+    → AreVisitsAt x g received ss
+all_visited {L} {C} x g received seats ss new len each =
+    let n = g.clients in
     let at : (k : ℕ) (s : Attended L C) → k < length ss → IsOfSeat x g received (new_seat x.word k (parts_at n k)) (get_or ss k s) =
     λ k s lt. (let d = new_seat x.word k (parts_at n k) in
     subst (λ (seat : SeatState). IsOfSeat x g received seat (get_or ss k s)) (new.each k d (omega (arith, len, new.count, lt))) (each k s d (omega (arith, len, lt)))) in
@@ -156,35 +132,47 @@ had {X} {E} r o x P is some p =
 pub as_many : {H S : Type 0} (f : H → S) (hs : List H) (seats : List S) → map f hs ≡ seats → length hs ≡ length seats
 as_many f hs seats mapped = sym (length-map hs f) ∙ ap length mapped
 
+-- what one of them gave is there
+pub there_at : {X : Type 0} (all : List X) (given : List (Option X)) (k : ℕ) (x : X) → map Some all ≡ given → k < length all → get_or given k (Some x) ≡ Some (get_or all k x)
+there_at {X} all given k x same below =
+    ap (λ (os : List (Option X)). get_or os k (Some x)) (sym same) ∙ get_or-map (λ (y : X). Some y) all k x (Some x) below
+
+-- what holds of what is there, where there is something
+pub where_some : {X : Type 0} (o : Option X) (P Q : X → Type 0) → ((x : X) → P x → Q x) → IfSome o P → IfSome o Q
+where_some None P Q so p = tt
+where_some (Some x) P Q so p = so x p
+
 -- the threads of seats give back their sessions
 pub kept_each : {H L C : Type 0} (hs : List H) (exchange_of : H → Exchange) (guests_of : H → Guests) (seat_of : H → SeatState) (x : Exchange) (g : Guests) (received : C → Option (List ℕ))
-    (seats : List SeatState) (ss : List (Attended L C))
-    → map seat_of hs ≡ seats
+    (seats : List SeatState) (given : List (Option (Attended L C))) (ss : List (Attended L C))
+    → map seat_of hs ≡ seats → map Some ss ≡ given → length ss ≡ length seats
     → ((k : ℕ) (h : H) → k < length hs → (exchange_of (get_or hs k h) ≡ x) × (guests_of (get_or hs k h) ≡ g))
-    → ((k : ℕ) (s : Attended L C) → k < length hs → (h : H) × (h ≡ get_or hs k h) × IsOfSeat (exchange_of h) (guests_of h) received (seat_of h) (get_or ss k s))
+    → ((k : ℕ) (o : Option (Attended L C)) → k < length hs → (h : H) × (h ≡ get_or hs k h) × IfSome (get_or given k o) (IsOfSeat (exchange_of h) (guests_of h) received (seat_of h)))
     → (k : ℕ) (s : Attended L C) (d : SeatState) → k < length seats → IsOfSeat x g received (get_or seats k d) (get_or ss k s)
-kept_each {H} {L} {C} hs exchange_of guests_of seat_of x g received seats ss mapped there each k s d lt =
+kept_each {H} {L} {C} hs exchange_of guests_of seat_of x g received seats given ss mapped gave many there each k s d lt =
     let below : k < length hs = omega (arith, lt, sym (ap length mapped), length-map hs seat_of) in
-    let o = each k s below in
+    let o = each k (Some s) below in
     let t = there k o.0 below in
     let seat : seat_of o.0 ≡ get_or seats k d = ap seat_of o.1 ∙ sym (get_or-map seat_of hs k o.0 d below) ∙ ap (λ ys. get_or ys k d) mapped in
     let exchange : exchange_of o.0 ≡ x = ap exchange_of o.1 ∙ t.0 in
     let guests : guests_of o.0 ≡ g = ap guests_of o.1 ∙ t.1 in
-    rw (exchange, guests, seat) at o.2
+    let is : IsOfSeat (exchange_of o.0) (guests_of o.0) received (seat_of o.0) (get_or ss k s) =
+    subst (λ (z : Option (Attended L C)). IfSome z (IsOfSeat (exchange_of o.0) (guests_of o.0) received (seat_of o.0))) (there_at ss given k s gave (omega (arith, lt, many))) o.2 in
+    rw (exchange, guests, seat) at is
 
 -- ---- the exchange is closed
 
 -- what is printed of the sessions is what the host answers
-pub are_hosted : {L C : Type 0} (x : Exchange) (opening rack : Store) (g : Guests) (received : C → Option (List ℕ)) (n clients : ℕ) (ss : List (Attended L C))
+pub are_hosted : {L C : Type 0} (x : Exchange) (opening rack : Store) (g : Guests) (received : C → Option (List ℕ)) (ss : List (Attended L C))
     (seats : List SeatState) (endings : List (Ending C)) (text : List ℕ) (failed : Bool) (printed : Printed)
-    → AreVisitsAt x g received n ss → n ≡ clients → x.shape ≡ rack.shape → opening ≡ rack
+    → AreVisitsAt x g received ss → x.shape ≡ rack.shape → opening ≡ rack
     → seats ≡ map (λ s. s.seat) ss → endings ≡ map (λ s. s.ending) ss → text ≡ flat_map (visit_text g) (map (visit received) ss) → failed ≡ list_any has_failed (map (λ s. s.ending) ss)
-    → IsClosing opening (map part_of seats) text failed printed → AreHosted rack g clients (map (end_of received) endings) printed
-are_hosted {L} {C} x opening rack g received n clients ss seats endings text failed printed visited count shape copied seated ended framed fails closed =
+    → IsClosing opening (map part_of seats) text failed printed → AreHosted rack g (map (end_of received) endings) printed
+are_hosted {L} {C} x opening rack g received ss seats endings text failed printed visited shape copied seated ended framed fails closed =
     let Seat : Attended L C → SeatState = λ s. s.seat in
     let How : Attended L C → Ending C = λ s. s.ending in
     let visits : List Visit = map (visit received) ss in
     let ends : map (λ (v : Visit). v.end) visits ≡ map (end_of received) endings = map-map (λ (v : Visit). v.end) (visit received) ss ∙ sym (map-map (end_of received) How ss) ∙ ap (map (end_of received)) (sym ended) in
     let parts : map part_of seats ≡ map (λ (v : Visit). v.part) visits = ap (map part_of) seated ∙ map-map part_of Seat ss ∙ sym (map-map (λ (v : Visit). v.part) (visit received) ss) in
     let failures : failed ≡ list_any has_failed (map (end_of received) endings) = fails ∙ ap (list_any has_failed) (sym ended) ∙ sym (same_failures received endings) in
-    (visits, ends, rw (count, shape) at visited.of_clients, rw (copied, parts, framed, failures) at closed)
+    (visits, ends, rw shape at visited.of_clients, rw (copied, parts, framed, failures) at closed)

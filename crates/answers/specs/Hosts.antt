@@ -16,12 +16,14 @@ use Rattle.answers.specs.Histories.{Part, IsClosing}
 use Rattle.answers.specs.Sessions.{IsAttended}
 use Rattle.answers.specs.Talking.{end_line}
 
--- what is known of the clients of a host: what each says, what its writer holds at first, and its
--- name
+-- what is known of the clients of a host: how many they are, what each says, what its writer holds
+-- at first, its name, and whether its files may be such that they can't be opened
 pub record Guests : Type 0 where
+  pub clients : ℕ
   pub says : ℕ → Option (List ℕ)
   pub holds : ℕ → Option (List ℕ)
   pub named : ℕ → List ℕ
+  pub bars : ℕ → Bool
 
 -- How a client's session ended: in place of the receipt of its writer it has the bytes that this
 -- was closed with, where they are known.
@@ -37,8 +39,9 @@ pub record Visit : Type 0 where
   pub part : Part
   pub end : End
 
--- nothing was asked, and nothing seen
-pub record IsIdle (part : Part) : Type 0 where
+-- its files couldn't be opened: nothing was asked, and nothing seen
+pub record WasBarred (g : Guests) (part : Part) : Type 0 where
+  pub barred : g.bars part.session ≡ true
   pub entries : part.entries ≡ []
   pub seen : part.seen ≡ 0
 
@@ -53,14 +56,13 @@ pub record WasServed (shape : Extent) (said held closed : Option (List ℕ))
 
 -- what a client's part and end may be
 abbrev pub IsVisit : Extent → Guests → Part → End → Type 0
-IsVisit shape g part Unopened = IsIdle part
+IsVisit shape g part Unopened = WasBarred g part
 IsVisit shape g part (Served fault closed) =
     WasServed shape (g.says part.session) (g.holds part.session) closed fault part
 
 -- each client had its session, in their order
-pub record AreVisits (shape : Extent) (g : Guests) (clients : ℕ) (visits : List Visit)
-    : Type 0 where
-  pub numbers : map (λ v. v.part.session) visits ≡ range_with_len 0 clients
+pub record AreVisits (shape : Extent) (g : Guests) (visits : List Visit) : Type 0 where
+  pub numbers : map (λ v. v.part.session) visits ≡ range_with_len 0 g.clients
   pub each : All (λ v. IsVisit shape g v.part v.end) visits
 
 -- the line that tells how a session ended, unless it ended by itself
@@ -82,32 +84,31 @@ abbrev pub has_failed : {C : Type 0} → Ending C → Bool
 has_failed Unopened = true
 has_failed (Served fault receipt) = is_some fault
 
--- the sessions of so many clients, which ended so, on one exchange whose rack has this store at
--- first
-abbrev pub AreHosted : Store → Guests → ℕ → List End → Printed → Type 0
-AreHosted opening g clients ends printed =
+-- the sessions of the clients, which ended so, on one exchange whose rack has this store at first
+abbrev pub AreHosted : Store → Guests → List End → Printed → Type 0
+AreHosted opening g ends printed =
     (visits : List Visit) × (map (λ v. v.end) visits ≡ ends)
-    × AreVisits opening.shape g clients visits
+    × AreVisits opening.shape g visits
     × IsClosing opening (map (λ v. v.part) visits) (flat_map (visit_text g) visits)
     (list_any has_failed ends) printed
 
 -- such sessions, or none, where not all of their threads could be had
-pub data IsHosting (opening : Store) (g : Guests) (clients : ℕ) (ends : List End)
-    (printed : Printed) : Type 0 where
-  hosted : AreHosted opening g clients ends printed → IsHosting opening g clients ends printed
+pub data IsHosting (opening : Store) (g : Guests) (ends : List End) (printed : Printed)
+    : Type 0 where
+  hosted : AreHosted opening g ends printed → IsHosting opening g ends printed
   threads_refused : IsRefused (codes "threads") printed → ends ≡ []
-      → IsHosting opening g clients ends printed
+      → IsHosting opening g ends printed
 
--- the sessions of so many clients on a rack of the shape that the text denotes, whose words are
--- first those of the image or, where there is none, 0; or the refusal where it denotes none, or
--- else of the image, and no session
-pub data IsHostAnswer (shape : List ℕ) (image : Option (List ℕ)) (g : Guests) (clients : ℕ)
-    (ends : List End) (printed : Printed) : Type 0 where
+-- the sessions of the clients on a rack of the shape that the text denotes, whose words are first
+-- those of the image or, where there is none, 0; or the refusal where it denotes none, or else of
+-- the image, and no session
+pub data IsHostAnswer (shape : List ℕ) (image : Option (List ℕ)) (g : Guests) (ends : List End)
+    (printed : Printed) : Type 0 where
   opened : (extent : Extent) (opening : Store) → DenotesShape shape extent
-      → IsOfImageOrZeros extent image opening → IsHosting opening g clients ends printed
-      → IsHostAnswer shape image g clients ends printed
+      → IsOfImageOrZeros extent image opening → IsHosting opening g ends printed
+      → IsHostAnswer shape image g ends printed
   shape_refused : IsBadShape shape → IsRefused (codes "shape") printed → ends ≡ []
-      → IsHostAnswer shape image g clients ends printed
+      → IsHostAnswer shape image g ends printed
   image_refused : (extent : Extent) (fault : ImageFault) → DenotesShape shape extent
       → IsWrongImage extent image fault → IsRefused (image_words fault) printed → ends ≡ []
-      → IsHostAnswer shape image g clients ends printed
+      → IsHostAnswer shape image g ends printed

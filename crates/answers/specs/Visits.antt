@@ -19,7 +19,6 @@ pub record IsOfSeat {L C : Type 0} (x : Exchange) (g : Guests) (received : C →
 
 -- each client has had its session, and these have all seats of the exchange
 pub record AreVisitsAt {L C : Type 0} (x : Exchange) (g : Guests)
-    (received : C → Option (List ℕ)) (clients : ℕ) (sessions : List (Attended L C))
-    : Type 0 where
+    (received : C → Option (List ℕ)) (sessions : List (Attended L C)) : Type 0 where
   pub all_seats : AreAllSeats x (map (λ s. s.seat) sessions)
-  pub of_clients : AreVisits x.shape g clients (map (visit received) sessions)
+  pub of_clients : AreVisits x.shape g (map (visit received) sessions)

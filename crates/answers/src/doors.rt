@@ -1,6 +1,7 @@
-ghost use Rattle.std.specs.Prelude.{◌≡◌, ℕ, List, Option, IfOk};
+ghost use Rattle.std.specs.Prelude.{◌≡◌, ℕ, List, Option, IfOk, IfErr, true};
 ghost use Rattle.answers.specs.Hosts.{Guests};
 
+use crate::all_there::AllThere;
 use std::io;
 use std::io::{Read, Write};
 
@@ -19,16 +20,22 @@ pub trait Doors: Sync {
     /// The bytes of the writer of which this is left, where they are known.
     ghost received: { Self.Receipt → Option (List ℕ) };
 
+    /// How many clients there are.
+    fn clients(&self) -> usize
+        ensures { result ≡ (guests self.now).clients };
+
     /// The name of the client of this number.
     fn name(&self, client: usize) -> &str
         ensures { result.now ≡ (guests self.now).named client };
 
-    /// Opens the files of a client. It may wait until the client has opened them too.
-    fn open(&self, client: usize) -> io::Result<(Self::Reader, Self::Writer)>
+    /// Opens the files of a client, once there is a thread for each client. It may wait until the client has opened them too.
+    fn open(&self, there: AllThere, client: usize) -> io::Result<(Self::Reader, Self::Writer)>
+        requires there { there.threads ≡ (guests self.now).clients }
         ensures reader { IfOk result (λ ends.
             Self.Reader.remaining ends.0 ≡ (guests self.now).says client) }
         ensures writer { IfOk result (λ ends.
-            Self.Writer.contents ends.1 ≡ (guests self.now).holds client) };
+            Self.Writer.contents ends.1 ≡ (guests self.now).holds client) }
+        ensures bars { IfErr result (λ error. (guests self.now).bars client ≡ true) };
 
     /// Closes the writer of a client.
     fn close(&self, writer: Self::Writer) -> Self::Receipt

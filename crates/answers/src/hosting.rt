@@ -1,6 +1,6 @@
 //! The command `host`.
 
-ghost use Rattle.std.specs.Prelude.{◌≡◌, ◌≤◌, ◌++◌, [], All, IfOk, IfSome, OnOk, length, map, flat_map};
+ghost use Rattle.std.specs.Prelude.{◌≡◌, ◌≤◌, ◌++◌, [], All, IfOk, IfSome, OnOk, Some, length, map, flat_map};
 ghost use Rattle.std.specs.List.{list_any};
 ghost use Rattle.progress_word.specs.declared.limits.TheConstants.{ALL_PARTS};
 ghost use Rattle.batch_book.specs.Exchanges.{AreNew};
@@ -10,6 +10,7 @@ ghost use Rattle.answers.specs.Hosting.{IsFresh};
 ghost use Rattle.answers.specs.Hosts.{end_of, ending_line, visit_heading, visit_text, has_failed, IsHosting, IsHostAnswer};
 ghost use Rattle.answers.specs.Visits.{visit, IsOfSeat, AreVisitsAt};
 
+use crate::all_there::AllThere;
 use crate::answer::Answer;
 use crate::attended::{Attended, Ending};
 use crate::doors::Doors;
@@ -60,23 +61,28 @@ struct OfSeat<'a, L: Ledger, D> {
     seat: Snapshot<Seat<L>>,
 }
 
-impl<'a, L: Ledger, D: Doors> Promise<Attended<L, D::Receipt>> for OfSeat<'a, L, D> {
-    ghost kept_by = { λ p s. IsOfSeat p.exchange.now (D.guests p.doors.now) D.received p.seat.value s };
+impl<'a, L: Ledger, D: Doors> Promise<Option<Attended<L, D::Receipt>>> for OfSeat<'a, L, D> {
+    ghost kept_by = { λ p given. IfSome given (IsOfSeat p.exchange.now (D.guests p.doors.now) D.received p.seat.value) };
 }
 
-/// The thread of a client's session.
-type SessionThread<'a, L, D> = PromisedHandle<Attended<L, <D as Doors>::Receipt>, OfSeat<'a, L, D>>;
+/// The thread of a client's session. It gives none where it wasn't told that all threads are there.
+type SessionThread<'a, L, D> = PromisedHandle<
+    Option<Attended<L, <D as Doors>::Receipt>>,
+    OfSeat<'a, L, D>,
+>;
 
 /// Serves the client of a seat, once it has opened its files.
 fn host_client<L: Ledger, R: Threads + Wait + Sync, D: Doors>(
     floor: &Floor<'_, L, R, D>,
+    there: AllThere,
     seat: Seat<L>,
 ) -> Attended<L, D::Receipt>
+    requires there { there.threads ≡ (D.guests floor.now.doors.now).clients }
     requires seat { IsFresh floor.now.exchange.now seat }
     ensures { IsOfSeat floor.now.exchange.now (D.guests floor.now.doors.now) D.received
         seat result }
 {
-    let Ok((mut reader, mut writer)) = floor.doors.open(seat.session()) else {
+    let Ok((mut reader, mut writer)) = floor.doors.open(there, seat.session()) else {
         return Attended {
             seat,
             ending: Ending::Unopened,
@@ -98,22 +104,20 @@ fn host_client<L: Ledger, R: Threads + Wait + Sync, D: Doors>(
     }
 }
 
-/// Serves the client of a seat once all threads were had, or leaves its files closed where they weren't.
+/// Serves the client of a seat once all threads are there, or leaves its files closed where they aren't.
 fn wait_and_host<L: Ledger, R: Threads + Wait + Sync, D: Doors>(
     floor: &Floor<'_, L, R, D>,
     seat: Seat<L>,
-) -> Attended<L, D::Receipt>
+) -> Option<Attended<L, D::Receipt>>
     requires seat { IsFresh floor.now.exchange.now seat }
-    ensures { IsOfSeat floor.now.exchange.now (D.guests floor.now.doors.now) D.received
-        seat result }
+    ensures { IfSome result (IsOfSeat floor.now.exchange.now (D.guests floor.now.doors.now)
+        D.received seat) }
 {
-    if floor.latch.wait(floor.rt) {
-        host_client(floor, seat)
-    } else {
-        Attended {
-            seat,
-            ending: Ending::Unopened,
+    match floor.latch.wait(floor.rt) {
+        Some(there) if there.threads() == floor.doors.clients() => {
+            Some(host_client(floor, there, seat))
         }
+        _ => None,
     }
 }
 
@@ -123,7 +127,7 @@ fn start_all<'s, E, L: Ledger + Send + Sync, R: Threads + Wait + Sync, D: Doors>
     floor: &'s Floor<'s, L, R, D>,
     seats: Vec<Seat<L>>,
 ) -> Result<Option<Vec<SessionThread<'s, L, D>>>, AllocError>
-    requires { AreNew floor.now.exchange.now.word (length seats.items) seats.items }
+    requires { AreNew floor.now.exchange.now.word (D.guests floor.now.doors.now).clients seats.items }
     ensures seats { IfOk result (λ started. IfSome started (λ threads.
         map (λ t. t.promise.seat.value) threads.items ≡ seats.items)) }
     ensures floor { IfOk result (λ started. IfSome started (λ threads. All (λ t.
@@ -136,7 +140,7 @@ fn start_all<'s, E, L: Ledger + Send + Sync, R: Threads + Wait + Sync, D: Doors>
             doors: floor.doors,
             seat: Snapshot::of(&seat),
         };
-        let serve = move || -> Attended<L, D::Receipt>
+        let serve = move || -> Option<Attended<L, D::Receipt>>
             requires { IsFresh floor.now.exchange.now seat }
         { wait_and_host(floor, seat) };
         let Ok(thread) = scope.spawn_with(promise, serve) else {
@@ -147,28 +151,48 @@ fn start_all<'s, E, L: Ledger + Send + Sync, R: Threads + Wait + Sync, D: Doors>
     Ok(Some(threads))
 }
 
+/// What shows that all threads are there, where they are.
+fn all_there<T: Drop, P: Promise<T> + Drop>(
+    started: &Result<Option<Vec<PromisedHandle<T, P>>>, AllocError>,
+) -> Option<AllThere> {
+    match started {
+        Ok(Some(threads)) => Some(AllThere::of(threads.as_slice())),
+        _ => None,
+    }
+}
+
+/// What is in each of these, or none where one is empty.
+fn all_of<T: Drop>(alloc: Global, given: Vec<Option<T>>) -> Result<Option<Vec<T>>, AllocError>
+    ensures { IfOk result (λ all. IfSome all (λ items. map Some items.items ≡ given.items)) }
+{
+    let mut all = Vec::new(alloc);
+    for one in given {
+        let Some(one) = one else {
+            return Ok(None);
+        };
+        all.push(one)?;
+    }
+    Ok(Some(all))
+}
+
 /// Serves the clients of these seats side by side, once each has a thread: none where one of these can't be had.
 fn host_all<'s, E, L: Ledger + Send + Sync, R: Threads + Wait + Sync, D: Doors>(
     scope: &Scope<'s, E>,
     floor: &'s Floor<'s, L, R, D>,
     seats: Vec<Seat<L>>,
 ) -> Result<Option<Vec<Attended<L, D::Receipt>>>, AllocError>
-    requires { AreNew floor.now.exchange.now.word (length seats.items) seats.items }
+    requires { AreNew floor.now.exchange.now.word (D.guests floor.now.doors.now).clients seats.items }
     ensures { IfOk result (λ hosted. IfSome hosted (λ sessions.
         AreVisitsAt floor.now.exchange.now (D.guests floor.now.doors.now) D.received
-        (length seats.items) sessions.items)) }
+        sessions.items)) }
 {
     let started = start_all(scope, floor, seats);
-    let all_there = match &started {
-        Ok(Some(_)) => true,
-        _ => false,
-    };
-    floor.latch.decide(floor.rt, all_there);
+    floor.latch.decide(floor.rt, all_there(&started));
     let Some(threads) = started? else {
         return Ok(None);
     };
     match thread::join_promised(floor.rt, threads) {
-        Ok(sessions) => Ok(Some(sessions)),
+        Ok(sessions) => all_of(floor.alloc, sessions),
         Err(_) => Err(AllocError),
     }
 }
@@ -182,10 +206,9 @@ fn host_seats<'a, L: Ledger + Send + Sync, R: Threads + Wait + Sync, D: Doors>(
     doors: &'a D,
     workers: WorkerCount,
 ) -> Result<Option<Vec<Attended<L, D::Receipt>>>, AllocError>
-    requires { AreNew exchange.now.word (length seats.items) seats.items }
+    requires { AreNew exchange.now.word (D.guests doors.now).clients seats.items }
     ensures { IfOk result (λ hosted. IfSome hosted (λ sessions.
-        AreVisitsAt exchange.now (D.guests doors.now) D.received
-        (length seats.items) sessions.items)) }
+        AreVisitsAt exchange.now (D.guests doors.now) D.received sessions.items)) }
 {
     let latch = Latch::new();
     let all = Floor {
@@ -201,10 +224,11 @@ fn host_seats<'a, L: Ledger + Send + Sync, R: Threads + Wait + Sync, D: Doors>(
         thread::scope_env(),
         rt,
         move |scope| -> Result<Option<Vec<Attended<L, D::Receipt>>>, AllocError>
-            requires { AreNew floor.now.exchange.now.word (length seats.items) seats.items }
+            requires { AreNew floor.now.exchange.now.word (D.guests floor.now.doors.now).clients
+                seats.items }
             ensures { IfOk result (λ hosted. IfSome hosted (λ sessions.
                 AreVisitsAt floor.entry.now.exchange.now (D.guests floor.entry.now.doors.now) D.received
-                (length seats.items) sessions.items)) }
+                sessions.items)) }
         { host_all(scope, floor, seats) },
     )
 }
@@ -306,7 +330,7 @@ fn refused<C>(alloc: Global, words: &str) -> Result<Hosted<C>, AllocError>
     })
 }
 
-/// What is left of the sessions of so many clients on an exchange with this rack.
+/// What is left of the sessions of the clients on an exchange with this rack.
 fn host<L: Ledger + Send + Sync, R: Threads + Wait + Sync, D: Doors>(
     rt: &R,
     alloc: Global,
@@ -314,17 +338,16 @@ fn host<L: Ledger + Send + Sync, R: Threads + Wait + Sync, D: Doors>(
     rack: Rack,
     workers: WorkerCount,
     doors: &D,
-    clients: usize,
 ) -> Result<Hosted<D::Receipt>, AllocError>
     requires name { blank.name ≡ L.name }
     requires parts { (blank.parts ≡ L.parts) × (blank.parts ≡ ALL_PARTS) }
-    requires some { 1 ≤ clients }
-    requires few { clients ≤ MAX_SESSIONS }
-    ensures { IfOk result (λ hosted. IsHosting rack (D.guests doors.now) clients
+    requires some { 1 ≤ (D.guests doors.now).clients }
+    requires few { (D.guests doors.now).clients ≤ MAX_SESSIONS }
+    ensures { IfOk result (λ hosted. IsHosting rack (D.guests doors.now)
         (map (end_of D.received) hosted.endings.items) hosted.answer) }
 {
     let opening = rack.copy()?;
-    let (exchange, seats) = open_exchange::<L>(alloc, blank, rack, workers, clients)?;
+    let (exchange, seats) = open_exchange::<L>(alloc, blank, rack, workers, doors.clients())?;
     let Some(sessions) = host_seats(rt, alloc, &exchange, seats, doors, workers)? else {
         return refused(alloc, "threads");
     };
@@ -335,7 +358,7 @@ fn host<L: Ledger + Send + Sync, R: Threads + Wait + Sync, D: Doors>(
     Ok(Hosted { answer, endings })
 }
 
-/// What `exchange host` leaves: the sessions of so many clients, 1 to [`MAX_SESSIONS`], on one exchange that has a rack of
+/// What `exchange host` leaves: the sessions of the doors' clients, 1 to [`MAX_SESSIONS`], on one exchange that has a rack of
 /// the shape which the shape text denotes, whose words are first those of the image or, where there is none, 0; or the
 /// refusal of the shape, or else of the image, or of the threads, before a file is opened.
 ///
@@ -345,6 +368,9 @@ fn host<L: Ledger + Send + Sync, R: Threads + Wait + Sync, D: Doors>(
 /// and where a fault ended the session, or its files couldn't be opened, a line `ended ..` that says so, under the status
 /// [`REFUSED`](crate::REFUSED). Under that status too, a last line `logs disagree` would say that the sessions' lists aren't
 /// those of the exchange's history, or that this began on another rack.
+///
+/// Want of memory behind the sessions, for the list of their ends and for what is said of them, is the same error as want of
+/// it before them: how they ended isn't told then, though each client was told its replies.
 pub fn answer_host<R: Threads + Wait + Sync, D: Doors>(
     rt: &R,
     alloc: Global,
@@ -352,12 +378,11 @@ pub fn answer_host<R: Threads + Wait + Sync, D: Doors>(
     image: Option<&[u8]>,
     workers: WorkerCount,
     doors: &D,
-    clients: usize,
 ) -> Result<Hosted<D::Receipt>, AllocError>
-    requires some_clients { 1 ≤ clients }
-    requires few_clients { clients ≤ MAX_SESSIONS }
+    requires some_clients { 1 ≤ (D.guests doors.now).clients }
+    requires few_clients { (D.guests doors.now).clients ≤ MAX_SESSIONS }
     ensures { IfOk result (λ hosted. IsHostAnswer shape.now (bytes_of image.entry)
-        (D.guests doors.now) clients (map (end_of D.received) hosted.endings.items) hosted.answer) }
+        (D.guests doors.now) (map (end_of D.received) hosted.endings.items) hosted.answer) }
 {
     let Ok(shape) = Shape::read(shape) else {
         return refused(alloc, "shape");
@@ -365,7 +390,7 @@ pub fn answer_host<R: Threads + Wait + Sync, D: Doors>(
     match opening_rack(alloc, shape, image) {
         Ok(rack) => {
             let blank = Blank::new(ALL_PARTS as u64);
-            host::<Brand, R, D>(rt, alloc, blank, rack, workers, doors, clients)
+            host::<Brand, R, D>(rt, alloc, blank, rack, workers, doors)
         }
         Err(fault) => refused(alloc, image_words(alloc, fault)?.as_str()),
     }

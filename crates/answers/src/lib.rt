@@ -6,6 +6,7 @@
 //! nothing.
 #![tactic(auto)]
 
+mod all_there;
 mod answer;
 mod attended;
 mod checking;
@@ -32,6 +33,7 @@ mod setting_range;
 mod switching;
 mod talking;
 
+pub use all_there::AllThere;
 pub use answer::Answer;
 pub use attended::Ending;
 pub use checking::answer_check;

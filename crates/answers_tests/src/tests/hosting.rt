@@ -1,0 +1,103 @@
+//! A host whose clients' bytes are all known.
+
+ghost use Rattle.std.specs.Prelude.{◌≤◌, IfOk, None, Some, codes, length, map};
+ghost use Rattle.exchange_limits.specs.declared.limits.TheConstants.{MAX_SESSIONS};
+ghost use Rattle.answers.specs.Hosts.{end_of, IsHostAnswer};
+ghost use Rattle.answers_tests.specs.Known.{known_guests};
+
+use answers::{AllThere, Doors, Ending, Hosted, WorkerCount, answer_host};
+use std::alloc::{AllocError, Global};
+use std::io;
+use std::io::ErrorKind;
+use std::sync::Wait;
+use std::thread::Threads;
+
+/// Clients each of whom says what is here, and whose replies are kept.
+#[derive(Drop)]
+struct KnownDoors<'a> {
+    alloc: Global,
+    said: &'a [&'a [u8]],
+}
+
+impl<'a> Doors for KnownDoors<'a> {
+    ghost use Rattle.std.specs.Prelude.{Some};
+    ghost use Rattle.answers_tests.specs.Known.{known_guests};
+
+    type Reader = &'a [u8];
+
+    type Writer = Vec<u8>;
+
+    type Receipt = Vec<u8>;
+
+    ghost guests = { λ d. known_guests d.said.now };
+
+    ghost received = { λ told. Some told.items };
+
+    fn clients(&self) -> usize {
+        self.said.len()
+    }
+
+    fn name(&self, _client: usize) -> &str {
+        "client"
+    }
+
+    fn open(&self, _there: AllThere, client: usize) -> io::Result<(&'a [u8], Vec<u8>)> {
+        match self.said.get(client) {
+            Some(said) => Ok((*said, Vec::new(self.alloc))),
+            None => Err(io::Error::from(ErrorKind::NotFound)),
+        }
+    }
+
+    fn close(&self, told: Vec<u8>) -> Vec<u8> {
+        told
+    }
+}
+
+/// What is left of a host of such clients, on a rack of one module with two words.
+fn host_known<R: Threads + Wait + Sync>(
+    rt: &R,
+    alloc: Global,
+    said: &[&[u8]],
+) -> Result<Hosted<Vec<u8>>, AllocError>
+    requires some { 1 ≤ length said.now }
+    requires few { length said.now ≤ MAX_SESSIONS }
+    ensures { IfOk result (λ hosted. IsHostAnswer (codes "1x1x2") None (known_guests said.now)
+        (map (end_of (λ told. Some told.items)) hosted.endings.items) hosted.answer) }
+{
+    let doors = KnownDoors { alloc, said };
+    answer_host(rt, alloc, b"1x1x2", None, WorkerCount::ONE, &doors)
+}
+
+/// Whether a session ended by itself, and its client was told this.
+fn was_told(ending: &Ending<Vec<u8>>, told: &str) -> bool {
+    match ending {
+        Ending::Served {
+            fault: None,
+            receipt,
+        } => receipt.as_slice() == told.as_bytes(),
+        _ => false,
+    }
+}
+
+/// Whether each of two clients is told its own replies, and the answer has both.
+fn are_hosted<R: Threads + Wait + Sync>(rt: &R, alloc: Global) -> bool {
+    let said: [&[u8]; 2] = [
+        b"poke 0 80000800 000000aa\npeek 0 80000800\n",
+        b"poke 0 80000804 000000bb\nbye\n",
+    ];
+    match host_known(rt, alloc, &said) {
+        Ok(hosted) => {
+            hosted.endings.len() == 2
+                && was_told(&hosted.endings[0], "poked\nword 000000aa\n")
+                && was_told(&hosted.endings[1], "poked\nbye\n")
+                && hosted.answer.text() == b"session 0 client\nsession 1 client\n".as_slice()
+                && hosted.answer.status() == 0
+        }
+        Err(AllocError) => false,
+    }
+}
+
+#[test]
+fn known_clients_are_told_their_own_replies(rt: HostRuntime) {
+    assert!(rt; are_hosted(&rt, rt.alloc()));
+}
