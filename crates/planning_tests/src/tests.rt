@@ -9,6 +9,7 @@ mod link_graph_rows;
 mod move_directions_rows;
 mod planning;
 mod prints;
+mod refusal_notes_rows;
 mod schedule_certificate_rows;
 mod schedule_picture_rows;
 mod texts;

@@ -1,7 +1,8 @@
 -- The lines of a text, and the words of a line.
-use Rattle.std.specs.Prelude.{ℕ, ◌-◌, ◌==◌, Bool, List, [], is_some, slice_get, unwrap_or, ◌||◌, codes, nat_eq}
-use Rattle.std.specs.List.{slice_split, starts_with}
-use Rattle.batch.specs.Text.{line_feed, space}
+use Rattle.std.specs.Prelude.{◌≡◌, ℕ, ◌-◌, ◌==◌, ◌⊎◌, Bool, List, [], Some, is_some, slice_get, unwrap_or}
+use Rattle.std.specs.List.{slice_split}
+use Rattle.std.specs.Fmt.{decimal}
+use Rattle.batch.specs.Text.{IsNumber, line_feed, space}
 
 -- what stands between these bytes: the last piece is what stands behind the last of them
 abbrev pub pieces : ℕ → List ℕ → List (List ℕ)
@@ -21,8 +22,12 @@ line_at text number = unwrap_or (slice_get (lines text) (number - 1)) []
 abbrev pub is_ended : List ℕ → ℕ → Bool
 is_ended text number = is_some (slice_get (lines text) number)
 
--- whether a line begins as that of a transfer, or of a move
-abbrev pub is_listed : List ℕ → Bool
-is_listed line =
-    starts_with nat_eq line (codes "push ") || starts_with nat_eq line (codes "pull ")
-    || starts_with nat_eq line (codes "move ")
+-- this word of the line is this number
+abbrev pub HasNumber : List ℕ → ℕ → ℕ → Type 0
+HasNumber line place n = IsNumber n × (slice_get (words line) place ≡ Some (decimal n))
+
+-- line 1 says that there are so many lines; 0 where its second word is no number
+abbrev pub Announces : List ℕ → ℕ → Type 0
+Announces text n =
+    HasNumber (line_at text 1) 1 n
+    ⊎ (((k : ℕ) → HasNumber (line_at text 1) 1 k → ⊥) × (n ≡ 0))

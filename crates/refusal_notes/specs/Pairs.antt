@@ -1,13 +1,7 @@
 -- Two transfers of a batch that share what only one may have.
-use Rattle.std.specs.Prelude.{◌≡◌, ℕ, ◌+◌, ◌<◌, if◌then◌else◌, List, Some, slice_get, nat_eq, codes}
+use Rattle.std.specs.Prelude.{ℕ, ◌+◌, ◌<◌, if◌then◌else◌, List, nat_eq, codes}
 use Rattle.std.specs.List.{starts_with}
-use Rattle.std.specs.Fmt.{decimal}
-use Rattle.batch.specs.Text.{IsNumber}
-use Rattle.refusal_notes.specs.Lines.{line_at, words}
-
--- this word of the line is this number
-abbrev pub HasNumber : List ℕ → ℕ → ℕ → Type 0
-HasNumber line place n = IsNumber n × (slice_get (words line) place ≡ Some (decimal n))
+use Rattle.refusal_notes.specs.Lines.{HasNumber, line_at}
 
 -- the line of a transfer, which is counted from 0
 abbrev pub transfer_at : List ℕ → ℕ → List ℕ

@@ -2,7 +2,7 @@
 use Rattle.std.specs.Prelude.{ℕ, List, ◌++◌, codes}
 use Rattle.std.specs.Fmt.{decimal}
 use Rattle.refusal_notes.specs.declared.refusal.Refusal.{Refusal}
-use Rattle.refusal_notes.specs.declared.refusal.Refusal.TheVariants.{BatchLine, MovesLine, ScheduleLine, TooMany, Count, NoCertificate, Shape, NoModule, NoBlock, Unknown, Repeated, Missing, WrongLink, CertificateRepeats, Clash, NotTight, Image, Overlap}
+use Rattle.refusal_notes.specs.declared.refusal.Refusal.TheVariants.{BatchLine, MovesLine, ScheduleLine, TooMany, Count, NoCertificate, Settings, NoSetting, Shape, NoModule, NoBlock, Unknown, Repeated, Missing, WrongLink, CertificateRepeats, Clash, NotTight, Image, Overlap}
 
 -- two numbers with a space between them
 abbrev pub two_numbers : ℕ → ℕ → List ℕ
@@ -16,6 +16,8 @@ refusal_words (ScheduleLine n) = codes "schedule line " ++ decimal n
 refusal_words TooMany = codes "too many"
 refusal_words Count = codes "count"
 refusal_words NoCertificate = codes "no certificate"
+refusal_words Settings = codes "settings"
+refusal_words (NoSetting k) = codes "no setting " ++ decimal k
 refusal_words Shape = codes "shape"
 refusal_words (NoModule t) = codes "no module " ++ decimal t
 refusal_words (NoBlock t) = codes "no block " ++ decimal t

@@ -1,8 +1,8 @@
 //! The lines of a text, and the words of a line.
 
-ghost use Rattle.std.specs.Prelude.{◌≡◌, IfSome, option_map, slice_get};
-ghost use Rattle.refusal_notes.specs.Lines.{is_ended as the_end, line_at as the_line, pieces};
-ghost use Rattle.refusal_notes.specs.Pairs.{HasNumber};
+ghost use Rattle.std.specs.Prelude.{◌≡◌, ℕ, IfSome, IfNone, option_map, slice_get};
+ghost use Rattle.batch.specs.Text.{IsNumber};
+ghost use Rattle.refusal_notes.specs.Lines.{Announces, HasNumber, is_ended as the_end, line_at as the_line, pieces};
 
 use batch::number_from_digits;
 
@@ -33,8 +33,17 @@ pub(crate) fn is_ended(text: &[u8], number: usize) -> bool
 
 /// The number that this word of the line is.
 pub(crate) fn number_at(line: &[u8], place: usize) -> Option<usize>
-    ensures { IfSome result (λ n. HasNumber line.now place n) }
+    ensures some { IfSome result (λ n. HasNumber line.now place n) }
+    ensures none { IfNone result ((n : ℕ) → HasNumber line.now place n → ⊥) }
 {
     let n = number_from_digits(piece(line, b' ', place)?)?;
     Some(n)
+}
+
+/// How many entries the text's first line says that there are.
+pub(crate) fn announced(text: &[u8]) -> usize
+    ensures announced { Announces text.now result }
+    ensures number { IsNumber result }
+{
+    number_at(line_at(text, 1), 1).unwrap_or(0)
 }

@@ -1,21 +1,38 @@
-//! How many lines list a transfer or a move.
+//! How many lines list an entry.
 
 ghost use Rattle.std.specs.Prelude.{◌≡◌, filter, length};
-ghost use Rattle.std.specs.List.{starts_with};
-ghost use Rattle.refusal_notes.specs.Lines.{is_listed as the_listed, lines};
+ghost use Rattle.refusal_notes.specs.Lines.{lines};
+ghost use Rattle.refusal_notes.specs.Listed.{is_listed as the_listed};
 
-/// Whether a line begins as that of a transfer, or of a move.
-fn is_listed(line: &[u8]) -> bool
-    ensures { result ≡ the_listed line.now }
-{
-    line.starts_with(b"push ") || line.starts_with(b"pull ") || line.starts_with(b"move ")
+use crate::form::is_setting;
+
+/// What a text lists.
+#[derive(Clone, Copy)]
+pub enum Listing {
+    /// A batch lists transfers.
+    Transfers,
+    /// A text of moves lists moves.
+    Moves,
+    /// A schedule lists settings.
+    Settings,
 }
 
-/// How many lines begin as that of a transfer, or of a move.
-pub(crate) fn listed(text: &[u8]) -> usize
-    ensures { result ≡ length (filter the_listed (lines text.now)) }
+/// Whether a line begins as that of an entry.
+pub(crate) fn is_listed(listing: Listing, line: &[u8]) -> bool
+    ensures { result ≡ the_listed listing line.now }
+{
+    match listing {
+        Listing::Transfers => line.starts_with(b"push ") || line.starts_with(b"pull "),
+        Listing::Moves => line.starts_with(b"move "),
+        Listing::Settings => is_setting(line),
+    }
+}
+
+/// How many lines of the text begin as that of an entry.
+pub(crate) fn listed(listing: Listing, text: &[u8]) -> usize
+    ensures { result ≡ length (filter (the_listed listing) (lines text.now)) }
 {
     text.split(|b| *b == b'\n')
-        .filter(|line| is_listed(line))
+        .filter(|line| is_listed(listing, line))
         .count()
 }

@@ -2,10 +2,12 @@
 
 ghost use Rattle.std.specs.Prelude.{◌≡◌, ◌≤◌, ◌+◌, IfSome, IsTrue};
 ghost use Rattle.batch.specs.Text.{IsNumber};
-ghost use Rattle.refusal_notes.specs.Pairs.{Clashes, HasNumber, Writes, transfer_at, written_place};
+ghost use Rattle.refusal_notes.specs.Lines.{HasNumber};
+ghost use Rattle.refusal_notes.specs.Pairs.{Clashes, Writes, transfer_at, written_place};
 
 use crate::lines::{line_at, number_at};
-use batch::MAX_TRANSFERS;
+use crate::listed::{Listing, is_listed};
+use batch::{MAX_TRANSFERS, number_from_digits};
 
 /// The line of a transfer, which is counted from 0.
 fn transfer_line(batch: &[u8], t: usize) -> &[u8]
@@ -77,4 +79,20 @@ pub(crate) fn written(line: &[u8]) -> Option<(usize, usize)>
     let module = number_at(line, place)?;
     let block = number_at(line, place + 1)?;
     Some((module, block))
+}
+
+/// Whether the line is that of a setting which holds this transfer.
+fn holds(line: &[u8], t: usize) -> bool {
+    is_listed(Listing::Settings, line)
+        && line
+            .split(|b| *b == b' ')
+            .any(|word| number_from_digits(word) == Some(t))
+}
+
+/// The number of the first setting's line that holds this transfer, counted from 1.
+pub(crate) fn setting_with(schedule: &[u8], t: usize) -> Option<usize> {
+    let at = schedule
+        .split(|b| *b == b'\n')
+        .position(|line| holds(line, t))?;
+    at.checked_add(1)
 }

@@ -21,6 +21,10 @@ pub enum Refusal {
     Count,
     /// The schedule has no certificate.
     NoCertificate,
+    /// The text of the settings to draw is no range.
+    Settings,
+    /// This setting is to be drawn, and the schedule hasn't got it.
+    NoSetting(usize),
     /// The shape is none.
     Shape,
     /// This transfer names a module that the rack hasn't.
@@ -103,6 +107,9 @@ fn plain(words: &[u8]) -> Option<Refusal>
     if words == b"no certificate".as_slice() {
         return Some(Refusal::NoCertificate);
     }
+    if words == b"settings".as_slice() {
+        return Some(Refusal::Settings);
+    }
     if words == b"shape".as_slice() {
         return Some(Refusal::Shape);
     }
@@ -135,7 +142,7 @@ fn two_behind(words: &[u8], front: &[u8]) -> Option<(usize, usize)>
     Some((first, second))
 }
 
-/// A refusal of a line, a module or a block.
+/// A refusal of a line, or of what there isn't.
 fn of_text(words: &[u8]) -> Option<Refusal>
     ensures { IfSome result (λ refusal. words.now ≡ refusal_words refusal) }
 {
@@ -148,11 +155,21 @@ fn of_text(words: &[u8]) -> Option<Refusal>
     if let Some(n) = number_behind(words, b"schedule line ") {
         return Some(Refusal::ScheduleLine(n));
     }
+    of_lack(words)
+}
+
+/// A refusal of a module, a block or a setting that there isn't.
+fn of_lack(words: &[u8]) -> Option<Refusal>
+    ensures { IfSome result (λ refusal. words.now ≡ refusal_words refusal) }
+{
     if let Some(t) = number_behind(words, b"no module ") {
         return Some(Refusal::NoModule(t));
     }
-    let t = number_behind(words, b"no block ")?;
-    Some(Refusal::NoBlock(t))
+    if let Some(t) = number_behind(words, b"no block ") {
+        return Some(Refusal::NoBlock(t));
+    }
+    let k = number_behind(words, b"no setting ")?;
+    Some(Refusal::NoSetting(k))
 }
 
 /// A refusal of one transfer by the check of a schedule.

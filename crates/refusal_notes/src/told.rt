@@ -1,15 +1,19 @@
 //! What is told of a refusal.
 
-ghost use Rattle.std.specs.Prelude.{◌≡◌, [], IfSome};
+ghost use Rattle.std.specs.Prelude.{◌≡◌, IfSome};
+ghost use Rattle.refusal_notes.specs.declared.listed.Listing.TheVariants.{Transfers, Moves};
 ghost use Rattle.refusal_notes.specs.Refusals.{refusal_line};
+ghost use Rattle.refusal_notes.specs.Told.{IsBlockTold, IsLineTold, IsModuleTold, IsShapeOf};
 
-use crate::lines::{line_at, number_at};
-use crate::listed::listed;
+use crate::cause::Limit;
+use crate::lines::{announced, line_at};
+use crate::listed::{Listing, is_listed, listed};
 use crate::note::LineNote;
-use crate::pairs::{clashing, written};
+use crate::pairs::{clashing, setting_with, written};
 use crate::quote::Quote;
 use crate::refusal::Refusal;
 use crate::wanted::Wanted;
+use crate::words::write_note;
 use batch::{MAX_BLOCKS, MAX_MODULES, MAX_WORDS, Shape};
 use std::fmt;
 
@@ -22,15 +26,21 @@ pub struct Named<'a> {
     pub text: &'a [u8],
 }
 
-/// The texts of a command. Those that it hasn't are empty.
+/// What a command was asked: its texts and words. Those that it hasn't are empty.
 #[derive(Clone, Copy)]
 pub struct Texts<'a> {
     /// The batch, or the moves.
     pub list: Named<'a>,
+    /// Which of the two it is.
+    pub listing: Listing,
     /// The schedule, or the image.
     pub other: Named<'a>,
-    /// The word of the shape.
+    /// The word of the rack's shape.
     pub shape: &'a str,
+    /// The word of the settings to draw.
+    pub range: &'a str,
+    /// How many settings are enough, where the schedule is valid and that is known.
+    pub enough: Option<usize>,
 }
 
 /// What is told of a refusal.
@@ -42,35 +52,71 @@ pub struct Note<'a> {
     pub texts: Texts<'a>,
 }
 
+impl<'a> Named<'a> {
+    /// No text.
+    pub const NONE: Named<'static> = Named {
+        name: "",
+        text: &[],
+    };
+}
+
 impl<'a> Texts<'a> {
-    /// A batch or moves alone.
-    pub fn of_list(list: Named<'a>) -> Texts<'a>
-        ensures { (result.list ≡ list.entry) × (result.shape.now ≡ []) }
+    /// A batch alone.
+    pub fn of_batch(list: Named<'a>) -> Texts<'a>
+        ensures { (result.list ≡ list.entry) × (result.listing ≡ Transfers) }
     {
-        let other = Named {
-            name: "",
-            text: &[],
-        };
-        Texts::of_two(list, other, "")
+        Texts {
+            list,
+            listing: Listing::Transfers,
+            other: Named::NONE,
+            shape: "",
+            range: "",
+            enough: None,
+        }
     }
 
-    /// A batch, with a schedule or an image, and the word of the shape, which may be empty.
-    pub fn of_two(list: Named<'a>, other: Named<'a>, shape: &'a str) -> Texts<'a>
-        ensures lists { (result.list ≡ list.entry) × (result.other ≡ other.entry) }
+    /// A text of moves alone.
+    pub fn of_moves(list: Named<'a>) -> Texts<'a>
+        ensures { (result.list ≡ list.entry) × (result.listing ≡ Moves) }
+    {
+        Texts {
+            listing: Listing::Moves,
+            ..Texts::of_batch(list)
+        }
+    }
+
+    /// A batch and a schedule, the word of the settings to draw, which may be empty, and how many settings
+    /// are enough, where the schedule is valid and that is known.
+    pub fn of_schedule(
+        batch: Named<'a>,
+        schedule: Named<'a>,
+        range: &'a str,
+        enough: Option<usize>,
+    ) -> Texts<'a>
+        ensures texts { (result.list ≡ batch.entry) × (result.other ≡ schedule.entry) }
+        ensures listing { result.listing ≡ Transfers }
+        ensures words { (result.range ≡ range.entry) × (result.enough ≡ enough) }
+    {
+        Texts {
+            other: schedule,
+            range,
+            enough,
+            ..Texts::of_batch(batch)
+        }
+    }
+
+    /// The word of a rack's shape, a batch, and the image of the rack, which may be none. A session's rack
+    /// has no batch.
+    pub fn of_rack(shape: &'a str, batch: Named<'a>, image: Named<'a>) -> Texts<'a>
+        ensures texts { (result.list ≡ batch.entry) × (result.other ≡ image.entry) }
+        ensures listing { result.listing ≡ Transfers }
         ensures shape { result.shape ≡ shape.entry }
     {
-        Texts { list, other, shape }
-    }
-
-    /// The image of a rack, and the word of its shape.
-    pub fn of_rack(image: Named<'a>, shape: &'a str) -> Texts<'a>
-        ensures { (result.other ≡ image.entry) × (result.shape ≡ shape.entry) }
-    {
-        let list = Named {
-            name: "",
-            text: &[],
-        };
-        Texts::of_two(list, image, shape)
+        Texts {
+            other: image,
+            shape,
+            ..Texts::of_batch(batch)
+        }
     }
 }
 
@@ -82,6 +128,51 @@ impl<'a> Note<'a> {
     {
         let refusal = Refusal::read(line)?;
         Some(Note { refusal, texts })
+    }
+
+    /// What is told of the line that the refusal is of: none where it isn't of the form of a line, or of the
+    /// numbers in one. Where there are fewer or more lines than announced, it is the line behind the last.
+    pub fn line(&self) -> Option<LineNote<'a>>
+        ensures { IsLineTold self.now.refusal self.now.texts result }
+    {
+        let (list, listing, other) = (self.texts.list.text, self.texts.listing, self.texts.other);
+        match self.refusal {
+            Refusal::BatchLine(n) | Refusal::MovesLine(n) => Some(LineNote::of(list, n, listing)),
+            Refusal::ScheduleLine(n) => Some(LineNote::of(other.text, n, Listing::Settings)),
+            Refusal::Count => Some(LineNote::of(list, announced(list) + 2, listing)),
+            Refusal::TooMany => Some(LineNote::above(list, 1, listing, Limit::Announced)),
+            Refusal::NoModule(t) => Some(self.above_modules(t)),
+            Refusal::NoBlock(t) => Some(self.above_blocks(t)),
+            _ => None,
+        }
+    }
+
+    /// What is told of the line of a transfer that names a module which the rack hasn't.
+    fn above_modules(&self, t: usize) -> LineNote<'a>
+        ensures { IsModuleTold self.now.texts t result }
+    {
+        let (texts, modules) = (self.texts, shape_of(self.texts.shape).modules());
+        let number = t.saturating_add(2);
+        LineNote::above(
+            texts.list.text,
+            number,
+            texts.listing,
+            Limit::Modules(modules),
+        )
+    }
+
+    /// What is told of the line of a transfer that names a block which the modules haven't.
+    fn above_blocks(&self, t: usize) -> LineNote<'a>
+        ensures { IsBlockTold self.now.texts t result }
+    {
+        let (texts, blocks) = (self.texts, shape_of(self.texts.shape).blocks());
+        let number = t.saturating_add(2);
+        LineNote::above(
+            texts.list.text,
+            number,
+            texts.listing,
+            Limit::Blocks(blocks),
+        )
     }
 }
 
@@ -105,123 +196,106 @@ impl<'a> fmt::Display for Named<'a> {
 impl<'a> fmt::Display for Note<'a> {
     fn fmt<W: fmt::Write>(&self, f: &mut fmt::Formatter<W>) -> fmt::Result {
         let texts = self.texts;
-        match self.refusal {
-            Refusal::BatchLine(n) | Refusal::MovesLine(n) => {
-                write_line(
-                    f,
-                    texts.list,
-                    LineNote::of(texts.list.text, n, listing(texts, n)),
-                )
-            }
-            Refusal::ScheduleLine(n) => {
-                let wanted = wanted_of_schedule(texts.other.text, n);
-                write_line(f, texts.other, LineNote::of(texts.other.text, n, wanted))
-            }
-            Refusal::TooMany => {
-                write_line(
-                    f,
-                    texts.list,
-                    LineNote::of_head(texts.list.text, listing(texts, 1)),
-                )
-            }
-            Refusal::Count => write_count(f, texts),
-            Refusal::NoModule(t) => write_module(f, texts, t),
-            Refusal::NoBlock(t) => write_block(f, texts, t),
-            Refusal::Shape => write_shape(f, texts.shape),
-            Refusal::Image(is, wanted) => {
-                let (name, shape) = (texts.other, Quote::of(texts.shape.as_bytes()));
-                write!(f, "{name}: {is} bytes; an image of {shape} has {wanted}")
-            }
-            Refusal::Overlap(t, u) => write_overlap(f, texts.list, t, u),
-            Refusal::Clash(k, end, module) => write_clash(f, texts, k, end, module),
-            other => write_check(f, texts, other),
+        match (self.refusal, self.line()) {
+            (Refusal::Count, Some(note)) => write_count(f, texts.list, texts.listing, note),
+            (Refusal::ScheduleLine(_), Some(note)) => write_schedule_line(f, texts.other, note),
+            (_, Some(note)) => write_note(f, texts.list, note, texts.shape),
+            (refusal, None) => write_other(f, texts, refusal),
         }
     }
 }
 
-/// Writes what is told of a line.
-fn write_line<W: fmt::Write>(
+/// Writes what is told of a refusal that is of no line alone.
+fn write_other<W: fmt::Write>(
+    f: &mut fmt::Formatter<W>,
+    texts: Texts<'_>,
+    refusal: Refusal,
+) -> fmt::Result {
+    match refusal {
+        Refusal::Shape => write_shape(f, texts.shape),
+        Refusal::Settings => write_range(f, texts.range),
+        Refusal::NoSetting(k) => {
+            write!(f, "setting {k}; ")?;
+            write_settings(f, texts.other)
+        }
+        Refusal::Image(is, wanted) => write_image(f, texts, is, wanted),
+        Refusal::Overlap(t, u) => write_overlap(f, texts.list, t, u),
+        Refusal::Clash(k, end, module) => write_clash(f, texts, k, end, module),
+        other => write_check(f, texts, other),
+    }
+}
+
+/// Writes so many of this, with an `s` where it isn't one.
+fn write_many<W: fmt::Write>(f: &mut fmt::Formatter<W>, n: usize, what: &str) -> fmt::Result {
+    let plural = if n == 1 { "" } else { "s" };
+    write!(f, "{n} {what}{plural}")
+}
+
+/// Writes how many lines list an entry, and how many line 1 says.
+fn write_counts<W: fmt::Write>(
     f: &mut fmt::Formatter<W>,
     named: Named<'_>,
+    listing: Listing,
+) -> fmt::Result {
+    let what = match listing {
+        Listing::Transfers => "transfer line",
+        Listing::Moves => "move line",
+        Listing::Settings => "setting line",
+    };
+    let said = announced(named.text);
+    write!(f, "{named}: ")?;
+    write_many(f, listed(listing, named.text), what)?;
+    write!(f, ", and line 1 says {said}")
+}
+
+/// Writes that there are fewer lines than announced, or what follows the last.
+fn write_count<W: fmt::Write>(
+    f: &mut fmt::Formatter<W>,
+    named: Named<'_>,
+    listing: Listing,
+    behind: LineNote<'_>,
+) -> fmt::Result {
+    let line = line_at(named.text, behind.number);
+    let told = listed(listing, named.text);
+    if is_listed(listing, line) || told.saturating_add(2) < behind.number {
+        return write_counts(f, named, listing);
+    }
+    write_note(f, named, behind, "")
+}
+
+/// Writes what is told of a line of a schedule, or that there are more or fewer settings than announced.
+fn write_schedule_line<W: fmt::Write>(
+    f: &mut fmt::Formatter<W>,
+    schedule: Named<'_>,
     note: LineNote<'_>,
 ) -> fmt::Result {
-    write!(f, "{named}{note}")
+    if is_miscounted(schedule.text, note.number, note.wanted) {
+        return write_counts(f, schedule, Listing::Settings);
+    }
+    write_note(f, schedule, note, "")
 }
 
-/// Whether the list is one of moves.
-fn has_moves(texts: Texts<'_>) -> bool {
-    texts.list.text.starts_with(b"move")
-}
-
-/// What is wanted in this line of a batch, or of moves.
-fn listing(texts: Texts<'_>, number: usize) -> Wanted {
-    match (has_moves(texts), number) {
-        (false, 1) => Wanted::BatchHead,
-        (false, _) => Wanted::Transfer,
-        (true, 1) => Wanted::MovesHead,
-        (true, _) => Wanted::Move,
+/// Whether the settings end above this line, and one is wanted in it, or they go on where the certificate is wanted.
+fn is_miscounted(text: &[u8], number: usize, wanted: Wanted) -> bool {
+    let line = line_at(text, number);
+    match wanted {
+        Wanted::Setting => {
+            let has_ended = line.is_empty() || line.starts_with(b"busiest ");
+            has_ended && listed(Listing::Settings, text).saturating_add(2) == number
+        }
+        Wanted::BusiestLink => is_listed(Listing::Settings, line),
+        _ => false,
     }
 }
 
-/// What is wanted in this line of a schedule.
-fn wanted_of_schedule(text: &[u8], number: usize) -> Wanted {
-    if number <= 1 {
-        return Wanted::SettingsHead;
-    }
-    let settings = number_at(line_at(text, 1), 1).unwrap_or(0);
-    match (number - 1).saturating_sub(settings) {
-        0 => Wanted::Setting,
-        1 => Wanted::BusiestLink,
-        2 if line_at(text, number - 1) != b"busiest none".as_slice() => Wanted::Named,
-        _ => Wanted::End,
-    }
-}
-
-/// Writes how many lines of transfers, or moves, there are.
-fn write_count<W: fmt::Write>(f: &mut fmt::Formatter<W>, texts: Texts<'_>) -> fmt::Result {
-    let name = texts.list;
-    let said = number_at(line_at(name.text, 1), 1).unwrap_or(0);
-    let told = listed(name.text);
-    if told == said {
-        let number = said.saturating_add(2);
-        return write_line(f, name, LineNote::of(name.text, number, Wanted::End));
-    }
-    let kind = if has_moves(texts) { "move" } else { "transfer" };
-    let plural = if told == 1 { "" } else { "s" };
-    write!(
-        f,
-        "{name}: {told} {kind} line{plural}, and line 1 says {said}"
-    )
-}
-
-/// The shape of the rack: the widest where no other is named.
-fn shape_of(texts: Texts<'_>) -> Shape {
-    match Shape::read(texts.shape.as_bytes()) {
+/// The shape that this word says: the widest where it says none.
+fn shape_of(word: &str) -> Shape
+    ensures { IsShapeOf word.now result }
+{
+    match Shape::read(word.as_bytes()) {
         Ok(shape) => shape,
         Err(_) => Shape::WIDEST,
     }
-}
-
-/// Writes which module a transfer names that the rack hasn't.
-fn write_module<W: fmt::Write>(
-    f: &mut fmt::Formatter<W>,
-    texts: Texts<'_>,
-    t: usize,
-) -> fmt::Result {
-    let (number, modules) = (t.saturating_add(2), shape_of(texts).modules());
-    let note = LineNote::of_module(texts.list.text, number, modules, listing(texts, number));
-    write_line(f, texts.list, note)
-}
-
-/// Writes which block a transfer names that the modules haven't.
-fn write_block<W: fmt::Write>(
-    f: &mut fmt::Formatter<W>,
-    texts: Texts<'_>,
-    t: usize,
-) -> fmt::Result {
-    let (number, blocks) = (t.saturating_add(2), shape_of(texts).blocks());
-    let note = LineNote::of_block(texts.list.text, number, blocks, listing(texts, number));
-    write_line(f, texts.list, note)
 }
 
 /// Writes what a shape is.
@@ -232,6 +306,42 @@ fn write_shape<W: fmt::Write>(f: &mut fmt::Formatter<W>, shape: &str) -> fmt::Re
         f,
         "1 to {MAX_BLOCKS} blocks each, 1 to {MAX_WORDS} words each"
     )
+}
+
+/// Writes what a range of settings is.
+fn write_range<W: fmt::Write>(f: &mut fmt::Formatter<W>, range: &str) -> fmt::Result {
+    let quote = Quote::of(range.as_bytes());
+    write!(f, "{quote} isn't \"A..B\": two settings, counted from 0, ")?;
+    f.write_str("of which the second isn't below the first")
+}
+
+/// Writes which settings there are.
+fn write_settings<W: fmt::Write>(f: &mut fmt::Formatter<W>, schedule: Named<'_>) -> fmt::Result {
+    match announced(schedule.text).checked_sub(1) {
+        Some(last) => write!(f, "{schedule} has settings 0 to {last}"),
+        None => write!(f, "{schedule} has none"),
+    }
+}
+
+/// Writes which transfers there are.
+fn write_transfers<W: fmt::Write>(f: &mut fmt::Formatter<W>, list: Named<'_>) -> fmt::Result {
+    match announced(list.text).checked_sub(1) {
+        Some(last) => write!(f, "{list} has transfers 0 to {last}"),
+        None => write!(f, "{list} has none"),
+    }
+}
+
+/// Writes how many bytes an image has, and how many are wanted.
+fn write_image<W: fmt::Write>(
+    f: &mut fmt::Formatter<W>,
+    texts: Texts<'_>,
+    is: usize,
+    wanted: usize,
+) -> fmt::Result {
+    let (image, shape) = (texts.other, texts.shape);
+    write!(f, "{image}: ")?;
+    write_many(f, is, "byte")?;
+    write!(f, "; an image of {shape} has {wanted}")
 }
 
 /// Writes which block two transfers write.
@@ -281,26 +391,60 @@ fn write_check<W: fmt::Write>(
     refusal: Refusal,
 ) -> fmt::Result {
     let (list, schedule) = (texts.list, texts.other);
-    write!(f, "{schedule}: ")?;
+    let settings = announced(schedule.text);
+    write!(f, "{schedule}:")?;
     match refusal {
         Refusal::Unknown(t) => {
-            let count = number_at(line_at(list.text, 1), 1).unwrap_or(0);
-            write!(
-                f,
-                "transfer {t} stands in a setting, and {list} has {count}, from 0"
-            )
+            if let Some(number) = setting_with(schedule.text, t) {
+                write!(f, "{number}:")?;
+            }
+            write!(f, " transfer {t}; ")?;
+            return write_transfers(f, list);
         }
-        Refusal::Repeated(t) => write_transfer(f, list, t, "stands twice in the settings"),
-        Refusal::Missing(t) => write_transfer(f, list, t, "stands in no setting"),
-        Refusal::WrongLink(t) => write_named(f, list, t),
-        Refusal::CertificateRepeats(t) => write_transfer(f, list, t, "is named twice"),
+        Refusal::Repeated(t) => {
+            return write_transfer(f, list, t, "stands twice in the settings");
+        }
+        Refusal::Missing(t) => return write_transfer(f, list, t, "stands in no setting"),
+        Refusal::WrongLink(t) if t >= announced(list.text) => {
+            write!(f, "{}: transfer {t} is named; ", settings.saturating_add(3))?;
+            write_transfers(f, list)?;
+        }
+        Refusal::WrongLink(t) => {
+            write!(f, "{}:", settings.saturating_add(3))?;
+            write_transfer(f, list, t, "is named and doesn't use the link")?;
+        }
+        Refusal::CertificateRepeats(t) => {
+            write!(f, "{}:", settings.saturating_add(3))?;
+            write_transfer(f, list, t, "is named twice")?;
+        }
         Refusal::NotTight(settings, uses) => {
-            write!(
-                f,
-                "{settings} settings, and the certificate names {uses} transfers"
-            )
+            f.write_str(" ")?;
+            write_many(f, settings, "setting")?;
+            f.write_str(", and the certificate names ")?;
+            write_many(f, uses, "transfer")?;
         }
-        _ => f.write_str("no certificate: \"busiest link E module M\" and \"named T U ..\""),
+        _ => f.write_str(" no certificate: \"busiest link E module M\" and \"named T U ..\"")?,
+    }
+    write_enough(f, settings, texts.enough)
+}
+
+/// Writes that a schedule of so many settings is valid, and how many are enough, where that is known.
+fn write_enough<W: fmt::Write>(
+    f: &mut fmt::Formatter<W>,
+    settings: usize,
+    enough: Option<usize>,
+) -> fmt::Result {
+    match enough {
+        None => Ok(()),
+        Some(enough) if enough < settings => {
+            let verb = if enough == 1 {
+                "setting is"
+            } else {
+                "settings are"
+            };
+            write!(f, "; the schedule is valid, and {enough} {verb} enough")
+        }
+        Some(_) => f.write_str("; the schedule is valid, and none has fewer settings"),
     }
 }
 
@@ -312,14 +456,5 @@ fn write_transfer<W: fmt::Write>(
     what: &str,
 ) -> fmt::Result {
     let number = t.saturating_add(2);
-    write!(f, "transfer {t} {what} (line {number} of {list})")
-}
-
-/// Writes that a transfer is named and doesn't use the link.
-fn write_named<W: fmt::Write>(f: &mut fmt::Formatter<W>, list: Named<'_>, t: usize) -> fmt::Result {
-    let count = number_at(line_at(list.text, 1), 1).unwrap_or(0);
-    if t >= count {
-        return write!(f, "transfer {t} is named, and {list} has {count}, from 0");
-    }
-    write_transfer(f, list, t, "is named and doesn't use the link")
+    write!(f, " transfer {t} {what} (line {number} of {list})")
 }

@@ -1,5 +1,5 @@
 use Rattle.std.proofs.Common.{rules}
 use Rattle.refusal_notes.proofs.note.LineNote.of.Goals as goal
 
-pub told-requires : goal.told-requires
-told-requires c = search rules
+pub returns : goal.returns
+returns c = search rules

@@ -1,4 +1,4 @@
-use Rattle.std.proofs.Common.{sym, take, arith, rules}
+use Rattle.std.proofs.Common.{sym, arith, rules}
 use Rattle.std.proofs.lemmas.List.{length-take, take_all}
 use Rattle.refusal_notes.specs.declared.quote.TheConstants.{MAX_QUOTED}
 use Rattle.refusal_notes.proofs.quote.Quote.of.Goals as goal

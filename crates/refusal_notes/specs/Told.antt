@@ -1,0 +1,52 @@
+-- What is told of a refusal.
+use Rattle.std.specs.Prelude.{◌≡◌, ℕ, ◌+◌, ◌-◌, ◌^◌, ◌⊎◌, ◌++◌, min, List, Option, None, MatchOption, codes}
+use Rattle.batch.specs.Extent.{Extent, widest}
+use Rattle.batch.specs.ShapeText.{DenotesShape, IsBadShape}
+use Rattle.refusal_notes.specs.declared.cause.Limit.TheVariants.{Modules, Blocks, Announced}
+use Rattle.refusal_notes.specs.declared.listed.Listing.TheVariants.{Settings}
+use Rattle.refusal_notes.specs.declared.note.LineNote.{LineNote}
+use Rattle.refusal_notes.specs.declared.told.Texts.{Texts}
+use Rattle.refusal_notes.specs.declared.refusal.Refusal.{Refusal}
+use Rattle.refusal_notes.specs.declared.refusal.Refusal.TheVariants as refused
+use Rattle.refusal_notes.specs.Lines.{Announces}
+use Rattle.refusal_notes.specs.Notes.{IsNoteAbove, IsNoteOf}
+
+-- the shape that a word says: the widest, where it says none
+abbrev pub IsShapeOf : List ℕ → Extent → Type 0
+IsShapeOf word shape = DenotesShape word shape ⊎ (IsBadShape word × (shape ≡ widest))
+
+-- the line of a transfer, as far as numbers go
+abbrev pub line_of : ℕ → ℕ
+line_of t = min (t + 2) (2 ^ 64 - 1)
+
+-- a transfer names a module, or a block, that a rack of this shape hasn't
+abbrev pub IsModuleTold : Texts → ℕ → LineNote → Type 0
+IsModuleTold texts t note =
+    (shape : Extent) × IsShapeOf texts.shape.now shape
+    × IsNoteAbove texts.listing (Modules shape.modules) texts.list.text.now (line_of t) note
+
+abbrev pub IsBlockTold : Texts → ℕ → LineNote → Type 0
+IsBlockTold texts t note =
+    (shape : Extent) × IsShapeOf texts.shape.now shape
+    × IsNoteAbove texts.listing (Blocks shape.blocks) texts.list.text.now (line_of t) note
+
+-- of these refusals a line is told, and of no other
+abbrev pub IsLineTold : Refusal → Texts → Option LineNote → Type 0
+IsLineTold (refused.BatchLine n) texts told =
+    MatchOption told ⊥ (IsNoteOf texts.listing texts.list.text.now n)
+IsLineTold (refused.MovesLine n) texts told =
+    MatchOption told ⊥ (IsNoteOf texts.listing texts.list.text.now n)
+IsLineTold (refused.ScheduleLine n) texts told =
+    MatchOption told ⊥ (IsNoteOf Settings texts.other.text.now n)
+IsLineTold refused.Count texts told =
+    MatchOption told ⊥ (λ note. (n : ℕ) × Announces texts.list.text.now n
+    × IsNoteOf texts.listing texts.list.text.now (n + 2) note)
+IsLineTold refused.TooMany texts told =
+    MatchOption told ⊥ (IsNoteAbove texts.listing Announced texts.list.text.now 1)
+IsLineTold (refused.NoModule t) texts told = MatchOption told ⊥ (IsModuleTold texts t)
+IsLineTold (refused.NoBlock t) texts told = MatchOption told ⊥ (IsBlockTold texts t)
+IsLineTold _ texts told = told ≡ None
+
+-- the line on standard error that has these words
+abbrev pub line_told : List ℕ → List ℕ
+line_told words = codes "exchange: " ++ (words ++ codes "\n")

@@ -1,0 +1,355 @@
+"""The second line of a refusal, told a second time.
+
+This is plain Python that shares no code with the product, as plain.py, and was written from the rules of the texts. `told` gives the
+line that belongs on standard error beside a refusal. `mended` takes away what that line says is wrong: the texts must then be refused
+otherwise, or told of otherwise, or not refused at all.
+"""
+
+import re
+from dataclasses import dataclass, replace
+
+from plain import BLOCKS, MODULES, NUMBER, TRANSFERS, WORDS, Refused, read_shape
+
+QUOTED = 60
+WANTED = {
+    "batch head": b'"batch N"',
+    "transfer": b'"push I b R c" or "pull I b R c"',
+    "moves head": b'"moves N"',
+    "move": b'"move M b N c"',
+    "settings head": b'"settings S"',
+    "setting": b'"setting T U .."',
+    "busiest": b'"busiest link E module M", where E is 0 or 3 and M 0 to 31, or "busiest none"',
+    "named": b'"named T U .."',
+}
+DIGITS = rb"[0-9]+"
+FORMS = {
+    "batch head": rb"batch " + DIGITS,
+    "transfer": rb"(push|pull)" + 4 * (rb" " + DIGITS),
+    "moves head": rb"moves " + DIGITS,
+    "move": rb"move" + 4 * (rb" " + DIGITS),
+    "settings head": rb"settings " + DIGITS,
+    "setting": rb"setting( [0-9]+)*",
+    "busiest": rb"busiest none|busiest link [03] module " + DIGITS,
+    "named": rb"named( [0-9]+)+",
+}
+KINDS = {"batch": ("batch head", "transfer"), "moves": ("moves head", "move"), "schedule": ("settings head", "setting")}
+ENTRIES = {"batch": rb"(push|pull) ", "moves": rb"move ", "schedule": rb"setting( |$)"}
+ENTRY_NAMES = {"batch": "transfer", "moves": "move", "schedule": "setting"}
+
+
+@dataclass
+class Asked:
+    """What a command was asked. `kind` is `moves` for `direct` alone. A text is its name and its bytes."""
+
+    kind: str
+    list: tuple = (b"", b"")
+    other: tuple = (b"", b"")
+    shape: bytes = b""
+    range: bytes = b""
+    enough: int = None
+
+
+def quoted(line):
+    """A line between quotation marks, cut, in bytes that are printable."""
+    escapes = {34: b'\\"', 92: b"\\\\", 9: b"\\t", 13: b"\\r"}
+    shown = b"".join(escapes.get(b, bytes([b]) if 32 <= b < 127 else b"\\x%02x" % b) for b in line[:QUOTED])
+    return b'"' + shown + b'"' + (b".." if len(line) > QUOTED else b"")
+
+
+def line_of(text, number):
+    """A line without its line feed, counted from 1, and whether it has one."""
+    lines = text.split(b"\n")
+    return (lines[number - 1] if number <= len(lines) else b""), number < len(lines)
+
+
+def word_of(line, place):
+    """The number that a word of the line is."""
+    words = line.split(b" ")
+    found = place < len(words) and re.fullmatch(NUMBER, words[place])
+    return int(found[0]) if found else None
+
+
+def announced(text):
+    return word_of(line_of(text, 1)[0], 1) or 0
+
+
+def wanted_in(kind, text, number):
+    """What is wanted in a line: None behind the last."""
+    count = announced(text)
+    if number <= 1:
+        return KINDS[kind][0]
+    if number <= count + 1:
+        return KINDS[kind][1]
+    behind = [] if kind != "schedule" else ["busiest"] if line_of(text, count + 2)[0] == b"busiest none" else ["busiest", "named"]
+    return dict(enumerate(behind)).get(number - count - 2)
+
+
+def sign_in(line, ended, wanted):
+    """The first thing that is wrong with a line, if it has a name."""
+    words = line.split(b" ")
+    signs = [
+        ("missing", not line and not ended),
+        ("behind", wanted is None),
+        ("blank", not line),
+        ("return", line.endswith(b"\r")),
+        ("comment", line.startswith(b"#")),
+        ("tab", b"\t" in line),
+        ("capital", re.search(rb"[A-Z]", line)),
+        ("zero", any(re.match(rb"0[0-9]", word) for word in words)),
+        ("long", any(re.fullmatch(rb"[0-9]{10,}", word) for word in words)),
+        ("spaces", b"" in words),
+        ("unended", not ended and wanted and re.fullmatch(FORMS[wanted], line)),
+    ]
+    return next((name for name, seen in signs if seen), None)
+
+
+def sign_words(sign, line, wanted, number):
+    quote, want = quoted(line), WANTED.get(wanted)
+    if sign == "missing":
+        return (b"the text is empty" if number == 1 else b"the text ends above this line") + b"; wanted is " + want
+    if sign == "behind":
+        return (quote if line else b"an empty line") + b" stands behind the last line; nothing may follow"
+    return {
+        "blank": b"an empty line; wanted is %s" % (want or b""),
+        "return": b"a carriage return; lines end with a line feed alone",
+        "comment": quote + b" is a comment; a text has none",
+        "tab": b"a tab in " + quote + b"; single spaces stand between words",
+        "capital": quote + b" isn't %s, in small letters with single spaces" % want,
+        "zero": b"a leading zero in " + quote + b"; numbers have none",
+        "long": quote + b": numbers have at most 9 digits",
+        "spaces": quote + b" isn't %s, in small letters with single spaces" % want,
+        "unended": b"no line feed behind " + quote + b"; each line ends with one, the last too",
+        None: quote + b" isn't %s" % want,
+    }[sign]
+
+
+def of_line(kind, named, number):
+    """What is told of a line whose form is wrong."""
+    name, text = named
+    line, ended = line_of(text, number)
+    wanted = wanted_in(kind, text, number)
+    return b"%s:%d: " % (name, number) + sign_words(sign_in(line, ended, wanted), line, wanted, number)
+
+
+def listed(kind, text):
+    return sum(1 for line in text.split(b"\n") if re.match(ENTRIES[kind], line))
+
+
+def many(count, what):
+    return b"%d %s%s" % (count, what, b"" if count == 1 else b"s")
+
+
+def counts(kind, named):
+    name, text = named
+    what = ENTRY_NAMES[kind].encode() + b" line"
+    return b"%s: %s, and line 1 says %d" % (name, many(listed(kind, text), what), announced(text))
+
+
+def is_miscounted(text, number):
+    """Whether a schedule's settings end above this line and one is wanted in it, or go on where the certificate is wanted."""
+    line, wanted = line_of(text, number)[0], wanted_in("schedule", text, number)
+    if wanted == "busiest":
+        return bool(re.match(ENTRIES["schedule"], line))
+    return wanted == "setting" and (not line or line.startswith(b"busiest ")) and listed("schedule", text) == number - 2
+
+
+def of_count(kind, named):
+    """What is told where there are fewer lines than announced, or more."""
+    name, text = named
+    behind = announced(text) + 2
+    if re.match(ENTRIES[kind], line_of(text, behind)[0]) or listed(kind, text) < announced(text):
+        return counts(kind, named)
+    return of_line(kind, named, behind)
+
+
+def shape_of(asked):
+    try:
+        return read_shape(asked.shape)
+    except Refused:
+        return MODULES, BLOCKS, WORDS
+
+
+def above(asked, t, places, most, one, all_of):
+    """What is told of a transfer that names a module, or a block, that there isn't."""
+    name, text = asked.list
+    line = line_of(text, t + 2)[0]
+    n = next(word_of(line, place) for place in places if word_of(line, place) >= most)
+    return b"%s:%d: %s %d; %s 0 to %d" % (name, t + 2, one, n, all_of, most - 1)
+
+
+def of_module(asked, t):
+    owner = b"a rack of %s has modules" % asked.shape if asked.shape else b"a rack has modules"
+    return above(asked, t, (1, 3), shape_of(asked)[0], b"module", owner)
+
+
+def of_block(asked, t):
+    owner = b"in a rack of %s a module has blocks" % asked.shape if asked.shape else b"a module has blocks"
+    return above(asked, t, (2, 4), shape_of(asked)[1], b"block", owner)
+
+
+def of_head(asked):
+    name, text = asked.list
+    words = b"moves; a text of moves" if asked.kind == "moves" else b"transfers; a batch"
+    return b"%s:1: %d %s has at most %d" % (name, announced(text), words, TRANSFERS)
+
+
+def there_are(named, what):
+    name, text = named
+    count = announced(text)
+    return b"%s has %s 0 to %d" % (name, what, count - 1) if count else name + b" has none"
+
+
+def enough_words(asked):
+    """What is told behind a certificate's fault of a valid schedule."""
+    if asked.enough is None:
+        return b""
+    if asked.enough >= announced(asked.other[1]):
+        return b"; the schedule is valid, and none has fewer settings"
+    return b"; the schedule is valid, and %s enough" % (b"1 setting is" if asked.enough == 1 else b"%d settings are" % asked.enough)
+
+
+def of_transfer(asked, t, what, number=None):
+    place = b":" if number is None else b":%d:" % number
+    return asked.other[0] + place + b" transfer %d %s (line %d of %s)" % (t, what, t + 2, asked.list[0])
+
+
+def of_unknown(asked, t):
+    lines = asked.other[1].split(b"\n")
+    number = next(n for n, line in enumerate(lines, 1) if line.startswith(b"setting ") and b"%d" % t in line.split(b" "))
+    return asked.other[0] + b":%d: transfer %d; " % (number, t) + there_are(asked.list, b"transfers")
+
+
+def of_wrong_link(asked, t):
+    number = announced(asked.other[1]) + 3
+    if t >= announced(asked.list[1]):
+        return asked.other[0] + b":%d: transfer %d is named; " % (number, t) + there_are(asked.list, b"transfers") + enough_words(asked)
+    return of_transfer(asked, t, b"is named and doesn't use the link", number) + enough_words(asked)
+
+
+def of_clash(asked, k, end, module):
+    setting, place = line_of(asked.other[1], k + 2)[0], 1 if end == 0 else 3
+    users = [int(t) for t in setting.split(b" ")[1:] if word_of(line_of(asked.list[1], int(t) + 2)[0], place) == module]
+    return asked.other[0] + b":%d: transfers %d and %d both use link %d of module %d (lines %d and %d of %s)" % (
+        k + 2, users[0], users[1], end, module, users[0] + 2, users[1] + 2, asked.list[0])
+
+
+def of_overlap(asked, t, u):
+    kind, *numbers = line_of(asked.list[1], u + 2)[0].split(b" ")
+    module, block = numbers[2:] if kind == b"push" else numbers[:2]
+    return asked.list[0] + b":%d: transfers %d and %d both write block %s of module %s (lines %d and %d)" % (u + 2, t, u, block, module, t + 2, u + 2)
+
+
+def of_schedule_line(asked, number):
+    if is_miscounted(asked.other[1], number):
+        return counts("schedule", asked.other)
+    return of_line("schedule", asked.other, number)
+
+
+def of_not_tight(asked, settings, uses):
+    what = b" %s, and the certificate names %s" % (many(settings, b"setting"), many(uses, b"transfer"))
+    return asked.other[0] + b":" + what + enough_words(asked)
+
+
+def of_shape(asked):
+    return quoted(asked.shape) + b' isn\'t "MxKxW": 1 to 32 modules, 1 to 64 blocks each, 1 to 256 words each'
+
+
+def of_range(asked):
+    return quoted(asked.range) + b' isn\'t "A..B": two settings, counted from 0, of which the second isn\'t below the first'
+
+
+def of_no_certificate(asked):
+    return asked.other[0] + b': no certificate: "busiest link E module M" and "named T U .."' + enough_words(asked)
+
+
+RULES = [
+    (r"(?:batch|moves) line (\d+)", lambda asked, n: of_line(asked.kind, asked.list, n)),
+    (r"schedule line (\d+)", of_schedule_line),
+    (r"too many", of_head),
+    (r"count", lambda asked: of_count(asked.kind, asked.list)),
+    (r"no module (\d+)", of_module),
+    (r"no block (\d+)", of_block),
+    (r"no certificate", of_no_certificate),
+    (r"settings", of_range),
+    (r"no setting (\d+)", lambda asked, k: b"setting %d; " % k + there_are(asked.other, b"settings")),
+    (r"check unknown (\d+)", of_unknown),
+    (r"check repeated (\d+)", lambda asked, t: of_transfer(asked, t, b"stands twice in the settings")),
+    (r"check missing (\d+)", lambda asked, t: of_transfer(asked, t, b"stands in no setting")),
+    (r"check clash (\d+) link (\d) module (\d+)", of_clash),
+    (r"check wrong link (\d+)", of_wrong_link),
+    (r"check certificate repeats (\d+)",
+     lambda asked, t: of_transfer(asked, t, b"is named twice", announced(asked.other[1]) + 3) + enough_words(asked)),
+    (r"check not tight (\d+) (\d+)", of_not_tight),
+    (r"shape", of_shape),
+    (r"image (\d+) (\d+)",
+     lambda asked, has, wants: asked.other[0] + b": %s; an image of %s has %d" % (many(has, b"byte"), asked.shape, wants)),
+    (r"overlap (\d+) (\d+)", of_overlap),
+]
+
+
+def told(asked, refusal):
+    """The line on standard error beside a line `refused ..`: nothing beside want of memory, and beside a file that can't be read."""
+    words = refusal.decode().removeprefix("refused ").removesuffix("\n")
+    for form, rule in RULES:
+        found = re.fullmatch(form, words)
+        if found:
+            return b"exchange: " + rule(asked, *(int(n) for n in found.groups())) + b"\n"
+    return b""
+
+
+# ---- what is told is taken away
+
+
+def mended_line(line, sign):
+    """The line without what is told of it."""
+    return {
+        "return": lambda: line.rstrip(b"\r"),
+        "comment": lambda: line.lstrip(b"#"),
+        "tab": lambda: line.replace(b"\t", b" "),
+        "capital": line.lower,
+        "zero": lambda: re.sub(rb"(?<![^ ])0+(?=[0-9])", b"", line),
+        "long": lambda: re.sub(rb"(?<![^ ])([0-9]{9})[0-9]+(?![^ ])", rb"\1", line),
+        "spaces": lambda: b" ".join(line.split()),
+    }[sign]()
+
+
+def mended_text(kind, text, number):
+    """The text without what is told of a line of it. None: nothing is told but the line's form."""
+    line, ended = line_of(text, number)
+    lines = text.split(b"\n")
+    sign = sign_in(line, ended, wanted_in(kind, text, number))
+    if sign in (None, "missing"):
+        return None
+    if sign == "unended":
+        return text + b"\n"
+    if sign == "behind":
+        return b"\n".join(lines[: number - 1] + [b""])
+    if sign == "blank":
+        while lines[number - 1 : number] == [b""]:
+            del lines[number - 1]
+        return b"\n".join(lines) + (b"" if number <= len(lines) else b"\n")
+    lines[number - 1] = mended_line(line, sign)
+    return b"\n".join(lines)
+
+
+def recounted(kind, text):
+    """The text whose first line says how many entries there are."""
+    first, _, rest = text.partition(b"\n")
+    return first.split(b" ")[0] + b" %d\n" % listed(kind, text) + rest
+
+
+def mended(asked, refusal):
+    """What is asked, without what is told of it; None where that is no single change."""
+    found = re.fullmatch(r"refused (batch|moves|schedule) line (\d+)\n|refused count\n", refusal.decode())
+    if not found:
+        return None
+    schedule = found[1] == "schedule"
+    kind, (name, text) = ("schedule", asked.other) if schedule else (asked.kind, asked.list)
+    number = int(found[2]) if found[2] else announced(text) + 2
+    if counts(kind, (name, text)) in told(asked, refusal):
+        text = recounted(kind, text)
+    else:
+        text = mended_text(kind, text, number)
+    if text is None:
+        return None
+    return replace(asked, other=(name, text)) if schedule else replace(asked, list=(name, text))
