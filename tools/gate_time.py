@@ -19,7 +19,7 @@ import sys
 import threading
 import time
 
-STEPS = ("proof", "tests", "first edit", "other edits", "programs")
+STEPS = ("proof", "tests", "base of edits", "edits", "programs")
 
 
 class Meter:
@@ -39,10 +39,11 @@ class Meter:
         if named and os.path.basename(folder or "").startswith("rt-edit-"):
             kept = words[words.index("--incremental") + 1] if "--incremental" in words else folder
             with self.lock:
-                is_first = kept not in self.folders
+                # (the crate as it stands is checked into a folder of this name, before its edits and behind them)
+                is_base = os.path.basename(kept) == "seed" and kept not in self.folders
                 self.folders.add(kept)
-                self.edits[named] += 1
-            return named, "first edit" if is_first else "other edits"
+                self.edits[named] += not is_base
+            return named, "base of edits" if is_base else "edits"
         if named and "--crate-checked" in words:
             return named, "programs"
         if named and "fmt" not in words:
