@@ -7,3 +7,4 @@ pub mod OwnPlans
 pub mod Numbers
 pub mod Answering
 pub mod Seats
+pub mod Dealing

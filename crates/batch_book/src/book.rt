@@ -1,6 +1,6 @@
 //! The book, and its history.
 
-ghost use Rattle.std.specs.Prelude.{◌+◌, ◌≡◌, ◌↔◌, ◌≤◌, ◌<◌, ◌++◌, ◌∷◌, [], ℕ, true, false, IfOk, IfErr, OnErr, length};
+ghost use Rattle.std.specs.Prelude.{◌+◌, ◌≡◌, ◌↔◌, ◌≤◌, ◌<◌, ◌++◌, ◌∷◌, [], ℕ, true, false, IfOk, IfErr, OnOk, OnErr, length, vec_len, vec_capacity};
 ghost use Rattle.setting_runner.specs.Plants.{LeavesPlant};
 ghost use Rattle.setting_runner.specs.Runs.{TellsOutcome};
 ghost use Rattle.batch_book.specs.Holdings.{spare_of};
@@ -27,11 +27,21 @@ use std::thread::Threads;
 /// The batches that sessions have submitted, the rack that these are run on, and the history of what was
 /// asked and answered. Contracts see the words that it was opened with, the history, and the machine that
 /// this has led to, step by step.
-#[derive(Drop)]
 pub struct Book {
     holdings: Holdings,
     opening: Rack,
     history: Vec<Entry>,
+}
+
+// Said once, so that no function that lets go of one has to say it again.
+impl Drop for Book {
+    fn drop(self) {
+        let Book {
+            holdings: _,
+            opening: _,
+            history: _,
+        } = self;
+    }
 }
 
 impl Model for Book {
@@ -98,13 +108,21 @@ impl Book {
         self.holdings.runs() + 1
     }
 
-    /// Copies of the call, and of the batch that the reply to it has, if it has one.
-    pub(crate) fn copies(&self, session: usize, call: &Call) -> Result<Copies, AllocError>
+    /// Makes room in a list for an entry, and copies the call, and the batch that the reply to it has, if it has
+    /// one.
+    pub(crate) fn prepare(
+        &self,
+        log: &mut Vec<Entry>,
+        session: usize,
+        call: &Call,
+    ) -> Result<Copies, AllocError>
+        ensures items { log.new.items ≡ log.old.items }
+        ensures room { OnOk result (vec_len log.new < vec_capacity log.new) }
         ensures call { IfOk result (λ copies. copies.call ≡ call.now) }
         ensures spare { IfOk result
             (λ copies. copies.spare ≡ spare_of self.now.machine session call.now) }
     {
-        self.holdings.copies(session, call)
+        self.holdings.prepare(log, session, call)
     }
 
     /// One call of a session, and its reply. The history has both then, but where it is full, and where there
@@ -164,8 +182,7 @@ impl Book {
             (plan_to_run self.old.machine session call) (outcome_in result) plant.old plant.new }
         ensures told { TellsOutcome N.hears notice.old (outcome_in result) notice.new }
     {
-        self.history.reserve(1)?;
-        let copies = self.holdings.copies(session, &call)?;
+        let copies = self.holdings.prepare(&mut self.history, session, &call)?;
         let reply = self.holdings.answer(rt, session, call, plant, notice)?;
         list(&mut self.history, session, copies, &reply);
         Ok(reply)

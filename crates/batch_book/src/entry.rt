@@ -7,7 +7,6 @@ use crate::reply::Reply;
 use batch::Batch;
 
 /// What a session asked, and what it was answered.
-#[derive(Drop)]
 pub struct Entry {
     /// The number of the session.
     pub session: usize,
@@ -15,6 +14,17 @@ pub struct Entry {
     pub call: Call,
     /// What it was answered.
     pub reply: Reply,
+}
+
+// Said once, so that no function that lets go of one has to say it again.
+impl Drop for Entry {
+    fn drop(self) {
+        let Entry {
+            session: _,
+            call: _,
+            reply: _,
+        } = self;
+    }
 }
 
 /// Copies of what a call and its reply hold.

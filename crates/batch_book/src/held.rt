@@ -47,7 +47,6 @@ impl Stage {
 }
 
 /// A batch that the book holds.
-#[derive(Drop)]
 pub struct Held {
     /// The session that submitted it, and that alone may name it.
     pub owner: usize,
@@ -55,4 +54,15 @@ pub struct Held {
     pub batch: Batch,
     /// How far it has come.
     pub stage: Stage,
+}
+
+// Said once, so that no function that lets go of one has to say it again.
+impl Drop for Held {
+    fn drop(self) {
+        let Held {
+            owner: _,
+            batch: _,
+            stage: _,
+        } = self;
+    }
 }

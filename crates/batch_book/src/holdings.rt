@@ -1,6 +1,6 @@
 //! The batches and the memories of a book, and one call at a time.
 
-ghost use Rattle.std.specs.Prelude.{◌≡◌, ◌<◌, ◌+◌, ℕ, nat_eq, IfOk, IfErr, OnErr, Option, Some, None, length};
+ghost use Rattle.std.specs.Prelude.{◌≡◌, ◌<◌, ◌+◌, ℕ, nat_eq, IfOk, IfErr, OnOk, OnErr, Option, Some, None, length, vec_len, vec_capacity};
 ghost use Rattle.std.specs.Option.{option_copied};
 ghost use Rattle.std.specs.Map.{lookup};
 ghost use Rattle.crossbar.specs.Switch.{Switch};
@@ -13,7 +13,7 @@ ghost use Rattle.batch_book.specs.Running.{plan_in, plan_to_run};
 ghost use Rattle.batch_book.specs.Replies.{TellsNoRun, outcome_of, outcome_in};
 
 use crate::call::Call;
-use crate::entry::Copies;
+use crate::entry::{Copies, Entry};
 use crate::held::{Held, Stage};
 use crate::limits::{MAX_BATCHES, MAX_ENTRIES};
 use crate::refusal::Refusal;
@@ -30,7 +30,6 @@ use std::marker::Model;
 use std::thread::Threads;
 
 /// The batches that are held, and the rack. Contracts see the machine.
-#[derive(Drop)]
 pub struct Holdings {
     // A run takes the rack and gives it back.
     rack: Option<Rack>,
@@ -39,6 +38,18 @@ pub struct Holdings {
     // How many numbers batches and runs were given.
     given: usize,
     runs: usize,
+}
+
+// Said once, so that no function that lets go of one has to say it again.
+impl Drop for Holdings {
+    fn drop(self) {
+        let Holdings {
+            rack: _,
+            held: _,
+            given: _,
+            runs: _,
+        } = self;
+    }
 }
 
 impl Model for Holdings {
@@ -107,12 +118,21 @@ impl Holdings {
         self.runs
     }
 
-    /// Copies of the call, and of the batch that the reply to it has, if it has one.
-    pub fn copies(&self, session: usize, call: &Call) -> Result<Copies, AllocError>
+    /// Makes room in a list for an entry, and copies the call, and the batch that the reply to it has, if it has
+    /// one.
+    pub fn prepare(
+        &self,
+        log: &mut Vec<Entry>,
+        session: usize,
+        call: &Call,
+    ) -> Result<Copies, AllocError>
+        ensures items { log.new.items ≡ log.old.items }
+        ensures room { OnOk result (vec_len log.new < vec_capacity log.new) }
         ensures call { IfOk result (λ copies. copies.call ≡ call.now) }
         ensures spare { IfOk result
             (λ copies. copies.spare ≡ spare_of self.now session call.now) }
     {
+        log.reserve(1)?;
         let spare = self.spare(session, call)?;
         Ok(Copies {
             call: call.copy()?,

@@ -92,9 +92,8 @@ impl<L: Ledger, P: ConfigPort, W: WireMaker + Sync, G: Gate + Sync> Locked<L, P,
         ensures raised { seat.new.raised ≡ greatest seat.new.log }
         ensures err { OnErr result ((self.new.book ≡ self.old.book) × (seat.new ≡ seat.old)) }
     {
-        seat.log.reserve(1)?;
         let session = seat.session;
-        let copies = self.book.copies(session, &call)?;
+        let copies = self.book.prepare(&mut seat.log, session, &call)?;
         let Some(access) = seat.access.take() else {
             unreachable!()
         };

@@ -100,19 +100,10 @@ fn deal<L: Ledger>(
     ensures { AreNew word.now sessions result.items }
 {
     for session in 1..sessions {
-        let access = Some(first.split(word));
-        let seat = Seat {
-            session,
-            log: Vec::new(alloc),
-            access,
-        };
+        let seat = Seat::new(alloc, session, first.split(word));
         seats.push(seat).unwrap();
     }
-    let seat = Seat {
-        session: 0,
-        log: Vec::new(alloc),
-        access: Some(first),
-    };
+    let seat = Seat::new(alloc, 0, first);
     seats.insert(0, seat).unwrap();
     seats
 }

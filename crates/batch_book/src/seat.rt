@@ -1,24 +1,35 @@
 //! A session's seat at an exchange.
 
-ghost use Rattle.std.specs.Prelude.{◌≡◌, ◌≤◌, length, Some, IsSome};
+ghost use Rattle.std.specs.Prelude.{◌≡◌, ◌≤◌, [], length, Some, IsSome};
 ghost use Rattle.progress_word.specs.declared.limits.TheConstants.{ALL_PARTS};
 ghost use Rattle.batch_book.specs.Values.{greatest};
-ghost use Rattle.batch_book.specs.Seats.{closed};
+ghost use Rattle.batch_book.specs.Seats.{closed, open_seat};
 
 use crate::access::ExchangeAccess;
 use crate::entry::Entry;
 use progress_word::ALL_PARTS;
+use std::alloc::Global;
 use std::marker::Model;
 use std::sync::ledger::Ledger;
 
 /// The seat of a session at an exchange, and the list of what the session has asked and was answered. Once
 /// the exchange is closed, the seat keeps its list, and no exchange takes it.
-#[derive(Drop)]
 pub struct Seat<L: Ledger> {
     pub(crate) session: usize,
     pub(crate) log: Vec<Entry>,
     // Until the exchange is closed.
     pub(crate) access: Option<ExchangeAccess<L>>,
+}
+
+// Said once, so that no function that lets go of one has to say it again.
+impl<L: Ledger> Drop for Seat<L> {
+    fn drop(self) {
+        let Seat {
+            session: _,
+            log: _,
+            access: _,
+        } = self;
+    }
 }
 
 impl<L: Ledger> Model for Seat<L> {
@@ -43,6 +54,19 @@ impl<L: Ledger> Model for Seat<L> {
 }
 
 impl<L: Ledger> Seat<L> {
+    /// The seat of a session that has asked nothing yet.
+    pub(crate) fn new(alloc: Global, session: usize, access: ExchangeAccess<L>) -> Seat<L>
+        requires amount { access.share.amount ≡ 0 }
+        requires raised { access.lookout.raised ≡ 0 }
+        ensures { result ≡ open_seat access.lookout session [] access.parts }
+    {
+        Seat {
+            session,
+            log: Vec::new(alloc),
+            access: Some(access),
+        }
+    }
+
     /// The number of the session.
     pub fn session(&self) -> usize
         ensures { result ≡ self.now.session }

@@ -31,3 +31,6 @@ returns-clause-seats g c =
     let i = c.loop-i.invariant in
     let len : length c.loop-i.seats ≡ length c.args.seats.now = c.loop-i.auto.seats ∙ length-set c.args.seats.now 0 c.leave-all.new.self in
     same_lists _ _ (len ∙ sym (length-map c.args.seats.now closed)) (λ k d below. i.left k d (omega arith) ∙ sym (get_or-map closed c.args.seats.now k d d (omega arith)))
+
+pub loop-i-init : goal.loop-i-init
+loop-i-init g c = grind (arith, common_steps)

@@ -13,7 +13,7 @@ invariant_of-self-2 g c =
     let step = c.in_ok-reply.ensures.step in
     let logged = (small_step c.self.inside.holdings c.args.session c.args.call c.in_ok-reply.reply _ step).logged in
     let longer : c.list.new.log.items ≡ es ++ entry c.args.session c.args.call c.in_ok-reply.reply ∷ [] =
-    listed es c.reserve.new.self.items c.list.new.log.items c.args.session c.in_ok-copies.copies.call c.args.call c.in_ok-reply.reply logged c.list.ensures c.in_ok-reserve.ensures.items c.in_ok-copies.ensures.call in
+    listed es c.prepare.new.log.items c.list.new.log.items c.args.session c.in_ok-copies.copies.call c.args.call c.in_ok-reply.reply logged c.list.ensures c.in_ok-copies.ensures.items c.in_ok-copies.ensures.call in
     grown (account c.self.inside.opening es c.self.inside.holdings) c.args.session c.args.call c.in_ok-reply.reply _ _ c.self.invariant room longer step
 
 pub returns-clause-grown : goal.returns-clause-grown
@@ -22,7 +22,7 @@ returns-clause-grown g c =
     let step = c.in_ok-reply.ensures.step in
     let logged = (small_step c.self.inside.holdings c.args.session c.args.call c.in_ok-reply.reply _ step).logged in
     let longer : c.list.new.log.items ≡ es ++ entry c.args.session c.args.call c.in_ok-reply.reply ∷ [] =
-    listed es c.reserve.new.self.items c.list.new.log.items c.args.session c.in_ok-copies.copies.call c.args.call c.in_ok-reply.reply logged c.list.ensures c.in_ok-reserve.ensures.items c.in_ok-copies.ensures.call in
+    listed es c.prepare.new.log.items c.list.new.log.items c.args.session c.in_ok-copies.copies.call c.args.call c.in_ok-reply.reply logged c.list.ensures c.in_ok-copies.ensures.items c.in_ok-copies.ensures.call in
     rw (← c.self.view_is) (record { step = step; history = longer; opening = refl })
 
 pub returns-clause-logged : goal.returns-clause-logged

@@ -1,4 +1,4 @@
-use Rattle.std.proofs.Common.{subst}
+use Rattle.std.proofs.Common.{subst, rules}
 use Rattle.batch.specs.Extent.{IsShape}
 use Rattle.module_memory.specs.Store.{Store}
 use Rattle.batch_book.proofs.Answering.{sound}
@@ -8,3 +8,6 @@ pub returns-clause-sound : goal.returns-clause-sound
 returns-clause-sound c =
     let shape : IsShape c.self.inside.holdings.store.shape = subst (λ (s : Store). IsShape s.shape) c.rack.ensures c.shape-shape.ensures.whole.within in
     rw (← c.self.view_is) (sound _ _ _ shape c.self.invariant.replay)
+
+pub returns-clause-number : goal.returns-clause-number
+returns-clause-number c = search rules

@@ -1,3 +1,4 @@
+use Rattle.std.proofs.lemmas.Grind.{common_steps}
 use Rattle.std.proofs.Common.{◌≡◌, ◌∙◌, ap, sym, subst, true≢false, arith}
 use Rattle.batch_book.specs.declared.raise.Raise.{Raise}
 use Rattle.batch_book.specs.History.{IsGrown}
@@ -39,3 +40,6 @@ invariant_of-access g c =
 pub returns-clause-unlogged : goal.returns-clause-unlogged
 returns-clause-unlogged g c = λ u.
     elim c.if-is_logged.branch [ then-is_logged w ↦ absurd (true≢false (sym w.if-is_logged.true ∙ (c.is_logged.ensures ∙ u))) | else-is_logged w ↦ ap (λ s. s.book) w.self-is ∙ c.apply-reply.ensures.unchanged u ]
+
+pub returns-clause-amount : goal.returns-clause-amount
+returns-clause-amount g c = grind (arith, common_steps)

@@ -1,3 +1,4 @@
+use Rattle.std.proofs.lemmas.Grind.{common_steps}
 use Rattle.std.proofs.Common.{◌≡◌, ◌∙◌, sym, ap, arith, map, length, ◌≤◌, subst, All, true≢false}
 use Rattle.std.proofs.lemmas.List.{length-map}
 use Rattle.batch_book.specs.Seats.{SeatState, closed, parts_of, LogAgrees, entries_of}
@@ -45,3 +46,6 @@ returns g c =
       },
       λ agrees. true≢false (sym (c.agree-agree.ensures.1 (subst (λ l. All (LogAgrees c.history.result.now) l) (sym c.as_slice-2.ensures.value) (subst (λ x. All (LogAgrees x) items) (sym c.history.ensures.history) agrees))) ∙ c.if-agree.false),
     )
+
+pub gather-all-requires-clause-all : goal.gather-all-requires-clause-all
+gather-all-requires-clause-all g c = grind (arith, common_steps)

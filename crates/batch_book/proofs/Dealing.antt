@@ -1,0 +1,56 @@
+-- How the seats of a new exchange are dealt.
+use Rattle.std.proofs.Common.{◌≡◌, ℕ, zero, suc, ◌+◌, ◌-◌, ◌<◌, ◌≤◌, List, [], ◌∷◌, ◌++◌, length, length-append, get_or, refl, sym, ap, ◌∙◌, subst, inl, inr, add-one, arith}
+use Rattle.std.proofs.lemmas.Bool.{cases_lt}
+use Rattle.std.proofs.lemmas.List.{get_or_append_left, get_or_push}
+use Rattle.std.proofs.lemmas.Grind.{common_steps}
+use Rattle.std.proofs.lemmas.List.Sums.{sum_by_push, sum_by-cons}
+use Rattle.atomic_table.specs.Seated.{TableId}
+use Rattle.progress_word.specs.declared.limits.TheConstants.{ALL_PARTS}
+use Rattle.batch_book.specs.Seats.{SeatState, parts_of}
+use Rattle.batch_book.specs.Exchanges.{new_seat, parts_at, AreNew}
+
+-- the seats of the sessions from 1 to before this one are dealt, with one part each
+pub record AreDealt (word : TableId) (session : ℕ) (seats : List SeatState) : Type 0 where
+  pub count : length seats + 1 ≡ session
+  pub parts : parts_of seats + 1 ≡ session
+  pub each : (k : ℕ) (d : SeatState) → k + 1 < session → get_or seats k d ≡ new_seat word (k + 1) 1
+
+pub none_dealt : (word : TableId) → AreDealt word 1 []
+none_dealt word = record { count = refl; parts = refl; each = λ k d below. absurd (omega arith) }
+
+pub dealt_more : (word : TableId) (session : ℕ) (seats new : List SeatState) (seat : SeatState) → new ≡ seats ++ seat ∷ [] → seat ≡ new_seat word session 1 → AreDealt word session seats → AreDealt word (session + 1) new
+dealt_more word session seats new seat grown is dealt =
+    let count = dealt.count in
+    let parts = dealt.parts in
+    let one : seat.parts ≡ 1 = ap (λ (s : SeatState). s.parts) is in
+    subst (AreDealt word (session + 1)) (sym grown) record {
+      count = omega (arith, length-append seats (seat ∷ []));
+      parts = omega (arith, sum_by_push (λ (s : SeatState). s.parts) seats seat);
+      each = λ k d below. elim (cases_lt k (length seats)) [
+        | inl within ↦ get_or_append_left seats (seat ∷ []) d k within ∙ dealt.each k d (omega arith)
+        | inr past ↦
+            let last : length seats ≡ k = omega arith in
+            let here : session ≡ k + 1 = omega arith in
+            get_or_push seats seat d k last ∙ is ∙ ap (λ (n : ℕ). new_seat word n 1) here
+      ];
+    }
+
+other_part : (sessions k : ℕ) → parts_at sessions (suc k) ≡ 1
+other_part sessions k = grind (arith, common_steps)
+
+each_new : (word : TableId) (sessions : ℕ) (seats : List SeatState) (first : SeatState) → first ≡ new_seat word 0 (ALL_PARTS + 1 - sessions) → AreDealt word sessions seats
+    → (i : ℕ) (d : SeatState) → i < sessions → get_or (first ∷ seats) i d ≡ new_seat word i (parts_at sessions i)
+each_new word sessions seats first is dealt zero d below = is
+each_new word sessions seats first is dealt (suc k) d below = dealt.each k d (omega arith) ∙ ap (λ (n : ℕ). new_seat word n 1) (add-one k) ∙ ap (λ (n : ℕ). new_seat word (suc k) n) (sym (other_part sessions k))
+
+-- with the first seat in front they are all
+pub all_dealt : (word : TableId) (sessions : ℕ) (seats all : List SeatState) (first : SeatState) → all ≡ first ∷ seats → first ≡ new_seat word 0 (ALL_PARTS + 1 - sessions) → sessions ≤ ALL_PARTS → AreDealt word sessions seats → AreNew word sessions all
+all_dealt word sessions seats all first are is few dealt =
+    let count = dealt.count in
+    let parts = dealt.parts in
+    let left : first.parts ≡ ALL_PARTS + 1 - sessions = ap (λ (s : SeatState). s.parts) is in
+    subst (AreNew word sessions) (sym are) record {
+      count = omega arith;
+      parts = omega (arith, sum_by-cons (λ (s : SeatState). s.parts) first seats);
+      each = each_new word sessions seats first is dealt;
+    }

@@ -1,0 +1,53 @@
+use Rattle.std.proofs.Common.{◌≡◌, ℕ, ◌+◌, ◌-◌, ◌≤◌, List, [], ap, ap₂, sym, ◌∙◌, subst, arith}
+use Rattle.std.proofs.lemmas.Grind.{common_steps}
+use Rattle.progress_word.specs.declared.limits.TheConstants.{ALL_PARTS}
+use Rattle.progress_word.specs.Lookouts.{LookoutView, lookout_view}
+use Rattle.batch_book.specs.Seats.{SeatState, open_seat}
+use Rattle.batch_book.specs.Exchanges.{new_seat}
+use Rattle.batch_book.proofs.Dealing.{AreDealt, none_dealt, dealt_more, all_dealt}
+use Rattle.batch_book.proofs.open.deal.Goals as goal
+
+pub loop-session-init : goal.loop-session-init
+loop-session-init g c =
+    let word = c.args.word.now in
+    let parts : ALL_PARTS ≡ c.args.first.parts = omega (arith, ap (λ (o : LookoutView). o.parts) c.requires.first, c.args.first.of_word) in
+    record {
+      room = c.requires.room;
+      parts = omega (arith, parts);
+      lookout = c.requires.first ∙ ap (λ (n : ℕ). lookout_view word 0 0 n) parts;
+      amount = c.requires.amount;
+      dealt = subst (λ (l : List SeatState). AreDealt word 1 l) (sym c.requires.empty) (none_dealt word);
+    }
+
+pub loop-session-preserved : goal.loop-session-preserved
+loop-session-preserved g c =
+    let word = c.args.word.now in
+    let session = c.loop-session.session in
+    let inv = c.loop-session.invariant in
+    let split = c.split.ensures in
+    let less : c.loop-session.first.parts - 1 ≡ c.split.new.self.parts = omega (arith, split.parts.0) in
+    let kept = rw inv.lookout at split.kept in
+    let given = rw inv.lookout at split.given in
+    record {
+      room = grind (arith, common_steps);
+      parts = omega (arith, split.parts.0, inv.parts);
+      lookout = kept ∙ ap (λ (n : ℕ). lookout_view word 0 0 n) less;
+      amount = split.amount ∙ inv.amount;
+      dealt = dealt_more word session c.loop-session.seats.items c.push.new.self.items c.new-seat.result
+          (rw c.unwrap.ensures at c.push.ensures.items)
+          (c.new-seat.ensures ∙ ap₂ (λ (o : LookoutView) (n : ℕ). open_seat o session [] n) given split.parts.1)
+          inv.dealt;
+    }
+
+pub returns : goal.returns
+returns g c =
+    let word = c.args.word.now in
+    let sessions = c.args.sessions in
+    let inv = c.loop-session.invariant in
+    let end : c.loop-session.session ≡ sessions = omega arith in
+    let left : c.loop-session.first.parts ≡ ALL_PARTS + 1 - sessions = omega (arith, inv.parts) in
+    let few : sessions ≤ ALL_PARTS = omega (arith, c.requires.few) in
+    all_dealt word sessions c.loop-session.seats.items c.insert.new.self.items c.new-seat-2.result
+    (rw c.unwrap-2.ensures at c.insert.ensures.items)
+    (c.new-seat-2.ensures ∙ ap (λ (o : LookoutView). open_seat o 0 [] c.loop-session.first.parts) inv.lookout ∙ ap (λ (n : ℕ). new_seat word 0 n) left)
+    few (subst (λ (n : ℕ). AreDealt word n c.loop-session.seats.items) end inv.dealt)
