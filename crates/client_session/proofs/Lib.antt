@@ -7,3 +7,4 @@ pub mod Doing
 pub mod Turning
 pub mod Readings
 pub mod Served
+pub mod Taking

@@ -1,0 +1,22 @@
+use Rattle.std.proofs.lemmas.Grind.{common_steps}
+use Rattle.std.proofs.Common.{arith, rules}
+use Rattle.client_session.proofs.Taking.{TakesIn-more, TakesIn-none, fuel_read}
+use Rattle.client_session.proofs.input.Input.next_line.Goals as goal
+
+pub loop-n-init : goal.loop-n-init
+loop-n-init g c = (TakesIn-none _ _, omega arith)
+
+pub loop-n-preserved : goal.loop-n-preserved
+loop-n-preserved g c =
+    let more = c.in_ok-fill.ensures in
+    let less = fuel_read _ c.fill.new.self _ more.count more.room.0 more.room.2 more.room.1 more.reads in
+    (TakesIn-more _ _ _ _ _ _ c.loop-n.invariant.0 more.takes, omega (arith, less, c.loop-n.invariant.1))
+
+pub returns-in_err-fill-clause-takes : goal.returns-in_err-fill-clause-takes
+returns-in_err-fill-clause-takes g c = TakesIn-more _ _ _ _ _ _ c.loop-n.invariant.0 c.in_err-fill.ensures.takes
+
+pub returns-then-self-clause-line : goal.returns-then-self-clause-line
+returns-then-self-clause-line g c = search rules
+
+pub returns-then-branch-eq0-clause-line : goal.returns-then-branch-eq0-clause-line
+returns-then-branch-eq0-clause-line g c = grind (arith, common_steps)
