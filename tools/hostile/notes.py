@@ -169,21 +169,26 @@ def shape_of(asked):
         return MODULES, BLOCKS, WORDS
 
 
-def above(asked, t, places, most, one, all_of):
+def numbered(what, count):
+    """So many of this, by their numbers."""
+    return what + (b" 0 alone" if count == 1 else b"s 0 to %d" % (count - 1))
+
+
+def above(asked, t, places, most, what, owner):
     """What is told of a transfer that names a module, or a block, that there isn't."""
     name, text = asked.list
     line = line_of(text, t + 2)[0]
     n = next(word_of(line, place) for place in places if word_of(line, place) >= most)
-    return b"%s:%d: %s %d; %s 0 to %d" % (name, t + 2, one, n, all_of, most - 1)
+    return b"%s:%d: %s %d; %s has " % (name, t + 2, what, n, owner) + numbered(what, most)
 
 
 def of_module(asked, t):
-    owner = b"a rack of %s has modules" % asked.shape if asked.shape else b"a rack has modules"
+    owner = b"a rack of %s" % asked.shape if asked.shape else b"a rack"
     return above(asked, t, (1, 3), shape_of(asked)[0], b"module", owner)
 
 
 def of_block(asked, t):
-    owner = b"in a rack of %s a module has blocks" % asked.shape if asked.shape else b"a module has blocks"
+    owner = b"in a rack of %s a module" % asked.shape if asked.shape else b"a module"
     return above(asked, t, (2, 4), shape_of(asked)[1], b"block", owner)
 
 
@@ -196,7 +201,7 @@ def of_head(asked):
 def there_are(named, what):
     name, text = named
     count = announced(text)
-    return b"%s has %s 0 to %d" % (name, what, count - 1) if count else name + b" has none"
+    return name + b" has " + (numbered(what, count) if count else b"none")
 
 
 def enough_words(asked):
@@ -216,13 +221,13 @@ def of_transfer(asked, t, what, number=None):
 def of_unknown(asked, t):
     lines = asked.other[1].split(b"\n")
     number = next(n for n, line in enumerate(lines, 1) if line.startswith(b"setting ") and b"%d" % t in line.split(b" "))
-    return asked.other[0] + b":%d: transfer %d; " % (number, t) + there_are(asked.list, b"transfers")
+    return asked.other[0] + b":%d: transfer %d; " % (number, t) + there_are(asked.list, b"transfer")
 
 
 def of_wrong_link(asked, t):
     number = announced(asked.other[1]) + 3
     if t >= announced(asked.list[1]):
-        return asked.other[0] + b":%d: transfer %d is named; " % (number, t) + there_are(asked.list, b"transfers") + enough_words(asked)
+        return asked.other[0] + b":%d: transfer %d is named; " % (number, t) + there_are(asked.list, b"transfer") + enough_words(asked)
     return of_transfer(asked, t, b"is named and doesn't use the link", number) + enough_words(asked)
 
 
@@ -236,7 +241,8 @@ def of_clash(asked, k, end, module):
 def of_overlap(asked, t, u):
     kind, *numbers = line_of(asked.list[1], u + 2)[0].split(b" ")
     module, block = numbers[2:] if kind == b"push" else numbers[:2]
-    return asked.list[0] + b":%d: transfers %d and %d both write block %s of module %s (lines %d and %d)" % (u + 2, t, u, block, module, t + 2, u + 2)
+    both = b":%d: transfers %d and %d both write block %s of module %s" % (u + 2, t, u, block, module)
+    return asked.list[0] + both + b" (lines %d and %d)" % (t + 2, u + 2)
 
 
 def of_schedule_line(asked, number):
@@ -271,7 +277,7 @@ RULES = [
     (r"no block (\d+)", of_block),
     (r"no certificate", of_no_certificate),
     (r"settings", of_range),
-    (r"no setting (\d+)", lambda asked, k: b"setting %d; " % k + there_are(asked.other, b"settings")),
+    (r"no setting (\d+)", lambda asked, k: b"setting %d; " % k + there_are(asked.other, b"setting")),
     (r"check unknown (\d+)", of_unknown),
     (r"check repeated (\d+)", lambda asked, t: of_transfer(asked, t, b"stands twice in the settings")),
     (r"check missing (\d+)", lambda asked, t: of_transfer(asked, t, b"stands in no setting")),
@@ -327,7 +333,7 @@ def mended_text(kind, text, number):
     if sign == "blank":
         while lines[number - 1 : number] == [b""]:
             del lines[number - 1]
-        return b"\n".join(lines) + (b"" if number <= len(lines) else b"\n")
+        return b"\n".join(lines) + (b"\n" if lines and number > len(lines) else b"")
     lines[number - 1] = mended_line(line, sign)
     return b"\n".join(lines)
 
@@ -338,18 +344,39 @@ def recounted(kind, text):
     return first.split(b" ")[0] + b" %d\n" % listed(kind, text) + rest
 
 
+def lowered(asked, t, places, most):
+    """The list, in which a transfer names module or block 0 in place of the first that there isn't, and of the same once more."""
+    lines = asked.list[1].split(b"\n")
+    words = lines[t + 1].split(b" ")
+    first = next(words[place] for place in places if int(words[place]) >= most)
+    lines[t + 1] = b" ".join(b"0" if place in places and word == first else word for place, word in enumerate(words))
+    return b"\n".join(lines)
+
+
+def without_line(kind, named, asked, refusal, number):
+    """The text without what is told of a line of it, or of how many lines there are."""
+    if counts(kind, named) in told(asked, refusal):
+        return recounted(kind, named[1])
+    return mended_text(kind, named[1], number)
+
+
 def mended(asked, refusal):
     """What is asked, without what is told of it; None where that is no single change."""
-    found = re.fullmatch(r"refused (batch|moves|schedule) line (\d+)\n|refused count\n", refusal.decode())
-    if not found:
-        return None
-    schedule = found[1] == "schedule"
-    kind, (name, text) = ("schedule", asked.other) if schedule else (asked.kind, asked.list)
-    number = int(found[2]) if found[2] else announced(text) + 2
-    if counts(kind, (name, text)) in told(asked, refusal):
-        text = recounted(kind, text)
+    words = refusal.decode().removeprefix("refused ").removesuffix("\n")
+    number = int(re.sub(r"[^0-9]", "", words) or 0)
+    if re.fullmatch(r"schedule line \d+", words):
+        text = without_line("schedule", asked.other, asked, refusal, number)
+        return None if text is None else replace(asked, other=(asked.other[0], text))
+    if re.fullmatch(r"(batch|moves) line \d+", words):
+        text = without_line(asked.kind, asked.list, asked, refusal, number)
+    elif words == "count":
+        text = without_line(asked.kind, asked.list, asked, refusal, announced(asked.list[1]) + 2)
+    elif words == "too many":
+        text = recounted(asked.kind, asked.list[1])
+    elif words.startswith("no module"):
+        text = lowered(asked, number, (1, 3), shape_of(asked)[0])
+    elif words.startswith("no block"):
+        text = lowered(asked, number, (2, 4), shape_of(asked)[1])
     else:
-        text = mended_text(kind, text, number)
-    if text is None:
-        return None
-    return replace(asked, other=(name, text)) if schedule else replace(asked, list=(name, text))
+        text = None
+    return None if text is None else replace(asked, list=(asked.list[0], text))

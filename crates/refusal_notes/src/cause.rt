@@ -187,7 +187,7 @@ impl Limit {
     }
 
     /// The least number that isn't below it.
-    pub(crate) fn least(self) -> usize
+    fn least(self) -> usize
         ensures { result ≡ least_of self }
     {
         match self {

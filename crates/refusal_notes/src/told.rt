@@ -13,7 +13,7 @@ use crate::pairs::{clashing, setting_with, written};
 use crate::quote::Quote;
 use crate::refusal::Refusal;
 use crate::wanted::Wanted;
-use crate::words::write_note;
+use crate::words::{write_note, write_numbered};
 use batch::{MAX_BLOCKS, MAX_MODULES, MAX_WORDS, Shape};
 use std::fmt;
 
@@ -216,7 +216,7 @@ fn write_other<W: fmt::Write>(
         Refusal::Settings => write_range(f, texts.range),
         Refusal::NoSetting(k) => {
             write!(f, "setting {k}; ")?;
-            write_settings(f, texts.other)
+            write_there_are(f, texts.other, "setting")
         }
         Refusal::Image(is, wanted) => write_image(f, texts, is, wanted),
         Refusal::Overlap(t, u) => write_overlap(f, texts.list, t, u),
@@ -315,19 +315,16 @@ fn write_range<W: fmt::Write>(f: &mut fmt::Formatter<W>, range: &str) -> fmt::Re
     f.write_str("of which the second isn't below the first")
 }
 
-/// Writes which settings there are.
-fn write_settings<W: fmt::Write>(f: &mut fmt::Formatter<W>, schedule: Named<'_>) -> fmt::Result {
-    match announced(schedule.text).checked_sub(1) {
-        Some(last) => write!(f, "{schedule} has settings 0 to {last}"),
-        None => write!(f, "{schedule} has none"),
-    }
-}
-
-/// Writes which transfers there are.
-fn write_transfers<W: fmt::Write>(f: &mut fmt::Formatter<W>, list: Named<'_>) -> fmt::Result {
-    match announced(list.text).checked_sub(1) {
-        Some(last) => write!(f, "{list} has transfers 0 to {last}"),
-        None => write!(f, "{list} has none"),
+/// Writes which of these there are in the text, by the numbers that line 1 gives them.
+fn write_there_are<W: fmt::Write>(
+    f: &mut fmt::Formatter<W>,
+    named: Named<'_>,
+    what: &str,
+) -> fmt::Result {
+    write!(f, "{named} has ")?;
+    match announced(named.text) {
+        0 => f.write_str("none"),
+        n => write_numbered(f, n, what),
     }
 }
 
@@ -399,7 +396,7 @@ fn write_check<W: fmt::Write>(
                 write!(f, "{number}:")?;
             }
             write!(f, " transfer {t}; ")?;
-            return write_transfers(f, list);
+            return write_there_are(f, list, "transfer");
         }
         Refusal::Repeated(t) => {
             return write_transfer(f, list, t, "stands twice in the settings");
@@ -407,7 +404,7 @@ fn write_check<W: fmt::Write>(
         Refusal::Missing(t) => return write_transfer(f, list, t, "stands in no setting"),
         Refusal::WrongLink(t) if t >= announced(list.text) => {
             write!(f, "{}: transfer {t} is named; ", settings.saturating_add(3))?;
-            write_transfers(f, list)?;
+            write_there_are(f, list, "transfer")?;
         }
         Refusal::WrongLink(t) => {
             write!(f, "{}:", settings.saturating_add(3))?;

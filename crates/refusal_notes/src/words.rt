@@ -57,6 +57,18 @@ fn write_sign<W: fmt::Write>(
     }
 }
 
+/// Writes so many of this, by their numbers.
+pub(crate) fn write_numbered<W: fmt::Write>(
+    f: &mut fmt::Formatter<W>,
+    n: usize,
+    what: &str,
+) -> fmt::Result {
+    match n {
+        1 => write!(f, "{what} 0 alone"),
+        _ => write!(f, "{what}s 0 to {}", n.saturating_sub(1)),
+    }
+}
+
 /// Writes which number isn't below its limit.
 fn write_above<W: fmt::Write>(
     f: &mut fmt::Formatter<W>,
@@ -65,19 +77,21 @@ fn write_above<W: fmt::Write>(
     wanted: Wanted,
     shape: &str,
 ) -> fmt::Result {
-    let last = limit.least().saturating_sub(1);
     match limit {
-        Limit::Modules(_) if shape.is_empty() => {
-            write!(f, "module {n}; a rack has modules 0 to {last}")
+        Limit::Modules(modules) => {
+            write!(f, "module {n}; a rack")?;
+            write_shape_name(f, shape)?;
+            f.write_str(" has ")?;
+            write_numbered(f, modules, "module")
         }
-        Limit::Modules(_) => write!(f, "module {n}; a rack of {shape} has modules 0 to {last}"),
-        Limit::Blocks(_) if shape.is_empty() => {
-            write!(f, "block {n}; a module has blocks 0 to {last}")
+        Limit::Blocks(blocks) if shape.is_empty() => {
+            write!(f, "block {n}; a module has ")?;
+            write_numbered(f, blocks, "block")
         }
-        Limit::Blocks(_) => write!(
-            f,
-            "block {n}; in a rack of {shape} a module has blocks 0 to {last}"
-        ),
+        Limit::Blocks(blocks) => {
+            write!(f, "block {n}; in a rack of {shape} a module has ")?;
+            write_numbered(f, blocks, "block")
+        }
         Limit::Announced => match wanted {
             Wanted::MovesHead => write!(
                 f,
@@ -86,4 +100,12 @@ fn write_above<W: fmt::Write>(
             _ => write!(f, "{n} transfers; a batch has at most {MAX_TRANSFERS}"),
         },
     }
+}
+
+/// Writes which shape the rack has, where it has one.
+fn write_shape_name<W: fmt::Write>(f: &mut fmt::Formatter<W>, shape: &str) -> fmt::Result {
+    if shape.is_empty() {
+        return Ok(());
+    }
+    write!(f, " of {shape}")
 }
