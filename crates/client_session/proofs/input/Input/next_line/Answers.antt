@@ -1,5 +1,5 @@
 use Rattle.std.proofs.lemmas.Grind.{common_steps}
-use Rattle.std.proofs.Common.{arith, rules}
+use Rattle.std.proofs.Common.{arith}
 use Rattle.client_session.proofs.Taking.{TakesIn-more, TakesIn-none, fuel_read}
 use Rattle.client_session.proofs.input.Input.next_line.Goals as goal
 
@@ -16,7 +16,7 @@ pub returns-in_err-fill-clause-takes : goal.returns-in_err-fill-clause-takes
 returns-in_err-fill-clause-takes g c = TakesIn-more _ _ _ _ _ _ c.loop-n.invariant.0 c.in_err-fill.ensures.takes
 
 pub returns-then-self-clause-line : goal.returns-then-self-clause-line
-returns-then-self-clause-line g c = search rules
+returns-then-self-clause-line g c = tt
 
 pub returns-then-branch-eq0-clause-line : goal.returns-then-branch-eq0-clause-line
 returns-then-branch-eq0-clause-line g c = grind (arith, common_steps)
