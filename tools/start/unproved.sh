@@ -19,7 +19,7 @@ limit='' answer_status=''
 # Answers the words, and ends. Where `rt try` can't answer, the program is proved and built first.
 answer_unproved() {
     if is_live "$@"; then
-        say "a session of talk is answered line by line, which takes the built program: so that is proved and built first"
+        say "a session of $1 is answered line by line, which takes the built program: so that is proved and built first"
         prove
         answer_live "$@"
     fi
@@ -36,7 +36,7 @@ answer_unproved() {
 # Whether the words want a session that goes on while it is answered, and no help.
 is_live() {
     local word
-    [ "${1-}" = talk ] || return 1
+    [ "${1-}" = talk ] || [ "${1-}" = host ] || return 1
     for word in "$@"; do
         [ "$word" != --help ] && [ "$word" != -h ] || return 1
     done

@@ -4,8 +4,8 @@ use Rattle.std.specs.Prelude.{MatchOption, ◌++◌, option_to_list, if◌then�
 use Rattle.std.specs.Str.{bytes_eq}
 use Rattle.clap.specs.Words.{Row, Text, all_of, first_of}
 use Rattle.command_words.specs.declared.words.Job.{Job}
-use Rattle.command_words.specs.declared.words.Job.TheVariants.{Plan, Check, Draw, Switch, Direct, Apply, Run, Serve, Talk}
-use Rattle.command_words.specs.Jobs.{IsJob, HasWord, HasWorked, HasBoth, HasApply, HasRun, HasServe, files_of, input_name}
+use Rattle.command_words.specs.declared.words.Job.TheVariants.{Plan, Check, Draw, Switch, Direct, Apply, Run, Serve, Host, Talk}
+use Rattle.command_words.specs.Jobs.{IsJob, HasWord, HasWorked, HasBoth, HasApply, HasRun, HasServe, files_of, clients_of, input_name}
 
 -- the one or the other
 abbrev Either : Bool → Type 0 → Type 0 → Type 0
@@ -18,12 +18,13 @@ HasWanted name rows =
     Either (bytes_eq name (codes "plan")) (HasWorked (codes "FILE") rows)
     (Either (bytes_eq name (codes "check")) (HasBoth rows)
     (Either (bytes_eq name (codes "run")) (HasRun rows)
-    (Either (bytes_eq name (codes "serve")) (HasServe rows)
+    (Either (bytes_eq name (codes "serve")) (HasServe (codes "SCRIPT") rows)
     (Either (bytes_eq name (codes "draw")) (HasBoth rows)
     (Either (bytes_eq name (codes "switch")) (HasWorked (codes "BATCH") rows)
     (Either (bytes_eq name (codes "direct")) (HasWord (codes "MOVES") rows)
     (Either (bytes_eq name (codes "apply")) (HasApply rows)
-    (Either (bytes_eq name (codes "talk")) (HasWord (codes "SHAPE") rows) ⊥))))))))
+    (Either (bytes_eq name (codes "talk")) (HasWord (codes "SHAPE") rows)
+    (Either (bytes_eq name (codes "host")) (HasServe (codes "CLIENT") rows) ⊥)))))))))
 
 pub wanted : (name : Text) (rows : List Row) (job : Job) → IsJob name rows job → HasWanted name rows
 wanted name rows (Plan file workers) is = rw is.0 ((file, is.1), (workers, is.2))
@@ -34,6 +35,7 @@ wanted name rows (Direct moves) is = rw is.0 (moves, is.1)
 wanted name rows (Apply shape batch image workers) is = rw is.0 ((shape, is.1), (batch, is.2), ((image, is.3), (workers, is.4)))
 wanted name rows (Run shape batch image workers) is = rw is.0 ((shape, is.1), ((batch, is.2), (workers, is.4)))
 wanted name rows (Serve shape scripts image workers) is = rw is.0 ((shape, is.1), (scripts, is.2), (workers, is.4))
+wanted name rows (Host shape clients image workers) is = rw is.0 ((shape, is.1), (clients, is.2), (workers, is.4))
 wanted name rows (Talk shape image) is = rw is.0 (shape, is.1)
 
 -- a job's rows have what the command wants whose name this is
@@ -53,6 +55,7 @@ files_in name rows =
     else if bytes_eq name (codes "direct") then text_in (codes "MOVES") rows ∷ []
     else if bytes_eq name (codes "serve") then option_to_list (first_of (codes "image") rows) ++ unwrap_or (all_of (codes "SCRIPT") rows) []
     else if bytes_eq name (codes "apply") then text_in (codes "BATCH") rows ∷ text_in (codes "IMAGE") rows ∷ []
+    else if bytes_eq name (codes "host") then option_to_list (first_of (codes "image") rows)
     else if bytes_eq name (codes "talk") then option_to_list (first_of (codes "image") rows) ++ input_name ∷ []
     else if bytes_eq name (codes "run") then option_to_list (first_of (codes "image") rows) ++ text_in (codes "BATCH") rows ∷ []
     else text_in (codes "BATCH") rows ∷ []
@@ -66,9 +69,31 @@ files_are name rows (Direct moves) is = rw (is.0, is.1) refl
 files_are name rows (Apply shape batch image workers) is = rw (is.0, is.2, is.3) refl
 files_are name rows (Run shape batch image workers) is = rw (is.0, is.2, is.3) refl
 files_are name rows (Serve shape scripts image workers) is = rw (is.0, is.2.0, is.3) refl
+files_are name rows (Host shape clients image workers) is = rw (is.0, is.3) refl
 files_are name rows (Talk shape image) is = rw (is.0, is.2) refl
 
 -- two jobs that the same words hold have the same files
 pub same_files : (o : Option (Text × List Row)) (a b : Job) → MatchOption o ⊥ (λ p. IsJob p.0 p.1 a) → MatchOption o ⊥ (λ p. IsJob p.0 p.1 b) → files_of a ≡ files_of b
 same_files None a b one other = absurd one
 same_files (Some p) a b one other = files_are p.0 p.1 a one ∙ sym (files_are p.0 p.1 b other)
+
+-- the names of the clients of the command of this name
+abbrev clients_in : Text → List Row → List Text
+clients_in name rows = if bytes_eq name (codes "host") then unwrap_or (all_of (codes "CLIENT") rows) [] else []
+
+clients_are : (name : Text) (rows : List Row) (job : Job) → IsJob name rows job → clients_of job ≡ clients_in name rows
+clients_are name rows (Plan file workers) is = rw is.0 refl
+clients_are name rows (Check batch schedule) is = rw is.0 refl
+clients_are name rows (Draw batch schedule settings) is = rw is.0 refl
+clients_are name rows (Switch batch workers) is = rw is.0 refl
+clients_are name rows (Direct moves) is = rw is.0 refl
+clients_are name rows (Apply shape batch image workers) is = rw is.0 refl
+clients_are name rows (Run shape batch image workers) is = rw is.0 refl
+clients_are name rows (Serve shape scripts image workers) is = rw is.0 refl
+clients_are name rows (Host shape clients image workers) is = rw (is.0, is.2.0) refl
+clients_are name rows (Talk shape image) is = rw is.0 refl
+
+-- and the same clients
+pub same_clients : (o : Option (Text × List Row)) (a b : Job) → MatchOption o ⊥ (λ p. IsJob p.0 p.1 a) → MatchOption o ⊥ (λ p. IsJob p.0 p.1 b) → clients_of a ≡ clients_of b
+same_clients None a b one other = absurd one
+same_clients (Some p) a b one other = clients_are p.0 p.1 a one ∙ sym (clients_are p.0 p.1 b other)

@@ -1,5 +1,5 @@
 -- The job that the words of the command line name.
-use Rattle.std.specs.Prelude.{◌≡◌, ◌≢◌, ◌⊎◌, ℕ, ◌≤◌, List, [], ◌∷◌, ◌++◌, Some, String, codes, length, map, string_bytes, true, AllPairs, option_to_list, IfErr, MatchOption, Result, ⊤}
+use Rattle.std.specs.Prelude.{◌≡◌, ◌≢◌, ◌⊎◌, ℕ, ◌≤◌, List, [], ◌∷◌, ◌++◌, Some, String, codes, length, map, string_bytes, true, All, AllPairs, option_to_list, IfErr, MatchOption, Result, ⊤}
 use Rattle.std.specs.Str.Parse.{IsNumeral, digits_value, without_leading_plus}
 use Rattle.clap.specs.Words.{Row, Text, all_of, first_of, one_of, subcommand_of, subcommand_rows_of, takes}
 use Rattle.clap.specs.declared.parser.matches.ArgMatches.{ArgMatches}
@@ -7,9 +7,9 @@ use Rattle.clap.specs.Values.{kind_of}
 use Rattle.clap.specs.declared.error.Error.{Error}
 use Rattle.clap.specs.declared.error.kind.ErrorKind.TheVariants.{DisplayHelp, DisplayVersion}
 use Rattle.exchange_limits.specs.declared.limits.TheConstants.{MAX_WORKERS}
-use Rattle.command_words.specs.declared.limits.TheConstants.{MAX_SCRIPTS}
+use Rattle.command_words.specs.declared.limits.TheConstants.{MAX_CLIENTS}
 use Rattle.command_words.specs.declared.words.Job.{Job}
-use Rattle.command_words.specs.declared.words.Job.TheVariants.{Plan, Check, Draw, Switch, Direct, Apply, Run, Serve, Talk}
+use Rattle.command_words.specs.declared.words.Job.TheVariants.{Plan, Check, Draw, Switch, Direct, Apply, Run, Serve, Host, Talk}
 use Rattle.command_words.specs.declared.words.WordsFault.{WordsFault}
 use Rattle.command_words.specs.declared.words.WordsFault.TheVariants.{NoMemory}
 use Rattle.command_words.specs.declared.words.Lack.{Lack}
@@ -33,13 +33,13 @@ HasTexts rows batch schedule =
     (first_of (codes "BATCH") rows ≡ Some batch)
     × (first_of (codes "SCHEDULE") rows ≡ Some schedule)
 
--- so many scripts may be served
-abbrev pub AreScripts : List Text → Type 0
-AreScripts scripts = (1 ≤ length scripts) × (length scripts ≤ MAX_SCRIPTS)
+-- so many clients, or scripts, may be served at once
+abbrev pub CanBeServed : List Text → Type 0
+CanBeServed served = (1 ≤ length served) × (length served ≤ MAX_CLIENTS)
 
--- the texts of the scripts, in their order
-abbrev pub HasScripts : List Row → List Text → Type 0
-HasScripts rows scripts = (all_of (codes "SCRIPT") rows ≡ Some scripts) × AreScripts scripts
+-- the texts by which clients are named, in their order
+abbrev pub HasServed : Text → List Row → List Text → Type 0
+HasServed id rows served = (all_of id rows ≡ Some served) × CanBeServed served
 
 -- the command by its name, with its texts and its number of workers where it takes one
 abbrev pub IsJob : Text → List Row → Job → Type 0
@@ -60,7 +60,10 @@ IsJob name rows (Run shape batch image workers) =
     (name ≡ codes "run") × HasShape rows shape × (first_of (codes "BATCH") rows ≡ Some batch)
     × (first_of (codes "image") rows ≡ image) × HasWorkers rows workers
 IsJob name rows (Serve shape scripts image workers) =
-    (name ≡ codes "serve") × HasShape rows shape × HasScripts rows scripts
+    (name ≡ codes "serve") × HasShape rows shape × HasServed (codes "SCRIPT") rows scripts
+    × (first_of (codes "image") rows ≡ image) × HasWorkers rows workers
+IsJob name rows (Host shape clients image workers) =
+    (name ≡ codes "host") × HasShape rows shape × HasServed (codes "CLIENT") rows clients
     × (first_of (codes "image") rows ≡ image) × HasWorkers rows workers
 IsJob name rows (Talk shape image) =
     (name ≡ codes "talk") × HasShape rows shape × (first_of (codes "image") rows ≡ image)
@@ -81,7 +84,7 @@ Holds words job = MatchOption (subcommand_of program words) ⊥ (λ p. IsJob p.0
 unfoldable pub IsTaken : List Text → Type 0
 IsTaken words = takes program words ≡ true
 
--- as many scripts as a job has may be served
+-- as many clients, or scripts, as a job has may be served
 abbrev pub IsWithinLimits : Job → Type 0
 IsWithinLimits (Plan file workers) = ⊤
 IsWithinLimits (Check batch schedule) = ⊤
@@ -90,14 +93,16 @@ IsWithinLimits (Switch batch workers) = ⊤
 IsWithinLimits (Direct moves) = ⊤
 IsWithinLimits (Apply shape batch image workers) = ⊤
 IsWithinLimits (Run shape batch image workers) = ⊤
-IsWithinLimits (Serve shape scripts image workers) = AreScripts scripts
+IsWithinLimits (Serve shape scripts image workers) = CanBeServed scripts
+IsWithinLimits (Host shape clients image workers) = CanBeServed clients
 IsWithinLimits (Talk shape image) = ⊤
 
 -- the name of a file that stands for standard input
 abbrev pub input_name : Text
 input_name = codes "-"
 
--- the names of a job's files, in the order in which they are read; one client is standard input
+-- the names of the files that a job reads itself, in this order; the client of `talk` is standard
+-- input
 abbrev pub files_of : Job → List Text
 files_of (Plan file workers) = file ∷ []
 files_of (Check batch schedule) = batch ∷ schedule ∷ []
@@ -107,11 +112,30 @@ files_of (Direct moves) = moves ∷ []
 files_of (Apply shape batch image workers) = batch ∷ image ∷ []
 files_of (Run shape batch image workers) = option_to_list image ++ batch ∷ []
 files_of (Serve shape scripts image workers) = option_to_list image ++ scripts
+files_of (Host shape clients image workers) = option_to_list image
 files_of (Talk shape image) = option_to_list image ++ input_name ∷ []
 
 -- no two of these names stand for standard input
 abbrev pub NameInputOnce : List Text → Type 0
 NameInputOnce names = AllPairs (λ name later. name ≡ input_name → later ≢ input_name) names
+
+-- the names of a job's live clients; `host` has some
+abbrev pub clients_of : Job → List Text
+clients_of (Host shape clients image workers) = clients
+clients_of job = []
+
+-- the byte that ends a line
+abbrev pub line_feed : ℕ
+line_feed = 10
+
+-- a client may have this name: it isn't empty, and stands in one line
+abbrev pub IsClientName : Text → Type 0
+IsClientName name = (name ≢ []) × All (λ byte. byte ≢ line_feed) name
+
+-- clients may have these names: each may, and no two are the same
+pub record AreClientNames (names : List Text) : Type 0 where
+  pub each : All IsClientName names
+  pub apart : AllPairs (λ name later. name ≢ later) names
 
 -- the words ask for a text that helps, and make no mistake
 abbrev pub AsksForHelp : Error → Type 0
@@ -125,9 +149,9 @@ HasWord id rows = (text : Text) × (first_of id rows ≡ Some text)
 abbrev pub HasBoth : List Row → Type 0
 HasBoth rows = HasWord (codes "BATCH") rows × HasWord (codes "SCHEDULE") rows
 
--- there are as many scripts as may be served
-abbrev pub HasSomeScripts : List Row → Type 0
-HasSomeScripts rows = (scripts : List Text) × HasScripts rows scripts
+-- there are as many clients, or scripts, as may be served
+abbrev pub HasSomeServed : Text → List Row → Type 0
+HasSomeServed id rows = (served : List Text) × HasServed id rows served
 
 -- there is a number of workers
 abbrev pub HasSomeWorkers : List Row → Type 0
@@ -146,18 +170,18 @@ HasApply rows =
 abbrev pub HasRun : List Row → Type 0
 HasRun rows = HasWord (codes "SHAPE") rows × HasWorked (codes "BATCH") rows
 
--- there is what a server wants
-abbrev pub HasServe : List Row → Type 0
-HasServe rows = HasWord (codes "SHAPE") rows × HasSomeScripts rows × HasSomeWorkers rows
+-- there is what a server wants, which names those whom it serves by this word
+abbrev pub HasServe : Text → List Row → Type 0
+HasServe id rows = HasWord (codes "SHAPE") rows × HasSomeServed id rows × HasSomeWorkers rows
 
 -- where that is so, nothing but memory may be lacking
 abbrev pub LacksMemory : {X : Type 0} → Type 0 → Result X Lack → Type 0
 LacksMemory has result = IfErr result (λ lack. has → lack ≡ Memory)
 
 -- An error to words that clap's grammar takes, and that hold a job of whose files at most one is
--- standard input, is want of memory.
+-- standard input, and whose clients may have their names, is want of memory.
 abbrev pub RefusesForMemory : List Text → Result Job WordsFault → Type 0
 RefusesForMemory words result =
     IfErr result
     (λ fault. IsTaken words → (job : Job) → Holds words job → NameInputOnce (files_of job)
-    → fault ≡ NoMemory)
+    → AreClientNames (clients_of job) → fault ≡ NoMemory)

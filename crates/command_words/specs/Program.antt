@@ -5,17 +5,17 @@ use Rattle.clap.specs.declared.builder.command.Command.{Command}
 use Rattle.clap.specs.declared.builder.command.Command.TheViews.{out-Command as fields_of}
 use Rattle.clap.specs.declared.builder.value_parser.ValueParser.TheVariants as parser
 use Rattle.exchange_limits.specs.declared.limits.TheConstants.{MAX_WORKERS}
-use Rattle.command_words.specs.declared.limits.TheConstants.{MAX_SCRIPTS}
+use Rattle.command_words.specs.declared.limits.TheConstants.{MAX_CLIENTS}
 
 -- a word that has to be there
 abbrev pub word : List ℕ → Rule
 word id = record (new_rule id) { required = true }
 
--- the word of the scripts: it has to be there, and may be there so many times
-abbrev pub words : Rule
-words =
-    record (word (codes "SCRIPT"))
-    { range = Some (record { start_inclusive = 1; end_inclusive = MAX_SCRIPTS }) }
+-- a word that has to be there, and may be there so many times
+abbrev pub words : List ℕ → Rule
+words id =
+    record (word id)
+    { range = Some (record { start_inclusive = 1; end_inclusive = MAX_CLIENTS }) }
 
 -- `--workers`, at least 1, and 1 where it is left out
 abbrev pub workers : Rule
@@ -64,14 +64,20 @@ apply = with_rule (with_rule (on_rack (new_app (codes "apply"))) (word (codes "I
 abbrev pub run : App
 run = with_rule (with_rule (on_rack (new_app (codes "run"))) image) workers
 
+-- the command with a shape, so many clients by this word, `--image` and `--workers`
+abbrev pub serving : List ℕ → App → App
+serving id app =
+    with_rule
+    (with_rule (with_rule (with_rule app (word (codes "SHAPE"))) (words id)) image)
+    workers
+
 -- `serve SHAPE SCRIPT.. [--image FILE] [--workers N]`
 abbrev pub serve : App
-serve =
-    with_rule
-    (with_rule
-    (with_rule (with_rule (new_app (codes "serve")) (word (codes "SHAPE"))) words)
-    image)
-    workers
+serve = serving (codes "SCRIPT") (new_app (codes "serve"))
+
+-- `host SHAPE CLIENT.. [--image FILE] [--workers N]`
+abbrev pub host : App
+host = serving (codes "CLIENT") (new_app (codes "host"))
 
 -- `talk SHAPE [--image FILE]`
 abbrev pub talk : App
@@ -104,7 +110,9 @@ planner =
 abbrev pub program : App
 program =
     with_subcommand
+    (with_subcommand
     (with_subcommand (with_subcommand (with_subcommand planner apply.top) run.top) serve.top)
+    host.top)
     talk.top
 
 -- the command has no argument that the commands below it share

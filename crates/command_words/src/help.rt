@@ -237,6 +237,52 @@ Status: 0 each session ended with its script or by `bye`, 1 one of them didn't,
 or the logs disagree, or nothing was served, or there was no memory, 2 the words
 fit no command, 3 the answer couldn't be written.";
 
+/// What `host --help` says below its options.
+pub const HOST_NOTES: &str = "\
+Two shells on one rack: make the pipes, start the host, and be a client.
+  mkfifo amy.in amy.out bob.in bob.out
+  exchange host 2x1x2 amy bob
+In another shell, as amy (bob does the same with his own):
+  exec 3> amy.in 4< amy.out
+  echo 'poke 0 80000800 000000ff' >&3; read reply <&4; echo $reply
+  exec 3>&- 4<&-
+which prints `poked`. The session ends where the last line closes its pipes.
+
+SHAPE is MxKxW, in the form that `exchange run --help` shows. 1 to 16 clients
+are served at once, each in a thread of its own, on one exchange: one rack,
+whose words are at first 0, or those of the image where there is one. Lines and
+replies are those that `exchange serve --help` shows. Each reply is written as
+soon as it is there, and before the client's next line is read.
+
+What a client says is read from CLIENT.in, and what it is told is written to
+CLIENT.out. Mostly both are named pipes. Plain files work too: CLIENT.out is
+made where it isn't there, and emptied. CLIENT.in is opened first, and each
+pipe waits for its client: so let a client open its CLIENT.in before its
+CLIENT.out. A client that comes late, or never, holds no other; the host ends
+when all sessions have ended. A name may have a path before it. It can't be
+empty, have a line feed or stand twice.
+
+The answer comes at the end: for each client, in the order of the words, the
+line `session I CLIENT`, with I from 0. Where a session didn't end with its
+CLIENT.in or by `bye` another line follows, which `exchange serve --help`
+shows, and here they mean:
+  ended open    CLIENT.in or CLIENT.out can't be opened: it asked nothing
+  ended cut     the client went away within a line or within a batch
+  ended read    CLIENT.in can't be read any further
+  ended write   the client reads its replies no more
+The last line may be `logs disagree`, as with `serve`.
+
+Else nobody is served and no pipe is opened, and the answer is the first of
+these that is wrong:
+  refused file       the image can't be read
+  refused shape      SHAPE is no shape
+  refused image L W  the image has L bytes, and the shape wants W
+  refused threads    the system has no thread for each client
+
+Status: 0 each session ended with its CLIENT.in or by `bye`, 1 one of them
+didn't, or the logs disagree, or nobody was served, or there was no memory, 2
+the words fit no command, 3 the answer couldn't be written.";
+
 /// What `talk --help` says below its options.
 pub const TALK_NOTES: &str = "\
 SHAPE is MxKxW, in the form that `exchange run --help` shows. The session's lines
@@ -285,6 +331,9 @@ pub const WORDS_HELP: &str =
 
 /// What is said of a script.
 pub const SCRIPT_HELP: &str = "A file of session lines, or - for standard input";
+
+/// What is said of a client's name.
+pub const CLIENT_HELP: &str = "The name of a client, whose files are CLIENT.in and CLIENT.out";
 
 /// What is said of `--workers`.
 pub const WORKERS_HELP: &str = "How many workers there may be, from 1 to 64";

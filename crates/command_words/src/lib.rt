@@ -1,6 +1,7 @@
 //! The words of the command line: the jobs that they name, and the texts of help.
 #![tactic(auto)]
 
+mod clients;
 mod help;
 mod input;
 mod limits;
@@ -9,7 +10,7 @@ mod text_list;
 mod words;
 
 pub use exchange_limits::WorkerCount;
-pub use limits::{MAX_SCRIPTS, VERSION};
+pub use limits::{MAX_CLIENTS, VERSION};
 pub use text::Text;
 pub use text_list::TextList;
 pub use words::{Job, WordsFault, read_words};

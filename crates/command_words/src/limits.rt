@@ -2,8 +2,8 @@
 
 use exchange_limits::MAX_SESSIONS;
 
-/// The most scripts of `serve`: each is a session, and an exchange has as many at most.
-pub const MAX_SCRIPTS: usize = MAX_SESSIONS;
+/// The most clients that are served at once, and so the most scripts: each has a session, and an exchange has as many at most.
+pub const MAX_CLIENTS: usize = MAX_SESSIONS;
 
 /// The program's version, and the kit that its proofs were last seen to hold with, as `rt version` tells it. The script that
 /// starts the program says so where it builds it with another kit.

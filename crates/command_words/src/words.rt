@@ -8,17 +8,18 @@ ghost use Rattle.command_words.specs.declared.words.Lack.TheVariants.{Memory};
 ghost use Rattle.command_words.specs.declared.words.WordsFault.TheVariants.{NoMemory};
 ghost use Rattle.command_words.specs.Program.{IsLocal, IsCommand, AddsRule, AddsTexts, AddsCommand, word, words, workers, image, settings};
 ghost use Rattle.command_words.specs.Program.{top, planner, program};
-ghost use Rattle.command_words.specs.Program.{plan as plan_app, check as check_app, draw as draw_app, switch as switch_app, direct as direct_app, apply as apply_app, run as run_app, serve as serve_app, talk as talk_app};
-ghost use Rattle.command_words.specs.Jobs.{Holds, HasShape, HasTexts, HasScripts, HasWorkers, IsJob, IsWithinLimits, AreMatchesOf, IsTaken, NameInputOnce, files_of, texts_of};
-ghost use Rattle.command_words.specs.Jobs.{HasWord, HasBoth, HasSomeScripts, HasSomeWorkers, HasWorked, HasApply, HasRun, HasServe, LacksMemory, RefusesForMemory};
+ghost use Rattle.command_words.specs.Program.{plan as plan_app, check as check_app, draw as draw_app, switch as switch_app, direct as direct_app, apply as apply_app, run as run_app, serve as serve_app, host as host_app, talk as talk_app};
+ghost use Rattle.command_words.specs.Jobs.{Holds, HasShape, HasTexts, HasServed, HasWorkers, IsJob, IsWithinLimits, AreMatchesOf, IsTaken, NameInputOnce, AreClientNames, files_of, clients_of, texts_of};
+ghost use Rattle.command_words.specs.Jobs.{HasWord, HasBoth, HasSomeServed, HasSomeWorkers, HasWorked, HasApply, HasRun, HasServe, LacksMemory, RefusesForMemory};
 
+use crate::clients::are_client_names;
 use crate::help::{
-    APPLY_NOTES, BATCH_HELP, CHECK_NOTES, DIRECT_NOTES, DRAW_NOTES, IMAGE_HELP, MOVES_HELP,
-    PLAN_NOTES, RUN_NOTES, SCHEDULE_HELP, SCRIPT_HELP, SERVE_NOTES, SETTINGS_HELP, SWITCH_NOTES,
-    TALK_NOTES, TOP_NOTES, WORDS_HELP, WORKERS_HELP,
+    APPLY_NOTES, BATCH_HELP, CHECK_NOTES, CLIENT_HELP, DIRECT_NOTES, DRAW_NOTES, HOST_NOTES,
+    IMAGE_HELP, MOVES_HELP, PLAN_NOTES, RUN_NOTES, SCHEDULE_HELP, SCRIPT_HELP, SERVE_NOTES,
+    SETTINGS_HELP, SWITCH_NOTES, TALK_NOTES, TOP_NOTES, WORDS_HELP, WORKERS_HELP,
 };
 use crate::input::{is_input, name_input_once_behind};
-use crate::limits::{MAX_SCRIPTS, VERSION};
+use crate::limits::{MAX_CLIENTS, VERSION};
 use crate::text::Text;
 use crate::text_list::TextList;
 use clap::error::ErrorKind;
@@ -71,11 +72,19 @@ pub enum Job {
         image: Option<Text>,
         workers: WorkerCount,
     },
-    /// Serve the scripts of 1 to [`MAX_SCRIPTS`] files, side by side on one exchange with a rack of the shape, which may
+    /// Serve the scripts of 1 to [`MAX_CLIENTS`] files, side by side on one exchange with a rack of the shape, which may
     /// begin with the words of an image's file, with so many workers.
     Serve {
         shape: Text,
         scripts: TextList,
+        image: Option<Text>,
+        workers: WorkerCount,
+    },
+    /// Serve 1 to [`MAX_CLIENTS`] clients of these names while they last, each through two files of its own, on one exchange
+    /// with a rack of the shape, which may begin with the words of an image's file, with so many workers.
+    Host {
+        shape: Text,
+        clients: TextList,
         image: Option<Text>,
         workers: WorkerCount,
     },
@@ -160,12 +169,12 @@ fn with_texts<'a>(alloc: Global, command: Command<'a>) -> Result<Command<'a>, Al
     with_word(alloc, command, "SCHEDULE", SCHEDULE_HELP)
 }
 
-/// The word of the scripts, which has to be there, up to [`MAX_SCRIPTS`] times.
-fn scripts<'a>(alloc: Global) -> Arg<'a>
-    ensures rule { rule_of result ≡ words }
+/// A word that has to be there, up to [`MAX_CLIENTS`] times.
+fn several<'a>(alloc: Global, id: &'a str, help: &'a str) -> Arg<'a>
+    ensures rule { rule_of result ≡ words id.entry.now }
     ensures local { result.global ≡ false }
 {
-    required(alloc, "SCRIPT", SCRIPT_HELP).num_args(1..=MAX_SCRIPTS)
+    required(alloc, id, help).num_args(1..=MAX_CLIENTS)
 }
 
 /// `--workers N`.
@@ -224,11 +233,16 @@ fn with_settings<'a>(alloc: Global, command: Command<'a>) -> Result<Command<'a>,
     command.arg(settings(alloc))
 }
 
-/// The command with the word of the scripts.
-fn with_scripts<'a>(alloc: Global, command: Command<'a>) -> Result<Command<'a>, AllocError>
-    ensures { IfOk result (AddsRule command.entry words) }
+/// The command with a word that has to be there, up to [`MAX_CLIENTS`] times.
+fn with_several<'a>(
+    alloc: Global,
+    command: Command<'a>,
+    id: &'a str,
+    help: &'a str,
+) -> Result<Command<'a>, AllocError>
+    ensures { IfOk result (AddsRule command.entry (words id.entry.now)) }
 {
-    command.arg(scripts(alloc))
+    command.arg(several(alloc, id, help))
 }
 
 /// `plan FILE [--workers N]`.
@@ -313,9 +327,22 @@ fn serve<'a>(alloc: Global) -> Result<Command<'a>, AllocError>
     let about = "Serves scripts side by side on one exchange, and prints the replies to each";
     let serve = command(alloc, "serve", about, SERVE_NOTES);
     let serve = with_shape(alloc, serve)?;
-    let serve = with_scripts(alloc, serve)?;
+    let serve = with_several(alloc, serve, "SCRIPT", SCRIPT_HELP)?;
     let serve = with_image(alloc, serve)?;
     with_workers(alloc, serve)
+}
+
+/// `host SHAPE CLIENT.. [--image FILE] [--workers N]`.
+fn host<'a>(alloc: Global) -> Result<Command<'a>, AllocError>
+    ensures { IfOk result (IsCommand host_app) }
+{
+    let about =
+        "Serves live clients side by side on one exchange, each through two pipes of its own";
+    let host = command(alloc, "host", about, HOST_NOTES);
+    let host = with_shape(alloc, host)?;
+    let host = with_several(alloc, host, "CLIENT", CLIENT_HELP)?;
+    let host = with_image(alloc, host)?;
+    with_workers(alloc, host)
 }
 
 /// `talk SHAPE [--image FILE]`.
@@ -367,7 +394,8 @@ fn program<'a>(alloc: Global) -> Result<Command<'a>, AllocError>
     let applier = with_command(planner, apply(alloc))?;
     let runner = with_command(applier, run(alloc))?;
     let server = with_command(runner, serve(alloc))?;
-    with_command(server, talk(alloc))
+    let hoster = with_command(server, host(alloc))?;
+    with_command(hoster, talk(alloc))
 }
 
 /// The matches of the words.
@@ -431,6 +459,12 @@ fn named_twice(alloc: Global) -> WordsFault {
     misused(alloc, ErrorKind::ArgumentConflict, message)
 }
 
+/// The fault of words whose clients can't be told apart, or have a name that is no name.
+fn misnamed(alloc: Global) -> WordsFault {
+    let message = "a client's name is empty, has a line feed or stands twice";
+    misused(alloc, ErrorKind::ValueValidation, message)
+}
+
 /// The text of a word.
 fn text_of(alloc: Global, matches: &ArgMatches<'_>, id: &str) -> Result<Text, Lack>
     ensures text { IfOk result (λ text. first_of id.now (rows_of (found_of matches.now)) ≡ Some text) }
@@ -477,13 +511,13 @@ fn texts_named(alloc: Global, matches: &ArgMatches<'_>) -> Result<(Text, Text), 
     Ok((batch, schedule))
 }
 
-/// The texts of the scripts.
-fn scripts_of(alloc: Global, matches: &ArgMatches<'_>) -> Result<TextList, Lack>
-    ensures scripts { IfOk result (λ texts. HasScripts (rows_of (found_of matches.now)) texts) }
-    ensures lack { LacksMemory (HasSomeScripts (rows_of (found_of matches.now))) result }
+/// The texts of a word that may be there up to [`MAX_CLIENTS`] times.
+fn served_of(alloc: Global, matches: &ArgMatches<'_>, id: &str) -> Result<TextList, Lack>
+    ensures served { IfOk result (λ texts. HasServed id.now (rows_of (found_of matches.now)) texts) }
+    ensures lack { LacksMemory (HasSomeServed id.now (rows_of (found_of matches.now))) result }
 {
-    match matches.get_strs("SCRIPT") {
-        Some(texts) if texts.len() >= 1 && texts.len() <= MAX_SCRIPTS => Ok(TextList::of(
+    match matches.get_strs(id) {
+        Some(texts) if texts.len() >= 1 && texts.len() <= MAX_CLIENTS => Ok(TextList::of(
             alloc, texts,
         )?),
         _ => Err(Lack::Word),
@@ -598,15 +632,33 @@ fn run_job(alloc: Global, found: &ArgMatches<'_>) -> Result<Job, Lack>
 fn serve_job(alloc: Global, found: &ArgMatches<'_>) -> Result<Job, Lack>
     ensures job { IfOk result (λ job. IsJob (codes "serve") (rows_of (found_of found.now)) job) }
     ensures limits { IfOk result (λ job. IsWithinLimits job) }
-    ensures lack { LacksMemory (HasServe (rows_of (found_of found.now))) result }
+    ensures lack { LacksMemory (HasServe (codes "SCRIPT") (rows_of (found_of found.now))) result }
 {
     let shape = shape_of(alloc, found)?;
-    let scripts = scripts_of(alloc, found)?;
+    let scripts = served_of(alloc, found, "SCRIPT")?;
     let image = image_of(alloc, found)?;
     let workers = workers_of(alloc, found)?;
     Ok(Job::Serve {
         shape,
         scripts,
+        image,
+        workers,
+    })
+}
+
+/// The job of `host`.
+fn host_job(alloc: Global, found: &ArgMatches<'_>) -> Result<Job, Lack>
+    ensures job { IfOk result (λ job. IsJob (codes "host") (rows_of (found_of found.now)) job) }
+    ensures limits { IfOk result (λ job. IsWithinLimits job) }
+    ensures lack { LacksMemory (HasServe (codes "CLIENT") (rows_of (found_of found.now))) result }
+{
+    let shape = shape_of(alloc, found)?;
+    let clients = served_of(alloc, found, "CLIENT")?;
+    let image = image_of(alloc, found)?;
+    let workers = workers_of(alloc, found)?;
+    Ok(Job::Host {
+        shape,
+        clients,
         image,
         workers,
     })
@@ -657,6 +709,9 @@ fn job_of(alloc: Global, name: &str, found: &ArgMatches<'_>) -> Result<Job, Lack
     if name == "talk" {
         return talk_job(alloc, found);
     }
+    if name == "host" {
+        return host_job(alloc, found);
+    }
     Err(Lack::Word)
 }
 
@@ -694,7 +749,18 @@ fn reads_input_once(job: &Job) -> bool
         Job::Apply { batch, image, .. } => !(batch.is_input() && image.is_input()),
         Job::Run { batch, image, .. } => !(is_input(image) && batch.is_input()),
         Job::Serve { scripts, image, .. } => name_input_once_behind(image, scripts.as_slice()),
+        Job::Host { .. } => true,
         Job::Talk { image, .. } => !is_input(image),
+    }
+}
+
+/// Whether a job's clients can be told apart.
+fn names_clients(job: &Job) -> bool
+    ensures { IsTrue result ↔ AreClientNames (clients_of job.now) }
+{
+    match job {
+        Job::Host { clients, .. } => are_client_names(clients.as_slice()),
+        _ => true,
     }
 }
 
@@ -702,17 +768,21 @@ fn reads_input_once(job: &Job) -> bool
 ///
 /// Gives the job that clap finds in them: its command, its texts, and its number of workers. Words
 /// that fit no command are clap's error, which holds the text to print, and so is a demand for help or for
-/// the program's version, and a job of which several files are `-`, standard input.
+/// the program's version, a job of which several files are `-`, standard input, and clients whose names are no names.
 /// Words that clap takes, and that hold another job, are refused for want of memory only.
 pub fn read_words(alloc: Global, words: &[String]) -> Result<Job, WordsFault>
     ensures job { IfOk result (λ job. Holds (texts_of words.now) job) }
     ensures limits { IfOk result (λ job. IsWithinLimits job) }
     ensures input { IfOk result (λ job. NameInputOnce (files_of job)) }
+    ensures clients { IfOk result (λ job. AreClientNames (clients_of job)) }
     ensures refused { RefusesForMemory (texts_of words.now) result }
 {
     let job = job_named(alloc, words)?;
     if !reads_input_once(&job) {
         return Err(named_twice(alloc));
+    }
+    if !names_clients(&job) {
+        return Err(misnamed(alloc));
     }
     Ok(job)
 }

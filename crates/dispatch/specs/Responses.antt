@@ -1,10 +1,11 @@
 -- What the program prints for a job.
-use Rattle.std.specs.Prelude.{◌≡◌, ◌⊎◌, ◌<◌, ℕ, List, [], ◌++◌, Option, Some, None, Result, Ok, Err, IfOk, IfSome, codes, ⊤, length, slice_index_or}
+use Rattle.std.specs.Prelude.{◌≡◌, ◌⊎◌, ◌<◌, ℕ, List, [], ◌++◌, Option, Some, None, Result, Ok, Err, IfOk, IfSome, codes, ⊤, true, length, slice_index_or}
 use Rattle.std.specs.Io.KnownBytes.{Appends}
 use Rattle.answers.specs.Extent.{widest}
 use Rattle.answers.specs.Answers.{IsPlanned, IsChecked, IsRunAnswer, image_alone}
 use Rattle.answers.specs.Drawings.{IsDrawn}
 use Rattle.answers.specs.Directing.{IsDirected}
+use Rattle.answers.specs.Hosts.{Guests, End, IsHostAnswer}
 use Rattle.answers.specs.Refusals.{Printed}
 use Rattle.answers.specs.Reports.{report_of}
 use Rattle.answers.specs.Serving.{IsServeAnswer}
@@ -12,7 +13,7 @@ use Rattle.answers.specs.Switching.{IsSwitched}
 use Rattle.answers.specs.Talking.{IsTalkAnswer}
 use Rattle.answers.specs.declared.limits.TheConstants.{DONE, REFUSED}
 use Rattle.command_words.specs.declared.words.Job.{Job}
-use Rattle.command_words.specs.declared.words.Job.TheVariants.{Plan, Check, Draw, Switch, Direct, Apply, Run, Serve, Talk}
+use Rattle.command_words.specs.declared.words.Job.TheVariants.{Plan, Check, Draw, Switch, Direct, Apply, Run, Serve, Host, Talk}
 use Rattle.command_words.specs.declared.words.WordsFault.{WordsFault}
 use Rattle.command_words.specs.declared.words.WordsFault.TheVariants as words_fault
 use Rattle.command_words.specs.Jobs.{Holds, AsksForHelp, RefusesForMemory, input_name}
@@ -84,6 +85,24 @@ IsSomeServe input shape files image_file answer =
     (scripts : List (List ℕ)) × (image : Option (List ℕ)) × AreHeld input files scripts
     × IsHeldImage input image_file image × IsServeAnswer shape image scripts answer
 
+-- the clients of these names, of whose files no bytes are known
+abbrev pub guests_of : List (List ℕ) → Guests
+guests_of names =
+    record {
+      clients = length names;
+      says = λ _. None;
+      holds = λ _. None;
+      named = λ k. slice_index_or names k [];
+      bars = λ _. true;
+    }
+
+-- an answer of `host` to this shape's text, to what this file holds and to what these clients say
+abbrev pub IsSomeHost : Option (List ℕ) → List ℕ → List (List ℕ) → Option (List ℕ) → Printed
+    → Type 0
+IsSomeHost input shape clients image_file answer =
+    (image : Option (List ℕ)) × (ends : List End) × IsHeldImage input image_file image
+    × IsHostAnswer shape image (guests_of clients) ends answer
+
 -- an answer of `talk` to this shape's text, to what this file holds and to standard input, where the
 -- session was told this
 abbrev pub IsSomeTalk : Option (List ℕ) → List ℕ → Option (List ℕ) → List ℕ → Printed → Type 0
@@ -107,6 +126,8 @@ IsAnswerTo input (Apply shape batch image workers) answer = IsSomeApply input sh
 IsAnswerTo input (Run shape batch image workers) answer = IsSomeRun input shape batch image answer
 IsAnswerTo input (Serve shape scripts image workers) answer =
     IsSomeServe input shape scripts image answer
+IsAnswerTo input (Host shape clients image workers) answer =
+    IsSomeHost input shape clients image answer
 IsAnswerTo input (Talk shape image) answer =
     (told : List ℕ) × (end : Printed) × (answer ≡ behind_told told end)
     × IsSomeTalk input shape image told end

@@ -3,10 +3,12 @@
 //! Nothing here names the system's own streams or words: who calls [`respond`] hands them in.
 #![tactic(auto)]
 
+mod doors;
 mod limits;
 mod responding;
 mod unanswered;
 
+pub use doors::ClientFiles;
 pub use limits::{MISUSED, UNWRITTEN};
 pub use responding::{respond, respond_to};
 pub use unanswered::Unanswered;

@@ -5,16 +5,17 @@ ghost use Rattle.std.specs.Io.KnownBytes.{Appends};
 ghost use Rattle.std.specs.Process.{exit_status};
 ghost use Rattle.answers.specs.Openings.{bytes_of};
 ghost use Rattle.answers.specs.Refusals.{Printed};
-ghost use Rattle.command_words.specs.Jobs.{AreScripts, IsWithinLimits, NameInputOnce, files_of, input_name, texts_of};
-ghost use Rattle.dispatch.specs.Responses.{IsHeld, IsHeldImage, AreHeld, IsSomePlan, IsSomeCheck, IsSomeDraw, IsSomeSwitch, IsSomeDirect, IsSomeApply, IsSomeRun, IsSomeServe, IsSomeTalk};
+ghost use Rattle.command_words.specs.Jobs.{CanBeServed, IsWithinLimits, NameInputOnce, files_of, input_name, texts_of};
+ghost use Rattle.dispatch.specs.Responses.{IsHeld, IsHeldImage, AreHeld, IsSomePlan, IsSomeCheck, IsSomeDraw, IsSomeSwitch, IsSomeDirect, IsSomeApply, IsSomeRun, IsSomeServe, IsSomeHost, IsSomeTalk};
 ghost use Rattle.dispatch.specs.Responses.{IsAnswerTo, IsToldBy, IsResponseTo, IsPrinted};
 ghost use Rattle.dispatch.specs.Responses.{behind_told, unanswered, IsEndFor, IsEndForWords, IsEndWithoutWords};
 
+use crate::doors::{ClientFiles, FileDoors};
 use crate::limits::{MISUSED, UNWRITTEN};
 use crate::unanswered::Unanswered;
 use answers::{
-    Answer, DONE, REFUSED, answer_apply, answer_check, answer_direct, answer_draw, answer_plan,
-    answer_run, answer_serve, answer_switch, answer_talk,
+    Answer, DONE, REFUSED, answer_apply, answer_check, answer_direct, answer_draw, answer_host,
+    answer_plan, answer_run, answer_serve, answer_switch, answer_talk,
 };
 use command_words::{Job, Text, TextList, WordsFault, WorkerCount, read_words};
 use std::alloc::AllocError;
@@ -30,13 +31,12 @@ use std::{fs, io};
 ///
 /// A file that is `-` is read from `input`. Answers, refusals and the texts of help go to `out`; words that fit no
 /// command are answered on `err`.
-pub fn respond<R: AllocGlobal + Files + Threads + Wait + Sync, I: Read, O: Write, E: Write>(
-    rt: &R,
-    words: io::Result<Vec<String>>,
-    input: &mut I,
-    out: &mut O,
-    err: &mut E,
-) -> ExitCode
+pub fn respond<
+    R: AllocGlobal + Files + Threads + Wait + ClientFiles + Sync,
+    I: Read,
+    O: Write,
+    E: Write,
+>(rt: &R, words: io::Result<Vec<String>>, input: &mut I, out: &mut O, err: &mut E) -> ExitCode
     ensures words { IfOk words (λ w. (exit_status result ≡ UNWRITTEN)
         ⊎ IsEndForWords (texts_of w.items) (I.remaining input.old)
         (O.contents out.old) (O.contents out.new) (exit_status result)) }
@@ -53,13 +53,12 @@ pub fn respond<R: AllocGlobal + Files + Threads + Wait + Sync, I: Read, O: Write
 }
 
 /// Does what the words ask for. The error is that of writing.
-fn respond_to_words<R: AllocGlobal + Files + Threads + Wait + Sync, I: Read, O: Write, E: Write>(
-    rt: &R,
-    words: io::Result<Vec<String>>,
-    input: &mut I,
-    out: &mut O,
-    err: &mut E,
-) -> io::Result<u8>
+fn respond_to_words<
+    R: AllocGlobal + Files + Threads + Wait + ClientFiles + Sync,
+    I: Read,
+    O: Write,
+    E: Write,
+>(rt: &R, words: io::Result<Vec<String>>, input: &mut I, out: &mut O, err: &mut E) -> io::Result<u8>
     ensures words { IfOk words (λ w. IfOk result
         (IsEndForWords (texts_of w.items) (I.remaining input.old)
         (O.contents out.old) (O.contents out.new))) }
@@ -80,13 +79,12 @@ fn respond_to_words<R: AllocGlobal + Files + Threads + Wait + Sync, I: Read, O: 
 }
 
 /// Does a job, or prints why there is none. The error is that of writing.
-pub fn respond_to<R: AllocGlobal + Files + Threads + Wait + Sync, I: Read, O: Write, E: Write>(
-    rt: &R,
-    job: Result<Job, WordsFault>,
-    input: &mut I,
-    out: &mut O,
-    err: &mut E,
-) -> io::Result<u8>
+pub fn respond_to<
+    R: AllocGlobal + Files + Threads + Wait + ClientFiles + Sync,
+    I: Read,
+    O: Write,
+    E: Write,
+>(rt: &R, job: Result<Job, WordsFault>, input: &mut I, out: &mut O, err: &mut E) -> io::Result<u8>
     requires limits { IfOk job IsWithinLimits }
     requires input { IfOk job (λ j. NameInputOnce (files_of j)) }
     ensures { IfOk result
@@ -107,7 +105,7 @@ pub fn respond_to<R: AllocGlobal + Files + Threads + Wait + Sync, I: Read, O: Wr
 }
 
 /// Does a job, and prints its answer, or why it has none. The error is that of writing.
-fn carry_out<R: AllocGlobal + Files + Threads + Wait + Sync, I: Read, O: Write>(
+fn carry_out<R: AllocGlobal + Files + Threads + Wait + ClientFiles + Sync, I: Read, O: Write>(
     rt: &R,
     job: Job,
     input: &mut I,
@@ -125,7 +123,7 @@ fn carry_out<R: AllocGlobal + Files + Threads + Wait + Sync, I: Read, O: Write>(
 }
 
 /// The answer to a job, or why it has none. A session of `talk` is told its replies on `out` before.
-fn answer_to<R: AllocGlobal + Files + Threads + Wait + Sync, I: Read, O: Write>(
+fn answer_to<R: AllocGlobal + Files + Threads + Wait + ClientFiles + Sync, I: Read, O: Write>(
     rt: &R,
     job: Job,
     input: &mut I,
@@ -165,6 +163,12 @@ fn answer_to<R: AllocGlobal + Files + Threads + Wait + Sync, I: Read, O: Write>(
             image,
             workers,
         } => serve(rt, &shape, &scripts, &image, workers, input),
+        Job::Host {
+            shape,
+            clients,
+            image,
+            workers,
+        } => host(rt, &shape, &clients, &image, workers, input),
         Job::Talk { shape, image } => talk(rt, &shape, &image, input, out),
     }
 }
@@ -302,7 +306,7 @@ fn serve<R: AllocGlobal + Files + Threads + Wait + Sync, I: Read>(
     workers: WorkerCount,
     input: &mut I,
 ) -> Result<Answer, Unanswered>
-    requires scripts { AreScripts scripts.now }
+    requires scripts { CanBeServed scripts.now }
     requires input { NameInputOnce (option_to_list image.now ++ scripts.now) }
     ensures { IfOk result (IsSomeServe (I.remaining input.old) shape.now scripts.now image.now) }
 {
@@ -317,6 +321,28 @@ fn serve<R: AllocGlobal + Files + Threads + Wait + Sync, I: Read>(
         workers,
         files.as_slice(),
     )?)
+}
+
+/// The answer of `exchange host SHAPE CLIENT..`, behind the sessions of the clients. The image's file, if one is named, is read
+/// first.
+fn host<R: AllocGlobal + Files + Threads + Wait + ClientFiles + Sync, I: Read>(
+    rt: &R,
+    shape: &Text,
+    clients: &TextList,
+    image: &Option<Text>,
+    workers: WorkerCount,
+    input: &mut I,
+) -> Result<Answer, Unanswered>
+    requires clients { CanBeServed clients.now }
+    ensures { IfOk result (IsSomeHost (I.remaining input.old) shape.now clients.now image.now) }
+{
+    let image = read_image(rt, image, input)?;
+    let shape = shape.as_str().as_bytes();
+    let alloc = rt.alloc();
+    let clients = clients.as_slice();
+    let doors = FileDoors { rt, alloc, clients };
+    let hosted = answer_host(rt, alloc, shape, slice_of(&image), workers, &doors)?;
+    Ok(hosted.answer)
 }
 
 /// The answer of `exchange talk SHAPE`, behind a session over `input` and `out`. The image's file, if one is named, is

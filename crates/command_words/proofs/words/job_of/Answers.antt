@@ -92,3 +92,14 @@ returns-then-eq-9-clause-lack c =
     let named : c.args.name.now ≡ codes "talk" = search rules in
     IfErr-weaker c.talk_job.result _ _
     (λ lack means job is. means (wanted_of c.args.name.now (codes "talk") (rows_of (found_of c.args.found.now)) job named is)) c.talk_job.ensures.lack
+
+pub returns-then-eq-10-clause-job : goal.returns-then-eq-10-clause-job
+returns-then-eq-10-clause-job c =
+    let named : c.args.name.now ≡ codes "host" = search rules in
+    subst (λ (name : Text). IfOk c.host_job.result (λ (job : Job). IsJob name (rows_of (found_of c.args.found.now)) job)) (sym named) c.host_job.ensures.job
+
+pub returns-then-eq-10-clause-lack : goal.returns-then-eq-10-clause-lack
+returns-then-eq-10-clause-lack c =
+    let named : c.args.name.now ≡ codes "host" = search rules in
+    IfErr-weaker c.host_job.result _ _
+    (λ lack means job is. means (wanted_of c.args.name.now (codes "host") (rows_of (found_of c.args.found.now)) job named is)) c.host_job.ensures.lack

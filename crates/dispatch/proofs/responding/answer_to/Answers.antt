@@ -27,5 +27,8 @@ returns-in-Run g c = rw c.in-Run.is ([], Appends-nil _, refl, untold c.run.resul
 pub returns-in-Serve : goal.returns-in-Serve
 returns-in-Serve g c = rw c.in-Serve.is ([], Appends-nil _, refl, untold c.serve.result _ c.serve.ensures)
 
+pub returns-in-Host : goal.returns-in-Host
+returns-in-Host g c = rw c.in-Host.is ([], Appends-nil _, refl, untold c.host.result _ c.host.ensures)
+
 pub returns-in-Talk : goal.returns-in-Talk
 returns-in-Talk g c = rw c.in-Talk.is (talked c.talk.result _ _ _ _ _ c.talk.ensures)
