@@ -1,11 +1,12 @@
 #!/usr/bin/env bash
-# Tries the built programs: the start script, the rows of each command, what the documents show, the instructions that planning and runs take, and hostile use.
+# Tries the built programs: the start script, the rows of each command, what the documents show, live clients, the instructions that planning and runs take, and hostile use.
 # `rt ci` leaves them built; those that aren't built yet are proved and built first.
 set -eu
 cd "$(dirname "$(readlink -f "${BASH_SOURCE[0]}")")/.."
 tools/start/run.sh
 tools/rows/run.py
 tools/texts/run.py
+tools/hosts/run.sh
 bench/planning/run.sh --check
 bench/run/growth.sh --check
 tools/hostile/run.sh

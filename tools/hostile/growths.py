@@ -6,7 +6,8 @@
 Command lines: the Nth growth of a whole run of the program is refused, and then the Nth and all later ones, for N from 1 until a run
 meets no refusal. Each time the program prints what it prints with memory, which the rows hold, or the one line `refused no memory`; a
 session is told `refused no memory`, and all else as if that command weren't. Then each start of a thread is refused, which changes no
-answer. A file is the standard input. Beside command lines stands which calls of the libraries they make.
+answer. Of `host` a session may also end for want of memory, and without threads nobody is served, and no file is made. A file is the
+standard input. Beside command lines stands which calls of the libraries they make.
 
 Calls: `hostile_use NAME` makes a call that the program doesn't make, on its worked row, between two marks. The same is done with the
 growths between them. Each time the answer is want of memory, with all that was lent as before, or the row's own answer. A call whose
@@ -15,6 +16,7 @@ name says that it takes none meets no growth. Nor do the last reading and the cl
 
 import multiprocessing
 import os
+import re
 import sys
 import tempfile
 from collections import Counter, namedtuple
@@ -71,6 +73,7 @@ FILES = {
     "three": THREE_TRANSFERS, "two": TWO_PUSHES, "nine": NINE, "schedule": SCHEDULE, "wrong": "batch 01\n",
     "script": SCRIPT, "other": "show 1\n", "refusals": REFUSALS,
     "pushes": PUSHES, "swap": SWAP, "wide": WIDE, "image": IMAGE, "moves": MOVES, "twice": asked_twice(),
+    "caller.in": "batch 1\npush 0 0 1 0\nplan 1\nrun 1\n",
 }  # fmt: skip
 # The one that is standard input.
 INPUT = "three"
@@ -205,6 +208,27 @@ def sweep_command(words):
     return swept
 
 
+def sweep_host():
+    """The same for a live client, over plain files. The first run starts no thread, so that no file is made."""
+    words = ["host", "2x1x1", "caller"]
+    no_threads = (b"refused threads\n", b"", 1)
+    alone, _, _, unstarted = run("T", EXCHANGE, words, False)
+    is_made = os.path.exists("caller.out")
+    wanted = ask(*words, given=INPUT)
+
+    def judge(ended, refused):
+        if ended == no_threads:
+            return "no threads"
+        if refused and ended[1:] == (b"", 1) and re.fullmatch(rb"session 0 caller\nended (open|no memory|write)\n", ended.out):
+            return "a session ended"
+        return judge_of_command(words, wanted)(ended, refused)
+
+    swept = sweep(" ".join(["exchange", *words]), EXCHANGE, words, False, judge)
+    if alone != no_threads or is_made or not unstarted or wanted != (b"session 0 caller\n", b"", 0) or not swept.found["no memory"]:
+        swept.found["WRONG: served without threads, or told otherwise with memory"] += 1
+    return swept
+
+
 def tell(swept):
     """Prints a line for what was swept, and gives how many runs there were and how many of them went wrong."""
     parts = [f"{swept.growths} growths"] + [f"{what} {times} times" for what, times in sorted(swept.found.items())]
@@ -225,9 +249,10 @@ def main():
             told = [tell(it) for it in pool.imap(sweep_call, names)]
             told.append(tell(sweep_closing(["clients", "2x2x2", "script"])))
             told += [tell(it) for it in pool.imap(sweep_command, COMMANDS)]
+        told.append(tell(sweep_host()))
         os.chdir("/")
     wrong = sum(it[1] for it in told)
-    print(f"growths: {len(names) + 1} calls, {len(COMMANDS)} command lines, {sum(it[0] for it in told)} runs, {wrong} wrong")
+    print(f"growths: {len(names) + 1} calls, {len(COMMANDS) + 1} command lines, {sum(it[0] for it in told)} runs, {wrong} wrong")
     return 1 if wrong or not names else 0
 
 

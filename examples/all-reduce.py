@@ -1,0 +1,43 @@
+#!/usr/bin/env python3
+"""Sixteen live clients add up their numbers in four stages: module m has m + 1 at first, and the sum of all in the end.
+
+In each stage a client's number goes to the module whose own number differs in one bit, and what came from there is added to it. Start the
+host first, in the same folder:
+
+    mkfifo {0..15}.in {0..15}.out
+    exchange host 16x5x2 {0..15}
+"""
+
+import time
+from concurrent.futures import ThreadPoolExecutor
+
+
+def address(block, word):
+    """Where a word is, in modules whose blocks have two words."""
+    return f"{0x80000800 + 4 * (2 * block + word):08x}"
+
+
+def add_up(module):
+    """The session of the client of a module. Block 0 has its number, and the word 1 behind it; block S + 1 is for what comes in stage S."""
+    with open(f"{module}.in", "w") as said, open(f"{module}.out") as told:
+
+        def ask(line):
+            print(line, file=said, flush=True)
+            return told.readline().split()
+
+        total = module + 1
+        ask(f"poke {module} {address(0, 1)} 00000001")
+        for stage in range(4):
+            ask(f"poke {module} {address(0, 0)} {total:08x}")
+            batch = ask(f"batch 1\npush {module} 0 {module ^ 1 << stage} {stage + 1}")[1]
+            ask(f"plan {batch}")
+            ask(f"run {batch}")
+            while ask(f"peek {module} {address(stage + 1, 1)}") != ["word", "00000001"]:
+                time.sleep(0.01)
+            total += int(ask(f"peek {module} {address(stage + 1, 0)}")[1], 16)
+    return total
+
+
+with ThreadPoolExecutor(16) as clients:
+    for module, total in enumerate(clients.map(add_up, range(16))):
+        print(f"module {module} has {total}")
