@@ -8,6 +8,8 @@ lines behind it, up to the next one, are what it prints on both streams, whateve
 The commands of a document run one after another, by the shell bash, in a folder with the repository's examples and `./exchange`.
 A block that begins with ```file NAME isn't run: it is a file of that name for the commands behind it.
 
+The first line of each command's help is an example. It is run too, and has to end well.
+
 A program that isn't built, or is older than its sources, is proved and built first. Another one is tried where EXCHANGE names it:
 EXCHANGE=other/exchange tools/texts/run.py
 """
@@ -24,6 +26,9 @@ PROGRAM = os.path.abspath(os.environ.get("EXCHANGE") or f"{TOP}/crates/exchange/
 
 # Seconds that a command has.
 LIMIT = 60
+
+# The commands whose help begins with an example of one line; that of `host` is a walk of several.
+HELPED = ("", "plan", "check", "draw", "switch", "direct", "apply", "run", "serve", "talk")
 
 # Any lines, within what a command prints.
 ANY = "..."
@@ -98,12 +103,17 @@ def try_command(shown, folder):
     return False
 
 
+def make_folder(folder):
+    """Puts the repository's examples and the program into a folder."""
+    os.symlink(f"{TOP}/examples", f"{folder}/examples")
+    os.symlink(PROGRAM, f"{folder}/exchange")
+
+
 def try_document(name):
     """Runs what a document shows: how many commands were tried, and how many print something else."""
     tried = wrong = 0
     with tempfile.TemporaryDirectory(prefix="texts-") as folder:
-        os.symlink(f"{TOP}/examples", f"{folder}/examples")
-        os.symlink(PROGRAM, f"{folder}/exchange")
+        make_folder(folder)
         for block in blocks(name):
             if block.kind.startswith("file "):
                 with open(f"{folder}/{block.kind.split()[1]}", "w", encoding="utf-8") as file:
@@ -114,12 +124,32 @@ def try_document(name):
     return tried, wrong
 
 
+def run_in(folder, words):
+    """Runs words by the shell in a folder: its status, and what it printed."""
+    run = subprocess.run(["bash", "-c", words], cwd=folder, stdin=subprocess.DEVNULL, capture_output=True, timeout=LIMIT, check=False)
+    return run.returncode, run.stdout.decode("utf-8", "replace")
+
+
+def try_help(command):
+    """Runs the example with which a command's help begins: whether it ends well."""
+    with tempfile.TemporaryDirectory(prefix="texts-") as folder:
+        make_folder(folder)
+        example = run_in(folder, f"./exchange {command} --help")[1].split("\n")[0]
+        is_well = f"./exchange {command}" in example and run_in(folder, example)[0] == 0
+        if not is_well:
+            print(f"exchange {command} --help begins with an example that doesn't work: {example}")
+        return is_well
+
+
 def main():
     if not os.environ.get("EXCHANGE"):
         subprocess.run([f"{TOP}/exchange", "prove"], check=True)
     results = [try_document(name) for name in sys.argv[1:] or documents()]
     tried, wrong = sum(it[0] for it in results), sum(it[1] for it in results)
     print(f"texts: {tried} commands of documents tried, {wrong} print something else")
+    helps = [try_help(it) for it in HELPED]
+    print(f"texts: {len(helps)} examples of help tried, {helps.count(False)} don't end well")
+    wrong += helps.count(False)
     sys.exit(1 if wrong or not tried else 0)
 
 

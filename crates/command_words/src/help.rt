@@ -1,6 +1,9 @@
 //! What the commands say of themselves. Where a text names a limit of batches, racks or workers, rows hold the words, and
 //! what lies on both sides of the limit; how many modules one switch joins is of the chip, and a row holds the words.
 
+/// What `plan --help` says first: an example that works in a clone.
+pub const PLAN_EXAMPLE: &str = "./exchange plan examples/three-transfers.txt";
+
 /// What `plan --help` says below its options.
 pub const PLAN_NOTES: &str = "\
 FILE is a batch text: the line `batch N`, then N lines of the form
@@ -27,6 +30,10 @@ answer is what is first wrong, line by line:
 Status: 0 a schedule was printed, 1 the batch was refused or there was no
 memory, 2 the words fit no command, 3 the answer couldn't be written.";
 
+/// What `check --help` says first: an example that works in a clone.
+pub const CHECK_EXAMPLE: &str =
+    "./exchange check examples/three-transfers.txt examples/three-transfers.plan.txt";
+
 /// What `check --help` says below its options.
 pub const CHECK_NOTES: &str = "\
 BATCH is a batch text and SCHEDULE a schedule text with the certificate part,
@@ -52,6 +59,10 @@ BATCH is looked at, then SCHEDULE, and then what it says:
 
 Status: 0 it is shortest, 1 it was refused or there was no memory, 2 the
 words fit no command, 3 the answer couldn't be written.";
+
+/// What `draw --help` says first: an example that works in a clone.
+pub const DRAW_EXAMPLE: &str =
+    "./exchange draw examples/three-transfers.txt examples/three-transfers.plan.txt > schedule.svg";
 
 /// What `draw --help` says below its options.
 pub const DRAW_NOTES: &str = "\
@@ -84,6 +95,9 @@ Else it is the first of these that is wrong:
 Status: 0 a picture was printed, 1 it was refused or there was no memory, 2 the
 words fit no command, 3 the answer couldn't be written.";
 
+/// What `switch --help` says first: an example that works in a clone.
+pub const SWITCH_EXAMPLE: &str = "./exchange switch examples/two-pushes.txt";
+
 /// What `switch --help` says below its options.
 pub const SWITCH_NOTES: &str = "\
 BATCH is a batch text, in the form that `exchange plan --help` shows.
@@ -107,6 +121,9 @@ Else it is the first of these that is wrong:
 
 Status: 0 the bytes were printed, 1 the batch was refused or there was no
 memory, 2 the words fit no command, 3 the answer couldn't be written.";
+
+/// What `direct --help` says first: an example that works in a clone.
+pub const DIRECT_EXAMPLE: &str = "./exchange direct examples/patterns/gather.moves.txt";
 
 /// What `direct --help` says below its options.
 pub const DIRECT_NOTES: &str = "\
@@ -132,6 +149,10 @@ Else it is the first of these that is wrong:
 Status: 0 a batch was printed, 1 the moves were refused or there was no memory,
 2 the words fit no command, 3 the answer couldn't be written.";
 
+/// What `apply --help` says first: an example that works in a clone.
+pub const APPLY_EXAMPLE: &str =
+    "./exchange apply 3x2x2 examples/two-pushes.txt examples/before.img > after.img";
+
 /// What `apply --help` says below its options.
 pub const APPLY_NOTES: &str = "\
 SHAPE is MxKxW: M modules, from 1 to 32, each of K blocks, from 1 to 64, each
@@ -153,6 +174,9 @@ Else nothing is run, and the answer is the first of these that is wrong:
 
 Status: 0 the image was printed, 1 it was refused or there was no memory, 2 the
 words fit no command, 3 the answer couldn't be written.";
+
+/// What `run --help` says first: an example that works in a clone.
+pub const RUN_EXAMPLE: &str = "./exchange run 3x2x2 examples/two-pushes.txt";
 
 /// What `run --help` says below its options.
 pub const RUN_NOTES: &str = "\
@@ -178,6 +202,9 @@ block may be read and written: moved is what it held before the run.
 
 Status: 0 the batch was run, 1 it was refused or there was no memory, 2 the
 words fit no command, 3 the answer couldn't be written.";
+
+/// What `serve --help` says first: an example that works in a clone.
+pub const SERVE_EXAMPLE: &str = "./exchange serve 2x2x2 examples/look.session.txt";
 
 /// What `serve --help` says below its options.
 pub const SERVE_NOTES: &str = "\
@@ -237,17 +264,19 @@ Status: 0 each session ended with its script or by `bye`, 1 one of them didn't,
 or the logs disagree, or nothing was served, or there was no memory, 2 the words
 fit no command, 3 the answer couldn't be written.";
 
-/// What `host --help` says below its options.
-pub const HOST_NOTES: &str = "\
+/// What `host --help` says first: an example of two shells.
+pub const HOST_EXAMPLE: &str = "\
 Two shells on one rack: make the pipes, start the host, and be a client.
   mkfifo amy.in amy.out bob.in bob.out
-  exchange host 2x1x2 amy bob
+  ./exchange host 2x1x2 amy bob
 In another shell, as amy (bob does the same with his own):
   exec 3> amy.in 4< amy.out
   echo 'poke 0 80000800 000000ff' >&3; read reply <&4; echo $reply
   exec 3>&- 4<&-
-which prints `poked`. The session ends where the last line closes its pipes.
+which prints `poked`. The session ends where the last line closes its pipes.";
 
+/// What `host --help` says below its options.
+pub const HOST_NOTES: &str = "\
 SHAPE is MxKxW, in the form that `exchange run --help` shows. 1 to 16 clients
 are served at once, each in a thread of its own, on one exchange: one rack,
 whose words are at first 0, or those of the image where there is one. Lines and
@@ -283,6 +312,10 @@ Status: 0 each session ended with its CLIENT.in or by `bye`, 1 one of them
 didn't, or the logs disagree, or nobody was served, or there was no memory, 2
 the words fit no command, 3 the answer couldn't be written.";
 
+/// What `talk --help` says first: an example that works in a clone.
+pub const TALK_EXAMPLE: &str =
+    "printf 'poke 0 80000800 000000ff\\npeek 0 80000800\\n' | ./exchange talk 1x1x1";
+
 /// What `talk --help` says below its options.
 pub const TALK_NOTES: &str = "\
 SHAPE is MxKxW, in the form that `exchange run --help` shows. The session's lines
@@ -305,10 +338,19 @@ Status: 0 the session ended with its input or by `bye`, 1 it didn't, or it was
 refused, or there was no memory, 2 the words fit no command, 3 the answer
 couldn't be written.";
 
+/// What `exchange --help` says first: an example that works in a clone.
+pub const TOP_EXAMPLE: &str = "./exchange run 3x2x2 examples/two-pushes.txt";
+
 /// What `--help` says below the commands.
 pub const TOP_NOTES: &str = "\
 `exchange plan --help` shows the form of a batch. Where a file's name is `-`,
-standard input is read; of a command's files one may be.";
+standard input is read; of a command's files one may be. How many modules, blocks
+and words there may be, `exchange run --help` tells; how many transfers,
+`exchange plan --help`; how long a session may be, `exchange serve --help`.
+
+Status: 0 the answer is there, 1 a refusal, whose one line says what is wrong,
+or a session that ended badly, 2 the words fit no command, 3 the answer couldn't
+be written.";
 
 /// What is said of a batch's file.
 pub const BATCH_HELP: &str = "The file of the batch, or - for standard input";

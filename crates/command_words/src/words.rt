@@ -14,9 +14,11 @@ ghost use Rattle.command_words.specs.Jobs.{HasWord, HasBoth, HasSomeServed, HasS
 
 use crate::clients::are_client_names;
 use crate::help::{
-    APPLY_NOTES, BATCH_HELP, CHECK_NOTES, CLIENT_HELP, DIRECT_NOTES, DRAW_NOTES, HOST_NOTES,
-    IMAGE_HELP, MOVES_HELP, PLAN_NOTES, RUN_NOTES, SCHEDULE_HELP, SCRIPT_HELP, SERVE_NOTES,
-    SETTINGS_HELP, SWITCH_NOTES, TALK_NOTES, TOP_NOTES, WORDS_HELP, WORKERS_HELP,
+    APPLY_EXAMPLE, APPLY_NOTES, BATCH_HELP, CHECK_EXAMPLE, CHECK_NOTES, CLIENT_HELP,
+    DIRECT_EXAMPLE, DIRECT_NOTES, DRAW_EXAMPLE, DRAW_NOTES, HOST_EXAMPLE, HOST_NOTES, IMAGE_HELP,
+    MOVES_HELP, PLAN_EXAMPLE, PLAN_NOTES, RUN_EXAMPLE, RUN_NOTES, SCHEDULE_HELP, SCRIPT_HELP,
+    SERVE_EXAMPLE, SERVE_NOTES, SETTINGS_HELP, SWITCH_EXAMPLE, SWITCH_NOTES, TALK_EXAMPLE,
+    TALK_NOTES, TOP_EXAMPLE, TOP_NOTES, WORDS_HELP, WORKERS_HELP,
 };
 use crate::input::{is_input, name_input_once_behind};
 use crate::limits::{MAX_CLIENTS, VERSION};
@@ -126,12 +128,21 @@ impl From<clap::Error> for WordsFault {
     }
 }
 
-/// A command by its name, what it is about, and what its help says below its options.
-fn command<'a>(alloc: Global, name: &'a str, about: &'a str, notes: &'a str) -> Command<'a>
+/// A command by its name, what it is about, and what its help says first and below its options.
+fn command<'a>(
+    alloc: Global,
+    name: &'a str,
+    about: &'a str,
+    example: &'a str,
+    notes: &'a str,
+) -> Command<'a>
     ensures app { app_of result ≡ new_app name.entry.now }
     ensures local { IsLocal result }
 {
-    Command::new(alloc, name).about(about).after_help(notes)
+    Command::new(alloc, name)
+        .about(about)
+        .before_help(example)
+        .after_help(notes)
 }
 
 /// A word that has to be there.
@@ -184,7 +195,7 @@ fn workers<'a>(alloc: Global) -> Arg<'a>
 {
     Arg::new(alloc, "workers")
         .long("workers")
-        .value_name("N")
+        .value_name("1..64")
         .value_parser(value_parser!(u8).range(1..=MAX_WORKERS as i64))
         .default_value("1")
         .help(WORKERS_HELP)
@@ -250,7 +261,7 @@ fn plan<'a>(alloc: Global) -> Result<Command<'a>, AllocError>
     ensures { IfOk result (IsCommand plan_app) }
 {
     let about = "Prints a schedule of a batch: which transfers move in which switch setting";
-    let plan = command(alloc, "plan", about, PLAN_NOTES);
+    let plan = command(alloc, "plan", about, PLAN_EXAMPLE, PLAN_NOTES);
     let plan = with_word(alloc, plan, "FILE", BATCH_HELP)?;
     with_workers(alloc, plan)
 }
@@ -260,7 +271,7 @@ fn check<'a>(alloc: Global) -> Result<Command<'a>, AllocError>
     ensures { IfOk result (IsCommand check_app) }
 {
     let about = "Judges a schedule of a batch: whether its certificate shows that none is shorter";
-    let check = command(alloc, "check", about, CHECK_NOTES);
+    let check = command(alloc, "check", about, CHECK_EXAMPLE, CHECK_NOTES);
     with_texts(alloc, check)
 }
 
@@ -269,7 +280,7 @@ fn draw<'a>(alloc: Global) -> Result<Command<'a>, AllocError>
     ensures { IfOk result (IsCommand draw_app) }
 {
     let about = "Draws a schedule of a batch: a picture in SVG, to be looked at in a browser";
-    let draw = command(alloc, "draw", about, DRAW_NOTES);
+    let draw = command(alloc, "draw", about, DRAW_EXAMPLE, DRAW_NOTES);
     let draw = with_texts(alloc, draw)?;
     with_settings(alloc, draw)
 }
@@ -280,7 +291,7 @@ fn switch<'a>(alloc: Global) -> Result<Command<'a>, AllocError>
 {
     let about =
         "Tells a real switch's bytes: what a run of a batch sends over the configuration link";
-    let switch = command(alloc, "switch", about, SWITCH_NOTES);
+    let switch = command(alloc, "switch", about, SWITCH_EXAMPLE, SWITCH_NOTES);
     let switch = with_word(alloc, switch, "BATCH", BATCH_HELP)?;
     with_workers(alloc, switch)
 }
@@ -291,7 +302,7 @@ fn direct<'a>(alloc: Global) -> Result<Command<'a>, AllocError>
 {
     let about =
         "Makes a batch of moves: which are pushed and which are pulled, for the fewest settings";
-    let direct = command(alloc, "direct", about, DIRECT_NOTES);
+    let direct = command(alloc, "direct", about, DIRECT_EXAMPLE, DIRECT_NOTES);
     with_word(alloc, direct, "MOVES", MOVES_HELP)
 }
 
@@ -301,7 +312,7 @@ fn apply<'a>(alloc: Global) -> Result<Command<'a>, AllocError>
 {
     let about =
         "Runs a batch over your own words: an image in, the image with the blocks placed out";
-    let apply = command(alloc, "apply", about, APPLY_NOTES);
+    let apply = command(alloc, "apply", about, APPLY_EXAMPLE, APPLY_NOTES);
     let apply = with_shape(alloc, apply)?;
     let apply = with_word(alloc, apply, "BATCH", BATCH_HELP)?;
     let apply = with_word(alloc, apply, "IMAGE", IMAGE_HELP)?;
@@ -313,7 +324,7 @@ fn run<'a>(alloc: Global) -> Result<Command<'a>, AllocError>
     ensures { IfOk result (IsCommand run_app) }
 {
     let about = "Runs a batch on a rack: sets the switches, moves the blocks and reports";
-    let run = command(alloc, "run", about, RUN_NOTES);
+    let run = command(alloc, "run", about, RUN_EXAMPLE, RUN_NOTES);
     let run = with_shape(alloc, run)?;
     let run = with_word(alloc, run, "BATCH", BATCH_HELP)?;
     let run = with_image(alloc, run)?;
@@ -325,7 +336,7 @@ fn serve<'a>(alloc: Global) -> Result<Command<'a>, AllocError>
     ensures { IfOk result (IsCommand serve_app) }
 {
     let about = "Serves scripts side by side on one exchange, and prints the replies to each";
-    let serve = command(alloc, "serve", about, SERVE_NOTES);
+    let serve = command(alloc, "serve", about, SERVE_EXAMPLE, SERVE_NOTES);
     let serve = with_shape(alloc, serve)?;
     let serve = with_several(alloc, serve, "SCRIPT", SCRIPT_HELP)?;
     let serve = with_image(alloc, serve)?;
@@ -338,7 +349,7 @@ fn host<'a>(alloc: Global) -> Result<Command<'a>, AllocError>
 {
     let about =
         "Serves live clients side by side on one exchange, each through two pipes of its own";
-    let host = command(alloc, "host", about, HOST_NOTES);
+    let host = command(alloc, "host", about, HOST_EXAMPLE, HOST_NOTES);
     let host = with_shape(alloc, host)?;
     let host = with_several(alloc, host, "CLIENT", CLIENT_HELP)?;
     let host = with_image(alloc, host)?;
@@ -350,7 +361,7 @@ fn talk<'a>(alloc: Global) -> Result<Command<'a>, AllocError>
     ensures { IfOk result (IsCommand talk_app) }
 {
     let about = "Serves you on the terminal: a session of one client, line by line";
-    let talk = command(alloc, "talk", about, TALK_NOTES);
+    let talk = command(alloc, "talk", about, TALK_EXAMPLE, TALK_NOTES);
     let talk = with_shape(alloc, talk)?;
     with_image(alloc, talk)
 }
@@ -370,7 +381,7 @@ fn top<'a>(alloc: Global) -> Command<'a>
     ensures { IsCommand top result }
 {
     let about = "Plans block transfers between transputer modules that C004 crossbars join";
-    command(alloc, "exchange", about, TOP_NOTES)
+    command(alloc, "exchange", about, TOP_EXAMPLE, TOP_NOTES)
         .version(VERSION)
         .subcommand_required(true)
 }
