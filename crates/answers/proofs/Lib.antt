@@ -1,13 +1,8 @@
-pub mod PlanText
-pub mod OneVerdict
 pub mod OneRun
 pub mod Reporting
 pub mod Fewest
 pub mod Sessions
-pub mod Ranges
-pub mod OneDrawing
 pub mod Switches
 pub mod Openings
-pub mod DirectedThenPlanned
 pub mod Talks
 pub mod Visits

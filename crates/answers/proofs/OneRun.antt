@@ -14,11 +14,12 @@ use Rattle.module_memory.proofs.CoreLaw.{one_placed}
 use Rattle.schedule_certificate.specs.Parts.{IsDegree}
 use Rattle.answers.specs.declared.running_fault.RunningFault.{RunningFault}
 use Rattle.answers.specs.declared.running_fault.RunningFault.TheVariants.{Shape, Batch, Image, Overlap, NoMemory}
-use Rattle.answers.specs.Refusals.{Printed, IsRefused, running_words}
+use Rattle.plan_answers.specs.Refusals.{Printed, IsRefused}
+use Rattle.answers.specs.Refusals.{running_words}
 use Rattle.answers.specs.Answers.{Told, IsResult, IsFirstRunWrong, IsRunAnswer, ran, run_refused}
 use Rattle.answers.specs.Openings.{IsWrongImage, IsRightImage}
 use Rattle.answers.proofs.Openings.{one_opening, opening_blocks, right_image, not_wrong, one_wrong}
-use Rattle.answers.proofs.OneVerdict.{printed_same, refused_same}
+use Rattle.plan_answers.proofs.OneVerdict.{printed_same, refused_same}
 
 -- a degree is reached, so none is greater
 at_most : (batch : List Transfer) (m n : ℕ) → IsDegree batch m → IsDegree batch n → m ≤ n

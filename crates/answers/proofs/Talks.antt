@@ -10,7 +10,7 @@ use Rattle.client_session.specs.declared.fault.ServeFault.{ServeFault}
 use Rattle.answers.specs.Frames.{Transcript}
 use Rattle.answers.specs.Histories.{part_of, IsClosing}
 use Rattle.answers.specs.Hosting.{IsFresh, AreAllSeats}
-use Rattle.answers.specs.Refusals.{Printed}
+use Rattle.plan_answers.specs.Refusals.{Printed}
 use Rattle.answers.specs.Sessions.{IsAttended}
 use Rattle.answers.specs.Talking.{HasTalked, end_line}
 

@@ -19,7 +19,7 @@ use Rattle.answers.specs.declared.attended.Ending.TheVariants.{Unopened, Served}
 use Rattle.answers.specs.Histories.{Part, part_of, IsClosing}
 use Rattle.answers.specs.Hosting.{IsFresh}
 use Rattle.answers.specs.Hosts.{Guests, Visit, End, WasServed, AreHosted, IsVisit, end_of, ending_line, has_failed, visit_heading, visit_text}
-use Rattle.answers.specs.Refusals.{Printed}
+use Rattle.plan_answers.specs.Refusals.{Printed}
 use Rattle.answers.specs.Sessions.{IsAttended}
 use Rattle.answers.specs.Visits.{visit, IsOfSeat, AreVisitsAt}
 use Rattle.answers.proofs.Sessions.{map_same, sum_mapped, one_more}

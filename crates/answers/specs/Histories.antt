@@ -5,8 +5,8 @@ use Rattle.batch_book.specs.declared.entry.Entry.{Entry}
 use Rattle.batch_book.specs.History.{IsLegal}
 use Rattle.batch_book.specs.Seats.{SeatState, own}
 use Rattle.batch_book.specs.Values.{greatest}
-use Rattle.answers.specs.declared.limits.TheConstants.{DONE, REFUSED}
-use Rattle.answers.specs.Refusals.{Printed}
+use Rattle.plan_answers.specs.declared.limits.TheConstants.{DONE, REFUSED}
+use Rattle.plan_answers.specs.Refusals.{Printed}
 
 -- what a session has of a history: its number, the entries of its calls, and how far it saw the
 -- runs come

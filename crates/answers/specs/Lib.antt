@@ -1,11 +1,8 @@
-pub mod Laws
 pub mod Refusals
 pub mod Reports
 pub mod Openings
 pub mod Answers
-pub mod Drawings
 pub mod Tellings
-pub mod Directing
 pub mod Switching
 pub mod Histories
 pub mod Frames
@@ -16,3 +13,6 @@ pub mod Talking
 pub mod Hosts
 pub mod Visits
 pub use Rattle.batch.specs.Extent
+pub use Rattle.plan_answers.specs.declared.limits
+pub use Rattle.plan_answers.specs.Drawings
+pub use Rattle.plan_answers.specs.Directing

@@ -1,18 +1,13 @@
 -- The rack that a command begins with, and what can be wrong with its image. That a rack without an
 -- image has marked words or zeros is this project's choice.
 use Rattle.std.specs.Prelude.{◌≡◌, ℕ, List, length, Option, Some, None, ⊤}
-use Rattle.std.specs.Borrow.{Bor}
 use Rattle.batch.specs.Extent.{Extent}
 use Rattle.module_memory.specs.declared.fault.ImageFault.{ImageFault}
 use Rattle.module_memory.specs.declared.fault.ImageFault.TheVariants.{Length, NoMemory}
 use Rattle.module_memory.specs.Store.{Store, zeros_of}
 use Rattle.module_memory.specs.Mark.{IsMarked}
 use Rattle.module_memory.specs.Images.{HasImage, IsImageFault, image_length}
-
--- the bytes of an image that is lent, where there is one
-abbrev pub bytes_of : Option (Bor (List ℕ)) → Option (List ℕ)
-bytes_of None = None
-bytes_of (Some lent) = Some lent.now
+pub use Rattle.plan_answers.specs.Lent.{bytes_of}
 
 -- the store of the image, where there is one; else each word tells where it stands
 abbrev pub IsOfImageOrMarked : Extent → Option (List ℕ) → Store → Type 0

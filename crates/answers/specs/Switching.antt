@@ -18,8 +18,8 @@ use Rattle.schedule_certificate.specs.Plans.{Plan, IsPlan, HasFewReinsertions}
 use Rattle.setting_runner.specs.Sending.{sent_for}
 use Rattle.line_words.specs.BatchFaults.{batch_words}
 use Rattle.line_words.specs.HexWords.{hex2}
-use Rattle.answers.specs.declared.limits.TheConstants.{DONE}
-use Rattle.answers.specs.Refusals.{Printed, IsRefused}
+use Rattle.plan_answers.specs.declared.limits.TheConstants.{DONE}
+use Rattle.plan_answers.specs.Refusals.{Printed, IsRefused}
 
 -- the transfer names a module that one switch doesn't join
 abbrev pub is_far : Transfer → Bool

@@ -10,13 +10,13 @@ ghost use Rattle.answers.specs.Histories.{part_of, HaveOneHistory, HaveAnotherHi
 ghost use Rattle.answers.specs.Hosting.{AreAllSeats, IsFresh};
 ghost use Rattle.answers.specs.Sessions.{IsAttended};
 
-use crate::answer::Answer;
 use batch_book::{Seat, Shared, Unclosed};
 use client_session::{ServeFault, serve};
 use crossbar::MemoryPort;
 use exchange_limits::{MAX_SESSIONS, WorkerCount};
 use module_memory::Rack;
 use peek_poke::PlainWires;
+use plan_answers::Answer;
 use progress_word::ALL_PARTS;
 use schedule_certificate::OpenGate;
 use setting_runner::Plant;

@@ -4,14 +4,13 @@ ghost use Rattle.std.specs.Prelude.{◌≡◌, ◌≤◌, ◌++◌, [], All, IfO
 ghost use Rattle.std.specs.List.{list_any};
 ghost use Rattle.progress_word.specs.declared.limits.TheConstants.{ALL_PARTS};
 ghost use Rattle.batch_book.specs.Exchanges.{AreNew};
-ghost use Rattle.answers.specs.Openings.{bytes_of};
-ghost use Rattle.answers.specs.Refusals.{IsRefused};
+ghost use Rattle.plan_answers.specs.Lent.{bytes_of};
+ghost use Rattle.plan_answers.specs.Refusals.{IsRefused};
 ghost use Rattle.answers.specs.Hosting.{IsFresh};
 ghost use Rattle.answers.specs.Hosts.{end_of, ending_line, visit_heading, visit_text, has_failed, IsHosting, IsHostAnswer};
 ghost use Rattle.answers.specs.Visits.{visit, IsOfSeat, AreVisitsAt};
 
 use crate::all_there::AllThere;
-use crate::answer::Answer;
 use crate::attended::{Attended, Ending};
 use crate::doors::Doors;
 use crate::frames::ended_line;
@@ -23,6 +22,7 @@ use batch::Shape;
 use batch_book::Seat;
 use exchange_limits::{MAX_SESSIONS, WorkerCount};
 use module_memory::Rack;
+use plan_answers::Answer;
 use progress_word::ALL_PARTS;
 use std::alloc::{AllocError, Global};
 use std::marker::Brand;

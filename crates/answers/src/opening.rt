@@ -2,7 +2,8 @@
 
 ghost use Rattle.std.specs.Prelude.{◌≢◌, IfOk, IfErr};
 ghost use Rattle.module_memory.specs.declared.fault.ImageFault.TheVariants as image_fault;
-ghost use Rattle.answers.specs.Openings.{IsOfImageOrZeros, IsWrongImage, bytes_of};
+ghost use Rattle.plan_answers.specs.Lent.{bytes_of};
+ghost use Rattle.answers.specs.Openings.{IsOfImageOrZeros, IsWrongImage};
 
 use batch::Shape;
 use module_memory::{ImageFault, Rack};

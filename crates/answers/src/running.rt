@@ -4,13 +4,14 @@ ghost use Rattle.std.specs.Prelude.{◌≡◌, ◌≢◌, IfOk, IfErr, Some, len
 ghost use Rattle.batch.specs.Overlap.{IsApart};
 ghost use Rattle.module_memory.specs.declared.fault.ImageFault.TheVariants as image_fault;
 ghost use Rattle.module_memory.specs.Core.{FitsIn, IsPlaced};
-ghost use Rattle.answers.specs.Answers.{IsOnly, IsResultOf, IsResult, IsOverlapOf, IsWrongOf, IsFirstRunWrong, IsRunAnswer, image_alone};
-ghost use Rattle.answers.specs.Openings.{IsOfImageOrMarked, IsWrongImage, bytes_of};
+ghost use Rattle.plan_answers.specs.Answers.{IsOnly};
+ghost use Rattle.answers.specs.Answers.{IsResultOf, IsResult, IsOverlapOf, IsWrongOf, IsFirstRunWrong, IsRunAnswer, image_alone};
+ghost use Rattle.plan_answers.specs.Lent.{bytes_of};
+ghost use Rattle.answers.specs.Openings.{IsOfImageOrMarked, IsWrongImage};
 ghost use Rattle.answers.specs.Refusals.{IsRealRunning};
 ghost use Rattle.answers.specs.Reports.{report_of};
 ghost use Rattle.answers.specs.Tellings.{told_by};
 
-use crate::answer::Answer;
 use crate::opening::opening_rack;
 use crate::report::report;
 use crate::running_fault::RunningFault;
@@ -19,6 +20,7 @@ use crossbar::MemoryPort;
 use exchange_limits::WorkerCount;
 use module_memory::{ImageFault, Rack};
 use peek_poke::PlainWires;
+use plan_answers::Answer;
 use schedule_certificate::{OpenGate, Planned, schedule};
 use setting_runner::{Notice, Outcome, Plant, RunRefusal, run};
 use std::alloc::{AllocError, Global};

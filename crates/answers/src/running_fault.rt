@@ -3,9 +3,10 @@
 ghost use Rattle.std.specs.Prelude.{◌≡◌, IfOk, string_bytes};
 ghost use Rattle.answers.specs.Refusals.{running_words, IsRealRunning};
 
-use crate::refusal::{batch_words, image_words};
+use crate::refusal::image_words;
 use batch::{BatchFault, ShapeFault};
 use module_memory::ImageFault;
+use plan_answers::batch_words;
 use std::alloc::{AllocError, Global};
 use thiserror::Error;
 

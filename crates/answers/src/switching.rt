@@ -7,11 +7,10 @@ ghost use Rattle.setting_runner.specs.Sending.{turning};
 ghost use Rattle.answers.specs.Reports.{Adds};
 ghost use Rattle.answers.specs.Switching.{is_wide as needs_two, joined_by, bytes_text, switch_line, lines_for, switch_text, TellsSwitch, IsSwitched};
 
-use crate::answer::Answer;
-use crate::refusal::refuse_batch;
 use batch::{Batch, Shape};
 use crossbar::{JOINED_MODULES, Pair, Wiring};
 use exchange_limits::WorkerCount;
+use plan_answers::{Answer, refuse_batch};
 use schedule_certificate::{OpenGate, Planned, schedule};
 use setting_runner::{PairList, WIDE_CHANGE_BYTES, bytes_for, setting_numbers};
 use std::alloc::{AllocError, Global};

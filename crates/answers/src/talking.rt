@@ -3,10 +3,9 @@
 ghost use Rattle.std.specs.Prelude.{◌≡◌, ◌≤◌, List, ℕ, IfOk};
 ghost use Rattle.std.specs.Io.KnownBytes.{Appends};
 ghost use Rattle.progress_word.specs.declared.limits.TheConstants.{ALL_PARTS};
-ghost use Rattle.answers.specs.Openings.{bytes_of};
+ghost use Rattle.plan_answers.specs.Lent.{bytes_of};
 ghost use Rattle.answers.specs.Talking.{end_line, HasTalked, IsTalkAnswer};
 
-use crate::answer::Answer;
 use crate::frames::ended_line;
 use crate::hall::{attend, finish, open_exchange};
 use crate::opening::opening_rack;
@@ -15,6 +14,7 @@ use batch::Shape;
 use client_session::ServeFault;
 use exchange_limits::WorkerCount;
 use module_memory::Rack;
+use plan_answers::Answer;
 use progress_word::ALL_PARTS;
 use std::alloc::{AllocError, Global};
 use std::io::{Read, Write};

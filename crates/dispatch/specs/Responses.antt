@@ -11,7 +11,7 @@ use Rattle.answers.specs.Reports.{report_of}
 use Rattle.answers.specs.Serving.{IsServeAnswer}
 use Rattle.answers.specs.Switching.{IsSwitched}
 use Rattle.answers.specs.Talking.{IsTalkAnswer}
-use Rattle.answers.specs.declared.limits.TheConstants.{DONE, REFUSED}
+use Rattle.answers.specs.limits.TheConstants.{DONE, REFUSED}
 use Rattle.command_words.specs.declared.words.Job.{Job}
 use Rattle.command_words.specs.declared.words.Job.TheVariants.{Plan, Check, Draw, Switch, Direct, Apply, Run, Serve, Host, Talk}
 use Rattle.command_words.specs.declared.words.WordsFault.{WordsFault}

@@ -1,8 +1,10 @@
 use Rattle.std.proofs.Common.{◌≡◌, rules, ◌∙◌}
 use Rattle.std.proofs.lemmas.Result.{IfOk-weaker}
-use Rattle.answers.specs.Answers.{IsRunAnswer, IsOnly, run_refused}
-use Rattle.answers.specs.Openings.{bytes_of}
-use Rattle.answers.specs.Refusals.{IsRefused, running_words}
+use Rattle.plan_answers.specs.Answers.{IsOnly}
+use Rattle.answers.specs.Answers.{IsRunAnswer, run_refused}
+use Rattle.plan_answers.specs.Lent.{bytes_of}
+use Rattle.plan_answers.specs.Refusals.{IsRefused}
+use Rattle.answers.specs.Refusals.{running_words}
 use Rattle.answers.specs.Tellings.{told_by}
 use Rattle.answers.proofs.OneRun.{one_run}
 use Rattle.answers.proofs.running.answer_telling.Goals as goal

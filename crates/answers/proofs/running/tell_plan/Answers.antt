@@ -5,7 +5,8 @@ use Rattle.batch.specs.Extent.{Extent}
 use Rattle.answers.specs.declared.running_fault.RunningFault.{RunningFault}
 use Rattle.answers.specs.declared.running_fault.RunningFault.TheVariants as running
 use Rattle.answers.specs.Answers.{IsOverlapOf, IsWrongOf}
-use Rattle.answers.specs.Openings.{bytes_of, IsRightImage}
+use Rattle.plan_answers.specs.Lent.{bytes_of}
+use Rattle.answers.specs.Openings.{IsRightImage}
 use Rattle.answers.proofs.Openings.{opening_shape, right_image}
 use Rattle.answers.proofs.running.tell_plan.Goals as goal
 

@@ -1,7 +1,7 @@
 use Rattle.std.proofs.Common.{ℕ, List, Option}
 use Rattle.std.proofs.lemmas.Result.{err_from_is_err_and, IfOk-weaker, IfErr-weaker}
 use Rattle.answers.specs.Answers.{IsResultOf, IsResult, IsWrongOf, IsFirstRunWrong}
-use Rattle.answers.specs.Openings.{bytes_of}
+use Rattle.plan_answers.specs.Lent.{bytes_of}
 use Rattle.answers.specs.Tellings.{told_by}
 use Rattle.answers.specs.Refusals.{IsRealRunning}
 use Rattle.batch.specs.declared.transfer.Transfer.{Transfer}

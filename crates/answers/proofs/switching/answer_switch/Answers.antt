@@ -1,6 +1,6 @@
 use Rattle.std.proofs.lemmas.Result.{IfOk-weaker}
 use Rattle.batch.specs.Extent.{widest}
-use Rattle.answers.specs.Refusals.{RefusesBatch}
+use Rattle.plan_answers.specs.Refusals.{RefusesBatch}
 use Rattle.answers.specs.Switching.{TellsSwitch, IsSwitched, switched, unplanned}
 use Rattle.answers.proofs.switching.answer_switch.Goals as goal
 

@@ -1,8 +1,9 @@
 use Rattle.std.proofs.Common.{◌≡◌, [], refl, ◌∙◌}
 use Rattle.std.proofs.KnownBytes.{Appends-nil}
 use Rattle.std.proofs.lemmas.Result.{IfOk-weaker}
-use Rattle.answers.specs.Openings.{bytes_of}
-use Rattle.answers.specs.Refusals.{IsRefused, image_words}
+use Rattle.plan_answers.specs.Lent.{bytes_of}
+use Rattle.plan_answers.specs.Refusals.{IsRefused}
+use Rattle.answers.specs.Refusals.{image_words}
 use Rattle.answers.specs.Talking.{HasTalked, IsTalkAnswer, talked, image_refused}
 use Rattle.answers.proofs.talking.answer_talk.Goals as goal
 

@@ -1,5 +1,0 @@
-use Rattle.answers.proofs.DirectedThenPlanned.{directed_then_planned}
-use Rattle.answers.proofs.laws.directed_then_planned.Goals as goal
-
-pub returns : goal.returns
-returns c = directed_then_planned

@@ -1,9 +1,0 @@
-//! Laws of the answers, proved of the definitions alone. None of them does anything.
-
-ghost use Rattle.answers.specs.Laws.{DirectedThenPlanned};
-
-/// Where a text denotes moves, `plan` answers to the answer of `direct` with a plan of the fewest settings
-/// that any directions and any schedule of the moves have.
-pub fn directed_then_planned()
-    ensures { DirectedThenPlanned }
-{}

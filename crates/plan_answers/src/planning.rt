@@ -1,0 +1,43 @@
+ghost use Rattle.std.specs.Prelude.{IfOk};
+ghost use Rattle.batch.specs.Extent.{widest};
+ghost use Rattle.schedule_certificate.specs.Plans.{IsPlan};
+ghost use Rattle.plan_answers.specs.Answers.{TellsPlan, IsPlanned};
+
+use crate::answer::Answer;
+use crate::refusal::refuse_batch;
+use batch::{Batch, Shape};
+use exchange_limits::WorkerCount;
+use schedule_certificate::{OpenGate, Planned, schedule};
+use std::alloc::{AllocError, Global};
+use std::thread::Threads;
+
+/// The answer that says a plan.
+fn tell(planned: &Planned) -> Result<Answer, AllocError>
+    requires { IsPlan planned.now }
+    ensures { IfOk result (TellsPlan planned.now) }
+{
+    let text = planned.schedule().write(Some(planned.certificate()))?;
+    Ok(Answer::done(text))
+}
+
+/// The answer of `exchange plan`: the text of a shortest schedule for the batch that the text
+/// denotes, with the certificate that shows that none is shorter; or the refusal of the text's first
+/// fault.
+///
+/// The batch is read against the widest shape. Planning is given so many workers.
+pub fn answer_plan<R: Threads + Sync>(
+    rt: &R,
+    alloc: Global,
+    batch: &[u8],
+    workers: WorkerCount,
+) -> Result<Answer, AllocError>
+    ensures { IfOk result (λ answer. IsPlanned widest batch.now answer) }
+{
+    match Batch::read(alloc, batch, Shape::WIDEST) {
+        Ok(batch) => {
+            let planned = schedule(rt, alloc, batch, workers, &OpenGate)?;
+            tell(&planned)
+        }
+        Err(fault) => refuse_batch(alloc, fault),
+    }
+}
