@@ -18,7 +18,8 @@ fn workers_of(job: &Job) -> Option<usize> {
         | Job::Switch { workers, .. }
         | Job::Apply { workers, .. }
         | Job::Run { workers, .. }
-        | Job::Serve { workers, .. } => Some(workers.get()),
+        | Job::Serve { workers, .. }
+        | Job::Host { workers, .. } => Some(workers.get()),
         Job::Check { .. } | Job::Draw { .. } | Job::Direct { .. } | Job::Talk { .. } => None,
     }
 }
@@ -62,6 +63,7 @@ fn words_name_workers(rt: HostRuntime) {
         ("exchange serve S A", 1),
         ("exchange serve S A B --workers 64", 64),
         ("exchange serve --workers 2 S A B", 2),
+        ("exchange host S A B --workers 5", 5),
     ];
     assert!(rt; all_name_workers(rt.alloc(), &rows));
 }
