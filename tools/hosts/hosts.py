@@ -7,12 +7,17 @@ how its session ended where it didn't by itself. A case has LIMIT seconds. What 
 clients of examples/all-reduce.py are run too.
 """
 
+import array
+import errno
+import fcntl
 import os
 import re
 import signal
 import subprocess
 import sys
 import tempfile
+import termios
+import time
 
 TOP = os.path.dirname(os.path.dirname(os.path.dirname(os.path.abspath(__file__))))
 EXCHANGE = os.path.abspath(os.environ.get("EXCHANGE") or f"{TOP}/crates/exchange/out/exchange")
@@ -55,6 +60,7 @@ class Client:
     """A client, which opens the pipe by which it speaks before the one by which it hears, as the host does."""
 
     def __init__(self, name):
+        self.name = name
         self.said = os.open(f"{name}.in", os.O_WRONLY)
         self.told = open(f"{name}.out", "rb")
 
@@ -77,6 +83,27 @@ class Client:
     def leave(self):
         self.say_no_more()
         self.hear_no_more()
+
+    def is_heard(self):
+        """Whether the host still has the pipe open by which the client speaks: it closes that where the session ends."""
+        try:
+            os.close(os.open(f"{self.name}.in", os.O_WRONLY | os.O_NONBLOCK))
+        except OSError as error:
+            if error.errno == errno.ENXIO:
+                return False
+            raise
+        return True
+
+    def wait_for_the_end(self):
+        """Waits until the session has ended."""
+        while self.is_heard():
+            time.sleep(0.01)
+
+    def unread(self):
+        """How many bytes it was told, and hasn't heard yet."""
+        size = array.array("i", [0])
+        fcntl.ioctl(self.told, termios.FIONREAD, size)
+        return size[0]
 
 
 class Host:
@@ -152,8 +179,9 @@ def hangs_up():
     yield eve.ask("poke 0 80000800 000000ee"), "poked"
     amy.say("batch 2\npush 0 0 1 0\n")
     bob.say("peek 0 80")
-    amy.leave()
-    bob.leave()
+    for client in amy, bob:
+        client.leave()
+        client.wait_for_the_end()
     yield eve.ask("batch 1\npush 0 0 1 0"), "accepted 1"
     yield eve.ask("plan 1"), "planned 1 settings 1"
     yield eve.ask("run 1"), "ran 1 run 1 settings 1 words 1 bits 117"
@@ -169,10 +197,33 @@ def hears_no_more():
     yield amy.ask("poke 0 80000800 000000aa"), "poked"
     amy.hear_no_more()
     amy.say("peek 0 80000800\n")
+    amy.wait_for_the_end()
     yield bob.ask("peek 0 80000800"), "word 000000aa"
     bob.leave()
     yield host.end(), (["session 0 amy", "ended write", "session 1 bob"], 1)
     amy.say_no_more()
+
+
+def hears_late():
+    """A client that asks and asks, and hears nothing, until its pipe is full, holds nobody else. It is told all when it hears at last."""
+    host = Host("2x1x1", ["amy", "bob"])
+    amy, bob = Client("amy"), Client("bob")
+    amy.say("progress\n" * 4000)
+    before = -1
+    while (now := amy.unread()) > before:
+        before = now
+        time.sleep(0.05)
+    yield 0 < now < 22 * 4000, True
+    yield bob.ask("poke 0 80000800 000000bb"), "poked"
+    yield bob.ask("batch 1\npush 0 0 1 0"), "accepted 1"
+    yield bob.ask("plan 1"), "planned 1 settings 1"
+    yield bob.ask("run 1"), "ran 1 run 1 settings 1 words 1 bits 117"
+    yield bob.ask("peek 1 80000800"), "word 000000bb"
+    yield amy.hear(), "progress run 0 done 0"
+    yield [amy.hear() for _ in range(3999)][-1], "progress run 1 done 1"
+    amy.leave()
+    bob.leave()
+    yield host.end(), (["session 0 amy", "session 1 bob"], 0)
 
 
 def sixteen():
@@ -214,8 +265,9 @@ def comes_late():
 def closes():
     """A client that closes its pipes without a word ends its own session alone, and by itself."""
     host = Host("1x1x1", ["amy", "bob"])
-    Client("amy").leave()
-    bob = Client("bob")
+    amy, bob = Client("amy"), Client("bob")
+    amy.leave()
+    amy.wait_for_the_end()
     yield bob.ask("progress"), "progress run 0 done 0"
     bob.leave()
     yield host.end(), (["session 0 amy", "session 1 bob"], 0)
@@ -262,7 +314,7 @@ def walk():
         shell.communicate()
 
 
-CASES = [numbers, progress, hangs_up, hears_no_more, sixteen, comes_late, closes, all_reduce, walk]
+CASES = [numbers, progress, hangs_up, hears_no_more, hears_late, sixteen, comes_late, closes, all_reduce, walk]
 
 
 def try_case(case):
