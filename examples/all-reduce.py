@@ -2,10 +2,11 @@
 """Sixteen live clients add up their numbers in four stages: module m has m + 1 at first, and the sum of all in the end.
 
 In each stage a client's number goes to the module whose own number differs in one bit, and what came from there is added to it. Start the
-host first, in the same folder:
+host first, at the top of a clone, and then the clients:
 
     mkfifo {0..15}.in {0..15}.out
-    exchange host 16x5x2 {0..15}
+    ./exchange host 16x5x2 {0..15} &
+    examples/all-reduce.py
 """
 
 import time

@@ -8,7 +8,11 @@ lines behind it, up to the next one, are what it prints on both streams, whateve
 The commands of a document run one after another, by the shell bash, in a folder with the repository's examples and `./exchange`.
 A block that begins with ```file NAME isn't run: it is a file of that name for the commands behind it.
 
-The first line of each command's help is an example. It is run too, and has to end well.
+The first line of each command's help is an example. It is run too, and has to end well. So is each command in the last column of a table
+whose last column is headed `For example`.
+
+Each link of a document has to lead to a file or folder of the repository, and where it names a heading there, to one. No line but one of a
+table or of a shown text may have more than 100 columns.
 
 A program that isn't built, or is older than its sources, is proved and built first. Another one is tried where EXCHANGE names it:
 EXCHANGE=other/exchange tools/texts/run.py
@@ -33,6 +37,12 @@ HELPED = ("", "plan", "check", "draw", "switch", "direct", "apply", "run", "serv
 # Any lines, within what a command prints.
 ANY = "..."
 
+# Columns that a line of a document may have.
+COLUMNS = 100
+
+# The head of a table's last column, where that has commands to try.
+EXAMPLES = "For example"
+
 # A block of a document: where it stands, what stands behind its first three marks, and its lines.
 Block = namedtuple("Block", "place kind lines")
 
@@ -47,19 +57,67 @@ def documents():
     return sorted(name for name in names if name.endswith(".md"))
 
 
-def blocks(name):
-    """The blocks of a document."""
-    found, block = [], None
+def parts(name):
+    """The blocks of a document, and the other lines with their numbers."""
+    found, block, prose = [], None, []
     with open(f"{TOP}/{name}", encoding="utf-8") as file:
         for number, line in enumerate(file.read().splitlines(), 1):
             mark = re.fullmatch(r" *```(.*)", line)
             if not mark:
                 if block:
                     block.lines.append(line)
+                else:
+                    prose.append((number, line))
             elif block:
                 found, block = [*found, block], None
             else:
                 block = Block(f"{name}:{number}", mark[1].strip(), [])
+    return found, prose
+
+
+def headings(name):
+    """The names by which links lead to the headings of a document."""
+    heads = [line.lstrip("#").strip().lower() for _, line in parts(name)[1] if re.match("#+ ", line)]
+    return [re.sub(r"[^\w -]", "", head).replace(" ", "-") for head in heads]
+
+
+def leads(name, target):
+    """Whether a link of a document leads somewhere."""
+    path, _, head = target.partition("#")
+    file = os.path.normpath(os.path.join(os.path.dirname(name), path)) if path else name
+    if file.startswith("..") or not os.path.exists(f"{TOP}/{file}"):
+        return False
+    return not head or file.endswith(".md") and head in headings(file)
+
+
+def try_links(name):
+    """Tries the links of a document within the repository: how many there are, and how many lead nowhere."""
+    text = re.sub(r"`[^`]*`", "", "\n".join(line for _, line in parts(name)[1]))
+    links = [link for link in re.findall(r"\]\(([^)\s]+)\)", text) if "://" not in link]
+    wrong = [link for link in links if not leads(name, link)]
+    for link in wrong:
+        print(f"{name}: a link leads nowhere: {link}")
+    return len(links), len(wrong)
+
+
+def try_columns(name):
+    """Tells the lines of a document that have too many columns: how many lines there are, and how many are too long."""
+    prose = parts(name)[1]
+    wide = [number for number, line in prose if len(line) > COLUMNS and not line.startswith("|")]
+    for number in wide:
+        print(f"{name}:{number}: more than {COLUMNS} columns")
+    return len(prose), len(wide)
+
+
+def table_examples(name):
+    """The commands in the last columns of tables that have examples."""
+    found, is_inside = [], False
+    for number, line in parts(name)[1]:
+        cells = [cell.strip() for cell in line.strip("|").split("|")]
+        is_inside = line.startswith("|") and (is_inside or cells[-1] == EXAMPLES)
+        words = re.fullmatch("`(.*)`", cells[-1])
+        if is_inside and words:
+            found.append((f"{name}:{number}", words[1]))
     return found
 
 
@@ -114,7 +172,7 @@ def try_document(name):
     tried = wrong = 0
     with tempfile.TemporaryDirectory(prefix="texts-") as folder:
         make_folder(folder)
-        for block in blocks(name):
+        for block in parts(name)[0]:
             if block.kind.startswith("file "):
                 with open(f"{folder}/{block.kind.split()[1]}", "w", encoding="utf-8") as file:
                     file.write("".join(f"{line}\n" for line in block.lines))
@@ -141,12 +199,33 @@ def try_help(command):
         return is_well
 
 
+def try_table(name):
+    """Runs the examples in tables of a document: how many there are, and how many don't end well."""
+    examples = table_examples(name)
+    with tempfile.TemporaryDirectory(prefix="texts-") as folder:
+        make_folder(folder)
+        wrong = [(place, words) for place, words in examples if run_in(folder, words)[0] != 0]
+    for place, words in wrong:
+        print(f"{place}: an example doesn't end well: {words}")
+    return len(examples), len(wrong)
+
+
+def tell(names, trial, what, fault):
+    """Tries something in each document, and tells of it: how many were tried, and how many are wrong."""
+    results = [trial(name) for name in names]
+    tried, wrong = sum(it[0] for it in results), sum(it[1] for it in results)
+    print(f"texts: {tried} {what} tried, {wrong} {fault}")
+    return tried, wrong
+
+
 def main():
+    names = sys.argv[1:] or documents()
+    wrong = tell(names, try_links, "links", "lead nowhere")[1]
+    wrong += tell(names, try_columns, "lines", "are too long")[1]
     if not os.environ.get("EXCHANGE"):
         subprocess.run([f"{TOP}/exchange", "prove"], check=True)
-    results = [try_document(name) for name in sys.argv[1:] or documents()]
-    tried, wrong = sum(it[0] for it in results), sum(it[1] for it in results)
-    print(f"texts: {tried} commands of documents tried, {wrong} print something else")
+    tried, differing = tell(names, try_document, "commands of documents", "print something else")
+    wrong += differing + tell(names, try_table, "examples in tables", "don't end well")[1]
     helps = [try_help(it) for it in HELPED]
     print(f"texts: {len(helps)} examples of help tried, {helps.count(False)} don't end well")
     wrong += helps.count(False)
