@@ -1,0 +1,338 @@
+#!/usr/bin/env python3
+"""Tries the must-fail edits of crates, many at once: tools/try_edits.py [CRATE..]
+
+The prover judges each function by its own body and by the contracts of what it calls, and tells of each by its name whether it is proved. So
+one check of a crate tries many wrong bodies. A round takes one edit of each function that has any left. An edit is refused where its function
+is told as not proved for a goal of its own; that it calls, passes or waits for another one that isn't proved is no reason. A round is believed
+only where each function that it doesn't touch is proved, or would be, were others. An edit that a round doesn't show as refused, one that
+touches more than bodies of functions, and each of a round that isn't believed, is tried alone, as `rt must-fail` does.
+
+It begins with what `rt check` kept in the clone. docs/DAILY.md says how to write an edit.
+"""
+import dataclasses
+import importlib.machinery
+import importlib.util
+import os
+import re
+import shutil
+import signal
+import sys
+import tempfile
+import time
+
+
+@dataclasses.dataclass(frozen=True)
+class Function:
+    """A function of a crate: its file, the lines of its body (the first and the last, from 0), and its name as the prover tells it, behind the name of the crate."""
+
+    file: str
+    body: int
+    end: int
+    module: tuple
+    owner: str
+    name: str
+
+    def is_told_as(self, path):
+        """Whether the prover may mean this function by this path, wherever its type is declared."""
+        parts = path.split("::")
+        return parts[-1] == self.name and (parts[-2] == self.owner if self.owner else tuple(parts[1:-1]) == self.module)
+
+
+@dataclasses.dataclass
+class Edit:
+    """An edit: its name, the lines that it changes, by file and number, and the functions in whose bodies all of them lie, or none."""
+
+    name: str
+    lines: dict
+    functions: frozenset
+
+
+def rt_module():
+    """rt's own code, as a module."""
+    file = os.path.realpath(shutil.which("rt") or sys.exit("try_edits: the command rt isn't on the PATH"))
+    loader = importlib.machinery.SourceFileLoader("rt_edits", file)
+    made = importlib.util.module_from_spec(importlib.util.spec_from_loader("rt_edits", loader))
+    sys.modules["rt_edits"] = made
+    loader.exec_module(made)
+    return made
+
+
+# --- Where an edit changes a crate.
+
+
+def owner_of(head):
+    """The name of the type of an `impl`, with that of the trait behind it, as in `HeldLineWire`, or of a `trait`."""
+    bare = head
+    while re.search(r"<[^<>]*>", bare.replace("->", "  ")):
+        bare = re.sub(r"<[^<>]*>", "", bare.replace("->", "  "))
+    words = re.search(r"\b(?:impl|trait)\s+(.*?)\s*(?:\bwhere\b.*)?\{", bare + "{")[1]
+    trait, _, of = words.partition(" for ")
+    last = lambda it: re.sub(r"^&\s*('\w+\s+)?(mut\s+)?", "", it.strip()).split("::")[-1].split(":")[0].strip()
+    return last(of) + last(trait) if of else last(trait)
+
+
+def module_of(file):
+    """The module that a file of src/ is, as names from the crate down."""
+    inside = file[len("src/") : -len(".rt")].split("/")
+    return tuple(it for it in inside if it not in ("lib", "main", "mod"))
+
+
+def functions_of(file, text):
+    """The functions of a file that is laid out by `rt fmt`: a block ends at the brace that stands as far in as its first line."""
+    lines, found, around = text.split("\n"), [], []
+    for at, line in enumerate(lines):
+        indent = len(line) - len(line.lstrip())
+        while around and line.strip() and indent <= around[-1][0] and at > around[-1][1]:
+            around.pop()
+        opens = re.match(r" *(?:pub(?:\([^)]*\))? )?(?:unsafe )?(impl|trait|mod)\b(?!;)", line)
+        if opens and not line.rstrip().endswith(";"):
+            head = line if line.rstrip().endswith("{") else " ".join(lines[at : until(lines, at, indent, "{") + 1])
+            end = until(lines, at, indent, "}")
+            name = re.match(r".*\bmod (\w+)", line)[1] if opens[1] == "mod" else owner_of(head)
+            around.append((indent, end, opens[1], name))
+        begins = re.match(r" *(?:pub(?:\([^)]*\))? )?(?:unsafe )?fn (\w+)", line)
+        if begins and not line.rstrip().endswith((";", "}")):
+            body = begun(lines, at, indent)
+            end = until(lines, body, indent, "}")
+            module = module_of(file) + tuple(it[3] for it in around if it[2] == "mod")
+            owner = next((it[3] for it in reversed(around) if it[2] != "mod"), "")
+            found.append(Function(file, body, end, module, owner, begins[1]))
+    return found
+
+
+def until(lines, at, indent, brace):
+    """The line, from this one on, that is this far in and is the brace alone."""
+    return next((it for it in range(at, len(lines)) if lines[it] == " " * indent + brace), len(lines))
+
+
+def begun(lines, at, indent):
+    """The line at which the body of the function begins that has its first line here."""
+    alone = " " * indent
+    for it in range(at, len(lines)):
+        if lines[it] == alone + "{" or lines[it].endswith("{") and (it == at or lines[it].startswith(alone + ")")):
+            return it
+        if lines[it] == alone + "}" or lines[it].endswith(";") and len(lines[it]) - len(lines[it].lstrip()) == indent:
+            break
+    return len(lines)
+
+
+def changes_of(text):
+    """The changes that an edit's text asks for: a file, what stands in it, and what shall."""
+    file, old, found = "", None, []
+    for line in text.split("\n"):
+        if line.startswith("file: "):
+            file = line[len("file: ") :].strip()
+        elif line.startswith("old: "):
+            old = line[len("old: ") :]
+        elif line.startswith("new:") and old:
+            found.append((file, old, re.sub(r"\A ", "", line[len("new:") :])))
+            old = None
+    return found
+
+
+def lines_changed(texts, changes):
+    """The lines that stand otherwise once these changes are made, by file and number, or none where one of them can't be made. A change is within a line."""
+    made, found = dict(texts), {}
+    for file, old, new in changes:
+        text = made.get(file, "")
+        if text.count(old) != 1:
+            return {}
+        line, made[file] = text.count("\n", 0, text.index(old)), text.replace(old, new)
+        found[file, line] = made[file].split("\n")[line]
+    return found
+
+
+def edits_of(folder, texts):
+    """The edits of a crate of these texts. One that can't be made, or touches more than bodies, has no functions."""
+    functions = [it for file, text in texts.items() for it in functions_of(file, text)]
+    found = []
+    for name in sorted(os.listdir(f"{folder}/must-fail")):
+        if name.endswith(".edit"):
+            with open(f"{folder}/must-fail/{name}", encoding="utf-8", errors="replace") as it:
+                lines = lines_changed(texts, changes_of(it.read()))
+            # (the innermost, where one stands in another)
+            around = [max((it for it in functions if it.file == file and it.body <= line <= it.end), key=lambda it: it.body, default=None) for file, line in lines]
+            found.append(Edit(name, lines, frozenset(around) if all(around) else frozenset()))
+    return found
+
+
+def with_edits(texts, edits):
+    """The texts that the edits change, as they stand with all of them."""
+    lines = {file: text.split("\n") for file, text in texts.items()}
+    for edit in edits:
+        for (file, line), text in edit.lines.items():
+            lines[file][line] = text
+    return {file: "\n".join(lines[file]) for file in {file for edit in edits for file, _ in edit.lines}}
+
+
+def texts_of(folder):
+    """The texts below src/ of a crate, by their paths in the crate."""
+    files = [os.path.join(at, it) for at, _, names in os.walk(f"{folder}/src") for it in names if it.endswith(".rt")]
+    texts = {}
+    for file in sorted(files):
+        with open(file, encoding="utf-8") as it:
+            texts[os.path.relpath(file, folder)] = it.read()
+    return texts
+
+
+# --- What a round shows.
+
+# Of a function that would be proved, were others proved.
+FOR_OTHERS = re.compile(r"(not proved; |no proof: )it (calls|passes|waits for) `")
+# Of a proof file that names what an edit took away.
+NAMES = re.compile(r"has no field|is not in scope|has no `|was not admitted")
+
+
+def told_of(output):
+    """What the prover says of each function, by its path."""
+    return dict(re.findall(r"(?m)^fn (\S+): (.*)$", output))
+
+
+def faults_of(output):
+    """The faults of proof files: the folder below proofs/, as names, the goal, and what is said."""
+    found = []
+    for folder, said in re.findall(r"(?m)^(?:\./)?proofs/(?:(\S+)/)?\w+\.antt:\d+:\d+: error: (.*)$", output):
+        goal = re.match(r"`([^`]*)`", said)
+        found.append((tuple(folder.split("/")) if folder else (), goal[1] if goal else "", said))
+    return found
+
+
+def path_of(function, told):
+    """The path by which the prover tells of the function, if there is just one that fits."""
+    fits = [it for it in told if function.is_told_as(it)]
+    here = [it for it in fits if tuple(it.split("::")[1:-2]) == function.module]
+    fits = here or fits
+    return fits[0] if len(fits) == 1 else None
+
+
+def lies_in(path, folder, goal):
+    """Whether a fault of this folder and goal is one of the function's own. Functions that call each other have one folder, and goals that begin with their names."""
+    names = tuple(path.split("::")[1:])
+    return folder == names or folder[-1:] and folder[-1].startswith("+") and folder[:-1] == names[:-1] and goal.startswith(f"{names[-1]}-")
+
+
+def own_reason(path, told, faults):
+    """Why the function of this path isn't proved for a goal of its own, or an empty text."""
+    said = told.get(path, "")
+    if "did not prove" in said:
+        return said
+    return next((it for folder, goal, it in faults if said != "proved" and lies_in(path, folder, goal) and not NAMES.search(it)), "")
+
+
+def strange(paths, told, faults):
+    """What of a round isn't as it has to be where only the functions of these paths are changed: something else that isn't proved for itself."""
+    for path, said in told.items():
+        if path not in paths and said != "proved" and ("did not prove" in said or not FOR_OTHERS.match(said)):
+            return f"{path}: {said}"
+    return next((f"{'/'.join(folder)}: {said}" for folder, goal, said in faults if not any(lies_in(it, folder, goal) for it in paths)), "")
+
+
+def judged(edits, output):
+    """Which of the edits the check with all of them refuses, with the reason, and why none of that is to be believed, if it isn't."""
+    if not output.rstrip("\n").split("\n")[-1].startswith("logic="):
+        return {}, "it ended without a verdict"
+    told, faults = told_of(output), faults_of(output)
+    paths = {it: path_of(it, told) for edit in edits for it in edit.functions}
+    why = strange({it for it in paths.values() if it}, told, faults)
+    found = {edit.name: next(filter(None, (own_reason(paths[it], told, faults) for it in edit.functions if paths[it])), "") for edit in edits}
+    return ({}, why) if why else ({name: reason for name, reason in found.items() if reason}, "")
+
+
+# --- Trying.
+
+
+def next_round(edits):
+    """Edits of which no two touch one function, the first one of each."""
+    taken, found = set(), []
+    for edit in edits:
+        if not taken & edit.functions:
+            taken |= edit.functions
+            found.append(edit)
+    return found
+
+
+def checked(rt, crate, texts, kept):
+    """What a check of the crate with these texts says, begun with what is kept in the folder, where it keeps what it proves."""
+    ran = rt.checked(crate, texts, ["--jobs", "1"], kept)
+    if ran.returncode == -signal.SIGKILL:
+        # most likely for memory
+        ran = rt.checked(crate, texts, ["--jobs", "1"], kept)
+    return ran.stdout
+
+
+def in_rounds(rt, crate, edits, kept, say):
+    """Tries edits of functions in rounds, each edit once, and returns the reasons by the names of those that are refused."""
+    texts, found, number = texts_of(crate.folder), {}, 0
+    while edits:
+        number += 1
+        now, began = next_round(edits), time.time()
+        refused, why = judged(now, checked(rt, crate, with_edits(texts, now), kept))
+        found.update(refused)
+        said = f"not believed, so each is tried alone: {why[:200]}" if why else f"{len(refused)} of {len(now)} edits refused"
+        say(f"{crate.name}: round {number}: {said}, {time.time() - began:.0f} seconds")
+        edits = [it for it in edits if it not in now]
+    return found
+
+
+def alone(rt, crate, name, kept):
+    """Whether the edit is refused when it is tried alone, over what is kept, and from nothing where that isn't settled, and what to say."""
+    tried = rt.must_fail(crate, f"{crate.folder}/must-fail/{name}", ["--jobs", "1"], kept)
+    if tried[0] not in rt.SETTLED:
+        tried = rt.must_fail(crate, f"{crate.folder}/must-fail/{name}", ["--jobs", "1"])
+    return tried[0] in (rt.REFUSED, rt.AT_LIMIT), tried[1]
+
+
+def tried(rt, crate, start, say):
+    """Tries all edits of a crate, begun with what the folder start holds, if there is one: for each its name, whether it is refused, and what to say."""
+    edits, results = edits_of(crate.folder, texts_of(crate.folder)), []
+    with tempfile.TemporaryDirectory(prefix=f"rt-edits-{os.getpid()}-") as room:
+        kept = f"{room}/kept"
+        if start and os.path.isdir(start):
+            rt.linked(start, kept)
+        else:
+            os.mkdir(kept)
+        refused = in_rounds(rt, crate, [it for it in edits if it.functions], kept, say)
+        for edit in edits:
+            label = f"must-fail {crate.name}/{edit.name}"
+            results.append((edit.name, True, f"{label}: refused, as it must be: {refused[edit.name][:160]}") if edit.name in refused else (edit.name, *alone(rt, crate, edit.name, kept)))
+    strange = [os.path.relpath(it, crate.folder) for it in rt.edits_of(crate)[1]]
+    return results + [(it, False, f"{crate.name}/{it}: BAD EDIT: an edit stands right in must-fail/, and its name ends in .edit") for it in strange]
+
+
+def try_all(rt, crates, is_kept, say=print):
+    """Tries the edits of these crates, as many crates at once as there are processors and memory, and returns how many are refused, and the names of the others."""
+    tasks = {}
+    for crate in crates:
+        if os.path.isdir(f"{crate.folder}/must-fail"):
+            start = f"{crate.folder}/out/incremental" if is_kept else None
+            tasks[crate.name, "edits"] = ([], crate.count(rb"\n"), rt.need(crate), lambda given, jobs, crate=crate, start=start: tried(rt, crate, start, say))
+    refused, others = 0, []
+    for (name, _), results in rt.in_lanes(tasks).items():
+        for edit, is_refused, said in results:
+            say(said)
+            refused += is_refused
+            others += [] if is_refused else [f"{name}/{edit}"]
+    return refused, others
+
+
+def main(names):
+    os.chdir(os.path.dirname(os.path.dirname(os.path.realpath(__file__))))
+    rt = rt_module()
+    # (its first call sets a signal's handler, which only the main thread may)
+    rt.rtlib.guarded()
+    crates = rt.rtlib.crates_below(os.getcwd())
+    lacking = [it for it in names if it not in [crate.name for crate in crates]]
+    if lacking:
+        sys.exit(f"try_edits: crates.txt has no crate {lacking[0]}")
+    crates = [it for it in crates if not names or it.name in names]
+    for crate in crates:
+        for below in crate.below():
+            if not below.is_built() and below.build_rlib(["--jobs", "1"], anew=False):
+                sys.exit(f"try_edits: {below.name}, on which {crate.name} stands, isn't proved")
+    refused, others = try_all(rt, crates, is_kept=True)
+    print(f"must-fail edits: {refused} refused, {len(others)} not{': ' + ' '.join(others) if others else ''}")
+    return 1 if others else 0
+
+
+if __name__ == "__main__":
+    sys.exit(main(sys.argv[1:]))

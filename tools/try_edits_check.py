@@ -1,0 +1,140 @@
+#!/usr/bin/env python3
+"""Tries how try_edits.py reads sources, edits and what the prover says, on a crate of a few lines and on words like the prover's."""
+import os
+import sys
+import tempfile
+
+sys.dont_write_bytecode = True
+import try_edits
+
+SOURCE = """//! A lamp.
+
+pub const FIRST: bool = false;
+
+pub struct Lamp {
+    lit: bool,
+}
+
+impl Lamp {
+    /// A dark lamp.
+    pub fn new() -> Lamp
+        ensures { result ≡ 0 }
+    {
+        Lamp { lit: FIRST }
+    }
+
+    pub fn is_lit(&self) -> bool {
+        !!self.lit
+    }
+}
+
+impl<'a, T: Clone> Switch<T> for &'a mut Lamp
+where
+    T: Sized,
+{
+    fn turn(&mut self, to: T) {
+        self.lit = true;
+    }
+}
+
+mod walls {
+    pub fn both(
+        one: &Lamp,
+        other: &Lamp,
+    ) -> bool {
+        fn and(one: bool, other: bool) -> bool {
+            one && other
+        }
+        and(one.is_lit(), other.is_lit())
+    }
+}
+"""
+EDITS = {
+    "new_is_lit": "file: src/lamp.rt\nold: Lamp { lit: FIRST }\nnew: Lamp { lit: !FIRST }\n",
+    "is_dark": "file: src/lamp.rt\nold: !!self.lit\nnew: !self.lit\n",
+    "is_lit_always": "file: src/lamp.rt\nold: -> bool {\nnew: -> bool { return true;\n",
+    "turn_off": "file: src/lamp.rt\nold: self.lit = true;\nnew: self.lit = false;\n",
+    "or": "file: src/lamp.rt\nold: one && other\nnew: one || other\n",
+    "and_twice": "file: src/lamp.rt\nold: one.is_lit(), other.is_lit()\nnew: one.is_lit(), one.is_lit()\n",
+    "new_twice": "file: src/lamp.rt\nold: Lamp { lit: FIRST }\nnew: Lamp { lit: true }\n",
+    "two_bodies": "file: src/lamp.rt\nold: Lamp { lit: FIRST }\nnew: Lamp { lit: LAST }\nold: { lit: LAST }\nnew: { lit: true }\nold: self.lit = true;\nnew: self.lit = false;\n",
+    "contract": "file: src/lamp.rt\nold: result ≡ 0\nnew: result ≡ 1\n",
+    "constant": "file: src/lamp.rt\nold: bool = false;\nnew: bool = true;\n",
+    "specs": "file: specs/Lamp.antt\nold: lit\nnew: dark\n",
+    "not_there": "file: src/lamp.rt\nold: nowhere\nnew: anywhere\n",
+}
+# The functions in whose bodies all changes of an edit lie. The others touch more, or can't be made.
+WANTED = {
+    "new_is_lit": {"Lamp::new"},
+    "is_dark": {"Lamp::is_lit"},
+    "turn_off": {"LampSwitch::turn"},
+    "or": {"and"},
+    "and_twice": {"both"},
+    "new_twice": {"Lamp::new"},
+    "two_bodies": {"Lamp::new", "LampSwitch::turn"},
+}
+# What a check may say: its lines, then the functions that have a wrong body, those that are refused, and whether it is believed.
+CASES = {
+    "a goal of its own": ("fn c::lamp::Lamp::new: no proof: `search` did not prove `returns`", ["new_is_lit"], ["new_is_lit"], True),
+    "a callee too": ("fn c::lamp::Lamp::new: no proof: `search` did not prove `returns`; it calls `c::x`, which is not proved", ["new_is_lit"], ["new_is_lit"], True),
+    "only a callee": ("fn c::lamp::Lamp::new: no proof: it calls `c::x`, which is not proved", ["new_is_lit"], [], True),
+    "a proof file of its own": ("./proofs/lamp/Lamp/new/Answers.antt:5:35: error: `returns`: `grind`: no proof of `x`\nfn c::lamp::Lamp::new: not proved; it calls `c::x`, which is not proved", ["new_is_lit"], ["new_is_lit"], True),
+    "a proof file that names what went": ("./proofs/lamp/Lamp/new/Answers.antt:5:35: error: `returns`: `c.new` has no field `result`\nfn c::lamp::Lamp::new: no proof: it calls `c::x`, which is not proved", ["new_is_lit"], [], True),
+    "a proof file of another": ("./proofs/lamp/Lamp/is_lit/Answers.antt:5:35: error: `returns`: no proof of `x`\nfn c::lamp::Lamp::new: no proof: `search` did not prove `returns`", ["new_is_lit"], [], False),
+    "a lemma": ("./proofs/Lists.antt:5:35: error: no proof of `x`\nfn c::lamp::Lamp::new: no proof: `search` did not prove `returns`", ["new_is_lit"], [], False),
+    "another for itself": ("fn c::lamp::Lamp::new: no proof: `search` did not prove `returns`\nfn c::lamp::Lamp::is_lit: no proof: `search` did not prove `returns`", ["new_is_lit"], [], False),
+    "another for the first": ("fn c::lamp::Lamp::new: no proof: `search` did not prove `returns`\nfn c::lamp::Lamp::is_lit: no proof: it calls `c::lamp::Lamp::new`, which is not proved", ["new_is_lit"], ["new_is_lit"], True),
+    "another for something new": ("fn c::lamp::Lamp::new: no proof: `search` did not prove `returns`\nfn c::lamp::Lamp::is_lit: no proof: its borrows are wrong", ["new_is_lit"], [], False),
+    "two at once": ("fn c::lamp::Lamp::new: no proof: `search` did not prove `returns`\nfn c::lamp::Lamp::is_lit: proved\nfn c::lamp::LampSwitch::turn: no proof: `search` did not prove `returns`", ["new_is_lit", "turn_off"], ["new_is_lit", "turn_off"], True),
+    "one of two": ("fn c::lamp::Lamp::new: proved\nfn c::lamp::LampSwitch::turn: no proof: `search` did not prove `returns`", ["new_is_lit", "turn_off"], ["turn_off"], True),
+    "another module's name": ("fn c::other::Lamp::new: no proof: `search` did not prove `returns`\nfn c::lamp::Lamp::new: proved", ["new_is_lit"], [], False),
+    "a method by its type's module": ("fn c::other::Lamp::new: no proof: `search` did not prove `returns`", ["new_is_lit"], ["new_is_lit"], True),
+    "a folder of two that call each other": ("./proofs/lamp/Lamp/+turn/Answers.antt:5:35: error: `new-returns`: no proof of `x`\nfn c::lamp::Lamp::new: no proof: its proof is in a folder of several", ["new_is_lit"], ["new_is_lit"], True),
+    "such a folder, at another's goal": ("./proofs/lamp/Lamp/+turn/Answers.antt:5:35: error: `is_lit-returns`: no proof of `x`\nfn c::lamp::Lamp::new: no proof: its proof is in a folder of several", ["new_is_lit"], [], False),
+    "no verdict": ("fn c::lamp::Lamp::new: no proof: `search` did not prove `returns`\nkilled", ["new_is_lit"], [], False),
+}
+
+
+def written(folder):
+    """A crate with this source and these edits."""
+    os.makedirs(f"{folder}/src")
+    os.makedirs(f"{folder}/must-fail")
+    with open(f"{folder}/src/lamp.rt", "w", encoding="utf-8") as it:
+        it.write(SOURCE)
+    for name, text in EDITS.items():
+        with open(f"{folder}/must-fail/{name}.edit", "w", encoding="utf-8") as it:
+            it.write(text)
+
+
+def full(function):
+    return f"{function.owner}::{function.name}" if function.owner else function.name
+
+
+def main():
+    wrong = []
+    with tempfile.TemporaryDirectory() as folder:
+        written(folder)
+        texts = try_edits.texts_of(folder)
+        edits = {it.name[: -len(".edit")]: it for it in try_edits.edits_of(folder, texts)}
+    for name, edit in edits.items():
+        found = {full(it) for it in edit.functions}
+        if found != WANTED.get(name, set()):
+            wrong.append(f"{name} is taken to change {found or 'no function'}")
+    many = [edits[it] for it in ("new_is_lit", "turn_off", "or", "and_twice")]
+    text = try_edits.with_edits(texts, many)["src/lamp.rt"]
+    if not all(it in text for it in ("!FIRST", "lit = false", "one || other", "one.is_lit(), one.is_lit()")) or text.count("\n") != SOURCE.count("\n"):
+        wrong.append("edits of four functions aren't made at once")
+    first = [it.name for it in try_edits.next_round([edits[it] for it in WANTED])]
+    if first != [f"{it}.edit" for it in ("new_is_lit", "is_dark", "turn_off", "or", "and_twice")]:
+        wrong.append(f"the first round is {first}")
+    for name, (words, tried, refused, is_believed) in CASES.items():
+        said = words if "killed" in words else f"{words}\nlogic=not-proved\n"
+        found, why = try_edits.judged([edits[it] for it in tried], said)
+        if sorted(found) != sorted(f"{it}.edit" for it in refused) or (not why) != is_believed:
+            wrong.append(f"{name}: refused {sorted(found)}, {why or 'believed'}")
+    print("\n".join(wrong) or f"edits at once: {len(EDITS)} edits and {len(CASES)} answers read well")
+    return 1 if wrong else 0
+
+
+if __name__ == "__main__":
+    sys.exit(main())
