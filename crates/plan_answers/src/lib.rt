@@ -6,6 +6,7 @@
 //! nothing.
 #![tactic(auto)]
 
+mod alone;
 mod answer;
 mod checking;
 mod checking_fault;
@@ -18,6 +19,7 @@ mod planning;
 mod refusal;
 mod setting_range;
 
+pub use alone::answer_plan_alone;
 pub use answer::Answer;
 pub use checking::answer_check;
 pub use checking_fault::CheckingFault;

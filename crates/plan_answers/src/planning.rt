@@ -12,7 +12,7 @@ use std::alloc::{AllocError, Global};
 use std::thread::Threads;
 
 /// The answer that says a plan.
-fn tell(planned: &Planned) -> Result<Answer, AllocError>
+pub(crate) fn tell(planned: &Planned) -> Result<Answer, AllocError>
     requires { IsPlan planned.now }
     ensures { IfOk result (TellsPlan planned.now) }
 {

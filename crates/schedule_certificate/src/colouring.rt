@@ -15,7 +15,7 @@ use std::alloc::{AllocError, Global};
 use std::thread::{Threads, join};
 
 /// Puts the transfers of a class that was given up into the other colours.
-fn put_back(table: &mut Table<'_>, class: &[usize])
+pub(crate) fn put_back(table: &mut Table<'_>, class: &[usize])
     requires { HasRoomFor table.old class.now }
     ensures batch { table.new.batch ≡ table.old.batch }
     ensures colours { table.new.colours ≡ table.old.colours }
@@ -35,7 +35,12 @@ fn put_back(table: &mut Table<'_>, class: &[usize])
 /// that has. The uses of each link are halved, but where all transfers share one link, which is enough
 /// for halves of half the degree: these stay in their order, so that they get the same colours from one
 /// worker and from several.
-fn halve_part(graph: &LinkGraph, part: &mut [usize], degree: usize, scratch: &mut Scratch) -> usize
+pub(crate) fn halve_part(
+    graph: &LinkGraph,
+    part: &mut [usize],
+    degree: usize,
+    scratch: &mut Scratch,
+) -> usize
     requires part { IsPart graph.now part.old }
     requires degree { IsDegree (members graph.now part.old) degree }
     requires places { length part.old ≤ scratch.old }

@@ -1,6 +1,7 @@
 //! Schedules of batches: shortest ones with their certificates, and first fit.
 #![tactic(auto)]
 
+mod alone;
 mod colouring;
 mod degree;
 mod gate;
@@ -9,6 +10,7 @@ mod planned;
 mod planning;
 mod workers;
 
+pub use alone::schedule_alone;
 pub use gate::{Gate, OpenGate};
 pub use greedy::first_fit;
 pub use planned::Planned;

@@ -16,7 +16,7 @@ use std::alloc::{AllocError, Global};
 use std::thread::Threads;
 
 /// The numbers of all transfers.
-fn all_transfers(alloc: Global, graph: &LinkGraph) -> Result<Vec<usize>, AllocError>
+pub(crate) fn all_transfers(alloc: Global, graph: &LinkGraph) -> Result<Vec<usize>, AllocError>
     ensures { IfOk result (λ all. all.items ≡ range_with_len 0 (length graph.now)) }
 {
     (0..graph.len()).collect(alloc)
@@ -39,7 +39,7 @@ fn colour_all<R: Threads + Sync, G: Gate>(
 }
 
 /// The certificate that names the busiest link.
-fn certificate_of(graph: &LinkGraph) -> Result<Certificate, AllocError>
+pub(crate) fn certificate_of(graph: &LinkGraph) -> Result<Certificate, AllocError>
     ensures { IfOk result (λ named. NamesBusiest graph.now named.link named.transfers) }
 {
     let Some(link) = graph.busiest() else {

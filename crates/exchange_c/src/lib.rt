@@ -1,0 +1,104 @@
+//! Calls for programs in C: each reads texts that its caller owns, and writes its answer into bytes that its
+//! caller owns.
+//!
+//! Each gives one of the statuses of [`status`], and says how many bytes there are: those that it wrote, or,
+//! where there was no room for them, those that it would write. It starts no thread, reads no file and prints
+//! nothing. What C has to keep to is said in `include/exchange.h`.
+#![tactic(auto)]
+
+ghost use Rattle.std.specs.Prelude.{IfOk, OnErr, None};
+ghost use Rattle.batch.specs.Extent.{widest};
+ghost use Rattle.plan_answers.specs.Answers.{IsPlanned, IsChecked};
+ghost use Rattle.plan_answers.specs.Directing.{IsDirected};
+ghost use Rattle.plan_answers.specs.Drawings.{IsDrawn};
+ghost use Rattle.exchange_c.specs.Writing.{Puts, IsOutOfMemory, Leaves, IsTheOne};
+
+mod status;
+
+use plan_answers::{Answer, answer_check, answer_direct, answer_draw, answer_plan_alone};
+pub use status::{NO_MEMORY, NO_ROOM};
+use std::alloc::{AllocError, Global};
+
+/// Copies an answer to the front of the bytes, where there is room for all of it.
+fn put(answer: &Answer, out: &mut [u8], count: &mut usize) -> u8
+    ensures { Puts answer.now out.old out.new count.new result }
+{
+    let text = answer.text();
+    *count = text.len();
+    if text.len() > out.len() {
+        return NO_ROOM;
+    }
+    let (front, _) = out.split_at_mut(text.len());
+    front.copy_from_slice(text);
+    answer.status()
+}
+
+/// What a command answered, or that there was no memory for it.
+fn leave(answer: Result<Answer, AllocError>, out: &mut [u8], count: &mut usize) -> u8
+    ensures some { IfOk answer (λ a. Puts a out.old out.new count.new result) }
+    ensures none { OnErr answer (IsOutOfMemory out.old out.new count.new result) }
+{
+    match answer {
+        Ok(answer) => put(&answer, out, count),
+        Err(_) => {
+            *count = 0;
+            NO_MEMORY
+        }
+    }
+}
+
+/// What `exchange plan` answers to the text of a batch.
+#[unsafe(no_mangle)]
+pub extern "C" fn exchange_plan(
+    alloc: Global,
+    batch: &[u8],
+    out: &mut [u8],
+    count: &mut usize,
+) -> u8
+    ensures { Leaves (IsPlanned widest batch.now) out.old out.new count.new result }
+{
+    leave(answer_plan_alone(alloc, batch), out, count)
+}
+
+/// What `exchange check` answers to the texts of a batch and of a schedule.
+#[unsafe(no_mangle)]
+pub extern "C" fn exchange_check(
+    alloc: Global,
+    batch: &[u8],
+    schedule: &[u8],
+    out: &mut [u8],
+    count: &mut usize,
+) -> u8
+    ensures { Leaves (IsTheOne (IsChecked widest batch.now schedule.now))
+        out.old out.new count.new result }
+{
+    leave(answer_check(alloc, batch, schedule), out, count)
+}
+
+/// What `exchange draw` answers to the texts of a batch and of a schedule: the picture of all settings.
+#[unsafe(no_mangle)]
+pub extern "C" fn exchange_draw(
+    alloc: Global,
+    batch: &[u8],
+    schedule: &[u8],
+    out: &mut [u8],
+    count: &mut usize,
+) -> u8
+    ensures { Leaves (IsTheOne (IsDrawn widest batch.now schedule.now None))
+        out.old out.new count.new result }
+{
+    leave(answer_draw(alloc, batch, schedule, None), out, count)
+}
+
+/// What `exchange direct` answers to the text of moves.
+#[unsafe(no_mangle)]
+pub extern "C" fn exchange_direct(
+    alloc: Global,
+    moves: &[u8],
+    out: &mut [u8],
+    count: &mut usize,
+) -> u8
+    ensures { Leaves (IsDirected moves.now) out.old out.new count.new result }
+{
+    leave(answer_direct(alloc, moves), out, count)
+}
