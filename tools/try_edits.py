@@ -23,19 +23,19 @@ import time
 
 @dataclasses.dataclass(frozen=True)
 class Function:
-    """A function of a crate: its file, the lines of its body (the first and the last, from 0), and its name as the prover tells it, behind the name of the crate."""
+    """A function of a crate: its file, the lines of its body (the first and the last, from 0), its module, the names that its type may have, and its own."""
 
     file: str
     body: int
     end: int
     module: tuple
-    owner: str
+    owners: frozenset
     name: str
 
     def is_told_as(self, path):
         """Whether the prover may mean this function by this path, wherever its type is declared."""
         parts = path.split("::")
-        return parts[-1] == self.name and (parts[-2] == self.owner if self.owner else tuple(parts[1:-1]) == self.module)
+        return parts[-1] == self.name and (parts[-2] in self.owners if self.owners else tuple(parts[1:-1]) == self.module)
 
 
 @dataclasses.dataclass
@@ -60,15 +60,27 @@ def rt_module():
 # --- Where an edit changes a crate.
 
 
-def owner_of(head):
-    """The name of the type of an `impl`, with that of the trait behind it, as in `HeldLineWire`, or of a `trait`."""
-    bare = head
-    while re.search(r"<[^<>]*>", bare.replace("->", "  ")):
-        bare = re.sub(r"<[^<>]*>", "", bare.replace("->", "  "))
-    words = re.search(r"\b(?:impl|trait)\s+(.*?)\s*(?:\bwhere\b.*)?\{", bare + "{")[1]
+def bare(text):
+    """A type or a trait without its parameters, or more than one of them."""
+    while re.search(r"<[^<>]*>", text):
+        text = re.sub(r"<[^<>]*>", "", text)
+    return text
+
+
+def last_name(path):
+    """The name at the end of a path, without what stands before a lent type."""
+    return re.sub(r"^&\s*('\w+\s+)?(mut\s+)?", "", path.strip()).split("::")[-1].split(":")[0].strip()
+
+
+def owners_of(head):
+    """The names that the prover may give the type of an `impl`, or a `trait`. Those of a trait's impl have the trait behind the type, as in `HeldLineWire`,
+    and the trait's own parameter behind it, as in `FaultFromAllocError`, or in `FaultFromClapError` where that is `clap::Error`."""
+    words = re.search(r"\b(?:impl|trait)\b\s*(?:<.*?>\s+(?!for\b))?(.*?)\s*(?:\bwhere\b.*)?\{", head.replace("->", "  ") + "{")[1]
     trait, _, of = words.partition(" for ")
-    last = lambda it: re.sub(r"^&\s*('\w+\s+)?(mut\s+)?", "", it.strip()).split("::")[-1].split(":")[0].strip()
-    return last(of) + last(trait) if of else last(trait)
+    owner = last_name(bare(of)) + last_name(bare(trait)) if of else last_name(bare(trait))
+    given = re.search(r"<([\w:]+)>$", trait.strip()) if of else None
+    parts = [it[:1].upper() + it[1:] for it in given[1].split("::")] if given else []
+    return frozenset([owner, *(owner + "".join(parts[it:]) for it in range(len(parts)))])
 
 
 def module_of(file):
@@ -88,15 +100,15 @@ def functions_of(file, text):
         if opens and not line.rstrip().endswith(";"):
             head = line if line.rstrip().endswith("{") else " ".join(lines[at : until(lines, at, indent, "{") + 1])
             end = until(lines, at, indent, "}")
-            name = re.match(r".*\bmod (\w+)", line)[1] if opens[1] == "mod" else owner_of(head)
+            name = re.match(r".*\bmod (\w+)", line)[1] if opens[1] == "mod" else owners_of(head)
             around.append((indent, end, opens[1], name))
         begins = re.match(r" *(?:pub(?:\([^)]*\))? )?(?:unsafe )?fn (\w+)", line)
         if begins and not line.rstrip().endswith((";", "}")):
             body = begun(lines, at, indent)
             end = until(lines, body, indent, "}")
             module = module_of(file) + tuple(it[3] for it in around if it[2] == "mod")
-            owner = next((it[3] for it in reversed(around) if it[2] != "mod"), "")
-            found.append(Function(file, body, end, module, owner, begins[1]))
+            owners = next((it[3] for it in reversed(around) if it[2] != "mod"), frozenset())
+            found.append(Function(file, body, end, module, owners, begins[1]))
     return found
 
 

@@ -37,6 +37,12 @@ where
     }
 }
 
+impl From<clap::Error> for Lamp {
+    fn from(fault: clap::Error) -> Lamp {
+        Lamp { lit: fault.is_odd() }
+    }
+}
+
 mod walls {
     pub fn both(
         one: &Lamp,
@@ -60,6 +66,7 @@ EDITS = {
     "two_bodies": "file: src/lamp.rt\nold: Lamp { lit: FIRST }\nnew: Lamp { lit: LAST }\nold: { lit: LAST }\nnew: { lit: true }\nold: self.lit = true;\nnew: self.lit = false;\n",
     "contract": "file: src/lamp.rt\nold: result ≡ 0\nnew: result ≡ 1\n",
     "constant": "file: src/lamp.rt\nold: bool = false;\nnew: bool = true;\n",
+    "from_even": "file: src/lamp.rt\nold: fault.is_odd()\nnew: !fault.is_odd()\n",
     "specs": "file: specs/Lamp.antt\nold: lit\nnew: dark\n",
     "not_there": "file: src/lamp.rt\nold: nowhere\nnew: anywhere\n",
 }
@@ -68,6 +75,7 @@ WANTED = {
     "new_is_lit": {"Lamp::new"},
     "is_dark": {"Lamp::is_lit"},
     "turn_off": {"LampSwitch::turn"},
+    "from_even": {"LampFrom::from"},
     "or": {"and"},
     "and_twice": {"both"},
     "new_twice": {"Lamp::new"},
@@ -91,6 +99,8 @@ CASES = {
     "a method by its type's module": ("fn c::other::Lamp::new: no proof: `search` did not prove `returns`", ["new_is_lit"], ["new_is_lit"], True),
     "a folder of two that call each other": ("./proofs/lamp/Lamp/+turn/Answers.antt:5:35: error: `new-returns`: no proof of `x`\nfn c::lamp::Lamp::new: no proof: its proof is in a folder of several", ["new_is_lit"], ["new_is_lit"], True),
     "such a folder, at another's goal": ("./proofs/lamp/Lamp/+turn/Answers.antt:5:35: error: `is_lit-returns`: no proof of `x`\nfn c::lamp::Lamp::new: no proof: its proof is in a folder of several", ["new_is_lit"], [], False),
+    "a trait with a parameter": ("fn c::lamp::LampFromClapError::from: no proof: `search` did not prove `returns`\nfn c::lamp::LampFromOddError::from: proved", ["from_even"], ["from_even"], True),
+    "the same trait with another one": ("fn c::lamp::LampFromClapError::from: proved\nfn c::lamp::LampFromOddError::from: no proof: `search` did not prove `returns`", ["from_even"], [], False),
     "no verdict": ("fn c::lamp::Lamp::new: no proof: `search` did not prove `returns`\nkilled", ["new_is_lit"], [], False),
 }
 
@@ -107,7 +117,7 @@ def written(folder):
 
 
 def full(function):
-    return f"{function.owner}::{function.name}" if function.owner else function.name
+    return f"{min(function.owners, key=len)}::{function.name}" if function.owners else function.name
 
 
 def main():
@@ -125,7 +135,7 @@ def main():
     if not all(it in text for it in ("!FIRST", "lit = false", "one || other", "one.is_lit(), one.is_lit()")) or text.count("\n") != SOURCE.count("\n"):
         wrong.append("edits of four functions aren't made at once")
     first = [it.name for it in try_edits.next_round([edits[it] for it in WANTED])]
-    if first != [f"{it}.edit" for it in ("new_is_lit", "is_dark", "turn_off", "or", "and_twice")]:
+    if first != [f"{it}.edit" for it in ("new_is_lit", "is_dark", "turn_off", "from_even", "or", "and_twice")]:
         wrong.append(f"the first round is {first}")
     for name, (words, tried, refused, is_believed) in CASES.items():
         said = words if "killed" in words else f"{words}\nlogic=not-proved\n"
