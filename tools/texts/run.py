@@ -11,8 +11,8 @@ A block that begins with ```file NAME isn't run: it is a file of that name for t
 Each command's help begins with an example of one line. It is run too, and has to end well. So is each command in the last column of a table
 whose last column is headed `For example`.
 
-Each link of a document has to lead to a file or folder of the repository, and where it names a heading there, to one. No line but one of a
-table or of a shown text may have more than 100 columns.
+Each link of a document has to lead to a file or folder of the repository, and where it names a heading there, to one. Lines of more than
+100 columns are told, which is no fault; those of tables and of shown texts aren't.
 
 A program that isn't built, or is older than its sources, is proved and built first. Another one is tried where EXCHANGE names it:
 EXCHANGE=other/exchange tools/texts/run.py
@@ -37,7 +37,7 @@ HELPED = ("", "plan", "check", "draw", "switch", "direct", "apply", "run", "serv
 # Any lines, within what a command prints.
 ANY = "..."
 
-# Columns that a line of a document may have.
+# Columns that a line of a document should have at most.
 COLUMNS = 100
 
 # The head of a table's last column, where that has commands to try.
@@ -222,7 +222,7 @@ def tell(names, trial, what, fault):
 def main():
     names = sys.argv[1:] or documents()
     wrong = tell(names, try_links, "links", "lead nowhere")[1]
-    wrong += tell(names, try_columns, "lines", "are too long")[1]
+    tell(names, try_columns, "lines", "are too long")
     if not os.environ.get("EXCHANGE"):
         subprocess.run([f"{TOP}/exchange", "prove"], check=True)
     tried, differing = tell(names, try_document, "commands of documents", "print something else")
