@@ -45,6 +45,25 @@ pub fn position_of(bytes: &[u8], byte: u8) -> Option<usize>
     bytes.iter().position(|b| *b == byte)
 }
 
+/// A number that this byte ends behind one digit or two, and what stands behind the two. Most numbers
+/// of a text are so short; of others, and of a number that ends the text, nothing is said.
+fn short_number_before(bytes: &[u8], end: u8) -> Option<(usize, &[u8])>
+    ensures { IfSome result (λ x. IsNumber x.0 × (bytes.now ≡ number x.0 end ++ x.1.now)) }
+{
+    if bytes.len() < 3 || !bytes[0].is_ascii_digit() {
+        return None;
+    }
+    let tens = usize::from(bytes[0] - b'0');
+    if bytes[1] == end {
+        return Some((tens, &bytes[2..]));
+    }
+    if tens == 0 || !bytes[1].is_ascii_digit() || bytes[2] != end {
+        return None;
+    }
+    let ones = usize::from(bytes[1] - b'0');
+    Some((10 * tens + ones, &bytes[3..]))
+}
+
 /// A number that this byte ends, which is no digit, and what stands behind the two. Takes time that
 /// grows with the number of bytes before the byte.
 pub fn number_before(bytes: &[u8], end: u8) -> Option<(usize, &[u8])>
@@ -52,6 +71,9 @@ pub fn number_before(bytes: &[u8], end: u8) -> Option<(usize, &[u8])>
     ensures some { IfSome result (λ x. IsNumber x.0 × (bytes.now ≡ number x.0 end ++ x.1.now)) }
     ensures none { IfNone result (BeginsWithNoNumber bytes.now end) }
 {
+    if let Some((n, rest)) = short_number_before(bytes, end) {
+        return Some((n, rest));
+    }
     let at = position_of(bytes, end)?;
     let n = number_from_digits(&bytes[..at])?;
     Some((n, &bytes[at + 1..]))
