@@ -3,6 +3,7 @@ pub mod Koenig
 pub mod Users
 pub mod Tables
 pub mod Texts
+pub mod Digits
 pub mod LineBreaks
 pub mod LinkLines
 pub mod Parts

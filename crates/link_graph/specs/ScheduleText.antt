@@ -1,7 +1,7 @@
 -- The text of a schedule, and what a text says. The form is this project's choice.
-use Rattle.std.specs.Prelude.{◌≡◌, ℕ, List, [], ◌∷◌, ◌++◌, length, map, All, Option, Some, None, IfSome, codes, String, string_bytes}
+use Rattle.std.specs.Prelude.{◌≡◌, ℕ, List, [], ◌∷◌, ◌++◌, length, map, All, Option, Some, None, IfSome, codes}
 use Rattle.std.specs.Borrow.{Bor}
-use Rattle.std.specs.Global.{Global}
+use Rattle.std.specs.Global.{Vec}
 use Rattle.std.specs.List.{flat_map}
 use Rattle.std.specs.Option.{option_copied}
 use Rattle.std.specs.Fmt.{decimal}
@@ -13,6 +13,10 @@ use Rattle.link_graph.specs.Links.{IsInRack}
 use Rattle.link_graph.specs.Certificates.{Naming, IsNaming}
 
 -- ---- lines, without their line feeds
+
+-- a number with a space before it
+abbrev pub spaced : ℕ → List ℕ
+spaced t = codes " " ++ decimal t
 
 -- each number with a space before it
 abbrev pub numbers : List ℕ → List ℕ
@@ -99,8 +103,8 @@ abbrev pub text_lent : List (List ℕ) → Option (Bor Naming) → List ℕ
 text_lent settings certificate = text_with settings (option_copied certificate)
 
 -- the new text is the old with these lines at its end
-abbrev pub GrowsBy : String Global → String Global → List (List ℕ) → Type 0
-GrowsBy old new lines = string_bytes new ≡ string_bytes old ++ text_of lines
+abbrev pub GrowsBy : Vec ℕ → Vec ℕ → List (List ℕ) → Type 0
+GrowsBy old new lines = new.items ≡ old.items ++ text_of lines
 
 -- ---- what a text can say
 

@@ -13,6 +13,7 @@ mod graph;
 pub mod laws;
 mod limits;
 mod link;
+mod numbers;
 mod reading;
 mod schedule;
 mod schedule_fault;

@@ -93,7 +93,7 @@ impl Schedule {
         if let Some(certificate) = certificate {
             writing::push_naming(&mut text, certificate.link(), certificate.transfers())?;
         }
-        Ok(text.into_bytes())
+        Ok(text)
     }
 
     /// Reads a schedule's text, as [`write`](Schedule::write) gives it: the schedule, and the
