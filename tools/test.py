@@ -130,20 +130,26 @@ def moved(order, here, there):
             os.rename(f"{here}/{it}/must-fail", f"{there}/{it}/must-fail")
 
 
+def built(crates):
+    """Builds the static libraries among these crates over the libraries that `rt ci` built, and returns the status."""
+    return max((it.build_static(["--jobs", "1"]) for it in crates if it.is_static), default=0)
+
+
 def give_back(order, to):
-    """Puts the programs that were built in the folder at hand, which is a copy, into the clone."""
-    for name in order:
-        here, there = f"crates/{name}/out/{name}", f"{to}/crates/{name}/out/{name}"
-        if os.path.isfile(here):
-            os.makedirs(os.path.dirname(there), exist_ok=True)
-            shutil.copy2(here, f"{there}.new")
-            os.replace(f"{there}.new", there)
+    """Puts the programs and static libraries that were built in the folder at hand, which is a copy, into the clone."""
+    for crate in order:
+        for name in (crate, f"lib{crate}.a"):
+            here, there = f"crates/{crate}/out/{name}", f"{to}/crates/{crate}/out/{name}"
+            if os.path.isfile(here):
+                os.makedirs(os.path.dirname(there), exist_ok=True)
+                shutil.copy2(here, f"{there}.new")
+                os.replace(f"{there}.new", there)
 
 
-def try_edits_of(rt):
-    """Tries all edits of the crates in the folder at hand, and returns the status."""
+def try_edits_of(rt, crates):
+    """Tries all edits of these crates, and returns the status."""
     began = time.time()
-    refused, others = try_edits.try_all(rt, rt.crates_of(os.getcwd()), is_kept=False, say=lambda it: print(it, flush=True))
+    refused, others = try_edits.try_all(rt, crates, lambda it: "", say=lambda it: print(it, flush=True))
     print(f"must-fail edits: {refused} refused, {len(others)} not{': ' + ' '.join(others) if others else ''}; {time.time() - began:.0f} seconds by the clock", flush=True)
     return 1 if others else 0
 
@@ -161,15 +167,18 @@ def try_programs():
     return 0, taken
 
 
-def tested(rt, order, aside, meter):
-    """Runs `rt ci`, and tries the edits, which lie aside, in the folder at hand. Returns the status."""
+def tested(rt, order, room, meter):
+    """Runs `rt ci`, and tries the edits, which lie in the room, in the folder at hand. Returns the status."""
     plain, subprocess.Popen = subprocess.Popen, counted(meter)
     try:
         began = time.time()
         status = rt.main(["ci"])
         print(f"`rt ci`: {time.time() - began:.0f} seconds by the clock", flush=True)
-        moved(order, aside, "crates")
-        return status or try_edits_of(rt)
+        moved(order, f"{room}/edits", "crates")
+        if status:
+            return status
+        crates = rt.crates_of(os.getcwd())
+        return built(crates) or try_edits_of(rt, crates)
     finally:
         subprocess.Popen = plain
 
@@ -184,7 +193,7 @@ def main(words):
         signal.signal(signal.SIGUSR1, lambda number, frame: print("\n".join(table(meter, order)), flush=True))
         os.chdir(f"{room}/copy")
         moved(order, "crates", f"{room}/edits")
-        status = tested(try_edits.rt_module(), order, f"{room}/edits", meter)
+        status = tested(try_edits.rt_module(), order, room, meter)
         if not status and not names:
             give_back(order, top)
             status, taken = try_programs()

@@ -295,11 +295,11 @@ def alone(rt, crate, name, kept):
 
 
 def tried(rt, crate, start, say):
-    """Tries all edits of a crate, begun with what the folder start holds, if there is one: for each its name, whether it is refused, and what to say."""
+    """Tries all edits of a crate, begun with what the folder start holds, if it is there: for each its name, whether it is refused, and what to say."""
     edits, results = edits_of(crate.folder, texts_of(crate.folder)), []
     with tempfile.TemporaryDirectory(prefix=f"rt-edits-{os.getpid()}-") as room:
         kept = f"{room}/kept"
-        if start and os.path.isdir(start):
+        if os.path.isdir(start):
             rt.linked(start, kept)
         else:
             os.mkdir(kept)
@@ -311,13 +311,13 @@ def tried(rt, crate, start, say):
     return results + [(it, False, f"{crate.name}/{it}: BAD EDIT: an edit stands right in must-fail/, and its name ends in .edit") for it in strange]
 
 
-def try_all(rt, crates, is_kept, say=print):
-    """Tries the edits of these crates, as many crates at once as there are processors and memory, and returns how many are refused, and the names of the others."""
+def try_all(rt, crates, kept_of, say=print):
+    """Tries the edits of these crates, each begun with what the folder that kept_of names holds, if it is there, as many crates at once as there are
+    processors and memory. Returns how many are refused, and the names of the others."""
     tasks = {}
     for crate in crates:
         if os.path.isdir(f"{crate.folder}/must-fail"):
-            start = f"{crate.folder}/out/incremental" if is_kept else None
-            tasks[crate.name, "edits"] = ([], crate.count(rb"\n"), rt.need(crate), lambda given, jobs, crate=crate, start=start: tried(rt, crate, start, say))
+            tasks[crate.name, "edits"] = ([], crate.count(rb"\n"), rt.need(crate), lambda given, jobs, crate=crate: tried(rt, crate, kept_of(crate), say))
     refused, others = 0, []
     for (name, _), results in rt.in_lanes(tasks).items():
         for edit, is_refused, said in results:
@@ -341,7 +341,7 @@ def main(names):
         for below in crate.below():
             if not below.is_built() and below.build_rlib(["--jobs", "1"], anew=False):
                 sys.exit(f"try_edits: {below.name}, on which {crate.name} stands, isn't proved")
-    refused, others = try_all(rt, crates, is_kept=True)
+    refused, others = try_all(rt, crates, lambda it: f"{it.folder}/out/incremental")
     print(f"must-fail edits: {refused} refused, {len(others)} not{': ' + ' '.join(others) if others else ''}")
     return 1 if others else 0
 
