@@ -11,4 +11,5 @@ pub mod FirstSeen
 pub mod Joined
 pub mod Removed
 pub mod Smallest
+pub mod Starting
 pub mod Singles

@@ -2,7 +2,7 @@
 use Rattle.std.proofs.Common.{◌≡◌, ℕ, zero, suc, ◌+◌, ◌-◌, ◌*◌, ◌<◌, ◌≤◌, ◌↔◌, inl, inr, List, [], ◌∷◌, length, map, get_or, Option, Some, None, is_some, Bool, true, false, cond, count_by, refl, sym, ap, ◌∙◌, subst, arith, add-one, take, drop, below_more, eq-eqb}
 use Rattle.std.specs.Prelude.{◌==◌, Contains}
 use Rattle.std.specs.List.{filter_map}
-use Rattle.std.proofs.lemmas.List.{take_all, get_or-take, get_or-drop, length-take, length-drop}
+use Rattle.std.proofs.lemmas.List.{take_all, get_or-take, get_or-drop, length-take}
 use Rattle.std.proofs.lemmas.List.Sums.{sum_by-cons, count_by_more_yes, count_by_more_no}
 use Rattle.std.proofs.lemmas.Option.{same_Some, none-some}
 use Rattle.std.proofs.lemmas.Bool.{cases_Bool, eqb-true, false≢true}
@@ -16,8 +16,8 @@ use Rattle.link_graph.specs.Certificates.{AreDistinct}
 use Rattle.alternating_path.specs.Colouring.{Colouring, colour_at}
 use Rattle.link_graph.specs.Counts.{count_below}
 use Rattle.alternating_path.specs.Classes.{is_colour, class_size, placed_count, without_colour, IsSmallestClass, IsTakenBack}
-use Rattle.alternating_path.specs.Cells.{place_at, holder_at, AreCellsOf, AreStarts}
-use Rattle.alternating_path.proofs.Links.{start_low, answer_high}
+use Rattle.alternating_path.specs.Cells.{place_at, holder_at, AreCellsOf, StartBelow, AreStarts}
+use Rattle.alternating_path.proofs.Links.{answer_high}
 use Rattle.alternating_path.proofs.Writes.{some_within}
 use Rattle.alternating_path.proofs.Held.{count_below_same, as_many}
 
@@ -98,20 +98,17 @@ row_counts s c row starts =
     let n = length s.colour in
     let p : ℕ → Option ℕ = λ t. place_if (is_colour c (colour_at s.colour t)) (place_at s.batch t Zero) in
     let tests = count_below_same n (λ t. is_colour c (colour_at s.colour t)) (λ t. is_some (p t)) (λ t _. elim (is_colour c (colour_at s.colour t)) as (λ b. b ≡ is_some (cond b (Some (place_at s.batch t Zero)) None)) [ true ↦ refl | false ↦ refl ]) in
-    let matched = as_many n MAX_MODULES p (λ m. get_or row m None)
+    let matched = as_many n (length row) p (λ m. get_or row m None)
     (λ t m t_in at.
     let both = if_some (is_colour c (colour_at s.colour t)) (place_at s.batch t Zero) m at in
     let held : get_or row m None ≡ Some t = subst (λ (i : ℕ). get_or row i None ≡ Some t) both.1 (starts.held t (colour_yes c _ both.0)) in
-    let within = some_within row m t held in
-    let sized = starts.sized in
-    (omega arith, held))
+    (some_within row m t held, held))
     (λ m t m_in at.
     let b = starts.back m t at in
     (some_within s.colour t c b.0, rw (yes_colour c _ b.0) (ap Some b.1))) in
     let counted = counted_upto row (length row) (omega arith) in
     let all = ap (count_by is_some) (take_all (length row) row (omega arith)) in
-    let sized = ap (λ k. count_below k (λ m. is_some (get_or row m None))) starts.sized in
-    sym all ∙ (sym counted ∙ (sized ∙ (sym matched ∙ sym tests)))
+    sym all ∙ (sym counted ∙ (sym matched ∙ sym tests))
 
 -- ---- a smallest class
 
@@ -181,23 +178,19 @@ at_start : (g : List Transfer) (t m : ℕ) (e : End) → m < MAX_MODULES → pla
 at_start g t m Zero m_in at = at
 at_start g t m Three m_in at = let high = answer_high g t in absurd (omega arith)
 
-module _ (s : Colouring) (h : List (Option ℕ)) (c : ℕ) (x : AreCellsOf s.batch s.colours s.colour h) (c_in : c < s.colours) where
-  row_at : (m : ℕ) → m < MAX_MODULES → get_or (take MAX_MODULES (drop (c * LINKS) h)) m None ≡ holder_at h c m
-  row_at m m_in = get_or-take MAX_MODULES (drop (c * LINKS) h) m None m_in ∙ get_or-drop (c * LINKS) h m None
+module _ (s : Colouring) (h : List (Option ℕ)) (c : ℕ) (x : AreCellsOf s.batch s.colours s.colour h) (n : ℕ) (few : n ≤ MAX_MODULES) (all : StartBelow s.batch n) where
+  row_at : (m : ℕ) → m < n → get_or (take n (drop (c * LINKS) h)) m None ≡ holder_at h c m
+  row_at m m_in = get_or-take n (drop (c * LINKS) h) m None m_in ∙ get_or-drop (c * LINKS) h m None
 
-  pub starts_are : AreStarts s c (take MAX_MODULES (drop (c * LINKS) h))
-  starts_are =
-      let rows = x.rows in
-      let sized : length (take MAX_MODULES (drop (c * LINKS) h)) ≡ MAX_MODULES = omega (arith, length-take MAX_MODULES (drop (c * LINKS) h), length-drop (c * LINKS) h) in
-      record {
-        sized = sized;
-        held = λ t at. row_at (place_at s.batch t Zero) (start_low s.batch t x.is_batch) ∙ x.held t c Zero at;
-        back = λ m t at.
-            let within = some_within (take MAX_MODULES (drop (c * LINKS) h)) m t at in
-            let m_in : m < MAX_MODULES = omega arith in
-            let b = x.back c m t (omega arith) (sym (row_at m m_in) ∙ at) in
-            (b.0, at_start s.batch t m b.1.0 m_in b.1.1);
-      }
+  pub starts_are : AreStarts s c (take n (drop (c * LINKS) h))
+  starts_are = record {
+    held = λ t at. row_at (place_at s.batch t Zero) (all t (rw (← x.sized) (some_within s.colour t c at))) ∙ x.held t c Zero at;
+    back = λ m t at.
+        let within = some_within (take n (drop (c * LINKS) h)) m t at in
+        let m_in : m < n = omega (arith, length-take n (drop (c * LINKS) h)) in
+        let b = x.back c m t (omega arith) (sym (row_at m m_in) ∙ at) in
+        (b.0, at_start s.batch t m b.1.0 (omega arith) b.1.1);
+  }
 
 -- ---- what is taken back
 

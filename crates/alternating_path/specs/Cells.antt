@@ -3,7 +3,6 @@
 use Rattle.std.specs.Prelude.{◌≡◌, ◌≢◌, ℕ, zero, suc, ◌+◌, ◌*◌, ◌<◌, ◌≤◌, List, length, map, Option, Some, None, Bool, false, ◌==◌, cond, slice_index_or}
 use Rattle.std.specs.List.{range_with_len}
 use Rattle.batch.specs.Batches.{IsBatch}
-use Rattle.batch.specs.declared.limits.TheConstants.{MAX_MODULES}
 use Rattle.batch.specs.declared.transfer.Transfer.{Transfer}
 use Rattle.link_graph.specs.declared.limits.TheConstants.{LINKS}
 use Rattle.link_graph.specs.declared.link.End.{End}
@@ -70,9 +69,12 @@ abbrev pub MovesRowsUp : ℕ → List (Option ℕ) → List (Option ℕ) → Typ
 MovesRowsUp c old new =
     (i : ℕ) → c * LINKS ≤ i → slice_index_or new i None ≡ slice_index_or old (i + LINKS) None
 
+-- all transfers start at the first n modules
+abbrev pub StartBelow : List Transfer → ℕ → Type 0
+StartBelow batch n = (t : ℕ) → t < length batch → place_at batch t Zero < n
+
 -- the transfers of colour c, each at the module whose link 0 it uses
 pub record AreStarts (s : Colouring) (c : ℕ) (row : List (Option ℕ)) : Type 0 where
-  pub sized : length row ≡ MAX_MODULES
   pub held : (t : ℕ) → colour_at s.colour t ≡ Some c
       → slice_index_or row (place_at s.batch t Zero) None ≡ Some t
   pub back : (m t : ℕ) → slice_index_or row m None ≡ Some t

@@ -11,7 +11,13 @@ use std::alloc::{AllocError, Global};
 pub(crate) fn class_size(starts: &[Option<u16>]) -> usize
     ensures { result ≡ count_by is_some starts.now }
 {
-    starts.iter().filter(|holder| holder.is_some()).count()
+    let mut size = 0;
+    for holder in starts {
+        if holder.is_some() {
+            size += 1;
+        }
+    }
+    size
 }
 
 /// The transfers of the cells, in order.

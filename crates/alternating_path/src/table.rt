@@ -8,14 +8,14 @@ ghost use Rattle.link_graph.specs.Uses.{Uses, IsMatching};
 ghost use Rattle.alternating_path.specs.Colouring.{colour_at, IsPlaced, nothing_placed, IsProperTable, IsFreeAt, TakesAt, with_colour, PlacesOnly, PlacesJust, ArePlacedApart, counted, IsJoined};
 ghost use Rattle.alternating_path.specs.Classes.{AreClassesOf, ScheduleIfAll, class_size, IsSmallestClass, IsTakenBack};
 ghost use Rattle.alternating_path.specs.Counts.{placed_uses_at, IsShutOut};
-ghost use Rattle.alternating_path.specs.Cells.{place_at, AreStarts};
+ghost use Rattle.alternating_path.specs.Cells.{place_at, StartBelow, AreStarts};
 
 use crate::classes::classes;
 use crate::coloured::Coloured;
 use crate::fault::InsertFault;
 use crate::rows::{class_of, class_size, note_class, remove_row};
 use batch::{MAX_MODULES, MAX_TRANSFERS};
-use link_graph::{End, LINKS, LinkGraph};
+use link_graph::{End, LINKS, Link, LinkGraph};
 use std::alloc::{AllocError, Global};
 use std::marker::Model;
 
@@ -289,9 +289,20 @@ impl<'a> Table<'a> {
         requires { colour < self.now.colours }
         ensures { AreStarts self.now colour result.now }
     {
+        prove!(self.graph.len() <= MAX_TRANSFERS);
+        self.starts_below(colour, MAX_MODULES)
+    }
+
+    /// The same, where all transfers start at the first so many modules.
+    fn starts_below(&self, colour: usize, modules: usize) -> &[Option<u16>]
+        requires in_range { colour < self.now.colours }
+        requires few { modules ≤ MAX_MODULES }
+        requires all { StartBelow self.now.batch modules }
+        ensures { AreStarts self.now colour result.now }
+    {
         let cells = self.cells.as_slice();
         let start = colour * LINKS;
-        &cells[start..start + MAX_MODULES]
+        &cells[start..start + modules]
     }
 
     /// The schedule of the colour classes that hold something, in the order of their least numbers;
@@ -318,8 +329,9 @@ impl<'a> Table<'a> {
     {
         let count = self.graph.len();
         let mut list = vec![in alloc; None; count]?;
+        let modules = starting_modules(self.graph);
         for colour in 0..self.colours {
-            note_class(&mut list, self.starts(colour), colour);
+            note_class(&mut list, self.starts_below(colour, modules), colour);
         }
         Ok(list)
     }
@@ -415,6 +427,25 @@ impl<'a> Table<'a> {
         }
         self.put_in(hand, colour);
     }
+}
+
+/// How many modules there are up to the last at which a transfer starts.
+fn starting_modules(graph: &LinkGraph) -> usize
+    requires { IsBatch graph.now }
+    ensures few { result ≤ MAX_MODULES }
+    ensures all { StartBelow graph.now result }
+{
+    let mut count = 0;
+    for module in 0..MAX_MODULES {
+        let link = Link {
+            end: End::Zero,
+            module,
+        };
+        if graph.uses(link) > 0 {
+            count = module + 1;
+        }
+    }
+    count
 }
 
 /// The place in a row of the link that transfer `t` uses at an end.

@@ -48,7 +48,7 @@ members_upto batch (suc i) le =
     let longer : take (suc i) batch ≡ take i batch ++ x ∷ [] = rw (add-one i) at (take_more batch i no_transfer lt) in
     more ∙ (ap (λ (xs : List Transfer). xs ++ x ∷ []) (members_upto batch i (omega arith)) ∙ sym longer)
 
-all_members : (batch : List Transfer) → members batch (all_of batch) ≡ batch
+pub all_members : (batch : List Transfer) → members batch (all_of batch) ≡ batch
 all_members batch =
     ap (members batch) (sym (take_all (length batch) (all_of batch) (omega (arith, length-range_with_len 0 (length batch)))))
     ∙ (members_upto batch (length batch) (omega arith) ∙ take_all (length batch) batch (omega arith))

@@ -1,7 +1,8 @@
 //! Shortest schedules.
 
-ghost use Rattle.std.specs.Prelude.{◌≡◌, ◌≤◌, ◌<◌, ℕ, IfOk, length};
+ghost use Rattle.std.specs.Prelude.{◌≡◌, ◌≤◌, ◌<◌, ℕ, IfOk, IfSome, length};
 ghost use Rattle.std.specs.List.{range_with_len};
+ghost use Rattle.schedule_certificate.specs.Parts.{IsDegree};
 ghost use Rattle.schedule_certificate.specs.Plans.{NamesBusiest, IsPlan, IsColoured, HasFewReinsertions};
 
 use crate::colouring::colour_copy;
@@ -22,6 +23,16 @@ pub(crate) fn all_transfers(alloc: Global, graph: &LinkGraph) -> Result<Vec<usiz
     (0..graph.len()).collect(alloc)
 }
 
+/// How many transfers use the busiest link, where there is one.
+fn degree_of_all(graph: &LinkGraph) -> Option<usize>
+    ensures { IfSome result (IsDegree graph.now) }
+{
+    let Some(link) = graph.busiest() else {
+        return None;
+    };
+    Some(graph.uses(link))
+}
+
 /// The schedule of a colouring of all transfers with as many colours as the busiest link has uses.
 fn colour_all<R: Threads + Sync, G: Gate>(
     rt: &R,
@@ -33,7 +44,8 @@ fn colour_all<R: Threads + Sync, G: Gate>(
     ensures { IfOk result (λ coloured. IsColoured graph.now coloured) }
 {
     let all = all_transfers(alloc, graph)?;
-    let table = colour_copy(rt, gate, workers, alloc, graph, &all, None, 0)?;
+    let degree = degree_of_all(graph);
+    let table = colour_copy(rt, gate, workers, alloc, graph, &all, degree, 0)?;
     let coloured = table.into_schedule()?;
     Ok(coloured)
 }
