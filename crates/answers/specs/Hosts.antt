@@ -10,9 +10,9 @@ use Rattle.module_memory.specs.Store.{Store}
 use Rattle.client_session.specs.declared.fault.ServeFault.{ServeFault}
 use Rattle.answers.specs.declared.attended.Ending.{Ending}
 use Rattle.answers.specs.declared.attended.Ending.TheVariants.{Unopened, Served}
-use Rattle.answers.specs.Openings.{IsOfImageOrZeros, IsWrongImage}
+use Rattle.rack_answers.specs.Openings.{IsOfImageOrZeros, IsWrongImage}
 use Rattle.plan_answers.specs.Refusals.{Printed, IsRefused}
-use Rattle.answers.specs.Refusals.{image_words}
+use Rattle.rack_answers.specs.Refusals.{image_words}
 use Rattle.answers.specs.Histories.{Part, IsClosing}
 use Rattle.answers.specs.Sessions.{IsAttended}
 use Rattle.answers.specs.Talking.{end_line}

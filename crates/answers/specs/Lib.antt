@@ -1,9 +1,3 @@
-pub mod Refusals
-pub mod Reports
-pub mod Openings
-pub mod Answers
-pub mod Tellings
-pub mod Switching
 pub mod Histories
 pub mod Frames
 pub mod Sessions
@@ -16,3 +10,8 @@ pub use Rattle.batch.specs.Extent
 pub use Rattle.plan_answers.specs.declared.limits
 pub use Rattle.plan_answers.specs.Drawings
 pub use Rattle.plan_answers.specs.Directing
+pub use Rattle.rack_answers.specs.Answers
+pub use Rattle.rack_answers.specs.Openings
+pub use Rattle.rack_answers.specs.Refusals
+pub use Rattle.rack_answers.specs.Reports
+pub use Rattle.rack_answers.specs.Switching

@@ -5,9 +5,9 @@ use Rattle.batch.specs.ShapeText.{DenotesShape, IsBadShape}
 use Rattle.module_memory.specs.declared.fault.ImageFault.{ImageFault}
 use Rattle.module_memory.specs.Store.{Store}
 use Rattle.client_session.specs.declared.fault.ServeFault.{ServeFault}
-use Rattle.answers.specs.Openings.{IsOfImageOrZeros, IsWrongImage}
+use Rattle.rack_answers.specs.Openings.{IsOfImageOrZeros, IsWrongImage}
 use Rattle.plan_answers.specs.Refusals.{Printed, IsRefused}
-use Rattle.answers.specs.Refusals.{image_words}
+use Rattle.rack_answers.specs.Refusals.{image_words}
 use Rattle.answers.specs.Frames.{Transcript, ended_line}
 use Rattle.answers.specs.Histories.{IsClosing}
 use Rattle.answers.specs.Sessions.{IsAttended}

@@ -3,7 +3,8 @@
 //!
 //! Each `answer_` function reads its texts, does what the command asks for, and gives an [`Answer`]:
 //! what was asked for, or the line of the refusal of what is first wrong. It reads no file and prints
-//! nothing. Those of the commands that need no rack are [`plan_answers`]'s.
+//! nothing. Those of the commands that need no rack are [`plan_answers`]'s, and those of `run`, `apply` and
+//! `switch` [`rack_answers`]'s.
 #![tactic(auto)]
 
 mod all_there;
@@ -13,14 +14,8 @@ mod frames;
 mod hall;
 mod hosting;
 mod latch;
-mod opening;
-mod refusal;
-mod report;
-mod running;
-mod running_fault;
 mod serving;
 mod session;
-mod switching;
 mod talking;
 
 pub use all_there::AllThere;
@@ -33,8 +28,6 @@ pub use plan_answers::{
     Answer, CheckingFault, DONE, DrawingFault, REFUSED, WorkerCount, answer_check, answer_direct,
     answer_draw, answer_plan,
 };
-pub use running::{answer_apply, answer_run};
-pub use running_fault::RunningFault;
+pub use rack_answers::{RunningFault, answer_apply, answer_run, answer_switch};
 pub use serving::answer_serve;
-pub use switching::answer_switch;
 pub use talking::answer_talk;

@@ -10,8 +10,6 @@ ghost use Rattle.answers.specs.Serving.{HasItsScript, AreServed, IsServeAnswer};
 
 use crate::frames::{frame, has_fault};
 use crate::hall::{PlainExchange, attend, finish, open_exchange};
-use crate::opening::opening_rack;
-use crate::refusal::image_words;
 use crate::session::Session;
 use batch::Shape;
 use batch_book::Seat;
@@ -19,6 +17,7 @@ use exchange_limits::{MAX_SESSIONS, WorkerCount};
 use module_memory::Rack;
 use plan_answers::Answer;
 use progress_word::ALL_PARTS;
+use rack_answers::{image_words, opening_rack};
 use std::alloc::{AllocError, Global};
 use std::marker::Brand;
 use std::sync::Wait;

@@ -8,14 +8,13 @@ ghost use Rattle.answers.specs.Talking.{end_line, HasTalked, IsTalkAnswer};
 
 use crate::frames::ended_line;
 use crate::hall::{attend, finish, open_exchange};
-use crate::opening::opening_rack;
-use crate::refusal::image_words;
 use batch::Shape;
 use client_session::ServeFault;
 use exchange_limits::WorkerCount;
 use module_memory::Rack;
 use plan_answers::Answer;
 use progress_word::ALL_PARTS;
+use rack_answers::{image_words, opening_rack};
 use std::alloc::{AllocError, Global};
 use std::io::{Read, Write};
 use std::marker::Brand;

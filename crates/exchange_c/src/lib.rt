@@ -11,11 +11,13 @@ ghost use Rattle.batch.specs.Extent.{widest};
 ghost use Rattle.plan_answers.specs.Answers.{IsPlanned, IsChecked};
 ghost use Rattle.plan_answers.specs.Directing.{IsDirected};
 ghost use Rattle.plan_answers.specs.Drawings.{IsDrawn};
+ghost use Rattle.rack_answers.specs.Switching.{IsSwitched};
 ghost use Rattle.exchange_c.specs.Writing.{Puts, IsOutOfMemory, Leaves, IsTheOne};
 
 mod status;
 
 use plan_answers::{Answer, answer_check, answer_direct, answer_draw, answer_plan_alone};
+use rack_answers::answer_switch_alone;
 pub use status::{NO_MEMORY, NO_ROOM};
 use std::alloc::{AllocError, Global};
 
@@ -73,6 +75,19 @@ pub extern "C" fn exchange_check(
         out.old out.new count.new result }
 {
     leave(answer_check(alloc, batch, schedule), out, count)
+}
+
+/// What `exchange switch` answers to the text of a batch.
+#[unsafe(no_mangle)]
+pub extern "C" fn exchange_switch(
+    alloc: Global,
+    batch: &[u8],
+    out: &mut [u8],
+    count: &mut usize,
+) -> u8
+    ensures { Leaves (IsSwitched widest batch.now) out.old out.new count.new result }
+{
+    leave(answer_switch_alone(alloc, batch), out, count)
 }
 
 /// What `exchange draw` answers to the texts of a batch and of a schedule: the picture of all settings.

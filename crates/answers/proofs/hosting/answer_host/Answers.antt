@@ -1,6 +1,6 @@
 use Rattle.std.proofs.Common.{◌≡◌, ◌∙◌, refl}
 use Rattle.std.proofs.lemmas.Result.{IfOk-weaker}
-use Rattle.answers.specs.Refusals.{image_words}
+use Rattle.rack_answers.specs.Refusals.{image_words}
 use Rattle.answers.specs.Hosts.{opened, image_refused}
 use Rattle.answers.proofs.Sessions.{both}
 use Rattle.answers.proofs.hosting.answer_host.Goals as goal

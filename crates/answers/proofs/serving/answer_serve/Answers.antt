@@ -2,7 +2,7 @@ use Rattle.std.proofs.Common.{◌≡◌, map, ◌∙◌}
 use Rattle.std.proofs.lemmas.Result.{IfOk-weaker}
 use Rattle.plan_answers.specs.Lent.{bytes_of}
 use Rattle.plan_answers.specs.Refusals.{IsRefused}
-use Rattle.answers.specs.Refusals.{image_words}
+use Rattle.rack_answers.specs.Refusals.{image_words}
 use Rattle.answers.specs.Serving.{AreServed, IsServeAnswer, served, image_refused}
 use Rattle.answers.proofs.serving.answer_serve.Goals as goal
 

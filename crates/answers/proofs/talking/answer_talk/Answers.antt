@@ -3,7 +3,7 @@ use Rattle.std.proofs.KnownBytes.{Appends-nil}
 use Rattle.std.proofs.lemmas.Result.{IfOk-weaker}
 use Rattle.plan_answers.specs.Lent.{bytes_of}
 use Rattle.plan_answers.specs.Refusals.{IsRefused}
-use Rattle.answers.specs.Refusals.{image_words}
+use Rattle.rack_answers.specs.Refusals.{image_words}
 use Rattle.answers.specs.Talking.{HasTalked, IsTalkAnswer, talked, image_refused}
 use Rattle.answers.proofs.talking.answer_talk.Goals as goal
 

@@ -1,9 +1,0 @@
--- What each of two commands prints of a run.
-use Rattle.answers.specs.declared.running.Telling.{Telling}
-use Rattle.answers.specs.declared.running.Telling.TheVariants.{Report, Image}
-use Rattle.answers.specs.Answers.{Told, image_alone}
-use Rattle.answers.specs.Reports.{report_of}
-
-abbrev pub told_by : Telling → Told
-told_by Report = report_of
-told_by Image = image_alone

@@ -1,0 +1,5 @@
+pub mod OneRun
+pub mod Reporting
+pub mod Fewest
+pub mod Switches
+pub mod Openings

@@ -1,0 +1,61 @@
+use Rattle.std.proofs.Common.{ℕ, List, Option}
+use Rattle.std.proofs.lemmas.Result.{err_from_is_err_and, IfOk-weaker, IfErr-weaker}
+use Rattle.rack_answers.specs.Answers.{IsResultOf, IsResult, IsWrongOf, IsFirstRunWrong}
+use Rattle.plan_answers.specs.Lent.{bytes_of}
+use Rattle.rack_answers.specs.Tellings.{told_by}
+use Rattle.rack_answers.specs.Refusals.{IsRealRunning}
+use Rattle.batch.specs.declared.transfer.Transfer.{Transfer}
+use Rattle.batch.specs.Extent.{Extent}
+use Rattle.batch.specs.ShapeText.{DenotesShape}
+use Rattle.batch.specs.Text.{Denotes}
+use Rattle.rack_answers.specs.declared.running_fault.RunningFault.{RunningFault}
+use Rattle.rack_answers.specs.declared.running_fault.RunningFault.TheVariants as running
+use Rattle.rack_answers.proofs.Fewest.{fewest_settings, fits_in}
+use Rattle.rack_answers.proofs.running.tell_run.Goals as goal
+
+-- what is wrong with the transfers that the batch text denotes is wrong with the texts
+first_wrong : (shape batch : List ℕ) (image : Option (List ℕ)) (extent : Extent) (ts : List Transfer) → DenotesShape shape extent → Denotes extent batch ts → (fault : RunningFault) → IsWrongOf extent image ts fault → IsFirstRunWrong shape batch image fault
+first_wrong shape batch image extent ts is_shape is_batch running.Shape wrong = absurd wrong
+first_wrong shape batch image extent ts is_shape is_batch (running.Batch fault) wrong = absurd wrong
+first_wrong shape batch image extent ts is_shape is_batch (running.Image fault) wrong = (extent, ts, is_shape, is_batch, wrong)
+first_wrong shape batch image extent ts is_shape is_batch (running.Overlap i j) wrong = (extent, ts, is_shape, is_batch, wrong.0, wrong.1)
+first_wrong shape batch image extent ts is_shape is_batch running.NoMemory wrong = wrong
+
+pub returns-in_err-batch-clause-wrong : goal.returns-in_err-batch-clause-wrong
+returns-in_err-batch-clause-wrong g c =
+    let p = err_from_is_err_and c.from_residual-in_err-batch.result c.from_residual-in_err-batch.ensures.1 in
+    rw (p.1, p.2) (λ real. (c.in_ok-shape.shape, c.in_ok-shape.ensures.shape, c.in_err-batch.ensures.fault real))
+
+pub tell_plan-requires-clause-fits : goal.tell_plan-requires-clause-fits
+tell_plan-requires-clause-fits g c κs within =
+    rw c.in_ok-planned.ensures.batch (fits_in c.in_ok-shape.shape c.args.batch.now c.in_ok-batch.batch c.in_ok-batch.ensures.batch)
+
+pub returns-clause-result : goal.returns-clause-result
+returns-clause-result g c =
+    let plan = c.in_ok-planned.planned in
+    let same = c.in_ok-planned.ensures.batch in
+    let told = told_by c.args.telling in
+    let image = bytes_of c.args.image in
+    IfOk-weaker c.tell_plan.result (λ text. IsResultOf told c.in_ok-shape.shape image plan text.items) (λ text. IsResult told c.args.shape.now c.args.batch.now image text.items)
+    (λ text is. record {
+      extent = c.in_ok-shape.shape;
+      transfers = plan.batch;
+      opening = is.opening;
+      placed = is.placed;
+      settings = _;
+      shape_read = c.in_ok-shape.ensures.shape;
+      batch_read = rw same c.in_ok-batch.ensures.batch;
+      apart = is.apart;
+      is_opening = is.is_opening;
+      is_placed = is.is_placed;
+      fewest = fewest_settings plan c.in_ok-planned.ensures.plan;
+      printed = is.printed;
+    }) c.tell_plan.ensures.result
+
+pub returns-clause-wrong : goal.returns-clause-wrong
+returns-clause-wrong g c =
+    let same = c.in_ok-planned.ensures.batch in
+    let image = bytes_of c.args.image in
+    let batch : Denotes c.in_ok-shape.shape c.args.batch.now c.in_ok-planned.planned.batch = rw same c.in_ok-batch.ensures.batch in
+    IfErr-weaker c.tell_plan.result (λ e. IsRealRunning e → IsWrongOf c.in_ok-shape.shape image c.in_ok-planned.planned.batch e) (λ e. IsRealRunning e → IsFirstRunWrong c.args.shape.now c.args.batch.now image e)
+    (λ e wrong real. first_wrong c.args.shape.now c.args.batch.now image c.in_ok-shape.shape c.in_ok-planned.planned.batch c.in_ok-shape.ensures.shape batch e (wrong real)) c.tell_plan.ensures.wrong

@@ -1,0 +1,17 @@
+use Rattle.std.proofs.lemmas.Result.{IfOk-weaker}
+use Rattle.batch.specs.Extent.{widest}
+use Rattle.plan_answers.specs.Refusals.{RefusesBatch}
+use Rattle.rack_answers.specs.Switching.{TellsSwitch, IsSwitched, switched, unplanned}
+use Rattle.rack_answers.proofs.switching.answer_switch.Goals as goal
+
+pub returns-in_ok-planned-in-Ok : goal.returns-in_ok-planned-in-Ok
+returns-in_ok-planned-in-Ok g c =
+    let plan = c.in_ok-planned-in-Ok.planned in
+    let its = c.in_ok-planned-in-Ok.ensures in
+    IfOk-weaker c.tell.result (TellsSwitch plan) (IsSwitched widest c.args.batch.now)
+    (λ p tells. switched plan (rw its.batch c.in-Ok.ensures.batch) its.plan its.reinserted tells.0 tells.1) c.tell.ensures
+
+pub returns-in-Err : goal.returns-in-Err
+returns-in-Err g c =
+    IfOk-weaker c.refuse_batch.result (RefusesBatch c.in-Err.fault) (IsSwitched widest c.args.batch.now)
+    (λ p is. unplanned c.in-Err.fault (c.in-Err.ensures.fault is.0) is.1) c.refuse_batch.ensures

@@ -1,0 +1,97 @@
+-- What `run` and `apply` answer.
+use Rattle.std.specs.Prelude.{◌≡◌, ℕ, List, length, Option}
+use Rattle.batch.specs.declared.transfer.Transfer.{Transfer}
+use Rattle.batch.specs.Extent.{Extent}
+use Rattle.batch.specs.Text.{Denotes}
+use Rattle.batch.specs.Faults.{IsFirstFault}
+use Rattle.batch.specs.Overlap.{IsApart, IsFirstOverlap}
+use Rattle.batch.specs.ShapeText.{DenotesShape, IsBadShape}
+use Rattle.module_memory.specs.Store.{Store}
+use Rattle.module_memory.specs.Images.{image_of}
+use Rattle.module_memory.specs.Core.{IsPlaced}
+use Rattle.schedule_certificate.specs.Plans.{Plan}
+use Rattle.schedule_certificate.specs.Parts.{IsDegree}
+use Rattle.plan_answers.specs.declared.limits.TheConstants.{DONE}
+use Rattle.rack_answers.specs.declared.running_fault.RunningFault.{RunningFault}
+use Rattle.rack_answers.specs.declared.running_fault.RunningFault.TheVariants as running
+use Rattle.plan_answers.specs.Refusals.{Printed, IsRefused}
+pub use Rattle.plan_answers.specs.Answers.{IsPlanned, IsChecked}
+use Rattle.rack_answers.specs.Refusals.{running_words}
+use Rattle.rack_answers.specs.Openings.{IsOfImageOrMarked, IsWrongImage, IsRightImage}
+
+-- what is printed of transfers that were placed in so many settings, and of the store after them
+abbrev pub Told : Type 0
+Told = List Transfer → ℕ → Store → List ℕ
+
+-- what `apply` prints: the image of that store
+abbrev pub image_alone : Told
+image_alone transfers settings placed = image_of placed
+
+-- The texts are those of a shape and of a batch of which no transfers overlap. Over a rack of the
+-- shape, whose words are those of the image, or told where they stood where there is none, the
+-- batch is placed, in as many settings as the busiest link has uses, and this is printed of it.
+pub record IsResult (told : Told) (shape batch : List ℕ) (image : Option (List ℕ))
+    (text : List ℕ) : Type 0 where
+  pub extent : Extent
+  pub transfers : List Transfer
+  pub opening : Store
+  pub placed : Store
+  pub settings : ℕ
+  pub shape_read : DenotesShape shape extent
+  pub batch_read : Denotes extent batch transfers
+  pub apart : IsApart transfers
+  pub is_opening : IsOfImageOrMarked extent image opening
+  pub is_placed : IsPlaced opening transfers placed
+  pub fewest : IsDegree transfers settings
+  pub printed : text ≡ told transfers settings placed
+
+-- A run of the plan on a rack of the shape with such words: no transfers overlap, the batch is
+-- placed, and this is printed of it.
+pub record IsResultOf (told : Told) (extent : Extent) (image : Option (List ℕ)) (plan : Plan)
+    (text : List ℕ) : Type 0 where
+  pub opening : Store
+  pub placed : Store
+  pub apart : IsApart plan.batch
+  pub is_opening : IsOfImageOrMarked extent image opening
+  pub is_placed : IsPlaced opening plan.batch placed
+  pub printed : text ≡ told plan.batch (length plan.settings) placed
+
+-- what is wrong with running transfers: the first two that overlap
+abbrev pub IsOverlapOf : List Transfer → RunningFault → Type 0
+IsOverlapOf transfers running.Shape = ⊥
+IsOverlapOf transfers (running.Batch fault) = ⊥
+IsOverlapOf transfers (running.Image fault) = ⊥
+IsOverlapOf transfers (running.Overlap i j) = IsFirstOverlap transfers i j
+IsOverlapOf transfers running.NoMemory = ⊥
+
+-- what is first wrong with running transfers that the rack has over an image: the image is looked
+-- at first, then whether transfers overlap
+abbrev pub IsWrongOf : Extent → Option (List ℕ) → List Transfer → RunningFault → Type 0
+IsWrongOf extent image transfers running.Shape = ⊥
+IsWrongOf extent image transfers (running.Batch fault) = ⊥
+IsWrongOf extent image transfers (running.Image fault) = IsWrongImage extent image fault
+IsWrongOf extent image transfers (running.Overlap i j) =
+    IsRightImage extent image × IsFirstOverlap transfers i j
+IsWrongOf extent image transfers running.NoMemory = ⊥
+
+-- what is first wrong: the shape text is looked at first, then the batch text, then the image, then
+-- whether transfers overlap
+abbrev pub IsFirstRunWrong : List ℕ → List ℕ → Option (List ℕ) → RunningFault → Type 0
+IsFirstRunWrong shape batch image running.Shape = IsBadShape shape
+IsFirstRunWrong shape batch image (running.Batch fault) =
+    (extent : Extent) × DenotesShape shape extent × IsFirstFault extent batch fault
+IsFirstRunWrong shape batch image (running.Image fault) =
+    (extent : Extent) × (transfers : List Transfer) × DenotesShape shape extent
+    × Denotes extent batch transfers × IsWrongImage extent image fault
+IsFirstRunWrong shape batch image (running.Overlap i j) =
+    (extent : Extent) × (transfers : List Transfer) × DenotesShape shape extent
+    × Denotes extent batch transfers × IsRightImage extent image × IsFirstOverlap transfers i j
+IsFirstRunWrong shape batch image running.NoMemory = ⊥
+
+-- what is printed of the run, or what is first wrong, each under its status
+pub data IsRunAnswer (told : Told) (shape batch : List ℕ) (image : Option (List ℕ))
+    (printed : Printed) : Type 0 where
+  ran : IsResult told shape batch image printed.text → printed.status ≡ DONE
+      → IsRunAnswer told shape batch image printed
+  run_refused : (fault : RunningFault) → IsFirstRunWrong shape batch image fault
+      → IsRefused (running_words fault) printed → IsRunAnswer told shape batch image printed

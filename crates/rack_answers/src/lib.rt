@@ -1,0 +1,22 @@
+//! The answers of `run`, `apply` and `switch`, which a rack or its switches take part in, and no session: from the
+//! bytes of their texts to the bytes that are printed, and the status that the program ends with.
+//!
+//! Each `answer_` function reads its texts, does what the command asks for, and gives an [`Answer`](plan_answers::Answer):
+//! what was asked for, or the line of the refusal of what is first wrong. It reads no file and prints
+//! nothing. Those whose names end in `_alone` start no thread, and need no handle.
+#![tactic(auto)]
+
+mod alone;
+mod opening;
+mod refusal;
+mod report;
+mod running;
+mod running_fault;
+mod switching;
+
+pub use alone::answer_switch_alone;
+pub use opening::opening_rack;
+pub use refusal::image_words;
+pub use running::{answer_apply, answer_run};
+pub use running_fault::RunningFault;
+pub use switching::answer_switch;

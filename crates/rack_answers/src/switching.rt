@@ -1,0 +1,134 @@
+//! The command `switch`.
+
+ghost use Rattle.std.specs.Prelude.{◌≡◌, IfOk, IfSome, OnOk, string_bytes};
+ghost use Rattle.batch.specs.Extent.{widest};
+ghost use Rattle.crossbar.specs.Pairs.{ArePairs, room_of};
+ghost use Rattle.setting_runner.specs.Sending.{turning};
+ghost use Rattle.rack_answers.specs.Reports.{Adds};
+ghost use Rattle.rack_answers.specs.Switching.{is_wide as needs_two, joined_by, bytes_text, switch_line, lines_for, switch_text, TellsSwitch, IsSwitched};
+
+use batch::{Batch, Shape};
+use crossbar::{JOINED_MODULES, Pair, Wiring};
+use exchange_limits::WorkerCount;
+use plan_answers::{Answer, refuse_batch};
+use schedule_certificate::{OpenGate, Planned, schedule};
+use setting_runner::{PairList, WIDE_CHANGE_BYTES, bytes_for, setting_numbers};
+use std::alloc::{AllocError, Global};
+use std::thread::Threads;
+
+/// The most modules that one switch joins.
+const JOINED: usize = JOINED_MODULES as usize;
+
+/// Puts bytes at the end of the text, each after a space and as two hexadecimal digits.
+fn push_bytes(text: &mut String, bytes: &[u8]) -> Result<(), AllocError>
+    ensures { OnOk result (Adds text.old text.new (bytes_text bytes.now)) }
+{
+    for byte in bytes {
+        write!(text, " {byte:02x}")?;
+    }
+    Ok(())
+}
+
+/// Puts the line of a setting at the end of the text, with the name of the switch that is sent its bytes.
+fn push_line(
+    text: &mut String,
+    setting: usize,
+    name: &str,
+    wiring: Wiring,
+    standing: &Option<PairList>,
+    pairs: &[Pair],
+) -> Result<(), AllocError>
+    requires pairs { ArePairs (room_of wiring) pairs.now }
+    requires standing { IfSome standing.now (λ old. ArePairs (room_of wiring) old) }
+    ensures { OnOk result
+        (Adds text.old text.new (switch_line setting name.now (turning wiring standing.now pairs.now))) }
+{
+    let mut bytes = [0; WIDE_CHANGE_BYTES];
+    let number = bytes_for(wiring, standing, pairs, &mut bytes);
+    write!(text, "setting {setting}{name}")?;
+    push_bytes(text, &bytes[..number])?;
+    text.push_str("\n")
+}
+
+/// Puts the lines of a setting at the end of the text: one where the rack has one switch, else that of each.
+fn push_setting(
+    text: &mut String,
+    wide: bool,
+    setting: usize,
+    standing: &Option<PairList>,
+    pairs: &[Pair],
+) -> Result<(), AllocError>
+    requires pairs { ArePairs (joined_by wide) pairs.now }
+    requires standing { IfSome standing.now (λ old. ArePairs (joined_by wide) old) }
+    ensures { OnOk result
+        (Adds text.old text.new
+        (lines_for wide setting (λ wiring. turning wiring standing.now pairs.now))) }
+{
+    if wide {
+        push_line(text, setting, " a", Wiring::Forth, standing, pairs)?;
+        push_line(text, setting, " b", Wiring::Back, standing, pairs)
+    } else {
+        push_line(text, setting, "", Wiring::Both, standing, pairs)
+    }
+}
+
+/// Whether a rack that has the batch's modules has two switches.
+fn is_wide(batch: &Batch) -> bool
+    ensures { result ≡ needs_two batch.now }
+{
+    let transfers = batch.as_slice();
+    for transfer in transfers {
+        if transfer.initiator >= JOINED || transfer.responder >= JOINED {
+            return true;
+        }
+    }
+    false
+}
+
+/// What a run of the plan sends the switches, setting by setting.
+fn switch_lines(alloc: Global, planned: &Planned) -> Result<String, AllocError>
+    ensures { IfOk result (λ text. string_bytes text ≡ switch_text planned.now) }
+{
+    let batch = planned.batch();
+    let wide = is_wide(batch);
+    let mut text = String::new(alloc);
+    let mut standing = None;
+    for number in 0..planned.schedule().settings() {
+        let pairs = PairList::of_setting(batch, setting_numbers(planned, number));
+        push_setting(&mut text, wide, number, &standing, pairs.as_slice())?;
+        standing = Some(pairs);
+    }
+    Ok(text)
+}
+
+/// The answer that tells what a run of the plan sends the switches.
+pub(crate) fn tell(alloc: Global, planned: &Planned) -> Result<Answer, AllocError>
+    ensures { IfOk result (TellsSwitch planned.now) }
+{
+    let text = switch_lines(alloc, planned)?;
+    Ok(Answer::done(text.into_bytes()))
+}
+
+/// The answer of `exchange switch`: what a run of a plan of the batch that the text denotes sends over the
+/// configuration link, setting by setting; or the refusal of the text's first fault.
+///
+/// A line is `setting S`, with the bytes behind it as pairs of hexadecimal digits: those of the first setting set a
+/// switch, whatever it was, and those of each later one change the switch of the setting before. Where the batch names
+/// a module above 15, a setting has two lines, `setting S a ..` for the switch of the way forth and `setting S b ..` for
+/// that of the way back. The batch is read against the widest shape. Planning is given so many workers.
+pub fn answer_switch<R: Threads + Sync>(
+    rt: &R,
+    alloc: Global,
+    batch: &[u8],
+    workers: WorkerCount,
+) -> Result<Answer, AllocError>
+    ensures { IfOk result (λ answer. IsSwitched widest batch.now answer) }
+{
+    match Batch::read(alloc, batch, Shape::WIDEST) {
+        Ok(batch) => {
+            let planned = schedule(rt, alloc, batch, workers, &OpenGate)?;
+            tell(alloc, &planned)
+        }
+        Err(fault) => refuse_batch(alloc, fault),
+    }
+}
