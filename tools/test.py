@@ -188,6 +188,8 @@ def main(words):
     os.chdir(top)
     names, meter, taken = [it for it in words if it != "--time"], Meter(), []
     with tempfile.TemporaryDirectory(prefix="rack-test-") as room:
+        # (some of the programs are run as nobody)
+        os.chmod(room, 0o755)
         order = copied(names, f"{room}/copy")
         # (rt has handlers of its own for the signals that end a process)
         signal.signal(signal.SIGUSR1, lambda number, frame: print("\n".join(table(meter, order)), flush=True))
