@@ -43,8 +43,8 @@ class Meter:
             return named, "edits"
         if named and "--crate-checked" not in words and "fmt" not in words:
             return named, "tests" if "--test" in words else "proof"
-        ran = next((it for it in map(os.path.basename, words) if re.fullmatch(r"\\w+_tests", it)), None)
-        inside = re.search(r"/crates/(\\w+)", folder)
+        ran = next((it for it in map(os.path.basename, words) if re.fullmatch(r"\w+_tests", it)), None)
+        inside = re.search(r"/crates/(\w+)", folder)
         return named or (ran[: -len("_tests")] if ran else inside[1] if inside else ""), "programs"
 
     def add(self, key, spent):
@@ -111,9 +111,10 @@ def below(names):
 
 
 def copied(names, to):
-    """Copies the clone at hand, without what rt made, and of its crates these alone, to a folder that then is the top of a repository."""
+    """Copies the clone at hand, without what rt made, to a folder that then is the top of a repository: with names, of its crates these alone and those below
+    them, and else all that is there, so that `rt ci` sees what no crate has."""
     order, lines = below(names)
-    skipped = {".": {".git"}, "./crates": {it for it in os.listdir("crates") if it not in order}}
+    skipped = {".": {".git"}, "./crates": {it for it in os.listdir("crates") if names and it not in order}}
     shutil.copytree(".", to, symlinks=True, ignore=lambda at, found: skipped.get(at, set()) | ({"out"} & set(found)))
     if names:
         with open(f"{to}/crates.txt", "w", encoding="utf-8") as it:

@@ -7,8 +7,10 @@ is told as not proved for a goal of its own; that it calls, passes or waits for 
 only where each function that it doesn't touch is proved, or would be, were others. An edit that a round doesn't show as refused, one that
 touches more than bodies of functions, and each of a round that isn't believed, is tried alone, as `rt must-fail` does.
 
-It begins with what `rt check` kept in the clone. docs/DAILY.md says how to write an edit.
+It begins with what `rt check` kept in the clone, and tries nothing of a crate that isn't proved as it stands. docs/DAILY.md says how to write an
+edit.
 """
+import collections
 import dataclasses
 import importlib.machinery
 import importlib.util
@@ -162,9 +164,9 @@ def edits_of(folder, texts):
         if name.endswith(".edit"):
             with open(f"{folder}/must-fail/{name}", encoding="utf-8", errors="replace") as it:
                 lines = lines_changed(texts, changes_of(it.read()))
-            # (the innermost, where one stands in another)
-            around = [max((it for it in functions if it.file == file and it.body <= line <= it.end), key=lambda it: it.body, default=None) for file, line in lines]
-            found.append(Edit(name, lines, frozenset(around) if all(around) else frozenset()))
+            # (a line in two functions, of which one stands in the other, changes both, and the line that opens a body may have the function's type)
+            around = [[it for it in functions if it.file == file and it.body < line < it.end] for file, line in lines]
+            found.append(Edit(name, lines, frozenset(it[0] for it in around) if all(len(it) == 1 for it in around) else frozenset()))
     return found
 
 
@@ -193,6 +195,11 @@ def texts_of(folder):
 FOR_OTHERS = re.compile(r"(not proved; |no proof: )it (calls|passes|waits for) `")
 # Of a proof file that names what an edit took away.
 NAMES = re.compile(r"has no field|is not in scope|has no `|was not admitted")
+
+
+def is_proved(said):
+    """Whether these words on a function say that it is proved. They may go on, as in `proved, may wait`."""
+    return re.match(r"proved\b", said) is not None
 
 
 def told_of(output):
@@ -228,13 +235,13 @@ def own_reason(path, told, faults):
     said = told.get(path, "")
     if "did not prove" in said:
         return said
-    return next((it for folder, goal, it in faults if said != "proved" and lies_in(path, folder, goal) and not NAMES.search(it)), "")
+    return next((it for folder, goal, it in faults if not is_proved(said) and lies_in(path, folder, goal) and not NAMES.search(it)), "")
 
 
 def strange(paths, told, faults):
     """What of a round isn't as it has to be where only the functions of these paths are changed: something else that isn't proved for itself."""
     for path, said in told.items():
-        if path not in paths and said != "proved" and ("did not prove" in said or not FOR_OTHERS.match(said)):
+        if path not in paths and not is_proved(said) and ("did not prove" in said or not FOR_OTHERS.match(said)):
             return f"{path}: {said}"
     return next((f"{'/'.join(folder)}: {said}" for folder, goal, said in faults if not any(lies_in(it, folder, goal) for it in paths)), "")
 
@@ -245,6 +252,9 @@ def judged(edits, output):
         return {}, "it ended without a verdict"
     told, faults = told_of(output), faults_of(output)
     paths = {it: path_of(it, told) for edit in edits for it in edit.functions}
+    # (a path that two of them may have is neither's)
+    often = collections.Counter(paths.values())
+    paths = {it: path if often[path] == 1 else None for it, path in paths.items()}
     why = strange({it for it in paths.values() if it}, told, faults)
     found = {edit.name: next(filter(None, (own_reason(paths[it], told, faults) for it in edit.functions if paths[it])), "") for edit in edits}
     return ({}, why) if why else ({name: reason for name, reason in found.items() if reason}, "")
@@ -264,12 +274,12 @@ def next_round(edits):
 
 
 def checked(rt, crate, texts, kept):
-    """What a check of the crate with these texts says, begun with what is kept in the folder, where it keeps what it proves."""
+    """A check of the crate with these texts that has ended, begun with what is kept in the folder, where it keeps what it proves."""
     ran = rt.checked(crate, texts, ["--jobs", "1"], kept)
     if ran.returncode == -signal.SIGKILL:
         # most likely for memory
         ran = rt.checked(crate, texts, ["--jobs", "1"], kept)
-    return ran.stdout
+    return ran
 
 
 def in_rounds(rt, crate, edits, kept, say):
@@ -278,7 +288,7 @@ def in_rounds(rt, crate, edits, kept, say):
     while edits:
         number += 1
         now, began = next_round(edits), time.time()
-        refused, why = judged(now, checked(rt, crate, with_edits(texts, now), kept))
+        refused, why = judged(now, checked(rt, crate, with_edits(texts, now), kept).stdout)
         found.update(refused)
         said = f"not believed, so each is tried alone: {why[:200]}" if why else f"{len(refused)} of {len(now)} edits refused"
         say(f"{crate.name}: round {number}: {said}, {time.time() - began:.0f} seconds")
@@ -286,34 +296,44 @@ def in_rounds(rt, crate, edits, kept, say):
     return found
 
 
-def alone(rt, crate, name, kept):
-    """Whether the edit is refused when it is tried alone, over what is kept, and from nothing where that isn't settled, and what to say."""
-    tried = rt.must_fail(crate, f"{crate.folder}/must-fail/{name}", ["--jobs", "1"], kept)
-    if tried[0] not in rt.SETTLED:
-        tried = rt.must_fail(crate, f"{crate.folder}/must-fail/{name}", ["--jobs", "1"])
-    return tried[0] in (rt.REFUSED, rt.AT_LIMIT), tried[1]
+def one(rt, crate, name, kept=None):
+    """What rt finds when the edit is tried alone, over what is kept or from nothing."""
+    return rt.must_fail(crate, f"{crate.folder}/must-fail/{name}", ["--jobs", "1"], kept)
+
+
+def alone(rt, crate, names, kept):
+    """What rt finds, by name, when each of these edits is tried alone: over what is kept, and from nothing where that isn't settled. Where the crate as it stands
+    isn't proved over what is kept, that shows nothing, and each is tried from nothing."""
+    found = {it: one(rt, crate, it, kept) for it in names}
+    refused = [it for it in names if found[it][0] in (rt.REFUSED, rt.AT_LIMIT)]
+    lost = refused if refused and checked(rt, crate, {}, kept).returncode else []
+    return {it: one(rt, crate, it) if it in lost or found[it][0] not in rt.SETTLED else found[it] for it in names}
 
 
 def tried(rt, crate, start, say):
-    """Tries all edits of a crate, begun with what the folder start holds, if it is there: for each its name, whether it is refused, and what to say."""
-    edits, results = edits_of(crate.folder, texts_of(crate.folder)), []
+    """Tries all edits of a crate: for each its name, whether it is refused, and what to say. With the name of a folder start, it begins with what that holds, if it
+    is there, and first sees that the crate is proved as it stands. With none, that is known."""
+    edits, label = edits_of(crate.folder, texts_of(crate.folder)), f"must-fail {crate.name}/"
+    strange = [os.path.relpath(it, crate.folder) for it in rt.edits_of(crate)[1]]
+    strange = [(it, False, f"{crate.name}/{it}: BAD EDIT: an edit stands right in must-fail/, and its name ends in .edit") for it in strange]
     with tempfile.TemporaryDirectory(prefix=f"rt-edits-{os.getpid()}-") as room:
         kept = f"{room}/kept"
         if os.path.isdir(start):
             rt.linked(start, kept)
         else:
             os.mkdir(kept)
+        if start and edits and checked(rt, crate, {}, kept).returncode:
+            return strange + [(it.name, False, f"{label}{it.name}: NOT TRIED: the crate as it stands isn't proved, so nothing is known of it") for it in edits]
         refused = in_rounds(rt, crate, [it for it in edits if it.functions], kept, say)
-        for edit in edits:
-            label = f"must-fail {crate.name}/{edit.name}"
-            results.append((edit.name, True, f"{label}: refused, as it must be: {refused[edit.name][:160]}") if edit.name in refused else (edit.name, *alone(rt, crate, edit.name, kept)))
-    strange = [os.path.relpath(it, crate.folder) for it in rt.edits_of(crate)[1]]
-    return results + [(it, False, f"{crate.name}/{it}: BAD EDIT: an edit stands right in must-fail/, and its name ends in .edit") for it in strange]
+        found = {name: (True, f"{label}{name}: refused, as it must be: {why[:160]}") for name, why in refused.items()}
+        for name, (kind, said) in alone(rt, crate, [it.name for it in edits if it.name not in found], kept).items():
+            found[name] = kind in (rt.REFUSED, rt.AT_LIMIT), said
+    return [(it.name, *found[it.name]) for it in edits] + strange
 
 
 def try_all(rt, crates, kept_of, say=print):
-    """Tries the edits of these crates, each begun with what the folder that kept_of names holds, if it is there, as many crates at once as there are
-    processors and memory. Returns how many are refused, and the names of the others."""
+    """Tries the edits of these crates, as many crates at once as there are processors and memory. kept_of names the folder with which each begins, or none where
+    the crate was proved just now. Returns how many are refused, and the names of the others."""
     tasks = {}
     for crate in crates:
         if os.path.isdir(f"{crate.folder}/must-fail"):

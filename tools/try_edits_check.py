@@ -3,6 +3,7 @@
 import os
 import sys
 import tempfile
+import types
 
 sys.dont_write_bytecode = True
 import try_edits
@@ -54,11 +55,22 @@ mod walls {
         and(one.is_lit(), other.is_lit())
     }
 }
+
+#[cfg(test)]
+mod tests {
+    impl Lamp {
+        fn new() -> Lamp {
+            OF_TESTS
+        }
+    }
+}
 """
 EDITS = {
     "new_is_lit": "file: src/lamp.rt\nold: Lamp { lit: FIRST }\nnew: Lamp { lit: !FIRST }\n",
     "is_dark": "file: src/lamp.rt\nold: !!self.lit\nnew: !self.lit\n",
-    "is_lit_always": "file: src/lamp.rt\nold: -> bool {\nnew: -> bool { return true;\n",
+    "is_lit_always": "file: src/lamp.rt\nold: is_lit(&self) -> bool {\nnew: is_lit(&self) -> bool { return true;\n",
+    "is_lit_a_number": "file: src/lamp.rt\nold: is_lit(&self) -> bool {\nnew: is_lit(&self) -> u8 {\n",
+    "new_of_tests": "file: src/lamp.rt\nold: OF_TESTS\nnew: IN_TESTS\n",
     "turn_off": "file: src/lamp.rt\nold: self.lit = true;\nnew: self.lit = false;\n",
     "or": "file: src/lamp.rt\nold: one && other\nnew: one || other\n",
     "and_twice": "file: src/lamp.rt\nold: one.is_lit(), other.is_lit()\nnew: one.is_lit(), one.is_lit()\n",
@@ -76,7 +88,7 @@ WANTED = {
     "is_dark": {"Lamp::is_lit"},
     "turn_off": {"LampSwitch::turn"},
     "from_even": {"LampFrom::from"},
-    "or": {"and"},
+    "new_of_tests": {"Lamp::new"},
     "and_twice": {"both"},
     "new_twice": {"Lamp::new"},
     "two_bodies": {"Lamp::new", "LampSwitch::turn"},
@@ -101,8 +113,34 @@ CASES = {
     "such a folder, at another's goal": ("./proofs/lamp/Lamp/+turn/Answers.antt:5:35: error: `is_lit-returns`: no proof of `x`\nfn c::lamp::Lamp::new: no proof: its proof is in a folder of several", ["new_is_lit"], [], False),
     "a trait with a parameter": ("fn c::lamp::LampFromClapError::from: no proof: `search` did not prove `returns`\nfn c::lamp::LampFromOddError::from: proved", ["from_even"], ["from_even"], True),
     "the same trait with another one": ("fn c::lamp::LampFromClapError::from: proved\nfn c::lamp::LampFromOddError::from: no proof: `search` did not prove `returns`", ["from_even"], [], False),
+    "another that may wait": ("fn c::lamp::Lamp::new: no proof: `search` did not prove `returns`\nfn c::lamp::Lamp::is_lit: proved, may wait", ["new_is_lit"], ["new_is_lit"], True),
+    "a closure that asks for something": ("fn c::lamp::Lamp::new: no proof: `search` did not prove `returns`\nfn c::lamp::fn::both::one: proved where its callers give what it asks", ["new_is_lit"], ["new_is_lit"], True),
+    "two of one path": ("fn c::lamp::Lamp::new: no proof: `search` did not prove `returns`", ["new_is_lit", "new_of_tests"], [], False),
     "no verdict": ("fn c::lamp::Lamp::new: no proof: `search` did not prove `returns`\nkilled", ["new_is_lit"], [], False),
 }
+
+
+# What rt finds of an edit over what is kept and from nothing, whether the crate as it stands is proved over what is kept, and what is believed.
+ALONE = {
+    "refused": ("refused", "refused", True, "refused"),
+    "refused only because nothing is proved there": ("refused", "missed", False, "missed"),
+    "refused there and from nothing": ("refused", "refused", False, "refused"),
+    "proved only there": ("missed", "refused", True, "refused"),
+    "bad": ("bad", "refused", True, "bad"),
+    "killed there": ("unsure", "missed", True, "missed"),
+}
+
+
+def rt_that_finds(over, anew, is_proved):
+    """What stands for rt where it finds these of each edit, over what is kept and from nothing."""
+    return types.SimpleNamespace(
+        REFUSED="refused",
+        AT_LIMIT="limit",
+        SETTLED=("refused", "limit", "bad"),
+        checked=lambda crate, texts, flags, kept: types.SimpleNamespace(returncode=not is_proved, stdout=""),
+        must_fail=lambda crate, edit, flags, kept: (over if kept else anew, ""),
+        edits_of=lambda crate: ([], []),
+    )
 
 
 def written(folder):
@@ -135,14 +173,25 @@ def main():
     if not all(it in text for it in ("!FIRST", "lit = false", "one || other", "one.is_lit(), one.is_lit()")) or text.count("\n") != SOURCE.count("\n"):
         wrong.append("edits of four functions aren't made at once")
     first = [it.name for it in try_edits.next_round([edits[it] for it in WANTED])]
-    if first != [f"{it}.edit" for it in ("new_is_lit", "is_dark", "turn_off", "from_even", "or", "and_twice")]:
+    if first != [f"{it}.edit" for it in ("new_is_lit", "is_dark", "turn_off", "from_even", "new_of_tests", "and_twice")]:
         wrong.append(f"the first round is {first}")
     for name, (words, tried, refused, is_believed) in CASES.items():
         said = words if "killed" in words else f"{words}\nlogic=not-proved\n"
         found, why = try_edits.judged([edits[it] for it in tried], said)
         if sorted(found) != sorted(f"{it}.edit" for it in refused) or (not why) != is_believed:
             wrong.append(f"{name}: refused {sorted(found)}, {why or 'believed'}")
-    print("\n".join(wrong) or f"edits at once: {len(EDITS)} edits and {len(CASES)} answers read well")
+    for name, (over, anew, is_proved, wanted) in ALONE.items():
+        crate = types.SimpleNamespace(folder="lamp", name="lamp")
+        found = try_edits.alone(rt_that_finds(over, anew, is_proved), crate, ["x.edit"], "kept")["x.edit"][0]
+        if found != wanted:
+            wrong.append(f"{name}: alone it is {found}")
+    with tempfile.TemporaryDirectory() as folder:
+        written(folder)
+        crate = types.SimpleNamespace(folder=folder, name="lamp")
+        found = try_edits.tried(rt_that_finds("refused", "refused", False), crate, f"{folder}/out", print)
+    if len(found) != len(EDITS) or any(is_refused for _, is_refused, _ in found):
+        wrong.append("edits of a crate that isn't proved are taken as refused")
+    print("\n".join(wrong) or f"edits at once: {len(EDITS)} edits and {len(CASES) + len(ALONE)} answers read well")
     return 1 if wrong else 0
 
 
