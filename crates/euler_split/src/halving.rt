@@ -24,7 +24,7 @@ fn odd_pairs(graph: &LinkGraph, members: &[usize]) -> Pairs
 {
     let mut pairs = Pairs::none();
     for place in 0..members.len() {
-        let (start, answer) = graph.ends(members[place]).unwrap();
+        let (start, answer) = graph.ends_of(members[place]);
         pairs.toggle(start.module, answer.module);
     }
     pairs
@@ -40,7 +40,7 @@ fn take_turn(graph: &LinkGraph, turns: &mut Masks, t: usize) -> bool
     ensures next { AreToggled turns.old turns.new
         (module_in graph.now Zero t) (module_in graph.now Three t) }
 {
-    let (start, answer) = graph.ends(t).unwrap();
+    let (start, answer) = graph.ends_of(t);
     let is_left = has(turns, start.module, answer.module);
     toggle(turns, start.module, answer.module);
     is_left

@@ -21,17 +21,27 @@ four n ge lt =
     let hundreds : n / 10 / 100 % 10 ≡ n / 1000 = omega arith in
     decimal_step n (omega arith) (omega arith) ∙ rw (three (n / 10) (omega arith) (omega arith), tens, hundreds) refl
 
-pub spaced_one : (n : ℕ) → n < 10 → spaced n ≡ 32 ∷ (48 + n % 10) ∷ []
-spaced_one n lt = rw (one n lt) refl
+pub spaced_one : (n : ℕ) → n < 10 → spaced n ≡ 32 ∷ (48 + n % 100 % 10) ∷ []
+spaced_one n lt = let ones : n % 100 % 10 ≡ n % 10 = omega arith in rw (one n lt, ones) refl
 
-pub spaced_two : (n : ℕ) → 10 ≤ n → n < 100 → spaced n ≡ 32 ∷ (48 + n / 10 % 10) ∷ (48 + n % 10) ∷ []
-spaced_two n ge lt = rw (two n ge lt) refl
+pub spaced_two : (n : ℕ) → 10 ≤ n → n < 100 → spaced n ≡ 32 ∷ (48 + n % 100 / 10) ∷ (48 + n % 100 % 10) ∷ []
+spaced_two n ge lt =
+    let ones : n % 100 % 10 ≡ n % 10 = omega arith in
+    let tens : n % 100 / 10 ≡ n / 10 % 10 = omega arith in
+    rw (two n ge lt, ones, tens) refl
 
-pub spaced_three : (n : ℕ) → 100 ≤ n → n < 1000 → spaced n ≡ 32 ∷ (48 + n / 100 % 10) ∷ (48 + n / 10 % 10) ∷ (48 + n % 10) ∷ []
-spaced_three n ge lt = rw (three n ge lt) refl
+pub spaced_three : (n : ℕ) → 100 ≤ n → n < 1000 → spaced n ≡ 32 ∷ (48 + n / 100 % 10) ∷ (48 + n % 100 / 10) ∷ (48 + n % 100 % 10) ∷ []
+spaced_three n ge lt =
+    let ones : n % 100 % 10 ≡ n % 10 = omega arith in
+    let tens : n % 100 / 10 ≡ n / 10 % 10 = omega arith in
+    rw (three n ge lt, ones, tens) refl
 
-pub spaced_four : (n : ℕ) → 1000 ≤ n → n < 10000 → spaced n ≡ 32 ∷ (48 + n / 1000) ∷ (48 + n / 100 % 10) ∷ (48 + n / 10 % 10) ∷ (48 + n % 10) ∷ []
-spaced_four n ge lt = rw (four n ge lt) refl
+pub spaced_four : (n : ℕ) → 1000 ≤ n → n < 10000 → spaced n ≡ 32 ∷ (48 + n / 100 / 10) ∷ (48 + n / 100 % 10) ∷ (48 + n % 100 / 10) ∷ (48 + n % 100 % 10) ∷ []
+spaced_four n ge lt =
+    let ones : n % 100 % 10 ≡ n % 10 = omega arith in
+    let tens : n % 100 / 10 ≡ n / 10 % 10 = omega arith in
+    let thousands : n / 100 / 10 ≡ n / 1000 = omega arith in
+    rw (four n ge lt, ones, tens, thousands) refl
 
 -- a longer number
 pub spaced_step : (n : ℕ) → 10 ≤ n → n < 18446744073709551616 → spaced n ≡ spaced (n / 10) ++ (48 + n % 10) ∷ []

@@ -1,4 +1,4 @@
-ghost use Rattle.std.specs.Prelude.{◌≡◌, ◌<◌, ◌↔◌, [], IfOk, IfSome, IsNone, length, nat_lt, slice_get, option_map};
+ghost use Rattle.std.specs.Prelude.{◌≡◌, ◌<◌, ◌↔◌, [], Some, IfOk, IfSome, IsNone, length, nat_lt, slice_get, option_map};
 ghost use Rattle.std.specs.List.{IsFirstBest};
 ghost use Rattle.batch.specs.Batches.{IsBatch};
 ghost use Rattle.link_graph.specs.Uses.{start_link, answer_link};
@@ -74,6 +74,15 @@ impl LinkGraph {
             counting::start_of(&transfer),
             counting::answer_of(&transfer),
         ))
+    }
+
+    /// The same of a transfer that there is.
+    pub fn ends_of(&self, t: usize) -> (Link, Link)
+        requires { t < length self.now }
+        ensures { option_map (λ x. (start_link x, answer_link x)) (slice_get self.now t) ≡ Some result }
+    {
+        let transfer = &self.batch.as_slice()[t];
+        (counting::start_of(transfer), counting::answer_of(transfer))
     }
 
     /// How many transfers use the link, from a table. Equal transfers count apart; a link of a

@@ -18,19 +18,20 @@ fn push_short(text: &mut Vec<u8>, n: usize) -> Result<(), AllocError>
     requires { n < 10000 }
     ensures { OnOk result (text.new.items ≡ text.old.items ++ spaced n) }
 {
-    let ones = digit(n % 10);
+    let (high, low) = (n / 100, n % 100);
+    let ones = digit(low % 10);
     if n < 10 {
         return text.extend_from_slice(&[b' ', ones]);
     }
-    let tens = digit(n / 10 % 10);
+    let tens = digit(low / 10);
     if n < 100 {
         return text.extend_from_slice(&[b' ', tens, ones]);
     }
-    let hundreds = digit(n / 100 % 10);
+    let hundreds = digit(high % 10);
     if n < 1000 {
         return text.extend_from_slice(&[b' ', hundreds, tens, ones]);
     }
-    let thousands = digit(n / 1000);
+    let thousands = digit(high / 10);
     text.extend_from_slice(&[b' ', thousands, hundreds, tens, ones])
 }
 

@@ -1,5 +1,5 @@
 -- Counting the uses of each link, one transfer after the other.
-use Rattle.std.proofs.Common.{◌≡◌, ◌≢◌, ℕ, ◌+◌, ◌<◌, ◌≤◌, inl, inr, max, List, [], ◌∷◌, ◌++◌, length, get_or, set, take, replicate, slice_get, All, Option, Some, IsSome, option_map, refl, sym, ap, ◌∙◌, subst, arith}
+use Rattle.std.proofs.Common.{◌≡◌, ◌≢◌, ℕ, ◌+◌, ◌<◌, ◌≤◌, inl, inr, max, List, [], ◌∷◌, ◌++◌, length, get_or, set, take, replicate, slice_get, All, Option, Some, option_map, refl, sym, ap, ◌∙◌, subst, arith}
 use Rattle.std.proofs.lemmas.Bool.{cases_eq}
 use Rattle.std.proofs.lemmas.Bool.Decides.{eqb_tells}
 use Rattle.std.proofs.lemmas.Option.{same_Some}
@@ -160,9 +160,6 @@ module _ (batch : List Transfer) (part : List ℕ) (i : ℕ) (is_part : IsPart b
 
   so_far : length (members batch (take i part)) < MAX_TRANSFERS
   so_far = omega (arith, members_few batch (take i part), length-take i part, few (length batch) part is_part.known is_part.distinct, fits.few)
-
-  pub ends_known : (o : Option (Link × Link)) → o ≡ option_map links_of (slice_get batch t) → IsSome o
-  ends_known o is = let some : o ≡ Some (links_of known.0) = is ∙ ap (option_map links_of) known.1 in subst IsSome (sym some) refl
 
   module _ (o : Option (Link × Link)) (r : Link × Link) (is : o ≡ option_map links_of (slice_get batch t)) (some : o ≡ Some r) where
     both_ends : r ≡ links_of known.0

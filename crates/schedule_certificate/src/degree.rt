@@ -36,7 +36,7 @@ fn count_degree(graph: &LinkGraph, part: &[usize]) -> usize
     let mut uses = [0; LINKS];
     let mut degree = 0;
     for t in part {
-        let (start, answer) = graph.ends(*t).unwrap();
+        let (start, answer) = graph.ends_of(*t);
         let starts = count_use(&mut uses, start);
         let answers = count_use(&mut uses, answer);
         degree = greater(greater(degree, starts), answers);
