@@ -6,18 +6,19 @@
 //! nothing. What C has to keep to is said in `include/exchange.h`.
 #![tactic(auto)]
 
-ghost use Rattle.std.specs.Prelude.{IfOk, OnErr, None};
+ghost use Rattle.std.specs.Prelude.{IfOk, OnErr, None, Some};
 ghost use Rattle.batch.specs.Extent.{widest};
 ghost use Rattle.plan_answers.specs.Answers.{IsPlanned, IsChecked};
 ghost use Rattle.plan_answers.specs.Directing.{IsDirected};
 ghost use Rattle.plan_answers.specs.Drawings.{IsDrawn};
+ghost use Rattle.rack_answers.specs.Answers.{IsRunAnswer, image_alone};
 ghost use Rattle.rack_answers.specs.Switching.{IsSwitched};
 ghost use Rattle.exchange_c.specs.Writing.{Puts, IsOutOfMemory, Leaves, IsTheOne};
 
 mod status;
 
 use plan_answers::{Answer, answer_check, answer_direct, answer_draw, answer_plan_alone};
-use rack_answers::answer_switch_alone;
+use rack_answers::{answer_apply_alone, answer_switch_alone};
 pub use status::{NO_MEMORY, NO_ROOM};
 use std::alloc::{AllocError, Global};
 
@@ -88,6 +89,23 @@ pub extern "C" fn exchange_switch(
     ensures { Leaves (IsSwitched widest batch.now) out.old out.new count.new result }
 {
     leave(answer_switch_alone(alloc, batch), out, count)
+}
+
+/// What `exchange apply` answers to the texts of a shape and of a batch, and to an image.
+#[unsafe(no_mangle)]
+pub extern "C" fn exchange_apply(
+    alloc: Global,
+    shape: &[u8],
+    batch: &[u8],
+    image: &[u8],
+    out: &mut [u8],
+    count: &mut usize,
+) -> u8
+    ensures { Leaves
+        (IsTheOne (IsRunAnswer image_alone shape.now batch.now (Some image.now)))
+        out.old out.new count.new result }
+{
+    leave(answer_apply_alone(alloc, shape, batch, image), out, count)
 }
 
 /// What `exchange draw` answers to the texts of a batch and of a schedule: the picture of all settings.

@@ -7,6 +7,7 @@
 #![tactic(auto)]
 
 mod alone;
+mod applying;
 mod opening;
 mod refusal;
 mod report;
@@ -15,6 +16,7 @@ mod running_fault;
 mod switching;
 
 pub use alone::answer_switch_alone;
+pub use applying::answer_apply_alone;
 pub use opening::opening_rack;
 pub use refusal::image_words;
 pub use running::{answer_apply, answer_run};

@@ -28,14 +28,14 @@ use std::thread::Threads;
 
 /// What is printed of a run: its report, or the image of the rack that it leaves.
 #[derive(Clone, Copy)]
-enum Telling {
+pub(crate) enum Telling {
     Report,
     Image,
 }
 
 /// Nobody is told how far a run has come.
 #[derive(Drop)]
-struct Unheard;
+pub(crate) struct Unheard;
 
 impl Notice for Unheard {
     ghost hears = { λ _ _ _. Unit {0} };
@@ -44,7 +44,11 @@ impl Notice for Unheard {
 }
 
 /// The rack of the image, where there is one, else one whose words tell where they stand.
-fn marked_rack(alloc: Global, shape: Shape, image: Option<&[u8]>) -> Result<Rack, ImageFault>
+pub(crate) fn marked_rack(
+    alloc: Global,
+    shape: Shape,
+    image: Option<&[u8]>,
+) -> Result<Rack, ImageFault>
     ensures rack { IfOk result (IsOfImageOrMarked shape (bytes_of image.entry)) }
     ensures wrong { IfErr result (λ fault. fault ≢ image_fault.NoMemory
         → IsWrongImage shape (bytes_of image.entry) fault) }
@@ -91,7 +95,7 @@ fn run_plain<R: Threads + Sync>(
 }
 
 /// What is printed of a run of the batch in so many settings that left the rack.
-fn tell(
+pub(crate) fn tell(
     alloc: Global,
     rack: &Rack,
     batch: &Batch,

@@ -2,6 +2,7 @@
 //! links.
 #![tactic(auto)]
 
+mod alone;
 mod block;
 mod bytes;
 pub mod laws;
@@ -18,6 +19,7 @@ mod short_list;
 mod switching;
 mod work;
 
+pub use alone::run_alone;
 pub use bytes::{
     CHANGE_BYTES, ENQUIRY_BYTES, WIDE_CHANGE_BYTES, WIDE_SETTING_BYTES, change_bytes,
     enquiry_bytes, line_bits, setting_bytes, wide_bytes, wide_change,

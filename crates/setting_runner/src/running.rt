@@ -80,7 +80,11 @@ pub fn run<R: Threads + Sync, P: ConfigPort, W: WireMaker + Sync, G: Gate + Sync
 
 /// Tests a plan, and parts the rack for it: all memory of the run is taken here. Where the run is refused the rack
 /// comes back as it was.
-fn prepare(alloc: Global, rack: Rack, planned: &Planned) -> Result<Parted, (Rack, RunRefusal)>
+pub(crate) fn prepare(
+    alloc: Global,
+    rack: Rack,
+    planned: &Planned,
+) -> Result<Parted, (Rack, RunRefusal)>
     ensures prepared { IfOk result
         (λ parted. IsPrepared parted.rest parted.bays.items planned.now) }
     ensures store { IfOk result (λ parted. joined parted.rest.store parted.bays.items ≡ rack) }

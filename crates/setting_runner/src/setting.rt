@@ -103,7 +103,7 @@ pub fn run_setting<R: Threads + Sync, P: ConfigPort, W: WireMaker + Sync, G: Gat
 }
 
 /// The transfers of a setting of which no word has moved.
-fn none_moved(numbers: &[usize]) -> Moved
+pub(crate) fn none_moved(numbers: &[usize]) -> Moved
     requires { length numbers.now ≤ MAX_MODULES }
     ensures { result ≡ all_moved numbers.now 0 }
 {
@@ -115,7 +115,7 @@ fn none_moved(numbers: &[usize]) -> Moved
 }
 
 /// The least transfer that has moved fewer words than a block has.
-fn least_short(moved: &Moved, words: usize) -> Option<usize>
+pub(crate) fn least_short(moved: &Moved, words: usize) -> Option<usize>
     requires { AllPairs (λ t u. t < u) (names_of moved.now) }
     ensures { MatchOption result
         (AllWhole words moved.now)

@@ -1,22 +1,9 @@
-use Rattle.std.proofs.Common.{ℕ, List, Option, sym}
+use Rattle.std.proofs.Common.{sym}
 use Rattle.std.proofs.lemmas.Result.{err_from_is_err_and}
-use Rattle.batch.specs.declared.transfer.Transfer.{Transfer}
-use Rattle.batch.specs.Extent.{Extent}
-use Rattle.rack_answers.specs.declared.running_fault.RunningFault.{RunningFault}
-use Rattle.rack_answers.specs.declared.running_fault.RunningFault.TheVariants as running
-use Rattle.rack_answers.specs.Answers.{IsOverlapOf, IsWrongOf}
 use Rattle.plan_answers.specs.Lent.{bytes_of}
-use Rattle.rack_answers.specs.Openings.{IsRightImage}
 use Rattle.rack_answers.proofs.Openings.{opening_shape, right_image}
+use Rattle.rack_answers.proofs.Wrongs.{overlap_wrong}
 use Rattle.rack_answers.proofs.running.tell_plan.Goals as goal
-
--- where the image is right, an overlap is first wrong
-overlap_wrong : (extent : Extent) (image : Option (List ℕ)) (ts : List Transfer) (fault : RunningFault) → IsRightImage extent image → IsOverlapOf ts fault → IsWrongOf extent image ts fault
-overlap_wrong extent image ts running.Shape right wrong = wrong
-overlap_wrong extent image ts (running.Batch fault) right wrong = wrong
-overlap_wrong extent image ts (running.Image fault) right wrong = absurd wrong
-overlap_wrong extent image ts (running.Overlap i j) right wrong = (right, wrong)
-overlap_wrong extent image ts running.NoMemory right wrong = wrong
 
 pub returns-in_err-rack-2-clause-wrong : goal.returns-in_err-rack-2-clause-wrong
 returns-in_err-rack-2-clause-wrong g c =

@@ -1,25 +1,12 @@
-use Rattle.std.proofs.Common.{ℕ, List, Option}
 use Rattle.std.proofs.lemmas.Result.{err_from_is_err_and, IfOk-weaker, IfErr-weaker}
 use Rattle.rack_answers.specs.Answers.{IsResultOf, IsResult, IsWrongOf, IsFirstRunWrong}
 use Rattle.plan_answers.specs.Lent.{bytes_of}
 use Rattle.rack_answers.specs.Tellings.{told_by}
 use Rattle.rack_answers.specs.Refusals.{IsRealRunning}
-use Rattle.batch.specs.declared.transfer.Transfer.{Transfer}
-use Rattle.batch.specs.Extent.{Extent}
-use Rattle.batch.specs.ShapeText.{DenotesShape}
 use Rattle.batch.specs.Text.{Denotes}
-use Rattle.rack_answers.specs.declared.running_fault.RunningFault.{RunningFault}
-use Rattle.rack_answers.specs.declared.running_fault.RunningFault.TheVariants as running
 use Rattle.rack_answers.proofs.Fewest.{fewest_settings, fits_in}
+use Rattle.rack_answers.proofs.Wrongs.{first_wrong}
 use Rattle.rack_answers.proofs.running.tell_run.Goals as goal
-
--- what is wrong with the transfers that the batch text denotes is wrong with the texts
-first_wrong : (shape batch : List ℕ) (image : Option (List ℕ)) (extent : Extent) (ts : List Transfer) → DenotesShape shape extent → Denotes extent batch ts → (fault : RunningFault) → IsWrongOf extent image ts fault → IsFirstRunWrong shape batch image fault
-first_wrong shape batch image extent ts is_shape is_batch running.Shape wrong = absurd wrong
-first_wrong shape batch image extent ts is_shape is_batch (running.Batch fault) wrong = absurd wrong
-first_wrong shape batch image extent ts is_shape is_batch (running.Image fault) wrong = (extent, ts, is_shape, is_batch, wrong)
-first_wrong shape batch image extent ts is_shape is_batch (running.Overlap i j) wrong = (extent, ts, is_shape, is_batch, wrong.0, wrong.1)
-first_wrong shape batch image extent ts is_shape is_batch running.NoMemory wrong = wrong
 
 pub returns-in_err-batch-clause-wrong : goal.returns-in_err-batch-clause-wrong
 returns-in_err-batch-clause-wrong g c =

@@ -1,0 +1,13 @@
+use Rattle.std.proofs.Common.{ap, sym, ◌∙◌}
+use Rattle.setting_runner.specs.declared.outcome.Outcome.TheVariants.{Refused}
+use Rattle.rack_answers.proofs.applying.run_plain_alone.Goals as goal
+
+pub returns-in-Completed-clause-apart : goal.returns-in-Completed-clause-apart
+returns-in-Completed-clause-apart c =
+    c.first_overlap.ensures.none c.args.planned.now.batch (λ i j first.
+    let bad = sym c.in-Completed.is ∙ (c.run_alone-rack.ensures.overlap i j).1 first in
+    absurd cc)
+
+pub returns-in-Overlap-clause-wrong : goal.returns-in-Overlap-clause-wrong
+returns-in-Overlap-clause-wrong c real =
+    (c.run_alone-rack.ensures.overlap c.in-Overlap.i c.in-Overlap.j).0 (c.in-Refused.is ∙ ap Refused c.in-Overlap.is)
