@@ -1,21 +1,29 @@
-/* Planning for programs in C. Link with libexchange_c.a, and with liblibc_c.a of the kit.
+/* The answers of the program `exchange`, for programs in C.
  *
- * Each call reads texts and writes one answer, byte for byte what the program `exchange` prints for the
- * same texts.
+ * Each call reads texts and writes one answer: the bytes that the program prints for the same texts. A text
+ * is a pointer and a number of bytes, and needs no zero at its end.
  *
- *   A text is a pointer and a number of bytes. It needs no zero at its end.
- *   `out` has room for `room` bytes. It overlaps no text, nor *count.
+ * What a call gives back, and what it leaves in `out` and `*count`:
  *
- * What a call gives, and what it leaves:
+ *   EXCHANGE_DONE       the answer stands at the front of `out`, and `*count` is its number of bytes
+ *   EXCHANGE_REFUSED    the same, and the answer is the line of a refusal, as `refused batch line 2`
+ *   EXCHANGE_NO_ROOM    the answer has more than `room` bytes: `*count` says how many, and `out` is as it was
+ *   EXCHANGE_NO_MEMORY  malloc gave no memory: `*count` is 0, and `out` is as it was
  *
- *   EXCHANGE_DONE       the answer is at the front of `out`, and *count is its number of bytes
- *   EXCHANGE_REFUSED    the same, and the answer is the line of a refusal
- *   EXCHANGE_NO_ROOM    nothing was written, and *count is the room that is wanted
- *   EXCHANGE_NO_MEMORY  nothing was written, and *count is 0
+ * Bytes of `out` behind the answer are as they were. A call with a `room` of 0 asks for the number alone; it
+ * costs as much as one that writes.
  *
- * The caller promises that all pointers but those of 0 bytes point to as many bytes as it says, and that
- * nothing else writes these bytes during the call. A pointer of 0 bytes isn't null either. A call starts
- * no thread and isn't made from a signal handler. It takes memory by malloc, and lets it go.
+ * What the caller promises, and no call can test:
+ *
+ *   - each pointer is that of as many bytes as its number says, `out` that of `room` bytes, and `count` that
+ *     of one size_t. None is null, also where there are 0 bytes;
+ *   - `out` and `count` overlap each other and no text. Texts may overlap;
+ *   - nothing writes the texts, and nothing reads or writes `out` and `*count`, while the call lasts;
+ *   - malloc, realloc and free are those of one allocator, which aligns each block as C asks;
+ *   - no call is made from a signal handler, or in a process that was forked while it had threads.
+ *
+ * Calls keep nothing, so threads may make them side by side. A call starts no thread, reads no file, prints
+ * nothing, and always ends. All memory that it takes by malloc it has let go when it ends.
  */
 #ifndef EXCHANGE_H
 #define EXCHANGE_H
@@ -23,27 +31,56 @@
 #include <stddef.h>
 #include <stdint.h>
 
+#ifdef __cplusplus
+extern "C" {
+#endif
+
 #define EXCHANGE_DONE 0
 #define EXCHANGE_REFUSED 1
 #define EXCHANGE_NO_ROOM 2
 #define EXCHANGE_NO_MEMORY 3
 
-/* A schedule of the batch with as few settings as possible, and its certificate. */
+/* `exchange plan`: a schedule of the batch with as few settings as possible, and its certificate.
+ *
+ * Takes time that grows with the number of transfers times the logarithm of the uses of the busiest link.
+ * Where that number of uses is no power of two, some transfers are put in one by one, which may take time
+ * that grows with their number times the uses. */
 uint8_t exchange_plan(const uint8_t *batch, size_t batch_bytes, uint8_t *out, size_t room, size_t *count);
 
-/* Whether the schedule is right and its certificate shows that none is shorter. Takes time that grows
- * with the lengths of the texts. */
+/* `exchange check`: whether the schedule is right, and its certificate shows that none is shorter.
+ *
+ * Takes time that grows with the lengths of the texts. */
 uint8_t exchange_check(const uint8_t *batch, size_t batch_bytes, const uint8_t *schedule,
                        size_t schedule_bytes, uint8_t *out, size_t room, size_t *count);
 
-/* The picture of a schedule, as the text of an SVG file. Takes time that grows with the lengths of the
- * texts and of the picture's. */
+/* `exchange switch`: the bytes that set a C004, or both of a rack with more than 16 modules, for each setting
+ * of a plan of the batch.
+ *
+ * Takes the time of a plan, and time that grows with the number of transfers. */
+uint8_t exchange_switch(const uint8_t *batch, size_t batch_bytes, uint8_t *out, size_t room, size_t *count);
+
+/* `exchange apply`: the image that a run of the batch leaves of an image, on a rack of the shape `MxKxW`.
+ *
+ * An image has all words of the rack, by module, by block and by place, each as four bytes, the least
+ * significant first. Takes the time of a plan, and time that grows with the lengths of the image and of the
+ * words moved; only where two transfers write one block may the search for the first such pair take time that
+ * grows with the square of the number of transfers. */
+uint8_t exchange_apply(const uint8_t *shape, size_t shape_bytes, const uint8_t *batch, size_t batch_bytes,
+                       const uint8_t *image, size_t image_bytes, uint8_t *out, size_t room, size_t *count);
+
+/* `exchange draw`: the picture of all settings of a schedule, as the text of an SVG file.
+ *
+ * Takes time that grows with the lengths of the texts and of the picture's. */
 uint8_t exchange_draw(const uint8_t *batch, size_t batch_bytes, const uint8_t *schedule,
                       size_t schedule_bytes, uint8_t *out, size_t room, size_t *count);
 
-/* A batch that does the moves by directions that need the fewest settings. Takes time that grows with
- * the length of the text. */
-uint8_t exchange_direct(const uint8_t *moves, size_t moves_bytes, uint8_t *out, size_t room,
-                        size_t *count);
+/* `exchange direct`: a batch that does the moves, by directions that need the fewest settings.
+ *
+ * Takes time that grows with the length of the text. */
+uint8_t exchange_direct(const uint8_t *moves, size_t moves_bytes, uint8_t *out, size_t room, size_t *count);
+
+#ifdef __cplusplus
+}
+#endif
 
 #endif

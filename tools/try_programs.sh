@@ -1,5 +1,5 @@
 #!/usr/bin/env bash
-# Tries the built programs: the start script, the rows of each command, what the documents show, live clients, the instructions that planning and runs take, and hostile use.
+# Tries the built programs: the start script, the rows of each command, what the documents show, live clients, the calls for programs in C, the instructions that planning and runs take, and hostile use.
 # `tools/test.py` runs these lines in a copy in which they are built; those that aren't built yet are proved and built first.
 set -eu
 cd "$(dirname "$(readlink -f "${BASH_SOURCE[0]}")")/.."
@@ -8,6 +8,7 @@ tools/start/run.sh
 tools/rows/run.py
 tools/texts/run.py
 tools/hosts/run.sh
+tools/c/run.sh
 bench/planning/run.sh --check
 bench/run/growth.sh --check
 tools/hostile/run.sh

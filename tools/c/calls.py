@@ -1,0 +1,140 @@
+#!/usr/bin/env python3
+"""Spoilt texts through the calls for programs in C, byte for byte against the built program.
+
+    calls.py TRY [COUNT]        COUNT texts in all, 10000 where it isn't said, through the built program tools/c/try.c
+    calls.py TRY --examples     the examples, each growth of memory refused in turn
+"""
+
+import multiprocessing
+import os
+import random
+import subprocess
+import sys
+import tempfile
+
+TOP = os.path.dirname(os.path.dirname(os.path.dirname(os.path.abspath(__file__))))
+sys.path.insert(0, f"{TOP}/tools/hostile")
+
+import plain
+import spoil
+import texts
+from program import ask
+
+# The calls, and the files that the command of that name wants. The first text of `apply` is a word of the command instead.
+CALLS = {
+    "plan": ["batch"],
+    "switch": ["batch"],
+    "direct": ["moves"],
+    "check": ["batch", "schedule"],
+    "draw": ["batch", "schedule"],
+    "apply": ["shape", "batch", "image"],
+}
+
+
+def texts_for(draw, name):
+    """The texts of a call, mostly spoilt ones."""
+    if name == "direct":
+        return [spoil.spoil(draw, spoil.moves(draw, plain.MODULES, draw.choice([3, 10, 40])))]
+    if name == "apply":
+        shape = spoil.shape(draw)
+        batch = spoil.batch(draw, shape, draw.choice([0, 3, 10, 40]))
+        named = b"%dx%dx%d" % shape
+        spoilt = spoil.spoil(draw, named)
+        return [
+            spoilt if draw.random() < 0.1 and not texts.is_no_text(spoilt) else named,
+            spoil.spoil(draw, batch) if draw.random() < 0.3 else batch,
+            spoil.image(draw, shape),
+        ]
+    shape = (draw.choice([1, 2, 3, 8, 16, 17, plain.MODULES]), plain.BLOCKS, plain.WORDS)
+    most = draw.choice([0, 3, 10, 40])
+    if name in ("check", "draw"):
+        return list(texts.spoilt_schedule(draw, shape, most, plain.busiest))
+    batch = spoil.batch(draw, shape, most)
+    return [spoil.spoil(draw, batch) if draw.random() < 0.5 else batch]
+
+
+class Calls:
+    """The program in C that makes the calls, kept open."""
+
+    def __init__(self, path, *words):
+        self.process = subprocess.Popen([path, *words], stdin=subprocess.PIPE, stdout=subprocess.PIPE)
+
+    def ask(self, name, given):
+        sizes = " ".join(str(len(text)) for text in given)
+        self.process.stdin.write(f"{name} {sizes}\n".encode() + b"".join(given))
+        self.process.stdin.flush()
+        line = self.process.stdout.readline().split()
+        if len(line) != 2:
+            return None, b""
+        return int(line[0]), self.process.stdout.read(int(line[1]))
+
+    def end(self):
+        self.process.stdin.close()
+        return self.process.wait() == 0
+
+
+def is_same(calls, name, given):
+    """Whether the call and the program give one answer."""
+    status, answer = calls.ask(name, given)
+    for file, text in zip(CALLS[name], given):
+        with open(file, "wb") as out:
+            out.write(text)
+    words = [os.fsdecode(text) if file == "shape" else file for file, text in zip(CALLS[name], given)]
+    program = ask(name, *words)
+    return (status, answer) == (program.status, program.out)
+
+
+def try_some(path, first, count):
+    """Whether the calls answer these texts as the program does."""
+    well = 0
+    with tempfile.TemporaryDirectory() as room:
+        os.chdir(room)
+        calls = Calls(path)
+        for number in range(first, first + count):
+            name = list(CALLS)[number % len(CALLS)]
+            draw = random.Random(f"c {number}")
+            given = texts_for(draw, name)
+            if not is_same(calls, name, given):
+                print(f"calls: WRONG at text {number}: {name} {[text[:400] for text in given]}", file=sys.stderr)
+                break
+            well += 1
+        ended = calls.end()
+        os.chdir("/")
+    return well == count and ended
+
+
+def read(name):
+    with open(f"{TOP}/examples/{name}", "rb") as file:
+        return file.read()
+
+
+def try_examples(path):
+    """The examples, each growth of memory refused in turn."""
+    batch, schedule = read("three-transfers.txt"), read("three-transfers.plan.txt")
+    asked = [(name, [batch, schedule][: len(files)]) for name, files in CALLS.items() if name != "direct"]
+    asked[-1] = ("apply", [b"3x2x2", read("two-pushes.txt"), read("before.img")])
+    asked += [("direct", [read("patterns/gather.moves.txt")]), ("plan", [b"batch 1\n"]), ("plan", [read("all-to-all.txt")])]
+    with tempfile.TemporaryDirectory() as room:
+        os.chdir(room)
+        calls = Calls(path, "no-memory")
+        well = all([is_same(calls, name, given) for name, given in asked])
+        os.chdir("/")
+    return calls.end() and well
+
+
+def main():
+    path = os.path.abspath(sys.argv[1])
+    if sys.argv[2:] == ["--examples"]:
+        sys.exit(0 if try_examples(path) else "calls: WRONG: examples")
+    count = int(sys.argv[2]) if len(sys.argv) > 2 else 10000
+    workers = os.cpu_count() or 1
+    size = -(-count // workers)
+    parts = [(path, first, min(size, count - first)) for first in range(0, count, size)]
+    with multiprocessing.Pool(workers) as pool:
+        well = pool.starmap(try_some, parts)
+    print(f"{count} spoilt texts through the calls for C: {'as the program' if all(well) else 'WRONG'}")
+    sys.exit(0 if all(well) else 1)
+
+
+if __name__ == "__main__":
+    main()

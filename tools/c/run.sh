@@ -1,0 +1,39 @@
+#!/usr/bin/env bash
+# Tries the calls for programs in C: tools/c/run.sh [COUNT]
+#
+#   emulator   the program of examples/emulator, built with warnings and sanitizers, prints what it is to print
+#   try        each call with no room, too little, just enough and more, of accepted and refused texts, and without memory
+#   texts      COUNT spoilt texts, 10000 where it isn't said, byte for byte against the built program
+#
+# Libraries and programs that aren't built yet, or are older than their sources, are proved and built first.
+set -euo pipefail
+unset CDPATH
+here=$(cd "$(dirname "${BASH_SOURCE[0]}")" && pwd)
+top=$(cd "$here/../.." && pwd)
+work=$(mktemp -d)
+trap 'rm -rf "$work"' EXIT
+export PYTHONDONTWRITEBYTECODE=1
+
+"$top/exchange" prove
+library=$top/crates/exchange_c/out/libexchange_c.a
+if [ ! -e "$library" ] || [ -n "$(find "$top/crates.txt" "$top"/crates/*/src "$top"/crates/*/specs -type f -newer "$library" -print -quit)" ]; then
+    echo "run.sh: proving and building exchange_c .." >&2
+    (cd "$top/crates/exchange_c" && rt lib) >"$work/log" 2>&1 || { cat "$work/log" >&2; exit 3; }
+    touch "$library"
+fi
+kit=$(dirname "$(rt doc)")/c/liblibc_c.a
+checks=(-std=c11 -Wall -Wextra -Werror -g -fsanitize=address,undefined -fno-sanitize-recover=all -I"$top/include")
+
+failed=
+cc "${checks[@]}" -o "$work/emulator" "$top/examples/emulator/emulator.c" "$library" "$kit"
+"$work/emulator" >"$work/printed" && cmp "$work/printed" "$top/examples/emulator/printed.txt" || failed+=" emulator"
+cc "${checks[@]}" -Wl,--wrap=malloc,--wrap=realloc -o "$work/try" "$here/try.c" "$library" "$kit"
+python3 "$here/calls.py" "$work/try" --examples || failed+=" try"
+python3 "$here/calls.py" "$work/try" "${1:-10000}" || failed+=" texts"
+nm -g --defined-only "$library" "$kit" | awk '$2 == "T" { print $3 }' | sort >"$work/names"
+cmp "$work/names" "$here/names.txt" || failed+=" names"
+if [ -n "$failed" ]; then
+    echo "calls for programs in C: WRONG:$failed"
+    exit 1
+fi
+echo "calls for programs in C: all is well"
