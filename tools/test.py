@@ -131,6 +131,14 @@ def moved(order, here, there):
             os.rename(f"{here}/{it}/must-fail", f"{there}/{it}/must-fail")
 
 
+def sweep(at):
+    """Removes the copies that runs of this tool which were killed left among the temporary files."""
+    for name in os.listdir(at):
+        of = re.match(r"rack-test-(\d+)-", name)
+        if of and not os.path.exists(f"/proc/{of[1]}"):
+            shutil.rmtree(f"{at}/{name}", ignore_errors=True)
+
+
 def built(crates):
     """Builds the static libraries among these crates over the libraries that `rt ci` built, and returns the status."""
     return max((it.build_static(["--jobs", "1"]) for it in crates if it.is_static), default=0)
@@ -188,7 +196,11 @@ def main(words):
     top = os.path.dirname(os.path.dirname(os.path.realpath(__file__)))
     os.chdir(top)
     names, meter, taken = [it for it in words if it != "--time"], Meter(), []
-    with tempfile.TemporaryDirectory(prefix="rack-test-") as room:
+    at = os.path.realpath(tempfile.gettempdir())
+    if os.path.commonpath([at, top]) == top:
+        sys.exit(f"test: temporary files would lie in the clone, at {at}: set TMPDIR to a folder outside it that can be written")
+    sweep(at)
+    with tempfile.TemporaryDirectory(prefix=f"rack-test-{os.getpid()}-") as room:
         # (some of the programs are run as nobody)
         os.chmod(room, 0o755)
         order = copied(names, f"{room}/copy")

@@ -161,7 +161,7 @@ def edits_of(folder, texts):
     functions = [it for file, text in texts.items() for it in functions_of(file, text)]
     found = []
     for name in sorted(os.listdir(f"{folder}/must-fail")):
-        if name.endswith(".edit"):
+        if name.endswith(".edit") and os.path.isfile(f"{folder}/must-fail/{name}"):
             with open(f"{folder}/must-fail/{name}", encoding="utf-8", errors="replace") as it:
                 lines = lines_changed(texts, changes_of(it.read()))
             # (a line in two functions, of which one stands in the other, changes both, and the line that opens a body may have the function's type)
@@ -282,13 +282,29 @@ def checked(rt, crate, texts, kept):
     return ran
 
 
+def is_made_alike(rt, folder, texts, edit):
+    """Whether rt makes the same of these texts by the edit as a round does. It makes nothing of an edit that is a bad one."""
+    made, why = rt.read_edit(f"{folder}/must-fail/{edit.name}", folder)
+    return not why and {**texts, **made} == {**texts, **with_edits(texts, [edit])}
+
+
+def unread(rt, output, changed):
+    """Why a round's answer isn't one on its functions: its texts, or what is kept of a library, can't be read. Else an empty text."""
+    stale = rt.rtlib.STALE.search(output)
+    return stale[0] if stale else next((it for it in output.split("\n") if rt.unread(it, changed)), "")
+
+
 def in_rounds(rt, crate, edits, kept, say):
     """Tries edits of functions in rounds, each edit once, and returns the reasons by the names of those that are refused."""
     texts, found, number = texts_of(crate.folder), {}, 0
+    edits = [it for it in edits if it.functions and is_made_alike(rt, crate.folder, texts, it)]
     while edits:
         number += 1
         now, began = next_round(edits), time.time()
-        refused, why = judged(now, checked(rt, crate, with_edits(texts, now), kept).stdout)
+        made = with_edits(texts, now)
+        output = checked(rt, crate, made, kept).stdout
+        why = unread(rt, output, made)
+        refused, why = ({}, why) if why else judged(now, output)
         found.update(refused)
         said = f"not believed, so each is tried alone: {why[:200]}" if why else f"{len(refused)} of {len(now)} edits refused"
         say(f"{crate.name}: round {number}: {said}, {time.time() - began:.0f} seconds")
@@ -324,7 +340,7 @@ def tried(rt, crate, start, say):
             os.mkdir(kept)
         if start and edits and checked(rt, crate, {}, kept).returncode:
             return strange + [(it.name, False, f"{label}{it.name}: NOT TRIED: the crate as it stands isn't proved, so nothing is known of it") for it in edits]
-        refused = in_rounds(rt, crate, [it for it in edits if it.functions], kept, say)
+        refused = in_rounds(rt, crate, edits, kept, say)
         found = {name: (True, f"{label}{name}: refused, as it must be: {why[:160]}") for name, why in refused.items()}
         for name, (kind, said) in alone(rt, crate, [it.name for it in edits if it.name not in found], kept).items():
             found[name] = kind in (rt.REFUSED, rt.AT_LIMIT), said

@@ -1,6 +1,7 @@
 #!/usr/bin/env python3
 """Tries how try_edits.py reads sources, edits and what the prover says, on a crate of a few lines and on words like the prover's."""
 import os
+import re
 import sys
 import tempfile
 import types
@@ -140,6 +141,9 @@ def rt_that_finds(over, anew, is_proved):
         checked=lambda crate, texts, flags, kept: types.SimpleNamespace(returncode=not is_proved, stdout=""),
         must_fail=lambda crate, edit, flags, kept: (over if kept else anew, ""),
         edits_of=lambda crate: ([], []),
+        read_edit=lambda edit, folder: (None, "it changes nothing") if "or.edit" in edit else ({"src/lamp.rt": SOURCE.replace("!!self.lit", "!self.lit")}, None),
+        unread=lambda line, changed: line.startswith("src/"),
+        rtlib=types.SimpleNamespace(STALE=re.compile("lower steps again")),
     )
 
 
@@ -188,9 +192,16 @@ def main():
     with tempfile.TemporaryDirectory() as folder:
         written(folder)
         crate = types.SimpleNamespace(folder=folder, name="lamp")
+        os.mkdir(f"{folder}/must-fail/folder.edit")
         found = try_edits.tried(rt_that_finds("refused", "refused", False), crate, f"{folder}/out", print)
+        alike = [it for it in ("is_dark", "turn_off", "or") if try_edits.is_made_alike(rt_that_finds("", "", True), folder, texts, edits[it])]
+        if alike != ["is_dark"]:
+            wrong.append(f"of is_dark, turn_off and or, rt makes the same by {alike}")
     if len(found) != len(EDITS) or any(is_refused for _, is_refused, _ in found):
         wrong.append("edits of a crate that isn't proved are taken as refused")
+    for line, is_unread in {"logic=not-proved": False, "src/lamp.rt:1:1: error: `x` is no name": True, "a module: Run the lower steps again": True}.items():
+        if bool(try_edits.unread(rt_that_finds("", "", True), f"fn c::x: proved\n{line}", {})) != is_unread:
+            wrong.append(f"an answer with {line!r} is taken as {'read' if is_unread else 'not read'}")
     print("\n".join(wrong) or f"edits at once: {len(EDITS)} edits and {len(CASES) + len(ALONE)} answers read well")
     return 1 if wrong else 0
 
