@@ -144,14 +144,16 @@ def built(crates):
     return max((it.build_static(["--jobs", "1"]) for it in crates if it.is_static), default=0)
 
 
-def give_back(order, to):
-    """Puts the programs and static libraries that were built in the folder at hand, which is a copy, into the clone."""
+def give_back(order, to, began):
+    """Puts the programs and static libraries that were built in the folder at hand, a copy, into the clone. They are as old as the copy, so they are older than
+    sources that were changed since."""
     for crate in order:
         for name in (crate, f"lib{crate}.a"):
             here, there = f"crates/{crate}/out/{name}", f"{to}/crates/{crate}/out/{name}"
             if os.path.isfile(here):
                 os.makedirs(os.path.dirname(there), exist_ok=True)
                 shutil.copy2(here, f"{there}.new")
+                os.utime(f"{there}.new", (began, began))
                 os.replace(f"{there}.new", there)
 
 
@@ -203,6 +205,7 @@ def main(words):
     with tempfile.TemporaryDirectory(prefix=f"rack-test-{os.getpid()}-") as room:
         # (some of the programs are run as nobody)
         os.chmod(room, 0o755)
+        began = time.time()
         order = copied(names, f"{room}/copy")
         # (rt has handlers of its own for the signals that end a process)
         signal.signal(signal.SIGUSR1, lambda number, frame: print("\n".join(table(meter, order)), flush=True))
@@ -210,7 +213,7 @@ def main(words):
         moved(order, "crates", f"{room}/edits")
         status = tested(try_edits.rt_module(), order, room, meter)
         if not status and not names:
-            give_back(order, top)
+            give_back(order, top, began)
             status, taken = try_programs()
         os.chdir(top)
     own = sum(os.times()[:2])

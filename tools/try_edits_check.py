@@ -1,5 +1,5 @@
 #!/usr/bin/env python3
-"""Tries how try_edits.py reads sources, edits and what the prover says, on a crate of a few lines and on words like the prover's."""
+"""Tries how try_edits.py reads sources, edits and what the prover says, on a crate of a few lines and on words like the prover's, and how test.py copies."""
 import os
 import re
 import sys
@@ -7,6 +7,7 @@ import tempfile
 import types
 
 sys.dont_write_bytecode = True
+import test as test_command
 import try_edits
 
 SOURCE = """//! A lamp.
@@ -158,6 +159,29 @@ def written(folder):
             it.write(text)
 
 
+def wrong_of_copies(folder):
+    """What is wrong with how test.py copies a clone of two crates, of which crates.txt names one, and gives the program back. It goes to the folder."""
+    for name in ("clone/crates/lamp/out", "clone/crates/odd", "clone/.git"):
+        os.makedirs(f"{folder}/{name}")
+    for name in ("crates.txt", "crates/lamp/lamp.rt", "crates/odd/odd.rt", "crates/lamp/out/lamp"):
+        with open(f"{folder}/clone/{name}", "w", encoding="utf-8") as it:
+            it.write("lamp:\n")
+    wrong = []
+    os.chdir(f"{folder}/clone")
+    for names, wanted in (([], ["lamp", "odd"]), (["lamp"], ["lamp"])):
+        order = test_command.copied(names, f"{folder}/copy_{len(names)}")
+        found = sorted(os.listdir(f"{folder}/copy_{len(names)}/crates"))
+        if (order, found) != (["lamp"], wanted) or os.path.exists(f"{folder}/copy_{len(names)}/crates/lamp/out"):
+            wrong.append(f"with the names {names} the crates {found} are copied")
+    os.mkdir("../copy_0/crates/lamp/out")
+    os.rename("crates/lamp/out/lamp", "../copy_0/crates/lamp/out/lamp")
+    os.chdir(f"{folder}/copy_0")
+    test_command.give_back(order, f"{folder}/clone", 1000)
+    if os.stat(f"{folder}/clone/crates/lamp/out/lamp").st_mtime != 1000:
+        wrong.append("a program is given back that isn't as old as the copy")
+    return wrong
+
+
 def full(function):
     return f"{min(function.owners, key=len)}::{function.name}" if function.owners else function.name
 
@@ -202,6 +226,12 @@ def main():
     for line, is_unread in {"logic=not-proved": False, "src/lamp.rt:1:1: error: `x` is no name": True, "a module: Run the lower steps again": True}.items():
         if bool(try_edits.unread(rt_that_finds("", "", True), f"fn c::x: proved\n{line}", {})) != is_unread:
             wrong.append(f"an answer with {line!r} is taken as {'read' if is_unread else 'not read'}")
+    if test_command.Meter().step_of(["bin/lamp_tests"], "") != ("lamp", "programs") or test_command.Meter().step_of(["exchange"], "/x/crates/lamp") != ("lamp", "programs"):
+        wrong.append("the runs of a crate's tests or program aren't counted as its own")
+    here = os.getcwd()
+    with tempfile.TemporaryDirectory() as folder:
+        wrong += wrong_of_copies(folder)
+        os.chdir(here)
     print("\n".join(wrong) or f"edits at once: {len(EDITS)} edits and {len(CASES) + len(ALONE)} answers read well")
     return 1 if wrong else 0
 
