@@ -11,7 +11,8 @@
  *   EXCHANGE_NO_MEMORY  malloc gave no memory: `*count` is 0, and `out` is as it was
  *
  * Bytes of `out` behind the answer are as they were. A call with a `room` of 0 asks for the number alone; it
- * costs as much as one that writes.
+ * costs as much as one that writes. The same texts have the same answer each time, so the room that the first
+ * call asks for is enough for the second.
  *
  * What the caller promises, and no call can test:
  *
