@@ -224,10 +224,20 @@ def path_of(function, told):
     return fits[0] if len(fits) == 1 else None
 
 
+def is_group(folder):
+    """Whether a proof's folder is that of functions which call each other, or which start closures of their own on threads."""
+    return folder[-1:] and folder[-1].startswith("+")
+
+
 def lies_in(path, folder, goal):
-    """Whether a fault of this folder and goal is one of the function's own. Functions that call each other have one folder, and goals that begin with their names."""
+    """Whether a fault of this folder and goal is one of the function's own. A group has one folder, and goals that begin with a function's name, or with that of its closure."""
     names = tuple(path.split("::")[1:])
-    return folder == names or folder[-1:] and folder[-1].startswith("+") and folder[:-1] == names[:-1] and goal.startswith(f"{names[-1]}-")
+    return folder == names or is_group(folder) and folder[:-1] == names[:-1] and goal.startswith((f"{names[-1]}-", f"fn-{names[-1]}-"))
+
+
+def waits_for_its_group(path, said, groups):
+    """Whether the function may be one of these groups, of which each has a function that isn't proved for a goal of its own."""
+    return said == "not proved" and any(tuple(path.split("::")[1:])[: len(it) - 1] == it[:-1] for it in groups)
 
 
 def own_reason(path, told, faults):
@@ -240,8 +250,10 @@ def own_reason(path, told, faults):
 
 def strange(paths, told, faults):
     """What of a round isn't as it has to be where only the functions of these paths are changed: something else that isn't proved for itself."""
+    groups = {folder for folder, goal, _ in faults if is_group(folder) and any(lies_in(it, folder, goal) for it in paths)}
     for path, said in told.items():
-        if path not in paths and not is_proved(said) and ("did not prove" in said or not FOR_OTHERS.match(said)):
+        is_for_others = FOR_OTHERS.match(said) and "did not prove" not in said or waits_for_its_group(path, said, groups)
+        if path not in paths and not is_proved(said) and not is_for_others:
             return f"{path}: {said}"
     return next((f"{'/'.join(folder)}: {said}" for folder, goal, said in faults if not any(lies_in(it, folder, goal) for it in paths)), "")
 
