@@ -229,10 +229,15 @@ def is_group(folder):
     return folder[-1:] and folder[-1].startswith("+")
 
 
-def lies_in(path, folder, goal):
-    """Whether a fault of this folder and goal is one of the function's own. A group has one folder, and goals that begin with a function's name, or with that of its closure."""
+def lies_in(path, folder, goal, told):
+    """Whether a fault of this folder and goal is one of the function's own. A group has one folder, and goals that begin with a function's name, or with that of its
+    closure. A function that calls itself alone is a group too, and its goals have no such name."""
     names = tuple(path.split("::")[1:])
-    return folder == names or is_group(folder) and folder[:-1] == names[:-1] and goal.startswith((f"{names[-1]}-", f"fn-{names[-1]}-"))
+    if not is_group(folder) or folder[:-1] != names[:-1]:
+        return folder == names
+    of = lambda name: goal.startswith((f"{name}-", f"fn-{name}-"))
+    others = {it.split("::")[-1] for it in told if tuple(it.split("::")[1:-1]) == names[:-1]} - {names[-1]}
+    return of(names[-1]) or folder[-1] == f"+{names[-1]}" and not any(map(of, others))
 
 
 def waits_for_its_group(path, said, groups):
@@ -245,17 +250,17 @@ def own_reason(path, told, faults):
     said = told.get(path, "")
     if "did not prove" in said:
         return said
-    return next((it for folder, goal, it in faults if not is_proved(said) and lies_in(path, folder, goal) and not NAMES.search(it)), "")
+    return next((it for folder, goal, it in faults if not is_proved(said) and lies_in(path, folder, goal, told) and not NAMES.search(it)), "")
 
 
 def strange(paths, told, faults):
     """What of a round isn't as it has to be where only the functions of these paths are changed: something else that isn't proved for itself."""
-    groups = {folder for folder, goal, _ in faults if is_group(folder) and any(lies_in(it, folder, goal) for it in paths)}
+    groups = {folder for folder, goal, _ in faults if is_group(folder) and any(lies_in(it, folder, goal, told) for it in paths)}
     for path, said in told.items():
         is_for_others = FOR_OTHERS.match(said) and "did not prove" not in said or waits_for_its_group(path, said, groups)
         if path not in paths and not is_proved(said) and not is_for_others:
             return f"{path}: {said}"
-    return next((f"{'/'.join(folder)}: {said}" for folder, goal, said in faults if not any(lies_in(it, folder, goal) for it in paths)), "")
+    return next((f"{'/'.join(folder)}: {said}" for folder, goal, said in faults if not any(lies_in(it, folder, goal, told) for it in paths)), "")
 
 
 def judged(edits, output):

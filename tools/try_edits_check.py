@@ -115,6 +115,8 @@ CASES = {
     "the others of such a folder": ("./proofs/lamp/Lamp/+turn/Answers.antt:5:35: error: `new-returns`: no proof of `x`\nfn c::lamp::Lamp::new: not proved\nfn c::lamp::Lamp::turn: not proved", ["new_is_lit"], ["new_is_lit"], True),
     "one of another folder": ("./proofs/lamp/Lamp/+turn/Answers.antt:5:35: error: `new-returns`: no proof of `x`\nfn c::lamp::Lamp::new: not proved\nfn c::bulb::Bulb::turn: not proved", ["new_is_lit"], [], False),
     "a closure in such a folder": ("./proofs/lamp/Lamp/+turn/Answers.antt:5:35: error: `fn-new-join-returns`: no proof of `x`\nfn c::lamp::Lamp::new: not proved", ["new_is_lit"], ["new_is_lit"], True),
+    "a folder of one that calls itself": ("./proofs/lamp/Lamp/+new/Answers.antt:5:35: error: `returns`: no proof of `x`\nfn c::lamp::Lamp::new: not proved", ["new_is_lit"], ["new_is_lit"], True),
+    "a folder that has the name of one of several": ("./proofs/lamp/Lamp/+new/Answers.antt:5:35: error: `is_lit-returns`: no proof of `x`\nfn c::lamp::Lamp::new: not proved\nfn c::lamp::Lamp::is_lit: not proved", ["new_is_lit"], [], False),
     "such a folder, at another's goal": ("./proofs/lamp/Lamp/+turn/Answers.antt:5:35: error: `is_lit-returns`: no proof of `x`\nfn c::lamp::Lamp::new: no proof: its proof is in a folder of several", ["new_is_lit"], [], False),
     "a trait with a parameter": ("fn c::lamp::LampFromClapError::from: no proof: `search` did not prove `returns`\nfn c::lamp::LampFromOddError::from: proved", ["from_even"], ["from_even"], True),
     "the same trait with another one": ("fn c::lamp::LampFromClapError::from: proved\nfn c::lamp::LampFromOddError::from: no proof: `search` did not prove `returns`", ["from_even"], [], False),
