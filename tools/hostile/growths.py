@@ -5,7 +5,8 @@
 
 Command lines: the Nth growth of a whole run of the program is refused, and then the Nth and all later ones, for N from 1 until a run
 meets no refusal. Each time the program prints what it prints with memory, which the rows hold, or the one line `refused no memory`; a
-session is told `refused no memory`, and all else as if that command weren't. Then each start of a thread is refused, which changes no
+session is told `refused no memory`, and all else as if that command weren't. The line on standard error beside a refusal may be left out, or
+what it says of how many settings are enough. Then each start of a thread is refused, which changes no
 answer. Of `host` a session may also end for want of memory, and without threads nobody is served, and no file is made. A file is the
 standard input. Beside command lines stands which calls of the libraries they make.
 
@@ -29,6 +30,7 @@ CALLS = f"{TOP}/crates/hostile_use/out/hostile_use"
 THREE_TRANSFERS = "batch 3\npush 0 0 1 0\npush 0 1 2 0\npush 1 1 2 1\n"
 SCHEDULE = "settings 2\nsetting 0 2\nsetting 1\nbusiest link 0 module 0\nnamed 0 1\n"
 TWO_PUSHES = "batch 2\npush 0 0 1 0\npush 1 1 2 0\n"
+LONG = "settings 3\nsetting 0\nsetting 1\nsetting 2\nbusiest link 0 module 0\nnamed 0 1\n"
 SWAP = "batch 2\npush 0 0 1 0\npush 1 0 0 0\n"
 WIDE = "batch 2\npush 16 0 0 0\npush 16 1 1 0\n"
 NINE = "batch 9\n" + "".join(f"push {module} 3 {other} {module}\n" for module in range(3) for other in range(3))
@@ -70,7 +72,7 @@ def asked_twice():
 
 
 FILES = {
-    "three": THREE_TRANSFERS, "two": TWO_PUSHES, "nine": NINE, "schedule": SCHEDULE, "wrong": "batch 01\n",
+    "three": THREE_TRANSFERS, "two": TWO_PUSHES, "nine": NINE, "schedule": SCHEDULE, "long": LONG, "wrong": "batch 01\n",
     "script": SCRIPT, "other": "show 1\n", "refusals": REFUSALS,
     "pushes": PUSHES, "swap": SWAP, "wide": WIDE, "image": IMAGE, "moves": MOVES, "twice": asked_twice(),
     "caller.in": "batch 1\npush 0 0 1 0\nplan 1\nrun 1\n",
@@ -87,7 +89,8 @@ COMMANDS = [
     ["switch", "three"], ["switch", "three", "--workers", "2"], ["switch", "wide"], ["switch", "wide", "--workers", "2"],
     ["switch", "wrong"], ["switch", "-"],
     # `Schedule::read`, `check_schedule` and `answer_check`.
-    ["check", "three", "schedule"], ["check", "three", "three"], ["check", "-", "schedule"], ["check", "-", "-"],
+    # `settings_enough` and `second_line`.
+    ["check", "three", "schedule"], ["check", "three", "three"], ["check", "three", "long"], ["check", "-", "schedule"], ["check", "-", "-"],
     # `draw` and `answer_draw`.
     ["draw", "three", "schedule"], ["draw", "three", "three"],
     # `Rack::new` and `part`, `run` and `answer_run`. Where blocks are swapped, `Batch::held_sources` and a `Rack::part` that holds them.
@@ -155,6 +158,8 @@ def judge_of_command(words, wanted):
     def judge(ended, refused):
         if ended == wanted:
             return "as ever"
+        if refused and is_less_told(ended, wanted):
+            return "less told"
         if refused and ended == (b"refused no memory\n", b"", 1):
             return "no memory"
         if refused and words[:1] == ["serve"] and is_served(words, ended):
@@ -162,6 +167,12 @@ def judge_of_command(words, wanted):
         return f"WRONG {ended}"
 
     return judge
+
+
+def is_less_told(ended, wanted):
+    """Whether a refusal is as ever, but for what is told beside it: nothing, or nothing of the schedule."""
+    less = (b"", wanted.err.split(b"; the schedule is valid")[0] + b"\n")
+    return wanted.err.startswith(b"exchange: ") and (ended.out, ended.status) == (wanted.out, wanted.status) and ended.err in less
 
 
 def served(words):
@@ -211,13 +222,14 @@ def sweep_command(words):
 def sweep_host():
     """The same for a live client, over plain files. The first run starts no thread, so that no file is made."""
     words = ["host", "2x1x1", "caller"]
-    no_threads = (b"refused threads\n", b"", 1)
+    note = b"exchange: no thread could be had for each client; fewer clients may do\n"
+    no_threads = (b"refused threads\n", note, 1)
     alone, _, _, unstarted = run("T", EXCHANGE, words, False)
     is_made = os.path.exists("caller.out")
     wanted = ask(*words, given=INPUT)
 
     def judge(ended, refused):
-        if ended == no_threads:
+        if ended in (no_threads, (b"refused threads\n", b"", 1)):
             return "no threads"
         if refused and ended[1:] == (b"", 1) and re.fullmatch(rb"session 0 caller\nended (open|no memory|write)\n", ended.out):
             return "a session ended"

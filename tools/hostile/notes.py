@@ -39,13 +39,15 @@ ENTRY_NAMES = {"batch": "transfer", "moves": "move", "schedule": "setting"}
 
 @dataclass
 class Asked:
-    """What a command was asked. `kind` is `moves` for `direct` alone. A text is its name and its bytes."""
+    """What a command was asked. `kind` is `moves` for `direct` alone. A text is its name and its bytes. `valid` says whether the schedule is
+    one of the batch, and `enough` how many settings are enough then, where that is known."""
 
     kind: str
     list: tuple = (b"", b"")
     other: tuple = (b"", b"")
     shape: bytes = b""
     range: bytes = b""
+    valid: bool = None
     enough: int = None
 
 
@@ -206,8 +208,10 @@ def there_are(named, what):
 
 def enough_words(asked):
     """What is told behind a certificate's fault of a valid schedule."""
-    if asked.enough is None:
+    if asked.valid is None:
         return b""
+    if not asked.valid:
+        return b"; the schedule isn't valid either"
     if asked.enough >= announced(asked.other[1]):
         return b"; the schedule is valid, and none has fewer settings"
     return b"; the schedule is valid, and %s enough" % (b"1 setting is" if asked.enough == 1 else b"%d settings are" % asked.enough)
@@ -290,6 +294,7 @@ RULES = [
     (r"image (\d+) (\d+)",
      lambda asked, has, wants: asked.other[0] + b": %s; an image of %s has %d" % (many(has, b"byte"), asked.shape, wants)),
     (r"overlap (\d+) (\d+)", of_overlap),
+    (r"threads", lambda asked: b"no thread could be had for each client; fewer clients may do"),
 ]
 
 

@@ -2,12 +2,14 @@
 """Files and streams that can't be read, and streams that can't be written: one line on the right stream, the status that docs/REFUSALS.md
 names, and nothing hangs."""
 
+import errno
 import os
 import shutil
 import sys
 import tempfile
 import threading
 
+import notes
 import picture
 import plain
 import switching
@@ -19,7 +21,6 @@ SWITCHED = b"setting 0 04 01 00 11 01 01 12 03\nsetting 1 06 00 11 06 01 12 01 0
 SWAP = b"batch 2\npush 0 0 1 0\npush 1 0 0 0\n"
 IMAGE, SWAPPED = bytes([1, 2, 3, 4, 5, 6, 7, 8]), bytes([5, 6, 7, 8, 1, 2, 3, 4])
 MOVES = b"moves 1\nmove 0 0 1 0\n"
-REFUSED_FILE = Ended(b"refused file\n", b"", 1)
 NO_MEMORY = Ended(b"refused no memory\n", b"", 1)
 UNWRITTEN = b"exchange: the answer can't be written: "
 
@@ -37,6 +38,30 @@ def expect(what, ended, wanted):
     if not well:
         problems.append(what)
         print(f"streams: WRONG: {what}: {ended}")
+
+
+def refused(asked, refusal):
+    """A refusal of what was asked, with the line beside it."""
+    return Ended(refusal, notes.told(asked, refusal), 1)
+
+
+def refused_batch(name, text, refusal):
+    return refused(notes.Asked("batch", (name, text)), refusal)
+
+
+def refused_file(name, reason):
+    """The refusal of a file that can't be read for a reason of the system."""
+    return Ended(b"refused file\n", f"exchange: {name}: {reason}\n".encode(), 1)
+
+
+def reason_of(name):
+    """Why a file can't be read."""
+    try:
+        with open(name, "rb") as file:
+            file.read(1)
+    except OSError as why:
+        return why.strerror
+    return "it can be read"
 
 
 def under(line, *words):
@@ -63,7 +88,7 @@ def files(room):
 def unreadable_files(room):
     for what, name in files(room):
         for words in [("plan", name), ("switch", name), ("check", name, "plan"), ("check", "three", name), ("draw", name, "plan"), ("draw", "three", name), ("run", "3x2x2", name), ("run", "0", name), ("serve", "2x2x2", "script", name), ("serve", "0", name), ("apply", "2x1x1", name, "image"), ("apply", "0", "three", name), ("run", "0", "three", "--image", name), ("serve", "0", "script", "--image", name), ("direct", name)]:
-            expect(f"{what}: {words[0]}", ask(*words, seconds=LIMIT), REFUSED_FILE)
+            expect(f"{what}: {words[0]}", ask(*words, seconds=LIMIT), refused_file(name, reason_of(name)))
 
 
 def forbidden_file(room):
@@ -76,7 +101,7 @@ def forbidden_file(room):
     words = [f"{room}/exchange", "plan", "forbidden"]
     if os.geteuid() == 0:
         words = ["/usr/bin/setpriv", "--reuid=65534", "--regid=65534", "--clear-groups", *words]
-    expect("a forbidden file", ask(*words[1:], program=words[0], seconds=LIMIT), REFUSED_FILE)
+    expect("a forbidden file", ask(*words[1:], program=words[0], seconds=LIMIT), refused_file("forbidden", os.strerror(errno.EACCES)))
 
 
 def endless_files():
@@ -99,12 +124,14 @@ def pieces(name, parts):
 def pipes():
     """A text may come in pieces, and from a pipe; no text at all is an empty one."""
     os.mkfifo("pipe")
-    for what, parts, wanted in [
-        ("byte by byte", [bytes([it]) for it in THREE_TRANSFERS], Ended(PLAN, b"", 0)),
-        ("cut in a line", [THREE_TRANSFERS[:24]], Ended(b"refused batch line 3\n", b"", 1)),
-        ("nothing", [], Ended(b"refused batch line 1\n", b"", 1)),
+    for what, parts, refusal in [
+        ("byte by byte", [bytes([it]) for it in THREE_TRANSFERS], None),
+        ("cut in a line", [THREE_TRANSFERS[:24]], b"refused batch line 3\n"),
+        ("nothing", [], b"refused batch line 1\n"),
     ]:
         for name, given in [("pipe", os.devnull), ("-", "pipe")]:
+            told = b"standard input" if name == "-" else b"pipe"
+            wanted = refused_batch(told, b"".join(parts), refusal) if refusal else Ended(PLAN, b"", 0)
             writer = threading.Thread(target=pieces, args=("pipe", parts))
             writer.start()
             expect(f"a pipe: {what}, as {name}", ask("plan", name, given=given, seconds=LIMIT), wanted)
@@ -157,9 +184,9 @@ def pipes_as_files():
 
 # Streams that can't be read.
 UNREADABLE = {
-    "a closed input": "exec <&-;",
-    "an input that is only written": "exec 0>/dev/null;",
-    "a folder": "exec <.;",
+    "a closed input": ("exec <&-;", errno.EBADF),
+    "an input that is only written": ("exec 0>/dev/null;", errno.EBADF),
+    "a folder": ("exec <.;", errno.EISDIR),
 }
 
 
@@ -168,14 +195,15 @@ def inputs():
     for words, given, answer in INPUTS:
         line = " ".join(words)
         expect(f"{line}: its file", ask(*words, given=given, seconds=LIMIT), Ended(answer, b"", 0))
-        expect(f"{line}: another name", ask(*("./-" if it == "-" else it for it in words), seconds=LIMIT), REFUSED_FILE)
-        for what, line_before in UNREADABLE.items():
-            expect(f"{line}: {what}", under(line_before, *words), REFUSED_FILE)
+        expect(f"{line}: another name", ask(*("./-" if it == "-" else it for it in words), seconds=LIMIT), refused_file("./-", os.strerror(errno.ENOENT)))
+        for what, (line_before, error) in UNREADABLE.items():
+            expect(f"{line}: {what}", under(line_before, *words), refused_file("standard input", os.strerror(error)))
         expect(f"{line}: an endless input", under("ulimit -v 400000; exec </dev/zero;", *words), NO_MEMORY)
-    expect("plan -: nothing", ask("plan", "-", seconds=LIMIT), Ended(b"refused batch line 1\n", b"", 1))
-    expect("switch -: nothing", ask("switch", "-", seconds=LIMIT), Ended(b"refused batch line 1\n", b"", 1))
+    nothing = refused_batch(b"standard input", b"", b"refused batch line 1\n")
+    expect("plan -: nothing", ask("plan", "-", seconds=LIMIT), nothing)
+    expect("switch -: nothing", ask("switch", "-", seconds=LIMIT), nothing)
     expect("serve -: nothing", ask("serve", "2x2x2", "-", seconds=LIMIT), Ended(b"session 0\n", b"", 0))
-    expect("a shape isn't a file", ask("run", "-", "-", given="three", seconds=LIMIT), Ended(b"refused shape\n", b"", 1))
+    expect("a shape isn't a file", ask("run", "-", "-", given="three", seconds=LIMIT), refused(notes.Asked("batch", shape=b"-"), b"refused shape\n"))
     expect("the rest of an input", under("exec <behind; read line;", "switch", "-"), Ended(SWITCHED, b"", 0))
 
 
@@ -249,6 +277,8 @@ def closed_and_full_output():
     expect("a wrong word to a closed error", under("exec 2>&-;", "chart"), Ended(b"", b"", 3))
     expect("a wrong word to a full error", under("exec 2>/dev/full;", "chart"), Ended(b"", b"", 3))
     expect("an answer with a closed error", under("exec 2>&-;", "plan", "three"), Ended(PLAN, b"", 0))
+    expect("a refusal with a closed error", under("exec 2>&-;", "plan", "missing"), Ended(b"refused file\n", b"", 1))
+    expect("a refusal with a full error", under("exec 2>/dev/full;", "plan", "missing"), Ended(b"refused file\n", b"", 1))
 
 
 def readers_that_go_away():

@@ -5,6 +5,8 @@
 
 Text number n of a kind is the same each time. A plan isn't the only one of its batch, so `plan` is judged by what a plan is, and `switch`
 by the plan that `plan` gives; all other answers are compared byte by byte. In a quarter of the runs one of the files is standard input.
+The line on standard error beside a refusal is compared byte by byte too, with what notes.py tells. What it says is then taken away from the
+texts: they have to be refused otherwise, or told of otherwise. In a tenth of the runs `--quiet` leaves that line out.
 """
 
 import multiprocessing
@@ -12,8 +14,9 @@ import os
 import random
 import sys
 import tempfile
-from collections import Counter
+from collections import Counter, namedtuple
 
+import notes
 import picture
 import plain
 import sessions
@@ -30,12 +33,35 @@ def keep(name, text):
     return name
 
 
+# What came of a run: as `Ended`, with the file that was standard input, and whether nothing was to be told beside a refusal.
+Answer = namedtuple("Answer", "out err status given is_quiet")
+
+
 def ask_of(draw, words, files):
     """Runs the program with these words and then these files, one of which may be standard input, and with some number of workers, if it
     is a command that has them."""
     workers = [] if words[0] in ("check", "draw", "direct") else workers_of(draw)
     given = draw.choice([it for it in files if it != "--image"]) if draw.random() < 0.25 else os.devnull
-    return ask(*words, *("-" if file == given else file for file in files), *workers, given=given)
+    quiet = ["--quiet"] if draw.random() < 0.1 else []
+    ended = ask(*words, *("-" if file == given else file for file in files), *workers, *quiet, given=given)
+    return Answer(*ended, given, bool(quiet))
+
+
+def named(answer, file, text):
+    """A text and the name that is told of its file; no name where there is no text."""
+    if text is None:
+        return b"", b""
+    return (b"standard input" if file == answer.given else file.encode()), text
+
+
+def is_well_told(answer, asked, line, answer_to):
+    """Whether the line beside an answer is the one that belongs there, and says what is so: without that the answer is another, or what
+    is told. `answer_to` gives the answer to what is asked."""
+    wanted = notes.told(asked, line) if line.startswith(b"refused ") else b""
+    if answer.err != (b"" if answer.is_quiet else wanted):
+        return False
+    again = notes.mended(asked, line) if wanted else None
+    return again is None or answer_to(again) != line or notes.told(again, line) != wanted
 
 
 def image_option(draw, shape, files):
@@ -48,15 +74,20 @@ def image_option(draw, shape, files):
 
 
 def is_refusal(answer, line):
-    return answer.out == line and answer.status == 1 and answer.err == b""
+    return answer.out == line and answer.status == 1
 
 
 def is_answer(answer, line):
-    return answer.out == line and answer.status == int(line.startswith(b"refused ")) and answer.err == b""
+    return answer.out == line and answer.status == int(line.startswith(b"refused "))
 
 
 def workers_of(draw):
     return draw.choice([[], [], ["--workers", "2"], ["--workers", "3"], ["--workers", "64"]])
+
+
+def is_batch_told(answer, text, refusal):
+    asked = notes.Asked("batch", named(answer, "batch", text))
+    return is_well_told(answer, asked, refusal, lambda it: plain.answer_plan(it.list[1]))
 
 
 def try_plan(draw):
@@ -65,7 +96,7 @@ def try_plan(draw):
     answer = ask_of(draw, ["plan"], [keep("batch", text)])
     refusal = plain.answer_plan(text)
     if refusal:
-        return is_refusal(answer, refusal), refusal, [text], answer
+        return is_refusal(answer, refusal) and is_batch_told(answer, text, refusal), refusal, [text], answer
     well = answer.status == 0 and answer.err == b"" and plain.is_plan(text, answer.out)
     return well, b"a plan", [text], answer
 
@@ -80,7 +111,7 @@ def try_switch(draw):
     answer = ask_of(draw, ["switch"], [keep("batch", text)])
     refusal = plain.answer_plan(text)
     if refusal:
-        return is_refusal(answer, refusal), refusal, [text], answer
+        return is_refusal(answer, refusal) and is_batch_told(answer, text, refusal), refusal, [text], answer
     plan = ask_of(draw, ["plan"], ["batch"])
     well = answer.status == 0 and answer.err == b"" and switching.is_switched(text, plan.out, answer.out)
     return well, kind_of_bytes(text, plan.out), [text, plan.out], answer
@@ -104,7 +135,9 @@ def try_run(draw):
     image, option = image_option(draw, shape, files)
     answer = ask_of(draw, ["run", words], [files[0], *option, *files[1:]])
     wanted = plain.answer_run(words.encode(), text, image)
-    return is_answer(answer, wanted), wanted, [words.encode(), text, image], answer
+    asked = notes.Asked("batch", named(answer, "batch", text), named(answer, "image", image), words.encode())
+    told = is_well_told(answer, asked, wanted, lambda it: plain.answer_run(it.shape, it.list[1], image))
+    return is_answer(answer, wanted) and told, wanted, [words.encode(), text, image], answer
 
 
 def try_apply(draw):
@@ -117,7 +150,9 @@ def try_apply(draw):
     words = "{}x{}x{}".format(*shape)
     answer = ask_of(draw, ["apply", words], [keep("batch", text), keep("image", image)])
     wanted, status = plain.answer_apply(words.encode(), text, image)
-    well = answer.out == wanted and answer.status == status and answer.err == b""
+    asked = notes.Asked("batch", named(answer, "batch", text), named(answer, "image", image), words.encode())
+    told = is_well_told(answer, asked, wanted if status else b"", lambda it: plain.answer_apply(it.shape, it.list[1], image)[0])
+    well = answer.out == wanted and answer.status == status and told
     return well, wanted if status else b"an image", [words.encode(), text, image], answer
 
 
@@ -129,7 +164,9 @@ def try_direct(draw):
     answer = ask_of(draw, ["direct"], [keep("moves", text)])
     refusal = plain.refusal_of_moves(text)
     if refusal:
-        return is_refusal(answer, refusal), refusal, [text], answer
+        asked = notes.Asked("moves", named(answer, "moves", text))
+        told = is_well_told(answer, asked, refusal, lambda it: plain.refusal_of_moves(it.list[1]))
+        return is_refusal(answer, refusal) and told, refusal, [text], answer
     well = answer.status == 0 and answer.err == b"" and plain.is_directed(text, answer.out)
     return well, b"a batch", [text], answer
 
@@ -156,7 +193,23 @@ def try_check(draw):
     batch, text = spoilt_schedule(draw, plain.WIDEST, draw.choice([0, 3, 10, 30]), plain.busiest)
     answer = ask_of(draw, ["check"], [keep("batch", batch), keep("schedule", text)])
     wanted = plain.answer_check(batch, text)
-    return is_answer(answer, wanted), wanted, [batch, text], answer
+    asked = notes.Asked("batch", named(answer, "batch", batch), named(answer, "schedule", text), **known_of(batch, text))
+    told = is_well_told(answer, asked, wanted, lambda it: plain.answer_check(it.list[1], it.other[1]))
+    return is_answer(answer, wanted) and told, wanted, [batch, text], answer
+
+
+def known_of(batch, schedule):
+    """What is known of a schedule, where both texts can be read."""
+    try:
+        transfers = plain.read_batch(batch, plain.WIDEST)
+        settings, _ = plain.read_schedule(schedule)
+    except plain.Refused:
+        return {}
+    try:
+        picture.check_settings(transfers, settings)
+    except plain.Refused:
+        return {"valid": False}
+    return {"valid": True, "enough": len(plain.busiest(transfers)[1])}
 
 
 def try_draw(draw):
@@ -171,7 +224,9 @@ def try_draw(draw):
     else:
         answer = ask_of(draw, ["draw", "--settings=" + os.fsdecode(settings)], files)
     wanted = picture.answer_draw(batch, text, settings)
-    return is_answer(answer, wanted), wanted, [batch, text, settings or b""], answer
+    asked = notes.Asked("batch", named(answer, "batch", batch), named(answer, "schedule", text), range=settings or b"")
+    told = is_well_told(answer, asked, wanted, lambda it: picture.answer_draw(it.list[1], it.other[1], settings))
+    return is_answer(answer, wanted) and told, wanted, [batch, text, settings or b""], answer
 
 
 def range_text(draw, count):
@@ -203,7 +258,9 @@ def try_shape(draw):
         well = answer.status == 2 and answer.out == b"" and answer.err != b""
         return well, b"no word for a shape", [text, batch], answer
     wanted = plain.answer_run(text, batch)
-    return is_answer(answer, wanted), wanted, [text, batch], answer
+    asked = notes.Asked("batch", named(answer, "batch", batch), shape=text)
+    told = is_well_told(answer, asked, wanted, lambda it: plain.answer_run(it.shape, it.list[1]))
+    return is_answer(answer, wanted) and told, wanted, [text, batch], answer
 
 
 def is_no_word(text):
@@ -215,8 +272,8 @@ def is_no_word(text):
     return len(text) > 1 and text.startswith(b"-")
 
 
-def is_served(answer, wanted, status):
-    return answer.out == wanted and answer.status == status and answer.err == b""
+def is_served(answer, wanted, status, asked):
+    return answer.out == wanted and answer.status == status and is_well_told(answer, asked, wanted, lambda it: b"")
 
 
 def last_line(text):
@@ -237,7 +294,8 @@ def try_script(draw):
     image, option = image_option(draw, shape, files)
     answer = ask_of(draw, ["serve", words], [files[0], *option, *files[1:]])
     wanted, status = sessions.answer_serve(words.encode(), [text], image)
-    return is_served(answer, wanted, status), last_line(wanted), [words.encode(), text, image], answer
+    asked = notes.Asked("batch", other=named(answer, "image", image), shape=words.encode())
+    return is_served(answer, wanted, status, asked), last_line(wanted), [words.encode(), text, image], answer
 
 
 def try_scripts(draw):
@@ -249,7 +307,8 @@ def try_scripts(draw):
     words = "{}x{}x{}".format(*shape)
     answer = ask_of(draw, ["serve", words], [keep(f"script{number}", text) for number, text in enumerate(scripts)])
     wanted, status = sessions.answer_serve(words.encode(), scripts)
-    return is_served(answer, wanted, status), b"sessions side by side", [words.encode(), *scripts], answer
+    asked = notes.Asked("batch", shape=words.encode())
+    return is_served(answer, wanted, status, asked), b"sessions side by side", [words.encode(), *scripts], answer
 
 
 KINDS = {

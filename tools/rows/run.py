@@ -296,12 +296,18 @@ def shorten(text):
     return f"{text!r}" if len(text) < 2000 else f"{text[:1000]!r} .. {text[-500:]!r}"
 
 
+def told_beside(ended):
+    """What standard error has to have where a row doesn't say it: nothing, or one line of the program beside a refusal."""
+    is_refusal = ended.status == 1 and re.fullmatch(rb"refused [^\n]*\n", ended.out)
+    return (["err", "lines"], b"exchange: ") if is_refusal else (["err"], b"")
+
+
 def judge(row, ended):
     """All that is wrong with how a line of a row ended."""
     if ended.wrong:
         return [ended.wrong]
     unnamed = {"out", "err"} - {words[0] for words, _ in row.wanted}
-    wanted = row.wanted + [([it], b"") for it in sorted(unnamed)]
+    wanted = row.wanted + [told_beside(ended) if it == "err" else ([it], b"") for it in sorted(unnamed)]
     problems = [differs(words, text, getattr(ended, words[0])) for words, text in wanted]
     if ended.status != row.status:
         problems.append(f"status: wanted {row.status}, found {ended.status}")

@@ -7,8 +7,11 @@ readonly MOST_BYTES=$((64 << 20))
 # What `rt try` is given: the words, the options that hand files over, and standard input.
 tried_words=() handed_over=() input=/dev/null
 
-# The words that have another name there, by that name.
-declare -A renamed=()
+# The words that have another name there, by that name, and why what a word names can't be read, by that name too.
+declare -A renamed=() unread=()
+
+# The most bytes of a word that the program quotes.
+readonly MOST_QUOTED=60
 
 # The words for the program once it is proved: those that name a pipe, which can be read only once, are its copy's name.
 later_words=()
@@ -101,7 +104,16 @@ hand_over() {
         handed_over+=(--data "$name=$room/$number")
         copy_file "$word" "$room/$number" || return 1
         ! [ -p "$word" ] || later_words[number]=$room/$number
+    elif [ -n "$name" ]; then
+        unread[$name]=$(reason_of "$word")
     fi
+}
+
+# Why a file can't be read, as the system says it.
+reason_of() {
+    local reason
+    reason=$(LC_ALL=C cat -- "$1" 2>&1 >/dev/null | tail -n 1)
+    printf '%s' "${reason##*: }"
 }
 
 # Whether a word can't stay as it is: it names what is no plain file here, or what `rt try` has under that name.
@@ -153,11 +165,12 @@ write_answer() {
     only_said <"$room/err" | name_program >"$room/said"
     name_program <"$room/out" >"$room/answer"
     put_words_back "$room/said"
-    if ! write "$room/said" >&2 2>/dev/null; then
+    if [ -s "$room/answer" ] && ! write "$room/answer" 2>"$room/why"; then
+        say "the answer can't be written: $(numbered_error "$room/why")"
         exit 3
     fi
-    if ! write "$room/answer" 2>"$room/why"; then
-        say "the answer can't be written: $(numbered_error "$room/why")"
+    # What is told beside a refusal may be lost, what is told in place of an answer may not.
+    if [ -s "$room/said" ] && ! write "$room/said" >&2 2>/dev/null && ! [ -s "$room/answer" ]; then
         exit 3
     fi
     exit "$answer_status"
@@ -184,10 +197,32 @@ put_words_back() {
     local text name
     text=$(cat "$1" && printf .)
     text=${text%.}
+    for name in "${!unread[@]}"; do
+        text=${text/#"exchange: $name: No such file or directory"/"exchange: $name: ${unread[$name]}"}
+    done
     for name in "${!renamed[@]}"; do
+        text=${text//"\"$name\""/"$(quoted "${renamed[$name]}")"}
         text=${text//"$name"/"${renamed[$name]}"}
     done
     printf '%s' "$text" >"$1"
+}
+
+# A word as the program quotes it: cut, with bytes that aren't printable escaped.
+quoted() {
+    local LC_ALL=C
+    local word=${1:0:MOST_QUOTED} text='' behind='' byte at
+    for ((at = 0; at < ${#word}; at += 1)); do
+        byte=${word:at:1}
+        case $byte in
+        [\"\\]) text+=\\$byte ;;
+        $'\t') text+='\t' ;;
+        $'\r') text+='\r' ;;
+        [[:print:]]) text+=$byte ;;
+        *) text+=$(printf '\\x%02x' "$(($(printf '%d' "'$byte") & 255))") ;;
+        esac
+    done
+    [ ${#1} -le "$MOST_QUOTED" ] || behind=..
+    printf '"%s"%s' "$text" "$behind"
 }
 
 # Writes a text to standard output. Where nobody reads that, it fails as any write does.

@@ -8,7 +8,7 @@ lines behind it, up to the next one, are what it prints on both streams, whateve
 The commands of a document run one after another, by the shell bash, in a folder with the repository's examples and `./exchange`.
 A block that begins with ```file NAME isn't run: it is a file of that name for the commands behind it.
 
-Each command's help begins with an example of one line. It is run too, and has to end well. So is each command in the last column of a table
+Each command's help begins with the line `Example:`, and the next line is one. It is run too, and has to end well. So is each command in the last column of a table
 whose last column is headed `For example`.
 
 Each link of a document has to lead to a file or folder of the repository, and where it names a heading there, to one. Lines of more than
@@ -192,9 +192,8 @@ def try_help(command):
     """Runs the example with which a command's help begins: whether it ends well."""
     with tempfile.TemporaryDirectory(prefix="texts-") as folder:
         make_folder(folder)
-        first = run_in(folder, f"./exchange {command} --help")[1].split("\n")[:2]
-        example = next((line.strip() for line in first if f"./exchange {command}" in line), "")
-        is_well = example != "" and run_in(folder, example)[0] == 0
+        heading, example = run_in(folder, f"./exchange {command} --help")[1].split("\n")[:2]
+        is_well = heading == "Example:" and f"./exchange {command}" in example and run_in(folder, example)[0] == 0
         if not is_well:
             print(f"exchange {command} --help begins with an example that doesn't work: {example}")
         return is_well

@@ -5,7 +5,8 @@ use Rattle.std.specs.Str.{bytes_eq}
 use Rattle.clap.specs.Words.{Row, Text, all_of, first_of}
 use Rattle.command_words.specs.declared.words.Job.{Job}
 use Rattle.command_words.specs.declared.words.Job.TheVariants.{Plan, Check, Draw, Switch, Direct, Apply, Run, Serve, Host, Talk}
-use Rattle.command_words.specs.Jobs.{IsJob, HasWord, HasWorked, HasBoth, HasApply, HasRun, HasServe, files_of, clients_of, input_name}
+use Rattle.command_words.specs.declared.words.Request.{Request}
+use Rattle.command_words.specs.Jobs.{IsJob, IsRequest, HasWord, HasWorked, HasBoth, HasApply, HasRun, HasServe, files_of, clients_of, input_name}
 
 -- the one or the other
 abbrev Either : Bool → Type 0 → Type 0 → Type 0
@@ -73,9 +74,9 @@ files_are name rows (Host shape clients image workers) is = rw (is.0, is.3) refl
 files_are name rows (Talk shape image) is = rw (is.0, is.2) refl
 
 -- two jobs that the same words hold have the same files
-pub same_files : (o : Option (Text × List Row)) (a b : Job) → MatchOption o ⊥ (λ p. IsJob p.0 p.1 a) → MatchOption o ⊥ (λ p. IsJob p.0 p.1 b) → files_of a ≡ files_of b
+pub same_files : (o : Option (Text × List Row)) (a b : Request) → MatchOption o ⊥ (λ p. IsRequest p.0 p.1 a) → MatchOption o ⊥ (λ p. IsRequest p.0 p.1 b) → files_of a.job ≡ files_of b.job
 same_files None a b one other = absurd one
-same_files (Some p) a b one other = files_are p.0 p.1 a one ∙ sym (files_are p.0 p.1 b other)
+same_files (Some p) a b one other = files_are p.0 p.1 a.job one.0 ∙ sym (files_are p.0 p.1 b.job other.0)
 
 -- the names of the clients of the command of this name
 abbrev clients_in : Text → List Row → List Text
@@ -94,6 +95,6 @@ clients_are name rows (Host shape clients image workers) is = rw (is.0, is.2.0) 
 clients_are name rows (Talk shape image) is = rw is.0 refl
 
 -- and the same clients
-pub same_clients : (o : Option (Text × List Row)) (a b : Job) → MatchOption o ⊥ (λ p. IsJob p.0 p.1 a) → MatchOption o ⊥ (λ p. IsJob p.0 p.1 b) → clients_of a ≡ clients_of b
+pub same_clients : (o : Option (Text × List Row)) (a b : Request) → MatchOption o ⊥ (λ p. IsRequest p.0 p.1 a) → MatchOption o ⊥ (λ p. IsRequest p.0 p.1 b) → clients_of a.job ≡ clients_of b.job
 same_clients None a b one other = absurd one
-same_clients (Some p) a b one other = clients_are p.0 p.1 a one ∙ sym (clients_are p.0 p.1 b other)
+same_clients (Some p) a b one other = clients_are p.0 p.1 a.job one.0 ∙ sym (clients_are p.0 p.1 b.job other.0)

@@ -1,5 +1,5 @@
 -- The job that the words of the command line name.
-use Rattle.std.specs.Prelude.{◌≡◌, ◌≢◌, ◌⊎◌, ℕ, ◌≤◌, List, [], ◌∷◌, ◌++◌, Some, String, codes, length, map, string_bytes, true, All, AllPairs, option_to_list, IfErr, MatchOption, Result, ⊤}
+use Rattle.std.specs.Prelude.{◌≡◌, ◌≢◌, ◌⊎◌, ℕ, ◌≤◌, List, [], ◌∷◌, ◌++◌, Some, None, String, codes, length, map, string_bytes, Bool, true, false, All, AllPairs, option_to_list, IfErr, MatchOption, Result, ⊤}
 use Rattle.std.specs.Str.Parse.{IsNumeral, digits_value, without_leading_plus}
 use Rattle.clap.specs.Words.{Row, Text, all_of, first_of, one_of, subcommand_of, subcommand_rows_of, takes}
 use Rattle.clap.specs.declared.parser.matches.ArgMatches.{ArgMatches}
@@ -10,6 +10,7 @@ use Rattle.exchange_limits.specs.declared.limits.TheConstants.{MAX_WORKERS}
 use Rattle.command_words.specs.declared.limits.TheConstants.{MAX_CLIENTS}
 use Rattle.command_words.specs.declared.words.Job.{Job}
 use Rattle.command_words.specs.declared.words.Job.TheVariants.{Plan, Check, Draw, Switch, Direct, Apply, Run, Serve, Host, Talk}
+use Rattle.command_words.specs.declared.words.Request.{Request}
 use Rattle.command_words.specs.declared.words.WordsFault.{WordsFault}
 use Rattle.command_words.specs.declared.words.WordsFault.TheVariants.{NoMemory}
 use Rattle.command_words.specs.declared.words.Lack.{Lack}
@@ -76,9 +77,19 @@ texts_of words = map (λ word. string_bytes word) words
 abbrev pub AreMatchesOf : List Text → ArgMatches → Type 0
 AreMatchesOf words found = subcommand_rows_of found ≡ subcommand_of program words
 
--- the job that clap finds in these words
-abbrev pub Holds : List Text → Job → Type 0
-Holds words job = MatchOption (subcommand_of program words) ⊥ (λ p. IsJob p.0 p.1 job)
+-- whether the rows have `--quiet`
+pub record IsQuiet (rows : List Row) (quiet : Bool) : Type 0 where
+  pub none : one_of (codes "quiet") rows ≡ None → quiet ≡ false
+  pub there : one_of (codes "quiet") rows ≡ Some (codes "true") → quiet ≡ true
+  pub left_out : one_of (codes "quiet") rows ≡ Some (codes "false") → quiet ≡ false
+
+-- a command's job, and whether nothing is to be told beside its answer
+abbrev pub IsRequest : Text → List Row → Request → Type 0
+IsRequest name rows request = IsJob name rows request.job × IsQuiet rows request.is_quiet
+
+-- what clap finds in these words
+abbrev pub Holds : List Text → Request → Type 0
+Holds words request = MatchOption (subcommand_of program words) ⊥ (λ p. IsRequest p.0 p.1 request)
 
 -- clap's grammar takes the words
 unfoldable pub IsTaken : List Text → Type 0
@@ -180,8 +191,9 @@ LacksMemory has result = IfErr result (λ lack. has → lack ≡ Memory)
 
 -- An error to words that clap's grammar takes, and that hold a job of whose files at most one is
 -- standard input, and whose clients may have their names, is want of memory.
-abbrev pub RefusesForMemory : List Text → Result Job WordsFault → Type 0
+abbrev pub RefusesForMemory : List Text → Result Request WordsFault → Type 0
 RefusesForMemory words result =
     IfErr result
-    (λ fault. IsTaken words → (job : Job) → Holds words job → NameInputOnce (files_of job)
-    → AreClientNames (clients_of job) → fault ≡ NoMemory)
+    (λ fault. IsTaken words → (request : Request) → Holds words request
+    → NameInputOnce (files_of request.job) → AreClientNames (clients_of request.job)
+    → fault ≡ NoMemory)

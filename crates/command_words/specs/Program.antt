@@ -3,6 +3,7 @@ use Rattle.std.specs.Prelude.{◌≡◌, ℕ, List, [], ◌∷◌, Some, Result,
 use Rattle.clap.specs.Words.{App, Rule, app_of, new_app, new_rule, with_rule, with_subcommand}
 use Rattle.clap.specs.declared.builder.command.Command.{Command}
 use Rattle.clap.specs.declared.builder.command.Command.TheViews.{out-Command as fields_of}
+use Rattle.clap.specs.declared.builder.action.ArgAction.TheVariants.{SetTrue}
 use Rattle.clap.specs.declared.builder.value_parser.ValueParser.TheVariants as parser
 use Rattle.exchange_limits.specs.declared.limits.TheConstants.{MAX_WORKERS}
 use Rattle.command_words.specs.declared.limits.TheConstants.{MAX_CLIENTS}
@@ -34,62 +35,74 @@ image = record (new_rule (codes "image")) { long = Some (codes "image"); value_n
 abbrev pub settings : Rule
 settings = record (new_rule (codes "settings")) { long = Some (codes "settings"); value_names = 1 }
 
--- `plan FILE [--workers N]`
-abbrev pub plan : App
-plan = with_rule (with_rule (new_app (codes "plan")) (word (codes "FILE"))) workers
+-- `--quiet`, which may be left out, and has no value
+abbrev pub quiet : Rule
+quiet = record (new_rule (codes "quiet")) { long = Some (codes "quiet"); action = Some SetTrue }
 
--- `check BATCH SCHEDULE`
+-- the command with `--quiet`, which each one takes
+abbrev pub or_quiet : App → App
+or_quiet app = with_rule app quiet
+
+-- `plan FILE [--workers N] [--quiet]`
+abbrev pub plan : App
+plan = or_quiet (with_rule (with_rule (new_app (codes "plan")) (word (codes "FILE"))) workers)
+
+-- `check BATCH SCHEDULE [--quiet]`
 abbrev pub check : App
 check =
-    with_rule (with_rule (new_app (codes "check")) (word (codes "BATCH"))) (word (codes "SCHEDULE"))
+    or_quiet
+    (with_rule (with_rule (new_app (codes "check")) (word (codes "BATCH"))) (word (codes "SCHEDULE")))
 
--- `draw BATCH SCHEDULE [--settings A..B]`
+-- `draw BATCH SCHEDULE [--settings A..B] [--quiet]`
 abbrev pub draw : App
 draw =
-    with_rule
+    or_quiet
+    (with_rule
     (with_rule
     (with_rule (new_app (codes "draw")) (word (codes "BATCH")))
     (word (codes "SCHEDULE")))
-    settings
+    settings)
 
 -- the command with the words of a shape and of a batch
 abbrev pub on_rack : App → App
 on_rack app = with_rule (with_rule app (word (codes "SHAPE"))) (word (codes "BATCH"))
 
--- `apply SHAPE BATCH IMAGE [--workers N]`
+-- `apply SHAPE BATCH IMAGE [--workers N] [--quiet]`
 abbrev pub apply : App
-apply = with_rule (with_rule (on_rack (new_app (codes "apply"))) (word (codes "IMAGE"))) workers
+apply =
+    or_quiet (with_rule (with_rule (on_rack (new_app (codes "apply"))) (word (codes "IMAGE"))) workers)
 
--- `run SHAPE BATCH [--image FILE] [--workers N]`
+-- `run SHAPE BATCH [--image FILE] [--workers N] [--quiet]`
 abbrev pub run : App
-run = with_rule (with_rule (on_rack (new_app (codes "run"))) image) workers
+run = or_quiet (with_rule (with_rule (on_rack (new_app (codes "run"))) image) workers)
 
--- the command with a shape, so many clients by this word, `--image` and `--workers`
+-- the command with a shape, so many clients by this word, `--image`, `--workers` and `--quiet`
 abbrev pub serving : List ℕ → App → App
 serving id app =
-    with_rule
+    or_quiet
+    (with_rule
     (with_rule (with_rule (with_rule app (word (codes "SHAPE"))) (words id)) image)
-    workers
+    workers)
 
--- `serve SHAPE SCRIPT.. [--image FILE] [--workers N]`
+-- `serve SHAPE SCRIPT.. [--image FILE] [--workers N] [--quiet]`
 abbrev pub serve : App
 serve = serving (codes "SCRIPT") (new_app (codes "serve"))
 
--- `host SHAPE CLIENT.. [--image FILE] [--workers N]`
+-- `host SHAPE CLIENT.. [--image FILE] [--workers N] [--quiet]`
 abbrev pub host : App
 host = serving (codes "CLIENT") (new_app (codes "host"))
 
--- `talk SHAPE [--image FILE]`
+-- `talk SHAPE [--image FILE] [--quiet]`
 abbrev pub talk : App
-talk = with_rule (with_rule (new_app (codes "talk")) (word (codes "SHAPE"))) image
+talk = or_quiet (with_rule (with_rule (new_app (codes "talk")) (word (codes "SHAPE"))) image)
 
--- `switch BATCH [--workers N]`
+-- `switch BATCH [--workers N] [--quiet]`
 abbrev pub switch : App
-switch = with_rule (with_rule (new_app (codes "switch")) (word (codes "BATCH"))) workers
+switch = or_quiet (with_rule (with_rule (new_app (codes "switch")) (word (codes "BATCH"))) workers)
 
--- `direct MOVES`
+-- `direct MOVES [--quiet]`
 abbrev pub direct : App
-direct = with_rule (new_app (codes "direct")) (word (codes "MOVES"))
+direct = or_quiet (with_rule (new_app (codes "direct")) (word (codes "MOVES")))
 
 -- the program's name, which a command has to follow, or `--version`
 abbrev pub top : App

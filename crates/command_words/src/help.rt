@@ -2,7 +2,9 @@
 //! what lies on both sides of the limit; how many modules one switch joins is of the chip, and a row holds the words.
 
 /// What `plan --help` says first: an example that works in a clone.
-pub const PLAN_EXAMPLE: &str = "./exchange plan examples/three-transfers.txt";
+pub const PLAN_EXAMPLE: &str = "\
+Example:
+  ./exchange plan examples/three-transfers.txt";
 
 /// What `plan --help` says below its options.
 pub const PLAN_NOTES: &str = "\
@@ -31,8 +33,9 @@ Status: 0 a schedule was printed, 1 the batch was refused or there was no
 memory, 2 the words fit no command, 3 the answer couldn't be written.";
 
 /// What `check --help` says first: an example that works in a clone.
-pub const CHECK_EXAMPLE: &str =
-    "./exchange check examples/three-transfers.txt examples/three-transfers.plan.txt";
+pub const CHECK_EXAMPLE: &str = "\
+Example:
+  ./exchange check examples/three-transfers.txt examples/three-transfers.plan.txt";
 
 /// What `check --help` says below its options.
 pub const CHECK_NOTES: &str = "\
@@ -61,16 +64,16 @@ Status: 0 it is shortest, 1 it was refused or there was no memory, 2 the
 words fit no command, 3 the answer couldn't be written.";
 
 /// What `draw --help` says first: an example that works in a clone.
-pub const DRAW_EXAMPLE: &str =
-    "./exchange draw examples/three-transfers.txt examples/three-transfers.plan.txt > schedule.svg";
+pub const DRAW_EXAMPLE: &str = "\
+Example:
+  ./exchange draw examples/three-transfers.txt examples/three-transfers.plan.txt > schedule.svg";
 
 /// What `draw --help` says below its options.
 pub const DRAW_NOTES: &str = "\
 BATCH is a batch text and SCHEDULE a schedule text, with the certificate part or
 without it, in the form that `exchange plan --help` shows.
 
-The answer is a picture of the schedule, the text of an SVG file for a browser:
-  exchange draw BATCH SCHEDULE > schedule.svg
+The answer is a picture of the schedule, the text of an SVG file for a browser.
 Each module that takes part has a row, and each setting a column. The upper half
 of a row shows the transfers that link 0 of the module starts, the lower half
 those that link 3 answers. A cell has the number and the colour of the module at
@@ -82,7 +85,7 @@ Any schedule of BATCH is drawn. The picture's title says whether it has `the
 fewest` settings or `where F are enough`, and `certified`, `wrong certificate`
 or `no certificate`. With --settings it has the columns of settings A to B
 alone, counted from 0, both of them:
-  exchange draw BATCH SCHEDULE --settings 0..31 > first.svg
+  ./exchange draw BATCH SCHEDULE --settings 0..31 > first.svg
 
 Else it is the first of these that is wrong:
   refused file            a file can't be read
@@ -96,7 +99,9 @@ Status: 0 a picture was printed, 1 it was refused or there was no memory, 2 the
 words fit no command, 3 the answer couldn't be written.";
 
 /// What `switch --help` says first: an example that works in a clone.
-pub const SWITCH_EXAMPLE: &str = "./exchange switch examples/two-pushes.txt";
+pub const SWITCH_EXAMPLE: &str = "\
+Example:
+  ./exchange switch examples/two-pushes.txt";
 
 /// What `switch --help` says below its options.
 pub const SWITCH_NOTES: &str = "\
@@ -123,7 +128,9 @@ Status: 0 the bytes were printed, 1 the batch was refused or there was no
 memory, 2 the words fit no command, 3 the answer couldn't be written.";
 
 /// What `direct --help` says first: an example that works in a clone.
-pub const DIRECT_EXAMPLE: &str = "./exchange direct examples/patterns/gather.moves.txt";
+pub const DIRECT_EXAMPLE: &str = "\
+Example:
+  ./exchange direct examples/patterns/gather.moves.txt";
 
 /// What `direct --help` says below its options.
 pub const DIRECT_NOTES: &str = "\
@@ -136,7 +143,7 @@ the form that `exchange plan --help` shows: `push M b N c`, or `pull N c M b`.
 A link carries one transfer in a setting, and a module has two, so a module with
 k ends of moves wants k/2 settings at least, rounded up. The answer needs just
 so many for the busiest module; no other directions need fewer.
-  exchange direct MOVES | exchange plan -
+  ./exchange direct MOVES | ./exchange plan -
 
 Else it is the first of these that is wrong:
   refused file           MOVES can't be read
@@ -150,8 +157,9 @@ Status: 0 a batch was printed, 1 the moves were refused or there was no memory,
 2 the words fit no command, 3 the answer couldn't be written.";
 
 /// What `apply --help` says first: an example that works in a clone.
-pub const APPLY_EXAMPLE: &str =
-    "./exchange apply 3x2x2 examples/two-pushes.txt examples/before.img > after.img";
+pub const APPLY_EXAMPLE: &str = "\
+Example:
+  ./exchange apply 3x2x2 examples/two-pushes.txt examples/before.img > after.img";
 
 /// What `apply --help` says below its options.
 pub const APPLY_NOTES: &str = "\
@@ -163,7 +171,6 @@ each as four bytes, least significant first, so 4*M*K*W bytes.
 
 The batch is run over these words, and the answer is the image with its blocks
 placed: as many bytes, and all that the batch doesn't write as it was.
-  exchange apply 3x2x2 BATCH before.img > after.img
 
 Else nothing is run, and the answer is the first of these that is wrong:
   refused file          BATCH or IMAGE can't be read
@@ -176,7 +183,9 @@ Status: 0 the image was printed, 1 it was refused or there was no memory, 2 the
 words fit no command, 3 the answer couldn't be written.";
 
 /// What `run --help` says first: an example that works in a clone.
-pub const RUN_EXAMPLE: &str = "./exchange run 3x2x2 examples/two-pushes.txt";
+pub const RUN_EXAMPLE: &str = "\
+Example:
+  ./exchange run 3x2x2 examples/two-pushes.txt";
 
 /// What `run --help` says below its options.
 pub const RUN_NOTES: &str = "\
@@ -204,7 +213,9 @@ Status: 0 the batch was run, 1 it was refused or there was no memory, 2 the
 words fit no command, 3 the answer couldn't be written.";
 
 /// What `serve --help` says first: an example that works in a clone.
-pub const SERVE_EXAMPLE: &str = "./exchange serve 2x2x2 examples/look.session.txt";
+pub const SERVE_EXAMPLE: &str = "\
+Example:
+  ./exchange serve 2x2x2 examples/look.session.txt";
 
 /// What `serve --help` says below its options.
 pub const SERVE_NOTES: &str = "\
@@ -252,6 +263,7 @@ A session that doesn't end with its script or by `bye` has one line more:
   ended no memory            there was no memory for the lines of a batch
   ended write                there was no memory for an answer
   ended read                 the script can't be read any further
+With `host` there is `ended open` too, for a client whose files can't be opened.
 The line `logs disagree` at the end would say that what the sessions did isn't
 what the exchange's history has of them, or that it began on another rack.
 
@@ -266,14 +278,15 @@ fit no command, 3 the answer couldn't be written.";
 
 /// What `host --help` says first: an example of two shells.
 pub const HOST_EXAMPLE: &str = "\
-Two shells on one rack: make the pipes, start the host, and be a client.
+Example: two clients on one rack. Make the pipes, and start the host:
   mkfifo amy.in amy.out bob.in bob.out
   ./exchange host 2x1x2 amy bob
-In another shell, as amy (bob does the same with his own):
+In a second shell be amy:
   exec 3> amy.in 4< amy.out
   echo 'poke 0 80000800 000000ff' >&3; read reply <&4; echo $reply
   exec 3>&- 4<&-
-which prints `poked`. The session ends where the last line closes its pipes.";
+which prints `poked`. The last line closes amy's pipes, and her session ends. The
+host waits for bob: be him too, by the same lines with his name, or it waits on.";
 
 /// What `host --help` says below its options.
 pub const HOST_NOTES: &str = "\
@@ -313,18 +326,19 @@ didn't, or the logs disagree, or nobody was served, or there was no memory, 2
 the words fit no command, 3 the answer couldn't be written.";
 
 /// What `talk --help` says first: an example that works in a clone.
-pub const TALK_EXAMPLE: &str =
-    "printf 'poke 0 80000800 000000ff\\npeek 0 80000800\\n' | ./exchange talk 1x1x1";
+pub const TALK_EXAMPLE: &str = "\
+Example:
+  printf 'poke 0 80000800 000000ff\\npeek 0 80000800\\n' | ./exchange talk 1x1x1
+which prints `poked` and `word 000000ff`.";
 
 /// What `talk --help` says below its options.
 pub const TALK_NOTES: &str = "\
-SHAPE is MxKxW, in the form that `exchange run --help` shows. The session's lines
-are read from standard input, in the form that `exchange serve --help` shows, and
-each is answered on standard output before the next is read:
-  printf 'poke 0 80000800 000000ff\\npeek 0 80000800\\n' | exchange talk 1x1x1
-prints `poked` and `word 000000ff`. The words of the rack are at first 0, or those
-of the image where there is one. Standard input is the session, so the image
-can't be `-`.
+SHAPE is MxKxW, in the form that `exchange run --help` shows. The words of the
+rack are at first 0, or those of the image where there is one. The session's lines
+are read from standard input, and each is answered on standard output before the
+next is read. So the image can't be `-`. The lines are
+  batch N, plan ID, run ID, show ID, drop ID, peek M A, poke M A D, progress, bye
+`exchange serve --help` says what each does, and what it is answered by.
 
 The session ends with the input or by `bye`; where it doesn't, its last line is
 `ended ..`, as `exchange serve --help` shows.
@@ -339,7 +353,9 @@ refused, or there was no memory, 2 the words fit no command, 3 the answer
 couldn't be written.";
 
 /// What `exchange --help` says first: an example that works in a clone.
-pub const TOP_EXAMPLE: &str = "./exchange run 3x2x2 examples/two-pushes.txt";
+pub const TOP_EXAMPLE: &str = "\
+Example:
+  ./exchange run 3x2x2 examples/two-pushes.txt";
 
 /// What `--help` says below the commands.
 pub const TOP_NOTES: &str = "\
@@ -347,6 +363,10 @@ pub const TOP_NOTES: &str = "\
 standard input is read; of a command's files one may be. How many modules, blocks
 and words there may be, `exchange run --help` tells; how many transfers,
 `exchange plan --help`; how long a session may be, `exchange serve --help`.
+
+A refusal is one line on standard output. A second line, on standard error, says
+of it which file and line, what stands there, and what is wanted: --quiet, which
+each command takes, leaves that out.
 
 Status: 0 the answer is there, 1 a refusal, whose one line says what is wrong,
 or a session that ended badly, 2 the words fit no command, 3 the answer couldn't
@@ -379,3 +399,6 @@ pub const CLIENT_HELP: &str = "The name of a client, whose files are CLIENT.in a
 
 /// What is said of `--workers`.
 pub const WORKERS_HELP: &str = "How many workers there may be, from 1 to 64";
+
+/// What is said of `--quiet`.
+pub const QUIET_HELP: &str = "Tell nothing on standard error beside a refusal";

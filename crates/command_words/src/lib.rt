@@ -13,4 +13,4 @@ pub use exchange_limits::WorkerCount;
 pub use limits::{MAX_CLIENTS, VERSION};
 pub use text::Text;
 pub use text_list::TextList;
-pub use words::{Job, WordsFault, read_words};
+pub use words::{Job, Request, WordsFault, read_words};

@@ -4,28 +4,29 @@ ghost use Rattle.std.specs.Prelude.{◌≡◌, ◌↔◌, IfErr, IfOk, IsTrue, f
 ghost use Rattle.clap.specs.Words.{new_app, app_of, rule_of, first_of, rows_of, found_of, kind_of};
 ghost use Rattle.clap.specs.declared.error.kind.ErrorKind.TheVariants.{OutOfMemory};
 ghost use Rattle.command_words.specs.declared.words.Job.{Job};
+ghost use Rattle.command_words.specs.declared.words.Request.{Request};
 ghost use Rattle.command_words.specs.declared.words.Lack.TheVariants.{Memory};
 ghost use Rattle.command_words.specs.declared.words.WordsFault.TheVariants.{NoMemory};
-ghost use Rattle.command_words.specs.Program.{IsLocal, IsCommand, AddsRule, AddsTexts, AddsCommand, word, words, workers, image, settings};
+ghost use Rattle.command_words.specs.Program.{IsLocal, IsCommand, AddsRule, AddsTexts, AddsCommand, word, words, workers, image, settings, quiet};
 ghost use Rattle.command_words.specs.Program.{top, planner, program};
 ghost use Rattle.command_words.specs.Program.{plan as plan_app, check as check_app, draw as draw_app, switch as switch_app, direct as direct_app, apply as apply_app, run as run_app, serve as serve_app, host as host_app, talk as talk_app};
-ghost use Rattle.command_words.specs.Jobs.{Holds, HasShape, HasTexts, HasServed, HasWorkers, IsJob, IsWithinLimits, AreMatchesOf, IsTaken, NameInputOnce, AreClientNames, files_of, clients_of, texts_of};
+ghost use Rattle.command_words.specs.Jobs.{Holds, HasShape, HasTexts, HasServed, HasWorkers, IsJob, IsQuiet, IsRequest, IsWithinLimits, AreMatchesOf, IsTaken, NameInputOnce, AreClientNames, files_of, clients_of, texts_of};
 ghost use Rattle.command_words.specs.Jobs.{HasWord, HasBoth, HasSomeServed, HasSomeWorkers, HasWorked, HasApply, HasRun, HasServe, LacksMemory, RefusesForMemory};
 
 use crate::clients::are_client_names;
 use crate::help::{
     APPLY_EXAMPLE, APPLY_NOTES, BATCH_HELP, CHECK_EXAMPLE, CHECK_NOTES, CLIENT_HELP,
     DIRECT_EXAMPLE, DIRECT_NOTES, DRAW_EXAMPLE, DRAW_NOTES, HOST_EXAMPLE, HOST_NOTES, IMAGE_HELP,
-    MOVES_HELP, PLAN_EXAMPLE, PLAN_NOTES, RUN_EXAMPLE, RUN_NOTES, SCHEDULE_HELP, SCRIPT_HELP,
-    SERVE_EXAMPLE, SERVE_NOTES, SETTINGS_HELP, SWITCH_EXAMPLE, SWITCH_NOTES, TALK_EXAMPLE,
-    TALK_NOTES, TOP_EXAMPLE, TOP_NOTES, WORDS_HELP, WORKERS_HELP,
+    MOVES_HELP, PLAN_EXAMPLE, PLAN_NOTES, QUIET_HELP, RUN_EXAMPLE, RUN_NOTES, SCHEDULE_HELP,
+    SCRIPT_HELP, SERVE_EXAMPLE, SERVE_NOTES, SETTINGS_HELP, SWITCH_EXAMPLE, SWITCH_NOTES,
+    TALK_EXAMPLE, TALK_NOTES, TOP_EXAMPLE, TOP_NOTES, WORDS_HELP, WORKERS_HELP,
 };
 use crate::input::{is_input, name_input_once_behind};
 use crate::limits::{MAX_CLIENTS, VERSION};
 use crate::text::Text;
 use crate::text_list::TextList;
 use clap::error::ErrorKind;
-use clap::{Arg, ArgMatches, Command, value_parser};
+use clap::{Arg, ArgAction, ArgMatches, Command, value_parser};
 use exchange_limits::{MAX_WORKERS, WorkerCount};
 use std::alloc::{AllocError, Global};
 use thiserror::Error;
@@ -96,6 +97,15 @@ pub enum Job {
         shape: Text,
         image: Option<Text>,
     },
+}
+
+/// What the words of the command line ask for.
+#[derive(Drop)]
+pub struct Request {
+    /// What the program is to do.
+    pub job: Job,
+    /// Whether nothing is to be told on standard error beside a refusal.
+    pub is_quiet: bool,
 }
 
 /// Why the words name no job.
@@ -244,6 +254,24 @@ fn with_settings<'a>(alloc: Global, command: Command<'a>) -> Result<Command<'a>,
     command.arg(settings(alloc))
 }
 
+/// `--quiet`.
+fn quiet<'a>(alloc: Global) -> Arg<'a>
+    ensures rule { rule_of result ≡ quiet }
+    ensures local { result.global ≡ false }
+{
+    Arg::new(alloc, "quiet")
+        .long("quiet")
+        .action(ArgAction::SetTrue)
+        .help(QUIET_HELP)
+}
+
+/// The command with `--quiet`, which each one takes.
+fn or_quiet<'a>(alloc: Global, command: Command<'a>) -> Result<Command<'a>, AllocError>
+    ensures { IfOk result (AddsRule command.entry quiet) }
+{
+    command.arg(quiet(alloc))
+}
+
 /// The command with a word that has to be there, up to [`MAX_CLIENTS`] times.
 fn with_several<'a>(
     alloc: Global,
@@ -263,7 +291,8 @@ fn plan<'a>(alloc: Global) -> Result<Command<'a>, AllocError>
     let about = "Prints a schedule of a batch: which transfers move in which switch setting";
     let plan = command(alloc, "plan", about, PLAN_EXAMPLE, PLAN_NOTES);
     let plan = with_word(alloc, plan, "FILE", BATCH_HELP)?;
-    with_workers(alloc, plan)
+    let plan = with_workers(alloc, plan)?;
+    or_quiet(alloc, plan)
 }
 
 /// `check BATCH SCHEDULE`.
@@ -272,7 +301,8 @@ fn check<'a>(alloc: Global) -> Result<Command<'a>, AllocError>
 {
     let about = "Judges a schedule of a batch: whether its certificate shows that none is shorter";
     let check = command(alloc, "check", about, CHECK_EXAMPLE, CHECK_NOTES);
-    with_texts(alloc, check)
+    let check = with_texts(alloc, check)?;
+    or_quiet(alloc, check)
 }
 
 /// `draw BATCH SCHEDULE [--settings A..B]`.
@@ -282,7 +312,8 @@ fn draw<'a>(alloc: Global) -> Result<Command<'a>, AllocError>
     let about = "Draws a schedule of a batch: a picture in SVG, to be looked at in a browser";
     let draw = command(alloc, "draw", about, DRAW_EXAMPLE, DRAW_NOTES);
     let draw = with_texts(alloc, draw)?;
-    with_settings(alloc, draw)
+    let draw = with_settings(alloc, draw)?;
+    or_quiet(alloc, draw)
 }
 
 /// `switch BATCH [--workers N]`.
@@ -293,7 +324,8 @@ fn switch<'a>(alloc: Global) -> Result<Command<'a>, AllocError>
         "Tells a real switch's bytes: what a run of a batch sends over the configuration link";
     let switch = command(alloc, "switch", about, SWITCH_EXAMPLE, SWITCH_NOTES);
     let switch = with_word(alloc, switch, "BATCH", BATCH_HELP)?;
-    with_workers(alloc, switch)
+    let switch = with_workers(alloc, switch)?;
+    or_quiet(alloc, switch)
 }
 
 /// `direct MOVES`.
@@ -303,7 +335,8 @@ fn direct<'a>(alloc: Global) -> Result<Command<'a>, AllocError>
     let about =
         "Makes a batch of moves: which are pushed and which are pulled, for the fewest settings";
     let direct = command(alloc, "direct", about, DIRECT_EXAMPLE, DIRECT_NOTES);
-    with_word(alloc, direct, "MOVES", MOVES_HELP)
+    let direct = with_word(alloc, direct, "MOVES", MOVES_HELP)?;
+    or_quiet(alloc, direct)
 }
 
 /// `apply SHAPE BATCH IMAGE [--workers N]`.
@@ -316,7 +349,8 @@ fn apply<'a>(alloc: Global) -> Result<Command<'a>, AllocError>
     let apply = with_shape(alloc, apply)?;
     let apply = with_word(alloc, apply, "BATCH", BATCH_HELP)?;
     let apply = with_word(alloc, apply, "IMAGE", IMAGE_HELP)?;
-    with_workers(alloc, apply)
+    let apply = with_workers(alloc, apply)?;
+    or_quiet(alloc, apply)
 }
 
 /// `run SHAPE BATCH [--image FILE] [--workers N]`.
@@ -328,7 +362,8 @@ fn run<'a>(alloc: Global) -> Result<Command<'a>, AllocError>
     let run = with_shape(alloc, run)?;
     let run = with_word(alloc, run, "BATCH", BATCH_HELP)?;
     let run = with_image(alloc, run)?;
-    with_workers(alloc, run)
+    let run = with_workers(alloc, run)?;
+    or_quiet(alloc, run)
 }
 
 /// `serve SHAPE SCRIPT.. [--image FILE] [--workers N]`.
@@ -340,7 +375,8 @@ fn serve<'a>(alloc: Global) -> Result<Command<'a>, AllocError>
     let serve = with_shape(alloc, serve)?;
     let serve = with_several(alloc, serve, "SCRIPT", SCRIPT_HELP)?;
     let serve = with_image(alloc, serve)?;
-    with_workers(alloc, serve)
+    let serve = with_workers(alloc, serve)?;
+    or_quiet(alloc, serve)
 }
 
 /// `host SHAPE CLIENT.. [--image FILE] [--workers N]`.
@@ -353,7 +389,8 @@ fn host<'a>(alloc: Global) -> Result<Command<'a>, AllocError>
     let host = with_shape(alloc, host)?;
     let host = with_several(alloc, host, "CLIENT", CLIENT_HELP)?;
     let host = with_image(alloc, host)?;
-    with_workers(alloc, host)
+    let host = with_workers(alloc, host)?;
+    or_quiet(alloc, host)
 }
 
 /// `talk SHAPE [--image FILE]`.
@@ -363,7 +400,8 @@ fn talk<'a>(alloc: Global) -> Result<Command<'a>, AllocError>
     let about = "Serves you on the terminal: a session of one client, line by line";
     let talk = command(alloc, "talk", about, TALK_EXAMPLE, TALK_NOTES);
     let talk = with_shape(alloc, talk)?;
-    with_image(alloc, talk)
+    let talk = with_image(alloc, talk)?;
+    or_quiet(alloc, talk)
 }
 
 /// The command with one more command below it, where that could be had.
@@ -726,17 +764,36 @@ fn job_of(alloc: Global, name: &str, found: &ArgMatches<'_>) -> Result<Job, Lack
     Err(Lack::Word)
 }
 
-/// The job of the words, whatever files it names.
-fn job_named(alloc: Global, words: &[String]) -> Result<Job, WordsFault>
-    ensures job { IfOk result (λ job. Holds (texts_of words.now) job) }
-    ensures limits { IfOk result (λ job. IsWithinLimits job) }
+/// The job of a command by its name and matches, and whether it is quiet.
+fn request_of(alloc: Global, name: &str, found: &ArgMatches<'_>) -> Result<Request, Lack>
+    ensures request { IfOk result (IsRequest name.now (rows_of (found_of found.now))) }
+    ensures limits { IfOk result (λ request. IsWithinLimits request.job) }
+    ensures lack { IfErr result (λ lack. (request : Request) →
+        IsRequest name.now (rows_of (found_of found.now)) request → lack ≡ Memory) }
+{
+    let job = job_of(alloc, name, found)?;
+    let is_quiet = is_quiet(found);
+    Ok(Request { job, is_quiet })
+}
+
+/// Whether there is `--quiet`.
+fn is_quiet(matches: &ArgMatches<'_>) -> bool
+    ensures { IsQuiet (rows_of (found_of matches.now)) result }
+{
+    matches.get_flag("quiet")
+}
+
+/// What the words ask for, whatever files it names.
+fn request_named(alloc: Global, words: &[String]) -> Result<Request, WordsFault>
+    ensures request { IfOk result (Holds (texts_of words.now)) }
+    ensures limits { IfOk result (λ request. IsWithinLimits request.job) }
     ensures taken { IfErr result (λ fault. IsTaken (texts_of words.now) →
-        (job : Job) → Holds (texts_of words.now) job → fault ≡ NoMemory) }
+        (request : Request) → Holds (texts_of words.now) request → fault ≡ NoMemory) }
 {
     let matches = matches_of(alloc, words)?;
     match matches.subcommand() {
-        Some((name, found)) => match job_of(alloc, name, found) {
-            Ok(job) => Ok(job),
+        Some((name, found)) => match request_of(alloc, name, found) {
+            Ok(request) => Ok(request),
             Err(lack) => Err(fault_of(alloc, lack)),
         },
         None => Err(missing(alloc)),
@@ -777,23 +834,23 @@ fn names_clients(job: &Job) -> bool
 
 /// Reads the program's words, the first of which is its own name.
 ///
-/// Gives the job that clap finds in them: its command, its texts, and its number of workers. Words
-/// that fit no command are clap's error, which holds the text to print, and so is a demand for help or for
-/// the program's version, a job of which several files are `-`, standard input, and clients whose names are no names.
-/// Words that clap takes, and that hold another job, are refused for want of memory only.
-pub fn read_words(alloc: Global, words: &[String]) -> Result<Job, WordsFault>
-    ensures job { IfOk result (λ job. Holds (texts_of words.now) job) }
-    ensures limits { IfOk result (λ job. IsWithinLimits job) }
-    ensures input { IfOk result (λ job. NameInputOnce (files_of job)) }
-    ensures clients { IfOk result (λ job. AreClientNames (clients_of job)) }
+/// Gives what clap finds in them: the command's job, with its texts and its number of workers, and whether it
+/// is quiet. Words that fit no command are clap's error, which holds the text to print, and so is a demand for
+/// help or for the program's version, a job of which several files are `-`, standard input, and clients whose
+/// names are no names. Words that clap takes, and that hold another job, are refused for want of memory only.
+pub fn read_words(alloc: Global, words: &[String]) -> Result<Request, WordsFault>
+    ensures request { IfOk result (Holds (texts_of words.now)) }
+    ensures limits { IfOk result (λ request. IsWithinLimits request.job) }
+    ensures input { IfOk result (λ request. NameInputOnce (files_of request.job)) }
+    ensures clients { IfOk result (λ request. AreClientNames (clients_of request.job)) }
     ensures refused { RefusesForMemory (texts_of words.now) result }
 {
-    let job = job_named(alloc, words)?;
-    if !reads_input_once(&job) {
+    let request = request_named(alloc, words)?;
+    if !reads_input_once(&request.job) {
         return Err(named_twice(alloc));
     }
-    if !names_clients(&job) {
+    if !names_clients(&request.job) {
         return Err(misnamed(alloc));
     }
-    Ok(job)
+    Ok(request)
 }

@@ -1,6 +1,5 @@
 -- What the program prints for a job.
-use Rattle.std.specs.Prelude.{◌≡◌, ◌⊎◌, ◌<◌, ℕ, List, [], ◌++◌, Option, Some, None, Result, Ok, Err, IfOk, IfSome, codes, ⊤, true, length, slice_index_or}
-use Rattle.std.specs.Io.KnownBytes.{Appends}
+use Rattle.std.specs.Prelude.{◌≡◌, ◌⊎◌, ◌<◌, ℕ, List, [], ◌++◌, Option, Some, None, IfSome, codes, ⊤, true, length, slice_index_or}
 use Rattle.answers.specs.Extent.{widest}
 use Rattle.answers.specs.Answers.{IsPlanned, IsChecked, IsRunAnswer, image_alone}
 use Rattle.answers.specs.Drawings.{IsDrawn}
@@ -11,13 +10,10 @@ use Rattle.answers.specs.Reports.{report_of}
 use Rattle.answers.specs.Serving.{IsServeAnswer}
 use Rattle.answers.specs.Switching.{IsSwitched}
 use Rattle.answers.specs.Talking.{IsTalkAnswer}
-use Rattle.answers.specs.limits.TheConstants.{DONE, REFUSED}
+use Rattle.answers.specs.limits.TheConstants.{REFUSED}
 use Rattle.command_words.specs.declared.words.Job.{Job}
 use Rattle.command_words.specs.declared.words.Job.TheVariants.{Plan, Check, Draw, Switch, Direct, Apply, Run, Serve, Host, Talk}
-use Rattle.command_words.specs.declared.words.WordsFault.{WordsFault}
-use Rattle.command_words.specs.declared.words.WordsFault.TheVariants as words_fault
-use Rattle.command_words.specs.Jobs.{Holds, AsksForHelp, RefusesForMemory, input_name}
-use Rattle.dispatch.specs.declared.limits.TheConstants.{MISUSED}
+use Rattle.command_words.specs.Jobs.{input_name}
 use Rattle.dispatch.specs.declared.unanswered.Unanswered.{Unanswered}
 use Rattle.dispatch.specs.declared.unanswered.Unanswered.TheVariants.{File, NoMemory}
 
@@ -152,32 +148,3 @@ IsResponseTo input job printed =
     IsAnswerTo input job printed
     ⊎ ((told : List ℕ) × (why : Unanswered) × IsToldBy job told
     × (printed ≡ behind_told told (unanswered why)))
-
--- this was printed behind what stood there, and ends with its status
-pub record IsPrinted (before after : Option (List ℕ)) (printed : Printed) (code : ℕ) : Type 0 where
-  pub text : Appends before after printed.text
-  pub status : code ≡ printed.status
-
--- how the program ends where standard input had these bytes and the words hold this job, or are at
--- fault: what it prints behind what stood there, and its status
-abbrev pub IsEndFor : Option (List ℕ) → Result Job WordsFault → Option (List ℕ) → Option (List ℕ)
-    → ℕ → Type 0
-IsEndFor input (Ok job) before after code =
-    (printed : Printed) × IsResponseTo input job printed × IsPrinted before after printed code
-IsEndFor input (Err words_fault.NoMemory) before after code =
-    IsPrinted before after (unanswered NoMemory) code
-IsEndFor input (Err (words_fault.Clap error)) before after code =
-    (AsksForHelp error → code ≡ DONE)
-    × ((AsksForHelp error → ⊥) → (code ≡ MISUSED) × (after ≡ before))
-
--- how it ends for these words
-abbrev pub IsEndForWords : List (List ℕ) → Option (List ℕ) → Option (List ℕ) → Option (List ℕ) → ℕ
-    → Type 0
-IsEndForWords words input before after code =
-    (job : Result Job WordsFault) × IfOk job (Holds words) × RefusesForMemory words job
-    × IsEndFor input job before after code
-
--- how it ends where the words can't be had as texts
-abbrev pub IsEndWithoutWords : Option (List ℕ) → Option (List ℕ) → ℕ → Type 0
-IsEndWithoutWords before after code =
-    IsPrinted before after (unanswered NoMemory) code ⊎ ((code ≡ MISUSED) × (after ≡ before))

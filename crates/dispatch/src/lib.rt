@@ -5,6 +5,7 @@
 
 mod doors;
 mod limits;
+mod notes;
 mod responding;
 mod unanswered;
 

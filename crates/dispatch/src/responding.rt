@@ -1,23 +1,29 @@
 //! From the words of the command line to what is printed, and the status that the program ends with.
 
-ghost use Rattle.std.specs.Prelude.{◌≡◌, ◌≢◌, ◌⊎◌, ◌∷◌, ◌++◌, [], List, ℕ, IfOk, OnErr, Some, map, option_map, option_to_list};
+ghost use Rattle.std.specs.Prelude.{◌≡◌, ◌≢◌, ◌⊎◌, ◌∷◌, ◌++◌, [], List, ℕ, IfOk, IfErr, OnErr, Some, map, option_map, option_to_list, string_bytes};
 ghost use Rattle.std.specs.Io.KnownBytes.{Appends};
 ghost use Rattle.std.specs.Process.{exit_status};
 ghost use Rattle.answers.specs.Openings.{bytes_of};
 ghost use Rattle.answers.specs.Refusals.{Printed};
 ghost use Rattle.command_words.specs.Jobs.{CanBeServed, IsWithinLimits, NameInputOnce, files_of, input_name, texts_of};
 ghost use Rattle.dispatch.specs.Responses.{IsHeld, IsHeldImage, AreHeld, IsSomePlan, IsSomeCheck, IsSomeDraw, IsSomeSwitch, IsSomeDirect, IsSomeApply, IsSomeRun, IsSomeServe, IsSomeHost, IsSomeTalk};
-ghost use Rattle.dispatch.specs.Responses.{IsAnswerTo, IsToldBy, IsResponseTo, IsPrinted};
-ghost use Rattle.dispatch.specs.Responses.{behind_told, unanswered, IsEndFor, IsEndForWords, IsEndWithoutWords};
+ghost use Rattle.dispatch.specs.Responses.{IsAnswerTo, IsToldBy, behind_told, unanswered};
+ghost use Rattle.dispatch.specs.Notes.{IsToldUnless};
+ghost use Rattle.dispatch.specs.Outcomes.{HasNote, IsMissed};
+ghost use Rattle.dispatch.specs.Ends.{IsPrinted, IsDone, streams_of, IsEndFor, IsEndForWords, IsEndWithoutWords};
 
 use crate::doors::{ClientFiles, FileDoors};
 use crate::limits::{MISUSED, UNWRITTEN};
+use crate::notes::{
+    Answered, Missed, named, named_image, tell_note, unread, validity_of, with_note, with_rack_note,
+};
 use crate::unanswered::Unanswered;
 use answers::{
     Answer, DONE, REFUSED, answer_apply, answer_check, answer_direct, answer_draw, answer_host,
     answer_plan, answer_run, answer_serve, answer_switch, answer_talk,
 };
-use command_words::{Job, Text, TextList, WordsFault, WorkerCount, read_words};
+use command_words::{Job, Request, Text, TextList, WordsFault, WorkerCount, read_words};
+use refusal_notes::{Texts, Validity};
 use std::alloc::AllocError;
 use std::io::{ErrorKind, Read, Write};
 use std::process::ExitCode;
@@ -38,8 +44,8 @@ pub fn respond<
     E: Write,
 >(rt: &R, words: io::Result<Vec<String>>, input: &mut I, out: &mut O, err: &mut E) -> ExitCode
     ensures words { IfOk words (λ w. (exit_status result ≡ UNWRITTEN)
-        ⊎ IsEndForWords (texts_of w.items) (I.remaining input.old)
-        (O.contents out.old) (O.contents out.new) (exit_status result)) }
+        ⊎ IsEndForWords (texts_of w.items) (I.remaining input.old) (streams_of (O.contents out.old)
+        (O.contents out.new) (E.contents err.old) (E.contents err.new)) (exit_status result)) }
     ensures none { OnErr words ((exit_status result ≡ UNWRITTEN)
         ⊎ IsEndWithoutWords (O.contents out.old) (O.contents out.new) (exit_status result)) }
 {
@@ -60,15 +66,15 @@ fn respond_to_words<
     E: Write,
 >(rt: &R, words: io::Result<Vec<String>>, input: &mut I, out: &mut O, err: &mut E) -> io::Result<u8>
     ensures words { IfOk words (λ w. IfOk result
-        (IsEndForWords (texts_of w.items) (I.remaining input.old)
-        (O.contents out.old) (O.contents out.new))) }
+        (IsEndForWords (texts_of w.items) (I.remaining input.old) (streams_of (O.contents out.old)
+        (O.contents out.new) (E.contents err.old) (E.contents err.new)))) }
     ensures none { OnErr words (IfOk result
         (IsEndWithoutWords (O.contents out.old) (O.contents out.new))) }
 {
     match words {
         Ok(words) => {
-            let job = read_words(rt.alloc(), words.as_slice());
-            respond_to(rt, job, input, out, err)
+            let request = read_words(rt.alloc(), words.as_slice());
+            respond_to(rt, request, input, out, err)
         }
         Err(error) if error.kind() == ErrorKind::OutOfMemory => refuse(Unanswered::NoMemory, out),
         Err(_) => {
@@ -78,20 +84,26 @@ fn respond_to_words<
     }
 }
 
-/// Does a job, or prints why there is none. The error is that of writing.
+/// Does what is asked for, or prints why nothing is. The error is that of writing.
 pub fn respond_to<
     R: AllocGlobal + Files + Threads + Wait + ClientFiles + Sync,
     I: Read,
     O: Write,
     E: Write,
->(rt: &R, job: Result<Job, WordsFault>, input: &mut I, out: &mut O, err: &mut E) -> io::Result<u8>
-    requires limits { IfOk job IsWithinLimits }
-    requires input { IfOk job (λ j. NameInputOnce (files_of j)) }
-    ensures { IfOk result
-        (IsEndFor (I.remaining input.old) job (O.contents out.old) (O.contents out.new)) }
+>(
+    rt: &R,
+    request: Result<Request, WordsFault>,
+    input: &mut I,
+    out: &mut O,
+    err: &mut E,
+) -> io::Result<u8>
+    requires limits { IfOk request (λ r. IsWithinLimits r.job) }
+    requires input { IfOk request (λ r. NameInputOnce (files_of r.job)) }
+    ensures { IfOk result (IsEndFor (I.remaining input.old) request (streams_of (O.contents out.old)
+        (O.contents out.new) (E.contents err.old) (E.contents err.new))) }
 {
-    match job {
-        Ok(job) => carry_out(rt, job, input, out),
+    match request {
+        Ok(request) => carry_out(rt, request, input, out, err),
         Err(WordsFault::NoMemory) => refuse(Unanswered::NoMemory, out),
         Err(WordsFault::Clap(error)) if error.use_stderr() => {
             write!(err, "{error}")?;
@@ -104,36 +116,75 @@ pub fn respond_to<
     }
 }
 
-/// Does a job, and prints its answer, or why it has none. The error is that of writing.
-fn carry_out<R: AllocGlobal + Files + Threads + Wait + ClientFiles + Sync, I: Read, O: Write>(
-    rt: &R,
-    job: Job,
-    input: &mut I,
-    out: &mut O,
-) -> io::Result<u8>
-    requires limits { IsWithinLimits job }
-    requires input { NameInputOnce (files_of job) }
-    ensures { IfOk result (λ status. (p : Printed) × IsResponseTo (I.remaining input.old) job p
-        × IsPrinted (O.contents out.old) (O.contents out.new) p status) }
+/// Does what is asked for, prints its answer, or why it has none, and tells a line beside a refusal. The error is
+/// that of writing the answer.
+fn carry_out<
+    R: AllocGlobal + Files + Threads + Wait + ClientFiles + Sync,
+    I: Read,
+    O: Write,
+    E: Write,
+>(rt: &R, request: Request, input: &mut I, out: &mut O, err: &mut E) -> io::Result<u8>
+    requires limits { IsWithinLimits request.job }
+    requires input { NameInputOnce (files_of request.job) }
+    ensures { IfOk result (IsDone (I.remaining input.old) request (streams_of (O.contents out.old)
+        (O.contents out.new) (E.contents err.old) (E.contents err.new))) }
 {
+    let Request { job, is_quiet } = request;
     match answer_to(rt, job, input, out) {
-        Ok(answer) => print(&answer, out),
-        Err(why) => refuse(why, out),
+        Ok(done) => print_noted(&done, is_quiet, out, err),
+        Err(missed) => refuse_noted(&missed, is_quiet, out, err),
     }
 }
 
-/// The answer to a job, or why it has none. A session of `talk` is told its replies on `out` before.
+/// Prints an answer, then tells what there is to tell beside it, and gives the answer's status.
+fn print_noted<O: Write, E: Write>(
+    done: &Answered,
+    is_quiet: bool,
+    out: &mut O,
+    err: &mut E,
+) -> io::Result<u8>
+    ensures printed { IfOk result (IsPrinted (O.contents out.old) (O.contents out.new) done.now.answer) }
+    ensures told { IsToldUnless is_quiet
+        (option_map (λ line. string_bytes line) done.now.note)
+        (E.contents err.old) (E.contents err.new) }
+{
+    let status = print(&done.answer, out)?;
+    tell_note(&done.note, is_quiet, err);
+    Ok(status)
+}
+
+/// Prints why there is no answer, then tells what there is to tell beside it, and gives the status of a refusal.
+fn refuse_noted<O: Write, E: Write>(
+    missed: &Missed,
+    is_quiet: bool,
+    out: &mut O,
+    err: &mut E,
+) -> io::Result<u8>
+    ensures printed { IfOk result
+        (IsPrinted (O.contents out.old) (O.contents out.new) (unanswered missed.now.why)) }
+    ensures told { IsToldUnless is_quiet
+        (option_map (λ line. string_bytes line) missed.now.note)
+        (E.contents err.old) (E.contents err.new) }
+{
+    let status = refuse(missed.why, out)?;
+    tell_note(&missed.note, is_quiet, err);
+    Ok(status)
+}
+
+/// The answer to a job, or why it has none, with what is told beside it. A session of `talk` is told its replies on
+/// `out` before.
 fn answer_to<R: AllocGlobal + Files + Threads + Wait + ClientFiles + Sync, I: Read, O: Write>(
     rt: &R,
     job: Job,
     input: &mut I,
     out: &mut O,
-) -> Result<Answer, Unanswered>
+) -> Result<Answered, Missed>
     requires limits { IsWithinLimits job }
     requires input { NameInputOnce (files_of job) }
     ensures { (told : List ℕ) × Appends (O.contents out.old) (O.contents out.new) told
         × IsToldBy job told
-        × IfOk result (λ answer. IsAnswerTo (I.remaining input.old) job (behind_told told answer)) }
+        × IfOk result (λ done. IsAnswerTo (I.remaining input.old) job (behind_told told done.answer))
+        × HasNote result }
 {
     match job {
         Job::Plan { file, workers } => plan(rt, &file, workers, input),
@@ -179,11 +230,16 @@ fn plan<R: AllocGlobal + Files + Threads + Sync, I: Read>(
     file: &Text,
     workers: WorkerCount,
     input: &mut I,
-) -> Result<Answer, Unanswered>
-    ensures { IfOk result (IsSomePlan (I.remaining input.old) file.now) }
+) -> Result<Answered, Missed>
+    ensures answer { IfOk result (λ done.
+        IsSomePlan (I.remaining input.old) file.now done.answer) }
+    ensures note { HasNote result }
 {
-    let batch = read_file(rt, file, input)?;
-    Ok(answer_plan(rt, rt.alloc(), batch.as_slice(), workers)?)
+    let held = read_file(rt, file, input)?;
+    let text = held.as_slice();
+    let answer = answer_plan(rt, rt.alloc(), text, workers)?;
+    let texts = Texts::of_batch(named(file, text));
+    Ok(with_note(rt.alloc(), answer, texts))
 }
 
 /// The answer of `exchange check BATCH SCHEDULE`.
@@ -192,12 +248,19 @@ fn check<R: AllocGlobal + Files, I: Read>(
     batch: &Text,
     schedule: &Text,
     input: &mut I,
-) -> Result<Answer, Unanswered>
+) -> Result<Answered, Missed>
     requires { NameInputOnce (batch.now ∷ schedule.now ∷ []) }
-    ensures { IfOk result (IsSomeCheck (I.remaining input.old) batch.now schedule.now) }
+    ensures answer { IfOk result (λ done.
+        IsSomeCheck (I.remaining input.old) batch.now schedule.now done.answer) }
+    ensures note { HasNote result }
 {
-    let (batch, schedule) = read_texts(rt, batch, schedule, input)?;
-    Ok(answer_check(rt.alloc(), batch.as_slice(), schedule.as_slice())?)
+    let (first, second) = read_texts(rt, batch, schedule, input)?;
+    let (first, second) = (first.as_slice(), second.as_slice());
+    let answer = answer_check(rt.alloc(), first, second)?;
+    let validity = validity_of(rt.alloc(), &answer, first, second);
+    let (batch, schedule) = (named(batch, first), named(schedule, second));
+    let texts = Texts::of_schedule(batch, schedule, "", validity);
+    Ok(with_note(rt.alloc(), answer, texts))
 }
 
 /// The answer of `exchange draw BATCH SCHEDULE`. The files are read before the range of settings is looked at.
@@ -207,14 +270,18 @@ fn draw<R: AllocGlobal + Files, I: Read>(
     schedule: &Text,
     settings: &Option<Text>,
     input: &mut I,
-) -> Result<Answer, Unanswered>
+) -> Result<Answered, Missed>
     requires { NameInputOnce (batch.now ∷ schedule.now ∷ []) }
-    ensures { IfOk result
-        (IsSomeDraw (I.remaining input.old) batch.now schedule.now settings.now) }
+    ensures answer { IfOk result (λ done.
+        IsSomeDraw (I.remaining input.old) batch.now schedule.now settings.now done.answer) }
+    ensures note { HasNote result }
 {
-    let (batch, schedule) = read_texts(rt, batch, schedule, input)?;
-    let (batch, schedule) = (batch.as_slice(), schedule.as_slice());
-    Ok(answer_draw(rt.alloc(), batch, schedule, bytes_in(settings))?)
+    let (first, second) = read_texts(rt, batch, schedule, input)?;
+    let (first, second) = (first.as_slice(), second.as_slice());
+    let answer = answer_draw(rt.alloc(), first, second, bytes_in(settings))?;
+    let (batch, schedule) = (named(batch, first), named(schedule, second));
+    let texts = Texts::of_schedule(batch, schedule, word_in(settings), Validity::Unknown);
+    Ok(with_note(rt.alloc(), answer, texts))
 }
 
 /// The bytes of a text, where there is one.
@@ -227,17 +294,30 @@ fn bytes_in(text: &Option<Text>) -> Option<&[u8]>
     }
 }
 
+/// A word, where there is one.
+fn word_in(text: &Option<Text>) -> &str {
+    match text {
+        Some(text) => text.as_str(),
+        None => "",
+    }
+}
+
 /// The answer of `exchange switch BATCH`.
 fn switch<R: AllocGlobal + Files + Threads + Sync, I: Read>(
     rt: &R,
     batch: &Text,
     workers: WorkerCount,
     input: &mut I,
-) -> Result<Answer, Unanswered>
-    ensures { IfOk result (IsSomeSwitch (I.remaining input.old) batch.now) }
+) -> Result<Answered, Missed>
+    ensures answer { IfOk result (λ done.
+        IsSomeSwitch (I.remaining input.old) batch.now done.answer) }
+    ensures note { HasNote result }
 {
-    let batch = read_file(rt, batch, input)?;
-    Ok(answer_switch(rt, rt.alloc(), batch.as_slice(), workers)?)
+    let held = read_file(rt, batch, input)?;
+    let text = held.as_slice();
+    let answer = answer_switch(rt, rt.alloc(), text, workers)?;
+    let texts = Texts::of_batch(named(batch, text));
+    Ok(with_note(rt.alloc(), answer, texts))
 }
 
 /// The answer of `exchange direct MOVES`.
@@ -245,11 +325,16 @@ fn direct<R: AllocGlobal + Files, I: Read>(
     rt: &R,
     moves: &Text,
     input: &mut I,
-) -> Result<Answer, Unanswered>
-    ensures { IfOk result (IsSomeDirect (I.remaining input.old) moves.now) }
+) -> Result<Answered, Missed>
+    ensures answer { IfOk result (λ done.
+        IsSomeDirect (I.remaining input.old) moves.now done.answer) }
+    ensures note { HasNote result }
 {
-    let moves = read_file(rt, moves, input)?;
-    Ok(answer_direct(rt.alloc(), moves.as_slice())?)
+    let held = read_file(rt, moves, input)?;
+    let text = held.as_slice();
+    let answer = answer_direct(rt.alloc(), text)?;
+    let texts = Texts::of_moves(named(moves, text));
+    Ok(with_note(rt.alloc(), answer, texts))
 }
 
 /// The answer of `exchange apply SHAPE BATCH IMAGE`. The files are read before the shape is looked at.
@@ -260,14 +345,18 @@ fn apply<R: AllocGlobal + Files + Threads + Sync, I: Read>(
     image: &Text,
     workers: WorkerCount,
     input: &mut I,
-) -> Result<Answer, Unanswered>
+) -> Result<Answered, Missed>
     requires input { NameInputOnce (batch.now ∷ image.now ∷ []) }
-    ensures { IfOk result (IsSomeApply (I.remaining input.old) shape.now batch.now image.now) }
+    ensures answer { IfOk result (λ done.
+        IsSomeApply (I.remaining input.old) shape.now batch.now image.now done.answer) }
+    ensures note { HasNote result }
 {
-    let (batch, image) = read_texts(rt, batch, image, input)?;
-    let shape = shape.as_str().as_bytes();
-    let (batch, image) = (batch.as_slice(), image.as_slice());
-    Ok(answer_apply(rt, rt.alloc(), shape, batch, image, workers)?)
+    let (first, second) = read_texts(rt, batch, image, input)?;
+    let shape = shape.as_str();
+    let (first, second) = (first.as_slice(), second.as_slice());
+    let answer = answer_apply(rt, rt.alloc(), shape.as_bytes(), first, second, workers)?;
+    let texts = Texts::of_rack(shape, named(batch, first), named(image, second));
+    Ok(with_note(rt.alloc(), answer, texts))
 }
 
 /// The answer of `exchange run SHAPE BATCH`. The image's file, if one is named, is read first, and then the batch's,
@@ -279,21 +368,19 @@ fn run<R: AllocGlobal + Files + Threads + Sync, I: Read>(
     image: &Option<Text>,
     workers: WorkerCount,
     input: &mut I,
-) -> Result<Answer, Unanswered>
+) -> Result<Answered, Missed>
     requires input { NameInputOnce (option_to_list image.now ++ batch.now ∷ []) }
-    ensures { IfOk result (IsSomeRun (I.remaining input.old) shape.now batch.now image.now) }
+    ensures answer { IfOk result (λ done.
+        IsSomeRun (I.remaining input.old) shape.now batch.now image.now done.answer) }
+    ensures note { HasNote result }
 {
-    let image = read_image(rt, image, input)?;
-    let batch = read_file(rt, batch, input)?;
-    let shape = shape.as_str().as_bytes();
-    Ok(answer_run(
-        rt,
-        rt.alloc(),
-        shape,
-        batch.as_slice(),
-        slice_of(&image),
-        workers,
-    )?)
+    let words = read_image(rt, image, input)?;
+    let held = read_file(rt, batch, input)?;
+    let shape = shape.as_str();
+    let (held, words) = (held.as_slice(), slice_of(&words));
+    let answer = answer_run(rt, rt.alloc(), shape.as_bytes(), held, words, workers)?;
+    let texts = Texts::of_rack(shape, named(batch, held), named_image(image, words));
+    Ok(with_note(rt.alloc(), answer, texts))
 }
 
 /// The answer of `exchange serve SHAPE SCRIPT..`. The image's file, if one is named, is read first, and then the
@@ -305,22 +392,19 @@ fn serve<R: AllocGlobal + Files + Threads + Wait + Sync, I: Read>(
     image: &Option<Text>,
     workers: WorkerCount,
     input: &mut I,
-) -> Result<Answer, Unanswered>
+) -> Result<Answered, Missed>
     requires scripts { CanBeServed scripts.now }
     requires input { NameInputOnce (option_to_list image.now ++ scripts.now) }
-    ensures { IfOk result (IsSomeServe (I.remaining input.old) shape.now scripts.now image.now) }
+    ensures answer { IfOk result (λ done.
+        IsSomeServe (I.remaining input.old) shape.now scripts.now image.now done.answer) }
+    ensures note { HasNote result }
 {
-    let image = read_image(rt, image, input)?;
+    let words = read_image(rt, image, input)?;
     let files = read_files(rt, scripts.as_slice(), input)?;
-    let shape = shape.as_str().as_bytes();
-    Ok(answer_serve(
-        rt,
-        rt.alloc(),
-        shape,
-        slice_of(&image),
-        workers,
-        files.as_slice(),
-    )?)
+    let shape_text = shape.as_str().as_bytes();
+    let (files, words) = (files.as_slice(), slice_of(&words));
+    let answer = answer_serve(rt, rt.alloc(), shape_text, words, workers, files)?;
+    Ok(with_rack_note(rt.alloc(), answer, shape, image, words))
 }
 
 /// The answer of `exchange host SHAPE CLIENT..`, behind the sessions of the clients. The image's file, if one is named, is read
@@ -332,17 +416,20 @@ fn host<R: AllocGlobal + Files + Threads + Wait + ClientFiles + Sync, I: Read>(
     image: &Option<Text>,
     workers: WorkerCount,
     input: &mut I,
-) -> Result<Answer, Unanswered>
+) -> Result<Answered, Missed>
     requires clients { CanBeServed clients.now }
-    ensures { IfOk result (IsSomeHost (I.remaining input.old) shape.now clients.now image.now) }
+    ensures answer { IfOk result (λ done.
+        IsSomeHost (I.remaining input.old) shape.now clients.now image.now done.answer) }
+    ensures note { HasNote result }
 {
-    let image = read_image(rt, image, input)?;
-    let shape = shape.as_str().as_bytes();
+    let words = read_image(rt, image, input)?;
+    let shape_text = shape.as_str().as_bytes();
+    let words = slice_of(&words);
     let alloc = rt.alloc();
     let clients = clients.as_slice();
     let doors = FileDoors { rt, alloc, clients };
-    let hosted = answer_host(rt, alloc, shape, slice_of(&image), workers, &doors)?;
-    Ok(hosted.answer)
+    let hosted = answer_host(rt, alloc, shape_text, words, workers, &doors)?;
+    Ok(with_rack_note(alloc, hosted.answer, shape, image, words))
 }
 
 /// The answer of `exchange talk SHAPE`, behind a session over `input` and `out`. The image's file, if one is named, is
@@ -353,14 +440,18 @@ fn talk<R: AllocGlobal + Files + Threads + Wait + Sync, I: Read, O: Write>(
     image: &Option<Text>,
     input: &mut I,
     out: &mut O,
-) -> Result<Answer, Unanswered>
+) -> Result<Answered, Missed>
     requires input { NameInputOnce (option_to_list image.now ++ input_name ∷ []) }
-    ensures { (told : List ℕ) × Appends (O.contents out.old) (O.contents out.new) told
-        × IfOk result (IsSomeTalk (I.remaining input.old) shape.now image.now told) }
+    ensures answer { (told : List ℕ) × Appends (O.contents out.old) (O.contents out.new) told
+        × IfOk result (λ done.
+        IsSomeTalk (I.remaining input.old) shape.now image.now told done.answer) }
+    ensures note { HasNote result }
 {
-    let image = read_image(rt, image, input)?;
-    let shape = shape.as_str().as_bytes();
-    Ok(answer_talk(rt, rt.alloc(), shape, slice_of(&image), input, out)?)
+    let words = read_image(rt, image, input)?;
+    let shape_text = shape.as_str().as_bytes();
+    let words = slice_of(&words);
+    let answer = answer_talk(rt, rt.alloc(), shape_text, words, input, out)?;
+    Ok(with_rack_note(rt.alloc(), answer, shape, image, words))
 }
 
 /// What an image's file holds, where one is named.
@@ -368,9 +459,10 @@ fn read_image<R: AllocGlobal + Files, I: Read>(
     rt: &R,
     name: &Option<Text>,
     input: &mut I,
-) -> Result<Option<Vec<u8>>, Unanswered>
+) -> Result<Option<Vec<u8>>, Missed>
     ensures held { IfOk result (λ image.
         IsHeldImage (I.remaining input.old) name.now (option_map (λ file. file.items) image)) }
+    ensures note { IfErr result (λ missed. IsMissed missed) }
     ensures unread { name.now ≢ Some input_name → I.remaining input.new ≡ I.remaining input.old }
 {
     match name {
@@ -394,10 +486,11 @@ fn read_files<R: AllocGlobal + Files, I: Read>(
     rt: &R,
     names: &[Text],
     input: &mut I,
-) -> Result<Vec<Vec<u8>>, Unanswered>
+) -> Result<Vec<Vec<u8>>, Missed>
     requires { NameInputOnce names.now }
-    ensures { IfOk result (λ files.
+    ensures held { IfOk result (λ files.
         AreHeld (I.remaining input.old) names.now (map (λ file. file.items) files.items)) }
+    ensures note { IfErr result (λ missed. IsMissed missed) }
 {
     let mut files = Vec::new(rt.alloc());
     for name in names {
@@ -413,27 +506,44 @@ fn read_texts<R: AllocGlobal + Files, I: Read>(
     batch: &Text,
     other: &Text,
     input: &mut I,
-) -> Result<(Vec<u8>, Vec<u8>), Unanswered>
+) -> Result<(Vec<u8>, Vec<u8>), Missed>
     requires { NameInputOnce (batch.now ∷ other.now ∷ []) }
     ensures first { IfOk result (λ texts. IsHeld (I.remaining input.old) batch.now texts.0.items) }
     ensures second { IfOk result (λ texts. IsHeld (I.remaining input.old) other.now texts.1.items) }
+    ensures note { IfErr result (λ missed. IsMissed missed) }
 {
     let first = read_file(rt, batch, input)?;
     let second = read_file(rt, other, input)?;
     Ok((first, second))
 }
 
-/// What a file holds: standard input to its end, where its name is `-`.
+/// What a file holds, or what is told where it can't be read.
 fn read_file<R: AllocGlobal + Files, I: Read>(
     rt: &R,
     name: &Text,
     input: &mut I,
-) -> Result<Vec<u8>, Unanswered>
+) -> Result<Vec<u8>, Missed>
+    ensures held { IfOk result (λ file. IsHeld (I.remaining input.old) name.now file.items) }
+    ensures note { IfErr result (λ missed. IsMissed missed) }
+    ensures unread { name.now ≢ input_name → I.remaining input.new ≡ I.remaining input.old }
+{
+    match read_bytes(rt, name, input) {
+        Ok(file) => Ok(file),
+        Err(error) => Err(unread(rt.alloc(), name, &error)),
+    }
+}
+
+/// The bytes of a file: standard input to its end, where its name is `-`.
+fn read_bytes<R: AllocGlobal + Files, I: Read>(
+    rt: &R,
+    name: &Text,
+    input: &mut I,
+) -> io::Result<Vec<u8>>
     ensures held { IfOk result (λ file. IsHeld (I.remaining input.old) name.now file.items) }
     ensures unread { name.now ≢ input_name → I.remaining input.new ≡ I.remaining input.old }
 {
     if !name.is_input() {
-        return Ok(fs::read(rt, name.as_str())?);
+        return fs::read(rt, name.as_str());
     }
     let mut file = Vec::new(rt.alloc());
     input.read_to_end(&mut file)?;

@@ -3,9 +3,6 @@
 ghost use Rattle.std.specs.Prelude.{◌≡◌};
 ghost use Rattle.dispatch.specs.Responses.{unanswered_line};
 
-use std::alloc::AllocError;
-use std::io;
-use std::io::ErrorKind;
 use thiserror::Error;
 
 /// Why a command has no answer.
@@ -27,26 +24,6 @@ impl Unanswered {
         match self {
             Unanswered::File => "refused file\n",
             Unanswered::NoMemory => "refused no memory\n",
-        }
-    }
-}
-
-impl From<AllocError> for Unanswered {
-    ghost use Rattle.std.specs.Prelude.{◌≡◌};
-    ghost use Rattle.dispatch.specs.declared.unanswered.Unanswered.TheVariants.{NoMemory};
-
-    ghost from_gives = { λ _ why. why ≡ NoMemory };
-
-    fn from(_error: AllocError) -> Unanswered {
-        Unanswered::NoMemory
-    }
-}
-
-impl From<io::Error> for Unanswered {
-    fn from(error: io::Error) -> Unanswered {
-        match error.kind() {
-            ErrorKind::OutOfMemory => Unanswered::NoMemory,
-            _ => Unanswered::File,
         }
     }
 }

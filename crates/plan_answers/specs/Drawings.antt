@@ -92,6 +92,18 @@ IsInvalid shape batch schedule (checking.Check fault) =
     × Denotes shape batch transfers × Says schedule (said settings certificate)
     × IsSettingsFault transfers settings fault
 
+-- the texts are those of a batch and of a schedule of it, and so many settings are enough: as many as
+-- the busiest link has transfers
+abbrev pub AreEnough : Extent → List ℕ → List ℕ → ℕ → Type 0
+AreEnough shape batch schedule enough =
+    (transfers : List Transfer) × (settings : List (List ℕ)) × (verdict : Verdict)
+    × IsValid shape batch schedule transfers settings verdict × (enough ≡ verdict.fewest)
+
+-- the texts aren't those of a batch and of a schedule of it
+abbrev pub IsNoSchedule : Extent → List ℕ → List ℕ → Type 0
+IsNoSchedule shape batch schedule =
+    (fault : CheckingFault) × IsInvalid shape batch schedule fault
+
 -- ---- the answer
 
 -- the picture of the settings that are wanted of the schedule that the texts say

@@ -20,10 +20,10 @@ use schedule_picture::{Shown, Verdict, draw, verdict_on};
 use std::alloc::{AllocError, Global};
 
 /// A batch and a schedule of it, with what is known of how many settings that has.
-struct Valid {
+pub(crate) struct Valid {
     batch: Batch,
     schedule: Schedule,
-    verdict: Verdict,
+    pub(crate) verdict: Verdict,
 }
 
 // Said once, so that no function that lets go of one has to say it again.
@@ -38,7 +38,7 @@ impl Drop for Valid {
 }
 
 /// The batch and the schedule of it that the texts say, or what is first wrong.
-fn validate(alloc: Global, batch: &[u8], schedule: &[u8]) -> Result<Valid, CheckingFault>
+pub(crate) fn validate(alloc: Global, batch: &[u8], schedule: &[u8]) -> Result<Valid, CheckingFault>
     ensures valid { IfOk result (λ found.
         IsValid widest batch.now schedule.now found.batch found.schedule found.verdict) }
     ensures wrong { IfErr result (λ fault. IsRealChecking fault

@@ -2,7 +2,7 @@
 use Rattle.std.specs.Prelude.{ℕ, List, ◌++◌, codes}
 use Rattle.std.specs.Fmt.{decimal}
 use Rattle.refusal_notes.specs.declared.refusal.Refusal.{Refusal}
-use Rattle.refusal_notes.specs.declared.refusal.Refusal.TheVariants.{BatchLine, MovesLine, ScheduleLine, TooMany, Count, NoCertificate, Settings, NoSetting, Shape, NoModule, NoBlock, Unknown, Repeated, Missing, WrongLink, CertificateRepeats, Clash, NotTight, Image, Overlap}
+use Rattle.refusal_notes.specs.declared.refusal.Refusal.TheVariants.{BatchLine, MovesLine, ScheduleLine, TooMany, Count, NoCertificate, Settings, NoSetting, Shape, Threads, NoModule, NoBlock, Unknown, Repeated, Missing, WrongLink, CertificateRepeats, Clash, NotTight, Image, Overlap}
 
 -- two numbers with a space between them
 abbrev pub two_numbers : ℕ → ℕ → List ℕ
@@ -19,6 +19,7 @@ refusal_words NoCertificate = codes "no certificate"
 refusal_words Settings = codes "settings"
 refusal_words (NoSetting k) = codes "no setting " ++ decimal k
 refusal_words Shape = codes "shape"
+refusal_words Threads = codes "threads"
 refusal_words (NoModule t) = codes "no module " ++ decimal t
 refusal_words (NoBlock t) = codes "no block " ++ decimal t
 refusal_words (Unknown t) = codes "check unknown " ++ decimal t

@@ -16,6 +16,7 @@ mod quote;
 mod refusal;
 mod second;
 mod told;
+mod validity;
 mod wanted;
 mod words;
 
@@ -26,4 +27,5 @@ pub use quote::{MAX_QUOTED, Quote};
 pub use refusal::Refusal;
 pub use second::{file_line, second_line};
 pub use told::{Named, Note, Texts};
+pub use validity::Validity;
 pub use wanted::Wanted;

@@ -27,6 +27,8 @@ pub enum Refusal {
     NoSetting(usize),
     /// The shape is none.
     Shape,
+    /// There isn't a thread for each client.
+    Threads,
     /// This transfer names a module that the rack hasn't.
     NoModule(usize),
     /// This transfer names a block that the rack hasn't.
@@ -112,6 +114,9 @@ fn plain(words: &[u8]) -> Option<Refusal>
     }
     if words == b"shape".as_slice() {
         return Some(Refusal::Shape);
+    }
+    if words == b"threads".as_slice() {
+        return Some(Refusal::Threads);
     }
     None
 }

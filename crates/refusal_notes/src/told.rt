@@ -12,6 +12,7 @@ use crate::note::LineNote;
 use crate::pairs::{clashing, setting_with, written};
 use crate::quote::Quote;
 use crate::refusal::Refusal;
+use crate::validity::Validity;
 use crate::wanted::Wanted;
 use crate::words::{write_note, write_numbered};
 use batch::{MAX_BLOCKS, MAX_MODULES, MAX_WORDS, Shape};
@@ -39,8 +40,8 @@ pub struct Texts<'a> {
     pub shape: &'a str,
     /// The word of the settings to draw.
     pub range: &'a str,
-    /// How many settings are enough, where the schedule is valid and that is known.
-    pub enough: Option<usize>,
+    /// What is known of the schedule.
+    pub validity: Validity,
 }
 
 /// What is told of a refusal.
@@ -71,7 +72,7 @@ impl<'a> Texts<'a> {
             other: Named::NONE,
             shape: "",
             range: "",
-            enough: None,
+            validity: Validity::Unknown,
         }
     }
 
@@ -85,22 +86,22 @@ impl<'a> Texts<'a> {
         }
     }
 
-    /// A batch and a schedule, the word of the settings to draw, which may be empty, and how many settings
-    /// are enough, where the schedule is valid and that is known.
+    /// A batch and a schedule, the word of the settings to draw, which may be empty, and what is known of the
+    /// schedule.
     pub fn of_schedule(
         batch: Named<'a>,
         schedule: Named<'a>,
         range: &'a str,
-        enough: Option<usize>,
+        validity: Validity,
     ) -> Texts<'a>
         ensures texts { (result.list ≡ batch.entry) × (result.other ≡ schedule.entry) }
         ensures listing { result.listing ≡ Transfers }
-        ensures words { (result.range ≡ range.entry) × (result.enough ≡ enough) }
+        ensures words { (result.range ≡ range.entry) × (result.validity ≡ validity) }
     {
         Texts {
             other: schedule,
             range,
-            enough,
+            validity,
             ..Texts::of_batch(batch)
         }
     }
@@ -214,6 +215,9 @@ fn write_other<W: fmt::Write>(
     match refusal {
         Refusal::Shape => write_shape(f, texts.shape),
         Refusal::Settings => write_range(f, texts.range),
+        Refusal::Threads => f.write_str(
+            "no thread could be had for each client; fewer clients may do",
+        ),
         Refusal::NoSetting(k) => {
             write!(f, "setting {k}; ")?;
             write_there_are(f, texts.other, "setting")
@@ -422,18 +426,19 @@ fn write_check<W: fmt::Write>(
         }
         _ => f.write_str(" no certificate: \"busiest link E module M\" and \"named T U ..\"")?,
     }
-    write_enough(f, settings, texts.enough)
+    write_validity(f, settings, texts.validity)
 }
 
-/// Writes that a schedule of so many settings is valid, and how many are enough, where that is known.
-fn write_enough<W: fmt::Write>(
+/// Writes whether a schedule of so many settings is valid, and how many are enough, where that is known.
+fn write_validity<W: fmt::Write>(
     f: &mut fmt::Formatter<W>,
     settings: usize,
-    enough: Option<usize>,
+    validity: Validity,
 ) -> fmt::Result {
-    match enough {
-        None => Ok(()),
-        Some(enough) if enough < settings => {
+    match validity {
+        Validity::Unknown => Ok(()),
+        Validity::Invalid => f.write_str("; the schedule isn't valid either"),
+        Validity::Valid(enough) if enough < settings => {
             let verb = if enough == 1 {
                 "setting is"
             } else {
@@ -441,7 +446,7 @@ fn write_enough<W: fmt::Write>(
             };
             write!(f, "; the schedule is valid, and {enough} {verb} enough")
         }
-        Some(_) => f.write_str("; the schedule is valid, and none has fewer settings"),
+        Validity::Valid(_) => f.write_str("; the schedule is valid, and none has fewer settings"),
     }
 }
 

@@ -27,7 +27,7 @@ fn workers_of(job: &Job) -> Option<usize> {
 /// The number of workers of the job that words name.
 fn named_workers(alloc: Global, words: &[String]) -> Option<usize> {
     match read_words(alloc, words) {
-        Ok(job) => workers_of(&job),
+        Ok(request) => workers_of(&request.job),
         Err(_fault) => None,
     }
 }

@@ -1,5 +1,5 @@
 use crate::tests::texts::THREE_TRANSFERS;
-use refusal_notes::{Named, Texts, file_line, second_line};
+use refusal_notes::{Named, Texts, Validity, file_line, second_line};
 use std::alloc::Global;
 
 /// A batch or moves of this text.
@@ -207,9 +207,27 @@ fn schedules(rt: HostRuntime) {
     }
 }
 
+/// Row notes-of-schedules: one that isn't valid.
+#[test]
+fn no_schedule(rt: HostRuntime) {
+    let three = other("settings 1\nsetting 0 1 2\n");
+    let texts = Texts::of_schedule(demo(THREE_TRANSFERS), three, "", Validity::Invalid);
+    let words =
+        "standard input: no certificate: \"busiest link E module M\" and \"named T U ..\"; the schedule isn't valid either";
+    assert!(rt; tells(rt.alloc(), texts, "no certificate", words));
+}
+
+/// Row notes-of-threads.
+#[test]
+fn threads(rt: HostRuntime) {
+    let texts = Texts::of_rack("1x1x1", Named::NONE, Named::NONE);
+    let words = "no thread could be had for each client; fewer clients may do";
+    assert!(rt; tells(rt.alloc(), texts, "threads", words));
+}
+
 /// Whether these words are told of a schedule of three-transfers on standard input, for which two settings are enough.
 fn told_of_input(alloc: Global, text: &str, refusal: &str, words: &str) -> bool {
-    let texts = Texts::of_schedule(demo(THREE_TRANSFERS), other(text), "", Some(2));
+    let texts = Texts::of_schedule(demo(THREE_TRANSFERS), other(text), "", Validity::Valid(2));
     match format!(in alloc; "standard input{words}") {
         Ok(words) => tells(alloc, texts, refusal, words.as_str()),
         Err(_) => false,
@@ -232,7 +250,7 @@ fn ranges(rt: HostRuntime) {
             "setting 2; standard input has settings 0 to 1",
         ),
     ] {
-        let texts = Texts::of_schedule(demo(THREE_TRANSFERS), two, range, None);
+        let texts = Texts::of_schedule(demo(THREE_TRANSFERS), two, range, Validity::Unknown);
         assert!(rt; tells(rt.alloc(), texts, refusal, words));
     }
 }

@@ -1,7 +1,10 @@
 use Rattle.std.proofs.Common.{ℕ, List, subst}
 use Rattle.answers.specs.Directing.{IsDirected}
+use Rattle.dispatch.specs.Responses.{IsSomeDirect}
+use Rattle.dispatch.proofs.Told.{same_answer}
 use Rattle.dispatch.proofs.responding.direct.Goals as goal
 
-pub returns : goal.returns
-returns g c =
-    (c.in_ok-moves.moves.items, c.in_ok-moves.ensures.held, subst (λ (x : List ℕ). IsDirected x c.in_ok-answer_direct.field-0) c.as_slice.ensures.value c.in_ok-answer_direct.ensures)
+pub returns-clause-answer : goal.returns-clause-answer
+returns-clause-answer g c =
+    same_answer (IsSomeDirect (g.I.Read.remaining c.args.input.now) c.args.moves.now) _ _ c.with_note.ensures.answer
+    (c.in_ok-held.held.items, c.in_ok-held.ensures.held, subst (λ (x : List ℕ). IsDirected x c.in_ok-answer.answer) c.as_slice-text.ensures.value c.in_ok-answer.ensures)

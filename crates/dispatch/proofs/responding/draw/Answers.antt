@@ -1,10 +1,13 @@
 use Rattle.answers.specs.Extent.{widest}
 use Rattle.answers.specs.Drawings.{IsDrawn}
+use Rattle.dispatch.specs.Responses.{IsSomeDraw}
+use Rattle.dispatch.proofs.Told.{same_answer}
 use Rattle.dispatch.proofs.responding.draw.Goals as goal
 
-pub returns : goal.returns
-returns g c =
-    let batch = c.in_ok-batch.batch.items in
-    let schedule = c.in_ok-batch.schedule.items in
-    let answer : IsDrawn widest batch schedule c.args.settings.now c.in_ok-answer_draw.field-0 = rw (c.as_slice-batch.ensures.value, c.as_slice-schedule.ensures.value, c.bytes_in.ensures) at c.in_ok-answer_draw.ensures.drawn in
-    (batch, schedule, c.in_ok-batch.ensures.first, c.in_ok-batch.ensures.second, answer)
+pub returns-clause-answer : goal.returns-clause-answer
+returns-clause-answer g c =
+    let batch = c.in_ok-first.first.items in
+    let schedule = c.in_ok-first.second.items in
+    let answer : IsDrawn widest batch schedule c.args.settings.now c.in_ok-answer.answer = rw (c.as_slice-first.ensures.value, c.as_slice-second.ensures.value, c.bytes_in.ensures) at c.in_ok-answer.ensures.drawn in
+    same_answer (IsSomeDraw (g.I.Read.remaining c.args.input.now) c.args.batch.now c.args.schedule.now c.args.settings.now) _ _ c.with_note.ensures.answer
+    (batch, schedule, c.in_ok-first.ensures.first, c.in_ok-first.ensures.second, answer)

@@ -1,17 +1,20 @@
 use Rattle.std.proofs.Common.{List, ℕ, [], ◌∷◌, arith}
 use Rattle.std.specs.Prelude.{option_map}
+use Rattle.dispatch.specs.Responses.{IsSomeRun}
 use Rattle.dispatch.proofs.Held.{held_later, image_is_other}
+use Rattle.dispatch.proofs.Told.{same_answer}
 use Rattle.dispatch.proofs.responding.run.Goals as goal
 
-pub returns : goal.returns
-returns g c =
+pub returns-clause-answer : goal.returns-clause-answer
+returns-clause-answer g c =
     let old = g.I.Read.remaining c.args.input.now in
     let now = g.I.Read.remaining c.read_image.new.input in
     let names : List (List ℕ) = c.args.batch.now ∷ [] in
-    let batch = held_later old now c.args.batch.now c.in_ok-batch.batch.items (λ is. c.read_image.ensures.unread (image_is_other c.args.image.now names 0 c.requires.input (omega arith) is)) c.in_ok-batch.ensures.held in (
-      c.in_ok-batch.batch.items,
-      option_map (λ file. file.items) c.in_ok-image.image,
+    let batch = held_later old now c.args.batch.now c.in_ok-held.held.items (λ is. c.read_image.ensures.unread (image_is_other c.args.image.now names 0 c.requires.input (omega arith) is)) c.in_ok-held.ensures.held in
+    same_answer (IsSomeRun old c.args.shape.now c.args.batch.now c.args.image.now) _ _ c.with_note.ensures.answer (
+      c.in_ok-held.held.items,
+      option_map (λ file. file.items) c.in_ok-words.words,
       batch,
-      c.in_ok-image.ensures.held,
-      rw (c.as_bytes-shape.ensures.value, c.as_str.ensures, c.as_slice.ensures.value, c.slice_of.ensures) at c.in_ok-answer_run.ensures.ran,
+      c.in_ok-words.ensures.held,
+      rw (c.as_bytes.ensures.value, c.as_str-shape.ensures, c.as_slice-held.ensures.value, c.slice_of-words.ensures) at c.in_ok-answer.ensures.ran,
     )

@@ -1,8 +1,11 @@
 use Rattle.std.proofs.Common.{ℕ, List, subst}
 use Rattle.answers.specs.Extent.{widest}
 use Rattle.answers.specs.Switching.{IsSwitched}
+use Rattle.dispatch.specs.Responses.{IsSomeSwitch}
+use Rattle.dispatch.proofs.Told.{same_answer}
 use Rattle.dispatch.proofs.responding.switch.Goals as goal
 
-pub returns : goal.returns
-returns g c =
-    (c.in_ok-batch.batch.items, c.in_ok-batch.ensures.held, subst (λ (x : List ℕ). IsSwitched widest x c.in_ok-answer_switch.field-0) c.as_slice.ensures.value c.in_ok-answer_switch.ensures)
+pub returns-clause-answer : goal.returns-clause-answer
+returns-clause-answer g c =
+    same_answer (IsSomeSwitch (g.I.Read.remaining c.args.input.now) c.args.batch.now) _ _ c.with_note.ensures.answer
+    (c.in_ok-held.held.items, c.in_ok-held.ensures.held, subst (λ (x : List ℕ). IsSwitched widest x c.in_ok-answer.answer) c.as_slice-text.ensures.value c.in_ok-answer.ensures)

@@ -1,0 +1,66 @@
+-- How the program ends.
+use Rattle.std.specs.Prelude.{◌≡◌, ◌⊎◌, ℕ, List, [], Option, Result, Ok, Err, IfOk}
+use Rattle.std.specs.Io.KnownBytes.{Appends}
+use Rattle.answers.specs.Refusals.{Printed}
+use Rattle.answers.specs.limits.TheConstants.{DONE}
+use Rattle.command_words.specs.declared.words.Request.{Request}
+use Rattle.command_words.specs.declared.words.WordsFault.{WordsFault}
+use Rattle.command_words.specs.declared.words.WordsFault.TheVariants as words_fault
+use Rattle.command_words.specs.Jobs.{Holds, AsksForHelp, RefusesForMemory}
+use Rattle.dispatch.specs.declared.limits.TheConstants.{MISUSED}
+use Rattle.dispatch.specs.declared.unanswered.Unanswered.TheVariants.{NoMemory}
+use Rattle.dispatch.specs.Responses.{IsResponseTo, unanswered}
+use Rattle.dispatch.specs.Notes.{IsNoted}
+
+-- this was printed behind what stood there, and ends with its status
+pub record IsPrinted (before after : Option (List ℕ)) (printed : Printed) (code : ℕ) : Type 0 where
+  pub text : Appends before after printed.text
+  pub status : code ≡ printed.status
+
+-- what stood on standard output and on standard error, and stands there in the end
+pub record Streams : Type 0 where
+  pub out_before : Option (List ℕ)
+  pub out_after : Option (List ℕ)
+  pub err_before : Option (List ℕ)
+  pub err_after : Option (List ℕ)
+
+abbrev pub streams_of : Option (List ℕ) → Option (List ℕ) → Option (List ℕ) → Option (List ℕ) → Streams
+streams_of out_before out_after err_before err_after =
+    record {
+      out_before = out_before;
+      out_after = out_after;
+      err_before = err_before;
+      err_after = err_after;
+    }
+
+-- the response to what is asked for was printed, with a line beside it where there is one to tell
+abbrev pub IsDone : Option (List ℕ) → Request → Streams → ℕ → Type 0
+IsDone input request streams code =
+    (printed : Printed) × IsResponseTo input request.job printed
+    × IsPrinted streams.out_before streams.out_after printed code
+    × IsNoted request printed streams.err_before streams.err_after
+
+-- nothing was told on standard error
+abbrev pub IsSilent : Streams → Type 0
+IsSilent streams = Appends streams.err_before streams.err_after []
+
+-- how the program ends where standard input had these bytes and the words ask for this, or are at
+-- fault: what it prints behind what stood there, and its status
+abbrev pub IsEndFor : Option (List ℕ) → Result Request WordsFault → Streams → ℕ → Type 0
+IsEndFor input (Ok request) streams code = IsDone input request streams code
+IsEndFor input (Err words_fault.NoMemory) streams code =
+    IsPrinted streams.out_before streams.out_after (unanswered NoMemory) code × IsSilent streams
+IsEndFor input (Err (words_fault.Clap error)) streams code =
+    (AsksForHelp error → code ≡ DONE)
+    × ((AsksForHelp error → ⊥) → (code ≡ MISUSED) × (streams.out_after ≡ streams.out_before))
+
+-- how it ends for these words
+abbrev pub IsEndForWords : List (List ℕ) → Option (List ℕ) → Streams → ℕ → Type 0
+IsEndForWords words input streams code =
+    (request : Result Request WordsFault) × IfOk request (Holds words)
+    × RefusesForMemory words request × IsEndFor input request streams code
+
+-- how it ends where the words can't be had as texts
+abbrev pub IsEndWithoutWords : Option (List ℕ) → Option (List ℕ) → ℕ → Type 0
+IsEndWithoutWords before after code =
+    IsPrinted before after (unanswered NoMemory) code ⊎ ((code ≡ MISUSED) × (after ≡ before))

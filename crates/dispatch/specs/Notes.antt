@@ -1,0 +1,63 @@
+-- What is told on standard error beside what is printed.
+use Rattle.std.specs.Prelude.{◌≡◌, ◌⊎◌, ◌++◌, ℕ, Bool, false, List, [], Option, Some, IfSome}
+use Rattle.std.specs.Io.KnownBytes.{Appends}
+use Rattle.answers.specs.Refusals.{Printed}
+use Rattle.answers.specs.limits.TheConstants.{REFUSED}
+use Rattle.command_words.specs.declared.words.Job.{Job}
+use Rattle.command_words.specs.declared.words.Request.{Request}
+use Rattle.refusal_notes.specs.declared.refusal.Refusal.{Refusal}
+use Rattle.refusal_notes.specs.Refusals.{refusal_line}
+use Rattle.refusal_notes.specs.Told.{line_told}
+use Rattle.dispatch.specs.declared.unanswered.Unanswered.TheVariants.{File}
+use Rattle.dispatch.specs.Responses.{IsToldBy, unanswered_line}
+
+-- ---- of what a line is told
+
+-- this line says a refusal of what the files hold or the words say
+abbrev pub SaysRefusal : List ℕ → Type 0
+SaysRefusal line = (refusal : Refusal) × (line ≡ refusal_line refusal)
+
+-- this line says a refusal, or that a file can't be read
+abbrev pub IsExplained : List ℕ → Type 0
+IsExplained line = SaysRefusal line ⊎ (line ≡ unanswered_line File)
+
+-- it is a whole line that begins with the program's name
+abbrev pub IsWholeLine : List ℕ → Type 0
+IsWholeLine line = (words : List ℕ) × (line ≡ line_told words)
+
+-- the line is told of what is printed: of a refusal, and of nothing else
+pub record Tells (printed : Printed) (line : List ℕ) : Type 0 where
+  pub refused : printed.status ≡ REFUSED
+  pub of : IsExplained printed.text
+  pub whole : IsWholeLine line
+
+-- what is told of what is printed, if anything is
+abbrev pub IsNoteOn : Printed → Option (List ℕ) → Type 0
+IsNoteOn printed note = IfSome note (Tells printed)
+
+-- ---- what goes to standard error
+
+-- as much of the line as could be written stands behind what was there
+abbrev pub IsBegun : Option (List ℕ) → Option (List ℕ) → List ℕ → Type 0
+IsBegun before after line =
+    (told rest : List ℕ) × (line ≡ told ++ rest) × Appends before after told
+
+-- what was told of a note: nothing where there is none, or none is wanted
+abbrev pub IsToldUnless : Bool → Option (List ℕ) → Option (List ℕ) → Option (List ℕ) → Type 0
+IsToldUnless quiet note before after =
+    Appends before after []
+    ⊎ ((quiet ≡ false) × (line : List ℕ) × (note ≡ Some line) × IsBegun before after line)
+
+-- a line is told of what is printed behind what a session of this job was told
+abbrev pub IsNoteFor : Job → Printed → List ℕ → Type 0
+IsNoteFor job printed line =
+    (told : List ℕ) × (end : Printed) × IsToldBy job told × (printed.text ≡ told ++ end.text)
+    × (printed.status ≡ end.status) × Tells end line
+
+-- what was told on standard error of what is printed: nothing, or one line of a refusal, and nothing
+-- where the words ask for that
+abbrev pub IsNoted : Request → Printed → Option (List ℕ) → Option (List ℕ) → Type 0
+IsNoted request printed before after =
+    Appends before after []
+    ⊎ ((request.is_quiet ≡ false) × (line : List ℕ) × IsNoteFor request.job printed line
+    × IsBegun before after line)

@@ -1,0 +1,17 @@
+-- What is told beside an answer, or where there is none.
+use Rattle.std.specs.Prelude.{MatchResult, Result, option_map, string_bytes}
+use Rattle.dispatch.specs.declared.notes.Answered.{Answered}
+use Rattle.dispatch.specs.declared.notes.Missed.{Missed}
+use Rattle.dispatch.specs.Notes.{IsNoteOn}
+use Rattle.dispatch.specs.Responses.{unanswered}
+
+-- what is told beside an answer
+abbrev pub IsAnswered : Answered → Type 0
+IsAnswered done = IsNoteOn done.answer (option_map (λ line. string_bytes line) done.note)
+
+-- what is told where there is no answer
+abbrev pub IsMissed : Missed → Type 0
+IsMissed missed = IsNoteOn (unanswered missed.why) (option_map (λ line. string_bytes line) missed.note)
+
+abbrev pub HasNote : Result Answered Missed → Type 0
+HasNote result = MatchResult result IsAnswered IsMissed
