@@ -104,7 +104,7 @@ def functions_of(file, text):
             end = until(lines, at, indent, "}")
             name = re.match(r".*\bmod (\w+)", line)[1] if opens[1] == "mod" else owners_of(head)
             around.append((indent, end, opens[1], name))
-        begins = re.match(r" *(?:pub(?:\([^)]*\))? )?(?:unsafe )?fn (\w+)", line)
+        begins = re.match(r" *(?:pub(?:\([^)]*\))? )?(?:unsafe )?(?:extern \"C\" )?fn (\w+)", line)
         if begins and not line.rstrip().endswith((";", "}")):
             body = begun(lines, at, indent)
             end = until(lines, body, indent, "}")

@@ -46,6 +46,15 @@ impl From<clap::Error> for Lamp {
     }
 }
 
+#[unsafe(no_mangle)]
+pub extern "C" fn lamp_count(
+    lamps: &[Lamp],
+) -> usize
+    ensures { result ≡ length lamps.now }
+{
+    lamps.len()
+}
+
 mod walls {
     pub fn both(
         one: &Lamp,
@@ -81,6 +90,7 @@ EDITS = {
     "contract": "file: src/lamp.rt\nold: result ≡ 0\nnew: result ≡ 1\n",
     "constant": "file: src/lamp.rt\nold: bool = false;\nnew: bool = true;\n",
     "from_even": "file: src/lamp.rt\nold: fault.is_odd()\nnew: !fault.is_odd()\n",
+    "count_one_more": "file: src/lamp.rt\nold: lamps.len()\nnew: lamps.len() + 1\n",
     "specs": "file: specs/Lamp.antt\nold: lit\nnew: dark\n",
     "not_there": "file: src/lamp.rt\nold: nowhere\nnew: anywhere\n",
 }
@@ -90,6 +100,7 @@ WANTED = {
     "is_dark": {"Lamp::is_lit"},
     "turn_off": {"LampSwitch::turn"},
     "from_even": {"LampFrom::from"},
+    "count_one_more": {"lamp_count"},
     "new_of_tests": {"Lamp::new"},
     "and_twice": {"both"},
     "new_twice": {"Lamp::new"},
@@ -206,7 +217,7 @@ def main():
     if not all(it in text for it in ("!FIRST", "lit = false", "one || other", "one.is_lit(), one.is_lit()")) or text.count("\n") != SOURCE.count("\n"):
         wrong.append("edits of four functions aren't made at once")
     first = [it.name for it in try_edits.next_round([edits[it] for it in WANTED])]
-    if first != [f"{it}.edit" for it in ("new_is_lit", "is_dark", "turn_off", "from_even", "new_of_tests", "and_twice")]:
+    if first != [f"{it}.edit" for it in ("new_is_lit", "is_dark", "turn_off", "from_even", "count_one_more", "new_of_tests", "and_twice")]:
         wrong.append(f"the first round is {first}")
     for name, (words, tried, refused, is_believed) in CASES.items():
         said = words if "killed" in words else f"{words}\nlogic=not-proved\n"
