@@ -45,7 +45,7 @@ is_live() {
     done
 }
 
-# Hands over all texts that the words name. The first word is the command, and one behind `--workers` a number.
+# Hands over all texts that the words name. The first word is the command, one behind `--workers` a number, and one behind `--settings` a range.
 hand_all_over() {
     local word before='' are_options=yes
     later_words=("$@")
@@ -56,7 +56,7 @@ hand_all_over() {
     for word in "$@"; do
         if [ "$word" = - ]; then
             hand_input_over || return 1
-        elif [ ${#tried_words[@]} -eq 0 ] || [ "$before" = --workers ] || [[ $are_options && $word == -* ]]; then
+        elif [ ${#tried_words[@]} -eq 0 ] || [[ $before =~ ^--(workers|settings)$ ]] || [[ $are_options && $word == -* ]]; then
             tried_words+=("$word")
         else
             hand_over "$word" || return 1
@@ -194,17 +194,26 @@ name_program() {
 
 # Puts the user's words back into what the program says of them.
 put_words_back() {
-    local text name
+    local text name word
     text=$(cat "$1" && printf .)
     text=${text%.}
     for name in "${!unread[@]}"; do
         text=${text/#"exchange: $name: No such file or directory"/"exchange: $name: ${unread[$name]}"}
     done
     for name in "${!renamed[@]}"; do
-        text=${text//"\"$name\""/"$(quoted "${renamed[$name]}")"}
-        text=${text//"$name"/"${renamed[$name]}"}
+        word=${renamed[$name]}
+        text=${text//"\"$name\""/"$(quoted "$word")"}
+        [[ $text != "exchange: "* ]] || word=$(shown "$word")
+        text=${text//"$name"/"$word"}
     done
     printf '%s' "$text" >"$1"
+}
+
+# A word as the program names a text by it: with a question mark in place of each control character.
+shown() {
+    local LC_ALL=C
+    local text=${1//[$'\x01'-$'\x1f\x7f']/?}
+    printf '%s' "${text//$'\xc2'[$'\x80'-$'\x9f']/?}"
 }
 
 # A word as the program quotes it: cut, with bytes that aren't printable escaped.
