@@ -192,7 +192,7 @@ def texts_of(folder):
 # --- What a round shows.
 
 # Of a function that would be proved, were others proved.
-FOR_OTHERS = re.compile(r"(not proved; |no proof: )it (calls|passes|waits for) `")
+FOR_OTHERS = re.compile(r"(not proved; |no proof: )(in `[^`]*`, of this cycle of calls: )?it (calls|passes|waits for) `")
 # Of a proof file that names what an edit took away.
 NAMES = re.compile(r"has no field|is not in scope|has no `|was not admitted")
 

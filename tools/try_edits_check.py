@@ -124,6 +124,7 @@ CASES = {
     "a method by its type's module": ("fn c::other::Lamp::new: no proof: `search` did not prove `returns`", ["new_is_lit"], ["new_is_lit"], True),
     "a folder of two that call each other": ("./proofs/lamp/Lamp/+turn/Answers.antt:5:35: error: `new-returns`: no proof of `x`\nfn c::lamp::Lamp::new: no proof: its proof is in a folder of several", ["new_is_lit"], ["new_is_lit"], True),
     "the others of such a folder": ("./proofs/lamp/Lamp/+turn/Answers.antt:5:35: error: `new-returns`: no proof of `x`\nfn c::lamp::Lamp::new: not proved\nfn c::lamp::Lamp::turn: not proved", ["new_is_lit"], ["new_is_lit"], True),
+    "a closure that waits for a callee": ("fn c::lamp::Lamp::new: no proof: `search` did not prove `returns`\nfn c::lamp::fn::Lamp::is_lit::join+arg2: no proof: in `c::lamp::Lamp::is_lit`, of this cycle of calls: it calls `c::lamp::Lamp::new`, which is not proved", ["new_is_lit"], ["new_is_lit"], True),
     "one of another folder": ("./proofs/lamp/Lamp/+turn/Answers.antt:5:35: error: `new-returns`: no proof of `x`\nfn c::lamp::Lamp::new: not proved\nfn c::bulb::Bulb::turn: not proved", ["new_is_lit"], [], False),
     "a closure in such a folder": ("./proofs/lamp/Lamp/+turn/Answers.antt:5:35: error: `fn-new-join-returns`: no proof of `x`\nfn c::lamp::Lamp::new: not proved", ["new_is_lit"], ["new_is_lit"], True),
     "a folder of one that calls itself": ("./proofs/lamp/Lamp/+new/Answers.antt:5:35: error: `returns`: no proof of `x`\nfn c::lamp::Lamp::new: not proved", ["new_is_lit"], ["new_is_lit"], True),
