@@ -56,7 +56,11 @@ hand_all_over() {
     for word in "$@"; do
         if [ "$word" = - ]; then
             hand_input_over || return 1
-        elif [ ${#tried_words[@]} -eq 0 ] || [[ $before =~ ^--(workers|settings)$ ]] || [[ $are_options && $word == -* ]]; then
+        elif [ ${#tried_words[@]} -eq 0 ] || [[ $before =~ ^--(workers|settings)$ ]]; then
+            tried_words+=("$word")
+        elif [[ $are_options && $word == --image=* ]]; then
+            hand_image_over "${word#--image=}" || return 1
+        elif [[ $are_options && $word == -* ]]; then
             tried_words+=("$word")
         else
             hand_over "$word" || return 1
@@ -64,6 +68,18 @@ hand_all_over() {
         [ "$word" != -- ] || are_options=
         before=$word
     done
+}
+
+# Hands over the file that stands behind `--image=` in one word.
+hand_image_over() {
+    local number=${#tried_words[@]}
+    if [ "$1" = - ]; then
+        hand_input_over || return 1
+    else
+        hand_over "$1" || return 1
+    fi
+    tried_words[number]=--image=${tried_words[number]}
+    ! [ -p "$1" ] || later_words[number]=--image=${later_words[number]}
 }
 
 # Copies the text that `head` reads: a file that is named, else standard input. The first word says what it is.
