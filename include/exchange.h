@@ -8,17 +8,20 @@
  *   EXCHANGE_DONE       the answer stands at the front of `out`, and `*count` is its number of bytes
  *   EXCHANGE_REFUSED    the same, and the answer is the line of a refusal, as `refused batch line 2`
  *   EXCHANGE_NO_ROOM    the answer has more than `room` bytes: `*count` says how many, and `out` is as it was
- *   EXCHANGE_NO_MEMORY  malloc gave no memory: `*count` is 0, and `out` is as it was
+ *   EXCHANGE_NO_MEMORY  malloc or realloc gave no memory: `*count` is 0, and `out` is as it was
  *
- * Bytes of `out` behind the answer are as they were. A call with a `room` of 0 asks for the number alone; it
- * costs as much as one that writes. The same texts have the same answer each time, so the room that the first
- * call asks for is enough for the second.
+ * Bytes of `out` behind the answer are as they were. What `out` and `*count` hold before a call has no effect.
+ * A call with a `room` of 0 asks for the number alone; it costs as much as one that writes. The same texts have
+ * the same answer each time, so the room that the first call asks for is enough for the second.
+ *
+ * README.md says what a batch, a schedule and a shape are, docs/GUIDE.md what moves are, and docs/REFUSALS.md
+ * what each refusal means.
  *
  * What the caller promises, and no call can test:
  *
  *   - each pointer is that of as many bytes as its number says, `out` that of `room` bytes, and `count` that
- *     of one size_t. None is null, also where there are 0 bytes;
- *   - `out` and `count` overlap each other and no text. Texts may overlap;
+ *     of one size_t, aligned as C asks. None is null, also where there are 0 bytes;
+ *   - `out` and `*count` don't overlap each other, and neither overlaps a text. Texts may overlap;
  *   - nothing writes the texts, and nothing reads or writes `out` and `*count`, while the call lasts;
  *   - malloc, realloc and free are those of one allocator, which aligns each block as C asks;
  *   - no call is made from a signal handler, or in a process that was forked while it had threads.
@@ -63,9 +66,10 @@ uint8_t exchange_switch(const uint8_t *batch, size_t batch_bytes, uint8_t *out, 
 /* `exchange apply`: the image that a run of the batch leaves of an image, on a rack of the shape `MxKxW`.
  *
  * An image has all words of the rack, by module, by block and by place, each as four bytes, the least
- * significant first. Takes the time of a plan, and time that grows with the lengths of the image and of the
- * words moved; only where two transfers write one block may the search for the first such pair take time that
- * grows with the square of the number of transfers. */
+ * significant first. An answer that is done has as many bytes as the image; a refusal may have more. Takes the
+ * time of a plan, and time that grows with the length of the image and the number of words moved; only where two
+ * transfers write one block may the search for the first such pair take time that grows with the square of the
+ * number of transfers. */
 uint8_t exchange_apply(const uint8_t *shape, size_t shape_bytes, const uint8_t *batch, size_t batch_bytes,
                        const uint8_t *image, size_t image_bytes, uint8_t *out, size_t room, size_t *count);
 

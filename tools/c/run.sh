@@ -4,6 +4,7 @@
 #   emulator   the program of examples/emulator, built with warnings and sanitizers, prints what it is to print
 #   try        each call with no room, too little, just enough and more, of accepted and refused texts, and without memory
 #   texts      COUNT spoilt texts, 10000 where it isn't said, byte for byte against the built program
+#   names      what `nm` shows of the library and of the kit's file, given and needed, is what names.txt says
 #
 # Libraries and programs that aren't built yet, or are older than their sources, are proved and built first.
 set -euo pipefail
@@ -30,7 +31,7 @@ cc "${checks[@]}" -o "$work/emulator" "$top/examples/emulator/emulator.c" "$libr
 cc "${checks[@]}" -Wl,--wrap=malloc,--wrap=realloc -o "$work/try" "$here/try.c" "$library" "$kit"
 python3 "$here/calls.py" "$work/try" --examples || failed+=" try"
 python3 "$here/calls.py" "$work/try" "${1:-10000}" || failed+=" texts"
-nm -g --defined-only "$library" "$kit" | awk '$2 == "T" { print $3 }' | sort >"$work/names"
+nm -g "$library" "$kit" | awk 'NF > 1 { print $(NF - 1), $NF }' | LC_ALL=C sort -u >"$work/names"
 cmp "$work/names" "$here/names.txt" || failed+=" names"
 if [ -n "$failed" ]; then
     echo "calls for programs in C: WRONG:$failed"
