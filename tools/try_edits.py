@@ -359,8 +359,11 @@ def tried(rt, crate, start, say):
             return strange + [(it.name, False, f"{label}{it.name}: NOT TRIED: the crate as it stands isn't proved, so nothing is known of it") for it in edits]
         refused = in_rounds(rt, crate, edits, kept, say)
         found = {name: (True, f"{label}{name}: refused, as it must be: {why[:160]}") for name, why in refused.items()}
-        for name, (kind, said) in alone(rt, crate, [it.name for it in edits if it.name not in found], kept).items():
+        left, began = [it.name for it in edits if it.name not in found], time.time()
+        for name, (kind, said) in alone(rt, crate, left, kept).items():
             found[name] = kind in (rt.REFUSED, rt.AT_LIMIT), said
+        if left:
+            say(f"{crate.name}: alone: {sum(found[it][0] for it in left)} of {len(left)} edits refused ({' '.join(left)}), {time.time() - began:.0f} seconds")
     return [(it.name, *found[it.name]) for it in edits] + strange
 
 
