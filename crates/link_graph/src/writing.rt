@@ -9,6 +9,7 @@ use crate::numbers::push_number;
 use std::alloc::{AllocError, Global};
 
 /// Puts a line at the end of the text: a word, and numbers with a space before each.
+#[inline(always)]
 fn push_line(text: &mut Vec<u8>, word: &[u8], transfers: &[usize]) -> Result<(), AllocError>
     ensures { OnOk result (GrowsBy text.old text.new ((word.now ++ numbers transfers.now) ∷ [])) }
 {
