@@ -35,8 +35,10 @@ pub(crate) fn settings_text(alloc: Global, settings: &[Vec<usize>]) -> Result<Ve
 {
     let count = settings.len();
     let mut text = format!(in alloc; "settings {count}\n")?.into_bytes();
+    // A copy on the stack can't lie within the text, so it is put there without a test for that.
+    let word = *b"setting";
     for setting in settings {
-        push_line(&mut text, b"setting", setting)?;
+        push_line(&mut text, &word, setting)?;
     }
     Ok(text)
 }
