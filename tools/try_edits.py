@@ -125,7 +125,7 @@ def begun(lines, at, indent):
     for it in range(at, len(lines)):
         if lines[it] == alone + "{" or lines[it].endswith("{") and (it == at or lines[it].startswith(alone + ")")):
             return it
-        if lines[it] == alone + "}" or lines[it].endswith(";") and len(lines[it]) - len(lines[it].lstrip()) == indent:
+        if lines[it] in (alone + "}", alone + "{}") or lines[it].endswith(";") and len(lines[it]) - len(lines[it].lstrip()) == indent:
             break
     return len(lines)
 

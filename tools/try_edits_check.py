@@ -46,6 +46,11 @@ impl From<clap::Error> for Lamp {
     }
 }
 
+/// A law.
+pub fn one_lamp()
+    ensures { OneLamp }
+{}
+
 #[unsafe(no_mangle)]
 pub extern "C" fn lamp_count(
     lamps: &[Lamp],
