@@ -2,10 +2,11 @@
 """Tries the must-fail edits of crates, many at once: tools/try_edits.py [CRATE..]
 
 The prover judges each function by its own body and by the contracts of what it calls, and tells of each by its name whether it is proved. So
-one check of a crate tries many wrong bodies. A round takes one edit of each function that has any left. An edit is refused where its function
-is told as not proved for a goal of its own; that it calls, passes or waits for another one that isn't proved is no reason. A round is believed
-only where each function that it doesn't touch is proved, or would be, were others. An edit that a round doesn't show as refused, one that
-touches more than bodies of functions, and each of a round that isn't believed, is tried alone, as `rt must-fail` does.
+one check of a crate tries many wrong bodies. A round takes one edit of each function that has any left, and has the prover look at these
+functions and those that they call. An edit is refused where its function is told as not proved for a goal of its own; that it calls, passes or
+waits for another one that isn't proved is no reason. A round is believed only where each function that it looks at and doesn't touch is proved,
+or would be, were others. An edit that a round doesn't show as refused, one that touches more than bodies of functions, and each of a round that
+isn't believed, is tried alone, as `rt must-fail` does.
 
 It begins with what `rt check` kept in the clone, and tries nothing of a crate that isn't proved as it stands. docs/DAILY.md says how to write an
 edit.
@@ -265,7 +266,7 @@ def strange(paths, told, faults):
 
 def judged(edits, output):
     """Which of the edits the check with all of them refuses, with the reason, and why none of that is to be believed, if it isn't."""
-    if not output.rstrip("\n").split("\n")[-1].startswith("logic="):
+    if not output.rstrip("\n").split("\n")[-1].startswith(("logic=", "only=")):
         return {}, "it ended without a verdict"
     told, faults = told_of(output), faults_of(output)
     paths = {it: path_of(it, told) for edit in edits for it in edit.functions}
@@ -290,12 +291,22 @@ def next_round(edits):
     return found
 
 
-def checked(rt, crate, texts, kept):
+def asked(functions):
+    """Words that have the prover look at these functions and at those that they call alone, or no words where it would have to look at the whole crate. A method that it
+    may name in several ways is asked for with all of its module."""
+    paths = {"::".join(it.module) if len(it.owners) > 1 else "::".join([*(it.owners or it.module), it.name]) for it in functions}
+    return [] if "" in paths else [word for path in sorted(paths) for word in ("--only", path)]
+
+
+def checked(rt, crate, texts, kept, words=()):
     """A check of the crate with these texts that has ended, begun with what is kept in the folder, where it keeps what it proves."""
-    ran = rt.checked(crate, texts, ["--jobs", "1"], kept)
+    ran = rt.checked(crate, texts, ["--jobs", "1", *words], kept)
+    if words and ran.returncode == 2:
+        # a path that fits none or several
+        return checked(rt, crate, texts, kept)
     if ran.returncode == -signal.SIGKILL:
         # most likely for memory
-        ran = rt.checked(crate, texts, ["--jobs", "1"], kept)
+        ran = rt.checked(crate, texts, ["--jobs", "1", *words], kept)
     return ran
 
 
@@ -319,7 +330,7 @@ def in_rounds(rt, crate, edits, kept, say):
         number += 1
         now, began = next_round(edits), time.time()
         made = with_edits(texts, now)
-        output = checked(rt, crate, made, kept).stdout
+        output = checked(rt, crate, made, kept, asked(it for edit in now for it in edit.functions)).stdout
         why = unread(rt, output, made)
         refused, why = ({}, why) if why else judged(now, output)
         found.update(refused)

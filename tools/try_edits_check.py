@@ -140,7 +140,16 @@ CASES = {
     "another that may wait": ("fn c::lamp::Lamp::new: no proof: `search` did not prove `returns`\nfn c::lamp::Lamp::is_lit: proved, may wait", ["new_is_lit"], ["new_is_lit"], True),
     "a closure that asks for something": ("fn c::lamp::Lamp::new: no proof: `search` did not prove `returns`\nfn c::lamp::fn::both::one: proved where its callers give what it asks", ["new_is_lit"], ["new_is_lit"], True),
     "two of one path": ("fn c::lamp::Lamp::new: no proof: `search` did not prove `returns`", ["new_is_lit", "new_of_tests"], [], False),
+    "those that are asked for": ("fn c::lamp::Lamp::new: no proof: `search` did not prove `returns`\nonly=1 proved=0", ["new_is_lit"], ["new_is_lit"], True),
     "no verdict": ("fn c::lamp::Lamp::new: no proof: `search` did not prove `returns`\nkilled", ["new_is_lit"], [], False),
+}
+
+
+# What the prover is asked for, to look at the functions that edits change.
+ASKED = {
+    ("new_is_lit", "is_dark"): "--only Lamp::is_lit --only Lamp::new",
+    ("count_one_more", "and_twice"): "--only lamp::lamp_count --only lamp::walls::both",
+    ("new_is_lit", "from_even"): "--only Lamp::new --only lamp",
 }
 
 
@@ -226,10 +235,14 @@ def main():
     if first != [f"{it}.edit" for it in ("new_is_lit", "is_dark", "turn_off", "from_even", "count_one_more", "new_of_tests", "and_twice")]:
         wrong.append(f"the first round is {first}")
     for name, (words, tried, refused, is_believed) in CASES.items():
-        said = words if "killed" in words else f"{words}\nlogic=not-proved\n"
+        said = words if re.search("killed|only=", words) else f"{words}\nlogic=not-proved\n"
         found, why = try_edits.judged([edits[it] for it in tried], said)
         if sorted(found) != sorted(f"{it}.edit" for it in refused) or (not why) != is_believed:
             wrong.append(f"{name}: refused {sorted(found)}, {why or 'believed'}")
+    for names, wanted in ASKED.items():
+        found = " ".join(try_edits.asked(function for it in names for function in edits[it].functions))
+        if found != wanted:
+            wrong.append(f"for the functions of {names} the prover is asked with {found}")
     for name, (over, anew, is_proved, wanted) in ALONE.items():
         crate = types.SimpleNamespace(folder="lamp", name="lamp")
         found = try_edits.alone(rt_that_finds(over, anew, is_proved), crate, ["x.edit"], "kept")["x.edit"][0]
