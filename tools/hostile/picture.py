@@ -60,8 +60,14 @@ class Picture:
     def note(self):
         """Which link is framed, how the certificate stands, and which settings are shown, unless that are all."""
         busiest = "link {} module {}".format(*self.link) if self.link else "none"
-        shown = "" if len(self.shown) == len(self.settings) else f", shown {self.shown[0]} to {self.shown[-1]}"
-        return f"busiest {busiest}, {self.standing}{shown}"
+        return f"busiest {busiest}, {self.standing}{self.range_shown()}"
+
+    def range_shown(self):
+        """Which settings are shown, unless that are all."""
+        if len(self.shown) == len(self.settings):
+            return ""
+        first, last = self.shown[0], self.shown[-1]
+        return f", setting {first} shown" if first == last else f", shown {first} to {last}"
 
     def text(self):
         legend = ABOVE + ROW * len(self.modules)
@@ -115,7 +121,7 @@ def standing_of(transfers, settings, certificate):
         plain.check(transfers, settings, certificate)
         return "certified"
     except Refused:
-        return "wrong certificate"
+        return "not certified"
 
 
 def check_settings(transfers, settings):

@@ -82,7 +82,7 @@ where they come from there. Point at a cell, and the browser shows its transfer.
 The half of the busiest link is framed.
 
 Any schedule of BATCH is drawn. The picture's title says whether it has `the
-fewest` settings or `where F are enough`, and `certified`, `wrong certificate`
+fewest` settings or `where F are enough`, and `certified`, `not certified`
 or `no certificate`. With --settings it has the columns of settings A to B
 alone, counted from 0, both of them:
   ./exchange draw BATCH SCHEDULE --settings 0..31 > first.svg

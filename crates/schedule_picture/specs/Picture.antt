@@ -35,13 +35,14 @@ busiest_words (Some link) = codes "busiest " ++ link_words link
 -- how the certificate stands
 abbrev pub standing_words : Standing → List ℕ
 standing_words Certified = codes ", certified"
-standing_words Wrong = codes ", wrong certificate"
+standing_words Wrong = codes ", not certified"
 standing_words Missing = codes ", no certificate"
 
 -- which settings are shown, where these aren't all
-abbrev pub shown_words : ℕ → Shown → List ℕ
+unfoldable pub shown_words : ℕ → Shown → List ℕ
 shown_words settings shown =
     if shown.count == settings then []
+    else if shown.count == 1 then codes ", setting " ++ decimal shown.first ++ codes " shown"
     else codes ", shown " ++ decimal shown.first ++ codes " to "
     ++ decimal (shown.first + shown.count - 1)
 

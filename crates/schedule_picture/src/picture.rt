@@ -62,7 +62,7 @@ fn standing_word(standing: Standing) -> &'static str
 {
     match standing {
         Standing::Certified => ", certified",
-        Standing::Wrong => ", wrong certificate",
+        Standing::Wrong => ", not certified",
         Standing::Missing => ", no certificate",
     }
 }
@@ -75,7 +75,11 @@ fn push_shown(text: &mut String, settings: usize, shown: Shown) -> Result<(), Al
     if shown.count == settings {
         return Ok(());
     }
-    let (first, last) = (shown.first, (shown.first + shown.count).saturating_sub(1));
+    let first = shown.first;
+    if shown.count == 1 {
+        return write!(text, ", setting {first} shown");
+    }
+    let last = (first + shown.count).saturating_sub(1);
     write!(text, ", shown {first} to {last}")
 }
 
