@@ -43,6 +43,18 @@ pub record IsColouredPart (batch : List Transfer) (part : List ℕ) (table : Col
   pub placed : PlacesOnly table.colour part
   pub few : AreFew (length part) degree table.inserted
 
+-- the colourings of two halves of a part of degree d, where a link has two uses
+pub record AreColouredHalves (batch : List Transfer) (whole : List ℕ) (d : ℕ)
+    (left right : Colouring) : Type 0 where
+  pub front : List ℕ
+  pub back : List ℕ
+  pub is_part : IsPart batch whole
+  pub is_degree : IsDegree (members batch whole) d
+  pub high : 1 < d
+  pub halves : AreHalves batch whole front back
+  pub front_coloured : IsColouredPart batch front left
+  pub back_coloured : IsColouredPart batch back right
+
 -- the transfers placed now are those placed before and those of the class
 abbrev pub PlacesClass : List (Option ℕ) → List (Option ℕ) → List ℕ → Type 0
 PlacesClass old new class = (t : ℕ) → IsPlaced new t ↔ (IsPlaced old t ⊎ Contains class t)

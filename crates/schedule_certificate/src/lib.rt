@@ -6,6 +6,7 @@ mod colouring;
 mod degree;
 mod gate;
 mod greedy;
+mod halving;
 mod planned;
 mod planning;
 mod workers;

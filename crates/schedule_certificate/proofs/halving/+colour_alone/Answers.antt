@@ -2,8 +2,8 @@ use Rattle.std.proofs.Common.{◌≡◌, ◌≤◌, ◌<◌, List, ℕ, length, 
 use Rattle.std.specs.Prelude.{IfSome}
 use Rattle.link_graph.specs.Marks.{members}
 use Rattle.schedule_certificate.specs.Parts.{IsPart, IsDegree, AreHalves}
-use Rattle.schedule_certificate.proofs.Parts.{single_matching, left_part, right_part, both_less, known_halves, apart, joined_coloured, has_room, put_back_coloured}
-use Rattle.schedule_certificate.proofs.alone.+colour_alone.Goals as goal
+use Rattle.schedule_certificate.proofs.Parts.{single_matching, left_part, right_part, both_less, known_halves}
+use Rattle.schedule_certificate.proofs.halving.+colour_alone.Goals as goal
 
 pub one_with_room-requires-clause-matching : goal.one_with_room-requires-clause-matching
 one_with_room-requires-clause-matching t c = single_matching c.args.graph.now c.args.part.now c.degree_of-degree.result c.degree_of-degree.ensures (omega arith)
@@ -45,8 +45,8 @@ colour_alone-requires-2 t c =
     let right_places : length back ≤ c.colour_alone.new.scratch = omega (arith, room, kept, back_less, c.requires.places) in
     search rules
 
-pub join-requires-clause-apart : goal.join-requires-clause-apart
-join-requires-clause-apart t c =
+pub join_halves-requires : goal.join_halves-requires
+join_halves-requires t c =
     let batch = c.args.graph.now in
     let whole : List ℕ = c.args.part.now in
     let front : List ℕ = c.split_at_mut-left.result.0.now in
@@ -54,33 +54,7 @@ join-requires-clause-apart t c =
     let d : ℕ = c.degree_of-degree.result in
     let high : 1 < d = omega arith in
     let halves : AreHalves batch whole front back = rw (c.split_at_mut-left.ensures.front, c.split_at_mut-left.ensures.back) c.halve_part-middle.ensures.halves in
-    apart batch whole front back d c.in_ok-left.left c.in_ok-right.right c.requires.part.0 c.degree_of-degree.ensures high halves c.in_ok-left.ensures.coloured c.in_ok-right.ensures.coloured
-
-pub returns-then-colours-degree-clause-coloured : goal.returns-then-colours-degree-clause-coloured
-returns-then-colours-degree-clause-coloured t c =
-    let batch = c.args.graph.now in
-    let whole : List ℕ = c.args.part.now in
-    let front : List ℕ = c.split_at_mut-left.result.0.now in
-    let back : List ℕ = c.split_at_mut-left.result.1.now in
-    let d : ℕ = c.degree_of-degree.result in
-    let high : 1 < d = omega arith in
-    let halves : AreHalves batch whole front back = rw (c.split_at_mut-left.ensures.front, c.split_at_mut-left.ensures.back) c.halve_part-middle.ensures.halves in
-    let j = c.in_ok-joined.ensures.joined in
-    joined_coloured batch whole front back d c.in_ok-left.left c.in_ok-right.right c.requires.part.0 c.degree_of-degree.ensures high halves c.in_ok-left.ensures.coloured c.in_ok-right.ensures.coloured
-    c.in_ok-joined.joined j.batch j.colours j.classes (omega (arith, j.inserted)) (omega arith)
-
-pub put_back-requires : goal.put_back-requires
-put_back-requires t c =
-    let batch = c.args.graph.now in
-    let whole : List ℕ = c.args.part.now in
-    let front : List ℕ = c.split_at_mut-left.result.0.now in
-    let back : List ℕ = c.split_at_mut-left.result.1.now in
-    let d : ℕ = c.degree_of-degree.result in
-    let high : 1 < d = omega arith in
-    let halves : AreHalves batch whole front back = rw (c.split_at_mut-left.ensures.front, c.split_at_mut-left.ensures.back) c.halve_part-middle.ensures.halves in
-    let j = c.in_ok-joined.ensures.joined in
-    rw c.deref.ensures.value (has_room batch whole front back d c.in_ok-left.left c.in_ok-right.right c.requires.part.0 c.degree_of-degree.ensures high halves c.in_ok-left.ensures.coloured c.in_ok-right.ensures.coloured
-    c.in_ok-joined.joined j.batch j.colours j.classes (omega (arith, j.inserted)) c.in_ok-table.table c.in_ok-table.class.items (omega arith) c.in_ok-table.ensures.taken)
+    (batch, whole, record { front = front; back = back; is_part = c.requires.part.0; is_degree = c.degree_of-degree.ensures; high = high; halves = halves; front_coloured = c.in_ok-left.ensures.coloured; back_coloured = c.in_ok-right.ensures.coloured })
 
 pub returns-clause-coloured : goal.returns-clause-coloured
 returns-clause-coloured t c =
@@ -91,7 +65,4 @@ returns-clause-coloured t c =
     let d : ℕ = c.degree_of-degree.result in
     let high : 1 < d = omega arith in
     let halves : AreHalves batch whole front back = rw (c.split_at_mut-left.ensures.front, c.split_at_mut-left.ensures.back) c.halve_part-middle.ensures.halves in
-    let j = c.in_ok-joined.ensures.joined in
-    let p = rw c.deref.ensures.value at c.put_back.ensures in
-    put_back_coloured batch whole front back d c.in_ok-left.left c.in_ok-right.right c.requires.part.0 c.degree_of-degree.ensures high halves c.in_ok-left.ensures.coloured c.in_ok-right.ensures.coloured
-    c.in_ok-joined.joined j.batch j.colours j.classes (omega (arith, j.inserted)) c.in_ok-table.table c.in_ok-table.class.items (omega arith) c.in_ok-table.ensures.taken c.put_back.new.table p.batch p.colours p.placed p.inserted
+    c.join_halves.ensures batch whole (record { front = front; back = back; is_part = c.requires.part.0; is_degree = c.degree_of-degree.ensures; high = high; halves = halves; front_coloured = c.in_ok-left.ensures.coloured; back_coloured = c.in_ok-right.ensures.coloured })

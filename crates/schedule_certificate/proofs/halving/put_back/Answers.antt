@@ -1,6 +1,6 @@
 use Rattle.std.proofs.Common.{arith}
 use Rattle.schedule_certificate.proofs.PutBack.{known_now, not_placed, never_full, one_back, all_back}
-use Rattle.schedule_certificate.proofs.colouring.put_back.Goals as goal
+use Rattle.schedule_certificate.proofs.halving.put_back.Goals as goal
 
 pub insert-requires : goal.insert-requires
 insert-requires c = known_now c.args.table.now c.loop-t.table c.args.class.now c.loop-t.t-index c.requires c.loop-t.invariant c.loop-t-test.true

@@ -1,0 +1,111 @@
+//! Colouring a part of a graph by its halves, one after the other.
+
+ghost use Rattle.std.specs.Prelude.{◌≡◌, ℕ, ◌+◌, ◌≤◌, List, length, take, drop, IfOk};
+ghost use Rattle.batch.specs.declared.transfer.Transfer.{Transfer};
+ghost use Rattle.link_graph.specs.Marks.{members};
+ghost use Rattle.schedule_certificate.specs.Parts.{IsPart, IsDegree, IsPartBy, AreHalves, AreColouredHalves, IsColouredPart, HasRoomFor, PlacesClass};
+
+use crate::degree::{degree_of, half_of};
+use alternating_path::{InsertFault, Table};
+use euler_split::{Scratch, split_in_place};
+use link_graph::LinkGraph;
+use std::alloc::{AllocError, Global};
+
+/// Puts the transfers of a class that was given up into the other colours.
+fn put_back(table: &mut Table<'_>, class: &[usize])
+    requires { HasRoomFor table.old class.now }
+    ensures batch { table.new.batch ≡ table.old.batch }
+    ensures colours { table.new.colours ≡ table.old.colours }
+    ensures placed { PlacesClass table.old.colour table.new.colour class.now }
+    ensures inserted { table.new.inserted ≤ table.old.inserted + length class.now }
+{
+    for t in class {
+        match table.insert(*t) {
+            Ok(()) => (),
+            Err(InsertFault::Already) => unreachable!(),
+            Err(InsertFault::NoRoom) => unreachable!(),
+        }
+    }
+}
+
+/// Permutes a part so that one of two halves stands in front of the other, and says how many transfers
+/// that has. The uses of each link are halved, but where all transfers share one link, which is enough
+/// for halves of half the degree: these stay in their order, so that they get the same colours from one
+/// worker and from several.
+pub(crate) fn halve_part(
+    graph: &LinkGraph,
+    part: &mut [usize],
+    degree: usize,
+    scratch: &mut Scratch,
+) -> usize
+    requires part { IsPart graph.now part.old }
+    requires degree { IsDegree (members graph.now part.old) degree }
+    requires places { length part.old ≤ scratch.old }
+    ensures within { result ≤ length part.old }
+    ensures halves { AreHalves graph.now part.old (take result part.new) (drop result part.new) }
+    ensures places { scratch.new ≡ scratch.old }
+{
+    if degree == part.len() {
+        return degree.div_ceil(2);
+    }
+    split_in_place(graph, part, scratch)
+}
+
+/// The table of a part of this degree, of the tables of its halves. They are joined, and that may be one
+/// colour too many where the degree is odd: then a smallest class is given up, and its transfers are
+/// put into the other colours (Gabow 1976).
+pub(crate) fn join_halves<'a>(
+    left: Table<'a>,
+    right: Table<'a>,
+    degree: usize,
+) -> Result<Table<'a>, AllocError>
+    requires { (batch : List Transfer) × (whole : List ℕ)
+        × AreColouredHalves batch whole degree left right }
+    ensures { (batch : List Transfer) (whole : List ℕ)
+        → AreColouredHalves batch whole degree left.entry right.entry
+        → IfOk result (IsColouredPart batch whole) }
+{
+    let joined = Table::join(left, right)?;
+    if joined.colours() <= degree {
+        return Ok(joined);
+    }
+    let (mut table, class) = joined.take_back()?;
+    put_back(&mut table, &class);
+    Ok(table)
+}
+
+/// Colours a part with as many colours as its busiest link has uses, its degree, and with one where
+/// that is 0. The degree may be known. Room for this many colours is taken at once, so that others
+/// can be joined to these without a move.
+///
+/// Where all transfers share one link, each gets a colour of its own, in their order. Else the part is
+/// halved, in place, its halves are coloured in turn, and the two tables are joined.
+pub(crate) fn colour_alone<'a>(
+    alloc: Global,
+    graph: &'a LinkGraph,
+    part: &mut [usize],
+    scratch: &mut Scratch,
+    known: Option<usize>,
+    room: usize,
+) -> Result<Table<'a>, AllocError>
+    requires part { IsPartBy graph.now part.old known }
+    requires places { length part.old ≤ scratch.old }
+    ensures coloured { IfOk result (IsColouredPart graph.now part.old) }
+    ensures places { scratch.new ≡ scratch.old }
+{
+    let degree = degree_of(graph, part, known);
+    if degree <= 1 {
+        return Table::one_with_room(alloc, graph, part, room.max(1));
+    }
+    if degree == part.len() {
+        return Table::each_with_room(alloc, graph, part, room);
+    }
+    let middle = halve_part(graph, part, degree, scratch);
+    let (left, right) = part.split_at_mut(middle);
+    let half = half_of(degree);
+    // The halves may have one colour too many.
+    let room = room.max(degree.saturating_add(1));
+    let left = colour_alone(alloc, graph, left, scratch, half, room)?;
+    let right = colour_alone(alloc, graph, right, scratch, half, 0)?;
+    join_halves(left, right, degree)
+}
