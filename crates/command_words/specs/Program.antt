@@ -1,5 +1,5 @@
 -- The commands of the program, as clap reads them.
-use Rattle.std.specs.Prelude.{◌≡◌, ℕ, List, [], ◌∷◌, Some, Result, Ok, codes, pos, true, false}
+use Rattle.std.specs.Prelude.{◌≡◌, ℕ, List, [], ◌∷◌, Some, Result, IfOk, codes, pos, true, false}
 use Rattle.clap.specs.Words.{App, Rule, app_of, new_app, new_rule, with_rule, with_subcommand}
 use Rattle.clap.specs.declared.builder.command.Command.{Command}
 use Rattle.clap.specs.declared.builder.command.Command.TheViews.{out-Command as fields_of}
@@ -137,21 +137,21 @@ pub record IsCommand (wanted : App) (command : Command) : Type 0 where
   pub app : app_of command ≡ wanted
   pub local : IsLocal command
 
--- clap's command, with one more argument
-pub record AddsRule (old : Command) (rule : Rule) (new : Command) : Type 0 where
-  pub app : app_of new ≡ with_rule (app_of old) rule
-  pub local : (fields_of new).has_globals ≡ (fields_of old).has_globals
+-- one more argument is added to a command, where that could be had
+abbrev pub AddsRule : {E : Type 0} → Result Command E → Rule → Result Command E → Type 0
+AddsRule old rule new = (app : App) → IfOk old (IsCommand app) → IfOk new (IsCommand (with_rule app rule))
 
--- clap's command, with the words of a batch and of a schedule
-pub record AddsTexts (old new : Command) : Type 0 where
-  pub app : app_of new
-      ≡ with_rule (with_rule (app_of old) (word (codes "BATCH"))) (word (codes "SCHEDULE"))
-  pub local : (fields_of new).has_globals ≡ (fields_of old).has_globals
+-- the words of a batch and of a schedule are added to a command, where that could be had
+abbrev pub AddsTexts : {E : Type 0} → Result Command E → Result Command E → Type 0
+AddsTexts old new = (app : App)
+    → IfOk old (IsCommand app)
+    → IfOk new
+    (IsCommand (with_rule (with_rule app (word (codes "BATCH"))) (word (codes "SCHEDULE"))))
 
--- clap's command, with one more below it, which was to be had and has no argument to share
-pub record AddsCommand {E : Type 0} (old : Command) (below : Result Command E)
-    (new : Command) : Type 0 where
-  pub added : Command
-  pub there : below ≡ Ok added
-  pub app : IsLocal added → app_of new ≡ with_subcommand (app_of old) (app_of added).top
-  pub local : IsLocal old → IsLocal added → IsLocal new
+-- one more command is added below a command, where both could be had
+abbrev pub AddsCommand : {E : Type 0}
+    → Result Command E → Result Command E → Result Command E → Type 0
+AddsCommand old below new = (app added : App)
+    → IfOk old (IsCommand app)
+    → IfOk below (IsCommand added)
+    → IfOk new (IsCommand (with_subcommand app added.top))

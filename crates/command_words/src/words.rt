@@ -1,13 +1,13 @@
 //! The words of the command line.
 
 ghost use Rattle.std.specs.Prelude.{◌≡◌, ◌↔◌, IfErr, IfOk, IsTrue, false, Some, codes};
-ghost use Rattle.clap.specs.Words.{new_app, app_of, rule_of, first_of, rows_of, found_of, kind_of};
+ghost use Rattle.clap.specs.Words.{new_app, rule_of, first_of, rows_of, found_of, kind_of};
 ghost use Rattle.clap.specs.declared.error.kind.ErrorKind.TheVariants.{OutOfMemory};
 ghost use Rattle.command_words.specs.declared.words.Job.{Job};
 ghost use Rattle.command_words.specs.declared.words.Request.{Request};
 ghost use Rattle.command_words.specs.declared.words.Lack.TheVariants.{Memory};
 ghost use Rattle.command_words.specs.declared.words.WordsFault.TheVariants.{NoMemory};
-ghost use Rattle.command_words.specs.Program.{IsLocal, IsCommand, AddsRule, AddsTexts, AddsCommand, word, words, workers, image, settings, quiet};
+ghost use Rattle.command_words.specs.Program.{IsCommand, AddsRule, AddsTexts, AddsCommand, word, words, workers, image, settings, quiet};
 ghost use Rattle.command_words.specs.Program.{top, planner, program};
 ghost use Rattle.command_words.specs.Program.{plan as plan_app, check as check_app, draw as draw_app, switch as switch_app, direct as direct_app, apply as apply_app, run as run_app, serve as serve_app, host as host_app, talk as talk_app};
 ghost use Rattle.command_words.specs.Jobs.{Holds, HasShape, HasTexts, HasServed, HasWorkers, IsJob, IsQuiet, IsRequest, IsWithinLimits, AreMatchesOf, IsTaken, NameInputOnce, AreClientNames, files_of, clients_of, texts_of};
@@ -146,8 +146,7 @@ fn command<'a>(
     example: &'a str,
     notes: &'a str,
 ) -> Command<'a>
-    ensures app { app_of result ≡ new_app name.entry.now }
-    ensures local { IsLocal result }
+    ensures { IsCommand (new_app name.entry.now) result }
 {
     Command::new(alloc, name)
         .about(about)
@@ -163,30 +162,47 @@ fn required<'a>(alloc: Global, id: &'a str, help: &'a str) -> Arg<'a>
     Arg::new(alloc, id).required(true).help(help)
 }
 
+/// The command with one more argument, which no command below it shares.
+fn with_arg<'a>(
+    command: Result<Command<'a>, AllocError>,
+    arg: Arg<'a>,
+) -> Result<Command<'a>, AllocError>
+    requires local { arg.global ≡ false }
+    ensures { AddsRule command.entry (rule_of arg.entry) result }
+{
+    command?.arg(arg)
+}
+
 /// The command with a word that has to be there.
 fn with_word<'a>(
     alloc: Global,
-    command: Command<'a>,
+    command: Result<Command<'a>, AllocError>,
     id: &'a str,
     help: &'a str,
 ) -> Result<Command<'a>, AllocError>
-    ensures { IfOk result (AddsRule command.entry (word id.entry.now)) }
+    ensures { AddsRule command.entry (word id.entry.now) result }
 {
-    command.arg(required(alloc, id, help))
+    with_arg(command, required(alloc, id, help))
 }
 
 /// The command with the word of the shape.
-fn with_shape<'a>(alloc: Global, command: Command<'a>) -> Result<Command<'a>, AllocError>
-    ensures { IfOk result (AddsRule command.entry (word (codes "SHAPE"))) }
+fn with_shape<'a>(
+    alloc: Global,
+    command: Result<Command<'a>, AllocError>,
+) -> Result<Command<'a>, AllocError>
+    ensures { AddsRule command.entry (word (codes "SHAPE")) result }
 {
     with_word(alloc, command, "SHAPE", "The shape of the rack, as 3x2x2")
 }
 
 /// The command with the words of a batch and of a schedule.
-fn with_texts<'a>(alloc: Global, command: Command<'a>) -> Result<Command<'a>, AllocError>
-    ensures { IfOk result (AddsTexts command.entry) }
+fn with_texts<'a>(
+    alloc: Global,
+    command: Result<Command<'a>, AllocError>,
+) -> Result<Command<'a>, AllocError>
+    ensures { AddsTexts command.entry result }
 {
-    let command = with_word(alloc, command, "BATCH", BATCH_HELP)?;
+    let command = with_word(alloc, command, "BATCH", BATCH_HELP);
     with_word(alloc, command, "SCHEDULE", SCHEDULE_HELP)
 }
 
@@ -212,10 +228,13 @@ fn workers<'a>(alloc: Global) -> Arg<'a>
 }
 
 /// The command with `--workers N`.
-fn with_workers<'a>(alloc: Global, command: Command<'a>) -> Result<Command<'a>, AllocError>
-    ensures { IfOk result (AddsRule command.entry workers) }
+fn with_workers<'a>(
+    alloc: Global,
+    command: Result<Command<'a>, AllocError>,
+) -> Result<Command<'a>, AllocError>
+    ensures { AddsRule command.entry workers result }
 {
-    command.arg(workers(alloc))
+    with_arg(command, workers(alloc))
 }
 
 /// `--image FILE`.
@@ -230,10 +249,13 @@ fn image<'a>(alloc: Global) -> Arg<'a>
 }
 
 /// The command with `--image FILE`.
-fn with_image<'a>(alloc: Global, command: Command<'a>) -> Result<Command<'a>, AllocError>
-    ensures { IfOk result (AddsRule command.entry image) }
+fn with_image<'a>(
+    alloc: Global,
+    command: Result<Command<'a>, AllocError>,
+) -> Result<Command<'a>, AllocError>
+    ensures { AddsRule command.entry image result }
 {
-    command.arg(image(alloc))
+    with_arg(command, image(alloc))
 }
 
 /// `--settings A..B`.
@@ -248,10 +270,13 @@ fn settings<'a>(alloc: Global) -> Arg<'a>
 }
 
 /// The command with `--settings A..B`.
-fn with_settings<'a>(alloc: Global, command: Command<'a>) -> Result<Command<'a>, AllocError>
-    ensures { IfOk result (AddsRule command.entry settings) }
+fn with_settings<'a>(
+    alloc: Global,
+    command: Result<Command<'a>, AllocError>,
+) -> Result<Command<'a>, AllocError>
+    ensures { AddsRule command.entry settings result }
 {
-    command.arg(settings(alloc))
+    with_arg(command, settings(alloc))
 }
 
 /// `--quiet`.
@@ -266,22 +291,25 @@ fn quiet<'a>(alloc: Global) -> Arg<'a>
 }
 
 /// The command with `--quiet`, which each one takes.
-fn or_quiet<'a>(alloc: Global, command: Command<'a>) -> Result<Command<'a>, AllocError>
-    ensures { IfOk result (AddsRule command.entry quiet) }
+fn or_quiet<'a>(
+    alloc: Global,
+    command: Result<Command<'a>, AllocError>,
+) -> Result<Command<'a>, AllocError>
+    ensures { AddsRule command.entry quiet result }
 {
-    command.arg(quiet(alloc))
+    with_arg(command, quiet(alloc))
 }
 
 /// The command with a word that has to be there, up to [`MAX_CLIENTS`] times.
 fn with_several<'a>(
     alloc: Global,
-    command: Command<'a>,
+    command: Result<Command<'a>, AllocError>,
     id: &'a str,
     help: &'a str,
 ) -> Result<Command<'a>, AllocError>
-    ensures { IfOk result (AddsRule command.entry (words id.entry.now)) }
+    ensures { AddsRule command.entry (words id.entry.now) result }
 {
-    command.arg(several(alloc, id, help))
+    with_arg(command, several(alloc, id, help))
 }
 
 /// `plan FILE [--workers N]`.
@@ -289,9 +317,9 @@ fn plan<'a>(alloc: Global) -> Result<Command<'a>, AllocError>
     ensures { IfOk result (IsCommand plan_app) }
 {
     let about = "Prints a schedule of a batch: which transfers move in which switch setting";
-    let plan = command(alloc, "plan", about, PLAN_EXAMPLE, PLAN_NOTES);
-    let plan = with_word(alloc, plan, "FILE", BATCH_HELP)?;
-    let plan = with_workers(alloc, plan)?;
+    let plan = Ok(command(alloc, "plan", about, PLAN_EXAMPLE, PLAN_NOTES));
+    let plan = with_word(alloc, plan, "FILE", BATCH_HELP);
+    let plan = with_workers(alloc, plan);
     or_quiet(alloc, plan)
 }
 
@@ -300,8 +328,8 @@ fn check<'a>(alloc: Global) -> Result<Command<'a>, AllocError>
     ensures { IfOk result (IsCommand check_app) }
 {
     let about = "Judges a schedule of a batch: whether its certificate shows that none is shorter";
-    let check = command(alloc, "check", about, CHECK_EXAMPLE, CHECK_NOTES);
-    let check = with_texts(alloc, check)?;
+    let check = Ok(command(alloc, "check", about, CHECK_EXAMPLE, CHECK_NOTES));
+    let check = with_texts(alloc, check);
     or_quiet(alloc, check)
 }
 
@@ -310,9 +338,9 @@ fn draw<'a>(alloc: Global) -> Result<Command<'a>, AllocError>
     ensures { IfOk result (IsCommand draw_app) }
 {
     let about = "Draws a schedule of a batch: a picture in SVG, to be looked at in a browser";
-    let draw = command(alloc, "draw", about, DRAW_EXAMPLE, DRAW_NOTES);
-    let draw = with_texts(alloc, draw)?;
-    let draw = with_settings(alloc, draw)?;
+    let draw = Ok(command(alloc, "draw", about, DRAW_EXAMPLE, DRAW_NOTES));
+    let draw = with_texts(alloc, draw);
+    let draw = with_settings(alloc, draw);
     or_quiet(alloc, draw)
 }
 
@@ -322,9 +350,9 @@ fn switch<'a>(alloc: Global) -> Result<Command<'a>, AllocError>
 {
     let about =
         "Tells a real switch's bytes: what a run of a batch sends over the configuration link";
-    let switch = command(alloc, "switch", about, SWITCH_EXAMPLE, SWITCH_NOTES);
-    let switch = with_word(alloc, switch, "BATCH", BATCH_HELP)?;
-    let switch = with_workers(alloc, switch)?;
+    let switch = Ok(command(alloc, "switch", about, SWITCH_EXAMPLE, SWITCH_NOTES));
+    let switch = with_word(alloc, switch, "BATCH", BATCH_HELP);
+    let switch = with_workers(alloc, switch);
     or_quiet(alloc, switch)
 }
 
@@ -334,8 +362,8 @@ fn direct<'a>(alloc: Global) -> Result<Command<'a>, AllocError>
 {
     let about =
         "Makes a batch of moves: which are pushed and which are pulled, for the fewest settings";
-    let direct = command(alloc, "direct", about, DIRECT_EXAMPLE, DIRECT_NOTES);
-    let direct = with_word(alloc, direct, "MOVES", MOVES_HELP)?;
+    let direct = Ok(command(alloc, "direct", about, DIRECT_EXAMPLE, DIRECT_NOTES));
+    let direct = with_word(alloc, direct, "MOVES", MOVES_HELP);
     or_quiet(alloc, direct)
 }
 
@@ -345,11 +373,11 @@ fn apply<'a>(alloc: Global) -> Result<Command<'a>, AllocError>
 {
     let about =
         "Runs a batch over your own words: an image in, the image with the blocks placed out";
-    let apply = command(alloc, "apply", about, APPLY_EXAMPLE, APPLY_NOTES);
-    let apply = with_shape(alloc, apply)?;
-    let apply = with_word(alloc, apply, "BATCH", BATCH_HELP)?;
-    let apply = with_word(alloc, apply, "IMAGE", IMAGE_HELP)?;
-    let apply = with_workers(alloc, apply)?;
+    let apply = Ok(command(alloc, "apply", about, APPLY_EXAMPLE, APPLY_NOTES));
+    let apply = with_shape(alloc, apply);
+    let apply = with_word(alloc, apply, "BATCH", BATCH_HELP);
+    let apply = with_word(alloc, apply, "IMAGE", IMAGE_HELP);
+    let apply = with_workers(alloc, apply);
     or_quiet(alloc, apply)
 }
 
@@ -358,11 +386,11 @@ fn run<'a>(alloc: Global) -> Result<Command<'a>, AllocError>
     ensures { IfOk result (IsCommand run_app) }
 {
     let about = "Runs a batch on a rack: sets the switches, moves the blocks and reports";
-    let run = command(alloc, "run", about, RUN_EXAMPLE, RUN_NOTES);
-    let run = with_shape(alloc, run)?;
-    let run = with_word(alloc, run, "BATCH", BATCH_HELP)?;
-    let run = with_image(alloc, run)?;
-    let run = with_workers(alloc, run)?;
+    let run = Ok(command(alloc, "run", about, RUN_EXAMPLE, RUN_NOTES));
+    let run = with_shape(alloc, run);
+    let run = with_word(alloc, run, "BATCH", BATCH_HELP);
+    let run = with_image(alloc, run);
+    let run = with_workers(alloc, run);
     or_quiet(alloc, run)
 }
 
@@ -371,11 +399,11 @@ fn serve<'a>(alloc: Global) -> Result<Command<'a>, AllocError>
     ensures { IfOk result (IsCommand serve_app) }
 {
     let about = "Serves scripts side by side on one exchange, and prints the replies to each";
-    let serve = command(alloc, "serve", about, SERVE_EXAMPLE, SERVE_NOTES);
-    let serve = with_shape(alloc, serve)?;
-    let serve = with_several(alloc, serve, "SCRIPT", SCRIPT_HELP)?;
-    let serve = with_image(alloc, serve)?;
-    let serve = with_workers(alloc, serve)?;
+    let serve = Ok(command(alloc, "serve", about, SERVE_EXAMPLE, SERVE_NOTES));
+    let serve = with_shape(alloc, serve);
+    let serve = with_several(alloc, serve, "SCRIPT", SCRIPT_HELP);
+    let serve = with_image(alloc, serve);
+    let serve = with_workers(alloc, serve);
     or_quiet(alloc, serve)
 }
 
@@ -385,11 +413,11 @@ fn host<'a>(alloc: Global) -> Result<Command<'a>, AllocError>
 {
     let about =
         "Serves live clients side by side on one exchange, each through two pipes of its own";
-    let host = command(alloc, "host", about, HOST_EXAMPLE, HOST_NOTES);
-    let host = with_shape(alloc, host)?;
-    let host = with_several(alloc, host, "CLIENT", CLIENT_HELP)?;
-    let host = with_image(alloc, host)?;
-    let host = with_workers(alloc, host)?;
+    let host = Ok(command(alloc, "host", about, HOST_EXAMPLE, HOST_NOTES));
+    let host = with_shape(alloc, host);
+    let host = with_several(alloc, host, "CLIENT", CLIENT_HELP);
+    let host = with_image(alloc, host);
+    let host = with_workers(alloc, host);
     or_quiet(alloc, host)
 }
 
@@ -398,20 +426,20 @@ fn talk<'a>(alloc: Global) -> Result<Command<'a>, AllocError>
     ensures { IfOk result (IsCommand talk_app) }
 {
     let about = "Serves you on the terminal: a session of one client, line by line";
-    let talk = command(alloc, "talk", about, TALK_EXAMPLE, TALK_NOTES);
-    let talk = with_shape(alloc, talk)?;
-    let talk = with_image(alloc, talk)?;
+    let talk = Ok(command(alloc, "talk", about, TALK_EXAMPLE, TALK_NOTES));
+    let talk = with_shape(alloc, talk);
+    let talk = with_image(alloc, talk);
     or_quiet(alloc, talk)
 }
 
-/// The command with one more command below it, where that could be had.
+/// The command with one more command below it, where both could be had.
 fn with_command<'a>(
-    command: Command<'a>,
+    command: Result<Command<'a>, AllocError>,
     below: Result<Command<'a>, AllocError>,
 ) -> Result<Command<'a>, AllocError>
-    ensures { IfOk result (AddsCommand command.entry below.entry) }
+    ensures { AddsCommand command.entry below.entry result }
 {
-    command.subcommand(below?)
+    command?.subcommand(below?)
 }
 
 /// The program without its commands.
@@ -428,22 +456,21 @@ fn top<'a>(alloc: Global) -> Command<'a>
 fn planner<'a>(alloc: Global) -> Result<Command<'a>, AllocError>
     ensures { IfOk result (IsCommand planner) }
 {
-    let planner = with_command(top(alloc), plan(alloc))?;
-    let checker = with_command(planner, check(alloc))?;
-    let drawer = with_command(checker, draw(alloc))?;
-    let switcher = with_command(drawer, switch(alloc))?;
+    let planner = with_command(Ok(top(alloc)), plan(alloc));
+    let checker = with_command(planner, check(alloc));
+    let drawer = with_command(checker, draw(alloc));
+    let switcher = with_command(drawer, switch(alloc));
     with_command(switcher, direct(alloc))
 }
 
 /// All commands.
 fn program<'a>(alloc: Global) -> Result<Command<'a>, AllocError>
-    ensures { IfOk result (λ c. app_of c ≡ program) }
+    ensures { IfOk result (IsCommand program) }
 {
-    let planner = planner(alloc)?;
-    let applier = with_command(planner, apply(alloc))?;
-    let runner = with_command(applier, run(alloc))?;
-    let server = with_command(runner, serve(alloc))?;
-    let hoster = with_command(server, host(alloc))?;
+    let applier = with_command(planner(alloc), apply(alloc));
+    let runner = with_command(applier, run(alloc));
+    let server = with_command(runner, serve(alloc));
+    let hoster = with_command(server, host(alloc));
     with_command(hoster, talk(alloc))
 }
 
