@@ -859,6 +859,23 @@ fn names_clients(job: &Job) -> bool
     }
 }
 
+/// The request, where one of its files at most is standard input and its clients can be told apart.
+fn accepted(alloc: Global, request: Request) -> Result<Request, WordsFault>
+    ensures same { IfOk result (λ accepted. accepted ≡ request) }
+    ensures input { IfOk result (λ accepted. NameInputOnce (files_of accepted.job)) }
+    ensures clients { IfOk result (λ accepted. AreClientNames (clients_of accepted.job)) }
+    ensures refused { IfErr result (λ _. NameInputOnce (files_of request.job)
+        → AreClientNames (clients_of request.job) → ⊥) }
+{
+    if !reads_input_once(&request.job) {
+        return Err(named_twice(alloc));
+    }
+    if !names_clients(&request.job) {
+        return Err(misnamed(alloc));
+    }
+    Ok(request)
+}
+
 /// Reads the program's words, the first of which is its own name.
 ///
 /// Gives what clap finds in them: the command's job, with its texts and its number of workers, and whether it
@@ -872,12 +889,5 @@ pub fn read_words(alloc: Global, words: &[String]) -> Result<Request, WordsFault
     ensures clients { IfOk result (λ request. AreClientNames (clients_of request.job)) }
     ensures refused { RefusesForMemory (texts_of words.now) result }
 {
-    let request = request_named(alloc, words)?;
-    if !reads_input_once(&request.job) {
-        return Err(named_twice(alloc));
-    }
-    if !names_clients(&request.job) {
-        return Err(misnamed(alloc));
-    }
-    Ok(request)
+    accepted(alloc, request_named(alloc, words)?)
 }
