@@ -54,7 +54,7 @@ IsNoteFor job printed line =
     (told : List ℕ) × (end : Printed) × IsToldBy job told × (printed.text ≡ told ++ end.text)
     × (printed.status ≡ end.status) × Tells end line
 
--- what was told on standard error of what is printed: nothing, or one line of a refusal, and nothing
+-- what was told on standard error of what is printed: nothing, or one text of a refusal, and nothing
 -- where the words ask for that
 abbrev pub IsNoted : Request → Printed → Option (List ℕ) → Option (List ℕ) → Type 0
 IsNoted request printed before after =
