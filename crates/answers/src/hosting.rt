@@ -1,6 +1,7 @@
 //! The command `host`.
 
-ghost use Rattle.std.specs.Prelude.{◌≡◌, ◌≤◌, ◌++◌, [], All, IfOk, IfSome, OnOk, Some, length, map, flat_map};
+ghost use Rattle.std.specs.Prelude.{◌≡◌, ◌≤◌, ◌++◌, [], All, IfOk, IfSome, OnOk, Some, codes, length, map, flat_map};
+ghost use Rattle.std.specs.Fmt.{decimal};
 ghost use Rattle.std.specs.List.{list_any};
 ghost use Rattle.progress_word.specs.declared.limits.TheConstants.{ALL_PARTS};
 ghost use Rattle.batch_book.specs.Exchanges.{AreNew};
@@ -233,15 +234,15 @@ fn host_seats<'a, L: Ledger + Send + Sync, R: Threads + Wait + Sync, D: Doors>(
 }
 
 /// Puts the line of a session's number and its client's name at the end of the text.
-fn push_heading<D: Doors>(
+fn push_heading(
     alloc: Global,
     text: &mut Vec<u8>,
-    doors: &D,
     session: usize,
+    name: &str,
 ) -> Result<(), AllocError>
-    ensures { OnOk result (text.new.items ≡ text.old.items ++ visit_heading (D.guests doors.now) session) }
+    ensures { OnOk result (text.new.items ≡ text.old.items
+        ++ (codes "session " ++ decimal session ++ codes " " ++ name.now ++ codes "\n")) }
 {
-    let name = doors.name(session);
     let line = format!(in alloc; "session {session} {name}\n")?;
     text.extend_from_slice(line.as_str().as_bytes())
 }
@@ -260,6 +261,22 @@ fn push_ending<C>(text: &mut Vec<u8>, ending: &Ending<C>) -> Result<(), AllocErr
     }
 }
 
+/// Puts what is printed of a session at the end of the text.
+fn push_visit<L: Ledger, D: Doors>(
+    alloc: Global,
+    text: &mut Vec<u8>,
+    doors: &D,
+    session: &Attended<L, D::Receipt>,
+) -> Result<(), AllocError>
+    ensures { OnOk result (text.new.items
+        ≡ (text.old.items ++ visit_heading (D.guests doors.now) session.now.seat.session)
+        ++ ending_line session.now.ending) }
+{
+    let number = session.seat.session();
+    push_heading(alloc, text, number, doors.name(number))?;
+    push_ending(text, &session.ending)
+}
+
 /// What is printed of the sessions, one after another.
 fn ends_of<L: Ledger, D: Doors>(
     alloc: Global,
@@ -271,8 +288,7 @@ fn ends_of<L: Ledger, D: Doors>(
 {
     let mut text = Vec::new(alloc);
     for session in sessions {
-        push_heading(alloc, &mut text, doors, session.seat.session())?;
-        push_ending(&mut text, &session.ending)?;
+        push_visit(alloc, &mut text, doors, session)?;
     }
     Ok(text)
 }
