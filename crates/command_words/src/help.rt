@@ -40,7 +40,9 @@ Example:
 /// What `check --help` says below its options.
 pub const CHECK_NOTES: &str = "\
 BATCH is a batch text and SCHEDULE a schedule text with the certificate part,
-in the form that `exchange plan --help` shows.
+in the form that `exchange plan --help` shows. The certificate depends on the
+batch alone: for a schedule of your own take the last two lines of
+`exchange plan BATCH`.
 
 The answer is the line `shortest S` where the S settings use each transfer
 once and no link twice at a time, and S distinct transfers are named that all
@@ -59,6 +61,8 @@ BATCH is looked at, then SCHEDULE, and then what it says:
   refused check wrong link T            T is named and doesn't use the link
   refused check certificate repeats T   T is named twice
   refused check not tight S U           S settings, but U transfers named
+With the last two lines of the plan, `not tight` means that U settings are
+enough. With others it may only mean that they name too few transfers.
 
 Status: 0 it is shortest, 1 it was refused or there was no memory, 2 the
 words fit no command, 3 the answer couldn't be written.";
@@ -206,7 +210,8 @@ Else nothing is run, and the answer is the first of these that is wrong:
   refused ..            BATCH, as `exchange plan --help` shows, in this rack
   refused image L W     the image has L bytes, and the shape wants W
   refused overlap I J   transfers I and J write one block
-Which of the two came last would show. The first I is told, and its first J. A
+Such a batch isn't run: the result would depend on which transfer came last. Of
+several such pairs the one with the smallest I is told, then the smallest J. A
 block may be read and written: moved is what it held before the run.
 
 Status: 0 the batch was run, 1 it was refused or there was no memory, 2 the
