@@ -330,8 +330,9 @@ def in_rounds(rt, crate, edits, kept, say):
         number += 1
         now, began = next_round(edits), time.time()
         made = with_edits(texts, now)
-        output = checked(rt, crate, made, kept, asked(it for edit in now for it in edit.functions)).stdout
-        why = unread(rt, output, made)
+        ran = checked(rt, crate, made, kept, asked(it for edit in now for it in edit.functions))
+        output = ran.stdout
+        why = unread(rt, output, made) or ("" if ran.returncode in (0, 1) else f"it ended with status {ran.returncode}")
         refused, why = ({}, why) if why else judged(now, output)
         found.update(refused)
         said = f"not believed, so each is tried alone: {why[:200]}" if why else f"{len(refused)} of {len(now)} edits refused"

@@ -253,6 +253,12 @@ def main():
         crate = types.SimpleNamespace(folder=folder, name="lamp")
         os.mkdir(f"{folder}/must-fail/folder.edit")
         found = try_edits.tried(rt_that_finds("refused", "refused", False), crate, f"{folder}/out", print)
+        is_dark, said = [edits["is_dark"]], "./proofs/lamp/Lamp/is_lit/Answers.antt:5:35: error: `returns`: out of steps\nfn c::lamp::Lamp::is_lit: could not tell\nonly=1 proved=0\n"
+        for status, wanted in ((1, ["is_dark.edit"]), (3, [])):
+            rt = rt_that_finds("", "", True)
+            rt.checked = lambda *given: types.SimpleNamespace(returncode=status, stdout=said)
+            if list(try_edits.in_rounds(rt, crate, is_dark, "kept", lambda it: None)) != wanted:
+                wrong.append(f"a round that ends with status {status} isn't taken as {wanted}")
         alike = [it for it in ("is_dark", "turn_off", "or") if try_edits.is_made_alike(rt_that_finds("", "", True), folder, texts, edits[it])]
         if alike != ["is_dark"]:
             wrong.append(f"of is_dark, turn_off and or, rt makes the same by {alike}")

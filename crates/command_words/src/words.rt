@@ -162,7 +162,10 @@ fn required<'a>(alloc: Global, id: &'a str, help: &'a str) -> Arg<'a>
     Arg::new(alloc, id).required(true).help(help)
 }
 
-/// The command with one more argument, which no command below it shares.
+/// The command with one more argument, which no command below it shares, where that could be had.
+///
+/// Each of these helpers takes what the one before it gave, want of memory too. So no command is let go
+/// between two steps, which keeps the proofs short.
 fn with_arg<'a>(
     command: Result<Command<'a>, AllocError>,
     arg: Arg<'a>,

@@ -35,7 +35,7 @@ pub(crate) fn settings_text(alloc: Global, settings: &[Vec<usize>]) -> Result<Ve
 {
     let count = settings.len();
     let mut text = format!(in alloc; "settings {count}\n")?.into_bytes();
-    // A copy on the stack can't lie within the text, so it is put there without a test for that.
+    // The compiler sees that a copy on the stack doesn't lie within the text, and copies it without looking.
     let word = *b"setting";
     for setting in settings {
         push_line(&mut text, &word, setting)?;

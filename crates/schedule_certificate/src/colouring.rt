@@ -14,8 +14,9 @@ use link_graph::LinkGraph;
 use std::alloc::{AllocError, Global};
 use std::thread::{Threads, join};
 
-/// Colours a part as [`colour_alone`] does, with the same contract. Two workers or more colour its
-/// halves at once.
+/// Colours a part as [`colour_alone`] does, with the same contract and the same colours. Two workers or
+/// more colour its halves at once, also where all transfers share one link: [`halve_part`] says why
+/// these get the same colours then.
 #[cycle(halves)]
 pub(crate) fn colour_part<'a, R: Threads + Sync, G: Gate>(
     rt: &R,
