@@ -38,7 +38,7 @@ trap 'rm -rf "$work"' EXIT
 
 # About a twelfth more than was counted last, since other versions of both compilers count a little differently
 declare -A greatest=(
-    [scrambled]=0.91 [scrambled-1024]=1.01 [one_link]=0.57 [one_link-1024]=0.68 [odd]=0.84 [star]=0.59 [two_by_two]=1.12 [part]=0.54 [wide]=0.92
+    [scrambled]=0.89 [scrambled-1024]=1.01 [one_link]=0.51 [one_link-1024]=0.65 [odd]=0.80 [star]=0.52 [two_by_two]=1.11 [part]=0.49 [wide]=0.89
 )
 greatest_growth=5
 
