@@ -188,7 +188,7 @@ def tested(rt, order, room, meter):
         moved(order, f"{room}/edits", "crates")
         if status:
             return status
-        crates = rt.crates_of(os.getcwd())
+        crates = rt.rtlib.crates_below(os.getcwd())
         return built(crates) or try_edits_of(rt, crates)
     finally:
         subprocess.Popen = plain

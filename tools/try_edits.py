@@ -346,13 +346,28 @@ def one(rt, crate, name, kept=None):
     return rt.must_fail(crate, f"{crate.folder}/must-fail/{name}", ["--jobs", "1"], kept)
 
 
+def is_refused(rt, kind):
+    """Whether rt means by this kind that the edit is refused. Some kits tell kinds, and others only whether it is."""
+    return kind if isinstance(kind, bool) else kind in (rt.REFUSED, rt.AT_LIMIT)
+
+
+def is_settled(rt, kind):
+    """Whether rt means by this kind that the edit needn't be tried from nothing."""
+    return kind if isinstance(kind, bool) else kind in rt.SETTLED
+
+
+def linked(start, to):
+    """Makes a folder that has the files of another one, by links."""
+    shutil.copytree(start, to, copy_function=os.link)
+
+
 def alone(rt, crate, names, kept):
     """What rt finds, by name, when each of these edits is tried alone: over what is kept, and from nothing where that isn't settled. Where the crate as it stands
     isn't proved over what is kept, that shows nothing, and each is tried from nothing."""
     found = {it: one(rt, crate, it, kept) for it in names}
-    refused = [it for it in names if found[it][0] in (rt.REFUSED, rt.AT_LIMIT)]
+    refused = [it for it in names if is_refused(rt, found[it][0])]
     lost = refused if refused and checked(rt, crate, {}, kept).returncode else []
-    return {it: one(rt, crate, it) if it in lost or found[it][0] not in rt.SETTLED else found[it] for it in names}
+    return {it: one(rt, crate, it) if it in lost or not is_settled(rt, found[it][0]) else found[it] for it in names}
 
 
 def tried(rt, crate, start, say):
@@ -364,7 +379,7 @@ def tried(rt, crate, start, say):
     with tempfile.TemporaryDirectory(prefix=f"rt-edits-{os.getpid()}-") as room:
         kept = f"{room}/kept"
         if os.path.isdir(start):
-            rt.linked(start, kept)
+            linked(start, kept)
         else:
             os.mkdir(kept)
         if start and edits and checked(rt, crate, {}, kept).returncode:
@@ -373,7 +388,7 @@ def tried(rt, crate, start, say):
         found = {name: (True, f"{label}{name}: refused, as it must be: {why[:160]}") for name, why in refused.items()}
         left, began = [it.name for it in edits if it.name not in found], time.time()
         for name, (kind, said) in alone(rt, crate, left, kept).items():
-            found[name] = kind in (rt.REFUSED, rt.AT_LIMIT), said
+            found[name] = is_refused(rt, kind), said
         if left:
             say(f"{crate.name}: alone: {sum(found[it][0] for it in left)} of {len(left)} edits refused ({' '.join(left)}), {time.time() - began:.0f} seconds")
     return [(it.name, *found[it.name]) for it in edits] + strange
