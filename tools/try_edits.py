@@ -5,8 +5,8 @@ The prover judges each function by its own body and by the contracts of what it 
 one check of a crate tries many wrong bodies. A round takes one edit of each function that has any left, and has the prover look at these
 functions and those that they call. An edit is refused where its function is told as not proved for a goal of its own; that it calls, passes or
 waits for another one that isn't proved is no reason. A round is believed only where each function that it looks at and doesn't touch is proved,
-or would be, were others. An edit that a round doesn't show as refused, one that touches more than bodies of functions, and each of a round that
-isn't believed, is tried alone, as `rt must-fail` does.
+or would be, were others. An edit that such a round doesn't show as refused has one of its own behind them. What that leaves open, and an edit
+that touches more than bodies of functions, is tried alone, as `rt must-fail` does.
 
 It begins with what `rt check` kept in the clone, and tries nothing of a crate that isn't proved as it stands. docs/DAILY.md says how to write an
 edit.
@@ -291,6 +291,15 @@ def next_round(edits):
     return found
 
 
+def rounds_of(edits):
+    """Rounds in which each of these edits is tried once, with as many as there can be in each."""
+    found, left = [], edits
+    while left:
+        found.append(next_round(left))
+        left = [it for it in left if it not in found[-1]]
+    return found
+
+
 def asked(functions):
     """Words that have the prover look at these functions and at those that they call alone, or no words where it would have to look at the whole crate. A method that it
     may name in several ways is asked for with all of its module."""
@@ -322,22 +331,27 @@ def unread(rt, output, changed):
     return stale[0] if stale else next((it for it in output.split("\n") if rt.unread(it, changed)), "")
 
 
+def refused_in_round(rt, crate, texts, now, kept):
+    """Tries these edits, of which no two touch one function, with one check. Returns the reasons by the names of those that are refused, and why none of that is to
+    be believed, if it isn't."""
+    made = with_edits(texts, now)
+    ran = checked(rt, crate, made, kept, asked(it for edit in now for it in edit.functions))
+    why = unread(rt, ran.stdout, made) or ("" if ran.returncode in (0, 1) else f"it ended with status {ran.returncode}")
+    return ({}, why) if why else judged(now, ran.stdout)
+
+
 def in_rounds(rt, crate, edits, kept, say):
-    """Tries edits of functions in rounds, each edit once, and returns the reasons by the names of those that are refused."""
+    """Tries edits of functions in rounds, and each that a round of several leaves open in one of its own: there nothing that it calls is wrong. Returns the reasons by
+    the names of those that are refused."""
     texts, found, number = texts_of(crate.folder), {}, 0
-    edits = [it for it in edits if it.functions and is_made_alike(rt, crate.folder, texts, it)]
-    while edits:
-        number += 1
-        now, began = next_round(edits), time.time()
-        made = with_edits(texts, now)
-        ran = checked(rt, crate, made, kept, asked(it for edit in now for it in edit.functions))
-        output = ran.stdout
-        why = unread(rt, output, made) or ("" if ran.returncode in (0, 1) else f"it ended with status {ran.returncode}")
-        refused, why = ({}, why) if why else judged(now, output)
+    rounds = rounds_of([it for it in edits if it.functions and is_made_alike(rt, crate.folder, texts, it)])
+    while rounds:
+        now, number, began = rounds.pop(0), number + 1, time.time()
+        refused, why = refused_in_round(rt, crate, texts, now, kept)
         found.update(refused)
-        said = f"not believed, so each is tried alone: {why[:200]}" if why else f"{len(refused)} of {len(now)} edits refused"
+        rounds += [[it] for it in now if it.name not in refused and len(now) > 1]
+        said = f"not believed, so each has a round of its own: {why[:200]}" if why else f"{len(refused)} of {len(now)} edits refused"
         say(f"{crate.name}: round {number}: {said}, {time.time() - began:.0f} seconds")
-        edits = [it for it in edits if it not in now]
     return found
 
 

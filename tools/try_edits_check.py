@@ -217,6 +217,21 @@ def full(function):
     return f"{min(function.owners, key=len)}::{function.name}" if function.owners else function.name
 
 
+def wrong_of_rounds(folder, texts, tried):
+    """What is wrong where a round of these two edits, of Lamp's `is_lit` and `turn`, leaves the second one open: it has to have a round of its own, and no third one."""
+    rt, rounds = rt_that_finds("", "", True), []
+    rt.read_edit = lambda file, folder: (try_edits.with_edits(texts, [it for it in tried if file.endswith(f"/{it.name}")]), "")
+
+    def checked(crate, made, *given):
+        rounds.append(sum(it in made["src/lamp.rt"] for it in ("\n        !self.lit", "lit = false")))
+        said = "./proofs/lamp/Lamp/is_lit/Answers.antt:5:35: error: `returns`: out of steps\nfn c::lamp::Lamp::is_lit: not proved\n" if len(rounds) == 1 else ""
+        return types.SimpleNamespace(returncode=1, stdout=f"{said}only=2 proved=0\n")
+
+    rt.checked = checked
+    found = try_edits.in_rounds(rt, types.SimpleNamespace(folder=folder, name="lamp"), tried, "kept", lambda it: None)
+    return [] if rounds == [2, 1] and list(found) == [tried[0].name] else [f"an edit that a round leaves open is tried in rounds of {rounds}, with {list(found)} refused"]
+
+
 def main():
     wrong = []
     with tempfile.TemporaryDirectory() as folder:
@@ -259,6 +274,7 @@ def main():
             rt.checked = lambda *given: types.SimpleNamespace(returncode=status, stdout=said)
             if list(try_edits.in_rounds(rt, crate, is_dark, "kept", lambda it: None)) != wanted:
                 wrong.append(f"a round that ends with status {status} isn't taken as {wanted}")
+        wrong += wrong_of_rounds(folder, texts, [edits[it] for it in ("is_dark", "turn_off")])
         alike = [it for it in ("is_dark", "turn_off", "or") if try_edits.is_made_alike(rt_that_finds("", "", True), folder, texts, edits[it])]
         if alike != ["is_dark"]:
             wrong.append(f"of is_dark, turn_off and or, rt makes the same by {alike}")
