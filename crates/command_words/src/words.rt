@@ -564,10 +564,14 @@ fn shape_of(alloc: Global, matches: &ArgMatches<'_>) -> Result<Text, Lack>
 }
 
 /// The text of an option, where it is there.
-fn option_of(alloc: Global, matches: &ArgMatches<'_>, id: &str) -> Result<Option<Text>, AllocError>
-    ensures { IfOk result (λ text. first_of id.now (rows_of (found_of matches.now)) ≡ text) }
+fn option_of(
+    alloc: Global,
+    matches: &ArgMatches<'_>,
+    name: &str,
+) -> Result<Option<Text>, AllocError>
+    ensures { IfOk result (λ text. first_of name.now (rows_of (found_of matches.now)) ≡ text) }
 {
-    match matches.get_str(id) {
+    match matches.get_str(name) {
         Some(text) => Ok(Some(Text::of(alloc, text)?)),
         None => Ok(None),
     }

@@ -1,9 +1,8 @@
-use Rattle.std.proofs.Common.{subst, sym, ◌≡◌}
-use Rattle.std.proofs.lemmas.Result.{IfErr-weaker, IfOk-weaker}
+use Rattle.std.proofs.Common.{subst}
+use Rattle.std.proofs.lemmas.Result.{IfErr-weaker}
 use Rattle.clap.specs.Words.{subcommand_of}
-use Rattle.command_words.specs.Jobs.{AreClientNames, Holds, IsWithinLimits, NameInputOnce, texts_of}
+use Rattle.command_words.specs.Jobs.{AreClientNames, NameInputOnce, texts_of}
 use Rattle.command_words.specs.Program.{program}
-use Rattle.command_words.specs.declared.words.Request.{Request}
 use Rattle.command_words.proofs.Wanted.{same_clients, same_files}
 use Rattle.command_words.proofs.words.read_words.Goals as goal
 
