@@ -15,8 +15,9 @@ with modules from 0 to 31 and blocks from 0 to 63, at most 4096 lines.
 
 The answer is the line `settings S`, then S lines `setting t t ..`: the
 transfers that move at once, numbered from 0 in the order of their lines.
-In one setting no two of them share link 0 of an initiator I or link 3 of a
-responder R. No schedule has fewer settings, as the two last lines show:
+In one setting each link carries one transfer at most: link 0 of the module I
+that starts it, and link 3 of the module R that answers. No schedule has fewer
+settings, as the two last lines show:
   busiest link E module M   the link that most transfers use
   named t t ..              all transfers that use it, one in each setting
 or the line `busiest none` where there is no transfer.
@@ -62,7 +63,9 @@ BATCH is looked at, then SCHEDULE, and then what it says:
   refused check certificate repeats T   T is named twice
   refused check not tight S U           S settings, but U transfers named
 With the last two lines of the plan, `not tight` means that U settings are
-enough. With others it may only mean that they name too few transfers.
+enough. With others it may only mean that they name too few transfers. Where
+the certificate is missing or wrong, the line on standard error says whether
+the schedule is valid, and how many settings are enough.
 
 Status: 0 it is shortest, 1 it was refused or there was no memory, 2 the
 words fit no command, 3 the answer couldn't be written.";
@@ -242,8 +245,10 @@ by one line:
   progress     how far the last run is: progress run R done SETTINGS
   bye          ends the session: bye
 Batches and runs are numbered from 1, in the order in which the exchange meets
-them, and a batch is its session's own. A and D are eight hexadecimal digits.
-Word j of block b is at address 80000800 + 4 (W b + j), in hexadecimal digits.
+them, those of all sessions together: let one script alone hand batches in, or
+none knows their numbers. A batch is its session's own, and is run once. A and D
+are eight hexadecimal digits in lower case. Word j of block b is at address
+80000800 + 4 (W b + j), in hexadecimal digits.
 
 The answer is, for each script in the order of the words, the line `session I`,
 with I from 0, and then the lines that its commands are answered by. A command
@@ -253,7 +258,7 @@ may be refused; then nothing has changed, and the session goes on:
                              this rack; its lines count from the line `batch N`
   refused unknown            the session has no batch ID
   refused unplanned          batch ID has no plan
-  refused already            it has a plan, or was run
+  refused already            it has a plan already, or was run already
   refused overlap I J        as `exchange run --help` shows
   refused memory no module   there is no module M
   refused memory misaligned  A isn't a multiple of four
@@ -365,8 +370,8 @@ Example:
 /// What `--help` says below the commands.
 pub const TOP_NOTES: &str = "\
 `exchange plan --help` shows the form of a batch. Where a file's name is `-`,
-standard input is read; of a command's files one may be. How many modules, blocks
-and words there may be, `exchange run --help` tells; how many transfers,
+standard input is read: that may be one file of a command. How many modules,
+blocks and words there may be, `exchange run --help` tells; how many transfers,
 `exchange plan --help`; how long a session may be, `exchange serve --help`.
 
 A refusal is one line on standard output. A second line, on standard error, says
