@@ -1,9 +1,15 @@
-use Rattle.std.proofs.Common.{◌≡◌, ◌<◌, Some, None, length, get_or, sym, ◌∙◌, arith, length-set}
+use Rattle.std.proofs.Common.{◌≡◌, ◌<◌, Some, None, is_some, length, get_or, sym, ◌∙◌, arith, length-set}
+use Rattle.std.proofs.lemmas.Grind.{common_steps}
 use Rattle.std.proofs.lemmas.List.{get_or_read, length-map}
+use Rattle.std.proofs.lemmas.List.Sums.{count_by-le-length}
 use Rattle.link_graph.specs.Schedules.{lists_of}
 use Rattle.alternating_path.specs.Colouring.{colour_at}
-use Rattle.alternating_path.proofs.FirstSeen.{passed_over, goes_into, goes_alone, all_classes}
+use Rattle.alternating_path.proofs.FirstSeen.{some_is, passed_over, goes_into, goes_alone, all_classes}
+use Rattle.alternating_path.proofs.Writes.{some_within}
 use Rattle.alternating_path.proofs.classes.classes.Goals as goal
+
+pub loop-t-init : goal.loop-t-init
+loop-t-init c = grind (arith, common_steps)
 
 pub loop-t-preserved-in_default : goal.loop-t-preserved-in_default
 loop-t-preserved-in_default c = record { partial = passed_over _ _ _ _ c.loop-t.invariant.partial c.in_default.is; sized = c.loop-t.invariant.sized }
@@ -39,3 +45,15 @@ pub returns-clause-classes : goal.returns-clause-classes
 returns-clause-classes c =
     let end : c.loop-t.t ≡ length c.args.colour.now = omega arith in
     all_classes _ _ _ (rw end at c.loop-t.invariant.partial)
+
+pub returns-clause-once : goal.returns-clause-once
+returns-clause-once c t placed =
+    let end : c.loop-t.t ≡ length c.args.colour.now = omega arith in
+    let is = some_is _ placed in
+    let within : t < length c.args.colour.now = some_within c.args.colour.now t is.0 is.1 in
+    c.loop-t.invariant.partial.once t (omega arith) placed
+
+pub returns-clause-count : goal.returns-clause-count
+returns-clause-count c =
+    let kept = c.loop-t.invariant in
+    omega (arith, kept.partial.count, kept.sized, count_by-le-length is_some c.loop-t.list_of_colour.items)

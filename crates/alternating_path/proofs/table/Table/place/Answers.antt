@@ -1,10 +1,14 @@
-use Rattle.std.proofs.Common.{refl, ap}
+use Rattle.std.proofs.Common.{refl, ap, arith}
+use Rattle.std.proofs.lemmas.Grind.{common_steps}
 use Rattle.link_graph.specs.Links.{other_end}
 use Rattle.alternating_path.specs.Colouring.{Colouring}
 use Rattle.alternating_path.proofs.AlternatingPath.{path_begins, path_ends}
 use Rattle.link_graph.specs.declared.link.End.TheVariants.{Zero, Three}
 use Rattle.alternating_path.proofs.Step.{free_next, step}
 use Rattle.alternating_path.proofs.table.Table.place.Goals as goal
+
+pub take_out-requires-clause-known : goal.take_out-requires-clause-known
+take_out-requires-clause-known c = grind (arith, common_steps)
 
 pub put_in-requires-clause-zero_free : goal.put_in-requires-clause-zero_free
 put_in-requires-clause-zero_free c = free_next c.args.self.now c.path.self c.take_out.new.self c.args.t c.path.hand c.in-Some.next c.path.colour c.path.other c.path.end Zero c.path.invariant.on_path c.path.invariant.rest c.in-Some.ensures c.take_out.ensures.written
