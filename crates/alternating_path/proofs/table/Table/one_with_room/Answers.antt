@@ -1,8 +1,11 @@
-use Rattle.std.proofs.Common.{◌≡◌, take, arith}
+use Rattle.std.proofs.Common.{rules, ◌≡◌, take, arith}
 use Rattle.std.proofs.lemmas.List.{take_all}
 use Rattle.link_graph.specs.declared.link.End.TheVariants.{Zero, Three}
 use Rattle.alternating_path.proofs.Singles.{none_held, next_out, next_free, next_held}
 use Rattle.alternating_path.proofs.table.Table.one_with_room.Goals as goal
+
+pub empty-table-requires : goal.empty-table-requires
+empty-table-requires c = search rules
 
 pub loop-t-init : goal.loop-t-init
 loop-t-init c = rw c.empty-table.ensures (none_held _ _ _)
@@ -18,6 +21,9 @@ put_in-requires-clause-three_free c = next_free c.args.graph.now c.args.members.
 
 pub loop-t-preserved : goal.loop-t-preserved
 loop-t-preserved c = next_held c.args.graph.now 1 c.args.members.now c.loop-t.t-index c.loop-t.table c.requires.known c.loop-t-test.true c.loop-t.invariant 0 c.put_in.new.self c.put_in.ensures.written c.put_in.ensures.proper
+
+pub returns-clause-colours : goal.returns-clause-colours
+returns-clause-colours c = c.loop-t.invariant.colours
 
 pub returns-clause-placed : goal.returns-clause-placed
 returns-clause-placed c =
