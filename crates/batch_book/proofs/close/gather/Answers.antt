@@ -1,9 +1,10 @@
-use Rattle.std.proofs.Common.{◌≡◌, ◌∙◌, sym, ap, arith, refl, length, length-set, ◌≤◌, subst}
+use Rattle.std.proofs.Common.{◌≡◌, ◌<◌, ◌∙◌, List, [], ◌∷◌, sym, ap, arith, refl, length, length-set, ◌≤◌, subst}
 use Rattle.std.proofs.lemmas.List.{same_lists, get_or-map, length-map}
+use Rattle.progress_word.specs.declared.limits.TheConstants.{ALL_PARTS}
 use Rattle.batch_book.specs.Seats.{SeatState}
 use Rattle.batch_book.specs.Values.{greatest}
 use Rattle.std.proofs.lemmas.Grind.{common_steps}
-use Rattle.batch_book.specs.Seats.{closed}
+use Rattle.batch_book.specs.Seats.{closed, parts_of}
 use Rattle.batch_book.proofs.close.gather.Goals as goal
 
 pub loop-i-preserved : goal.loop-i-preserved
@@ -34,3 +35,13 @@ returns-clause-seats g c =
 
 pub loop-i-init : goal.loop-i-init
 loop-i-init g c = grind (arith, common_steps)
+
+-- seats that have all parts are some
+some_seats : (s : List SeatState) → ALL_PARTS ≤ parts_of s → 0 < length s
+some_seats [] all = absurd (omega arith)
+some_seats (first ∷ others) all = omega arith
+
+pub returns-clause-raised : goal.returns-clause-raised
+returns-clause-raised g c = λ n all.
+    let some = some_seats c.args.seats.now c.requires.all in
+    c.loop-i.invariant.raised n (λ k d below. all k d (omega (arith, some, length-set c.args.seats.now 0 c.leave-all.new.self)))

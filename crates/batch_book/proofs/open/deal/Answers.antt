@@ -51,3 +51,6 @@ returns g c =
     (rw c.unwrap-2.ensures at c.insert.ensures.items)
     (c.new-seat-2.ensures ∙ ap (λ (o : LookoutView). open_seat o 0 [] c.loop-session.first.parts) inv.lookout ∙ ap (λ (n : ℕ). new_seat word 0 n) left)
     few (subst (λ (n : ℕ). AreDealt word n c.loop-session.seats.items) end inv.dealt)
+
+pub unwrap-requires-2 : goal.unwrap-requires-2
+unwrap-requires-2 g c = grind (arith, common_steps)

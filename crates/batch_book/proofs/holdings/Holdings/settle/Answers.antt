@@ -7,3 +7,6 @@ invariant_of-self c = rw c.bring.ensures (kept_at_stage _ _ _ _ _ c.self.invaria
 
 pub returns-in-Waiting-clause-step : goal.returns-in-Waiting-clause-step
 returns-in-Waiting-clause-step c = search rules
+
+pub returns-in_default-stage-clause-step : goal.returns-in_default-stage-clause-step
+returns-in_default-stage-clause-step c = search rules

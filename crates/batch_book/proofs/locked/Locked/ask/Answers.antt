@@ -1,5 +1,5 @@
 use Rattle.std.proofs.lemmas.Grind.{common_steps}
-use Rattle.std.proofs.Common.{◌≡◌, ◌∙◌, ap, sym, subst, true≢false, arith}
+use Rattle.std.proofs.Common.{◌≡◌, ◌∙◌, ap, sym, subst, length, length-append, true≢false, arith}
 use Rattle.batch_book.specs.declared.raise.Raise.{Raise}
 use Rattle.batch_book.specs.History.{IsGrown}
 use Rattle.batch_book.proofs.Answering.{replied}
@@ -43,3 +43,9 @@ returns-clause-unlogged g c = λ u.
 
 pub returns-clause-amount : goal.returns-clause-amount
 returns-clause-amount g c = grind (arith, common_steps)
+
+pub invariant_of-self : goal.invariant_of-self
+invariant_of-self g c =
+    let grown = c.apply-reply.ensures.grown (sym c.is_logged.ensures ∙ c.if-is_logged.true) in
+    let longer = simp length-append at (ap length grown.history) in
+    record { counted = omega (arith, longer, c.add.ensures.total, c.args.self.now.counted) }

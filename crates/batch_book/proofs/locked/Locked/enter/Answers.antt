@@ -36,3 +36,6 @@ returns-clause-unlogged g c = λ u.
     let quiet = c.ask-reply.ensures.quiet (unlogged_value r u) in
     let of : Option (ExchangeAccess g.row.L.Denot) → SeatState = λ o. record { exchange = option_map (λ t. t.lookout.word) o; session = session; log = es; seen = option_map_or (λ t. t.lookout.seen) o 0; raised = option_map_or (λ t. t.lookout.raised) o 0; parts = option_map_or (λ t. t.parts) o 0 } in
     (c.ask-reply.ensures.unlogged u, (λ i. open_seat (quiet i) session (log_is i) (c.ask-reply.ensures.parts i)) ∙ (ap of c.in-Some.ensures.value ∙ c.seat.view_is))
+
+pub returns-clause-history : goal.returns-clause-history
+returns-clause-history g c = rw (← c.seat.view_is) c.ask-reply.ensures.history

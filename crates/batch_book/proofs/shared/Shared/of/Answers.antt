@@ -1,0 +1,5 @@
+use Rattle.std.proofs.Common.{rules}
+use Rattle.batch_book.proofs.shared.Shared.of.Goals as goal
+
+pub returns : goal.returns
+returns g c = search rules
