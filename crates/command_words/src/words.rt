@@ -1,6 +1,6 @@
 //! The words of the command line.
 
-ghost use Rattle.std.specs.Prelude.{◌≡◌, ◌↔◌, IfErr, IfOk, IsTrue, false, Some, codes};
+ghost use Rattle.std.specs.Prelude.{◌≡◌, ◌↔◌, IfErr, IfOk, IsTrue, OnErr, OnOk, false, Some, codes};
 ghost use Rattle.clap.specs.Words.{new_app, rule_of, first_of, rows_of, found_of, kind_of};
 ghost use Rattle.clap.specs.declared.error.kind.ErrorKind.TheVariants.{OutOfMemory};
 ghost use Rattle.command_words.specs.declared.words.Job.{Job};
@@ -866,6 +866,21 @@ fn names_clients(job: &Job) -> bool
     }
 }
 
+/// The fault of a job of which several files are standard input, or whose clients can't be told apart.
+fn judged(alloc: Global, job: &Job) -> Result<(), WordsFault>
+    ensures input { OnOk result (NameInputOnce (files_of job.now)) }
+    ensures clients { OnOk result (AreClientNames (clients_of job.now)) }
+    ensures refused { OnErr result (NameInputOnce (files_of job.now) → AreClientNames (clients_of job.now) → ⊥) }
+{
+    if !reads_input_once(job) {
+        return Err(named_twice(alloc));
+    }
+    if !names_clients(job) {
+        return Err(misnamed(alloc));
+    }
+    Ok(())
+}
+
 /// The request, where one of its files at most is standard input and its clients can be told apart.
 fn accepted(alloc: Global, request: Request) -> Result<Request, WordsFault>
     ensures same { IfOk result (λ accepted. accepted ≡ request) }
@@ -874,13 +889,10 @@ fn accepted(alloc: Global, request: Request) -> Result<Request, WordsFault>
     ensures refused { IfErr result (λ _. NameInputOnce (files_of request.job)
         → AreClientNames (clients_of request.job) → ⊥) }
 {
-    if !reads_input_once(&request.job) {
-        return Err(named_twice(alloc));
+    match judged(alloc, &request.job) {
+        Ok(()) => Ok(request),
+        Err(fault) => Err(fault),
     }
-    if !names_clients(&request.job) {
-        return Err(misnamed(alloc));
-    }
-    Ok(request)
 }
 
 /// Reads the program's words, the first of which is its own name.
