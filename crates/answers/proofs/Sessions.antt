@@ -1,5 +1,5 @@
 -- The sessions of scripts, the seats of their exchange, and its history.
-use Rattle.std.proofs.Common.{◌≡◌, ℕ, ◌+◌, ◌<◌, ◌≤◌, suc, Bool, true, false, ◌||◌, is_some, List, [], ◌∷◌, ◌++◌, length, get_or, map, option_map, All, Option, Some, Result, Ok, Err, IfOk, refl, sym, ap, ap₂, ◌∙◌, subst, slice_get, take, arith}
+use Rattle.std.proofs.Common.{◌≡◌, ℕ, ◌+◌, ◌<◌, ◌≤◌, suc, Bool, true, false, ◌||◌, is_some, List, [], ◌∷◌, ◌++◌, length, get_or, map, option_map, All, Option, Some, Result, Ok, Err, IfOk, OnOk, is_ok, if◌then◌else◌, refl, sym, ap, ap₂, ◌∙◌, subst, slice_get, take, arith}
 use Rattle.std.specs.List.{range_with_len, sum, sum_by}
 use Rattle.std.proofs.lemmas.List.{take_more, take-map, flat_map_more, get_or-map, length-map, map-id}
 use Rattle.std.proofs.lemmas.List.Elements.{All-map}
@@ -58,6 +58,11 @@ both (Ok x) p q f = f x p q
 both (Err e) p q f = tt
 
 -- ---- frames
+
+-- these bytes are put at the end of a text
+pub put : {T E : Type 0} (r : Result T E) (new old more bytes : List ℕ) → new ≡ (if is_ok r then old ++ more else old) → more ≡ bytes → OnOk r (new ≡ old ++ bytes)
+put (Ok x) new old more bytes is same = is ∙ ap (λ (xs : List ℕ). old ++ xs) same
+put (Err e) new old more bytes is same = tt
 
 -- one more session is printed
 pub one_more_text : {L : Type 0} (ss : List (Session L)) (i : ℕ) (s : Session L) (before after : List ℕ) → i < length ss → s ≡ get_or ss i s

@@ -54,6 +54,25 @@ all_visited {L} {C} x g received seats ss new len each =
       };
     }
 
+-- ---- a session
+
+-- what a session between the files of its client leaves
+pub was_served : {L C : Type 0} (x : Exchange) (g : Guests) (received : C → Option (List ℕ)) (old new : SeatState) (n : ℕ) (before after held holds : Option (List ℕ)) (fault : Option ServeFault) (receipt : C)
+    → n ≡ old.session → before ≡ g.says n → held ≡ g.holds n → received receipt ≡ holds → IsSameSeat old new
+    → ((told : List ℕ) × Appends held holds told × IsAttended x.shape before after (record { part = part_of new; told = told; fault = fault }))
+    → IsOfSeat {L = L} {C = C} x g received old (record { seat = new; ending = Served fault receipt })
+was_served x g received old new n before after held holds fault receipt at says held_is closed same s =
+    let its : n ≡ new.session = at ∙ sym same.session in
+    record {
+      same = same;
+      its = record {
+        rest = after;
+        told = s.0;
+        session = subst (λ (b : Option (List ℕ)). IsAttended x.shape b after (record { part = part_of new; told = s.0; fault = fault })) (says ∙ ap g.says its) s.2;
+        wrote = subst (λ (w : Option (List ℕ)). Appends w (received receipt) s.0) (held_is ∙ ap g.holds its) (subst (λ (w : Option (List ℕ)). Appends held w s.0) (sym closed) s.1);
+      };
+    }
+
 -- ---- what is printed of them
 
 same_line : {C : Type 0} (received : C → Option (List ℕ)) (e : Ending C) → ending_line (end_of received e) ≡ ending_line e
@@ -106,6 +125,10 @@ pub all_fresh : (x : Exchange) (n : ℕ) (seats : List SeatState) → AreNew x.w
 all_fresh x n seats new k d lt =
     let is : get_or seats k d ≡ new_seat x.word k (parts_at n k) = new.each k d (omega (arith, lt, new.count)) in
     record { exchange = ap (λ (t : SeatState). t.exchange) is; log = ap (λ (t : SeatState). t.log) is; seen = ap (λ (t : SeatState). t.seen) is }
+
+-- they are those of so many clients
+pub new_for : (x : Exchange) (n clients : ℕ) (seats : List SeatState) → AreNew x.word n seats → n ≡ clients → AreNew x.word clients seats
+new_for x n clients seats new is = subst (λ (k : ℕ). AreNew x.word k seats) is new
 
 -- one more of them has a thread
 pub one_more_thread : {T S : Type 0} (f : T → S) (all : List S) (old new : List T) (t : T) (s : S) (ys rest : List S) → new ≡ old ++ t ∷ [] → ys ≡ s ∷ rest → f t ≡ s

@@ -1,4 +1,4 @@
-use Rattle.std.proofs.Common.{◌≡◌, sym, ◌∙◌, rules}
+use Rattle.std.proofs.Common.{◌≡◌, true, false, sym, ◌∙◌, rules}
 use Rattle.batch_book.specs.History.{IsLegal}
 use Rattle.answers.proofs.Sessions.{one_history, history_elsewhere, another_history}
 use Rattle.answers.proofs.hall.close.Goals as goal
@@ -15,6 +15,9 @@ returns-in-Ok-clause-disagree g c =
     let legal : IsLegal c.in-Ok.closed.book.opening c.in-Ok.closed.book.history = search rules in
     let opened : c.opening.result.now ≡ c.in-Ok.closed.book.opening = search rules in
     λ other. history_elsewhere c.args.opening.now c.args.seats.items c.in-Ok.closed c.in-Ok.ensures.0 legal (λ is. c.is_same-is_opening.ensures.differ other (opened ∙ is))
+
+pub returns-in-Err-LogsDisagree-clause-agree : goal.returns-in-Err-LogsDisagree-clause-agree
+returns-in-Err-LogsDisagree-clause-agree g c = λ (same : false ≡ true). absurd cc
 
 pub returns-in-Err-LogsDisagree-clause-disagree : goal.returns-in-Err-LogsDisagree-clause-disagree
 returns-in-Err-LogsDisagree-clause-disagree g c =

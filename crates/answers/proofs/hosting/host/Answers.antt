@@ -1,5 +1,5 @@
 use Rattle.answers.specs.Hosts.{hosted}
-use Rattle.answers.proofs.Visits.{are_hosted}
+use Rattle.answers.proofs.Visits.{are_hosted, new_for}
 use Rattle.answers.proofs.hosting.host.Goals as goal
 
 pub returns : goal.returns
@@ -11,3 +11,6 @@ returns g c =
     (rw c.in-Some.is at c.in_ok-sessions.ensures) c.in_ok-exchange.ensures.shape c.in_ok-opening.ensures
     c.in_ok-seats.ensures.seats c.in_ok-seats.ensures.endings (rw c.as_slice.ensures.value at c.in_ok-text.ensures) (rw c.as_slice-2.ensures.value at c.any_failed-failed.ensures)
     c.in_ok-answer.ensures)
+
+pub host_seats-requires-after_bounds : goal.host_seats-requires-after_bounds
+host_seats-requires-after_bounds g c κs within = new_for c.in_ok-exchange.exchange _ _ _ c.in_ok-exchange.ensures.seats cc

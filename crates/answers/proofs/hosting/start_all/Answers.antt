@@ -1,4 +1,5 @@
 use Rattle.std.proofs.Common.{◌≡◌, ◌∷◌, All, subst, suc, arith, rules, List}
+use Rattle.std.proofs.lemmas.Grind.{common_steps}
 use Rattle.std.specs.Vec.Iter.{into_iter_items}
 use Rattle.batch_book.specs.Seats.{SeatState}
 use Rattle.answers.specs.Hosting.{IsFresh}
@@ -30,3 +31,6 @@ loop-seat-preserved g c =
       all_pushed old new c.in-Ok.thread (λ t. (t.promise.exchange ≡ c.args.floor.now.exchange) × (t.promise.doors ≡ c.args.floor.now.doors)) c.in_ok-push.ensures.items c.loop-seat.invariant.3 (exchange, doors),
       λ k d lt. all (suc k) d (omega (arith, lt)),
     )
+
+pub returns-clause-seats : goal.returns-clause-seats
+returns-clause-seats g c = grind (arith, common_steps)
