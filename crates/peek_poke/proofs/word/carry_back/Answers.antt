@@ -20,3 +20,6 @@ returns-in_err-c3-clause-broken g c =
 
 pub returns-clause-arrived : goal.returns-clause-arrived
 returns-clause-arrived g c = grind (arith, common_steps)
+
+pub returns-clause-carried : goal.returns-clause-carried
+returns-clause-carried g c = grind (arith, common_steps)
