@@ -1,0 +1,5 @@
+use Rattle.std.proofs.Common.{rules}
+use Rattle.crossbar.proofs.switch.Crossbar.is_ready.Goals as goal
+
+pub returns : goal.returns
+returns c = search rules
