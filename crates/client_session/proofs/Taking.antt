@@ -1,8 +1,10 @@
 -- How one read follows another.
-use Rattle.std.proofs.Common.{◌≡◌, ◌+◌, ◌<◌, ◌≤◌, ℕ, zero, suc, List, [], ◌++◌, length, Option, sym, ap, ◌∙◌, append_assoc, append-nil, arith}
+use Rattle.std.proofs.Common.{◌≡◌, ◌+◌, ◌<◌, ◌≤◌, ℕ, zero, suc, List, [], ◌++◌, length, Option, None, Result, Ok, Err, IfOk, MatchOption, sym, ap, ◌∙◌, append_assoc, append-nil, arith}
 use Rattle.std.proofs.lemmas.List.{length-append}
 use Rattle.client_session.specs.declared.limits.TheConstants.{LINE_BYTES, MAX_READS}
-use Rattle.client_session.specs.Bytes.{PendingInput, TakesIn, fuel}
+use Rattle.std.specs.Io.KnownBytes.{IsAtEnd}
+use Rattle.client_session.specs.declared.input.InputFault.{InputFault}
+use Rattle.client_session.specs.Bytes.{PendingInput, TakesIn, HasLine, fuel}
 use Rattle.client_session.proofs.Known.{Consumes-more, Consumes-nil}
 
 pub TakesIn-none : (a : Option (List ℕ)) (h : PendingInput) → TakesIn a a h h
@@ -20,3 +22,9 @@ TakesIn-more a b c old mid new t u = record {
 pub fuel_read : (old new : PendingInput) (n : ℕ) → length new.pending ≡ length old.pending + n → length new.pending ≤ LINE_BYTES + 1 → old.reads ≤ new.reads → new.reads ≤ MAX_READS → (0 < n → new.reads ≡ old.reads + 1) → fuel new ≤ fuel old
 fuel_read old new zero longer room more limit counted = omega arith
 fuel_read old new (suc n) longer room more limit counted = let more = counted (omega arith) in omega arith
+
+-- where no more bytes come, and none are pending
+pub found_at_end : (r : Result (Option ℕ) InputFault) (known : Option (List ℕ)) (h : PendingInput) → IsAtEnd known → IfOk r (λ found. (found ≡ None) × (h.pending ≡ []))
+    → IfOk r (λ found. MatchOption found ((h.pending ≡ []) × IsAtEnd known) (λ n. HasLine h.pending n × (n ≤ LINE_BYTES)))
+found_at_end (Ok found) known h end is = rw is.0 (is.1, end)
+found_at_end (Err e) known h end is = tt

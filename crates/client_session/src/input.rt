@@ -96,6 +96,18 @@ impl Input {
         }
     }
 
+    /// What is in front where no more bytes come: nothing, or a line that is cut.
+    fn at_end(&self) -> Result<Option<usize>, InputFault>
+        ensures ok { IfOk result (λ found. (found ≡ None) × (self.now.pending ≡ [])) }
+        ensures err { IfErr result (λ e. (e ≡ InputFault.Cut) × (0 < length self.now.pending)) }
+    {
+        if self.len == 0 {
+            Ok(None)
+        } else {
+            Err(InputFault::Cut)
+        }
+    }
+
     /// The length of the line in front, without its line feed, or nothing at the end of the input. Takes time by
     /// the length of the line times the reads that it came in.
     pub(crate) fn next_line<R: Read>(&mut self, reader: &mut R) -> Result<Option<usize>, InputFault>
@@ -115,11 +127,7 @@ impl Input {
                 return Err(InputFault::LineTooLong);
             }
             if self.fill(reader)? == 0 {
-                return if self.len == 0 {
-                    Ok(None)
-                } else {
-                    Err(InputFault::Cut)
-                };
+                return self.at_end();
             }
         }
     }

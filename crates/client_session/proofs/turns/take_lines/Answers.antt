@@ -1,4 +1,4 @@
-use Rattle.std.proofs.Common.{◌+◌, ◌++◌, take, arith, ap, ◌∙◌}
+use Rattle.std.proofs.Common.{◌≡◌, ◌+◌, ◌++◌, take, arith, ap, ◌∙◌}
 use Rattle.std.proofs.lemmas.Result.{err_from_is_err_and}
 use Rattle.client_session.proofs.Taken.{LinesTaken-none, LinesTaken-read, LinesTaken-line, LinesTaken-same, pending_at}
 use Rattle.client_session.proofs.Turning.{fuel_skip}
@@ -30,3 +30,8 @@ loop-preserved g c =
       LinesTaken-line _ _ _ mid _ _ _ _ _ k got line.0 line.1 grows c.skip.ensures.pending c.skip.ensures.reads,
       omega (arith, less, c.in_ok-n.ensures.fuel, c.loop.invariant.1),
     )
+
+pub returns-clause-ok : goal.returns-clause-ok
+returns-clause-ok g c =
+    let end : c.args.count ≡ c.loop.counter = omega arith in
+    rw end c.loop.invariant.0

@@ -1,8 +1,8 @@
-use Rattle.std.proofs.Common.{◌+◌, ◌-◌, ◌++◌, ◌∙◌, ap, sym, take, arith}
+use Rattle.std.proofs.Common.{◌+◌, ◌-◌, ◌++◌, ◌∙◌, [], ap, sym, take, append-nil, arith}
 use Rattle.std.proofs.lemmas.List.{length-take}
-use Rattle.std.proofs.lemmas.Grind.{common_steps}
 use Rattle.client_session.specs.declared.limits.TheConstants.{LINE_BYTES}
-use Rattle.client_session.proofs.Parts.{grown}
+use Rattle.client_session.proofs.Known.{Consumes-kept}
+use Rattle.client_session.proofs.Parts.{grown, unread}
 use Rattle.client_session.proofs.input.Input.fill.Goals as goal
 
 pub returns-in-Ok-clause-takes : goal.returns-in-Ok-clause-takes
@@ -17,4 +17,14 @@ returns-in-Ok-clause-takes g c =
     }
 
 pub returns-in-Err-clause-err : goal.returns-in-Err-clause-err
-returns-in-Err-clause-err g c = grind (arith, common_steps)
+returns-in-Err-clause-err g c =
+    let s = c.self.inside in
+    (unread s.len (LINE_BYTES + 1 - s.len) s.buffer c.read.new.buf (omega arith) ∙ ap (λ h. h.pending) c.self.view_is, tt)
+
+pub returns-in-Err-clause-takes : goal.returns-in-Err-clause-takes
+returns-in-Err-clause-takes g c = record {
+  bytes = [];
+  consumed = Consumes-kept _ _ c.in-Err.ensures.bytes;
+  kept = append-nil _ ∙ sym (returns-in-Err-clause-err g c).0;
+  reads = omega (arith, ap (λ h. h.reads) c.self.view_is);
+}

@@ -1,6 +1,5 @@
-use Rattle.std.proofs.lemmas.Grind.{common_steps}
 use Rattle.std.proofs.Common.{arith}
-use Rattle.client_session.proofs.Taking.{TakesIn-more, TakesIn-none, fuel_read}
+use Rattle.client_session.proofs.Taking.{TakesIn-more, TakesIn-none, fuel_read, found_at_end}
 use Rattle.client_session.proofs.input.Input.next_line.Goals as goal
 
 pub loop-n-init : goal.loop-n-init
@@ -19,4 +18,4 @@ pub returns-then-self-clause-line : goal.returns-then-self-clause-line
 returns-then-self-clause-line g c = tt
 
 pub returns-then-branch-eq0-clause-line : goal.returns-then-branch-eq0-clause-line
-returns-then-branch-eq0-clause-line g c = grind (arith, common_steps)
+returns-then-branch-eq0-clause-line g c = found_at_end c.at_end.result (g.R.Read.remaining c.fill.new.reader) c.fill.new.self (c.in_ok-fill.ensures.end c.if-branch-eq0.true) c.at_end.ensures.ok
