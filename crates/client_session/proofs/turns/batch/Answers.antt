@@ -1,6 +1,6 @@
-use Rattle.std.proofs.Common.{◌+◌, take, ap, ◌∙◌}
+use Rattle.std.proofs.Common.{◌+◌, take, ap, ◌∙◌, arith}
 use Rattle.std.proofs.lemmas.Result.{err_from_is_err_and}
-use Rattle.client_session.proofs.Turning.{stopped_at_once, stopped_in_lines, batch_taken}
+use Rattle.client_session.proofs.Turning.{fuel_skip, stopped_at_once, stopped_in_lines, batch_taken}
 use Rattle.client_session.proofs.turns.batch.Goals as goal
 
 pub returns-in_err-text-clause-err : goal.returns-in_err-text-clause-err
@@ -17,3 +17,8 @@ pub returns-clause-ok : goal.returns-clause-ok
 returns-clause-ok g c =
     let first = c.in_ok-text.ensures.items ∙ ap (take (c.args.n + 1)) c.pending.ensures in
     batch_taken _ _ c.args.input.now c.skip.new.self c.take_lines.new.input _ _ c.args.n c.args.count _ c.take_lines.new.text.items _ _ c.requires.line.0 c.requires.line.1 c.requires.means c.skip.ensures.pending first c.in_ok-take_lines.ensures.ok c.skip.ensures.reads c.as_slice.ensures.value c.submit.ensures
+
+pub returns-clause-fuel : goal.returns-clause-fuel
+returns-clause-fuel g c =
+    let less = fuel_skip c.args.input.now c.skip.new.self c.args.n c.skip.ensures.pending c.skip.ensures.reads c.requires.line.0.0 in
+    omega (arith, less, c.in_ok-take_lines.ensures.fuel)

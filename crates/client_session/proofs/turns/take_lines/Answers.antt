@@ -1,3 +1,4 @@
+use Rattle.std.proofs.lemmas.Grind.{common_steps}
 use Rattle.std.proofs.Common.{◌≡◌, ◌+◌, ◌++◌, take, arith, ap, ◌∙◌}
 use Rattle.std.proofs.lemmas.Result.{err_from_is_err_and}
 use Rattle.client_session.proofs.Taken.{LinesTaken-none, LinesTaken-read, LinesTaken-line, LinesTaken-same, pending_at}
@@ -35,3 +36,6 @@ pub returns-clause-ok : goal.returns-clause-ok
 returns-clause-ok g c =
     let end : c.args.count ≡ c.loop.counter = omega arith in
     rw end c.loop.invariant.0
+
+pub returns-in_default-clause-err : goal.returns-in_default-clause-err
+returns-in_default-clause-err g c = grind (arith, common_steps)

@@ -1,3 +1,4 @@
+use Rattle.std.proofs.lemmas.Grind.{common_steps}
 use Rattle.std.proofs.Common.{arith}
 use Rattle.client_session.proofs.Taking.{TakesIn-more, TakesIn-none, fuel_read, found_at_end}
 use Rattle.client_session.proofs.input.Input.next_line.Goals as goal
@@ -19,3 +20,12 @@ returns-then-self-clause-line g c = tt
 
 pub returns-then-branch-eq0-clause-line : goal.returns-then-branch-eq0-clause-line
 returns-then-branch-eq0-clause-line g c = found_at_end c.at_end.result (g.R.Read.remaining c.fill.new.reader) c.fill.new.self (c.in_ok-fill.ensures.end c.if-branch-eq0.true) c.at_end.ensures.ok
+
+pub returns-then-branch-eq0-clause-takes : goal.returns-then-branch-eq0-clause-takes
+returns-then-branch-eq0-clause-takes g c = TakesIn-more _ _ _ _ _ _ c.loop-n.invariant.0 c.in_ok-fill.ensures.takes
+
+pub returns-then-branch-eq0-clause-err : goal.returns-then-branch-eq0-clause-err
+returns-then-branch-eq0-clause-err g c = grind (arith, common_steps)
+
+pub returns-in-Some-clause-line : goal.returns-in-Some-clause-line
+returns-in-Some-clause-line g c = grind (arith, common_steps)
