@@ -1,4 +1,5 @@
 use Rattle.std.proofs.Common.{ℕ, ◌≡◌, ◌+◌, ◌*◌, List, [], ◌∷◌, ◌++◌, length, drop, sym, ap₂, ◌∙◌, subst, arith, rules}
+use Rattle.std.proofs.lemmas.Grind.{common_steps}
 use Rattle.std.specs.List.{flat_map}
 use Rattle.module_memory.specs.Images.{bytes_of_block}
 use Rattle.module_memory.proofs.Images.{AreRead, more_read, image_more, room_left}
@@ -30,3 +31,6 @@ loop-preserved c =
           ∙ image_more read b rest c.args.bytes.now size (c.in_ok-of_bytes.ensures.bytes ∙ c.split_at.ensures.front) inv.image;
       left = omega (arith, room, inv.left, c.words.ensures.value, c.split_at.ensures.back_len);
     }
+
+pub returns : goal.returns
+returns c = grind (arith, common_steps)

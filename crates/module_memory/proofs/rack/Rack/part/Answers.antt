@@ -1,4 +1,5 @@
 use Rattle.std.proofs.Common.{ℕ, ◌≡◌, ◌<◌, ◌+◌, List, [], ◌∷◌, ◌++◌, length, take, ap, ap₂, ◌∙◌, sym, subst, subst₂, arith, take_all, is_ok, true, Bool, cond, vec_len, rules}
+use Rattle.std.proofs.lemmas.Grind.{common_steps}
 use Rattle.std.proofs.lemmas.List.{take_more, map_push}
 use Rattle.batch.specs.Extent.{Extent}
 use Rattle.batch.specs.declared.transfer.Place.{Place}
@@ -79,3 +80,9 @@ returns-clause-lent c =
 
 pub returns-in_default-with_capacity-clause-fault : goal.returns-in_default-with_capacity-clause-fault
 returns-in_default-with_capacity-clause-fault c = search rules
+
+pub returns-clause-bays : goal.returns-clause-bays
+returns-clause-bays c = grind (arith, common_steps)
+
+pub returns-clause-rest : goal.returns-clause-rest
+returns-clause-rest c = grind (arith, common_steps)
