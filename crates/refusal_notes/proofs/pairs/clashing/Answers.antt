@@ -1,5 +1,11 @@
-use Rattle.std.proofs.Common.{rules}
+use Rattle.std.proofs.Common.{◌+◌, ◌≤◌, arith}
 use Rattle.refusal_notes.proofs.pairs.clashing.Goals as goal
 
 pub returns : goal.returns
-returns c = search rules
+returns c =
+    let behind : c.in_ok-at.at + 1 ≤ c.in_ok-u.field-0-0 = c.in_ok-u.ensures.place.0 in
+    record {
+      first = (c.in_ok-at.at, c.in_ok-u.field-0-0, omega arith, c.in_ok-at.ensures.word, c.in_ok-u.ensures.word);
+      one = c.in_ok-at.ensures.names;
+      other = c.in_ok-u.ensures.names;
+    }
