@@ -22,3 +22,6 @@ returns-clause-step c =
 
 pub returns-then-len-ge-MAX_BATCHES-clause-step : goal.returns-then-len-ge-MAX_BATCHES-clause-step
 returns-then-len-ge-MAX_BATCHES-clause-step c = search rules
+
+pub invariant_of-self-2 : goal.invariant_of-self-2
+invariant_of-self-2 c = search rules
