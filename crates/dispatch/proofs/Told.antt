@@ -1,5 +1,5 @@
 -- What is printed behind what a session was told, and what is told beside it.
-use Rattle.std.proofs.Common.{ℕ, List, Option, Some, None, Result, Ok, Err, IfOk, inl, inr, refl, subst, sym, ◌≡◌, []}
+use Rattle.std.proofs.Common.{ℕ, List, Option, Some, None, Result, Ok, Err, IfOk, OnErr, ◌⊎◌, inl, inr, refl, subst, sym, ◌≡◌, []}
 use Rattle.std.specs.Prelude.{String, option_map, string_bytes}
 use Rattle.std.specs.Global.{Global}
 use Rattle.std.specs.Io.KnownBytes.{Appends}
@@ -71,3 +71,12 @@ not_answered (Err e) input request told missed held holds has eb ea first by not
 -- what holds of an answer holds of it beside a note
 pub same_answer : (P : Printed → Type 0) (beside answer : Printed) → beside ≡ answer → P answer → P beside
 same_answer P beside answer same is = subst P (sym same) is
+
+-- where the answer can't be written, that is so whatever the words were
+pub unwritten : {X E : Type 0} (r : Result X E) (Q : Type 0) (P : X → Type 0) → Q → IfOk r (λ x. Q ⊎ P x)
+unwritten (Ok x) Q P q = inl q
+unwritten (Err e) Q P q = tt
+
+pub unwritten_unread : {X E : Type 0} (r : Result X E) (Q P : Type 0) → Q → OnErr r (Q ⊎ P)
+unwritten_unread (Ok x) Q P q = tt
+unwritten_unread (Err e) Q P q = inl q
