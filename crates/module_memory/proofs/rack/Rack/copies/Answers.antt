@@ -1,5 +1,4 @@
 use Rattle.std.proofs.Common.{ℕ, ◌≡◌, ◌<◌, ◌+◌, List, [], length, get_or, set, refl, sym, ap, ◌∙◌, subst, arith, rules}
-use Rattle.std.proofs.lemmas.Grind.{common_steps}
 use Rattle.std.proofs.lemmas.List.{get_or_default}
 use Rattle.batch.specs.Places.{place_index}
 use Rattle.batch.proofs.Places.{place_index_below}
@@ -33,9 +32,3 @@ returns-clause-whole c =
     let whole : IsWhole c.args.self.now = subst IsWhole c.self.view_is c.self.invariant in
     copies_whole c.args.self.now c.args.held.now c.loop-place.copies.items whole
     (copies_all c.args.self.now c.args.held.now c.loop-place.place-index c.loop-place.copies.items (omega arith) c.loop-place.invariant)
-
-pub loop-place-init : goal.loop-place-init
-loop-place-init c = grind (arith, common_steps)
-
-pub loop-block-preserved : goal.loop-block-preserved
-loop-block-preserved c = grind (arith, common_steps)
