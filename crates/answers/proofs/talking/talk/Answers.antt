@@ -1,4 +1,5 @@
 use Rattle.std.proofs.Common.{◌≡◌, ◌++◌, ◌∷◌, [], is_some, map, sym, subst, rules}
+use Rattle.std.proofs.KnownBytes.{Appends-nil}
 use Rattle.std.proofs.lemmas.Result.{IfOk-weaker}
 use Rattle.answers.specs.Histories.{part_of, IsClosing}
 use Rattle.answers.specs.Hosting.{AreAllSeats}
@@ -35,3 +36,15 @@ returns g c =
           (λ printed closed.
           has_talked opening c.args.rack x rest c.in-Some.seat back _ _ line s.0 fault failed one c.attend-seat.ensures.same c.in_ok-exchange.ensures.shape c.in_ok-opening.ensures c.in_ok-line.ensures fails s.2 printed (rw pushed at closed)) c.finish.ensures,
     )
+
+pub returns-in_err-opening : goal.returns-in_err-opening
+returns-in_err-opening g c = ([], Appends-nil _, search rules)
+
+pub returns-in_err-exchange : goal.returns-in_err-exchange
+returns-in_err-exchange g c = ([], Appends-nil _, search rules)
+
+pub returns-in_err-push : goal.returns-in_err-push
+returns-in_err-push g c = let s = c.attend-seat.ensures.session in (s.0, s.1, search rules)
+
+pub returns-in_err-line : goal.returns-in_err-line
+returns-in_err-line g c = let s = c.attend-seat.ensures.session in (s.0, s.1, search rules)
