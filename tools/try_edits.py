@@ -5,8 +5,8 @@ The prover judges each function by its own body and by the contracts of what it 
 one check of a crate tries many wrong bodies. A round takes one edit of each function that has any left, and has the prover look at these
 functions and those that they call. An edit is refused where its function is told as not proved for a goal of its own; that it calls, passes or
 waits for another one that isn't proved is no reason. A round is believed only where each function that it looks at and doesn't touch is proved,
-or would be, were others. An edit that such a round doesn't show as refused has one of its own behind them. What that leaves open, and an edit
-that touches more than bodies of functions, is tried alone, as `rt must-fail` does.
+or would be, were others. An edit that a round of several doesn't show as refused, and each of one that isn't believed, has a round of its own
+behind them. What that leaves open, and an edit that touches more than bodies of functions, is tried alone, as `rt must-fail` does.
 
 It begins with what `rt check` kept in the clone, and tries nothing of a crate that isn't proved as it stands. docs/DAILY.md says how to write an
 edit.
@@ -350,7 +350,8 @@ def in_rounds(rt, crate, edits, kept, say):
         refused, why = refused_in_round(rt, crate, texts, now, kept)
         found.update(refused)
         rounds += [[it] for it in now if it.name not in refused and len(now) > 1]
-        said = f"not believed, so each has a round of its own: {why[:200]}" if why else f"{len(refused)} of {len(now)} edits refused"
+        then = "each has a round of its own" if len(now) > 1 else "it is tried alone"
+        said = f"not believed, so {then}: {why[:200]}" if why else f"{len(refused)} of {len(now)} edits refused"
         say(f"{crate.name}: round {number}: {said}, {time.time() - began:.0f} seconds")
     return found
 
@@ -361,7 +362,7 @@ def one(rt, crate, name, kept=None):
 
 
 def is_refused(rt, kind):
-    """Whether rt means by this kind that the edit is refused. Some kits tell kinds, and others only whether it is."""
+    """Whether rt means by this kind that the edit is refused. Some kits tell kinds, and others only whether it is, also where a proof names what the edit took away."""
     return kind if isinstance(kind, bool) else kind in (rt.REFUSED, rt.AT_LIMIT)
 
 
@@ -370,9 +371,17 @@ def is_settled(rt, kind):
     return kind if isinstance(kind, bool) else kind in rt.SETTLED
 
 
+def link(file, to):
+    """Gives a file a second name, or copies it where that is on another disk."""
+    try:
+        os.link(file, to)
+    except OSError:
+        shutil.copy2(file, to)
+
+
 def linked(start, to):
-    """Makes a folder that has the files of another one, by links."""
-    shutil.copytree(start, to, copy_function=os.link)
+    """Makes a folder that has the files of another one."""
+    shutil.copytree(start, to, copy_function=link)
 
 
 def alone(rt, crate, names, kept):
@@ -417,10 +426,10 @@ def try_all(rt, crates, kept_of, say=print):
             tasks[crate.name, "edits"] = ([], crate.count(rb"\n"), rt.need(crate), lambda given, jobs, crate=crate: tried(rt, crate, kept_of(crate), say))
     refused, others = 0, []
     for (name, _), results in rt.in_lanes(tasks).items():
-        for edit, is_refused, said in results:
+        for edit, is_well, said in results:
             say(said)
-            refused += is_refused
-            others += [] if is_refused else [f"{name}/{edit}"]
+            refused += is_well
+            others += [] if is_well else [f"{name}/{edit}"]
     return refused, others
 
 

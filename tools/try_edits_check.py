@@ -161,6 +161,9 @@ ALONE = {
     "proved only there": ("missed", "refused", True, "refused"),
     "bad": ("bad", "refused", True, "bad"),
     "killed there": ("unsure", "missed", True, "missed"),
+    "refused, told without kinds": (True, True, True, True),
+    "missed, told without kinds": (False, True, True, True),
+    "missed from nothing too, told without kinds": (False, False, True, False),
 }
 
 

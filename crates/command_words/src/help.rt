@@ -14,10 +14,10 @@ FILE is a batch text: the line `batch N`, then N lines of the form
 with modules from 0 to 31 and blocks from 0 to 63, at most 4096 lines.
 
 The answer is the line `settings S`, then S lines `setting t t ..`: the
-transfers that move at once, numbered from 0 in the order of their lines.
-In one setting each link carries one transfer at most: link 0 of the module I
-that starts it, and link 3 of the module R that answers. No schedule has fewer
-settings, as the two last lines show:
+transfers that move at once, numbered from 0 in the order of their lines. A
+transfer uses link 0 of the module I that starts it, and link 3 of the module R
+that answers. In one setting each link carries one transfer at most. No schedule
+has fewer settings, as the two last lines show:
   busiest link E module M   the link that most transfers use
   named t t ..              all transfers that use it, one in each setting
 or the line `busiest none` where there is no transfer.
@@ -65,7 +65,7 @@ BATCH is looked at, then SCHEDULE, and then what it says:
 With the last two lines of the plan, `not tight` means that U settings are
 enough. With others it may only mean that they name too few transfers. Where
 the certificate is missing or wrong, the line on standard error says whether
-the schedule is valid, and how many settings are enough.
+the schedule is valid, and if so how many settings are enough.
 
 Status: 0 it is shortest, 1 it was refused or there was no memory, 2 the
 words fit no command, 3 the answer couldn't be written.";
@@ -370,9 +370,10 @@ Example:
 /// What `--help` says below the commands.
 pub const TOP_NOTES: &str = "\
 `exchange plan --help` shows the form of a batch. Where a file's name is `-`,
-standard input is read: that may be one file of a command. How many modules,
-blocks and words there may be, `exchange run --help` tells; how many transfers,
-`exchange plan --help`; how long a session may be, `exchange serve --help`.
+standard input is read; of a command's files one at most may be that. How many
+modules, blocks and words there may be, `exchange run --help` tells; how many
+transfers, `exchange plan --help`; how long a session may be, `exchange serve
+--help`.
 
 A refusal is one line on standard output. A second line, on standard error, says
 of it which file and line, what stands there, and what is wanted: --quiet, which

@@ -866,11 +866,13 @@ fn names_clients(job: &Job) -> bool
     }
 }
 
-/// The fault of a job of which several files are standard input, or whose clients can't be told apart.
+/// Whether a job may be done: its fault, where several of its files are standard input, or its clients
+/// can't be told apart.
 fn judged(alloc: Global, job: &Job) -> Result<(), WordsFault>
     ensures input { OnOk result (NameInputOnce (files_of job.now)) }
     ensures clients { OnOk result (AreClientNames (clients_of job.now)) }
-    ensures refused { OnErr result (NameInputOnce (files_of job.now) → AreClientNames (clients_of job.now) → ⊥) }
+    ensures refused { OnErr result (NameInputOnce (files_of job.now)
+        → AreClientNames (clients_of job.now) → ⊥) }
 {
     if !reads_input_once(job) {
         return Err(named_twice(alloc));
