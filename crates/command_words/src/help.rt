@@ -372,8 +372,8 @@ pub const TOP_NOTES: &str = "\
 `exchange plan --help` shows the form of a batch. Where a file's name is `-`,
 standard input is read; of a command's files one at most may be that. How many
 modules, blocks and words there may be, `exchange run --help` tells; how many
-transfers, `exchange plan --help`; how long a session may be, `exchange serve
---help`.
+transfers, `exchange plan --help`; and how long a session may be,
+`exchange serve --help`.
 
 A refusal is one line on standard output. A second line, on standard error, says
 of it which file and line, what stands there, and what is wanted: --quiet, which
