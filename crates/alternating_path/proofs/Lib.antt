@@ -13,3 +13,4 @@ pub mod Removed
 pub mod Smallest
 pub mod Starting
 pub mod Singles
+pub mod MoreClasses

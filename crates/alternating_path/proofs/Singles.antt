@@ -1,4 +1,4 @@
--- A table after the first n of some members: of one colour, where they share no link, or of a colour for each.
+-- A table after the first n of some members, with a colour for each.
 use Rattle.std.proofs.Common.{◌≡◌, ℕ, ◌+◌, ◌<◌, ◌⊎◌, ◌↔◌, inl, inr, List, [], ◌∷◌, ◌++◌, length, get_or, take, set, Option, Some, None, IsSome, is_some, All, refl, sym, ap, ◌∙◌, subst, arith}
 use Rattle.std.specs.Prelude.{Contains}
 use Rattle.std.proofs.lemmas.List.{length-replicate, take_more, get_or-take, get_or_default, length-take}
@@ -7,12 +7,9 @@ use Rattle.std.proofs.lemmas.Option.{none-some, same_Some}
 use Rattle.std.proofs.lemmas.Bool.{false≢true}
 use Rattle.batch.specs.declared.transfer.Transfer.{Transfer}
 use Rattle.link_graph.specs.declared.link.End.{End}
-use Rattle.link_graph.specs.declared.link.End.TheVariants.{Zero}
 use Rattle.link_graph.specs.Certificates.{AreDistinct}
-use Rattle.link_graph.specs.Uses.{AreApart, IsMatching}
 use Rattle.alternating_path.specs.Ends.{link_at}
 use Rattle.alternating_path.specs.Colouring.{Colouring, colour_at, IsPlaced, nothing_placed, IsProper, IsFree}
-use Rattle.alternating_path.proofs.Links.{uses-link_at}
 use Rattle.alternating_path.proofs.Writes.{at_written}
 use Rattle.alternating_path.proofs.Shown.{nothing_at}
 
@@ -37,7 +34,7 @@ none_held g k members = record {
   placed = λ t. (λ some. absurd (false≢true (sym (ap is_some (nothing_at (length g) t)) ∙ some)), λ stands. absurd (omega (arith, stands.1)));
 }
 
-nothing_if : (o : Option ℕ) → (IsSome o → ⊥) → o ≡ None
+pub nothing_if : (o : Option ℕ) → (IsSome o → ⊥) → o ≡ None
 nothing_if None h = refl
 nothing_if (Some c) h = absurd (h refl)
 
@@ -88,26 +85,6 @@ module _ (g : List Transfer) (k : ℕ) (members : List ℕ) (n : ℕ) (s : Colou
           λ stands. subst (λ (f : List (Option ℕ)). IsPlaced f u) (sym colour) (placed_now c u (elim (Contains-push_cases (take n members) t u (rw (take_more members n 0 n_in) at stands)) [ inl before ↦ inr ((held.placed u).1 before) | inr same ↦ inl (sym same) ])),
         );
       }
-
--- ---- one colour, whose members share no link
-
-module _ (g : List Transfer) (members : List ℕ) (n : ℕ) (s : Colouring) (known : All (λ t. t < length g) members) (matching : IsMatching g members) (n_in : n < length members) (held : HoldsJust g 1 members n s) where
-  abbrev u : ℕ
-  u = get_or members n 0
-
-  -- a member that is placed shares no link with the next
-  earlier : (v : ℕ) → IsPlaced s.colour v → AreApart g v u
-  earlier v some =
-      let at = place_of g 1 members n s known n_in held v some in
-      subst (λ (w : ℕ). AreApart g w u) at.2 (matching at.0 n 0 at.1 n_in)
-
-  -- which is not placed yet
-  pub next_out : colour_at s.colour u ≡ None
-  next_out = nothing_if (colour_at s.colour u) (λ some. (earlier u some).none_common (link_at g u Zero) (uses-link_at g u Zero (known n 0 n_in)) (uses-link_at g u Zero (known n 0 n_in)))
-
-  -- and whose links are free
-  pub next_free : (e : End) (c : ℕ) → IsFree s.batch s.colour (link_at s.batch u e) c
-  next_free e c = rw held.batch (record { none = λ v at uses. (earlier v (subst IsSome (sym at) refl)).none_common (link_at g u e) uses (uses-link_at g u e (known n 0 n_in)) })
 
 -- ---- a colour for each member
 

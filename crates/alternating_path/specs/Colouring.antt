@@ -100,3 +100,14 @@ pub record IsJoined (left right table : Colouring) : Type 0 where
       → colour_at table.colour t
       ≡ joined_colour left.colours (colour_at left.colour t) (colour_at right.colour t)
   pub inserted : table.inserted ≡ counted (left.inserted + right.inserted)
+
+-- the table with one colour more, behind the others: each placed transfer keeps its colour, and just
+-- those of the class have the new one
+pub record HasClassMore (old : Colouring) (class : List ℕ) (new : Colouring) : Type 0 where
+  pub batch : new.batch ≡ old.batch
+  pub colours : new.colours ≡ old.colours + 1
+  pub kept : (t c : ℕ) → colour_at old.colour t ≡ Some c → colour_at new.colour t ≡ Some c
+  pub given : (t : ℕ) → Contains class t → colour_at new.colour t ≡ Some old.colours
+  pub only : (t c : ℕ) → colour_at new.colour t ≡ Some c
+      → (colour_at old.colour t ≡ Some c) ⊎ ((c ≡ old.colours) × Contains class t)
+  pub inserted : new.inserted ≡ old.inserted

@@ -5,7 +5,7 @@ ghost use Rattle.batch.specs.Batches.{IsBatch};
 ghost use Rattle.link_graph.specs.declared.link.End.TheVariants.{Zero, Three};
 ghost use Rattle.link_graph.specs.Certificates.{AreDistinct};
 ghost use Rattle.link_graph.specs.Uses.{Uses, IsMatching};
-ghost use Rattle.alternating_path.specs.Colouring.{colour_at, IsPlaced, nothing_placed, IsProperTable, IsFreeAt, TakesAt, with_colour, PlacesOnly, PlacesJust, ArePlacedApart, counted, IsJoined};
+ghost use Rattle.alternating_path.specs.Colouring.{colour_at, IsPlaced, nothing_placed, IsProperTable, IsFreeAt, TakesAt, with_colour, PlacesOnly, PlacesJust, ArePlacedApart, counted, IsJoined, HasClassMore};
 ghost use Rattle.alternating_path.specs.Classes.{AreClassesOf, ScheduleIfAll, class_size, IsSmallestClass, IsTakenBack};
 ghost use Rattle.alternating_path.specs.Counts.{placed_uses_at, IsShutOut};
 ghost use Rattle.alternating_path.specs.Cells.{place_at, StartBelow, AreStarts};
@@ -105,13 +105,51 @@ impl<'a> Table<'a> {
         ensures inserted { IfOk result (λ table. table.inserted ≡ 0) }
         ensures proper { IfOk result IsProperTable }
     {
-        let mut cells = Vec::with_capacity(alloc, colours.saturating_mul(LINKS))?;
-        cells.extend_from_slice(&[None; LINKS])?;
-        let mut table = Table::empty(graph, 1, cells);
+        let cells = Vec::with_capacity(alloc, colours.saturating_mul(LINKS))?;
+        Table::empty(graph, 0, cells).with_class(members)
+    }
+
+    /// The table with one colour more, behind the others, in which just the members are placed: distinct
+    /// numbers of transfers that aren't placed yet, of which no two use a common link. The table is
+    /// dropped also where there is no memory.
+    ///
+    /// Takes time that grows with the number of members, where the table has room for the colour; else
+    /// also with the number of colours.
+    pub fn with_class(self, members: &[usize]) -> Result<Table<'a>, AllocError>
+        requires known { All (λ t. t < length self.batch) members.now }
+        requires matching { IsMatching self.batch members.now }
+        requires out { All (λ t. colour_at self.colour t ≡ None) members.now }
+        ensures more { IfOk result (HasClassMore self.entry members.now) }
+        ensures proper { IfOk result IsProperTable }
+    {
+        let colour = self.colours;
+        let mut table = self.with_free_colour()?;
         for t in members {
-            table.put_in(*t, 0);
+            table.put_in(*t, colour);
         }
         Ok(table)
+    }
+
+    /// The table with one colour more, behind the others, that no transfer has.
+    fn with_free_colour(self) -> Result<Table<'a>, AllocError>
+        ensures more { IfOk result
+            (λ table. table ≡ record self.entry { colours = self.entry.colours + 1 }) }
+        ensures proper { IfOk result IsProperTable }
+        ensures before { IfOk result (λ _. IsProperTable self.entry) }
+    {
+        let Table {
+            graph,
+            colours,
+            mut cells,
+            inserted,
+        } = self;
+        cells.extend_from_slice(&[None; LINKS])?;
+        Ok(Table {
+            graph,
+            colours: colours + 1,
+            cells,
+            inserted,
+        })
     }
 
     /// A table with a colour for each member, in their order, in which just the members are placed:

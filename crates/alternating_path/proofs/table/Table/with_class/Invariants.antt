@@ -1,0 +1,6 @@
+use Rattle.std.proofs.Common.{take}
+use Rattle.alternating_path.specs.Colouring.{IsProperTable, HasClassMore}
+use Rattle.alternating_path.proofs.table.Table.with_class.Given as goal
+
+abbrev pub invariant-loop-t : goal.invariant-loop-t
+invariant-loop-t l = HasClassMore l.fn.self (take l.t-index l.members) l.table × IsProperTable l.table
