@@ -5,4 +5,6 @@ pub mod Partners
 pub mod Numbers
 pub mod Masks
 pub mod Steps
+pub mod Evenness
 pub mod Dealt
+pub mod InTurn

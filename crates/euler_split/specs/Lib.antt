@@ -4,3 +4,4 @@ pub mod Walks
 pub mod Masks
 pub mod Trails
 pub mod Deals
+pub mod Evenness

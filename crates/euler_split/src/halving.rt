@@ -49,7 +49,12 @@ fn take_turn(graph: &LinkGraph, turns: &mut Masks, t: usize) -> bool
 /// Permutes the members so that those of the left half stand in front, and says how many these are:
 /// those of a pair of links go to the halves in turn. Both halves keep their order. There is room
 /// beside for as many.
-fn deal(graph: &LinkGraph, members: &mut [usize], turns: &mut Masks, others: &mut [usize]) -> usize
+pub(crate) fn deal(
+    graph: &LinkGraph,
+    members: &mut [usize],
+    turns: &mut Masks,
+    others: &mut [usize],
+) -> usize
     requires batch { IsBatch graph.now }
     requires known { All (λ t. t < length graph.now) members.old }
     requires room { length members.old ≤ length others.old }

@@ -10,6 +10,7 @@
 //! for others that have places to put into two halves.
 #![tactic(auto)]
 
+mod evenly;
 mod halving;
 mod limits;
 mod pairing;
@@ -18,6 +19,7 @@ mod scratch;
 mod trails;
 mod walking;
 
+pub use evenly::{split_evenly, times_even};
 pub use halving::{split, split_in_place};
 pub use limits::MAX_PLACES;
 pub use pairing::wait_or_pair;

@@ -1,10 +1,10 @@
 -- The halves of a part, and how its colouring comes from theirs.
-use Rattle.std.proofs.Common.{◌≡◌, ◌==◌, ℕ, zero, suc, ◌+◌, ◌-◌, ◌*◌, ◌/◌, ◌<◌, ◌≤◌, ◌⊎◌, ◌↔◌, inl, inr, List, ◌++◌, length, map, take, drop, All, Option, Some, None, IsSome, cond, refl, sym, ap, ◌∙◌, subst, arith}
+use Rattle.std.proofs.Common.{◌≡◌, ◌==◌, ℕ, zero, suc, ◌+◌, ◌-◌, ◌*◌, ◌/◌, ◌<◌, ◌≤◌, ◌⊎◌, ◌↔◌, inl, inr, List, ◌++◌, length, map, take, drop, All, Option, Some, None, IsSome, Result, Ok, Err, IfOk, get_or, cond, refl, sym, ap, ◌∙◌, subst, arith}
 use Rattle.std.specs.Prelude.{Contains, IfSome}
 use Rattle.std.proofs.lemmas.Bool.{false≢true, cases_lt}
 use Rattle.std.proofs.lemmas.Bool.Decides.{eqb_tells}
 use Rattle.std.proofs.lemmas.Option.{same_Some}
-use Rattle.std.proofs.lemmas.List.{length-append, length-take, length-drop, take-append-drop}
+use Rattle.std.proofs.lemmas.List.{length-append, length-take, length-drop, take-append-drop, get_or_default}
 use Rattle.std.proofs.lemmas.List.Elements.{Contains-append_left, Contains-append_right, Contains-append_cases}
 use Rattle.std.proofs.lemmas.List.Sorted.{IsPermutation-refl, IsPermutation-sym, All-permutation, Contains-permutation, sum_by-IsPermutation, length_permutation}
 use Rattle.std.proofs.lemmas.List.Sums.{sum_by-append}
@@ -19,12 +19,14 @@ use Rattle.link_graph.proofs.Once.{standings, once_from_distinct, stands_from_co
 use Rattle.link_graph.proofs.Sharing.{members_few, matching_from_none_shared, count_from_shared}
 use Rattle.link_graph.proofs.Users.{uses_few}
 use Rattle.euler_split.specs.Split.{uses_among, IsSplit}
-use Rattle.alternating_path.specs.Colouring.{Colouring, colour_at, IsPlaced, ArePlacedApart, joined_colour}
+use Rattle.alternating_path.specs.Colouring.{Colouring, colour_at, IsPlaced, PlacesOnly, ArePlacedApart, joined_colour, HasClassMore}
 use Rattle.alternating_path.specs.Counts.{uses_link}
 use Rattle.alternating_path.specs.Classes.{without_colour, IsTakenBack}
 use Rattle.alternating_path.proofs.Removed.{without-at}
+use Rattle.alternating_path.proofs.Singles.{nothing_if}
+use Rattle.alternating_path.proofs.MoreClasses.{some_of}
 use Rattle.schedule_certificate.specs.Reinsertions.{AreFew}
-use Rattle.schedule_certificate.specs.Parts.{IsPart, IsDegree, AreHalves, IsColouredPart, HasRoomFor}
+use Rattle.schedule_certificate.specs.Parts.{IsPart, IsDegree, AreHalves, AreHalvesOfTwo, IsColouredPart, HasRoomFor}
 use Rattle.schedule_certificate.proofs.Bounds.{few_le, few_halves}
 use Rattle.schedule_certificate.proofs.Counting.{uses_counted, placed_few}
 
@@ -137,6 +139,53 @@ half_degree batch whole half d e degree here less = elim here.reached [
   | inl none ↦ omega arith
   | inr at ↦ omega (arith, at.1, less at.0, degree.most at.0)
 ]
+
+-- ---- the halves of a part of degree 2, each in one colour
+
+module _ (batch : List Transfer) (whole left right : List ℕ) (x : AreHalvesOfTwo batch whole left right) where
+  one_use : (half : List ℕ) → ((link : Link) → uses_among batch half link ≤ 1) → IsMatching batch half
+  one_use half few = matching_from_none_shared batch half (λ link shared. omega (arith, count_from_shared batch half link shared, few link))
+
+  pub left_known : All (λ t. t < length batch) left
+  left_known = (left_part batch whole left right x.is_part x.halves).known
+
+  pub right_known : All (λ t. t < length batch) right
+  right_known = (right_part batch whole left right x.is_part x.halves).known
+
+  pub left_matching : IsMatching batch left
+  left_matching = one_use left (λ link. x.halves.left_uses link 2 x.is_degree)
+
+  pub right_matching : IsMatching batch right
+  right_matching = one_use right (λ link. x.halves.right_uses link 2 x.is_degree)
+
+  module _ (one : Colouring) (batch_is : one.batch ≡ batch) (colours_is : one.colours ≡ 1) (placed : PlacesOnly one.colour left) (inserted_is : one.inserted ≡ 0) where
+    pub right_out : All (λ t. colour_at one.colour t ≡ None) right
+    right_out i d i_in = nothing_if (colour_at one.colour (get_or right i d)) (λ some. not_in_both batch whole left right x.is_part x.halves (get_or right i d) ((placed (get_or right i d)).0 some) (i, i_in, get_or_default right i (get_or right i d) d i_in))
+
+    pub two_coloured : (two : Colouring) → HasClassMore one right two → IsColouredPart batch whole two
+    two_coloured two more = record {
+      degree = 2;
+      is_degree = x.is_degree;
+      batch_is = more.batch ∙ batch_is;
+      colours_is = omega (arith, more.colours, colours_is);
+      placed = λ t. (
+        λ some.
+            let c = some_of (colour_at two.colour t) some in
+            elim (more.only t c.0 c.1) [
+              | inl before ↦ from_left batch whole left right x.is_part x.halves t ((placed t).0 (subst IsSome (sym before) refl))
+              | inr given ↦ from_right batch whole left right x.is_part x.halves t given.1
+            ],
+        λ stands. elim (in_either batch whole left right x.is_part x.halves t stands) [
+          | inl a ↦ let c = some_of (colour_at one.colour t) ((placed t).1 a) in subst IsSome (sym (more.kept t c.0 c.1)) refl
+          | inr b ↦ subst IsSome (sym (more.given t b)) refl
+        ],
+      );
+      few = record { most = omega (arith, more.inserted, inserted_is); none_at_zero = λ _. more.inserted ∙ inserted_is; none_at_powers = λ j _. more.inserted ∙ inserted_is };
+    }
+
+    pub two_coloured_if : {E : Type 0} (r : Result Colouring E) → IfOk r (HasClassMore one right) → IfOk r (IsColouredPart batch whole)
+    two_coloured_if (Ok two) more = two_coloured two more
+    two_coloured_if (Err e) more = tt
 
 -- ---- the two tables in one
 

@@ -33,6 +33,12 @@ pub record AreHalves (batch : List Transfer) (whole left right : List ℕ) : Typ
   pub right_uses : (link : Link) (d : ℕ) → IsDegree (members batch whole) d
       → uses_among batch right link ≤ (d + 1) / 2
 
+-- the halves of a part of degree 2: in each of them a link has one use at most
+pub record AreHalvesOfTwo (batch : List Transfer) (whole left right : List ℕ) : Type 0 where
+  pub is_part : IsPart batch whole
+  pub is_degree : IsDegree (members batch whole) 2
+  pub halves : AreHalves batch whole left right
+
 -- just the transfers of the part are placed, in as many colours as its degree (one where that is
 -- 0), and few were put in one by one
 pub record IsColouredPart (batch : List Transfer) (part : List ℕ) (table : Colouring) : Type 0 where

@@ -1,13 +1,14 @@
 //! Colouring a part of a graph by its halves, one after the other.
 
-ghost use Rattle.std.specs.Prelude.{◌≡◌, ℕ, ◌+◌, ◌≤◌, List, length, take, drop, IfOk};
+ghost use Rattle.std.specs.Prelude.{◌≡◌, ℕ, ◌+◌, ◌-◌, ◌≤◌, List, length, take, drop, IfOk};
 ghost use Rattle.batch.specs.declared.transfer.Transfer.{Transfer};
 ghost use Rattle.link_graph.specs.Marks.{members};
-ghost use Rattle.schedule_certificate.specs.Parts.{IsPart, IsDegree, IsPartBy, AreHalves, AreColouredHalves, IsColouredPart, HasRoomFor, PlacesClass};
+ghost use Rattle.euler_split.specs.Evenness.{CanBeHalved};
+ghost use Rattle.schedule_certificate.specs.Parts.{IsPart, IsDegree, IsPartBy, AreHalves, AreHalvesOfTwo, AreColouredHalves, IsColouredPart, HasRoomFor, PlacesClass};
 
 use crate::degree::{degree_of, half_of};
 use alternating_path::{InsertFault, Table};
-use euler_split::{Scratch, split_in_place};
+use euler_split::{Scratch, split_evenly, split_in_place, times_even};
 use link_graph::LinkGraph;
 use std::alloc::{AllocError, Global};
 
@@ -74,6 +75,48 @@ pub(crate) fn join_halves<'a>(
     Ok(table)
 }
 
+/// Halves a part as [`halve_part`] does. Where the transfers of each pair of links can be halved, they are
+/// dealt to the halves in turn, which needs no walk and gives the same halves.
+fn halve_known(
+    graph: &LinkGraph,
+    part: &mut [usize],
+    degree: usize,
+    times: usize,
+    scratch: &mut Scratch,
+) -> usize
+    requires part { IsPart graph.now part.old }
+    requires degree { IsDegree (members graph.now part.old) degree }
+    requires times { CanBeHalved graph.now part.old times }
+    requires places { length part.old ≤ scratch.old }
+    ensures within { result ≤ length part.old }
+    ensures halves { AreHalves graph.now part.old (take result part.new) (drop result part.new) }
+    ensures left_times { CanBeHalved graph.now (take result part.new) (times - 1) }
+    ensures right_times { CanBeHalved graph.now (drop result part.new) (times - 1) }
+    ensures places { scratch.new ≡ scratch.old }
+{
+    if times == 0 {
+        return halve_part(graph, part, degree, scratch);
+    }
+    split_evenly(graph, part, scratch)
+}
+
+/// The table of a part of degree 2, of its halves: the transfers of each of them get one colour. There
+/// is room for this many colours.
+fn colour_two<'a>(
+    alloc: Global,
+    graph: &'a LinkGraph,
+    left: &[usize],
+    right: &[usize],
+    room: usize,
+) -> Result<Table<'a>, AllocError>
+    requires { (whole : List ℕ) × AreHalvesOfTwo graph.now whole left.now right.now }
+    ensures { (whole : List ℕ) → AreHalvesOfTwo graph.now whole left.now right.now
+        → IfOk result (IsColouredPart graph.now whole) }
+{
+    let table = Table::one_with_room(alloc, graph, left, room)?;
+    table.with_class(right)
+}
+
 /// Colours a part with as many colours as its busiest link has uses, its degree, and with one where
 /// that is 0. The degree may be known. Room for this many colours is taken at once, so that others
 /// can be joined to these without a move.
@@ -93,6 +136,27 @@ pub(crate) fn colour_alone<'a>(
     ensures coloured { IfOk result (IsColouredPart graph.now part.old) }
     ensures places { scratch.new ≡ scratch.old }
 {
+    let times = times_even(graph, part);
+    colour_halves(alloc, graph, part, scratch, known, room, times)
+}
+
+/// Colours a part as [`colour_alone`] does. The transfers of each pair of links can be halved so many
+/// times with none left over.
+fn colour_halves<'a>(
+    alloc: Global,
+    graph: &'a LinkGraph,
+    part: &mut [usize],
+    scratch: &mut Scratch,
+    known: Option<usize>,
+    room: usize,
+    times: usize,
+) -> Result<Table<'a>, AllocError>
+    requires part { IsPartBy graph.now part.old known }
+    requires places { length part.old ≤ scratch.old }
+    requires times { CanBeHalved graph.now part.old times }
+    ensures coloured { IfOk result (IsColouredPart graph.now part.old) }
+    ensures places { scratch.new ≡ scratch.old }
+{
     let degree = degree_of(graph, part, known);
     if degree <= 1 {
         return Table::one_with_room(alloc, graph, part, room.max(1));
@@ -100,12 +164,16 @@ pub(crate) fn colour_alone<'a>(
     if degree == part.len() {
         return Table::each_with_room(alloc, graph, part, room);
     }
-    let middle = halve_part(graph, part, degree, scratch);
+    let middle = halve_known(graph, part, degree, times, scratch);
     let (left, right) = part.split_at_mut(middle);
-    let half = half_of(degree);
     // The halves may have one colour too many.
     let room = room.max(degree.saturating_add(1));
-    let left = colour_alone(alloc, graph, left, scratch, half, room)?;
-    let right = colour_alone(alloc, graph, right, scratch, half, 0)?;
+    if degree == 2 {
+        return colour_two(alloc, graph, left, right, room);
+    }
+    let half = half_of(degree);
+    let times = times.saturating_sub(1);
+    let left = colour_halves(alloc, graph, left, scratch, half, room, times)?;
+    let right = colour_halves(alloc, graph, right, scratch, half, 0, times)?;
     join_halves(left, right, degree)
 }
