@@ -228,6 +228,14 @@ def of_unknown(asked, t):
     return asked.other[0] + b":%d: transfer %d; " % (number, t) + there_are(asked.list, b"transfer")
 
 
+def of_repeated(asked, t):
+    lines = asked.other[1].split(b"\n")
+    settings = [n - 2 for n, line in enumerate(lines, 1) if line.startswith(b"setting ") for word in line.split(b" ") if word == b"%d" % t]
+    first, second = settings[:2]
+    where = b"twice in setting %d" % first if first == second else b"in settings %d and %d" % (first, second)
+    return of_transfer(asked, t, b"stands " + where, second + 2)
+
+
 def of_wrong_link(asked, t):
     number = announced(asked.other[1]) + 3
     if t >= announced(asked.list[1]):
@@ -283,7 +291,7 @@ RULES = [
     (r"settings", of_range),
     (r"no setting (\d+)", lambda asked, k: b"setting %d; " % k + there_are(asked.other, b"setting")),
     (r"check unknown (\d+)", of_unknown),
-    (r"check repeated (\d+)", lambda asked, t: of_transfer(asked, t, b"stands twice in the settings")),
+    (r"check repeated (\d+)", of_repeated),
     (r"check missing (\d+)", lambda asked, t: of_transfer(asked, t, b"stands in no setting")),
     (r"check clash (\d+) link (\d) module (\d+)", of_clash),
     (r"check wrong link (\d+)", of_wrong_link),

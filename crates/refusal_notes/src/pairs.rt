@@ -89,10 +89,36 @@ fn holds(line: &[u8], t: usize) -> bool {
             .any(|word| number_from_digits(word) == Some(t))
 }
 
-/// The number of the first setting's line that holds this transfer, counted from 1.
-pub(crate) fn setting_with(schedule: &[u8], t: usize) -> Option<usize> {
+/// Whether the line is that of a setting which holds this transfer more than once.
+fn repeats(line: &[u8], t: usize) -> bool {
+    let held = line
+        .split(|b| *b == b' ')
+        .filter(|word| number_from_digits(word) == Some(t))
+        .count();
+    is_listed(Listing::Settings, line) && held > 1
+}
+
+/// The number of the first setting's line that holds this transfer, counted from 1, behind so many lines.
+fn setting_behind(schedule: &[u8], above: usize, t: usize) -> Option<usize> {
     let at = schedule
         .split(|b| *b == b'\n')
+        .skip(above)
         .position(|line| holds(line, t))?;
-    at.checked_add(1)
+    above.checked_add(at)?.checked_add(1)
+}
+
+/// The number of the first setting's line that holds this transfer, counted from 1.
+pub(crate) fn setting_with(schedule: &[u8], t: usize) -> Option<usize> {
+    setting_behind(schedule, 0, t)
+}
+
+/// The numbers of the settings' lines that hold this transfer for the first and for the second time: one number
+/// twice where one line holds it twice.
+pub(crate) fn settings_with(schedule: &[u8], t: usize) -> Option<(usize, usize)> {
+    let first = setting_behind(schedule, 0, t)?;
+    if repeats(line_at(schedule, first), t) {
+        return Some((first, first));
+    }
+    let second = setting_behind(schedule, first, t)?;
+    Some((first, second))
 }

@@ -9,7 +9,7 @@ use crate::cause::Limit;
 use crate::lines::{announced, line_at};
 use crate::listed::{Listing, is_listed, listed};
 use crate::note::LineNote;
-use crate::pairs::{clashing, setting_with, written};
+use crate::pairs::{clashing, setting_with, settings_with, written};
 use crate::quote::Quote;
 use crate::refusal::Refusal;
 use crate::validity::Validity;
@@ -225,6 +225,7 @@ fn write_other<W: fmt::Write>(
         Refusal::Image(is, wanted) => write_image(f, texts, is, wanted),
         Refusal::Overlap(t, u) => write_overlap(f, texts.list, t, u),
         Refusal::Clash(k, end, module) => write_clash(f, texts, k, end, module),
+        Refusal::Repeated(t) => write_repeated(f, texts, t),
         other => write_check(f, texts, other),
     }
 }
@@ -385,6 +386,39 @@ fn write_clash<W: fmt::Write>(
     }
 }
 
+/// Writes in which settings a transfer stands twice.
+fn write_repeated<W: fmt::Write>(
+    f: &mut fmt::Formatter<W>,
+    texts: Texts<'_>,
+    t: usize,
+) -> fmt::Result {
+    let lines = settings_with(texts.other.text, t);
+    write!(f, "{}:", texts.other)?;
+    if let Some((_, number)) = lines {
+        write!(f, "{number}:")?;
+    }
+    write!(f, " transfer {t} stands ")?;
+    write_settings(f, lines)?;
+    write!(f, " (line {} of {})", t.saturating_add(2), texts.list)
+}
+
+/// Writes the settings of these two lines of a schedule.
+fn write_settings<W: fmt::Write>(
+    f: &mut fmt::Formatter<W>,
+    lines: Option<(usize, usize)>,
+) -> fmt::Result {
+    match lines {
+        Some((first, second)) if first == second => {
+            write!(f, "twice in setting {}", first.saturating_sub(2))
+        }
+        Some((first, second)) => {
+            let (first, second) = (first.saturating_sub(2), second.saturating_sub(2));
+            write!(f, "in settings {first} and {second}")
+        }
+        None => f.write_str("twice in the settings"),
+    }
+}
+
 /// Writes what the check of a schedule says of one transfer, or of the certificate.
 fn write_check<W: fmt::Write>(
     f: &mut fmt::Formatter<W>,
@@ -401,9 +435,6 @@ fn write_check<W: fmt::Write>(
             }
             write!(f, " transfer {t}; ")?;
             return write_there_are(f, list, "transfer");
-        }
-        Refusal::Repeated(t) => {
-            return write_transfer(f, list, t, "stands twice in the settings");
         }
         Refusal::Missing(t) => return write_transfer(f, list, t, "stands in no setting"),
         Refusal::WrongLink(t) if t >= announced(list.text) => {
