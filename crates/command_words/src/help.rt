@@ -147,9 +147,9 @@ with modules from 0 to 31 and blocks from 0 to 63, at most 4096 lines.
 
 The answer is a batch text with one transfer for each move, in their order, in
 the form that `exchange plan --help` shows: `push M b N c`, or `pull N c M b`.
-A link carries one transfer in a setting, and a module has two, so a module with
-k ends of moves wants k/2 settings at least, rounded up. The answer needs just
-so many for the busiest module; no other directions need fewer.
+A link carries one transfer in a setting, and a module has two links. So a
+module with k ends of moves needs at least k/2 settings, rounded up. The answer
+needs as many settings as the busiest module does; no directions need fewer.
   ./exchange direct MOVES | ./exchange plan -
 
 Else it is the first of these that is wrong:
@@ -263,13 +263,17 @@ may be refused; then nothing has changed, and the session goes on:
   refused memory no module   there is no module M
   refused memory misaligned  A isn't a multiple of four
   refused memory outside     no word of the module is at A
-  refused book full          the exchange holds as many batches as it can
-  refused history full       the exchange has had as many calls as it can
+  refused book full          the exchange holds 256 batches of all sessions, the
+                             most that it can: one has to be dropped first
+  refused history full       the exchange has answered 65536 calls of all
+                             sessions, the most that its history holds: `plan`
+                             is two calls, `progress` and `bye` none, others one
   refused no memory          there was no memory for it
 A session that doesn't end with its script or by `bye` has one line more:
   ended cut                  the script ends within a line or within a batch
   ended line too long        a line has more than 80 bytes
-  ended turns                the script was read 1000000 times
+  ended turns                the script was read 1000000 times, the most that a
+                             session may; each read brings at most 81 bytes
   ended no memory            there was no memory for the lines of a batch
   ended write                there was no memory for an answer
   ended read                 the script can't be read any further
@@ -376,8 +380,8 @@ transfers, `exchange plan --help`; and how long a session may be,
 `exchange serve --help`.
 
 A refusal is one line on standard output. A second line, on standard error, says
-of it which file and line, what stands there, and what is wanted: --quiet, which
-each command takes, leaves that out.
+which file and line it is about, what stands there, and what is wanted. Each
+command takes --quiet, which leaves the second line out.
 
 Status: 0 the answer is there, 1 a refusal, whose one line says what is wrong,
 or a session that ended badly, 2 the words fit no command, 3 the answer couldn't
