@@ -7,4 +7,4 @@ pub const MAX_CLIENTS: usize = MAX_SESSIONS;
 
 /// The program's version, and the kit that its proofs were last seen to hold with, as `rt version` tells it. The script that
 /// starts the program says so where it builds it with another kit.
-pub const VERSION: &str = "1.0.0 (rattle-kit-13b logic dac8208d650f15bf)";
+pub const VERSION: &str = "1.0.0 (rattle-kit-13f logic dac8208d650f15bf)";

@@ -98,6 +98,21 @@ fn joins_to_row(alloc: Global, graph: &LinkGraph) -> bool
     }
 }
 
+/// Whether the table of `0 2` with one class more, `1 3`, has the settings `0 2` and `1 3`, none of them
+/// inserted.
+fn has_class_more(alloc: Global, graph: &LinkGraph) -> Result<bool, AllocError>
+    requires known { 3 < length graph.now }
+    requires left { AreApart graph.now 0 2 }
+    requires right { AreApart graph.now 1 3 }
+{
+    let table = Table::one(alloc, graph, &[0, 2])?;
+    if table.colour_of(1).is_some() || table.colour_of(3).is_some() {
+        return Ok(false);
+    }
+    let table = table.with_class(&[1, 3])?;
+    Ok(gives_row(table, 0))
+}
+
 /// Whether the table has `1 3` as its one colour, and 0 in none, and the class is `0 2`.
 fn is_taken_back(table: &Table<'_>, class: &[usize]) -> bool {
     class == [0, 2].as_slice()
@@ -117,12 +132,14 @@ fn gives_back(alloc: Global, graph: &LinkGraph) -> Result<bool, AllocError>
     Ok(is_taken_back(&table, class.as_slice()))
 }
 
-/// Whether the row is met by insertions, by halves that are joined, and by what is taken back of these.
+/// Whether the row is met by insertions, by halves that are joined, by a class that is added, and by what is
+/// taken back of the joined halves.
 fn meets_row(alloc: Global) -> bool {
     match graph_of_four(alloc) {
         Some(graph) => {
             two_colours_take(alloc, &graph)
                 && joins_to_row(alloc, &graph)
+                && has_class_more(alloc, &graph) == Ok(true)
                 && gives_back(alloc, &graph) == Ok(true)
         }
         None => false,

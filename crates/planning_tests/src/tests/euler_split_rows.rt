@@ -1,5 +1,8 @@
-use super::texts::{FIRST_FIT_LOSES, graph};
-use euler_split::split;
+ghost use Rattle.std.specs.Prelude.{◌≡◌, length, IfSome};
+
+use super::texts::{EVEN_PAIRS, FIRST_FIT_LOSES, graph};
+use euler_split::{Scratch, split, split_evenly, times_even};
+use link_graph::LinkGraph;
 use std::alloc::Global;
 
 /// Whether these are the halves `0 2` and `1 3`, in either order.
@@ -23,4 +26,63 @@ fn is_halved(alloc: Global) -> Option<bool> {
 #[test]
 fn split_of_four(rt: HostRuntime) {
     assert!(rt; is_halved(rt.alloc()) == Some(true));
+}
+
+/// The graph of the eight transfers of row even-pairs.
+fn graph_of_eight(alloc: Global) -> Option<LinkGraph>
+    ensures { IfSome result (λ graph. length graph ≡ 8) }
+{
+    let graph = graph(alloc, EVEN_PAIRS)?;
+    if graph.len() == 8 { Some(graph) } else { None }
+}
+
+/// How many times all eight can be halved, and two of one pair, three, and none.
+fn times_of_some(graph: &LinkGraph) -> [usize; 4]
+    requires { length graph.now ≡ 8 }
+{
+    [
+        times_even(graph, &[0, 1, 2, 3, 4, 5, 6, 7]),
+        times_even(graph, &[0, 3]),
+        times_even(graph, &[0, 1, 2]),
+        times_even(graph, &[]),
+    ]
+}
+
+#[test]
+fn even_pairs(rt: HostRuntime) {
+    let graph = graph_of_eight(rt.alloc());
+    assert!(rt; graph.is_some_and(|graph| times_of_some(&graph) == [2, 1, 0, 0]));
+}
+
+/// How many of the transfers start at module 0.
+fn starts_at_zero(graph: &LinkGraph, members: &[usize]) -> usize {
+    members
+        .iter()
+        .filter(|t| graph.ends(**t).is_some_and(|(start, _)| start.module == 0))
+        .count()
+}
+
+/// How many transfers each half of the eight has, and how many of these start at module 0.
+fn dealt(alloc: Global, graph: &LinkGraph) -> Option<[usize; 4]>
+    requires { length graph.now ≡ 8 }
+{
+    let mut members = [0, 1, 2, 3, 4, 5, 6, 7];
+    if times_even(graph, &members) == 0 {
+        return None;
+    }
+    let mut scratch = Scratch::new(alloc, members.len()).ok()?;
+    let middle = split_evenly(graph, &mut members, &mut scratch);
+    let (left, right) = members.split_at(middle);
+    Some([
+        left.len(),
+        starts_at_zero(graph, left),
+        right.len(),
+        starts_at_zero(graph, right),
+    ])
+}
+
+#[test]
+fn even_pairs_dealt(rt: HostRuntime) {
+    let graph = graph_of_eight(rt.alloc());
+    assert!(rt; graph.is_some_and(|graph| dealt(rt.alloc(), &graph) == Some([4, 2, 4, 2])));
 }

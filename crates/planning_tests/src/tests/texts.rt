@@ -32,6 +32,19 @@ push 3 4 2 3
 push 3 4 3 3
 ";
 
+/// Row even-pairs: four transfers from module 0 to module 1, and four from module 2 to module 1.
+pub const EVEN_PAIRS: &str = "\
+batch 8
+push 0 0 1 0
+push 2 0 1 4
+push 2 1 1 5
+push 0 1 1 1
+push 0 2 1 2
+push 2 2 1 6
+push 0 3 1 3
+push 2 3 1 7
+";
+
 /// The batch of a text, against the widest shape.
 pub fn read(alloc: Global, text: &str) -> Option<Batch> {
     Batch::read(alloc, text.as_bytes(), Shape::WIDEST).ok()
