@@ -38,7 +38,7 @@ trap 'rm -rf "$work"' EXIT
 
 # About a twelfth more than was counted last, since other versions of both compilers count a little differently
 declare -A greatest=(
-    [scrambled]=0.89 [scrambled-1024]=1.01 [one_link]=0.51 [one_link-1024]=0.65 [odd]=0.80 [star]=0.52 [two_by_two]=1.11 [part]=0.49 [wide]=0.89
+    [scrambled]=0.89 [scrambled-1024]=1.01 [one_link]=0.51 [one_link-1024]=0.65 [odd]=0.80 [star]=0.52 [two_by_two]=0.87 [part]=0.49 [wide]=0.89
 )
 greatest_growth=5
 

@@ -100,6 +100,18 @@ fn halve_known(
     split_evenly(graph, part, scratch)
 }
 
+/// How many times the transfers of each pair of links of a part can be halved. Where all transfers are
+/// known to share one link, nobody asks, and it is none.
+fn times_of(graph: &LinkGraph, part: &[usize], known: Option<usize>) -> usize
+    requires { IsPartBy graph.now part.now known }
+    ensures { CanBeHalved graph.now part.now result }
+{
+    if known == Some(part.len()) {
+        return 0;
+    }
+    times_even(graph, part)
+}
+
 /// The table of a part of degree 2, of its halves: the transfers of each of them get one colour. There
 /// is room for this many colours.
 fn colour_two<'a>(
@@ -136,7 +148,7 @@ pub(crate) fn colour_alone<'a>(
     ensures coloured { IfOk result (IsColouredPart graph.now part.old) }
     ensures places { scratch.new ≡ scratch.old }
 {
-    let times = times_even(graph, part);
+    let times = times_of(graph, part, known);
     colour_halves(alloc, graph, part, scratch, known, room, times)
 }
 
