@@ -1,5 +1,5 @@
 -- The modules that a transfer has at its two ends.
-use Rattle.std.proofs.Common.{◌≡◌, ℕ, ◌<◌, List, length, slice_get, Option, Some, sym, ap, ◌∙◌, inl, inr, arith}
+use Rattle.std.proofs.Common.{◌≡◌, ℕ, ◌<◌, List, length, slice_get, Some, sym, ap, ◌∙◌, inl, inr, arith}
 use Rattle.std.specs.Prelude.{option_map}
 use Rattle.std.proofs.lemmas.List.{get_or-map}
 use Rattle.std.proofs.lemmas.Option.{slice_get_cases, get_or_from_slice_get, same_Some}
@@ -25,11 +25,8 @@ module_is g e t x t_in here = get_or-map (module_at e) g t x 0 t_in ∙ ap (modu
 pub ends_modules : (g : List Transfer) (t : ℕ) (r : Link × Link) → t < length g → option_map (λ (x : Transfer). let p : Link × Link = (start_link x, answer_link x) in p) (slice_get g t) ≡ Some r → (r.0.«module» ≡ module_in g Zero t) × (r.1.«module» ≡ module_in g Three t)
 ends_modules g t r t_in is =
     let known = known_transfer g t t_in in
-    let x : Transfer = known.0 in
-    let pair : Link × Link = (start_link x, answer_link x) in
-    let there : ◌≡◌ {A = Option (Link × Link)} (Some pair) (Some r) = sym (ap (option_map (λ (y : Transfer). let p : Link × Link = (start_link y, answer_link y) in p)) known.1) ∙ is in
-    let same : pair ≡ r = same_Some pair r there in
-    (ap (λ (p : Link × Link). p.0.«module») (sym same) ∙ sym (module_is g Zero t x t_in known.1), ap (λ (p : Link × Link). p.1.«module») (sym same) ∙ sym (module_is g Three t x t_in known.1))
+    let same = same_Some _ r (rw known.1 at is) in
+    (ap (λ (p : Link × Link). p.0.«module») (sym same) ∙ sym (module_is g Zero t known.0 t_in known.1), ap (λ (p : Link × Link). p.1.«module») (sym same) ∙ sym (module_is g Three t known.0 t_in known.1))
 
 module_low : (x : Transfer) (e : End) → (x.initiator < MAX_MODULES) × (x.responder < MAX_MODULES) → module_at e x < MAX_MODULES
 module_low x Zero low = low.0

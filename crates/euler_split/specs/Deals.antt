@@ -1,32 +1,38 @@
--- Members dealt to two lists by a test of their places.
-use Rattle.std.specs.Prelude.{◌≡◌, ℕ, zero, suc, List, ◌++◌, take, Option, Bool, false, ◌&&◌, not, count_by, slice_index}
+-- Members dealt to two halves by turns.
+use Rattle.std.specs.Prelude.{◌≡◌, ℕ, zero, suc, ◌+◌, List, ◌++◌, take, Option, Bool, false, not, cond}
 use Rattle.std.specs.Option.{unwrap_or}
 use Rattle.std.specs.List.Sorted.{IsPermutation}
+use Rattle.batch.specs.declared.transfer.Transfer.{Transfer}
 use Rattle.link_graph.specs.declared.link.End.{End}
 use Rattle.link_graph.specs.declared.link.End.TheVariants.{Zero, Three}
-use Rattle.link_graph.specs.Counts.{count_below}
-use Rattle.euler_split.specs.Masks.{toggled}
+use Rattle.link_graph.specs.declared.link.Link.{Link}
+use Rattle.euler_split.specs.Split.{uses_among}
+use Rattle.euler_split.specs.Pairs.{modules_in}
+use Rattle.euler_split.specs.Masks.{has_pair, toggled}
+use Rattle.euler_split.specs.Trails.{pairs_at}
 use Rattle.euler_split.specs.Walks.{half_at}
 
 -- whether a place is in the left half
 abbrev pub in_left : List (Option Bool) → ℕ → Bool
 in_left halves i = unwrap_or (half_at halves i) false
 
--- the members at those of the first n places that pass a test are dealt to the left, the others to
--- the right
-pub record IsDealt (whole : List ℕ) (n : ℕ) (test : ℕ → Bool) (left right : List ℕ) : Type 0 where
-  pub left_is : (q : ℕ → Bool)
-      → count_by q left ≡ count_below n (λ i. test i && q (slice_index whole i))
-  pub right_is : (q : ℕ → Bool)
-      → count_by q right ≡ count_below n (λ i. not (test i) && q (slice_index whole i))
+-- the pairs that an odd number of the first n places have
+abbrev pub odd_among : (End → ℕ → ℕ) → ℕ → ℕ → ℕ → Bool
+odd_among module_of zero u v = false
+odd_among module_of (suc n) u v =
+    toggled (odd_among module_of n) (module_of Zero n) (module_of Three n) u v
+
+-- whether just one of two is true
+abbrev pub differ : Bool → Bool → Bool
+differ a b = cond a (not b) b
+
+-- The first n members stand in the two halves, and each has changed its pair's turn. At a link the left
+-- half has as many more than the right one as it has fewer turns now.
+pub record AreDealt (batch : List Transfer) (whole : List ℕ) (n : ℕ) (turns now : List ℕ)
+    (left right : List ℕ) : Type 0 where
   pub parts : IsPermutation (take n whole) (left ++ right)
-
--- the pairs, of which each of the first n places has changed its own
-abbrev pub flips : (ℕ → ℕ → Bool) → (End → ℕ → ℕ) → ℕ → ℕ → ℕ → Bool
-flips pairs module_of zero u v = pairs u v
-flips pairs module_of (suc n) u v =
-    toggled (flips pairs module_of n) (module_of Zero n) (module_of Three n) u v
-
--- whether its pair is among them when a place comes: its turn is the left half's
-abbrev pub in_turn : (ℕ → ℕ → Bool) → (End → ℕ → ℕ) → ℕ → Bool
-in_turn pairs module_of i = flips pairs module_of i (module_of Zero i) (module_of Three i)
+  pub turned : (u v : ℕ)
+      → has_pair now u v ≡ differ (has_pair turns u v) (odd_among (modules_in batch whole) n u v)
+  pub even : (link : Link)
+      → uses_among batch left link + pairs_at (has_pair now) link.end link.«module»
+      ≡ uses_among batch right link + pairs_at (has_pair turns) link.end link.«module»

@@ -1,11 +1,11 @@
-ghost use Rattle.std.specs.Prelude.{◌≡◌, ℕ, ◌<◌, ◌≤◌, length, take, drop, All, IfOk, false};
+ghost use Rattle.std.specs.Prelude.{◌≡◌, ℕ, ◌<◌, ◌≤◌, length, take, drop, All, IfOk};
 ghost use Rattle.batch.specs.Batches.{IsBatch};
 ghost use Rattle.link_graph.specs.Certificates.{AreDistinct};
 ghost use Rattle.link_graph.specs.declared.link.End.TheVariants.{Zero, Three};
 ghost use Rattle.euler_split.specs.Split.{IsSplit};
 ghost use Rattle.euler_split.specs.Pairs.{module_in, modules_in};
-ghost use Rattle.euler_split.specs.Masks.{has_pair, AreToggled, AreMirrored};
-ghost use Rattle.euler_split.specs.Deals.{flips, in_turn, IsDealt};
+ghost use Rattle.euler_split.specs.Masks.{has_pair, AreToggled};
+ghost use Rattle.euler_split.specs.Deals.{odd_among, AreDealt};
 
 use crate::pairs::{Masks, Pairs, has, toggle};
 use crate::scratch::Scratch;
@@ -18,9 +18,8 @@ use std::alloc::{AllocError, Global};
 fn odd_pairs(graph: &LinkGraph, members: &[usize]) -> Pairs
     requires batch { IsBatch graph.now }
     requires known { All (λ t. t < length graph.now) members.now }
-    ensures odd { (u v : ℕ) → has_pair result.zero u v
-        ≡ flips (λ _ _. false) (modules_in graph.now members.now) (length members.now) u v }
-    ensures mirrored { AreMirrored result.zero result.three }
+    ensures { (u v : ℕ) → has_pair result.zero u v
+        ≡ odd_among (modules_in graph.now members.now) (length members.now) u v }
 {
     let mut pairs = Pairs::none();
     for place in 0..members.len() {
@@ -59,8 +58,7 @@ pub(crate) fn deal(
     requires known { All (λ t. t < length graph.now) members.old }
     requires room { length members.old ≤ length others.old }
     ensures within { result ≤ length members.old }
-    ensures dealt { IsDealt members.old (length members.old)
-        (in_turn (has_pair turns.old) (modules_in graph.now members.old))
+    ensures dealt { AreDealt graph.now members.old (length members.old) turns.old turns.new
         (take result members.new) (drop result members.new) }
 {
     let mut left = 0;

@@ -1,6 +1,6 @@
 //! Pairs of a link 0 and a link 3, as masks.
 
-ghost use Rattle.std.specs.Prelude.{◌≡◌, ℕ, ◌<◌, true, false, IfSome, IfNone};
+ghost use Rattle.std.specs.Prelude.{◌≡◌, ℕ, ◌<◌, true, false, sum};
 ghost use Rattle.euler_split.specs.Masks.{has_bit, has_pair, toggled, AreMirrored, AreToggled};
 
 use batch::MAX_MODULES;
@@ -8,15 +8,13 @@ use batch::MAX_MODULES;
 /// A mask of modules for each module.
 pub(crate) type Masks = [u32; MAX_MODULES];
 
-/// The least module of a mask.
-pub(crate) fn first(mask: u32) -> Option<usize>
-    ensures some { IfSome result (λ bit. (bit < MAX_MODULES) × (has_bit mask bit ≡ true)) }
-    ensures none { IfNone result ((bit : ℕ) → has_bit mask bit ≡ false) }
+/// The least module of a mask that has any.
+pub(crate) fn lowest(mask: u32) -> usize
+    requires { 0 < mask }
+    ensures within { result < MAX_MODULES }
+    ensures has { has_bit mask result ≡ true }
 {
-    if mask == 0 {
-        return None;
-    }
-    Some(mask.trailing_zeros() as usize)
+    mask.trailing_zeros() as usize
 }
 
 /// Whether the masks have a pair of modules.
@@ -28,11 +26,13 @@ pub(crate) fn has(masks: &Masks, module: usize, other: usize) -> bool
     masks[module] >> other & 1 == 1
 }
 
-/// Takes a pair of modules out where the masks have it, and else puts it in.
+/// Takes a pair of modules out where the masks have it, and else puts it in. Without it the masks are
+/// less, as numbers.
 pub(crate) fn toggle(masks: &mut Masks, module: usize, other: usize)
     requires module { «module» < MAX_MODULES }
     requires other { other < MAX_MODULES }
-    ensures { AreToggled masks.old masks.new «module» other }
+    ensures toggled { AreToggled masks.old masks.new «module» other }
+    ensures less { has_pair masks.old «module» other ≡ true → sum masks.new < sum masks.old }
 {
     masks[module] ^= 1u32 << other;
 }
@@ -44,13 +44,13 @@ pub(crate) struct Pairs {
     pub(crate) zero: Masks,
     /// For each module the modules whose links 0 are paired with its link 3.
     pub(crate) three: Masks,
+    ghost mirrored: { AreMirrored zero three },
 }
 
 impl Pairs {
     /// No pairs.
     pub(crate) fn none() -> Pairs
-        ensures none { (u v : ℕ) → has_pair result.zero u v ≡ false }
-        ensures mirrored { AreMirrored result.zero result.three }
+        ensures { (u v : ℕ) → has_pair result.zero u v ≡ false }
     {
         Pairs {
             zero: [0; MAX_MODULES],
@@ -62,9 +62,8 @@ impl Pairs {
     pub(crate) fn toggle(&mut self, zero: usize, three: usize)
         requires zero_in { zero < MAX_MODULES }
         requires three_in { three < MAX_MODULES }
-        requires mirrored { AreMirrored self.old.zero self.old.three }
         ensures toggled { AreToggled self.old.zero self.new.zero zero three }
-        ensures mirrored { AreMirrored self.new.zero self.new.three }
+        ensures less { has_pair self.old.zero zero three ≡ true → sum self.new.zero < sum self.old.zero }
     {
         toggle(&mut self.zero, zero, three);
         toggle(&mut self.three, three, zero);

@@ -1,21 +1,28 @@
 //! Walks along pairs of links, by which these fall into two halves.
 
-ghost use Rattle.std.specs.Prelude.{◌≡◌, ℕ, ◌<◌, ◌≤◌, Bool, false};
+ghost use Rattle.std.specs.Prelude.{◌≡◌, ℕ, ◌+◌, ◌<◌, Bool, true, not, sum, slice_index};
 ghost use Rattle.link_graph.specs.declared.link.End.{End};
 ghost use Rattle.link_graph.specs.declared.link.End.TheVariants.{Zero};
-ghost use Rattle.euler_split.specs.Masks.{has_pair, AreMirrored};
-ghost use Rattle.euler_split.specs.Trails.{pairs_at, IsTaken, AreApart, IsWalked, AreEven, AreHalved};
+ghost use Rattle.link_graph.specs.Links.{other_end};
+ghost use Rattle.euler_split.specs.Masks.{has_pair};
+ghost use Rattle.euler_split.specs.Trails.{end_of, AreEven, level, is_left_next, walk_lead, AreHalved};
 
-use crate::pairs::{Masks, Pairs, first, toggle};
+use crate::pairs::{Masks, Pairs, lowest, toggle};
 use batch::MAX_MODULES;
 
-/// Takes a pair out of those that are left, and puts it to the turns of the left half or not.
+/// Takes a pair out of those that are left, and puts it to the turns of the left half or not. A walk
+/// that was at one of its links is at the other one then.
 fn take(left: &mut Pairs, turns: &mut Masks, zero: usize, three: usize, to_left: bool)
     requires zero_in { zero < MAX_MODULES }
     requires three_in { three < MAX_MODULES }
-    requires mirrored { AreMirrored left.old.zero left.old.three }
-    ensures taken { IsTaken to_left zero three left.old.zero turns.old left.new.zero turns.new }
-    ensures mirrored { AreMirrored left.new.zero left.new.three }
+    requires some { has_pair left.old.zero zero three ≡ true }
+    ensures walked { (all : ℕ → ℕ → Bool) (first_left : Bool) (start : ℕ) (end : End)
+        → to_left ≡ is_left_next first_left end
+        → AreEven all start left.old.zero turns.old
+        (walk_lead first_left start end (end_of zero three end))
+        → AreEven all start left.new.zero turns.new
+        (walk_lead first_left start (other_end end) (end_of zero three (other_end end))) }
+    ensures less { sum left.new.zero < sum left.old.zero }
 {
     left.toggle(zero, three);
     if to_left {
@@ -27,23 +34,21 @@ fn take(left: &mut Pairs, turns: &mut Masks, zero: usize, three: usize, to_left:
 /// none. They go to the two halves in turn, the first to the left one or not.
 fn walk(left: &mut Pairs, turns: &mut Masks, start: usize, first_left: bool)
     requires start_in { start < MAX_MODULES }
-    requires some { 0 < pairs_at (has_pair left.old.zero) Zero start }
-    requires mirrored { AreMirrored left.old.zero left.old.three }
-    requires apart { AreApart left.old.zero turns.old }
-    ensures walked { IsWalked first_left start
-        (has_pair left.old.zero) (has_pair turns.old)
-        (has_pair left.new.zero) (has_pair turns.new) }
-    ensures mirrored { AreMirrored left.new.zero left.new.three }
-    ensures apart { AreApart left.new.zero turns.new }
+    requires some { 0 < slice_index left.old.zero start }
+    ensures walked { (all : ℕ → ℕ → Bool)
+        → AreEven all start left.old.zero turns.old (walk_lead first_left start Zero start)
+        → AreEven all start left.new.zero turns.new (walk_lead (not first_left) start Zero start) }
+    ensures less { sum left.new.zero < sum left.old.zero }
 {
     let mut zero = start;
-    'steps: while let Some(three) = first(left.zero[zero]) {
+    'steps: while left.zero[zero] != 0 {
+        let three = lowest(left.zero[zero]);
         take(left, turns, zero, three, first_left);
-        let Some(next) = first(left.three[three]) else {
+        if left.three[three] == 0 {
             return;
-        };
-        take(left, turns, next, three, !first_left);
-        zero = next;
+        }
+        zero = lowest(left.three[three]);
+        take(left, turns, zero, three, !first_left);
     }
 }
 
@@ -52,15 +57,9 @@ fn walk(left: &mut Pairs, turns: &mut Masks, start: usize, first_left: bool)
 /// more in the other.
 fn walk_all_from(left: &mut Pairs, turns: &mut Masks, start: usize)
     requires start_in { start < MAX_MODULES }
-    requires mirrored { AreMirrored left.old.zero left.old.three }
-    requires apart { AreApart left.old.zero turns.old }
-    ensures even { (all : ℕ → ℕ → Bool) → AreEven all (has_pair left.old.zero) (has_pair turns.old)
-        → AreEven all (has_pair left.new.zero) (has_pair turns.new) }
-    ensures none { pairs_at (has_pair left.new.zero) Zero start ≡ 0 }
-    ensures fewer { (e : End) (m : ℕ)
-        → pairs_at (has_pair left.new.zero) e m ≤ pairs_at (has_pair left.old.zero) e m }
-    ensures mirrored { AreMirrored left.new.zero left.new.three }
-    ensures apart { AreApart left.new.zero turns.new }
+    ensures { (all : ℕ → ℕ → Bool)
+        → AreEven all start left.old.zero turns.old level
+        → AreEven all (start + 1) left.new.zero turns.new level }
 {
     let mut first_left = true;
     'walks: while left.zero[start] != 0 {
@@ -72,7 +71,6 @@ fn walk_all_from(left: &mut Pairs, turns: &mut Masks, start: usize)
 /// Those of the pairs that go to the left half: at each link half of its pairs, rounded up or down. All
 /// pairs are taken out.
 pub(crate) fn left_of(pairs: &mut Pairs) -> Masks
-    requires { AreMirrored pairs.old.zero pairs.old.three }
     ensures { AreHalved (has_pair pairs.old.zero) (has_pair result) }
 {
     let mut turns = [0; MAX_MODULES];

@@ -1,10 +1,8 @@
-use Rattle.std.proofs.Common.{◌≡◌, ℕ, false}
+use Rattle.std.proofs.Common.{◌≡◌, ℕ}
 use Rattle.euler_split.specs.Pairs.{modules_in}
-use Rattle.euler_split.specs.Masks.{has_pair, AreMirrored}
-use Rattle.euler_split.specs.Deals.{flips}
+use Rattle.euler_split.specs.Masks.{has_pair}
+use Rattle.euler_split.specs.Deals.{odd_among}
 use Rattle.euler_split.proofs.halving.odd_pairs.Given as goal
 
 abbrev pub invariant-loop-place : goal.invariant-loop-place
-invariant-loop-place l =
-    ((u v : ℕ) → has_pair l.pairs.zero u v ≡ flips (λ _ _. false) (modules_in l.graph l.members) l.place u v)
-    × AreMirrored l.pairs.zero l.pairs.three
+invariant-loop-place l = (u v : ℕ) → has_pair l.pairs.zero u v ≡ odd_among (modules_in l.graph l.members) l.place u v

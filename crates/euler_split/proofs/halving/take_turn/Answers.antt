@@ -9,4 +9,4 @@ returns-clause-turn c =
 pub returns-clause-next : goal.returns-clause-next
 returns-clause-next c =
     let ends = ends_modules c.args.graph.now _ c.ends_of.result c.requires.known c.ends_of.ensures in
-    rw (← ends.0, ← ends.1) c.toggle.ensures
+    rw (← ends.0, ← ends.1) c.toggle.ensures.toggled

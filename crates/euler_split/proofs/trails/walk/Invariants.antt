@@ -1,9 +1,15 @@
-use Rattle.euler_split.specs.Masks.{has_pair}
-use Rattle.euler_split.proofs.Steps.{IsUnderWay, total}
+use Rattle.std.proofs.Common.{◌≡◌, ℕ, ◌<◌, ◌⊎◌, get_or, Bool, sum}
+use Rattle.batch.specs.declared.limits.TheConstants.{MAX_MODULES}
+use Rattle.link_graph.specs.declared.link.End.TheVariants.{Zero}
+use Rattle.euler_split.specs.Trails.{AreEven, walk_lead}
 use Rattle.euler_split.proofs.trails.walk.Given as goal
 
 abbrev pub invariant-steps : goal.invariant-steps
-invariant-steps l = IsUnderWay l.first_left l.start l.zero (has_pair l.initial.left.zero) (has_pair l.initial.turns) l.left.zero l.left.three l.turns
+invariant-steps l = record {
+  zero_in : l.zero < MAX_MODULES;
+  less : (sum l.left.zero < sum l.initial.left.zero) ⊎ ((0 < get_or l.left.zero l.zero 0) × (sum l.left.zero ≡ sum l.initial.left.zero));
+  even : (all : ℕ → ℕ → Bool) → AreEven all l.start l.initial.left.zero l.initial.turns (walk_lead l.first_left l.start Zero l.start) → AreEven all l.start l.left.zero l.turns (walk_lead l.first_left l.start Zero l.zero);
+}
 
 abbrev pub decreases-steps : goal.decreases-steps
-decreases-steps l = total (has_pair l.left.zero)
+decreases-steps l = sum l.left.zero
