@@ -7,7 +7,7 @@ use Rattle.std.proofs.lemmas.Bool.Decides.{nat_tests}
 use Rattle.std.proofs.lemmas.List.{take_more}
 use Rattle.std.proofs.lemmas.List.Elements.{filter_map-append}
 use Rattle.std.proofs.lemmas.List.Sorted.{IsPermutation-sym, IsPermutation-middle, IsPermutation-to_front, IsPermutation-push_more, sum_by-IsPermutation}
-use Rattle.std.proofs.lemmas.List.Sums.{sum_by-cons, sum_by-append}
+use Rattle.std.proofs.lemmas.List.Sums.{sum_by-cons, sum_by-append, sum_by_push}
 use Rattle.batch.specs.Batches.{IsBatch}
 use Rattle.batch.specs.declared.transfer.Transfer.{Transfer}
 use Rattle.link_graph.specs.declared.link.End.{End}
@@ -21,6 +21,7 @@ use Rattle.euler_split.specs.Walks.{partner_at, half_at, IsHalved}
 use Rattle.euler_split.specs.Masks.{has_pair, AreToggled}
 use Rattle.euler_split.specs.Trails.{pairs_at, AreHalved}
 use Rattle.euler_split.specs.Deals.{in_left, odd_among, differ, AreDealt}
+use Rattle.euler_split.specs.Evenness.{uses_pair, pair_count}
 use Rattle.euler_split.proofs.Modules.{known_transfer, module_is, module_in_low}
 use Rattle.euler_split.proofs.Masks.{bit, none_at, pairs_sum, pairs_toggled}
 use Rattle.euler_split.proofs.Turns.{not-not, some_of}
@@ -61,10 +62,15 @@ module _ (g : List Transfer) (whole : List ℕ) (n : ℕ) (turns now new left ri
   turned_more : (u v : ℕ) → has_pair new u v ≡ differ (has_pair turns u v) (odd_among (modules_in g whole) (n + 1) u v)
   turned_more u v = rw add-one (grind (arith, nat_tests, next u v, so_far.turned u v))
 
+  -- of the pair that it uses one more is in the half that it goes to
+  pair_push : (ts : List ℕ) (u v : ℕ) → pair_count g (ts ++ t ∷ []) u v ≡ pair_count g ts u v + bit (uses_pair g u v t)
+  pair_push ts u v = sum_by_push (λ (x : ℕ). bit (uses_pair g u v x)) ts t
+
   pub dealt_left : has_pair now (modules_in g whole Zero n) (modules_in g whole Three n) ≡ true → AreDealt g whole (n + 1) turns new (left ++ t ∷ []) right
   dealt_left was = record {
     parts = rw (take_more whole n 0 n_in) (IsPermutation-push_more (take n whole) (left ++ right) ((left ++ t ∷ []) ++ right) t so_far.parts (rw append_assoc (IsPermutation-sym _ _ (IsPermutation-middle left t right))));
     turned = turned_more;
+    pairs = λ u v. grind (arith, nat_tests, was, next u v, so_far.pairs u v, pair_push left u v);
     even = λ link. grind (arith, was, pairs_toggled (λ e. module_in g e t) (λ e. module_in_low g e t batch t_in) true (has_pair now) (has_pair new) next link.end link.«module», so_far.even link, uses_append g link left (t ∷ []), uses_one g link t t_in);
   }
 
@@ -72,6 +78,7 @@ module _ (g : List Transfer) (whole : List ℕ) (n : ℕ) (turns now new left ri
   dealt_right was = record {
     parts = rw (take_more whole n 0 n_in) (IsPermutation-push_more (take n whole) (left ++ right) (left ++ (right ++ t ∷ [])) t so_far.parts (rw (← append_assoc) (IsPermutation-sym _ _ (IsPermutation-to_front (left ++ right) t))));
     turned = turned_more;
+    pairs = λ u v. grind (arith, nat_tests, was, next u v, so_far.pairs u v, pair_push right u v);
     even = λ link. grind (arith, was, pairs_toggled (λ e. module_in g e t) (λ e. module_in_low g e t batch t_in) true (has_pair now) (has_pair new) next link.end link.«module», so_far.even link, uses_append g link right (t ∷ []), uses_one g link t t_in);
   }
 

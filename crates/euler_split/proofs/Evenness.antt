@@ -44,8 +44,8 @@ module _ (batch : List Transfer) (whole counts : List ℕ) (n a b : ℕ) (n_in :
     places = length-set counts place (slice_index counts place + 1) ∙ so_far.places;
     at = λ u v u_in v_in.
         let old = so_far.at u v u_in v_in in
-        elim (eqb_tells u (module_in batch Zero t)) [
-          | inl p ↦ elim (eqb_tells v (module_in batch Three t)) [
+        elim (eqb_tells (module_in batch Zero t) u) [
+          | inl p ↦ elim (eqb_tells (module_in batch Three t) v) [
             | inl q ↦
                 let here : u * MAX_MODULES + v ≡ place = omega (arith, p.1, q.1, zero_is, three_is) in
                 let bit : one (uses_pair batch u v t) ≡ 1 = rw (p.0, q.0) refl in
@@ -80,8 +80,8 @@ none_past batch [] u v fits known past = refl
 none_past batch (t ∷ ts) u v fits known past =
     let t_in : t < length batch = All-head (λ x. x < length batch) t ts known in
     let away : uses_pair batch u v t ≡ false = elim past [
-      | inl far ↦ rw (ne_eqb u (module_in batch Zero t) (λ e. omega (arith, e, far, module_in_low batch Zero t fits t_in))) refl
-      | inr far ↦ rw (ne_eqb v (module_in batch Three t) (λ e. omega (arith, e, far, module_in_low batch Three t fits t_in))) (elim (u == module_in batch Zero t) as (λ b. (b && false) ≡ false) [ true ↦ refl | false ↦ refl ])
+      | inl far ↦ rw (ne_eqb (module_in batch Zero t) u (λ e. omega (arith, e, far, module_in_low batch Zero t fits t_in))) refl
+      | inr far ↦ rw (ne_eqb (module_in batch Three t) v (λ e. omega (arith, e, far, module_in_low batch Three t fits t_in))) (elim (module_in batch Zero t == u) as (λ b. (b && false) ≡ false) [ true ↦ refl | false ↦ refl ])
     ] in
     omega (arith, sum_by-cons (λ y. one (uses_pair batch u v y)) t ts, ap one away, none_past batch ts u v fits (All-tail (λ x. x < length batch) t ts known) past)
 

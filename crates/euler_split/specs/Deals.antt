@@ -11,6 +11,7 @@ use Rattle.euler_split.specs.Pairs.{modules_in}
 use Rattle.euler_split.specs.Masks.{has_pair, toggled}
 use Rattle.euler_split.specs.Trails.{pairs_at}
 use Rattle.euler_split.specs.Walks.{half_at}
+use Rattle.euler_split.specs.Evenness.{pair_count}
 
 -- whether a place is in the left half
 abbrev pub in_left : List (Option Bool) → ℕ → Bool
@@ -26,13 +27,16 @@ odd_among module_of (suc n) u v =
 abbrev pub differ : Bool → Bool → Bool
 differ a b = cond a (not b) b
 
--- The first n members stand in the two halves, and each has changed its pair's turn. At a link the left
--- half has as many more than the right one as it has fewer turns now.
+-- The first n members stand in the two halves, and each has changed its pair's turn. Of a pair, and at
+-- a link, the left half has as many more than the right one as it has fewer turns now.
 pub record AreDealt (batch : List Transfer) (whole : List ℕ) (n : ℕ) (turns now : List ℕ)
     (left right : List ℕ) : Type 0 where
   pub parts : IsPermutation (take n whole) (left ++ right)
   pub turned : (u v : ℕ)
       → has_pair now u v ≡ differ (has_pair turns u v) (odd_among (modules_in batch whole) n u v)
+  pub pairs : (u v : ℕ)
+      → pair_count batch left u v + cond (has_pair now u v) 1 0
+      ≡ pair_count batch right u v + cond (has_pair turns u v) 1 0
   pub even : (link : Link)
       → uses_among batch left link + pairs_at (has_pair now) link.end link.«module»
       ≡ uses_among batch right link + pairs_at (has_pair turns) link.end link.«module»

@@ -8,7 +8,7 @@ use Rattle.euler_split.specs.Pairs.{module_in}
 
 -- whether transfer t uses link 0 of module u and link 3 of module v
 abbrev pub uses_pair : List Transfer → ℕ → ℕ → ℕ → Bool
-uses_pair batch u v t = u == module_in batch Zero t && v == module_in batch Three t
+uses_pair batch u v t = module_in batch Zero t == u && module_in batch Three t == v
 
 -- how many of the transfers use link 0 of module u and link 3 of module v
 abbrev pub pair_count : List Transfer → List ℕ → ℕ → ℕ → ℕ
