@@ -1,5 +1,5 @@
 -- Dealing in turn where each pair of links has an even number of members.
-use Rattle.std.proofs.Common.{◌≡◌, ℕ, suc, ◌+◌, ◌/◌, ◌<◌, List, ◌++◌, length, replicate, Bool, true, false, cond, refl, sym, ap, ◌∙◌, arith}
+use Rattle.std.proofs.Common.{◌≡◌, ℕ, suc, ◌+◌, ◌/◌, ◌<◌, List, ◌++◌, length, replicate, Bool, true, false, refl, sym, ap, ◌∙◌, arith}
 use Rattle.std.specs.Int.{bit_at}
 use Rattle.std.specs.List.Sorted.{IsPermutation}
 use Rattle.std.proofs.lemmas.Bool.{false≢true}
@@ -9,10 +9,9 @@ use Rattle.std.proofs.lemmas.Nat.Bits.{bit_at_lowest, bit_at-suc}
 use Rattle.std.proofs.Math.Seq.{take-length}
 use Rattle.batch.specs.declared.limits.TheConstants.{MAX_MODULES}
 use Rattle.batch.specs.declared.transfer.Transfer.{Transfer}
-use Rattle.link_graph.specs.declared.link.End.{End}
 use Rattle.euler_split.specs.Split.{IsSplit}
 use Rattle.euler_split.specs.Masks.{has_pair}
-use Rattle.euler_split.specs.Trails.{pairs_at, AreHalved}
+use Rattle.euler_split.specs.Trails.{AreHalved}
 use Rattle.euler_split.specs.Deals.{AreDealt}
 use Rattle.euler_split.specs.Evenness.{uses_pair, pair_count, CanBeHalved, HaveSamePairs}
 use Rattle.euler_split.proofs.Masks.{bit, no_pair, none_at}
