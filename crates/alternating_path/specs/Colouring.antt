@@ -101,8 +101,8 @@ pub record IsJoined (left right table : Colouring) : Type 0 where
       ≡ joined_colour left.colours (colour_at left.colour t) (colour_at right.colour t)
   pub inserted : table.inserted ≡ counted (left.inserted + right.inserted)
 
--- the table with one colour more, behind the others: each placed transfer keeps its colour, and just
--- those of the class have the new one
+-- the table with one colour more, behind the others: each placed transfer keeps its colour, just those
+-- of the class have the new one, and no other is placed
 pub record HasClassMore (old : Colouring) (class : List ℕ) (new : Colouring) : Type 0 where
   pub batch : new.batch ≡ old.batch
   pub colours : new.colours ≡ old.colours + 1

@@ -109,9 +109,9 @@ impl<'a> Table<'a> {
         Table::empty(graph, 0, cells).with_class(members)
     }
 
-    /// The table with one colour more, behind the others, in which just the members are placed: distinct
-    /// numbers of transfers that aren't placed yet, of which no two use a common link. The table is
-    /// dropped also where there is no memory.
+    /// The table with one colour more, behind the others, that just the members have: distinct numbers
+    /// of transfers that aren't placed yet, of which no two use a common link. The table is dropped also
+    /// where there is no memory.
     ///
     /// Takes time that grows with the number of members, where the table has room for the colour; else
     /// also with the number of colours.

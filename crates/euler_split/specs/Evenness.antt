@@ -25,8 +25,8 @@ abbrev pub HasBits : List ℕ → ℕ → ℕ → Type 0
 HasBits numbers n bits =
     (i : ℕ) → (bit_at bits i ≡ 0) ↔ ((k : ℕ) → k < n → bit_at (slice_index numbers k) i ≡ 0)
 
--- The transfers of each pair of links can be halved so many times with none left over: as a binary
--- number, how many they are has so many noughts at its end.
+-- The transfers of each pair of links can be halved at least so many times with none left over: how
+-- many they are is a multiple of 2 ^ times. So as a binary number it ends in so many zeros.
 abbrev pub CanBeHalved : List Transfer → List ℕ → ℕ → Type 0
 CanBeHalved batch ts times = (u v i : ℕ) → i < times → bit_at (pair_count batch ts u v) i ≡ 0
 

@@ -42,9 +42,9 @@ fn all_bits(counts: &[u16; PAIRS]) -> u16
     bits
 }
 
-/// How many times the members can be halved so that each pair of links has as many in the one half as in
-/// the other: the greatest number, and 0 where there are no members. They are the numbers of transfers,
-/// without repetition.
+/// How often the members, and then their halves, can be halved so that each pair of links has as many in
+/// the one half as in the other: the greatest number, and 0 where there are no members. They are the
+/// numbers of transfers, without repetition.
 ///
 /// Takes time that grows with the number of members, and with that of all pairs of links.
 pub fn times_even(graph: &LinkGraph, members: &[usize]) -> usize

@@ -6,6 +6,8 @@
 //! they fall into the two halves in turn, until it comes to a link that has none left. So at each link
 //! the halves have equally many of the edges, or one more or less (Gabow 1976).
 //!
+//! Where each pair of links has an even number of the transfers, none is left over, and there is no walk.
+//!
 //! Places that have partners at two ends are halved by walks from partner to partner. These are public
 //! for others that have places to put into two halves.
 #![tactic(auto)]

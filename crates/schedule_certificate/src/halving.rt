@@ -75,8 +75,9 @@ pub(crate) fn join_halves<'a>(
     Ok(table)
 }
 
-/// Halves a part as [`halve_part`] does. Where the transfers of each pair of links can be halved, they are
-/// dealt to the halves in turn, which needs no walk and gives the same halves.
+/// Halves a part in which not all transfers share one link, as [`halve_part`] does. Where the transfers of
+/// each pair of links can be halved, they are dealt to the halves in turn. That needs no walk, and gives
+/// the same halves as walks.
 fn halve_known(
     graph: &LinkGraph,
     part: &mut [usize],
@@ -112,8 +113,8 @@ fn times_of(graph: &LinkGraph, part: &[usize], known: Option<usize>) -> usize
     times_even(graph, part)
 }
 
-/// The table of a part of degree 2, of its halves: the transfers of each of them get one colour. There
-/// is room for this many colours.
+/// The table of a part of degree 2, of its halves: the transfers of each of them get one colour, those of
+/// the left half the first. There is room for this many colours.
 fn colour_two<'a>(
     alloc: Global,
     graph: &'a LinkGraph,
@@ -134,7 +135,9 @@ fn colour_two<'a>(
 /// can be joined to these without a move.
 ///
 /// Where all transfers share one link, each gets a colour of its own, in their order. Else the part is
-/// halved, in place, its halves are coloured in turn, and the two tables are joined.
+/// halved, in place. Its halves are coloured one after the other, and the two tables are joined; where
+/// the degree is 2, each half becomes one class. How often the transfers of all pairs of links can be
+/// halved is counted first, once.
 pub(crate) fn colour_alone<'a>(
     alloc: Global,
     graph: &'a LinkGraph,
