@@ -30,6 +30,17 @@ def batch(draw, shape, most):
     return f"batch {len(lines)}\n".encode() + "".join(lines).encode()
 
 
+def pattern(draw):
+    """A batch text that has several transfers for each of a few pairs of links, mostly an even number of them."""
+    modules = draw.choice([2, 3, 4, 6])
+    lines = []
+    for _ in range(draw.randint(1, 8)):
+        line = f"push {draw.randrange(modules)} 0 {draw.randrange(modules)} 0\n"
+        lines += [line] * (draw.randint(1, 3) << draw.randint(0, 3))
+    draw.shuffle(lines)
+    return f"batch {len(lines)}\n".encode() + "".join(lines).encode()
+
+
 def moves(draw, modules, most):
     """A text of moves between some of the modules. Few modules have many ends."""
     count = draw.randint(0, most)

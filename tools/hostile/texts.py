@@ -1,10 +1,11 @@
 #!/usr/bin/env python3
 """Spoilt texts: what the program answers to them, and what the plain implementation does.
 
-    texts.py [COUNT]        COUNT texts of each kind, 10000 where it isn't said; of scripts side by side a twentieth
+    texts.py [COUNT]        COUNT texts of each kind, 10000 where it isn't said; of patterns a quarter, of scripts side by side a twentieth
 
 Text number n of a kind is the same each time. A plan isn't the only one of its batch, so `plan` is judged by what a plan is, and `switch`
-by the plan that `plan` gives; all other answers are compared byte by byte. In a quarter of the runs one of the files is standard input.
+by the plan that `plan` gives; all other answers are compared byte by byte. Of a pattern several workers have to give the plan of one, byte by
+byte. In a quarter of the runs one of the files is standard input.
 The line on standard error beside a refusal is compared byte by byte too, with what notes.py tells. What it says is then taken away from the
 texts: they have to be refused otherwise, or told of otherwise. In a tenth of the runs `--quiet` leaves that line out.
 """
@@ -99,6 +100,15 @@ def try_plan(draw):
         return is_refusal(answer, refusal) and is_batch_told(answer, text, refusal), refusal, [text], answer
     well = answer.status == 0 and answer.err == b"" and plain.is_plan(text, answer.out)
     return well, b"a plan", [text], answer
+
+
+def try_pattern(draw):
+    """A pattern, planned by one worker and by several: the plans have to be the same, byte by byte."""
+    text = spoil.pattern(draw)
+    keep("batch", text)
+    alone, several = (ask("plan", "batch", "--workers", str(workers)) for workers in (1, draw.choice([2, 3, 4, 7, 16, 64])))
+    well = alone.status == 0 and alone == several and plain.is_plan(text, alone.out)
+    return well, b"a plan", [text, several.out], alone
 
 
 def try_switch(draw):
@@ -313,6 +323,7 @@ def try_scripts(draw):
 
 KINDS = {
     "batches to plan": try_plan,
+    "patterns to plan": try_pattern,
     "batches to switch": try_switch,
     "batches to run": try_run,
     "images to apply a batch to": try_apply,
@@ -351,7 +362,8 @@ def try_some(share):
 
 def main():
     count = int(sys.argv[1]) if len(sys.argv) > 1 else 10000
-    counts = {kind: count // 20 if try_it is try_scripts else count for kind, try_it in KINDS.items()}
+    parts = {try_pattern: 4, try_scripts: 20}
+    counts = {kind: count // parts.get(try_it, 1) for kind, try_it in KINDS.items()}
     shares = [(kind, range(at, min(at + 250, most))) for kind, most in counts.items() for at in range(0, most, 250)]
     classes, wrong = {kind: Counter() for kind in KINDS}, []
     with multiprocessing.Pool(len(os.sched_getaffinity(0))) as pool:
