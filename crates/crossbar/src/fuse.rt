@@ -9,7 +9,7 @@ use crate::chips::Chips;
 use crate::port::{ConfigPort, PortFault};
 use crate::switch::Crossbar;
 use c004_commands::CommandReader;
-use failure_count::FailureCount;
+use contract_data::FailureCount;
 use std::marker::Model;
 
 /// An honest port to a switch in memory for each chip, which takes so many bytes over all its calls, to whichever

@@ -4,8 +4,8 @@ ghost use Rattle.std.specs.Prelude.{◌≡◌, []};
 ghost use Rattle.link_bytes.specs.Reading.{begun};
 ghost use Rattle.peek_poke.specs.Bringing.{Brings, ReadsPacket};
 
+use contract_data::PassedBytes;
 use link_bytes::{BitReader, Packet, laws};
-use passed_bytes::PassedBytes;
 use std::marker::Model;
 
 /// A line with a reader at its other end. Contracts see what has come of the next packet, and the bytes of

@@ -1,9 +1,11 @@
-//! A module for each crate that is tested here, and how values are printed.
+//! A module for each crate that is tested here, how values are printed, and racks that the tests share.
 
 mod c004_commands_rows;
+mod contract_data_rows;
 mod crossbar_rows;
-mod failure_count_rows;
 mod link_bytes_rows;
-mod passed_bytes_rows;
+mod module_memory_rows;
+mod peek_poke_rows;
 mod prints;
 mod progress_word_rows;
+mod racks;

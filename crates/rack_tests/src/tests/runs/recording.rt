@@ -2,9 +2,9 @@
 
 use super::running::{Block, Seen, run_with};
 use crate::tests::common::with_port;
+use contract_data::FailureCount;
 use crossbar::{Chip, ConfigPort, MemoryPort, PortFault};
 use exchange_limits::WorkerCount;
-use failure_count::FailureCount;
 use std::thread::Threads;
 
 /// How many bytes a record keeps.

@@ -2,7 +2,7 @@
 
 use super::running::{Block, block_of, run_with, stopped, stops_at_fuse};
 use crate::tests::common::{TWO_PUSHES, with_wires};
-use failure_count::FailureCount;
+use contract_data::FailureCount;
 use peek_poke::{PlainWire, Wire, WireFault, WireMaker};
 use setting_runner::StopCause;
 use std::sync::atomic::{AtomicUsize, Ordering};
