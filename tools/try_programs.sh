@@ -1,9 +1,8 @@
 #!/usr/bin/env bash
-# Tries the built programs: the start script, the rows of each command, what the documents show, live clients, the calls for programs in C, the instructions that planning and runs take, and hostile use.
-# `tools/test.py` runs these lines in a copy in which they are built; those that aren't built yet are proved and built first.
+# Tries the built programs: the start script, the rows of each command, what the documents show, live clients, the calls for programs in C,
+# the instructions that planning, runs and sessions take, and hostile use. What isn't built yet is proved and built first.
 set -eu
 cd "$(dirname "$(readlink -f "${BASH_SOURCE[0]}")")/.."
-tools/try_edits_check.py
 tools/start/run.sh
 tools/rows/run.py
 tools/texts/run.py

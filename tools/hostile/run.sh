@@ -6,7 +6,7 @@
 #   texts     COUNT spoilt texts of each kind, 10000 where it isn't said, judged by a second implementation as well
 #   clients   COUNT / 50 rounds of sixteen clients at once, whose history the second implementation replays
 #
-# Programs that aren't built yet, or are older than their sources, are proved and built first. `tools/test.py` runs this where they are built.
+# Programs that aren't built yet, or are older than their sources, are proved and built first.
 set -euo pipefail
 unset CDPATH
 here=$(cd "$(dirname "${BASH_SOURCE[0]}")" && pwd)
