@@ -14,7 +14,8 @@ pub trait WordStore {
     ghost write_gives: { Self → ℕ → ℕ → Result Self StoreFault };
 
     /// The word at an address; or `Misaligned` where that is no multiple of four, else `Outside` where
-    /// the store doesn't have it.
+    /// the store doesn't have it. A store of a held block answers `Outside` to every address that it
+    /// doesn't have.
     fn read_word(&self, address: u32) -> Result<u32, StoreFault>
         ensures { result ≡ read_gives self.now address };
 

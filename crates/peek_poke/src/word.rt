@@ -12,6 +12,7 @@ use crate::store::WordStore;
 use crate::wire::Wire;
 
 /// Sends less than a whole message.
+#[inline(always)]
 fn send_front<W: Wire>(wire: &mut W, answerer: &mut Answerer, bytes: &[u8]) -> Result<(), WireFault>
     requires rest { IsAtRest answerer.old }
     requires partial { IsPartial bytes.now }
@@ -38,6 +39,7 @@ fn send_front<W: Wire>(wire: &mut W, answerer: &mut Answerer, bytes: &[u8]) -> R
 }
 
 /// Carries the bytes of a word back.
+#[inline(always)]
 fn carry_back<W: Wire>(
     wire: &mut W,
     bytes: [u8; REPLY_BYTES],
@@ -64,6 +66,7 @@ fn carry_back<W: Wire>(
 /// The answering end has to be at rest, and the store has to take the write. Nine bytes go over the
 /// wire, and the answering end takes them. Where the wire breaks, nothing is written; a new answering end has
 /// to be made then.
+#[inline(always)]
 pub fn push_word<W: Wire, S: WordStore>(
     wire: &mut W,
     answerer: &mut Answerer,
@@ -101,6 +104,7 @@ pub fn push_word<W: Wire, S: WordStore>(
 ///
 /// The answering end has to be at rest, and the store has to have the address. The store stays as it is.
 /// Five bytes go forward and four come back. Where the wire breaks, a new answering end has to be made.
+#[inline(always)]
 pub fn pull_word<W: Wire, S: WordStore>(
     wire: &mut W,
     answerer: &mut Answerer,
