@@ -1,5 +1,5 @@
 -- Numbers and words in hexadecimal digits.
-use Rattle.std.proofs.Common.{◌≡◌, ℕ, zero, suc, ◌+◌, ◌*◌, ◌/◌, ◌%◌, ◌<◌, ◌≤◌, ◌^◌, List, [], ◌∷◌, ◌++◌, length, take, drop, map, get_or, codes, refl, sym, ap, ◌∙◌, subst, arith, inl, inr, Option, Some, None, IfNone}
+use Rattle.std.proofs.Common.{◌≡◌, ℕ, zero, suc, ◌+◌, ◌*◌, ◌/◌, ◌%◌, ◌<◌, ◌≤◌, ◌^◌, List, [], ◌∷◌, ◌++◌, length, take, drop, set, map, get_or, codes, refl, sym, ap, ◌∙◌, subst, arith, inl, inr, Option, Some, None, IfNone, append_assoc}
 use Rattle.std.specs.Fmt.{decimal}
 use Rattle.std.specs.Int.Digits.{digits_of}
 use Rattle.std.proofs.Math.Nat.{pow-suc}
@@ -7,7 +7,7 @@ use Rattle.std.proofs.Math.Seq.{drop-append-add}
 use Rattle.std.proofs.lemmas.Bool.{cases_lt, lt-ltb, le-ltb}
 use Rattle.std.proofs.lemmas.Fmt.{decimal-digits_of, length-decimal-le}
 use Rattle.std.proofs.lemmas.Int.Digits.{digits_of_step}
-use Rattle.std.proofs.lemmas.List.{map-append, length-append, get_or_append_left, get_or_at, take_at, append_cancel_left, same_from_push}
+use Rattle.std.proofs.lemmas.List.{drop-set, map-append, length-append, get_or_append_left, get_or_at, take_at, append_cancel_left, same_from_push}
 use Rattle.batch.specs.Text.{IsNumber, IsDigit, number, space}
 use Rattle.batch.proofs.Lines.{one_number}
 use Rattle.line_words.specs.HexWords.{IsWord, hex_digit, hex_digits, hex8}
@@ -41,6 +41,15 @@ pub length-hex8 : (w : ℕ) → length (hex8 w) ≡ 8
 unfolding hex8
 length-hex8 w = length-hex_digits 8 w
 
+one_more : (n : ℕ) → n + 1 ≡ suc n
+one_more n = omega arith
+
+-- a digit more stands in front of those that were written
+pub digit_in_front : (n w : ℕ) (ds : List ℕ) → n < length ds → hex_digits n (w / 16) ++ drop n (set ds n (hex_digit (w % 16))) ≡ hex_digits (n + 1) w ++ drop (n + 1) ds
+digit_in_front n w ds less =
+    ap (λ l. hex_digits n (w / 16) ++ l) (drop-set ds n (hex_digit (w % 16)) less) ∙ sym (append_assoc (hex_digits n (w / 16)) (hex_digit (w % 16) ∷ []) (drop (n + 1) ds))
+    ∙ ap (λ k. hex_digits k w ++ drop (n + 1) ds) (sym (one_more n))
+
 digit_low : (d : ℕ) → d < 10 → hex_digit d ≡ 48 + d
 digit_low d low = rw (lt-ltb d 10 low) refl
 
@@ -56,9 +65,6 @@ hex_at (suc n) w i less =
       | inl before ↦ let h = hex_at n (w / 16) i before in (h.0, h.1, get_or_append_left (hex_digits n (w / 16)) _ 0 i (omega (arith, long)) ∙ h.2)
       | inr last ↦ (w % 16, omega arith, get_or_at (hex_digits n (w / 16)) (hex_digit (w % 16)) [] 0 i (omega (arith, long)))
     ]
-
-one_more : (n : ℕ) → n + 1 ≡ suc n
-one_more n = omega arith
 
 pub hex_more : (n v d : ℕ) → d < 16 → hex_digits (n + 1) (v * 16 + d) ≡ hex_digits n v ++ hex_digit d ∷ []
 hex_more n v d less =

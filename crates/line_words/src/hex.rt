@@ -1,20 +1,42 @@
 //! Hexadecimal digits, in lower case.
 
 ghost use Rattle.std.specs.Prelude.{◌≡◌, ◌≢◌, ℕ, ◌<◌, IfSome, IfNone};
-ghost use Rattle.line_words.specs.HexWords.{IsWord, hex_digit, hex8};
+ghost use Rattle.line_words.specs.HexWords.{IsWord, hex_digit, hex2, hex8};
 
 use crate::limits::HEX_DIGITS;
 
+/// The digits, each at the place of its value.
+static DIGITS: [u8; 16] = *b"0123456789abcdef";
+
 /// The digit of a value.
-pub(crate) fn digit_of(value: u32) -> u8
+fn digit_of(value: u32) -> u8
     requires { value < 16 }
     ensures { result ≡ hex_digit value }
 {
-    if value < 10 {
-        b'0' + value as u8
-    } else {
-        b'a' + (value - 10) as u8
+    DIGITS[value as usize]
+}
+
+/// The two digits of a byte.
+#[inline]
+pub fn hex2_of(byte: u8) -> [u8; 2]
+    ensures { result ≡ hex2 byte }
+{
+    let value = u32::from(byte);
+    [digit_of(value / 16), digit_of(value % 16)]
+}
+
+/// The eight digits of a word.
+#[inline]
+pub fn hex8_of(word: u32) -> [u8; HEX_DIGITS]
+    ensures { result ≡ hex8 word }
+{
+    let mut digits = [0; HEX_DIGITS];
+    let mut front = word;
+    for behind in 0..HEX_DIGITS {
+        digits[HEX_DIGITS - 1 - behind] = digit_of(front % 16);
+        front /= 16;
     }
+    digits
 }
 
 /// The value of a digit.

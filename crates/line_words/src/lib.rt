@@ -12,7 +12,7 @@ mod limits;
 mod line;
 mod reading;
 
-pub use hex::word_from_hex8;
+pub use hex::{hex2_of, hex8_of, word_from_hex8};
 pub use limits::{HEX_DIGITS, LINE_ROOM, NUMBER_ROOM};
 pub use line::Line;
 pub use reading::{behind, hex8_and_rest, number_and_rest};

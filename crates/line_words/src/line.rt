@@ -2,9 +2,9 @@
 
 ghost use Rattle.std.specs.Prelude.{◌≡◌, ◌≤◌, ◌<◌, ◌+◌, ◌++◌, ◌∷◌, [], length};
 ghost use Rattle.std.specs.Fmt.{decimal};
-ghost use Rattle.line_words.specs.HexWords.{hex_digits, hex8};
+ghost use Rattle.line_words.specs.HexWords.{hex8};
 
-use crate::hex::digit_of;
+use crate::hex::hex8_of;
 use crate::limits::{HEX_DIGITS, LINE_ROOM, NUMBER_ROOM};
 use std::marker::Model;
 
@@ -100,18 +100,6 @@ impl Line {
         ensures text { self.new ≡ self.old ++ hex8 word }
         ensures room { length self.new ≡ length self.old + HEX_DIGITS }
     {
-        self.put_hex_digits(HEX_DIGITS, word);
-    }
-
-    /// Puts the last hexadecimal digits of a word behind the others, so many.
-    fn put_hex_digits(&mut self, count: usize, word: u32)
-        requires { length self.old + count ≤ LINE_ROOM }
-        ensures text { self.new ≡ self.old ++ hex_digits count word }
-        ensures room { length self.new ≡ length self.old + count }
-    {
-        if count > 0 {
-            self.put_hex_digits(count - 1, word / 16);
-            self.push(digit_of(word % 16));
-        }
+        self.put(&hex8_of(word));
     }
 }
