@@ -15,13 +15,24 @@ use crate::check_fault::CheckFault;
 use crate::checking;
 use crate::schedule::Schedule;
 use batch::Batch;
-use std::alloc::Global;
+use std::alloc::{AllocError, Global};
 
 /// The schedule of a batch is shortest.
 #[derive(Clone, Copy, Debug, PartialEq, Eq)]
 pub struct Shortest {
     /// How many settings it has: no schedule of the batch has fewer.
     pub settings: usize,
+}
+
+/// So many marks, none of them set. No memory is asked for where that is none.
+fn unmarked(alloc: Global, count: usize) -> Result<Vec<bool>, AllocError>
+    ensures marks { IfOk result (λ marks. marks.items ≡ replicate count false) }
+    ensures memory { IfErr result (λ _. 0 < count) }
+{
+    if count == 0 {
+        return Ok(Vec::new(alloc));
+    }
+    vec![in alloc; false; count]
 }
 
 /// Whether the lists, whose numbers are all those of transfers, are a schedule of the batch. The
@@ -75,9 +86,9 @@ fn check_certificate(
 /// Whether this is a schedule of the batch, and the certificate shows that none is shorter.
 ///
 /// Answers what is first wrong, in the order in which [`CheckFault`] lists the faults. Memory is
-/// asked for once, one mark for each transfer, and not before all numbers are known. Takes time
-/// that grows with the numbers of transfers, of settings and of all that stands in the settings and
-/// in the certificate.
+/// asked for once, one mark for each transfer, and not before all numbers are known; an empty batch
+/// needs none. Takes time that grows with the numbers of transfers, of settings and of all that
+/// stands in the settings and in the certificate.
 pub fn check_schedule(
     alloc: Global,
     batch: &Batch,
@@ -91,14 +102,15 @@ pub fn check_schedule(
     ensures fault { IfErr result (IsFirstUnlessMemory batch.now schedule.now certificate.now) }
     ensures accepted { IsCertified batch.now schedule.now certificate.now →
         IfErr result IsWantOfMemory }
-    ensures memory { IfErr result (λ fault. fault ≡ NoMemory → AreKnown batch.now schedule.now) }
+    ensures memory { IfErr result (λ fault. fault ≡ NoMemory
+        → AreKnown batch.now schedule.now × (0 < length batch.now)) }
 {
     let count = batch.len();
     let lists = schedule.lists();
     if let Some(t) = checking::first_unknown(lists, count) {
         return Err(CheckFault::Unknown(t));
     }
-    let mut marks = vec![in alloc; false; count]?;
+    let mut marks = unmarked(alloc, count)?;
     check_settings(batch, lists, &mut marks)?;
     check_certificate(batch, lists.len(), certificate, &mut marks)
 }
