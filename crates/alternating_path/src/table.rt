@@ -287,8 +287,9 @@ impl<'a> Table<'a> {
         ensures taken { IfOk result (λ taken. IsTakenBack self.entry taken.0 taken.1.items) }
         ensures proper { IfOk result (λ taken. IsProperTable taken.0) }
     {
-        let colour = self.smallest_class();
-        let class = class_of(*self.cells.allocator(), self.starts(colour))?;
+        let modules = starting_modules(self.graph);
+        let colour = self.smallest_class(modules);
+        let class = class_of(*self.cells.allocator(), self.starts(colour, modules))?;
         let Table {
             graph,
             colours,
@@ -305,15 +306,18 @@ impl<'a> Table<'a> {
         Ok((table, class))
     }
 
-    /// The least of the colours whose classes are smallest.
-    fn smallest_class(&self) -> usize
-        requires { 0 < self.now.colours }
+    /// The least of the colours whose classes are smallest, where all transfers start at the first so
+    /// many modules.
+    fn smallest_class(&self, modules: usize) -> usize
+        requires some { 0 < self.now.colours }
+        requires few { modules ≤ MAX_MODULES }
+        requires all { StartBelow self.now.batch modules }
         ensures { IsSmallestClass self.now result }
     {
         let mut smallest = 0;
-        let mut least = class_size(self.starts(0));
+        let mut least = class_size(self.starts(0, modules));
         for colour in 1..self.colours {
-            let size = class_size(self.starts(colour));
+            let size = class_size(self.starts(colour, modules));
             if size < least {
                 smallest = colour;
                 least = size;
@@ -322,17 +326,9 @@ impl<'a> Table<'a> {
         smallest
     }
 
-    /// The transfers of a colour, each at the module whose link 0 it uses.
-    fn starts(&self, colour: usize) -> &[Option<u16>]
-        requires { colour < self.now.colours }
-        ensures { AreStarts self.now colour result.now }
-    {
-        prove!(self.graph.len() <= MAX_TRANSFERS);
-        self.starts_below(colour, MAX_MODULES)
-    }
-
-    /// The same, where all transfers start at the first so many modules.
-    fn starts_below(&self, colour: usize, modules: usize) -> &[Option<u16>]
+    /// The transfers of a colour, each at the module whose link 0 it uses, where all transfers start at
+    /// the first so many modules.
+    fn starts(&self, colour: usize, modules: usize) -> &[Option<u16>]
         requires in_range { colour < self.now.colours }
         requires few { modules ≤ MAX_MODULES }
         requires all { StartBelow self.now.batch modules }
@@ -369,7 +365,7 @@ impl<'a> Table<'a> {
         let mut list = vec![in alloc; None; count]?;
         let modules = starting_modules(self.graph);
         for colour in 0..self.colours {
-            note_class(&mut list, self.starts_below(colour, modules), colour);
+            note_class(&mut list, self.starts(colour, modules), colour);
         }
         Ok(list)
     }

@@ -5,7 +5,7 @@ use Rattle.alternating_path.proofs.table.Table.smallest_class.Goals as goal
 use Rattle.alternating_path.proofs.table.Table.smallest_class.Goals.{then-size-least, else-size-least}
 
 pub loop-colour-init : goal.loop-colour-init
-loop-colour-init c = record { so_far = least_first _ c.requires; size_is = c.class_size-least.ensures ∙ row_counts _ _ _ c.starts.ensures }
+loop-colour-init c = record { so_far = least_first _ c.requires.some; size_is = c.class_size-least.ensures ∙ row_counts _ _ _ c.starts.ensures }
 
 pub loop-colour-preserved : goal.loop-colour-preserved
 loop-colour-preserved c =

@@ -1,9 +1,12 @@
+use Rattle.std.proofs.Common.{◌≡◌, ◌+◌, ◌-◌, ◌*◌, arith}
+use Rattle.link_graph.specs.declared.limits.TheConstants.{LINKS}
 use Rattle.alternating_path.specs.Cells.{StartBelow}
-use Rattle.batch.specs.declared.limits.TheConstants.{MAX_MODULES}
-use Rattle.alternating_path.proofs.Links.{start_low}
+use Rattle.alternating_path.proofs.Smallest.{starts_are}
 use Rattle.alternating_path.proofs.table.Table.starts.Goals as goal
 
-pub starts_below-requires-clause-all : goal.starts_below-requires-clause-all
-starts_below-requires-clause-all c =
-    let all : StartBelow c.self.inside.graph.now MAX_MODULES = λ t _. start_low c.self.inside.graph.now t c.self.invariant.is_batch in
-    rw (← c.self.view_is) all
+pub returns : goal.returns
+returns c =
+    let s = c.self.inside in
+    let width : c.args.colour * LINKS + c.args.modules - c.args.colour * LINKS ≡ c.args.modules = omega arith in
+    let all : StartBelow s.graph.now c.args.modules = rw (← c.self.view_is) at c.requires.all in
+    rw (width, c.as_slice-cells.ensures.value, ← c.self.view_is) (starts_are _ s.cells.items c.args.colour c.self.invariant c.args.modules c.requires.few all)

@@ -5,6 +5,12 @@ use Rattle.alternating_path.proofs.Smallest.{taken_back}
 use Rattle.alternating_path.proofs.Shown.{cells_proper}
 use Rattle.alternating_path.proofs.table.Table.take_back.Goals as goal
 
+pub smallest_class-colour-requires-clause-all : goal.smallest_class-colour-requires-clause-all
+smallest_class-colour-requires-clause-all c = rw (← c.self.view_is) c.starting_modules-modules.ensures.all
+
+pub starts-requires-clause-all : goal.starts-requires-clause-all
+starts-requires-clause-all c = rw (← c.self.view_is) c.starting_modules-modules.ensures.all
+
 pub invariant_of-table : goal.invariant_of-table
 invariant_of-table c =
     let s = c.self.inside in
