@@ -11,6 +11,9 @@ from dataclasses import dataclass, replace
 from plain import BLOCKS, MODULES, NUMBER, TRANSFERS, WORDS, Refused, read_shape
 
 QUOTED = 60
+ESCAPES = {ord('"'): '\\"', ord("\\"): "\\\\", ord("\t"): "\\t", ord("\r"): "\\r"}
+# Characters beyond ASCII that are escaped in a name: they control a terminal, have no width, turn the direction of a text or break its lines.
+OBEYED = {*range(0x80, 0xA0), 0x61C, *range(0x200B, 0x2010), *range(0x2028, 0x202F), *range(0x2060, 0x2070), 0xFEFF}
 WANTED = {
     "batch head": b'"batch N"',
     "transfer": b'"push I b R c" or "pull I b R c"',
@@ -51,11 +54,20 @@ class Asked:
     enough: int = None
 
 
+def escaped(code):
+    """A byte by its code, or a character of ASCII, in characters that are printable."""
+    return ESCAPES.get(code, chr(code) if 32 <= code < 127 else "\\x%02x" % code)
+
+
 def quoted(line):
     """A line between quotation marks, cut, in bytes that are printable."""
-    escapes = {34: b'\\"', 92: b"\\\\", 9: b"\\t", 13: b"\\r"}
-    shown = b"".join(escapes.get(b, bytes([b]) if 32 <= b < 127 else b"\\x%02x" % b) for b in line[:QUOTED])
-    return b'"' + shown + b'"' + (b".." if len(line) > QUOTED else b"")
+    return ('"' + "".join(map(escaped, line[:QUOTED])) + '"' + (".." if len(line) > QUOTED else "")).encode()
+
+
+def shown(name):
+    """A file's name as it is told. What a terminal wouldn't show but obey is escaped."""
+    told = [escaped(ord(c)) if c.isascii() else "\\u{%x}" % ord(c) if ord(c) in OBEYED else c for c in name]
+    return "".join(told).encode()
 
 
 def line_of(text, number):
@@ -232,7 +244,11 @@ def of_repeated(asked, t):
     lines = asked.other[1].split(b"\n")
     settings = [n - 2 for n, line in enumerate(lines, 1) if line.startswith(b"setting ") for word in line.split(b" ") if word == b"%d" % t]
     first, second = settings[:2]
-    where = b"twice in setting %d" % first if first == second else b"in settings %d and %d" % (first, second)
+    where = b"in setting %d" % first if first == second else b"in settings %d and %d" % (first, second)
+    if len(settings) > 2:
+        where = b"%d times, the first two " % len(settings) + where
+    elif first == second:
+        where = b"twice " + where
     return of_transfer(asked, t, b"stands " + where, second + 2)
 
 

@@ -10,6 +10,11 @@ from plain import MODULES
 EDGES = [0, 1, 2, 3, 9, 10, 15, 16, 17, 31, 32, 33, 63, 64, 65, 255, 256, 257, 4095, 4096, 4097, 999999999, 1000000000, 2**32, 2**64]
 ODD = [b"", b"01", b"00", b"+1", b"-1", b"1.0", b"0x1", b"x", b" ", b"9" * 40]
 BYTES = b"0123456789 \n\r\t\x00\xff-+xabefghiklmnprstuPUSH"
+# Characters of names: those that are escaped at both ends of each range, and their neighbours.
+MARKS = (
+    "\x01\t\n\r\x1b\x1f !\"'\\~\x7f\x80\x9f\xa0ü\u061b\u061c\u061d\u200a\u200b\u200f\u2010\u2027\u2028\u202e\u202f\u205f\u2060\u206f\u2070"
+    "\ufefe\ufeff\uff00\U0001f600"
+)
 
 
 def batch(draw, shape, most):
@@ -122,7 +127,9 @@ def bend(draw, settings, certificate, count):
     if what == 0 and full:
         draw.choice(full).pop()
     elif what == 1 and full:
-        draw.choice(settings).append(draw.choice(draw.choice(full)))
+        t = draw.choice(draw.choice(full))
+        for _ in range(draw.randint(1, 3)):
+            draw.choice(settings).append(t)
     elif what == 2 and settings:
         draw.choice(settings).insert(0, count + draw.randrange(3))
     elif what == 3 and full:
@@ -238,6 +245,14 @@ def own_script(draw, shape, module, has_batches):
             lines.append(memory_line(draw, shape, [module]))
     end = draw.choice(["", "bye\n", "bye\npeek 0", "peek", "a" * 81, "batch 2\npush 0 0 0 0\n"] if has_batches else ["", "bye\n", "peek", "b" * 99])
     return "".join([*lines, end]).encode()
+
+
+def name(draw, text):
+    """The name of a file with a few characters more."""
+    for _ in range(draw.randint(1, 3)):
+        at = draw.randint(0, len(text))
+        text = text[:at] + draw.choice(MARKS) + text[at:]
+    return text
 
 
 def lose(draw, text):

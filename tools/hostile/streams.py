@@ -12,6 +12,7 @@ import threading
 import notes
 import picture
 import plain
+import spoil
 import switching
 from program import EXCHANGE, Ended, ask, end, start
 
@@ -51,7 +52,7 @@ def refused_batch(name, text, refusal):
 
 def refused_file(name, reason):
     """The refusal of a file that can't be read for a reason of the system."""
-    return Ended(b"refused file\n", f"exchange: {name}: {reason}\n".encode(), 1)
+    return Ended(b"refused file\n", b"exchange: %s: %s\n" % (notes.shown(name), reason.encode()), 1)
 
 
 def reason_of(name):
@@ -82,7 +83,7 @@ def files(room):
     os.symlink("round", "round")
     yield from [("a folder", "folder"), ("a folder, by a dot", "."), ("nothing", "missing"), ("a link to nothing", "dangling")]
     yield from [("a link to itself", "round"), ("a file as a folder", "three/x"), ("no name", ""), ("a long name", "x" * 5000)]
-    yield from [("a memory that can't be read", "/proc/self/mem"), ("a long path", "x/" * 3000)]
+    yield from [("a memory that can't be read", "/proc/self/mem"), ("a long path", "x/" * 3000), ("odd characters", spoil.MARKS)]
 
 
 def unreadable_files(room):

@@ -5,7 +5,7 @@
 
 Text number n of a kind is the same each time. A plan isn't the only one of its batch, so `plan` is judged by what a plan is, and `switch`
 by the plan that `plan` gives; all other answers are compared byte by byte. Of a pattern several workers have to give the plan of one, byte by
-byte. In a quarter of the runs one of the files is standard input.
+byte. In a quarter of the runs one of the files is standard input, and a tenth of the files have odd names.
 The line on standard error beside a refusal is compared byte by byte too, with what notes.py tells. What it says is then taken away from the
 texts: they have to be refused otherwise, or told of otherwise. In a tenth of the runs `--quiet` leaves that line out.
 """
@@ -13,6 +13,7 @@ texts: they have to be refused otherwise, or told of otherwise. In a tenth of th
 import multiprocessing
 import os
 import random
+import shutil
 import sys
 import tempfile
 from collections import Counter, namedtuple
@@ -34,25 +35,34 @@ def keep(name, text):
     return name
 
 
-# What came of a run: as `Ended`, with the file that was standard input, and whether nothing was to be told beside a refusal.
-Answer = namedtuple("Answer", "out err status given is_quiet")
+# What came of a run: as `Ended`, with the file that was standard input, whether nothing was to be told beside a refusal, and the names that
+# the files were given.
+Answer = namedtuple("Answer", "out err status given is_quiet names")
 
 
 def ask_of(draw, words, files):
-    """Runs the program with these words and then these files, one of which may be standard input, and with some number of workers, if it
-    is a command that has them."""
+    """Runs the program with these words and then these files, one of which may be standard input, and some of which have an odd name; and
+    with some number of workers, if it is a command that has them."""
     workers = [] if words[0] in ("check", "draw", "direct") else workers_of(draw)
     given = draw.choice([it for it in files if it != "--image"]) if draw.random() < 0.25 else os.devnull
     quiet = ["--quiet"] if draw.random() < 0.1 else []
-    ended = ask(*words, *("-" if file == given else file for file in files), *workers, *quiet, given=given)
-    return Answer(*ended, given, bool(quiet))
+    names = {file: odd_name(draw, file) if draw.random() < 0.1 else file for file in files if file != "--image"}
+    ended = ask(*words, *("-" if file == given else names.get(file, file) for file in files), *workers, *quiet, given=given)
+    return Answer(*ended, given, bool(quiet), names)
+
+
+def odd_name(draw, file):
+    """Another name by which the file can be read, with characters that are mostly escaped where they are told."""
+    name = spoil.name(draw, file)
+    shutil.copyfile(file, name)
+    return name
 
 
 def named(answer, file, text):
     """A text and the name that is told of its file; no name where there is no text."""
     if text is None:
         return b"", b""
-    return (b"standard input" if file == answer.given else file.encode()), text
+    return (b"standard input" if file == answer.given else notes.shown(answer.names[file])), text
 
 
 def is_well_told(answer, asked, line, answer_to):

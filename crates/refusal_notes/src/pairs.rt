@@ -81,21 +81,23 @@ pub(crate) fn written(line: &[u8]) -> Option<(usize, usize)>
     Some((module, block))
 }
 
-/// Whether the line is that of a setting which holds this transfer.
-fn holds(line: &[u8], t: usize) -> bool {
-    is_listed(Listing::Settings, line)
-        && line
-            .split(|b| *b == b' ')
-            .any(|word| number_from_digits(word) == Some(t))
+/// How often a line holds this transfer, where it is that of a setting.
+fn times_in(line: &[u8], t: usize) -> usize {
+    if !is_listed(Listing::Settings, line) {
+        return 0;
+    }
+    line.split(|b| *b == b' ')
+        .filter(|word| number_from_digits(word) == Some(t))
+        .count()
 }
 
-/// Whether the line is that of a setting which holds this transfer more than once.
-fn repeats(line: &[u8], t: usize) -> bool {
-    let held = line
-        .split(|b| *b == b' ')
-        .filter(|word| number_from_digits(word) == Some(t))
-        .count();
-    is_listed(Listing::Settings, line) && held > 1
+/// How often the settings of a schedule hold this transfer.
+pub(crate) fn times_held(schedule: &[u8], t: usize) -> usize {
+    let mut times: usize = 0;
+    for line in schedule.split(|b| *b == b'\n') {
+        times = times.saturating_add(times_in(line, t));
+    }
+    times
 }
 
 /// The number of the first setting's line that holds this transfer, counted from 1, behind so many lines.
@@ -103,7 +105,7 @@ fn setting_behind(schedule: &[u8], above: usize, t: usize) -> Option<usize> {
     let at = schedule
         .split(|b| *b == b'\n')
         .skip(above)
-        .position(|line| holds(line, t))?;
+        .position(|line| times_in(line, t) > 0)?;
     above.checked_add(at)?.checked_add(1)
 }
 
@@ -116,7 +118,7 @@ pub(crate) fn setting_with(schedule: &[u8], t: usize) -> Option<usize> {
 /// twice where one line holds it twice.
 pub(crate) fn settings_with(schedule: &[u8], t: usize) -> Option<(usize, usize)> {
     let first = setting_behind(schedule, 0, t)?;
-    if repeats(line_at(schedule, first), t) {
+    if times_in(line_at(schedule, first), t) > 1 {
         return Some((first, first));
     }
     let second = setting_behind(schedule, first, t)?;

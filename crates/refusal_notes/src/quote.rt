@@ -46,12 +46,27 @@ impl<'a> fmt::Display for Quote<'a> {
 
 /// A byte as it is shown: as it is where it is printable.
 fn write_byte<W: fmt::Write>(f: &mut fmt::Formatter<W>, byte: u8) -> fmt::Result {
-    match byte {
-        b'"' => f.write_str("\\\""),
-        b'\\' => f.write_str("\\\\"),
-        b'\t' => f.write_str("\\t"),
-        b'\r' => f.write_str("\\r"),
-        b' '..=b'~' => f.write_char(char::from(byte)),
-        _ => write!(f, "\\x{byte:02x}"),
+    if byte.is_ascii() {
+        return write_shown(f, char::from(byte));
+    }
+    write!(f, "\\x{byte:02x}")
+}
+
+/// A character as it is shown: escaped where a terminal wouldn't show it, but obey it. Beyond ASCII these are control
+/// characters, those of no width, those that turn the direction of a text, and those that break its lines.
+pub(crate) fn write_shown<W: fmt::Write>(f: &mut fmt::Formatter<W>, c: char) -> fmt::Result {
+    match c {
+        '"' => f.write_str("\\\""),
+        '\\' => f.write_str("\\\\"),
+        '\t' => f.write_str("\\t"),
+        '\r' => f.write_str("\\r"),
+        '\0'..='\x1f' | '\x7f' => write!(f, "\\x{:02x}", u32::from(c)),
+        '\u{80}'..='\u{9f}'
+        | '\u{61c}'
+        | '\u{200b}'..='\u{200f}'
+        | '\u{2028}'..='\u{202e}'
+        | '\u{2060}'..='\u{206f}'
+        | '\u{feff}' => write!(f, "\\u{{{:x}}}", u32::from(c)),
+        _ => f.write_char(c),
     }
 }

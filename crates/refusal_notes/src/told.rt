@@ -9,8 +9,8 @@ use crate::cause::Limit;
 use crate::lines::{announced, line_at};
 use crate::listed::{Listing, is_listed, listed};
 use crate::note::LineNote;
-use crate::pairs::{clashing, setting_with, settings_with, written};
-use crate::quote::Quote;
+use crate::pairs::{clashing, setting_with, settings_with, times_held, written};
+use crate::quote::{Quote, write_shown};
 use crate::refusal::Refusal;
 use crate::validity::Validity;
 use crate::wanted::Wanted;
@@ -177,18 +177,14 @@ impl<'a> Note<'a> {
     }
 }
 
-/// The name, with characters that aren't printable escaped.
+/// The name, escaped as what is quoted is, but with the characters beyond ASCII that can be seen.
 impl<'a> fmt::Display for Named<'a> {
     fn fmt<W: fmt::Write>(&self, f: &mut fmt::Formatter<W>) -> fmt::Result {
         if self.name == "-" {
             return f.write_str("standard input");
         }
         for c in self.name.chars() {
-            if c.is_control() {
-                f.write_char('?')?;
-            } else {
-                f.write_char(c)?;
-            }
+            write_shown(f, c)?;
         }
         Ok(())
     }
@@ -386,30 +382,36 @@ fn write_clash<W: fmt::Write>(
     }
 }
 
-/// Writes in which settings a transfer stands twice.
+/// Writes in which settings a transfer stands that stands more than once.
 fn write_repeated<W: fmt::Write>(
     f: &mut fmt::Formatter<W>,
     texts: Texts<'_>,
     t: usize,
 ) -> fmt::Result {
-    let lines = settings_with(texts.other.text, t);
+    let schedule = texts.other.text;
+    let lines = settings_with(schedule, t);
     write!(f, "{}:", texts.other)?;
     if let Some((_, number)) = lines {
         write!(f, "{number}:")?;
     }
     write!(f, " transfer {t} stands ")?;
-    write_settings(f, lines)?;
+    write_settings(f, times_held(schedule, t), lines)?;
     write!(f, " (line {} of {})", t.saturating_add(2), texts.list)
 }
 
-/// Writes the settings of these two lines of a schedule.
+/// Writes how often a transfer stands, and in the settings of which two lines of a schedule it does first.
 fn write_settings<W: fmt::Write>(
     f: &mut fmt::Formatter<W>,
+    times: usize,
     lines: Option<(usize, usize)>,
 ) -> fmt::Result {
+    if times > 2 {
+        write!(f, "{times} times, the first two ")?;
+    }
     match lines {
         Some((first, second)) if first == second => {
-            write!(f, "twice in setting {}", first.saturating_sub(2))
+            let twice = if times > 2 { "" } else { "twice " };
+            write!(f, "{twice}in setting {}", first.saturating_sub(2))
         }
         Some((first, second)) => {
             let (first, second) = (first.saturating_sub(2), second.saturating_sub(2));
