@@ -9,7 +9,7 @@ from plain import MODULES
 
 EDGES = [0, 1, 2, 3, 9, 10, 15, 16, 17, 31, 32, 33, 63, 64, 65, 255, 256, 257, 4095, 4096, 4097, 999999999, 1000000000, 2**32, 2**64]
 ODD = [b"", b"01", b"00", b"+1", b"-1", b"1.0", b"0x1", b"x", b" ", b"9" * 40]
-BYTES = b"0123456789 \n\r\t\x00\xff-+xabefghiklmnprstuPUSH"
+BYTES = b"0123456789 \n\r\t\x00\xff-+xabefghiklmnprstuPUSH\\\"~\x1b\x1f\x7f\x80\xc3\xe2"
 # Characters of names: those that are escaped at both ends of each range, and their neighbours.
 MARKS = (
     "\x01\t\n\r\x1b\x1f !\"'\\~\x7f\x80\x9f\xa0ü\u061b\u061c\u061d\u200a\u200b\u200f\u2010\u2027\u2028\u202e\u202f\u205f\u2060\u206f\u2070"
@@ -123,7 +123,7 @@ def bend(draw, settings, certificate, count):
     link, named = certificate
     named = list(named)
     full = [setting for setting in settings if setting]
-    what = draw.randrange(11)
+    what = draw.randrange(12)
     if what == 0 and full:
         draw.choice(full).pop()
     elif what == 1 and full:
@@ -148,6 +148,8 @@ def bend(draw, settings, certificate, count):
         link = (draw.choice([0, 3]), draw.randrange(MODULES))
     elif what == 10 and full:
         full[0][0], full[-1][-1] = full[-1][-1], full[0][0]
+    elif what == 11 and full:
+        settings = [sum(settings, [])]
     return settings, (link, named)
 
 
@@ -304,7 +306,8 @@ def lose_line(draw, text):
 
 
 def add_behind(draw, text):
-    return text + draw.choice([b"\n", b" ", b"x", b"0", b"\r\n", b"\x00", text, b"push 0 0 1 0\n", b"named 0\n"])
+    many = [b"push 0 0 1 0\n" * 9000, b" 0" * 55000]
+    return text + draw.choice([b"\n", b" ", b"x", b"0", b"\r\n", b"\x00", text, b"push 0 0 1 0\n", b"named 0\n", *many])
 
 
 def add_return(draw, text):

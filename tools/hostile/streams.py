@@ -5,6 +5,7 @@ names, and nothing hangs."""
 import errno
 import os
 import shutil
+import subprocess
 import sys
 import tempfile
 import threading
@@ -300,6 +301,28 @@ def readers_that_go_away():
             expect(f"{what}, a reader that goes after {taken} bytes", ended, lambda it: is_unwritten(it) or is_short and it.status in (0, 1))
 
 
+# Lets each write to standard error take a few bytes.
+SHORT = b"""
+#include <stdlib.h>
+#include <sys/syscall.h>
+#include <unistd.h>
+
+ssize_t write(int to, const void *bytes, size_t count) {
+    size_t most = atoi(getenv("MOST"));
+    return syscall(SYS_write, to, bytes, to == 2 && most < count ? most : count);
+}
+"""
+
+
+def short_writes():
+    """A line beside a refusal is told to its end, however few bytes standard error takes at once."""
+    subprocess.run(["cc", "-shared", "-fPIC", "-o", "short.so", "-x", "c", "-"], input=SHORT, check=True)
+    for most in (1, 5, 100):
+        few = {"LD_PRELOAD": os.path.abspath("short.so"), "MOST": str(most)}
+        for name in ("missing", "x" * 5000):
+            expect(f"{most} bytes at once", ask("plan", name, env=few, seconds=LIMIT), refused_file(name, reason_of(name)))
+
+
 def main():
     with tempfile.TemporaryDirectory() as room:
         os.chdir(room)
@@ -322,6 +345,7 @@ def main():
         long_answers()
         closed_and_full_output()
         readers_that_go_away()
+        short_writes()
         os.chdir("/")
     print(f"streams: {tried} tried, {len(problems)} wrong")
     return 1 if problems else 0

@@ -28,6 +28,9 @@ from program import ask
 
 SCRIPTS = 16
 
+# The most bytes that a word of the command line has here. The system has another limit, a little above.
+MOST_OF_A_WORD = 130000
+
 
 def keep(name, text):
     with open(name, "wb") as file:
@@ -256,7 +259,7 @@ def range_text(draw, count):
     first = draw.randint(0, count)
     text = b"%d..%d" % (first, draw.randint(first, max(first, count)))
     if draw.random() < 0.2:
-        text = spoil.spoil(draw, text)
+        text = spoil.spoil(draw, text)[:MOST_OF_A_WORD]
     return b"0..0" if is_no_text(text) else text
 
 
@@ -272,7 +275,7 @@ def try_shape(draw):
     """A spoilt shape text, put to `run` with a good batch."""
     shape = spoil.shape(draw)
     batch = spoil.batch(draw, (shape[0], min(shape[1], 6), 1), 5)
-    text = spoil.spoil(draw, b"%dx%dx%d" % shape).replace(b"\0", b"")
+    text = spoil.spoil(draw, b"%dx%dx%d" % shape).replace(b"\0", b"")[:MOST_OF_A_WORD]
     answer = ask_of(draw, ["run", os.fsdecode(text)], [keep("batch", batch)])
     if is_no_word(text):
         well = answer.status == 2 and answer.out == b"" and answer.err != b""
