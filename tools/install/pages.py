@@ -1,0 +1,79 @@
+#!/usr/bin/env python3
+"""Makes a page of the program's helps, and prints it.
+
+    pages.py manual PROGRAM         a page for `man`: what `PROGRAM --help` and each `PROGRAM COMMAND --help` say, line by line
+    pages.py completions PROGRAM    what bash completes: commands, and the options of each; other words are names of files
+"""
+
+import re
+import subprocess
+import sys
+
+# What roff would take for something else, and how it is told not to.
+ESCAPES = {"\\": r"\(rs", "-": r"\-", "'": r"\(aq", "`": r"\(ga", "^": r"\(ha", "~": r"\(ti", ".": r"\&."}
+
+
+def say(program, *words):
+    return subprocess.run([program, *words], stdout=subprocess.PIPE, check=True).stdout.decode()
+
+
+def listed(help_text, heading):
+    """The lines that stand below a heading of a help, up to an empty one."""
+    return re.search(rf"^{heading}:\n((?:.+\n)*)", help_text, re.MULTILINE)[1].splitlines()
+
+
+def read(program):
+    """What the program says of itself, and what it says of each command, by its name."""
+    top = say(program, "--help")
+    names = [line.split()[0] for line in listed(top, "Commands")]
+    return top, {name: say(program, name, "--help") for name in names if name != "help"}
+
+
+def escaped(text):
+    return re.sub(r"[\\\-'`^~.]", lambda it: ESCAPES[it[0]], text)
+
+
+def usage(help_text):
+    return re.search(r"^Usage: (.*)$", help_text, re.MULTILINE)[1]
+
+
+def section(heading, text):
+    """A section whose lines stay as they are, from the first column on."""
+    return f'.SH "{escaped(heading)}"\n.in 0\n.nf\n{escaped(text.rstrip())}\n.fi\n'
+
+
+def manual(program):
+    top, commands = read(program)
+    about = re.search(r"^(.*)\n\nUsage: ", top, re.MULTILINE)[1]
+    head = f'.TH EXCHANGE 1 "" "{escaped(say(program, "--version").strip())}"\n.SH NAME\nexchange \\- {escaped(about)}\n'
+    synopsis = section("SYNOPSIS", "\n".join(map(usage, commands.values())))
+    return head + synopsis + section("DESCRIPTION", top) + "".join(section(f"exchange {name}", commands[name]) for name in commands)
+
+
+def options(help_text):
+    return " ".join(re.search(r"--[\w-]+", line)[0] for line in listed(help_text, "Options"))
+
+
+def completions(program):
+    top, commands = read(program)
+    cases = "".join(f"    2:{name}) words='{options(text)}' ;;\n" for name, text in commands.items())
+    return f"""\
+# What bash completes behind `exchange`. tools/install/pages.py made this of what `exchange --help` says.
+_exchange() {{
+    local words=
+    case $((COMP_CWORD > 1 ? 2 : 1)):${{COMP_WORDS[1]}} in
+    1:*) words='{" ".join(commands)} help {options(top)}' ;;
+{cases}\
+    2:help) words='{" ".join(commands)}' ;;
+    esac
+    COMPREPLY=()
+    if [[ $COMP_CWORD -eq 1 || ${{COMP_WORDS[1]}} == help || $2 == -* ]]; then
+        mapfile -t COMPREPLY < <(compgen -W "$words" -- "$2")
+    fi
+}}
+complete -o bashdefault -o default -F _exchange exchange
+"""
+
+
+if __name__ == "__main__":
+    print({"manual": manual, "completions": completions}[sys.argv[1]](sys.argv[2]), end="")
