@@ -1,0 +1,259 @@
+#!/usr/bin/env python3
+"""Tries what an install puts into a folder, and the calls for programs in Python: tools/python/run.py [COUNT]
+
+    install     puts what its list says, stops where a file is in the way, and what it put is taken away again, and no more
+    pages       what `man` shows has each line of each help, and bash completes commands and options
+    C           a program that pkg-config gives the words for, and one that is linked with the shared library
+    Python      the examples of the module's own texts, the emulator, and want of memory
+    texts       COUNT spoilt texts, 2000 where it isn't said, by the calls from Python and by the built program, byte for byte
+    threads     sixteen that call at once are answered as one alone
+
+What isn't built yet is proved and built first. `man` and `pkg-config` are tried where they are there.
+"""
+
+import multiprocessing
+import os
+import random
+import shutil
+import subprocess
+import sys
+import tempfile
+from concurrent.futures import ThreadPoolExecutor
+from pathlib import Path
+
+TOP = os.path.dirname(os.path.dirname(os.path.dirname(os.path.abspath(__file__))))
+sys.path.insert(0, f"{TOP}/tools/c")
+
+import calls
+
+EXAMPLES = f"{TOP}/examples"
+
+# How many things were tried, and what was wrong.
+tried, wrong = [], []
+
+
+def expect(what, well, told=""):
+    """Notes whether something is as it is to be."""
+    tried.append(what)
+    if not well:
+        wrong.append(what)
+        print(f"python: WRONG: {what}\n{told}", file=sys.stderr)
+
+
+def run(*words, **settings):
+    """Runs a program to its end: its status, and all that it printed."""
+    done = subprocess.run(words, stdin=subprocess.DEVNULL, stdout=subprocess.PIPE, stderr=subprocess.STDOUT, text=True, check=False, **settings)
+    return done.returncode, done.stdout
+
+
+def expect_run(what, wanted, *words, **settings):
+    """Notes whether a program ends well and prints this."""
+    status, told = run(*words, **settings)
+    expect(what, (status, told) == (0, wanted), f"status {status}\n{told}")
+
+
+def tree(folder):
+    """All that is in a folder: folders, and files with what is in them."""
+    return {str(path): path.read_bytes() if path.is_file() else None for path in Path(folder).rglob("*")}
+
+
+def install(what, status, *words, script="install", **settings):
+    """Notes whether an install or an uninstall has this status, and gives back what it told."""
+    is_status, told = run(f"{TOP}/tools/install/{script}.sh", *words, **settings)
+    expect(what, is_status == status, f"status {is_status}\n{told}")
+    return told
+
+
+def try_install(room):
+    """Installs into a folder that isn't there yet, and into others."""
+    rack = f"{room}/rack"
+    told = install("install", 0, rack)
+    put = [line for line in Path(rack, "share/exchange/installed").read_text().splitlines() if not line.endswith("/")]
+    files = [name for name, text in tree(rack).items() if text is not None]
+    expect("all files are listed", sorted(files) == sorted(f"{rack}/{line}" for line in put), f"{files}\n{put}")
+    expect("all files are told", all(f"  {line}\n" in told for line in put), told)
+    before = tree(rack)
+    install("install once more", 0, "rack/", cwd=room)
+    expect("a second install leaves the same", tree(rack) == before)
+
+    mine = f"{room}/mine"
+    os.makedirs(f"{mine}/bin")
+    os.makedirs(f"{mine}/share/man")
+    for name in ("bin/exchange", "bin/other"):
+        shutil.copy(f"{EXAMPLES}/ring.txt", f"{mine}/{name}")
+    before = tree(mine)
+    told = install("a file in the way", 1, mine)
+    expect("it is named, and nothing is put", f"{mine}/bin/exchange is there" in told and tree(mine) == before, told)
+    os.remove(f"{mine}/bin/exchange")
+    before = tree(mine)
+    install("install beside other files", 0, mine)
+    install("uninstall beside other files", 0, mine, script="uninstall")
+    expect("what was there before is left", tree(mine) == before, tree(mine).keys() ^ before.keys())
+    install("uninstall what isn't there", 1, mine, script="uninstall")
+    install("no folder for the folder", 1, f"{room}/none/rack")
+    install("other words", 2, "--help")
+    return rack
+
+
+def try_home(room):
+    """Installs where nothing is said: into the home of a user, whose Python finds the module without being told."""
+    home = f"{room}/home"
+    os.mkdir(home)
+    env = {**os.environ, "HOME": home, "PYTHONDONTWRITEBYTECODE": ""}
+    env.setdefault("PYENV_ROOT", os.path.expanduser("~/.pyenv"))
+    install("install at home", 0, env=env)
+    program = "import exchange; print(exchange.apply('2x1x1', exchange.batch_text([exchange.Transfer('pull', 0, 0, 1, 0)]), b'aaaabbbb'))"
+    if run("python3", "-c", "import site, sys; sys.exit(not site.ENABLE_USER_SITE)", env=env)[0] == 0:
+        expect_run("a program at home", "b'bbbbbbbb'\n", "python3", "-c", program, env=env, cwd=room)
+    install("uninstall at home", 0, script="uninstall", env=env)
+    expect("nothing is left at home", os.listdir(home) == [], os.listdir(home))
+
+
+def try_pages(rack):
+    """The page for `man`, and what bash completes."""
+    program = f"{rack}/bin/exchange"
+    if shutil.which("man"):
+        env = {**os.environ, "MANWIDTH": "200", "LC_ALL": "C.UTF-8"}
+        status, shown = run("man", "-l", f"{rack}/share/man/man1/exchange.1", env=env)
+        lines = {" ".join(line.split()) for line in shown.splitlines()}
+        helps = run(program, "--help")[1].splitlines()
+        commands = [line.split()[0] for line in helps[helps.index("Commands:") + 1 :] if line.startswith("  ") and "--" not in line]
+        helps += [line for name in commands if name != "help" for line in run(program, name, "--help")[1].splitlines()]
+        missing = [line for line in helps if " ".join(line.split()) not in lines]
+        expect("man shows each line of each help", status == 0 and len(commands) > 5 and not missing, "\n".join([*missing, shown]))
+    completes = 'source "$1"; COMP_WORDS=("${@:2}"); COMP_CWORD=$(($# - 2)); _exchange exchange "${!#}" "" && echo "${COMPREPLY[@]}"'
+    for words, wanted in ("pl", "plan"), ("plan --w", "--workers"), ("help dra", "draw"), ("plan exam", ""):
+        completions = f"{rack}/share/bash-completion/completions/exchange"
+        expect_run(f"bash completes {words}", f"{wanted}\n", "bash", "-c", completes, "bash", completions, "exchange", *words.split())
+
+
+def try_c(rack, room):
+    """The emulator in C, with the words of pkg-config, and with those for the shared library."""
+    env = {**os.environ, "PKG_CONFIG_PATH": f"{rack}/lib/pkgconfig", "LD_LIBRARY_PATH": f"{rack}/lib"}
+    source, printed = f"{EXAMPLES}/emulator/emulator.c", Path(EXAMPLES, "emulator/printed.txt").read_text()
+    ways = {"shared": [f"-I{rack}/include", f"-L{rack}/lib", "-lexchange"]}
+    if shutil.which("pkg-config"):
+        ways["pkg-config"] = run("pkg-config", "--cflags", "--libs", "exchange", env=env)[1].split()
+    for name, words in ways.items():
+        expect_run(f"a program in C is built: {name}", "", "cc", "-o", f"{room}/{name}", source, *words)
+        expect_run(f"a program in C runs: {name}", printed, f"{room}/{name}", env=env if name == "shared" else {})
+    names = run("nm", "-D", "--defined-only", f"{rack}/lib/libexchange.so")[1].split()[2::3]
+    expect("the shared library gives out the calls alone", names == sorted(f"exchange_{name}" for name in calls.CALLS), names)
+
+
+# A program that has less memory than a plan takes, and then enough.
+WITHOUT_MEMORY = """
+import exchange, resource
+batch = exchange.batch_text([exchange.Transfer("push", t % 32, t // 64, (t + t // 32) % 32, t % 64) for t in range(4096)])
+with open("/proc/self/statm") as file:
+    pages = int(file.read().split()[0])
+resource.setrlimit(resource.RLIMIT_AS, (pages * resource.getpagesize() + (100 << 10), resource.RLIM_INFINITY))
+try:
+    exchange.plan(batch)
+except MemoryError as error:
+    print(error)
+resource.setrlimit(resource.RLIMIT_AS, (resource.RLIM_INFINITY, resource.RLIM_INFINITY))
+print(exchange.plan(batch).splitlines()[0])
+"""
+
+
+def try_python(module):
+    """The module by itself, and the emulator."""
+    env = {**os.environ, "PYTHONPATH": os.path.dirname(module)}
+    expect_run("the examples in the module's texts", "", sys.executable, "-m", "doctest", module, env=env)
+    printed = Path(EXAMPLES, "emulator/printed-python.txt").read_text()
+    expect_run("the emulator in Python", printed, sys.executable, f"{EXAMPLES}/emulator/emulator.py", env=env)
+    wanted = "exchange_plan was given no memory\nsettings 128\n"
+    expect_run("want of memory", wanted, sys.executable, "-c", WITHOUT_MEMORY, env=env)
+    sys.path.insert(0, os.path.dirname(module))
+    picture = FromPython().ask("draw", [calls.read("all-to-all.txt"), calls.read("all-to-all.plan.txt")])
+    expect("an answer that needs more room", picture == (0, calls.read("all-to-all.svg")), picture)
+
+
+def given_as(text):
+    """A text as one of the kinds of bytes that a call takes, or as `str` where it can be that."""
+    kind = (bytes, bytearray, memoryview, bytes.decode)[len(text) % 4]
+    try:
+        return kind(text)
+    except UnicodeDecodeError:
+        return text
+
+
+def text_of(name, answer):
+    """What the program prints where a call answers this."""
+    if name == "check":
+        return b"shortest %d\n" % answer
+    if name == "switch":
+        letters = {1: [""], 2: ["a ", "b "]}
+        lines = [(s, it) for s, setting in enumerate(answer) for it in zip(letters[len(setting)], setting)]
+        return "".join(f"setting {s} {letter}{sent.hex(' ')}\n" for s, (letter, sent) in lines).encode()
+    return answer if name == "apply" else answer.encode()
+
+
+class FromPython:
+    """The calls from Python, which answer as those from C do in calls.py: by a status, and by the bytes that the program prints."""
+
+    def ask(self, name, given):
+        import exchange
+
+        call = {"switch": exchange.switch_bytes}.get(name) or getattr(exchange, name)
+        try:
+            return 0, text_of(name, call(*map(given_as, given)))
+        except exchange.Refused as refused:
+            return 1, f"{refused}\n".encode()
+
+
+def text_at(number):
+    """The call of a number, and its texts."""
+    name = list(calls.CALLS)[number % len(calls.CALLS)]
+    return name, calls.texts_for(random.Random(f"python {number}"), name)
+
+
+def try_texts(numbers):
+    """The numbers of those texts that Python and the program answer differently."""
+    with tempfile.TemporaryDirectory(prefix="python-") as folder:
+        os.chdir(folder)
+        differing = [number for number in numbers if not calls.is_same(FromPython(), *text_at(number))]
+        os.chdir("/")
+    return differing
+
+
+def try_all_texts(count):
+    workers = os.cpu_count() or 1
+    with multiprocessing.Pool(workers) as pool:
+        differing = sum(pool.map(try_texts, [range(first, count, workers) for first in range(workers)]), [])
+    expect(f"{count} spoilt texts", not differing, "\n".join(str(text_at(number))[:2000] for number in differing[:3]))
+
+
+def try_threads(count=16):
+    """The texts that one thread alone is answered to, put to several at once, to each in another order."""
+    asked = [text_at(number) for number in range(240)]
+    wanted = [FromPython().ask(*it) for it in asked]
+
+    def ask_all(first):
+        order = [(first * 15 + number) % len(asked) for number in range(len(asked))]
+        return all(FromPython().ask(*asked[number]) == wanted[number] for number in order)
+
+    with ThreadPoolExecutor(count) as threads:
+        expect(f"{count} threads at once", all(threads.map(ask_all, range(count))))
+
+
+def main():
+    count = int(sys.argv[1]) if len(sys.argv) > 1 else 2000
+    with tempfile.TemporaryDirectory(prefix="python-") as room:
+        rack = try_install(room)
+        module = str(next(Path(rack).rglob("exchange.py")))
+        try_home(room)
+        try_pages(rack)
+        try_c(rack, room)
+        try_python(module)
+        try_all_texts(count)
+        try_threads()
+        install("uninstall", 0, rack, script="uninstall")
+        expect("nothing is left", not os.path.exists(rack), tree(rack).keys())
+    print(f"python: {len(tried)} tried, with {count} spoilt texts, {len(wrong)} wrong")
+    sys.exit(1 if wrong else 0)
+
+
+if __name__ == "__main__":
+    main()
