@@ -10,7 +10,7 @@ mod text_list;
 mod words;
 
 pub use exchange_limits::WorkerCount;
-pub use limits::{MAX_CLIENTS, VERSION};
+pub use limits::MAX_CLIENTS;
 pub use text::Text;
 pub use text_list::TextList;
 pub use words::{Job, Request, WordsFault, read_words};
