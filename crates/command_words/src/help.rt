@@ -413,7 +413,10 @@ pub const SCRIPT_HELP: &str = "A file of session lines, or - for standard input"
 pub const CLIENT_HELP: &str = "The name of a client, whose files are CLIENT.in and CLIENT.out";
 
 /// What is said of `--workers`.
-pub const WORKERS_HELP: &str = "How many workers there may be, from 1 to 64";
+pub const WORKERS_HELP: &str = "\
+How many workers there may be, from 1 to 64. One is quickest here:
+wires of this program never wait. More are for wires that do, as an
+emulator's own, through the library";
 
 /// What is said of `--quiet`.
 pub const QUIET_HELP: &str = "Tell nothing on standard error beside a refusal";
