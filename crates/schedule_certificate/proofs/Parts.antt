@@ -1,6 +1,6 @@
 -- The halves of a part, and how its colouring comes from theirs.
 use Rattle.std.proofs.Common.{◌≡◌, ◌==◌, ℕ, zero, suc, ◌+◌, ◌-◌, ◌*◌, ◌/◌, ◌<◌, ◌≤◌, ◌⊎◌, ◌↔◌, inl, inr, List, ◌++◌, length, map, take, drop, All, Option, Some, None, IsSome, Result, Ok, Err, IfOk, get_or, cond, refl, sym, ap, ◌∙◌, subst, arith}
-use Rattle.std.specs.Prelude.{Contains, IfSome}
+use Rattle.std.specs.Prelude.{Contains}
 use Rattle.std.proofs.lemmas.Bool.{false≢true, cases_lt}
 use Rattle.std.proofs.lemmas.Bool.Decides.{eqb_tells}
 use Rattle.std.proofs.lemmas.Option.{same_Some}
@@ -26,7 +26,9 @@ use Rattle.alternating_path.proofs.Removed.{without-at}
 use Rattle.alternating_path.proofs.Singles.{nothing_if}
 use Rattle.alternating_path.proofs.MoreClasses.{some_of}
 use Rattle.schedule_certificate.specs.Reinsertions.{AreFew}
-use Rattle.schedule_certificate.specs.Parts.{IsPart, IsDegree, AreHalves, AreHalvesOfTwo, IsColouredPart, HasRoomFor}
+use Rattle.schedule_certificate.specs.declared.degree.Known.{Known}
+use Rattle.schedule_certificate.specs.declared.degree.Known.TheVariants.{Is, AtMost}
+use Rattle.schedule_certificate.specs.Parts.{IsPart, IsDegree, IsKnown, IsHalf, AreHalves, AreHalvesOfTwo, IsColouredPart, HasRoomFor}
 use Rattle.schedule_certificate.proofs.Bounds.{few_le, few_halves}
 use Rattle.schedule_certificate.proofs.Counting.{uses_counted, placed_few}
 
@@ -118,9 +120,9 @@ module _ (batch : List Transfer) (whole left right : List ℕ) (part : IsPart ba
     },
   )
 
-  pub known_halves : (d : ℕ) (half : Option ℕ) → IsDegree (members batch whole) d → IfSome half (λ h. h + h ≡ d) → IfSome half (IsDegree (members batch left)) × IfSome half (IsDegree (members batch right))
-  known_halves d None degree is = (is, is)
-  known_halves d (Some h) degree is = half_degrees d h degree is
+  pub known_halves : (d : ℕ) (half : Known) → IsDegree (members batch whole) d → IsHalf d half → IsKnown (members batch left) half × IsKnown (members batch right) half
+  known_halves d (Is h) degree is = half_degrees d h degree is
+  known_halves d (AtMost h) degree is = (λ link. rw is (s.left_uses link d degree), λ link. rw is (s.right_uses link d degree))
 
   in_either : (t : ℕ) → Contains whole t → Contains left t ⊎ Contains right t
   in_either t stands = Contains-append_cases left right t (Contains-permutation whole (left ++ right) t s.parts stands)

@@ -1,14 +1,17 @@
 -- Parts of the transfers of a batch, and colourings of just these.
-use Rattle.std.specs.Prelude.{◌≡◌, ◌↔◌, ℕ, ◌+◌, ◌/◌, ◌<◌, ◌≤◌, ◌⊎◌, max, List, ◌++◌, length, Option, None, All, Contains, IfSome}
+use Rattle.std.specs.Prelude.{◌≡◌, ◌↔◌, ℕ, ◌+◌, ◌/◌, ◌<◌, ◌≤◌, ◌⊎◌, max, List, ◌++◌, length, Option, None, All, Contains}
 use Rattle.std.specs.List.Sorted.{IsPermutation}
 use Rattle.batch.specs.declared.transfer.Transfer.{Transfer}
+use Rattle.link_graph.specs.declared.link.End.{End}
 use Rattle.link_graph.specs.declared.link.Link.{Link}
 use Rattle.link_graph.specs.Certificates.{AreDistinct}
-use Rattle.link_graph.specs.Counts.{uses}
+use Rattle.link_graph.specs.Counts.{uses, module_at}
 use Rattle.link_graph.specs.Marks.{members}
 use Rattle.euler_split.specs.Split.{uses_among}
 use Rattle.alternating_path.specs.Colouring.{Colouring, colour_at, IsPlaced, PlacesOnly}
 use Rattle.schedule_certificate.specs.Reinsertions.{AreFew}
+use Rattle.schedule_certificate.specs.declared.degree.Known.{Known}
+use Rattle.schedule_certificate.specs.declared.degree.Known.TheVariants.{Is, AtMost}
 
 -- distinct numbers of transfers of the batch
 pub record IsPart (batch : List Transfer) (part : List ℕ) : Type 0 where
@@ -20,9 +23,24 @@ pub record IsDegree (transfers : List Transfer) (d : ℕ) : Type 0 where
   pub most : (link : Link) → uses transfers link ≤ d
   pub reached : (d ≡ 0) ⊎ ((link : Link) × (uses transfers link ≡ d))
 
--- distinct transfers, whose degree may be known
-abbrev pub IsPartBy : List Transfer → List ℕ → Option ℕ → Type 0
-IsPartBy batch part known = IsPart batch part × IfSome known (IsDegree (members batch part))
+-- what is known of the degree holds of it
+abbrev pub IsKnown : List Transfer → Known → Type 0
+IsKnown transfers (Is d) = IsDegree transfers d
+IsKnown transfers (AtMost d) = (link : Link) → uses transfers link ≤ d
+
+-- half of the degree, or half of an odd one, rounded up
+abbrev pub IsHalf : ℕ → Known → Type 0
+IsHalf degree (Is half) = half + half ≡ degree
+IsHalf degree (AtMost half) = half ≡ (degree + 1) / 2
+
+-- each transfer uses one of the first n links of an end
+pub record IsWidth (batch : List Transfer) (n : ℕ) : Type 0 where
+  pub at : End
+  pub below : All (λ x. module_at at x < n) batch
+
+-- distinct transfers, with what is known of their degree
+abbrev pub IsPartBy : List Transfer → List ℕ → Known → Type 0
+IsPartBy batch part known = IsPart batch part × IsKnown (members batch part) known
 
 -- The two halves together are the whole in another order. In each a link has at most half of the
 -- whole's degree, rounded up.

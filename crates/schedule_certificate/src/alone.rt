@@ -3,9 +3,10 @@
 ghost use Rattle.std.specs.Prelude.{◌≡◌, IfOk};
 ghost use Rattle.schedule_certificate.specs.Plans.{IsPlan, IsColoured, HasFewReinsertions};
 
+use crate::degree::{Known, width_of};
 use crate::halving::colour_alone;
 use crate::planned::Planned;
-use crate::planning::{all_transfers, certificate_of};
+use crate::planning::{all_transfers, certificate_of, degree_of_all};
 use alternating_path::Coloured;
 use batch::Batch;
 use euler_split::Scratch;
@@ -18,7 +19,9 @@ fn colour_all_alone(alloc: Global, graph: &LinkGraph) -> Result<Coloured, AllocE
 {
     let mut all = all_transfers(alloc, graph)?;
     let mut scratch = Scratch::new(alloc, all.len())?;
-    let table = colour_alone(alloc, graph, &mut all, &mut scratch, None, 0)?;
+    let degree = Known::Is(degree_of_all(graph));
+    let width = width_of(graph);
+    let table = colour_alone(alloc, graph, &mut all, &mut scratch, degree, width, 0)?;
     let coloured = table.into_schedule()?;
     Ok(coloured)
 }

@@ -2,9 +2,9 @@
 
 ghost use Rattle.std.specs.Prelude.{◌≡◌, ◌≤◌, length, IfOk};
 ghost use Rattle.std.specs.Thread.{IsSync};
-ghost use Rattle.schedule_certificate.specs.Parts.{IsPartBy, IsColouredPart};
+ghost use Rattle.schedule_certificate.specs.Parts.{IsPartBy, IsWidth, IsColouredPart};
 
-use crate::degree::{degree_of, half_of};
+use crate::degree::{Known, degree_of, half_of};
 use crate::gate::Gate;
 use crate::halving::{colour_alone, halve_part, join_halves};
 use crate::workers::Workers;
@@ -26,18 +26,20 @@ pub(crate) fn colour_part<'a, R: Threads + Sync, G: Gate>(
     graph: &'a LinkGraph,
     part: &mut [usize],
     scratch: &mut Scratch,
-    known: Option<usize>,
+    known: Known,
+    width: usize,
     room: usize,
 ) -> Result<Table<'a>, AllocError>
     requires part { IsPartBy graph.now part.old known }
+    requires width { IsWidth graph.now width }
     requires places { length part.old ≤ scratch.old }
     ensures coloured { IfOk result (IsColouredPart graph.now part.old) }
     ensures places { scratch.new ≡ scratch.old }
 {
     if workers.count < 2 {
-        return colour_alone(alloc, graph, part, scratch, known, room);
+        return colour_alone(alloc, graph, part, scratch, known, width, room);
     }
-    let degree = degree_of(graph, part, known);
+    let degree = degree_of(graph, part, known, width);
     if degree <= 1 {
         return Table::one_with_room(alloc, graph, part, room.max(1));
     }
@@ -46,7 +48,9 @@ pub(crate) fn colour_part<'a, R: Threads + Sync, G: Gate>(
     let half = half_of(degree);
     // The halves may have one colour too many.
     let room = room.max(degree.saturating_add(1));
-    let (left, right) = colour_both(rt, gate, workers, alloc, graph, left, right, half, room)?;
+    let (left, right) = colour_both(
+        rt, gate, workers, alloc, graph, left, right, half, width, room,
+    )?;
     join_halves(left, right, degree)
 }
 
@@ -61,11 +65,13 @@ fn colour_both<'a, R: Threads + Sync, G: Gate>(
     graph: &'a LinkGraph,
     left: &[usize],
     right: &[usize],
-    known: Option<usize>,
+    known: Known,
+    width: usize,
     room: usize,
 ) -> Result<(Table<'a>, Table<'a>), AllocError>
     requires left { IsPartBy graph.now left.now known }
     requires right { IsPartBy graph.now right.now known }
+    requires width { IsWidth graph.now width }
     ensures left { IfOk result (λ tables. IsColouredPart graph.now left.now tables.0) }
     ensures right { IfOk result (λ tables. IsColouredPart graph.now right.now tables.1) }
 {
@@ -73,18 +79,20 @@ fn colour_both<'a, R: Threads + Sync, G: Gate>(
     let (left, right) = join(
         rt,
         || -> Result<Table, AllocError>
-            requires { IsSync R.row × IsSync G.row × IsPartBy graph.now left.now known }
+            requires { IsSync R.row × IsSync G.row
+                × IsPartBy graph.now left.now known × IsWidth graph.now width }
             ensures { IfOk result (IsColouredPart graph.entry.now left.entry.now) }
         {
             gate.arrive(first.least);
-            colour_copy(rt, gate, first, alloc, graph, left, known, room)
+            colour_copy(rt, gate, first, alloc, graph, left, known, width, room)
         },
         || -> Result<Table, AllocError>
-            requires { IsSync R.row × IsSync G.row × IsPartBy graph.now right.now known }
+            requires { IsSync R.row × IsSync G.row
+                × IsPartBy graph.now right.now known × IsWidth graph.now width }
             ensures { IfOk result (IsColouredPart graph.entry.now right.entry.now) }
         {
             gate.arrive(rest.least);
-            colour_copy(rt, gate, rest, alloc, graph, right, known, 0)
+            colour_copy(rt, gate, rest, alloc, graph, right, known, width, 0)
         },
     );
     Ok((left?, right?))
@@ -99,10 +107,12 @@ pub(crate) fn colour_copy<'a, R: Threads + Sync, G: Gate>(
     alloc: Global,
     graph: &'a LinkGraph,
     part: &[usize],
-    known: Option<usize>,
+    known: Known,
+    width: usize,
     room: usize,
 ) -> Result<Table<'a>, AllocError>
-    requires { IsPartBy graph.now part.now known }
+    requires part { IsPartBy graph.now part.now known }
+    requires width { IsWidth graph.now width }
     ensures { IfOk result (IsColouredPart graph.now part.now) }
 {
     let mut scratch = Scratch::new(alloc, part.len())?;
@@ -116,6 +126,7 @@ pub(crate) fn colour_copy<'a, R: Threads + Sync, G: Gate>(
         &mut part,
         &mut scratch,
         known,
+        width,
         room,
     )
 }

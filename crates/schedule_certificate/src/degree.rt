@@ -1,11 +1,44 @@
-ghost use Rattle.std.specs.Prelude.{◌≡◌, ◌+◌, ◌%◌, ◌<◌, ◌≤◌, max, All, length, slice_index, slice_set, IfSome, IfNone};
+ghost use Rattle.std.specs.Prelude.{◌≡◌, ◌+◌, ◌<◌, ◌≤◌, max, All, length, slice_index, slice_set};
 ghost use Rattle.batch.specs.declared.limits.TheConstants.{MAX_MODULES};
+ghost use Rattle.link_graph.specs.Counts.{module_at};
 ghost use Rattle.link_graph.specs.Links.{link_index};
 ghost use Rattle.link_graph.specs.Marks.{members};
-ghost use Rattle.schedule_certificate.specs.Parts.{IsPart, IsPartBy, IsDegree};
+ghost use Rattle.schedule_certificate.specs.Parts.{IsPart, IsPartBy, IsDegree, IsHalf, IsWidth};
 
-use batch::MAX_TRANSFERS;
-use link_graph::{LINKS, Link, LinkGraph};
+use batch::{MAX_MODULES, MAX_TRANSFERS};
+use link_graph::{End, LINKS, Link, LinkGraph};
+
+/// What is known of a part's degree before its transfers are counted.
+#[derive(Clone, Copy, Debug)]
+pub(crate) enum Known {
+    /// The degree.
+    Is(usize),
+    /// The degree is this or less.
+    AtMost(usize),
+}
+
+/// How many modules there are up to the last that has a transfer at this end.
+fn modules_at(graph: &LinkGraph, end: End) -> usize
+    ensures { All (λ x. module_at end x < result) graph.now }
+{
+    prove!(graph.len() <= MAX_TRANSFERS);
+    let mut count = 0;
+    for module in 0..MAX_MODULES {
+        if graph.uses(Link { end, module }) > 0 {
+            count = module + 1;
+        }
+    }
+    count
+}
+
+/// A number of links of one end such that each transfer uses one of them: of the end that needs fewer.
+pub(crate) fn width_of(graph: &LinkGraph) -> usize
+    ensures { IsWidth graph.now result }
+{
+    let starts = modules_at(graph, End::Zero);
+    let answers = modules_at(graph, End::Three);
+    if starts < answers { starts } else { answers }
+}
 
 /// Counts one more use of the link, and says how many there are now.
 fn count_use(uses: &mut [usize; LINKS], link: Link) -> usize
@@ -45,24 +78,33 @@ fn count_degree(graph: &LinkGraph, part: &[usize]) -> usize
 }
 
 /// How many transfers of a part use the link that most of them use, which may be known.
-pub(crate) fn degree_of(graph: &LinkGraph, part: &[usize], known: Option<usize>) -> usize
-    requires { IsPartBy graph.now part.now known }
+///
+/// All transfers of the graph use one of so many links at one end, its width. If each of these had less
+/// uses than the degree may have at most, a part couldn't have more transfers than all of them together.
+/// Where it has more, the degree is the most that it may be, and nothing is counted.
+pub(crate) fn degree_of(graph: &LinkGraph, part: &[usize], known: Known, width: usize) -> usize
+    requires part { IsPartBy graph.now part.now known }
+    requires width { IsWidth graph.now width }
     ensures { IsDegree (members graph.now part.now) result }
 {
     match known {
-        Some(degree) => degree,
-        None => count_degree(graph, part),
+        Known::Is(degree) => degree,
+        Known::AtMost(most) => {
+            if part.len() > width.saturating_mul(most.saturating_sub(1)) {
+                return most;
+            }
+            count_degree(graph, part)
+        }
     }
 }
 
-/// Half of a degree, where it is even.
-pub(crate) fn half_of(degree: usize) -> Option<usize>
-    ensures some { IfSome result (λ half. half + half ≡ degree) }
-    ensures none { IfNone result (degree % 2 ≡ 1) }
+/// What is known of the degrees of two halves of a part of this degree.
+pub(crate) fn half_of(degree: usize) -> Known
+    ensures { IsHalf degree result }
 {
     if degree % 2 == 0 {
-        Some(degree / 2)
+        Known::Is(degree / 2)
     } else {
-        None
+        Known::AtMost(degree / 2 + 1)
     }
 }

@@ -4,9 +4,9 @@ ghost use Rattle.std.specs.Prelude.{◌≡◌, ℕ, ◌+◌, ◌-◌, ◌≤◌,
 ghost use Rattle.batch.specs.declared.transfer.Transfer.{Transfer};
 ghost use Rattle.link_graph.specs.Marks.{members};
 ghost use Rattle.euler_split.specs.Evenness.{CanBeHalved};
-ghost use Rattle.schedule_certificate.specs.Parts.{IsPart, IsDegree, IsPartBy, AreHalves, AreHalvesOfTwo, AreColouredHalves, IsColouredPart, HasRoomFor, PlacesClass};
+ghost use Rattle.schedule_certificate.specs.Parts.{IsPart, IsDegree, IsPartBy, IsWidth, AreHalves, AreHalvesOfTwo, AreColouredHalves, IsColouredPart, HasRoomFor, PlacesClass};
 
-use crate::degree::{degree_of, half_of};
+use crate::degree::{Known, degree_of, half_of};
 use alternating_path::{InsertFault, Table};
 use euler_split::{Scratch, split_evenly, split_in_place, times_even};
 use link_graph::LinkGraph;
@@ -103,14 +103,14 @@ fn halve_known(
 
 /// How many times the transfers of each pair of links of a part can be halved. Where all transfers are
 /// known to share one link, nobody asks, and it is none.
-fn times_of(graph: &LinkGraph, part: &[usize], known: Option<usize>) -> usize
+fn times_of(graph: &LinkGraph, part: &[usize], known: Known) -> usize
     requires { IsPartBy graph.now part.now known }
     ensures { CanBeHalved graph.now part.now result }
 {
-    if known == Some(part.len()) {
-        return 0;
+    match known {
+        Known::Is(degree) if degree == part.len() => 0,
+        _ => times_even(graph, part),
     }
-    times_even(graph, part)
 }
 
 /// The table of a part of degree 2, of its halves: the transfers of each of them get one colour, those of
@@ -131,8 +131,8 @@ fn colour_two<'a>(
 }
 
 /// Colours a part with as many colours as its busiest link has uses, its degree, and with one where
-/// that is 0. The degree may be known. Room for this many colours is taken at once, so that others
-/// can be joined to these without a move.
+/// that is 0. The degree may be known, and [`degree_of`] says what the width of the graph is for. Room
+/// for this many colours is taken at once, so that others can be joined to these without a move.
 ///
 /// Where all transfers share one link, each gets a colour of its own, in their order. Else the part is
 /// halved, in place. Its halves are coloured one after the other, and the two tables are joined; where
@@ -143,16 +143,18 @@ pub(crate) fn colour_alone<'a>(
     graph: &'a LinkGraph,
     part: &mut [usize],
     scratch: &mut Scratch,
-    known: Option<usize>,
+    known: Known,
+    width: usize,
     room: usize,
 ) -> Result<Table<'a>, AllocError>
     requires part { IsPartBy graph.now part.old known }
+    requires width { IsWidth graph.now width }
     requires places { length part.old ≤ scratch.old }
     ensures coloured { IfOk result (IsColouredPart graph.now part.old) }
     ensures places { scratch.new ≡ scratch.old }
 {
     let times = times_of(graph, part, known);
-    colour_halves(alloc, graph, part, scratch, known, room, times)
+    colour_halves(alloc, graph, part, scratch, known, width, room, times)
 }
 
 /// Colours a part as [`colour_alone`] does. The transfers of each pair of links can be halved so many
@@ -162,17 +164,19 @@ fn colour_halves<'a>(
     graph: &'a LinkGraph,
     part: &mut [usize],
     scratch: &mut Scratch,
-    known: Option<usize>,
+    known: Known,
+    width: usize,
     room: usize,
     times: usize,
 ) -> Result<Table<'a>, AllocError>
     requires part { IsPartBy graph.now part.old known }
+    requires width { IsWidth graph.now width }
     requires places { length part.old ≤ scratch.old }
     requires times { CanBeHalved graph.now part.old times }
     ensures coloured { IfOk result (IsColouredPart graph.now part.old) }
     ensures places { scratch.new ≡ scratch.old }
 {
-    let degree = degree_of(graph, part, known);
+    let degree = degree_of(graph, part, known, width);
     if degree <= 1 {
         return Table::one_with_room(alloc, graph, part, room.max(1));
     }
@@ -188,7 +192,7 @@ fn colour_halves<'a>(
     }
     let half = half_of(degree);
     let times = times.saturating_sub(1);
-    let left = colour_halves(alloc, graph, left, scratch, half, room, times)?;
-    let right = colour_halves(alloc, graph, right, scratch, half, 0, times)?;
+    let left = colour_halves(alloc, graph, left, scratch, half, width, room, times)?;
+    let right = colour_halves(alloc, graph, right, scratch, half, width, 0, times)?;
     join_halves(left, right, degree)
 }

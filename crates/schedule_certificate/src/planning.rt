@@ -1,11 +1,12 @@
 //! Shortest schedules.
 
-ghost use Rattle.std.specs.Prelude.{◌≡◌, ◌≤◌, ◌<◌, ℕ, IfOk, IfSome, length};
+ghost use Rattle.std.specs.Prelude.{◌≡◌, ◌≤◌, ◌<◌, ℕ, IfOk, length};
 ghost use Rattle.std.specs.List.{range_with_len};
 ghost use Rattle.schedule_certificate.specs.Parts.{IsDegree};
 ghost use Rattle.schedule_certificate.specs.Plans.{NamesBusiest, IsPlan, IsColoured, HasFewReinsertions};
 
 use crate::colouring::colour_copy;
+use crate::degree::{Known, width_of};
 use crate::gate::Gate;
 use crate::planned::Planned;
 use crate::workers::Workers;
@@ -23,14 +24,14 @@ pub(crate) fn all_transfers(alloc: Global, graph: &LinkGraph) -> Result<Vec<usiz
     (0..graph.len()).collect(alloc)
 }
 
-/// How many transfers use the busiest link, where there is one.
-fn degree_of_all(graph: &LinkGraph) -> Option<usize>
-    ensures { IfSome result (IsDegree graph.now) }
+/// How many transfers use the busiest link; 0 where there is none.
+pub(crate) fn degree_of_all(graph: &LinkGraph) -> usize
+    ensures { IsDegree graph.now result }
 {
-    let Some(link) = graph.busiest() else {
-        return None;
-    };
-    Some(graph.uses(link))
+    match graph.busiest() {
+        None => 0,
+        Some(link) => graph.uses(link),
+    }
 }
 
 /// The schedule of a colouring of all transfers with as many colours as the busiest link has uses.
@@ -44,8 +45,9 @@ fn colour_all<R: Threads + Sync, G: Gate>(
     ensures { IfOk result (λ coloured. IsColoured graph.now coloured) }
 {
     let all = all_transfers(alloc, graph)?;
-    let degree = degree_of_all(graph);
-    let table = colour_copy(rt, gate, workers, alloc, graph, &all, degree, 0)?;
+    let degree = Known::Is(degree_of_all(graph));
+    let width = width_of(graph);
+    let table = colour_copy(rt, gate, workers, alloc, graph, &all, degree, width, 0)?;
     let coloured = table.into_schedule()?;
     Ok(coloured)
 }

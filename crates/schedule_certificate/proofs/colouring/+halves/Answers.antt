@@ -1,7 +1,6 @@
 use Rattle.std.proofs.Common.{◌<◌, ◌+◌, ◌*◌, List, ℕ, max, length, arith, rules}
-use Rattle.std.specs.Prelude.{IfSome}
 use Rattle.link_graph.specs.Marks.{members}
-use Rattle.schedule_certificate.specs.Parts.{IsPart, IsDegree, AreHalves}
+use Rattle.schedule_certificate.specs.Parts.{IsPart, IsKnown, AreHalves}
 use Rattle.schedule_certificate.proofs.Parts.{single_matching, left_part, right_part, both_less, known_halves}
 use Rattle.schedule_certificate.proofs.colouring.+halves.Goals as goal
 
@@ -22,9 +21,9 @@ colour_part-colour_both-requires g t c κs within =
     let back_less : length back < length whole = less.1 in
     let left : IsPart batch front = left_part batch whole front back c.requires.part.0 halves in
     let right : IsPart batch back = right_part batch whole front back c.requires.part.0 halves in
-    let known = known_halves batch whole front back c.requires.part.0 halves d c.half_of-half.result c.degree_of-degree.ensures c.half_of-half.ensures.some in
-    let left_known : IfSome c.half_of-half.result (IsDegree (members batch front)) = known.0 in
-    let right_known : IfSome c.half_of-half.result (IsDegree (members batch back)) = known.1 in
+    let known = known_halves batch whole front back c.requires.part.0 halves d c.half_of-half.result c.degree_of-degree.ensures c.half_of-half.ensures in
+    let left_known : IsKnown (members batch front) c.half_of-half.result = known.0 in
+    let right_known : IsKnown (members batch back) c.half_of-half.result = known.1 in
     let falls : 4 * max (length front) (length back) + 3 < 4 * length whole = omega arith in
     search rules
 

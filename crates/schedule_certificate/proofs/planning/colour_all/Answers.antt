@@ -1,13 +1,13 @@
-use Rattle.std.proofs.Common.{List, IfSome, sym, subst}
+use Rattle.std.proofs.Common.{List, sym, subst}
 use Rattle.batch.specs.declared.transfer.Transfer.{Transfer}
 use Rattle.schedule_certificate.specs.Parts.{IsDegree}
 use Rattle.schedule_certificate.proofs.Whole.{all_part, all_members, all_coloured}
 use Rattle.schedule_certificate.proofs.planning.colour_all.Goals as goal
 
-pub colour_copy-requires-after_bounds : goal.colour_copy-requires-after_bounds
-colour_copy-requires-after_bounds g c κs within = (
+pub colour_copy-requires-clause-part : goal.colour_copy-requires-clause-part
+colour_copy-requires-clause-part g c κs within = (
   rw (c.deref.ensures.value, c.in_ok-all.ensures) (all_part c.args.graph.now),
-  rw (c.deref.ensures.value, c.in_ok-all.ensures) (subst (λ (xs : List Transfer). IfSome c.degree_of_all-degree.result (IsDegree xs)) (sym (all_members c.args.graph.now)) c.degree_of_all-degree.ensures),
+  rw (c.deref.ensures.value, c.in_ok-all.ensures) (subst (λ (xs : List Transfer). IsDegree xs c.degree_of_all.result) (sym (all_members c.args.graph.now)) c.degree_of_all.ensures),
 )
 
 pub returns : goal.returns
