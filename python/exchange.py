@@ -163,7 +163,9 @@ _LIBRARY = _load()
 
 def _bytes_of(text: Text) -> bytes:
     """The bytes of a text, which nothing else can write while a call lasts."""
-    return text.encode("utf-8", "surrogatepass") if isinstance(text, str) else bytes(memoryview(text))
+    if isinstance(text, str):
+        return text.encode("utf-8", "surrogatepass")
+    return text if isinstance(text, bytes) else bytes(memoryview(text))
 
 
 def _ask(name: str, *texts: Text) -> bytes:

@@ -1,8 +1,8 @@
 #!/usr/bin/env python3
 """An emulator of sixteen modules, whose memories are bytearrays. They share a grid of 16 by 16 cells, on which a fire spreads.
 
-Each has 4 by 4 of the cells. In each step the modules push their outer cells to their neighbours, by a plan that is made once, and then each
-goes on by itself. What the pushes bring is compared with plain copying. docs/EMULATORS.md says how to run it.
+Each has 4 by 4 of the cells. In each step the modules push their outer cells to their neighbours, by a plan that is made once, and then
+each goes on by itself. What the pushes bring is compared with plain copying. docs/EMULATORS.md says how to run it.
 """
 
 import sys

@@ -259,14 +259,14 @@ def range_text(draw, count):
     first = draw.randint(0, count)
     text = b"%d..%d" % (first, draw.randint(first, max(first, count)))
     if draw.random() < 0.2:
-        text = spoil.spoil(draw, text)[:MOST_OF_A_WORD]
+        text = spoil.spoil(draw, text)
     return b"0..0" if is_no_text(text) else text
 
 
 def is_no_text(text):
     """Whether a word of the command line can't be this text."""
     try:
-        return b"\0" in text or not text.decode()
+        return b"\0" in text or len(text) > MOST_OF_A_WORD or not text.decode()
     except UnicodeDecodeError:
         return True
 

@@ -1,8 +1,8 @@
 #!/usr/bin/env bash
 # Puts the program, and the library for programs in C and in Python, into a folder: tools/install/install.sh [PREFIX]
 #
-# `./exchange install` calls this. PREFIX is ~/.local where it isn't said. What isn't built is proved and built first. Where a file is in the way
-# that an earlier install didn't put there, nothing is put; what an earlier one put there is taken away first. uninstall.sh takes all away.
+# `./exchange install` calls this. PREFIX is ~/.local where it isn't said. What isn't built is proved and built first. What an earlier
+# install put there is replaced; where another file is in the way, nothing is put. uninstall.sh takes all away.
 set -euo pipefail
 unset CDPATH
 here=$(dirname "$(readlink -f "${BASH_SOURCE[0]}")")
@@ -23,7 +23,7 @@ gather() {
     install -D -m "$1" "$2" "$work/all/$3"
 }
 
-# The library for C, with the file of the kit that it takes its memory by, and the same as a shared library, which gives out the calls alone.
+# The library for C, with the file of the kit that it takes its memory by; and the same as a shared library, which gives out calls alone.
 (cd "$work/library" && ar x "$top/crates/exchange_c/out/libexchange_c.a")
 (cd "$work/allocator" && ar x "$(dirname "$(rt doc)")/c/liblibc_c.a")
 ar qcs "$work/libexchange.a" "$work"/library/* "$work"/allocator/*
@@ -51,7 +51,7 @@ gather 644 "$work/manual" share/man/man1/exchange.1
 gather 644 "$work/completions" share/bash-completion/completions/exchange
 gather 644 "$work/exchange.pc" lib/pkgconfig/exchange.pc
 
-# The module for Python, where this Python looks below the prefix, or would look if the folder were there, and else where modules usually are.
+# The module for Python: where python3 looks below the prefix, or would look if the folder were there, and else where modules usually are.
 python=$prefix/bin/python3
 [ -x "$python" ] || python=python3
 modules=$("$python" - "$prefix" <<'END_OF_PYTHON'
@@ -97,6 +97,7 @@ done
 echo "exchange: installed in $prefix:"
 printf '  %s\n' "${files[@]}" "$list"
 [ "$(command -v exchange)" = "$prefix/bin/exchange" ] || echo "For the shell:      export PATH=$prefix/bin:\$PATH"
-[ "$(pkg-config --variable=prefix exchange 2>/dev/null)" = "$prefix" ] || echo "For pkg-config:     export PKG_CONFIG_PATH=$prefix/lib/pkgconfig"
+[ "$(pkg-config --variable=prefix exchange 2>/dev/null)" = "$prefix" ] ||
+    echo "For pkg-config:     export PKG_CONFIG_PATH=$prefix/lib/pkgconfig"
 found=$(cd / && "$python" -B -c 'import exchange; print(exchange.__file__)' 2>/dev/null) || true
 [ "$found" -ef "$prefix/lib/$modules/exchange.py" ] || echo "For Python:         export PYTHONPATH=$prefix/lib/$modules"

@@ -42,7 +42,8 @@ def expect(what, well, told=""):
 
 def run(*words, **settings):
     """Runs a program to its end: its status, and all that it printed."""
-    done = subprocess.run(words, stdin=subprocess.DEVNULL, stdout=subprocess.PIPE, stderr=subprocess.STDOUT, text=True, check=False, **settings)
+    pipes = {"stdin": subprocess.DEVNULL, "stdout": subprocess.PIPE, "stderr": subprocess.STDOUT}
+    done = subprocess.run(words, text=True, check=False, **pipes, **settings)
     return done.returncode, done.stdout
 
 
@@ -87,7 +88,8 @@ def try_install(room):
     os.remove(f"{mine}/bin/exchange")
     before = tree(mine)
     install("install beside other files", 0, mine)
-    install("uninstall beside other files", 0, mine, script="uninstall")
+    shutil.rmtree(f"{mine}/lib/pkgconfig")
+    install("uninstall beside other files, what is there in part", 0, mine, script="uninstall")
     expect("what was there before is left", tree(mine) == before, tree(mine).keys() ^ before.keys())
     install("uninstall what isn't there", 1, mine, script="uninstall")
     install("no folder for the folder", 1, f"{room}/none/rack")
@@ -141,19 +143,19 @@ def try_c(rack, room):
     expect("the shared library gives out the calls alone", names == sorted(f"exchange_{name}" for name in calls.CALLS), names)
 
 
-# A program that has less memory than a plan takes, and then enough.
+# A program that has memory for an image and its answer, of 2 MiB each, but not for what the library takes, and then has enough.
 WITHOUT_MEMORY = """
 import exchange, resource
-batch = exchange.batch_text([exchange.Transfer("push", t % 32, t // 64, (t + t // 32) % 32, t % 64) for t in range(4096)])
+image = bytes(32 * 64 * 256 * 4)
 with open("/proc/self/statm") as file:
-    pages = int(file.read().split()[0])
-resource.setrlimit(resource.RLIMIT_AS, (pages * resource.getpagesize() + (100 << 10), resource.RLIM_INFINITY))
+    bytes_now = int(file.read().split()[0]) * resource.getpagesize()
+resource.setrlimit(resource.RLIMIT_AS, (bytes_now + (3 << 20), resource.RLIM_INFINITY))
 try:
-    exchange.plan(batch)
+    exchange.apply("32x64x256", "batch 0\\n", image)
 except MemoryError as error:
     print(error)
 resource.setrlimit(resource.RLIMIT_AS, (resource.RLIM_INFINITY, resource.RLIM_INFINITY))
-print(exchange.plan(batch).splitlines()[0])
+print(exchange.apply("32x64x256", "batch 0\\n", image) == image)
 """
 
 
@@ -163,8 +165,7 @@ def try_python(module):
     expect_run("the examples in the module's texts", "", sys.executable, "-m", "doctest", module, env=env)
     printed = Path(EXAMPLES, "emulator/printed-python.txt").read_text()
     expect_run("the emulator in Python", printed, sys.executable, f"{EXAMPLES}/emulator/emulator.py", env=env)
-    wanted = "exchange_plan was given no memory\nsettings 128\n"
-    expect_run("want of memory", wanted, sys.executable, "-c", WITHOUT_MEMORY, env=env)
+    expect_run("want of memory", "exchange_apply was given no memory\nTrue\n", sys.executable, "-c", WITHOUT_MEMORY, env=env)
     sys.path.insert(0, os.path.dirname(module))
     picture = FromPython().ask("draw", [calls.read("all-to-all.txt"), calls.read("all-to-all.plan.txt")])
     expect("an answer that needs more room", picture == (0, calls.read("all-to-all.svg")), picture)
