@@ -6,7 +6,7 @@ use Rattle.clap.specs.Words.{Row, Text, all_of, first_of}
 use Rattle.command_words.specs.declared.words.Job.{Job}
 use Rattle.command_words.specs.declared.words.Job.TheVariants.{Plan, Check, Draw, Switch, Direct, Apply, Run, Serve, Host, Talk}
 use Rattle.command_words.specs.declared.words.Request.{Request}
-use Rattle.command_words.specs.Jobs.{IsJob, IsRequest, HasWord, HasWorked, HasBoth, HasApply, HasRun, HasServe, files_of, clients_of, input_name}
+use Rattle.command_words.specs.Jobs.{IsJob, IsRequest, HasWord, HasWorked, HasBoth, HasApply, HasRun, HasServe, AreClientNames, MayBeDone, NameInputOnce, files_of, clients_of, input_name}
 
 -- the one or the other
 abbrev Either : Bool → Type 0 → Type 0 → Type 0
@@ -74,7 +74,7 @@ files_are name rows (Host shape clients image workers) is = rw (is.0, is.3) refl
 files_are name rows (Talk shape image) is = rw (is.0, is.2) refl
 
 -- two jobs that the same words hold have the same files
-pub same_files : (o : Option (Text × List Row)) (a b : Request) → MatchOption o ⊥ (λ p. IsRequest p.0 p.1 a) → MatchOption o ⊥ (λ p. IsRequest p.0 p.1 b) → files_of a.job ≡ files_of b.job
+same_files : (o : Option (Text × List Row)) (a b : Request) → MatchOption o ⊥ (λ p. IsRequest p.0 p.1 a) → MatchOption o ⊥ (λ p. IsRequest p.0 p.1 b) → files_of a.job ≡ files_of b.job
 same_files None a b one other = absurd one
 same_files (Some p) a b one other = files_are p.0 p.1 a.job one.0 ∙ sym (files_are p.0 p.1 b.job other.0)
 
@@ -95,6 +95,13 @@ clients_are name rows (Host shape clients image workers) is = rw (is.0, is.2.0) 
 clients_are name rows (Talk shape image) is = rw is.0 refl
 
 -- and the same clients
-pub same_clients : (o : Option (Text × List Row)) (a b : Request) → MatchOption o ⊥ (λ p. IsRequest p.0 p.1 a) → MatchOption o ⊥ (λ p. IsRequest p.0 p.1 b) → clients_of a.job ≡ clients_of b.job
+same_clients : (o : Option (Text × List Row)) (a b : Request) → MatchOption o ⊥ (λ p. IsRequest p.0 p.1 a) → MatchOption o ⊥ (λ p. IsRequest p.0 p.1 b) → clients_of a.job ≡ clients_of b.job
 same_clients None a b one other = absurd one
 same_clients (Some p) a b one other = clients_are p.0 p.1 a.job one.0 ∙ sym (clients_are p.0 p.1 b.job other.0)
+
+-- so both may be done, or neither
+pub same_done : (o : Option (Text × List Row)) (a b : Request) → MatchOption o ⊥ (λ p. IsRequest p.0 p.1 a) → MatchOption o ⊥ (λ p. IsRequest p.0 p.1 b) → MayBeDone a.job → MayBeDone b.job
+same_done o a b one other done = record {
+  input = subst NameInputOnce (same_files o a b one other) done.input;
+  clients = subst AreClientNames (same_clients o a b one other) done.clients;
+}

@@ -1,18 +1,18 @@
 -- The job that the words of the command line name.
 use Rattle.std.specs.Prelude.{◌≡◌, ◌≢◌, ◌⊎◌, ℕ, ◌≤◌, List, [], ◌∷◌, ◌++◌, Some, None, String, codes, length, map, string_bytes, Bool, true, false, All, AllPairs, option_to_list, IfErr, MatchOption, Result, ⊤}
 use Rattle.std.specs.Str.Parse.{IsNumeral, digits_value, without_leading_plus}
-use Rattle.clap.specs.Words.{Row, Text, all_of, first_of, one_of, subcommand_of, subcommand_rows_of, takes}
+use Rattle.clap.specs.Words.{Row, Text, Kinds, IsAmong, all_of, fault_of, first_of, one_of, subcommand_of, subcommand_rows_of}
 use Rattle.clap.specs.declared.parser.matches.ArgMatches.{ArgMatches}
 use Rattle.clap.specs.Values.{kind_of}
 use Rattle.clap.specs.declared.error.Error.{Error}
-use Rattle.clap.specs.declared.error.kind.ErrorKind.TheVariants.{DisplayHelp, DisplayVersion}
+use Rattle.clap.specs.declared.error.kind.ErrorKind.TheVariants.{DisplayHelp, DisplayVersion, OutOfMemory}
 use Rattle.exchange_limits.specs.declared.limits.TheConstants.{MAX_WORKERS}
 use Rattle.command_words.specs.declared.limits.TheConstants.{MAX_CLIENTS}
 use Rattle.command_words.specs.declared.words.Job.{Job}
 use Rattle.command_words.specs.declared.words.Job.TheVariants.{Plan, Check, Draw, Switch, Direct, Apply, Run, Serve, Host, Talk}
 use Rattle.command_words.specs.declared.words.Request.{Request}
 use Rattle.command_words.specs.declared.words.WordsFault.{WordsFault}
-use Rattle.command_words.specs.declared.words.WordsFault.TheVariants.{NoMemory}
+use Rattle.command_words.specs.declared.words.WordsFault.TheVariants.{Clap, NoMemory}
 use Rattle.command_words.specs.declared.words.Lack.{Lack}
 use Rattle.command_words.specs.declared.words.Lack.TheVariants.{Memory}
 use Rattle.command_words.specs.Program.{program}
@@ -91,9 +91,14 @@ IsRequest name rows request = IsJob name rows request.job × IsQuiet rows reques
 abbrev pub Holds : List Text → Request → Type 0
 Holds words request = MatchOption (subcommand_of program words) ⊥ (λ p. IsRequest p.0 p.1 request)
 
--- clap's grammar takes the words
-unfoldable pub IsTaken : List Text → Type 0
-IsTaken words = takes program words ≡ true
+-- what the program's grammar finds at fault in the words, by the kinds of clap's errors: a demand for
+-- help is one of them
+unfoldable pub faults_of : List Text → Kinds
+faults_of words = fault_of program words
+
+-- the grammar takes the words
+abbrev pub IsTaken : List Text → Type 0
+IsTaken words = faults_of words ≡ []
 
 -- as many clients, or scripts, as a job has may be served
 abbrev pub IsWithinLimits : Job → Type 0
@@ -148,9 +153,42 @@ pub record AreClientNames (names : List Text) : Type 0 where
   pub each : All IsClientName names
   pub apart : AllPairs (λ name later. name ≢ later) names
 
--- the words ask for a text that helps, and make no mistake
+-- a job may be done: one of its files at most is standard input, and its clients can be told apart
+pub record MayBeDone (job : Job) : Type 0 where
+  pub input : NameInputOnce (files_of job)
+  pub clients : AreClientNames (clients_of job)
+
+-- the words ask for this: they fit the grammar, and hold a job that may be done
+pub record AskFor (words : List Text) (request : Request) : Type 0 where
+  pub taken : IsTaken words
+  pub holds : Holds words request
+  pub job : MayBeDone request.job
+
+-- the error gives a text that helps, and tells no mistake
 abbrev pub AsksForHelp : Error → Type 0
 AsksForHelp error = (kind_of error ≡ DisplayHelp) ⊎ (kind_of error ≡ DisplayVersion)
+
+-- it is a mistake that is told, or lack of memory
+abbrev pub IsMistake : WordsFault → Type 0
+IsMistake NoMemory = ⊤
+IsMistake (Clap error) = AsksForHelp error → ⊥
+
+-- clap's error tells what the grammar finds at fault in the words; or a mistake, where they fit it,
+-- but ask for nothing that may be done
+abbrev pub IsToldOf : List Text → Error → Type 0
+IsToldOf words error =
+    IsAmong (kind_of error) (faults_of words)
+    ⊎ (IsTaken words × IsMistake (Clap error) × ((request : Request) → AskFor words request → ⊥))
+
+-- why words aren't read: what is at fault in them, or lack of memory
+abbrev pub IsFaultIn : List Text → WordsFault → Type 0
+IsFaultIn words NoMemory = ⊤
+IsFaultIn words (Clap error) = IsToldOf words error
+
+-- the fault is this error of clap, or lack of memory where that is what it tells
+abbrev pub IsFaultBy : Error → WordsFault → Type 0
+IsFaultBy error NoMemory = kind_of error ≡ OutOfMemory
+IsFaultBy error (Clap told) = (kind_of error ≢ OutOfMemory) × (told ≡ error)
 
 -- there is a text of this name
 abbrev pub HasWord : Text → List Row → Type 0
@@ -188,12 +226,3 @@ HasServe id rows = HasWord (codes "SHAPE") rows × HasSomeServed id rows × HasS
 -- where that is so, nothing but memory may be lacking
 abbrev pub LacksMemory : {X : Type 0} → Type 0 → Result X Lack → Type 0
 LacksMemory has result = IfErr result (λ lack. has → lack ≡ Memory)
-
--- An error to words that clap's grammar takes, and that hold a job of whose files at most one is
--- standard input, and whose clients may have their names, is want of memory.
-abbrev pub RefusesForMemory : List Text → Result Request WordsFault → Type 0
-RefusesForMemory words result =
-    IfErr result
-    (λ fault. IsTaken words → (request : Request) → Holds words request
-    → NameInputOnce (files_of request.job) → AreClientNames (clients_of request.job)
-    → fault ≡ NoMemory)

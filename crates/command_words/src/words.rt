@@ -1,8 +1,8 @@
 //! The words of the command line.
 
-ghost use Rattle.std.specs.Prelude.{◌≡◌, ◌↔◌, IfErr, IfOk, IsTrue, OnErr, OnOk, false, Some, codes};
-ghost use Rattle.clap.specs.Words.{new_app, rule_of, first_of, rows_of, found_of, kind_of};
-ghost use Rattle.clap.specs.declared.error.kind.ErrorKind.TheVariants.{OutOfMemory};
+ghost use Rattle.std.specs.Prelude.{◌≡◌, ◌≢◌, ◌↔◌, IfErr, IfOk, IsTrue, OnErr, OnOk, false, Some, codes};
+ghost use Rattle.clap.specs.Words.{new_app, rule_of, first_of, rows_of, found_of};
+ghost use Rattle.clap.specs.declared.error.kind.ErrorKind.TheVariants.{DisplayHelp, DisplayVersion};
 ghost use Rattle.command_words.specs.declared.words.Job.{Job};
 ghost use Rattle.command_words.specs.declared.words.Request.{Request};
 ghost use Rattle.command_words.specs.declared.words.Lack.TheVariants.{Memory};
@@ -11,7 +11,8 @@ ghost use Rattle.command_words.specs.Program.{IsCommand, AddsRule, AddsTexts, Ad
 ghost use Rattle.command_words.specs.Program.{top, planner, program};
 ghost use Rattle.command_words.specs.Program.{plan as plan_app, check as check_app, draw as draw_app, switch as switch_app, direct as direct_app, apply as apply_app, run as run_app, serve as serve_app, host as host_app, talk as talk_app};
 ghost use Rattle.command_words.specs.Jobs.{Holds, HasShape, HasTexts, HasServed, HasWorkers, IsJob, IsQuiet, IsRequest, IsWithinLimits, AreMatchesOf, IsTaken, NameInputOnce, AreClientNames, files_of, clients_of, texts_of};
-ghost use Rattle.command_words.specs.Jobs.{HasWord, HasBoth, HasSomeServed, HasSomeWorkers, HasWorked, HasApply, HasRun, HasServe, LacksMemory, RefusesForMemory};
+ghost use Rattle.command_words.specs.Jobs.{MayBeDone, AskFor, IsMistake, IsFaultIn, IsFaultBy};
+ghost use Rattle.command_words.specs.Jobs.{HasWord, HasBoth, HasSomeServed, HasSomeWorkers, HasWorked, HasApply, HasRun, HasServe, LacksMemory};
 
 use crate::clients::are_client_names;
 use crate::help::{
@@ -128,7 +129,7 @@ impl From<AllocError> for WordsFault {
 }
 
 impl From<clap::Error> for WordsFault {
-    ghost from_gives = { λ error fault. kind_of error ≡ OutOfMemory → fault ≡ NoMemory };
+    ghost from_gives = { λ error fault. IsFaultBy error fault };
 
     fn from(error: clap::Error) -> WordsFault {
         match error.kind() {
@@ -480,13 +481,16 @@ fn program<'a>(alloc: Global) -> Result<Command<'a>, AllocError>
 /// The matches of the words.
 fn matches_of<'a>(alloc: Global, words: &'a [String]) -> Result<ArgMatches<'a>, WordsFault>
     ensures matches { IfOk result (AreMatchesOf (texts_of words.entry.now)) }
-    ensures taken { IfErr result (λ fault. IsTaken (texts_of words.entry.now) → fault ≡ NoMemory) }
+    ensures taken { OnOk result (IsTaken (texts_of words.entry.now)) }
+    ensures fault { IfErr result (IsFaultIn (texts_of words.entry.now)) }
 {
     Ok(program(alloc)?.try_get_matches_from(words)?)
 }
 
 /// The fault of words that clap has let through.
-fn misused(alloc: Global, kind: ErrorKind, message: &str) -> WordsFault {
+fn misused(alloc: Global, kind: ErrorKind, message: &str) -> WordsFault
+    ensures { kind ≢ DisplayHelp → kind ≢ DisplayVersion → IsMistake result }
+{
     let Ok(mut program) = program(alloc) else {
         return WordsFault::NoMemory;
     };
@@ -514,7 +518,9 @@ impl From<AllocError> for Lack {
 }
 
 /// The fault of a word that is missing.
-fn missing(alloc: Global) -> WordsFault {
+fn missing(alloc: Global) -> WordsFault
+    ensures { IsMistake result }
+{
     misused(
         alloc,
         ErrorKind::MissingRequiredArgument,
@@ -524,7 +530,8 @@ fn missing(alloc: Global) -> WordsFault {
 
 /// The fault of what a job lacks.
 fn fault_of(alloc: Global, lack: Lack) -> WordsFault
-    ensures { lack ≡ Memory → result ≡ NoMemory }
+    ensures memory { lack ≡ Memory → result ≡ NoMemory }
+    ensures mistake { IsMistake result }
 {
     match lack {
         Lack::Word => missing(alloc),
@@ -533,13 +540,17 @@ fn fault_of(alloc: Global, lack: Lack) -> WordsFault
 }
 
 /// The fault of words of which several name standard input.
-fn named_twice(alloc: Global) -> WordsFault {
+fn named_twice(alloc: Global) -> WordsFault
+    ensures { IsMistake result }
+{
     let message = "standard input, `-`, can be one file only";
     misused(alloc, ErrorKind::ArgumentConflict, message)
 }
 
 /// The fault of words whose clients can't be told apart, or have a name that is no name.
-fn misnamed(alloc: Global) -> WordsFault {
+fn misnamed(alloc: Global) -> WordsFault
+    ensures { IsMistake result }
+{
     let message = "a client's name is empty, has a line feed or stands twice";
     misused(alloc, ErrorKind::ValueValidation, message)
 }
@@ -819,10 +830,10 @@ fn is_quiet(matches: &ArgMatches<'_>) -> bool
 
 /// What the words ask for, whatever files it names.
 fn request_named(alloc: Global, words: &[String]) -> Result<Request, WordsFault>
+    ensures taken { OnOk result (IsTaken (texts_of words.now)) }
     ensures request { IfOk result (Holds (texts_of words.now)) }
     ensures limits { IfOk result (λ request. IsWithinLimits request.job) }
-    ensures taken { IfErr result (λ fault. IsTaken (texts_of words.now) →
-        (request : Request) → Holds (texts_of words.now) request → fault ≡ NoMemory) }
+    ensures fault { IfErr result (IsFaultIn (texts_of words.now)) }
 {
     let matches = matches_of(alloc, words)?;
     match matches.subcommand() {
@@ -869,10 +880,9 @@ fn names_clients(job: &Job) -> bool
 /// Whether a job may be done: its fault, where several of its files are standard input, or its clients
 /// can't be told apart.
 fn judged(alloc: Global, job: &Job) -> Result<(), WordsFault>
-    ensures input { OnOk result (NameInputOnce (files_of job.now)) }
-    ensures clients { OnOk result (AreClientNames (clients_of job.now)) }
-    ensures refused { OnErr result (NameInputOnce (files_of job.now)
-        → AreClientNames (clients_of job.now) → ⊥) }
+    ensures done { OnOk result (MayBeDone job.now) }
+    ensures refused { OnErr result (MayBeDone job.now → ⊥) }
+    ensures mistake { IfErr result IsMistake }
 {
     if !reads_input_once(job) {
         return Err(named_twice(alloc));
@@ -883,13 +893,12 @@ fn judged(alloc: Global, job: &Job) -> Result<(), WordsFault>
     Ok(())
 }
 
-/// The request, where one of its files at most is standard input and its clients can be told apart.
+/// The request, where its job may be done.
 fn accepted(alloc: Global, request: Request) -> Result<Request, WordsFault>
     ensures same { IfOk result (λ accepted. accepted ≡ request) }
-    ensures input { IfOk result (λ accepted. NameInputOnce (files_of accepted.job)) }
-    ensures clients { IfOk result (λ accepted. AreClientNames (clients_of accepted.job)) }
-    ensures refused { IfErr result (λ _. NameInputOnce (files_of request.job)
-        → AreClientNames (clients_of request.job) → ⊥) }
+    ensures done { OnOk result (MayBeDone request.job) }
+    ensures refused { OnErr result (MayBeDone request.job → ⊥) }
+    ensures mistake { IfErr result IsMistake }
 {
     match judged(alloc, &request.job) {
         Ok(()) => Ok(request),
@@ -899,16 +908,14 @@ fn accepted(alloc: Global, request: Request) -> Result<Request, WordsFault>
 
 /// Reads the program's words, the first of which is its own name.
 ///
-/// Gives what clap finds in them: the command's job, with its texts and its number of workers, and whether it
-/// is quiet. Words that fit no command are clap's error, which holds the text to print, and so is a demand for
-/// help or for the program's version, a job of which several files are `-`, standard input, and clients whose
-/// names are no names. Words that clap takes, and that hold another job, are refused for want of memory only.
+/// Gives what clap finds in words that fit the program's grammar: the command's job, with its texts and its number
+/// of workers, and whether it is quiet. Other words are clap's error of what is at fault in them, which holds the
+/// text to print; a demand for help or for the program's version is one. So are words that fit, but name a job of
+/// which several files are `-`, standard input, or clients whose names are no names.
 pub fn read_words(alloc: Global, words: &[String]) -> Result<Request, WordsFault>
-    ensures request { IfOk result (Holds (texts_of words.now)) }
+    ensures request { IfOk result (AskFor (texts_of words.now)) }
     ensures limits { IfOk result (λ request. IsWithinLimits request.job) }
-    ensures input { IfOk result (λ request. NameInputOnce (files_of request.job)) }
-    ensures clients { IfOk result (λ request. AreClientNames (clients_of request.job)) }
-    ensures refused { RefusesForMemory (texts_of words.now) result }
+    ensures fault { IfErr result (IsFaultIn (texts_of words.now)) }
 {
     accepted(alloc, request_named(alloc, words)?)
 }

@@ -1,12 +1,12 @@
 -- How the program ends.
-use Rattle.std.specs.Prelude.{◌≡◌, ◌⊎◌, ℕ, List, [], Option, Result, Ok, Err, IfOk}
+use Rattle.std.specs.Prelude.{◌≡◌, ◌⊎◌, ℕ, List, [], Option, Result, Ok, Err, IfErr, IfOk}
 use Rattle.std.specs.Io.KnownBytes.{Appends}
 use Rattle.answers.specs.Refusals.{Printed}
 use Rattle.answers.specs.limits.TheConstants.{DONE}
 use Rattle.command_words.specs.declared.words.Request.{Request}
 use Rattle.command_words.specs.declared.words.WordsFault.{WordsFault}
 use Rattle.command_words.specs.declared.words.WordsFault.TheVariants as words_fault
-use Rattle.command_words.specs.Jobs.{Holds, AsksForHelp, RefusesForMemory}
+use Rattle.command_words.specs.Jobs.{AskFor, AsksForHelp, IsFaultIn}
 use Rattle.dispatch.specs.declared.limits.TheConstants.{MISUSED}
 use Rattle.dispatch.specs.declared.unanswered.Unanswered.TheVariants.{NoMemory}
 use Rattle.dispatch.specs.Responses.{IsResponseTo, unanswered}
@@ -57,8 +57,8 @@ IsEndFor input (Err (words_fault.Clap error)) streams code =
 -- how it ends for these words
 abbrev pub IsEndForWords : List (List ℕ) → Option (List ℕ) → Streams → ℕ → Type 0
 IsEndForWords words input streams code =
-    (request : Result Request WordsFault) × IfOk request (Holds words)
-    × RefusesForMemory words request × IsEndFor input request streams code
+    (request : Result Request WordsFault) × IfOk request (AskFor words)
+    × IfErr request (IsFaultIn words) × IsEndFor input request streams code
 
 -- how it ends where the words can't be had as texts
 abbrev pub IsEndWithoutWords : Option (List ℕ) → Option (List ℕ) → ℕ → Type 0

@@ -1,5 +1,5 @@
-use Rattle.std.proofs.Common.{refl}
+use Rattle.std.proofs.Common.{◌∙◌, sym}
 use Rattle.command_words.proofs.words.WordsFaultFromClapError.from.Goals as goal
 
 pub returns-in-OutOfMemory : goal.returns-in-OutOfMemory
-returns-in-OutOfMemory c = λ _. refl
+returns-in-OutOfMemory c = sym c.kind.ensures ∙ c.in-OutOfMemory.is
