@@ -9,6 +9,8 @@
 #   odd         each pair of modules in turn, so that each link has 255 uses
 #   star        all from module 0, to each module in turn
 #   two_by_two  from two modules to two
+#   three_by_three, four_by_two, sixteen_by_three, thirty_two_by_two
+#               each of so many modules to each of so many others, in turn
 #   part        2731 transfers from module 0 to module 1
 #   wide        as scrambled, over 32 modules
 #
@@ -39,6 +41,7 @@ trap 'rm -rf "$work"' EXIT
 # About a twelfth more than was counted last, since other versions of both compilers count a little differently
 declare -A greatest=(
     [scrambled]=0.89 [scrambled-1024]=1.01 [one_link]=0.51 [one_link-1024]=0.65 [odd]=0.80 [star]=0.52 [two_by_two]=0.87 [part]=0.49 [wide]=0.89
+    [three_by_three]=1.08 [four_by_two]=1.08 [sixteen_by_three]=1.07 [thirty_two_by_two]=1.09
 )
 greatest_growth=5
 
@@ -109,9 +112,14 @@ from_to 1024 0 1 0 >"$work/one_link-1024"
 from_to 4080 t%16 '(t/16+t)%16' 1 >"$work/odd"
 from_to 4096 0 t%16 0 >"$work/star"
 from_to 4096 t%2 t/2%2 0 >"$work/two_by_two"
+from_to 4095 t%3 t/3%3 0 >"$work/three_by_three"
+from_to 4088 t%4 t/4%2 0 >"$work/four_by_two"
+from_to 4096 t%16 t/16%3 0 >"$work/sixteen_by_three"
+from_to 4096 t%32 t/32%2 0 >"$work/thirty_two_by_two"
 from_to 2731 0 1 0 >"$work/part"
 declare -A counts
-for name in scrambled one_link odd star two_by_two part wide scrambled-1024 one_link-1024; do
+for name in scrambled one_link odd star two_by_two three_by_three four_by_two sixteen_by_three thirty_two_by_two \
+    part wide scrambled-1024 one_link-1024; do
     measure $name
 done
 growth scrambled
