@@ -1,4 +1,4 @@
-//! The rows of each crate in a module of its own, the moments at which planners arrive at a gate.
+//! The rows of each crate in a module of its own, and the moments at which planners arrive at a gate.
 
 mod alternating_path_rows;
 mod arrivals;
@@ -9,7 +9,6 @@ mod link_graph_rows;
 mod move_directions_rows;
 mod planning;
 mod prints;
-mod refusal_notes_rows;
 mod schedule_certificate_rows;
 mod schedule_picture_rows;
 mod texts;

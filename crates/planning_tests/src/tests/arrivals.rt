@@ -1,29 +1,13 @@
 //! Who comes to the gate while a batch is planned, and how often.
 
 use super::planning::plan_at;
-use super::texts::{FOUR_BY_FOUR, THREE_TRANSFERS};
+use super::texts::{FOUR_BY_FOUR, THREE_TRANSFERS, equal_transfers};
 use exchange_limits::MAX_WORKERS;
 use schedule_certificate::Gate;
 use std::alloc::{AllocError, Global};
 use std::sync::atomic::AtomicUsize;
 use std::sync::atomic::Ordering::SeqCst;
 use std::thread::Threads;
-
-/// Two equal transfers.
-const TWO_EQUAL: &str = "batch 2\npush 0 0 1 0\npush 0 0 1 0\n";
-
-/// Eight equal transfers.
-const EIGHT_EQUAL: &str = "\
-batch 8
-push 0 0 1 0
-push 0 0 1 0
-push 0 0 1 0
-push 0 0 1 0
-push 0 0 1 0
-push 0 0 1 0
-push 0 0 1 0
-push 0 0 1 0
-";
 
 /// Two transfers that share no link.
 const APART: &str = "batch 2\npush 0 0 1 0\npush 1 0 0 0\n";
@@ -100,6 +84,18 @@ fn all_come<R: AllocGlobal + Threads + Sync>(rt: &R, text: &str, rows: &[Arrival
     true
 }
 
+/// The same of a batch of so many equal transfers.
+fn all_come_to_equal<R: AllocGlobal + Threads + Sync>(
+    rt: &R,
+    count: usize,
+    rows: &[Arrivals],
+) -> bool {
+    match equal_transfers(rt.alloc(), count) {
+        Ok(text) => all_come(rt, text.as_str(), rows),
+        Err(_) => false,
+    }
+}
+
 /// Four uses of each link: two levels of halves.
 const TWO_LEVELS: &[Arrivals] = &[
     (1, &[]),
@@ -111,9 +107,24 @@ const TWO_LEVELS: &[Arrivals] = &[
     (64, &[1, 1, 17, 33, 33, 49]),
 ];
 
+/// Two uses of a link: one level, however few the transfers are.
+const ONE_LEVEL: &[Arrivals] = &[
+    (1, &[]),
+    (2, &[1, 2]),
+    (3, &[1, 3]),
+    (4, &[1, 3]),
+    (64, &[1, 33]),
+];
+
+/// One use of each link, or none: nothing is halved.
+const NO_LEVEL: &[Arrivals] = &[(64, &[])];
+
 #[test]
-fn arrivals_of_two_levels(rt: HostRuntime) {
+fn arrivals_of_parts(rt: HostRuntime) {
     assert!(rt; all_come(&rt, FOUR_BY_FOUR, TWO_LEVELS));
+    assert!(rt; all_come(&rt, THREE_TRANSFERS, ONE_LEVEL));
+    assert!(rt; all_come(&rt, "batch 0\n", NO_LEVEL));
+    assert!(rt; all_come(&rt, APART, NO_LEVEL));
 }
 
 /// Eight uses of a link by as many transfers: three levels of halves, of four transfers, two and one.
@@ -126,29 +137,27 @@ const THREE_LEVELS: &[Arrivals] = &[
     (64, &[1, 1, 1, 9, 17, 17, 25, 33, 33, 33, 41, 49, 49, 57]),
 ];
 
-#[test]
-fn arrivals_of_three_levels(rt: HostRuntime) {
-    assert!(rt; all_come(&rt, EIGHT_EQUAL, THREE_LEVELS));
-}
+/// As many uses as workers: six levels, down to one worker and one transfer. On each level the halves begin with those whose numbers stand
+/// in a line: the halves have 32 workers, 16, 8, 4, 2 and 1.
+const SIX_LEVELS: &[Arrivals] = &[(
+    64,
+    &[
+        1, 33, //
+        1, 17, 33, 49, //
+        1, 9, 17, 25, 33, 41, 49, 57, //
+        1, 5, 9, 13, 17, 21, 25, 29, 33, 37, 41, 45, 49, 53, 57, 61, //
+        1, 3, 5, 7, 9, 11, 13, 15, 17, 19, 21, 23, 25, 27, 29, 31, //
+        33, 35, 37, 39, 41, 43, 45, 47, 49, 51, 53, 55, 57, 59, 61, 63, //
+        1, 2, 3, 4, 5, 6, 7, 8, 9, 10, 11, 12, 13, 14, 15, 16, //
+        17, 18, 19, 20, 21, 22, 23, 24, 25, 26, 27, 28, 29, 30, 31, 32, //
+        33, 34, 35, 36, 37, 38, 39, 40, 41, 42, 43, 44, 45, 46, 47, 48, //
+        49, 50, 51, 52, 53, 54, 55, 56, 57, 58, 59, 60, 61, 62, 63, 64, //
+    ],
+)];
 
-/// Two uses of a link: one level, however few the transfers are.
-const ONE_LEVEL: &[Arrivals] = &[
-    (1, &[]),
-    (2, &[1, 2]),
-    (3, &[1, 3]),
-    (4, &[1, 3]),
-    (64, &[1, 33]),
-];
-
 #[test]
-fn arrivals_of_small_parts(rt: HostRuntime) {
-    assert!(rt; all_come(&rt, TWO_EQUAL, ONE_LEVEL));
-    assert!(rt; all_come(&rt, THREE_TRANSFERS, ONE_LEVEL));
-}
-
-/// One use of each link, or none: nothing is halved.
-#[test]
-fn nobody_comes_where_nothing_is_halved(rt: HostRuntime) {
-    assert!(rt; come(&rt, "batch 0\n", MAX_WORKERS, &[]));
-    assert!(rt; come(&rt, APART, MAX_WORKERS, &[]));
+fn arrivals_of_equal_transfers(rt: HostRuntime) {
+    assert!(rt; all_come_to_equal(&rt, 2, ONE_LEVEL));
+    assert!(rt; all_come_to_equal(&rt, 8, THREE_LEVELS));
+    assert!(rt; all_come_to_equal(&rt, 64, SIX_LEVELS));
 }

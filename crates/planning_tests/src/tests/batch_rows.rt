@@ -28,6 +28,18 @@ fn are_equal(alloc: Global, one: &str, other: &str) -> Option<bool> {
     Some(one == other)
 }
 
+/// Whether the batch of a text is written by the same text.
+fn is_written_again(alloc: Global, text: &str) -> Option<bool> {
+    let batch = read(alloc, text)?;
+    let written = batch.write().ok()?;
+    Some(written.as_slice() == text.as_bytes())
+}
+
+#[test]
+fn three_transfers(rt: HostRuntime) {
+    assert!(rt; is_written_again(rt.alloc(), THREE_TRANSFERS) == Some(true));
+}
+
 #[test]
 fn batches_are_compared(rt: HostRuntime) {
     let pull = "batch 1\npull 0 0 1 0\n";

@@ -6,7 +6,6 @@ ghost use Rattle.link_graph.specs.Rows.{two_settings, two_named, two_settings_te
 ghost use Rattle.link_graph.specs.ScheduleText.{schedule_text, text_with};
 
 use super::prints::prints;
-use super::texts::{THREE_TRANSFERS, graph};
 use link_graph::laws::link_order;
 use link_graph::{Certificate, CheckFault, End, LINKS, Link, Schedule, ScheduleFault};
 use std::alloc::Global;
@@ -33,93 +32,25 @@ const FIRST: Link = Link {
     module: 0,
 };
 
-/// Whether these are the transfers of row three-transfers that use a link.
-fn are_users(alloc: Global, link: Link, wanted: &[usize]) -> Option<bool> {
-    let graph = graph(alloc, THREE_TRANSFERS)?;
-    let users = graph.transfers_of(link).ok()?;
-    Some(users.as_slice() == wanted)
-}
-
-#[test]
-fn transfers_of_a_link(rt: HostRuntime) {
-    assert!(rt; are_users(rt.alloc(), FIRST, &[0, 1]) == Some(true));
-}
-
 /// The text of a shortest schedule of the batch of three transfers, with its certificate.
 const CERTIFIED: &[u8] =
     b"settings 2\nsetting 0 2\nsetting 1\nbusiest link 0 module 0\nnamed 0 1\n";
 
-/// What a schedule's text says.
-type Said = (Schedule, Option<Certificate>);
-
-/// Whether two schedules are equal, and whether their certificates are.
-#[derive(Clone, Copy, PartialEq)]
-struct AreEqual {
-    schedules: bool,
-    certificates: bool,
-}
-
-fn compare(one: &Said, other: &Said) -> AreEqual {
-    AreEqual {
-        schedules: one.0 == other.0,
-        certificates: one.1 == other.1,
-    }
-}
-
-/// What is equal of the certified text and another one.
-fn compare_texts(alloc: Global, other: &[u8]) -> Option<AreEqual> {
-    let one = Schedule::read(alloc, CERTIFIED).ok()?;
-    let other = Schedule::read(alloc, other).ok()?;
-    Some(compare(&one, &other))
-}
-
-/// Whether a text says another schedule than the certified one, and the same certificate.
-fn differs_in_schedule(alloc: Global, text: &[u8]) -> bool {
-    let wanted = AreEqual {
-        schedules: false,
-        certificates: true,
-    };
-    compare_texts(alloc, text) == Some(wanted)
-}
-
-/// Whether a text says another certificate than the certified one, and the same schedule.
-fn differs_in_certificate(alloc: Global, text: &[u8]) -> bool {
-    let wanted = AreEqual {
-        schedules: true,
-        certificates: false,
-    };
-    compare_texts(alloc, text) == Some(wanted)
+/// Whether two texts say equal schedules, and whether they say equal certificates.
+fn are_equal(alloc: Global, one: &[u8], other: &[u8]) -> Option<(bool, bool)> {
+    let (schedule, certificate) = Schedule::read(alloc, one).ok()?;
+    let (other_schedule, other_certificate) = Schedule::read(alloc, other).ok()?;
+    Some((schedule == other_schedule, certificate == other_certificate))
 }
 
 #[test]
-fn schedules_are_compared(rt: HostRuntime) {
+fn schedules_and_certificates_are_compared(rt: HostRuntime) {
     let alloc = rt.alloc();
-    let fewer = b"settings 1\nsetting 0 2\nbusiest link 0 module 0\nnamed 0 1\n";
-    assert!(rt; differs_in_schedule(alloc, fewer));
+    assert!(rt; are_equal(alloc, CERTIFIED, CERTIFIED) == Some((true, true)));
     let turned = b"settings 2\nsetting 2 0\nsetting 1\nbusiest link 0 module 0\nnamed 0 1\n";
-    assert!(rt; differs_in_schedule(alloc, turned));
-    let joined = b"settings 2\nsetting 0 2 1\nsetting\nbusiest link 0 module 0\nnamed 0 1\n";
-    assert!(rt; differs_in_schedule(alloc, joined));
-}
-
-#[test]
-fn certificates_are_compared(rt: HostRuntime) {
-    let alloc = rt.alloc();
+    assert!(rt; are_equal(alloc, CERTIFIED, turned) == Some((false, true)));
     let named = b"settings 2\nsetting 0 2\nsetting 1\nbusiest link 0 module 0\nnamed 0 2\n";
-    assert!(rt; differs_in_certificate(alloc, named));
-    let link = b"settings 2\nsetting 0 2\nsetting 1\nbusiest link 3 module 0\nnamed 0 1\n";
-    assert!(rt; differs_in_certificate(alloc, link));
-    let none = b"settings 2\nsetting 0 2\nsetting 1\nbusiest none\n";
-    assert!(rt; differs_in_certificate(alloc, none));
-}
-
-#[test]
-fn what_is_said_twice_is_equal(rt: HostRuntime) {
-    let all = AreEqual {
-        schedules: true,
-        certificates: true,
-    };
-    assert!(rt; compare_texts(rt.alloc(), CERTIFIED) == Some(all));
+    assert!(rt; are_equal(alloc, CERTIFIED, named) == Some((true, false)));
 }
 
 /// Reads a text, and writes what it says: the same text.

@@ -1,8 +1,7 @@
 use super::planning::{Plan, plan_at};
-use super::texts::{FIRST_FIT_LOSES, FOUR_BY_FOUR, read};
-use exchange_limits::{MAX_WORKERS, WorkerCount};
+use super::texts::{FIRST_FIT_LOSES, FOUR_BY_FOUR, THREE_BY_THREE, equal_transfers, read};
 use link_graph::Schedule;
-use schedule_certificate::{Gate, OpenGate, Workers, first_fit};
+use schedule_certificate::{Gate, OpenGate, first_fit};
 use std::alloc::Global;
 use std::sync::atomic::AtomicBool;
 use std::sync::atomic::Ordering::SeqCst;
@@ -35,8 +34,8 @@ const PLAN_OF_FOUR: Plan = Plan {
     reinserted: 0,
 };
 
-/// Each of five modules pushes a block to each of them. A half of these transfers may have links with three uses, and is then halved once more,
-/// into two halves that have four colours together.
+/// Each of five modules pushes a block to each of them. A half of these transfers may have links with three uses, and is then halved once
+/// more, into two halves that have four colours together.
 const FIVE_BY_FIVE: &str = "\
 batch 25
 push 0 5 0 0
@@ -72,12 +71,34 @@ fn put_back_as_many<R: AllocGlobal + Threads + Sync>(rt: &R, workers: usize) -> 
     by_one.is_some() && plan_at(rt, FIVE_BY_FIVE, workers, &OpenGate) == by_one
 }
 
+/// Whether the plan of a batch text by one worker has so many settings, and at most so many transfers were put back.
+fn put_back_at_most<R: AllocGlobal + Threads + Sync>(
+    rt: &R,
+    text: &str,
+    settings: usize,
+    most: usize,
+) -> bool {
+    match plan_at(rt, text, 1, &OpenGate) {
+        Some(plan) => plan.settings == settings && plan.reinserted <= most,
+        None => false,
+    }
+}
+
+/// Whether row largest-batch has a setting for each transfer, and none was put back.
+fn put_back_none_of_most<R: AllocGlobal + Threads + Sync>(rt: &R) -> bool {
+    match equal_transfers(rt.alloc(), 4096) {
+        Ok(text) => put_back_at_most(rt, text.as_str(), 4096, 0),
+        Err(_) => false,
+    }
+}
+
 #[test]
-fn reinsertions_of_all_workers(rt: HostRuntime) {
-    assert!(rt; put_back_as_many(&rt, 2));
-    assert!(rt; put_back_as_many(&rt, 3));
-    assert!(rt; put_back_as_many(&rt, 16));
-    assert!(rt; put_back_as_many(&rt, 64));
+fn reinsertions(rt: HostRuntime) {
+    assert!(rt; put_back_at_most(&rt, THREE_BY_THREE, 3, 2));
+    assert!(rt; put_back_none_of_most(&rt));
+    for workers in [2, 3, 16, 64] {
+        assert!(rt; put_back_as_many(&rt, workers), "{workers}");
+    }
 }
 
 /// How often a worker looks whether the other has come.
@@ -203,22 +224,4 @@ fn quarters_at_once(rt: HostRuntime) {
     assert!(rt; gate.pair.second.load(SeqCst));
     assert!(rt; !gate.pair.gave_up.load(SeqCst));
     assert!(rt; !gate.out_of_order.load(SeqCst));
-}
-
-/// Whether the workers are so many, numbered on from the least.
-fn are_numbered(workers: Workers, least: usize, count: usize) -> bool {
-    workers.least == least && workers.count == count
-}
-
-#[test]
-fn halves_of_workers(rt: HostRuntime) {
-    let (first, rest) = Workers::all(WorkerCount::new(5).unwrap()).halves();
-    assert!(rt; are_numbered(first, 1, 3));
-    assert!(rt; are_numbered(rest, 4, 2));
-    let (first, rest) = rest.halves();
-    assert!(rt; are_numbered(first, 4, 1));
-    assert!(rt; are_numbered(rest, 5, 1));
-    let (first, rest) = Workers::all(WorkerCount::new(MAX_WORKERS).unwrap()).halves();
-    assert!(rt; are_numbered(first, 1, 32));
-    assert!(rt; are_numbered(rest, 33, 32));
 }

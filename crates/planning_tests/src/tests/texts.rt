@@ -2,7 +2,7 @@
 
 use batch::{Batch, Shape};
 use link_graph::LinkGraph;
-use std::alloc::Global;
+use std::alloc::{AllocError, Global};
 
 /// Row three-transfers. Transfers 0 and 1 use link 0 of module 0, 1 and 2 link 3 of module 2.
 pub const THREE_TRANSFERS: &str = "batch 3\npush 0 0 1 0\npush 0 1 2 0\npush 1 1 2 1\n";
@@ -44,6 +44,29 @@ push 2 2 1 6
 push 0 3 1 3
 push 2 3 1 7
 ";
+
+/// Row three-by-three: each link has three uses.
+pub const THREE_BY_THREE: &str = "\
+batch 9
+push 0 3 0 0
+push 0 3 1 0
+push 0 3 2 0
+push 1 3 0 1
+push 1 3 1 1
+push 1 3 2 1
+push 2 3 0 2
+push 2 3 1 2
+push 2 3 2 2
+";
+
+/// The text of a batch of so many times `push 0 0 1 0`.
+pub fn equal_transfers(alloc: Global, count: usize) -> Result<String, AllocError> {
+    let mut text = format!(in alloc; "batch {count}\n")?;
+    for _ in 0..count {
+        text.push_str("push 0 0 1 0\n")?;
+    }
+    Ok(text)
+}
 
 /// The batch of a text, against the widest shape.
 pub fn read(alloc: Global, text: &str) -> Option<Batch> {
