@@ -12,7 +12,9 @@ source "$here/prefix.sh"
 
 [[ $prefix != *[[:space:]\$\'\"\\\#]* ]] || fail 1 "exchange.pc can't name this folder: $prefix"
 [ -d "$(dirname "$prefix")" ] || fail 1 "there is no folder $(dirname "$prefix")"
-command -v rt >/dev/null || fail 1 "the command rt of the Rattle kit isn't on the PATH"
+for tool in rt cc ar python3; do
+    command -v "$tool" >/dev/null || fail 1 "the command $tool isn't on the PATH"
+done
 "$here/build.sh"
 work=$(mktemp -d)
 trap 'rm -rf "$work"' EXIT
@@ -26,9 +28,9 @@ gather() {
 # The library for C, with the file of the kit that it takes its memory by; and the same as a shared library, which gives out calls alone.
 (cd "$work/library" && ar x "$top/crates/exchange_c/out/libexchange_c.a")
 (cd "$work/allocator" && ar x "$(dirname "$(rt doc)")/c/liblibc_c.a")
-ar qcs "$work/libexchange.a" "$work"/library/* "$work"/allocator/*
+ar qcsD "$work/libexchange.a" "$work"/library/* "$work"/allocator/*
 echo '{ global: exchange_*; local: *; };' >"$work/names"
-${CC:-cc} -shared -o "$work/libexchange.so" -Wl,-soname,libexchange.so -Wl,-z,defs -Wl,--version-script="$work/names" \
+cc -shared -o "$work/libexchange.so" -Wl,-soname,libexchange.so -Wl,-z,defs -Wl,--version-script="$work/names" \
     -Wl,--whole-archive "$work/libexchange.a" -Wl,--no-whole-archive
 gather 644 "$work/libexchange.a" lib/libexchange.a
 gather 755 "$work/libexchange.so" lib/libexchange.so
