@@ -1,13 +1,14 @@
 #!/usr/bin/env bash
-# Tries the built programs: the start script, the rows of each command, what the documents show, live clients, the calls for programs in C,
-# the instructions that planning, runs and sessions take, and hostile use. What isn't built yet is proved and built first.
+# Tries the built programs: the start script, the rows of each command, what the documents show, live clients, the calls from C and Python, what is
+# installed, the instructions that planning, runs and sessions take, and hostile use. What isn't built yet is proved and built first.
 set -eu
 cd "$(dirname "$(readlink -f "${BASH_SOURCE[0]}")")/.."
 tools/start/run.sh
 tools/rows/run.py
+tools/c/run.sh
+tools/python/run.py
 tools/texts/run.py
 tools/hosts/run.sh
-tools/c/run.sh
 bench/planning/run.sh --check
 bench/run/growth.sh --check
 tools/hostile/run.sh

@@ -15,13 +15,8 @@ work=$(mktemp -d)
 trap 'rm -rf "$work"' EXIT
 export PYTHONDONTWRITEBYTECODE=1
 
-"$top/exchange" prove
+"$top/tools/install/build.sh"
 library=$top/crates/exchange_c/out/libexchange_c.a
-if [ ! -e "$library" ] || [ -n "$(find "$top/crates.txt" "$top"/crates/*/src "$top"/crates/*/specs -type f -newer "$library" -print -quit)" ]; then
-    echo "run.sh: proving and building exchange_c .." >&2
-    (cd "$top/crates/exchange_c" && rt lib) >"$work/log" 2>&1 || { cat "$work/log" >&2; exit 3; }
-    touch "$library"
-fi
 kit=$(dirname "$(rt doc)")/c/liblibc_c.a
 checks=(-std=c11 -Wall -Wextra -Werror -g -fsanitize=address,undefined -fno-sanitize-recover=all -I"$top/include")
 

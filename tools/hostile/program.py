@@ -55,7 +55,7 @@ def end(process, out_end, err_end, seconds=30):
         return Ended(b"", b"it hangs", None)
     if out_end is None:
         texts = [b"", *texts]
-    return Ended(*texts, os.waitstatus_to_exitcode(status))
+    return Ended(*texts, -os.WTERMSIG(status) if os.WIFSIGNALED(status) else os.WEXITSTATUS(status))
 
 
 def ask(*words, program=EXCHANGE, env=None, seconds=30, given=os.devnull):
