@@ -1,6 +1,6 @@
 //! Rows of a table's cells.
 
-ghost use Rattle.std.specs.Prelude.{◌≡◌, ℕ, ◌+◌, ◌*◌, ◌<◌, ◌≤◌, length, is_some, count_by, Some, None, IfOk, slice_index_or};
+ghost use Rattle.std.specs.Prelude.{◌≡◌, ℕ, ◌+◌, ◌*◌, ◌<◌, ◌≤◌, length, is_some, count_by, Some, None, IfOk, OnOk, slice_index_or};
 ghost use Rattle.std.specs.List.{filter_map};
 ghost use Rattle.alternating_path.specs.Cells.{AreNoted, KeepsRowsBelow, MovesRowsUp};
 
@@ -45,14 +45,16 @@ pub(crate) fn note_class(list: &mut [Option<usize>], starts: &[Option<u16>], col
     }
 }
 
-/// Takes a colour's row out. The rows behind it move up.
-pub(crate) fn remove_row(cells: &mut Vec<Option<u16>>, colour: usize)
+/// Takes a colour's row out. The rows behind it move up: they are copied as a whole, which takes a
+/// fraction of the steps that moving them cell by cell would.
+pub(crate) fn remove_row(cells: &mut Vec<Option<u16>>, colour: usize) -> Result<(), AllocError>
     requires { (colour + 1) * LINKS ≤ length cells.old.items }
-    ensures sized { length cells.new.items + LINKS ≡ length cells.old.items }
-    ensures before { KeepsRowsBelow colour cells.old.items cells.new.items }
-    ensures behind { MovesRowsUp colour cells.old.items cells.new.items }
+    ensures sized { OnOk result (length cells.new.items + LINKS ≡ length cells.old.items) }
+    ensures before { OnOk result (KeepsRowsBelow colour cells.old.items cells.new.items) }
+    ensures behind { OnOk result (MovesRowsUp colour cells.old.items cells.new.items) }
 {
     let start = colour * LINKS;
-    cells.copy_within(start + LINKS.., start);
-    cells.truncate(cells.len() - LINKS);
+    let behind = Vec::from_slice(*cells.allocator(), &cells[start + LINKS..])?;
+    cells.truncate(start);
+    cells.extend_from_slice(behind.as_slice())
 }

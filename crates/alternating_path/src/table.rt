@@ -296,7 +296,7 @@ impl<'a> Table<'a> {
             mut cells,
             inserted,
         } = self;
-        remove_row(&mut cells, colour);
+        remove_row(&mut cells, colour)?;
         let table = Table {
             graph,
             colours: colours - 1,

@@ -15,19 +15,19 @@ pub invariant_of-table : goal.invariant_of-table
 invariant_of-table c =
     let s = c.self.inside in
     let smallest = rw (← c.self.view_is) at c.smallest_class-colour.ensures in
-    removed_show s.graph.now s.colours c.smallest_class-colour.result s.cells.items _ c.self.invariant smallest.is_one c.remove_row.ensures.sized c.remove_row.ensures.before c.remove_row.ensures.behind
+    removed_show s.graph.now s.colours c.smallest_class-colour.result s.cells.items _ c.self.invariant smallest.is_one c.in_ok-remove_row.ensures.sized c.in_ok-remove_row.ensures.before c.in_ok-remove_row.ensures.behind
 
 pub returns-clause-proper : goal.returns-clause-proper
 returns-clause-proper c =
     let s = c.self.inside in
     let smallest = rw (← c.self.view_is) at c.smallest_class-colour.ensures in
-    cells_proper _ _ _ _ (removed_show s.graph.now s.colours c.smallest_class-colour.result s.cells.items _ c.self.invariant smallest.is_one c.remove_row.ensures.sized c.remove_row.ensures.before c.remove_row.ensures.behind)
+    cells_proper _ _ _ _ (removed_show s.graph.now s.colours c.smallest_class-colour.result s.cells.items _ c.self.invariant smallest.is_one c.in_ok-remove_row.ensures.sized c.in_ok-remove_row.ensures.before c.in_ok-remove_row.ensures.behind)
 
 pub returns-clause-taken : goal.returns-clause-taken
 returns-clause-taken c =
     let s = c.self.inside in
     let smallest = rw (← c.self.view_is) at c.smallest_class-colour.ensures in
     let starts = rw (← c.self.view_is) at c.starts.ensures in
-    let colours = removed_colours s.graph.now s.colours c.smallest_class-colour.result s.cells.items _ c.self.invariant smallest.is_one c.remove_row.ensures.sized c.remove_row.ensures.before c.remove_row.ensures.behind in
+    let colours = removed_colours s.graph.now s.colours c.smallest_class-colour.result s.cells.items _ c.self.invariant smallest.is_one c.in_ok-remove_row.ensures.sized c.in_ok-remove_row.ensures.before c.in_ok-remove_row.ensures.behind in
     rw (← c.self.view_is) (taken_back _ _ c.smallest_class-colour.result c.starts.result.now c.in_ok-class.class.items smallest starts c.in_ok-class.ensures
     (ap (λ (f : List (Option ℕ)). let v : Colouring = record { batch = s.graph.now; colours = s.colours - 1; colour = f; inserted = s.inserted } in v) colours))
