@@ -1,16 +1,27 @@
 #!/usr/bin/env bash
-# Counts the instructions of `apply` on a rack of 32 modules with 64 blocks of 256 words, the largest one: 2048 transfers, as many as there are
-# blocks to be written, of which each module pushes 64 to the next one, so that each block is read and written. Beside it the same of `run`, and
-# of plain Rust that copies the blocks within the image (plain_apply.rs). Both images have to be the same.
+# Counts the instructions of the largest runs: on a rack of 32 modules with 64 blocks of 256 words each module pushes 64 blocks to the next
+# one. So there are 2048 transfers, and each block is read and written. Counted are `apply` and `run` of that batch, and a session of `serve`
+# that hands it in, plans it and runs it. Each is a whole program, whose wires are plain ones.
 #
-# Needs valgrind and rustc. Build the program first: ./exchange prove
+# With --check each may take as many millions as `greatest` says; else the status is 1. Where valgrind is missing, --check says so and
+# counts nothing. Without --check plain Rust that copies the blocks within the image (plain_apply.rs) is counted too, and has to give the
+# same image as `apply`.
+#
+# Needs valgrind, and rustc without --check. Build the program first: ./exchange prove
 set -eu
+if ! command -v valgrind >/dev/null; then
+    echo "apply: valgrind is missing, so nothing was counted"
+    [ "${1-}" = --check ]
+    exit
+fi
 here=$(cd "$(dirname "${BASH_SOURCE[0]}")" && pwd)
 . "$here/../copy.sh"
 program=$here/../../crates/exchange/out/exchange
 work=$(mktemp -d)
 trap 'rm -rf "$work"' EXIT
-rustc --edition 2021 -O -o "$work/plain" "$here/plain_apply.rs"
+
+# A tenth to a fifth more than was counted. A fifth of a session makes its rack, a tenth takes the batch and plans it, and the rest runs it.
+declare -A greatest=([apply]=32 [run]=262 [serve]=27)
 
 {
     echo "batch 2048"
@@ -18,13 +29,47 @@ rustc --edition 2021 -O -o "$work/plain" "$here/plain_apply.rs"
         echo "push $((t % 32)) $((t / 32)) $(((t + 1) % 32)) $((t / 32))"
     done
 } >"$work/batch"
+{
+    cat "$work/batch"
+    printf '%s\n' "plan 1" "run 1" bye
+} >"$work/script"
 seq -w 0 299593 | head -c 2097152 >"$work/image"
 
-"$program" apply 32x64x256 "$work/batch" "$work/image" >"$work/after"
-"$work/plain" 64 256 "$work/batch" "$work/image" | cmp - "$work/after"
-applied=$(instructions "$program" apply 32x64x256 "$work/batch" "$work/image")
-ran=$(instructions "$program" run 32x64x256 "$work/batch")
-plain=$(instructions "$work/plain" 64 256 "$work/batch" "$work/image")
-awk -v a="$applied" -v r="$ran" -v p="$plain" 'BEGIN {
-    printf "2048 transfers of 256 words: %.2f million instructions of apply, %.2f of run, %.2f of plain Rust; ratio %.2f\n", a / 1e6, r / 1e6, p / 1e6, a / p
-}'
+# WORD..: the millions of instructions of the program with these words
+millions() {
+    local count
+    count=$(instructions "$@")
+    awk -v count="${count:?}" 'BEGIN { printf "%.2f", count / 1e6 }'
+}
+
+# COMMAND WORD..: what the command says into a file of its name, and its count
+measure() {
+    "$program" "$@" >"$work/$1"
+    count[$1]=$(millions "$program" "$@")
+}
+
+declare -A count
+measure apply 32x64x256 "$work/batch" "$work/image"
+measure run 32x64x256 "$work/batch"
+measure serve 32x64x256 "$work/script"
+if ! grep -q "^ran settings 64 words 524288 " "$work/run" || ! grep -q "^ran 1 run 1 settings 64 words 524288 " "$work/serve"; then
+    echo "apply: the batch wasn't run"
+    exit 1
+fi
+echo "2048 transfers of 256 words, in millions of instructions: ${count[apply]} of apply, ${count[run]} of run, ${count[serve]} of a session"
+
+if [ "${1-}" = --check ]; then
+    failed=
+    for name in apply run serve; do
+        if awk -v count="${count[$name]}" -v most="${greatest[$name]}" 'BEGIN { exit !(count > most) }'; then
+            echo "apply: $name takes ${count[$name]} million instructions, and may take ${greatest[$name]} million at most"
+            failed=yes
+        fi
+    done
+    [ ! "$failed" ]
+    exit
+fi
+
+rustc --edition 2021 -O -o "$work/plain" "$here/plain_apply.rs"
+"$work/plain" 64 256 "$work/batch" "$work/image" | cmp - "$work/apply"
+echo "plain Rust that copies the blocks: $(millions "$work/plain" 64 256 "$work/batch" "$work/image")"
