@@ -1,8 +1,7 @@
 -- The lines of `switch`, one more at a time, and the rack that has the modules of a batch.
-use Rattle.std.proofs.Common.{◌≡◌, ℕ, ◌<◌, ◌+◌, ◌^◌, ◌-◌, Bool, true, false, List, [], ◌++◌, length, get_or, Option, refl, sym, ap, ap₂, ◌∙◌, take, replicate, codes, ◌||◌, nat_le, arith}
-use Rattle.std.specs.Fmt.{digits, padded_integral, char_count, format_spec}
+use Rattle.std.proofs.Common.{◌≡◌, ℕ, ◌<◌, ◌+◌, Bool, true, false, List, [], ◌++◌, length, get_or, Option, refl, sym, ap, ap₂, ◌∙◌, take, codes, ◌||◌, nat_le, arith}
 use Rattle.std.specs.List.{flat_map, range_with_len}
-use Rattle.std.proofs.lemmas.List.{take_more, flat_map_more, append-nil}
+use Rattle.std.proofs.lemmas.List.{take_more, flat_map_more}
 use Rattle.std.proofs.lemmas.List.Folds.{list_any_at}
 use Rattle.std.proofs.lemmas.Bool.Decides.{nat_tests}
 use Rattle.batch.specs.declared.limits.TheConstants.{MAX_BLOCKS, MAX_WORDS}
@@ -18,20 +17,8 @@ use Rattle.schedule_certificate.specs.Plans.{Plan}
 use Rattle.setting_runner.specs.Runs.{numbers_of, setting_pairs}
 use Rattle.setting_runner.specs.Sending.{in_order, pairs_at, standing_before, turning}
 use Rattle.line_words.specs.HexWords.{hex2}
-use Rattle.line_words.proofs.Padded.{padded_byte}
 use Rattle.rack_answers.specs.Switching.{is_far, is_wide, joined_by, bytes_text, lines_for, setting_lines}
 use Rattle.batch.proofs.Lists.{more_parts}
-
--- the fill on both sides, of which there is none behind the digits
-append_nil_at : (ds : List ℕ) → replicate (2 - length ds - 0 - 0) 48 ++ (ds ++ []) ≡ replicate (2 - length ds) 48 ++ ds
-append_nil_at ds =
-    let none : 2 - length ds - 0 - 0 ≡ 2 - length ds = omega arith in
-    rw (none, append-nil ds) refl
-
--- `{:02x}` writes two digits
-pub hex2_is : (byte : ℕ) → byte < 2 ^ 8 → padded_integral (format_spec 32 0 4 2 (2 ^ 64 - 1)) false [] (digits 16 false byte) ≡ hex2 byte
-unfolding padded_integral char_count
-hex2_is byte fits = append_nil_at (digits 16 false byte) ∙ padded_byte byte fits
 
 -- one more byte of a line
 pub more_bytes : (before : List ℕ) (bytes : List ℕ) (i : ℕ) → i < length bytes → (before ++ bytes_text (take i bytes)) ++ (codes " " ++ hex2 (get_or bytes i 0)) ≡ before ++ bytes_text (take (i + 1) bytes)

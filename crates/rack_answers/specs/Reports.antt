@@ -1,5 +1,6 @@
 -- What `run` prints of a run that was completed. The texts are this project's choice.
-use Rattle.std.specs.Prelude.{◌≡◌, ℕ, ◌*◌, List, [], ◌++◌, if◌then◌else◌, codes, length, String, string_bytes}
+use Rattle.std.specs.Prelude.{◌≡◌, ℕ, ◌*◌, List, [], ◌++◌, if◌then◌else◌, codes, length}
+use Rattle.std.specs.Global.{Vec}
 use Rattle.std.specs.Fmt.{decimal}
 use Rattle.std.specs.List.{flat_map, range_with_len}
 use Rattle.batch.specs.declared.transfer.Place.{Place}
@@ -20,11 +21,13 @@ ran_line settings words =
 abbrev pub words_text : List ℕ → List ℕ
 words_text words = flat_map (λ word. codes " " ++ hex8 word) words
 
--- `block M B`, and the words of the block
+-- `block M B`
+abbrev pub block_head : Place → List ℕ
+block_head p = codes "block " ++ decimal p.«module» ++ (codes " " ++ decimal p.block)
+
+-- that, and the words of the block
 abbrev pub block_line : Store → Place → List ℕ
-block_line s p =
-    codes "block " ++ decimal p.«module» ++ (codes " " ++ decimal p.block)
-    ++ words_text (block_of s p) ++ codes "\n"
+block_line s p = block_head p ++ words_text (block_of s p) ++ codes "\n"
 
 -- what is said of a block of a module: its line, where the batch writes it
 abbrev pub block_text : List Transfer → Store → ℕ → ℕ → List ℕ
@@ -43,5 +46,5 @@ report_of batch settings s =
     ++ flat_map (module_text batch s) (range_with_len 0 s.shape.modules)
 
 -- these bytes were put at the end of a text
-abbrev pub Adds : {Z : Type 0} → String Z → String Z → List ℕ → Type 0
-Adds old new more = string_bytes new ≡ string_bytes old ++ more
+abbrev pub Adds : Vec ℕ → Vec ℕ → List ℕ → Type 0
+Adds old new more = new.items ≡ old.items ++ more

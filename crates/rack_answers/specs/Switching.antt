@@ -37,11 +37,15 @@ joined_by wide = if wide then PORTS else JOINED_MODULES
 abbrev pub bytes_text : List ℕ → List ℕ
 bytes_text bytes = flat_map (λ byte. codes " " ++ hex2 byte) bytes
 
--- `setting S`, behind it the name of a switch where the rack has two, and the bytes of the commands
--- that this switch is sent
+-- `setting S`
+abbrev pub setting_head : ℕ → List ℕ
+setting_head setting = codes "setting " ++ decimal setting
+
+-- that, behind it the name of a switch where the rack has two, and the bytes of the commands that
+-- this switch is sent
 abbrev pub switch_line : ℕ → List ℕ → List Command → List ℕ
 switch_line setting name commands =
-    codes "setting " ++ decimal setting ++ name ++ bytes_text (text commands) ++ codes "\n"
+    setting_head setting ++ name ++ bytes_text (text commands) ++ codes "\n"
 
 -- the line of a setting where the rack has one switch, else the lines of both: each switch is sent
 -- what goes with its wiring

@@ -13,6 +13,7 @@ mod refusal;
 mod report;
 mod running;
 mod running_fault;
+mod spaced;
 mod switching;
 
 pub use alone::answer_switch_alone;

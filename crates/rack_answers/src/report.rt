@@ -1,28 +1,43 @@
 //! What a completed run reports.
 
-ghost use Rattle.std.specs.Prelude.{◌≡◌, ◌<◌, IfOk, OnOk, string_bytes};
+ghost use Rattle.std.specs.Prelude.{◌≡◌, ◌<◌, IfOk, OnOk};
 ghost use Rattle.batch.specs.Extent.{IsShape};
 ghost use Rattle.batch.specs.Places.{HasPlace};
-ghost use Rattle.rack_answers.specs.Reports.{words_text, block_text, module_text, report_of, Adds};
+ghost use Rattle.rack_answers.specs.Reports.{words_text, block_head as head_of, block_text, module_text, report_of, Adds};
 
+use crate::spaced::push_spaced;
 use batch::{Batch, Place, WrittenBlocks};
+use line_words::{HEX_DIGITS, Line, hex8_of};
 use module_memory::Rack;
 use setting_runner::line_bits;
 use std::alloc::{AllocError, Global};
 
 /// Puts words at the end of the text, each after a space and as eight hexadecimal digits.
-fn push_words(text: &mut String, words: &[u32]) -> Result<(), AllocError>
+fn push_words(text: &mut Vec<u8>, words: &[u32]) -> Result<(), AllocError>
     ensures { OnOk result (Adds text.old text.new (words_text words.now)) }
 {
+    text.reserve(words.len().saturating_mul(1 + HEX_DIGITS))?;
     for word in words {
-        write!(text, " {word:08x}")?;
+        push_spaced(text, &hex8_of(*word))?;
     }
     Ok(())
 }
 
+/// The line of a block, up to its words.
+fn block_head(place: Place) -> Line
+    ensures { result ≡ head_of place }
+{
+    let mut head = Line::new();
+    head.put(b"block ");
+    head.put_number(place.module as u64);
+    head.put(b" ");
+    head.put_number(place.block as u64);
+    head
+}
+
 /// Puts the line of a block at the end of the text, where the batch writes it.
 fn push_block(
-    text: &mut String,
+    text: &mut Vec<u8>,
     rack: &Rack,
     written: &WrittenBlocks,
     module: usize,
@@ -39,14 +54,14 @@ fn push_block(
     let Some(words) = rack.block(place) else {
         unreachable!();
     };
-    write!(text, "block {module} {block}")?;
+    text.extend_from_slice(block_head(place).as_bytes())?;
     push_words(text, words)?;
-    text.push_str("\n")
+    text.extend_from_slice(b"\n")
 }
 
 /// Puts the lines of a module's blocks at the end of the text, as far as the batch writes them.
 fn push_module(
-    text: &mut String,
+    text: &mut Vec<u8>,
     rack: &Rack,
     written: &WrittenBlocks,
     module: usize,
@@ -69,13 +84,15 @@ pub fn report(
     rack: &Rack,
     batch: &Batch,
     settings: usize,
-) -> Result<String, AllocError>
-    ensures { IfOk result (λ text. string_bytes text ≡ report_of batch.now settings rack.now) }
+) -> Result<Vec<u8>, AllocError>
+    ensures { IfOk result (λ text. text.items ≡ report_of batch.now settings rack.now) }
 {
     let shape = rack.shape();
     let words = batch.len() * shape.words();
     let bits = line_bits(words as u64);
-    let mut text = format!(in alloc; "ran settings {settings} words {words} bits {bits}\n")?;
+    let mut text = format!(in alloc;
+        "ran settings {settings} words {words} bits {bits}\n"
+    )?.into_bytes();
     let written = batch.written_blocks();
     for module in 0..shape.modules() {
         push_module(&mut text, rack, &written, module)?;

@@ -105,7 +105,7 @@ pub(crate) fn tell(
     ensures { IfOk result (λ text. text.items ≡ told_by telling batch.now settings rack.now) }
 {
     match telling {
-        Telling::Report => Ok(report(alloc, rack, batch, settings)?.into_bytes()),
+        Telling::Report => report(alloc, rack, batch, settings),
         Telling::Image => rack.image(),
     }
 }

@@ -1,15 +1,17 @@
 //! The command `switch`.
 
-ghost use Rattle.std.specs.Prelude.{◌≡◌, IfOk, IfSome, OnOk, string_bytes};
+ghost use Rattle.std.specs.Prelude.{◌≡◌, IfOk, IfSome, OnOk};
 ghost use Rattle.batch.specs.Extent.{widest};
 ghost use Rattle.crossbar.specs.Pairs.{ArePairs, room_of};
 ghost use Rattle.setting_runner.specs.Sending.{turning};
 ghost use Rattle.rack_answers.specs.Reports.{Adds};
-ghost use Rattle.rack_answers.specs.Switching.{is_wide as needs_two, joined_by, bytes_text, switch_line, lines_for, switch_text, TellsSwitch, IsSwitched};
+ghost use Rattle.rack_answers.specs.Switching.{is_wide as needs_two, joined_by, bytes_text, setting_head as head_of, switch_line, lines_for, switch_text, TellsSwitch, IsSwitched};
 
+use crate::spaced::push_spaced;
 use batch::{Batch, Shape};
 use crossbar::{JOINED_MODULES, Pair, Wiring};
 use exchange_limits::WorkerCount;
+use line_words::{Line, hex2_of};
 use plan_answers::{Answer, refuse_batch};
 use schedule_certificate::{OpenGate, Planned, schedule};
 use setting_runner::{PairList, WIDE_CHANGE_BYTES, bytes_for, setting_numbers};
@@ -20,20 +22,30 @@ use std::thread::Threads;
 const JOINED: usize = JOINED_MODULES as usize;
 
 /// Puts bytes at the end of the text, each after a space and as two hexadecimal digits.
-fn push_bytes(text: &mut String, bytes: &[u8]) -> Result<(), AllocError>
+fn push_bytes(text: &mut Vec<u8>, bytes: &[u8]) -> Result<(), AllocError>
     ensures { OnOk result (Adds text.old text.new (bytes_text bytes.now)) }
 {
     for byte in bytes {
-        write!(text, " {byte:02x}")?;
+        push_spaced(text, &hex2_of(*byte))?;
     }
     Ok(())
 }
 
+/// The line of a setting, up to the name of a switch.
+fn setting_head(setting: usize) -> Line
+    ensures { result ≡ head_of setting }
+{
+    let mut head = Line::new();
+    head.put(b"setting ");
+    head.put_number(setting as u64);
+    head
+}
+
 /// Puts the line of a setting at the end of the text, with the name of the switch that is sent its bytes.
 fn push_line(
-    text: &mut String,
+    text: &mut Vec<u8>,
     setting: usize,
-    name: &str,
+    name: &[u8],
     wiring: Wiring,
     standing: &Option<PairList>,
     pairs: &[Pair],
@@ -45,14 +57,15 @@ fn push_line(
 {
     let mut bytes = [0; WIDE_CHANGE_BYTES];
     let number = bytes_for(wiring, standing, pairs, &mut bytes);
-    write!(text, "setting {setting}{name}")?;
+    text.extend_from_slice(setting_head(setting).as_bytes())?;
+    text.extend_from_slice(name)?;
     push_bytes(text, &bytes[..number])?;
-    text.push_str("\n")
+    text.extend_from_slice(b"\n")
 }
 
 /// Puts the lines of a setting at the end of the text: one where the rack has one switch, else that of each.
 fn push_setting(
-    text: &mut String,
+    text: &mut Vec<u8>,
     wide: bool,
     setting: usize,
     standing: &Option<PairList>,
@@ -65,10 +78,10 @@ fn push_setting(
         (lines_for wide setting (λ wiring. turning wiring standing.now pairs.now))) }
 {
     if wide {
-        push_line(text, setting, " a", Wiring::Forth, standing, pairs)?;
-        push_line(text, setting, " b", Wiring::Back, standing, pairs)
+        push_line(text, setting, b" a", Wiring::Forth, standing, pairs)?;
+        push_line(text, setting, b" b", Wiring::Back, standing, pairs)
     } else {
-        push_line(text, setting, "", Wiring::Both, standing, pairs)
+        push_line(text, setting, b"", Wiring::Both, standing, pairs)
     }
 }
 
@@ -86,12 +99,12 @@ fn is_wide(batch: &Batch) -> bool
 }
 
 /// What a run of the plan sends the switches, setting by setting.
-fn switch_lines(alloc: Global, planned: &Planned) -> Result<String, AllocError>
-    ensures { IfOk result (λ text. string_bytes text ≡ switch_text planned.now) }
+fn switch_lines(alloc: Global, planned: &Planned) -> Result<Vec<u8>, AllocError>
+    ensures { IfOk result (λ text. text.items ≡ switch_text planned.now) }
 {
     let batch = planned.batch();
     let wide = is_wide(batch);
-    let mut text = String::new(alloc);
+    let mut text = Vec::new(alloc);
     let mut standing = None;
     for number in 0..planned.schedule().settings() {
         let pairs = PairList::of_setting(batch, setting_numbers(planned, number));
@@ -106,7 +119,7 @@ pub(crate) fn tell(alloc: Global, planned: &Planned) -> Result<Answer, AllocErro
     ensures { IfOk result (TellsSwitch planned.now) }
 {
     let text = switch_lines(alloc, planned)?;
-    Ok(Answer::done(text.into_bytes()))
+    Ok(Answer::done(text))
 }
 
 /// The answer of `exchange switch`: what a run of a plan of the batch that the text denotes sends over the

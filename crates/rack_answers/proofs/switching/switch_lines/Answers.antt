@@ -1,4 +1,4 @@
-use Rattle.std.proofs.Common.{◌≡◌, ℕ, List, Some, length, string_bytes, ap, sym, ◌∙◌, subst, add-one, arith}
+use Rattle.std.proofs.Common.{◌≡◌, ℕ, List, Some, length, ap, sym, ◌∙◌, subst, add-one, arith}
 use Rattle.std.specs.List.{flat_map, range_with_len}
 use Rattle.batch.specs.Batches.{IsBatch}
 use Rattle.batch.specs.Extent.{extent}
@@ -29,7 +29,7 @@ loop-number-preserved c =
     let is_wide : wide ≡ needs_two plan.batch = c.is_wide-wide.ensures ∙ ap needs_two batch in
     let are : pairs ≡ pairs_at plan n = pairs_is plan n c.batch-batch.result.now c.setting_numbers.result.now pairs batch c.setting_numbers.ensures.numbers c.of_setting-pairs.ensures.members in
     record {
-      text = more_lines plan n wide c.loop-number.standing c.as_slice.result.now (string_bytes c.loop-number.text) (string_bytes c.push_setting.new.text) is_wide invariant.standing (c.as_slice.ensures.pairs ∙ are) invariant.text c.in_ok-push_setting.ensures;
+      text = more_lines plan n wide c.loop-number.standing c.as_slice.result.now c.loop-number.text.items c.push_setting.new.text.items is_wide invariant.standing (c.as_slice.ensures.pairs ∙ are) invariant.text c.in_ok-push_setting.ensures;
       standing = ap (λ (ps : List Pair). Some ps) are ∙ ap (standing_before plan) (sym (add-one n));
       pairs = c.of_setting-pairs.ensures.pairs (extent (joined_by wide) MAX_BLOCKS MAX_WORDS) (fits_rack c.batch-batch.result.now wide (subst IsBatch (sym batch) c.batch-batch.ensures.plan.fits) (sym c.is_wide-wide.ensures));
     }

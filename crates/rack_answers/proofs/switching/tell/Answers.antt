@@ -1,5 +1,5 @@
-use Rattle.std.proofs.Common.{◌∙◌, ap}
+use Rattle.std.proofs.Common.{◌∙◌}
 use Rattle.rack_answers.proofs.switching.tell.Goals as goal
 
 pub returns : goal.returns
-returns c = (c.done.ensures.text ∙ ap (λ v. v.items) c.into_bytes.ensures.value ∙ c.in_ok-text.ensures, c.done.ensures.status)
+returns c = (c.done.ensures.text ∙ c.in_ok-text.ensures, c.done.ensures.status)
