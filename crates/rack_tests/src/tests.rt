@@ -4,5 +4,7 @@ mod book;
 mod common;
 mod cuts;
 mod meeting;
+mod office;
+mod running;
 mod runs;
 mod sessions;

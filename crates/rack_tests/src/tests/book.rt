@@ -1,8 +1,8 @@
-//! What a seat is answered, readings during runs, sixteen seats at once, two workers, and named sizes and texts.
+//! Calls and readings of an exchange: what a seat is answered, readings during runs, seats in threads, two workers, and named sizes and
+//! texts.
 
 mod days;
 mod exchange;
-mod office;
 mod readings;
 mod sizes;
 mod ways;

@@ -1,13 +1,13 @@
-//! What tests of each kind need: row two-pushes, plans and racks of texts, and plants.
+//! What tests of each kind need: row two-pushes, plans and racks of texts, plants, and a notice that is kept.
 
 use batch::{Batch, Shape};
 use crossbar::MemoryPort;
 use exchange_limits::WorkerCount;
 use module_memory::Rack;
-use peek_poke::PlainWires;
 use schedule_certificate::{OpenGate, Planned, schedule};
-use setting_runner::Plant;
+use setting_runner::{Notice, Plant};
 use std::alloc::Global;
+use std::sync::atomic::{AtomicUsize, Ordering};
 use std::thread::Threads;
 
 /// Row two-pushes: two transfers in one setting.
@@ -42,16 +42,6 @@ pub fn two() -> WorkerCount {
     WorkerCount::new(2).unwrap()
 }
 
-/// A plant with this port, whose wires never fail.
-pub fn with_port<P>(port: P, workers: WorkerCount) -> Plant<P, PlainWires, OpenGate> {
-    Plant {
-        port,
-        wires: PlainWires,
-        gate: OpenGate,
-        workers,
-    }
-}
-
 /// A plant with this gate, whose port never fails.
 pub fn with_gate<W, G>(wires: W, gate: G, workers: WorkerCount) -> Plant<MemoryPort, W, G> {
     Plant {
@@ -65,4 +55,35 @@ pub fn with_gate<W, G>(wires: W, gate: G, workers: WorkerCount) -> Plant<MemoryP
 /// A plant of one worker with these wires, whose port never fails.
 pub fn with_wires<W>(wires: W) -> Plant<MemoryPort, W, OpenGate> {
     with_gate(wires, OpenGate, WorkerCount::ONE)
+}
+
+/// A notice that counts how often it is told, and keeps whether that was from 0 on, in order.
+#[derive(Clone, Copy)]
+pub struct Told<'a> {
+    times: &'a AtomicUsize,
+    in_order: bool,
+}
+
+impl<'a> Told<'a> {
+    /// A notice that counts here.
+    pub fn new(times: &'a AtomicUsize) -> Told<'a> {
+        Told {
+            times,
+            in_order: true,
+        }
+    }
+
+    /// Whether it was told so often, in order.
+    pub fn is_just(&self, times: usize) -> bool {
+        self.in_order && self.times.load(Ordering::SeqCst) == times
+    }
+}
+
+impl<'a> Notice for Told<'a> {
+    ghost hears = { λ _ _ _. Unit {0} };
+
+    fn done(&mut self, settings: usize) {
+        let before = self.times.fetch_add(1, Ordering::SeqCst);
+        self.in_order = self.in_order && before == settings;
+    }
 }

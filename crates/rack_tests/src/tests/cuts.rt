@@ -1,8 +1,5 @@
-//! Ports and wires that are cut at each byte, and ports that answer anything, in a run, behind a book and in a session.
+//! Ports and wires that are cut at each byte, and ports that answer anything, in a run of either form and in a session.
 
-mod book_cuts;
-mod cutting;
-mod lies;
-mod rows;
-mod session_cuts;
-mod wide_cuts;
+mod faults;
+mod in_runs;
+mod in_sessions;

@@ -2,10 +2,10 @@
 //! for one another, and over wires with a fuse.
 
 mod ends;
-mod office;
 mod order;
 mod outside;
 mod replies;
 mod rows;
+mod served;
 mod streams;
 mod talks;

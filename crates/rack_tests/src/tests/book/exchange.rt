@@ -3,8 +3,8 @@
 ghost use Rattle.std.specs.Prelude.{◌≡◌, IfSome};
 ghost use Rattle.progress_word.specs.declared.limits.TheConstants.{ALL_PARTS};
 
-use super::office::{Ask, FIRST, PUSH, Pair, Row, Said, close, open_pair};
 use crate::tests::common::{marked, with_wires};
+use crate::tests::office::{Ask, FIRST, PUSH, Pair, Row, Said, close, open_pair};
 use batch_book::{BatchState, Closed, MAX_ENTRIES, Refusal, Shared, SharedFault, Unclosed};
 use crossbar::MemoryPort;
 use module_memory::Rack;
@@ -25,8 +25,10 @@ type Two<L> = Pair<L, PlainWires, OpenGate>;
 enum Case<'a> {
     /// Its first seat is answered so.
     Rows(&'a [Row]),
-    /// Its first seat fills the history.
+    /// Its first seat fills the history by peeks.
     Full,
+    /// Its first seat fills the book, and then the history.
+    Limits,
     /// It isn't closed where its second seat is missing, and goes on.
     SeatMissing,
 }
@@ -64,7 +66,8 @@ const CALLS: [Row; 16] = [
     (Ask::Settle(1, PUSH), UNKNOWN),
 ];
 
-/// A session's batches are those of the rack, so that none is refused for its shape. Such a run leaves its batch planned, and takes no number.
+/// A session's batches are those of the rack, so that none is refused for its shape. Such a run leaves its batch planned, and takes no
+/// number.
 const SHAPES: [Row; 9] = [
     (Ask::Submit(FAR), Said::Accepted(1)),
     (Ask::Settle(1, FAR), Said::Settled(1)),
@@ -77,8 +80,15 @@ const SHAPES: [Row; 9] = [
     (Ask::Run(2), Said::Ran(1, 1, 1)),
 ];
 
-/// Whether a closed exchange has as many entries in its history and in the list of its first seat, which is the last here, as there may be, and the
-/// first word is still 0.
+/// Row book-limits up to the first batch that has its plan. The stranger's plan comes before its own.
+const LIMITS: [Row; 3] = [
+    (Ask::Submit(PUSH), Said::Accepted(1)),
+    (Ask::Settle(1, OTHER), STRANGER),
+    (Ask::Settle(1, PUSH), Said::Settled(1)),
+];
+
+/// Whether a closed exchange has as many entries in its history and in the list of its first seat, which is the last here, as there may be,
+/// and the first word is still 0.
 fn is_full<L: Ledger>(closed: &Closed<L, MemoryPort, PlainWires, OpenGate>) -> bool {
     let listed = match closed.seats.last() {
         Some(seat) => seat.log().len(),
@@ -88,19 +98,47 @@ fn is_full<L: Ledger>(closed: &Closed<L, MemoryPort, PlainWires, OpenGate>) -> b
     listed == 65536 && closed.book.history().len() == 65536 && word == Ok(0)
 }
 
-/// Whether 65,536 peeks are answered, and a poke isn't.
-fn fills<L: Ledger, R: AllocGlobal + Threads + Wait + Sync>(rt: &R, pair: Two<L>) -> bool
+/// Whether so many peeks are answered, and then a poke isn't, since the history is full.
+fn fills<L: Ledger, R: AllocGlobal + Threads + Wait + Sync>(
+    rt: &R,
+    pair: Two<L>,
+    peeks: usize,
+) -> bool
     requires { L.parts ≡ ALL_PARTS }
 {
     let mut pair = pair;
-    let zeros = pair.zeros(rt, MAX_ENTRIES);
+    let zeros = pair.zeros(rt, peeks);
     let poked = pair.ask(rt, Ask::Poke(0, FIRST, 1));
     match close(rt.alloc(), pair) {
         Some(closed) => {
-            zeros == 65536 && poked == Said::Refused(Refusal::HistoryFull) && is_full(&closed)
+            zeros == peeks && poked == Said::Refused(Refusal::HistoryFull) && is_full(&closed)
         }
         None => false,
     }
+}
+
+/// Whether the batch of [`PUSH`] is accepted under each number from 2 to 256, and then the book is full.
+fn fills_book<L: Ledger, R: AllocGlobal + Threads + Wait + Sync>(
+    rt: &R,
+    pair: &mut Two<L>,
+) -> bool {
+    for id in 2..=256 {
+        if pair.ask(rt, Ask::Submit(PUSH)) != Said::Accepted(id) {
+            return false;
+        }
+    }
+    pair.ask(rt, Ask::Submit(PUSH)) == Said::Refused(Refusal::BookFull)
+}
+
+/// Whether that is so behind the first rows, which leaves 259 entries, so that 65,277 more peeks fill the history.
+fn meets_limits<L: Ledger, R: AllocGlobal + Threads + Wait + Sync>(rt: &R, pair: Two<L>) -> bool
+    requires { L.parts ≡ ALL_PARTS }
+{
+    let mut pair = pair;
+    pair.first_wrong(rt, &LIMITS).is_none()
+        && fills_book(rt, &mut pair)
+        && pair.first.log().len() == 259
+        && fills(rt, pair, 65277)
 }
 
 /// Tries to close the exchange with the first seat alone, and gives the pair back where that is refused for the
@@ -186,7 +224,8 @@ fn holds<L: Ledger, R: AllocGlobal + Threads + Wait + Sync>(
     };
     match case {
         Case::Rows(rows) => pair.first_wrong(rt, rows).is_none(),
-        Case::Full => fills(rt, pair),
+        Case::Full => fills(rt, pair, MAX_ENTRIES),
+        Case::Limits => meets_limits(rt, pair),
         Case::SeatMissing => goes_on(rt, pair),
     }
 }
@@ -203,6 +242,11 @@ fn holds_of<R: AllocGlobal + Threads + Wait + Sync>(rt: &R, case: Case<'_>) -> b
 fn calls_that_no_session_makes(rt: HostRuntime) {
     assert!(rt; holds_of(&rt, Case::Rows(&CALLS)));
     assert!(rt; holds_of(&rt, Case::Rows(&SHAPES)));
+}
+
+#[test]
+fn book_limits(rt: HostRuntime) {
+    assert!(rt; holds_of(&rt, Case::Limits));
 }
 
 #[test]

@@ -3,8 +3,8 @@
 ghost use Rattle.std.specs.Prelude.{◌≡◌, Some};
 ghost use Rattle.progress_word.specs.declared.limits.TheConstants.{ALL_PARTS};
 
-use super::office::{Ask, PUSH, Pair, Said, TWO_SETTINGS, answer, open_pair};
 use crate::tests::common::{marked, with_wires};
+use crate::tests::office::{Ask, PUSH, Pair, Said, TWO_SETTINGS, answer, open_pair};
 use batch_book::{Reading, Seat, Shared};
 use crossbar::ConfigPort;
 use module_memory::Rack;

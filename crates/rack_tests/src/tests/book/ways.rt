@@ -3,9 +3,9 @@
 ghost use Rattle.std.specs.Prelude.{◌≡◌};
 ghost use Rattle.progress_word.specs.declared.limits.TheConstants.{ALL_PARTS};
 
-use super::office::{Ask, Row, Said, close, open_pair};
 use crate::tests::common::{TWO_PUSHES, marked, two, with_gate};
 use crate::tests::meeting::Meeting;
+use crate::tests::office::{Ask, Row, Said, close, open_pair};
 use crossbar::MemoryPort;
 use module_memory::Rack;
 use peek_poke::PlainWires;

@@ -1,247 +1,511 @@
-//! What a port is sent, and ports that fail.
+//! What a port is sent, and ports that fail or answer wrongly.
 
-use super::recording::{Manner, Recorded, run_recorded};
-use super::running::{Block, MOVED, Stop, THREE_TRANSFERS, UNMOVED, completed, stopped};
 use crate::tests::common::TWO_PUSHES;
-use setting_runner::{Outcome, RunRefusal, StopCause};
+use crate::tests::running::{
+    Block, Case, End, FORMS, Form, THREE_TRANSFERS, TURNED_ROUND, ends_so,
+};
+use contract_data::FailureCount;
+use crossbar::{Chip, ConfigPort, MemoryPort, PortFault};
+use exchange_limits::WorkerCount;
+use peek_poke::PlainWires;
+use schedule_certificate::OpenGate;
+use setting_runner::{Plant, RunRefusal, StopCause};
+use std::sync::atomic::AtomicUsize;
 use std::thread::Threads;
 
-/// The bytes of row two-pushes's setting, which is also setting 0 of row three-transfers.
-pub const BOTH_PAIRS: [u8; 8] = [0x04, 0x01, 0x00, 0x11, 0x01, 0x01, 0x12, 0x03];
+/// A call of a port: the switch that it is for, and the bytes.
+type Sent = (Chip, &'static [u8]);
 
-/// The bytes of setting 1 of row three-transfers.
-pub const ONE_PAIR: [u8; 10] = [0x06, 0x00, 0x11, 0x06, 0x01, 0x12, 0x01, 0x00, 0x12, 0x03];
-
-/// The blocks that row three-transfers writes on a rack `3x2x1`, where setting 0 was run and setting 1 wasn't.
-pub const SECOND_UNMOVED: [Block<'static>; 3] = [
-    Block {
-        module: 1,
-        block: 0,
-        words: &[0],
-    },
-    Block {
-        module: 2,
-        block: 0,
-        words: &[0x0002_0000],
-    },
-    Block {
-        module: 2,
-        block: 1,
-        words: &[0x0001_0100],
-    },
+/// The enquiries of outputs 0 to 31.
+const ENQUIRIES: [u8; 64] = [
+    0x02, 0x00, 0x02, 0x01, 0x02, 0x02, 0x02, 0x03, 0x02, 0x04, 0x02, 0x05, 0x02, 0x06, 0x02, 0x07,
+    0x02, 0x08, 0x02, 0x09, 0x02, 0x0a, 0x02, 0x0b, 0x02, 0x0c, 0x02, 0x0d, 0x02, 0x0e, 0x02, 0x0f,
+    0x02, 0x10, 0x02, 0x11, 0x02, 0x12, 0x02, 0x13, 0x02, 0x14, 0x02, 0x15, 0x02, 0x16, 0x02, 0x17,
+    0x02, 0x18, 0x02, 0x19, 0x02, 0x1a, 0x02, 0x1b, 0x02, 0x1c, 0x02, 0x1d, 0x02, 0x1e, 0x02, 0x1f,
 ];
 
-/// Whether a batch that a rack has no room for is refused, and nothing is sent.
-fn is_refused_unsent<R: AllocGlobal + Threads + Sync>(rt: &R) -> bool {
-    let text = "batch 1\npush 5 0 6 0\n";
-    match run_recorded(rt, "2x1x1", text, Manner::Rightly, &[]) {
-        Some(ran) => {
-            ran.seen.is_ended(Outcome::Refused(RunRefusal::Shape)) && ran.calls.sent.is_empty()
+/// All outputs of A are asked.
+const ASKS_A: Sent = (Chip::A, &ENQUIRIES);
+
+/// All outputs of B are asked.
+const ASKS_B: Sent = (Chip::B, &ENQUIRIES);
+
+/// What a port of the tests does.
+#[derive(Clone, Copy)]
+enum Manner {
+    /// It answers rightly.
+    Rightly,
+    /// It fails the call that has so many before it, and answers the others rightly.
+    Fails(usize),
+    /// In the call that has so many before it, it answers each enquiry by 0, and else rightly.
+    Silent(usize),
+    /// From that call on it answers each enquiry by 0, and before it rightly.
+    SilentFrom(usize),
+    /// In the call that has so many before it, it answers the enquiry of this output by this byte, and else rightly.
+    Answers(usize, u8, u8),
+}
+
+impl Manner {
+    /// Whether it fails the call that has so many before it.
+    fn fails(self, before: usize) -> bool {
+        matches!(self, Manner::Fails(call) if call == before)
+    }
+
+    /// Changes the answers to the call that has so many before it.
+    fn twist(self, before: usize, replies: &mut [u8]) {
+        match self {
+            Manner::Silent(call) if call == before => replies.fill(0),
+            Manner::SilentFrom(call) if call <= before => replies.fill(0),
+            Manner::Answers(call, output, reply)
+                if call == before && usize::from(output) < replies.len() => {
+                replies[usize::from(output)] = reply;
+            }
+            _ => {}
         }
-        None => false,
     }
 }
 
-#[test]
-fn part_refusals(rt: HostRuntime) {
-    assert!(rt; is_refused_unsent(&rt));
+/// A port to switches in memory, which does as it pleases. It knows what it is to be sent, counts its calls, and keeps whether one of them
+/// was another.
+#[derive(Drop)]
+struct KnowingPort {
+    memory: MemoryPort,
+    manner: Manner,
+    sent: &'static [Sent],
+    calls: usize,
+    is_wrong: bool,
+    failed: FailureCount,
 }
 
-/// Whether row two-pushes sends the bytes of its setting, and the outputs answer what they do then.
-fn is_answered<R: AllocGlobal + Threads + Sync>(rt: &R) -> bool {
-    let Some(ran) = run_recorded(rt, "3x2x2", TWO_PUSHES, Manner::Rightly, &MOVED) else {
-        return false;
-    };
-    let mut answers = [0; 32];
-    answers[0] = 0x91;
-    answers[1] = 0x92;
-    answers[17] = 0x80;
-    answers[18] = 0x81;
-    ran.seen.is_ended(completed(1, 4))
-        && ran.calls.sent.is_of_settings(&[BOTH_PAIRS.as_slice()])
-        && ran.calls.replied.is_just(&answers)
-}
-
-/// The bytes of row two-pushes's setting, and what the outputs answer then.
-#[test]
-fn switch_stops_setting(rt: HostRuntime) {
-    assert!(rt; is_answered(&rt));
-}
-
-/// Whether row three-transfers sends the bytes of both settings, each with its enquiries.
-fn is_changed<R: AllocGlobal + Threads + Sync>(rt: &R) -> bool {
-    let settings = [BOTH_PAIRS.as_slice(), ONE_PAIR.as_slice()];
-    match run_recorded(rt, "3x2x1", THREE_TRANSFERS, Manner::Rightly, &[]) {
-        Some(ran) => {
-            ran.seen.is_ended(completed(2, 3)) && ran.calls.sent.is_of_settings(&settings)
+impl KnowingPort {
+    fn new(manner: Manner, sent: &'static [Sent]) -> KnowingPort {
+        KnowingPort {
+            memory: MemoryPort::new(),
+            manner,
+            sent,
+            calls: 0,
+            is_wrong: false,
+            failed: FailureCount::zero(),
         }
-        None => false,
+    }
+
+    /// Whether it is to be sent this by the call that has so many before it.
+    fn is_due(&self, before: usize, chip: Chip, bytes: &[u8]) -> bool {
+        match self.sent.get(before) {
+            Some((wanted, text)) => *wanted == chip && *text == bytes,
+            None => false,
+        }
     }
 }
 
-#[test]
-fn recorded_change(rt: HostRuntime) {
-    assert!(rt; is_changed(&rt));
-}
+impl ConfigPort for KnowingPort {
+    ghost use Rattle.std.specs.Prelude.{false};
 
-/// Whether row two-pushes stops at this output before a word has moved, and nothing is sent behind the
-/// enquiries.
-fn stops_at(ran: Recorded, output: u8) -> bool {
-    let cause = StopCause::SwitchDisagrees(output);
-    ran.seen.is_stopped(stopped(cause, (0, 0), Some((1, 0))))
-        && ran.calls.sent.is_of_settings(&[BOTH_PAIRS.as_slice()])
-}
+    ghost switches = { λ p. p.memory };
 
-/// Whether row two-pushes stops at this output, where the port answers in this manner.
-fn stops_with<R: AllocGlobal + Threads + Sync>(rt: &R, manner: Manner, output: u8) -> bool {
-    match run_recorded(rt, "3x2x2", TWO_PUSHES, manner, &UNMOVED) {
-        Some(ran) => stops_at(ran, output),
-        None => false,
+    ghost honest = { λ _. false };
+
+    ghost failures = { λ p. p.failed };
+
+    fn exchange(&mut self, chip: Chip, bytes: &[u8], replies: &mut [u8]) -> Result<(), PortFault> {
+        let before = self.calls;
+        self.calls = before.saturating_add(1);
+        self.is_wrong = self.is_wrong || !self.is_due(before, chip, bytes);
+        if self.manner.fails(before) {
+            self.failed.raise();
+            return Err(PortFault);
+        }
+        let _ = self.memory.exchange(chip, bytes, replies);
+        self.manner.twist(before, replies);
+        Ok(())
     }
 }
 
-#[test]
-fn switch_stops_no_answers(rt: HostRuntime) {
-    assert!(rt; stops_with(&rt, Manner::SilentFrom(0), 0));
+/// A run with such a port: what the port does, what it is to be sent, and how often it is to be called.
+#[derive(Clone, Copy)]
+struct Row {
+    case: Case<'static>,
+    manner: Manner,
+    sent: &'static [Sent],
+    calls: usize,
 }
 
-/// Whether row two-pushes stops at an output that answers this byte in place of its own.
-fn stops_at_answer<R: AllocGlobal + Threads + Sync>(rt: &R, output: u8, reply: u8) -> bool {
-    let manner = Manner::Answers {
-        round: 0,
-        output: output as usize,
-        reply,
+/// Whether a run in this form ends as the row says, and its port was sent just what the row says.
+fn is_right_in<R: AllocGlobal + Threads + Sync>(rt: &R, row: &Row, form: Form) -> bool {
+    let mut plant = Plant {
+        port: KnowingPort::new(row.manner, row.sent),
+        wires: PlainWires,
+        gate: OpenGate,
+        workers: WorkerCount::ONE,
     };
-    stops_with(rt, manner, output)
+    ends_so(rt, form, &mut plant, &row.case, &AtomicUsize::new(0))
+        && !plant.port.is_wrong
+        && plant.port.calls == row.calls
 }
 
-/// Row switch-answers: another input, and an input where there is to be none. Each byte in place of each output's answer is tried in
-/// `cuts`.
-#[test]
-fn wrong_answers(rt: HostRuntime) {
-    assert!(rt; stops_at_answer(&rt, 0, 0x92));
-    assert!(rt; stops_at_answer(&rt, 31, 0x80));
+/// Whether runs in both forms do.
+fn is_right<R: AllocGlobal + Threads + Sync>(rt: &R, row: &Row) -> bool {
+    for form in FORMS {
+        if !is_right_in(rt, row, form) {
+            return false;
+        }
+    }
+    true
 }
 
-/// Whether row three-transfers has stopped in setting 1 at this output: transfers 0 and 2 have moved,
-/// transfer 1 hasn't, and nothing is sent behind the enquiries.
-fn stopped_in_setting_1(ran: Recorded, output: u8) -> bool {
-    let stop = Stop {
-        setting: 1,
-        cause: StopCause::SwitchDisagrees(output),
-        moved: [Some((1, 0)), None],
-    };
-    let settings = [BOTH_PAIRS.as_slice(), ONE_PAIR.as_slice()];
-    ran.seen.is_stopped(stop) && ran.calls.sent.is_of_settings(&settings)
+/// The number of the first of some rows that isn't right, or how many they are.
+fn first_wrong<R: AllocGlobal + Threads + Sync>(rt: &R, rows: &[Row]) -> usize {
+    for (number, row) in rows.iter().enumerate() {
+        if !is_right(rt, row) {
+            return number;
+        }
+    }
+    rows.len()
 }
 
-/// Whether row three-transfers stops in setting 1 at an output that answers this byte there alone.
-fn stops_in_setting_1<R: AllocGlobal + Threads + Sync>(rt: &R, output: u8, reply: u8) -> bool {
-    let manner = Manner::Answers {
-        round: 1,
-        output: output as usize,
-        reply,
-    };
-    match run_recorded(rt, "3x2x1", THREE_TRANSFERS, manner, &SECOND_UNMOVED) {
-        Some(ran) => stopped_in_setting_1(ran, output),
-        None => false,
+/// A row whose port answers rightly, and takes all calls.
+fn rightly(case: Case<'static>, sent: &'static [Sent]) -> Row {
+    Row {
+        case,
+        manner: Manner::Rightly,
+        sent,
+        calls: sent.len(),
     }
 }
 
-/// Row switch-answers: a port that is wrong in setting 1 alone, by another input, by none, and by an input
-/// where there is to be none.
-#[test]
-fn wrong_answers_in_the_second_setting(rt: HostRuntime) {
-    assert!(rt; stops_in_setting_1(&rt, 0, 0x91));
-    assert!(rt; stops_in_setting_1(&rt, 0, 0x00));
-    assert!(rt; stops_in_setting_1(&rt, 31, 0x80));
+/// Row two-pushes.
+const TWO: Case<'static> = Case {
+    shape: "3x2x2",
+    text: TWO_PUSHES,
+    end: End::Completed(1, 4),
+    blocks: &[(1, 0, &[0, 1]), (2, 0, &[0x0001_0100, 0x0001_0101])],
+};
+
+/// Its setting, which is also setting 0 of row three-transfers.
+const BOTH_PAIRS: Sent = (Chip::A, &[0x04, 0x01, 0x00, 0x11, 0x01, 0x01, 0x12, 0x03]);
+
+/// Setting 1 of row three-transfers.
+const ONE_PAIR: Sent = (
+    Chip::A,
+    &[0x06, 0x00, 0x11, 0x06, 0x01, 0x12, 0x01, 0x00, 0x12, 0x03],
+);
+
+const TWO_SENT: [Sent; 2] = [BOTH_PAIRS, ASKS_A];
+
+const THREE_SENT: [Sent; 4] = [BOTH_PAIRS, ASKS_A, ONE_PAIR, ASKS_A];
+
+/// Row three-transfers on a rack whose blocks have one word.
+const THREE: Case<'static> = Case {
+    shape: "3x2x1",
+    text: THREE_TRANSFERS,
+    end: End::Completed(2, 3),
+    blocks: &[(1, 0, &[0]), (2, 0, &[0x0000_0100]), (2, 1, &[0x0001_0100])],
+};
+
+/// A run of this case on another rack.
+fn on(case: Case<'static>, shape: &'static str) -> Case<'static> {
+    Case { shape, ..case }
 }
 
-/// The blocks that row three-transfers writes on a rack whose blocks have one word, where no word has moved.
-const NONE_MOVED: [Block<'static>; 3] = [
-    Block {
-        module: 1,
-        block: 0,
-        words: &[0x0001_0000],
-    },
-    Block {
-        module: 2,
-        block: 0,
-        words: &[0x0002_0000],
-    },
-    Block {
-        module: 2,
-        block: 1,
-        words: &[0x0002_0100],
-    },
+/// Row five-settings. Settings 0 and 1 have one pair, and so have settings 3 and 4.
+const FIVE: Case<'static> = Case {
+    shape: "4x2x1",
+    text: "batch 5\npush 0 0 1 0\npush 0 0 1 1\npush 0 0 2 0\npush 0 0 3 0\npush 0 0 3 1\n",
+    end: End::Completed(5, 5),
+    blocks: &[
+        (1, 0, &[0]),
+        (1, 1, &[0]),
+        (2, 0, &[0]),
+        (3, 0, &[0]),
+        (3, 1, &[0]),
+    ],
+};
+
+const FIVE_SENT: [Sent; 10] = [
+    (Chip::A, &[0x04, 0x01, 0x00, 0x11, 0x03]),
+    ASKS_A,
+    (Chip::A, &[0x03]),
+    ASKS_A,
+    (Chip::A, &[0x06, 0x00, 0x11, 0x01, 0x00, 0x12, 0x03]),
+    ASKS_A,
+    (Chip::A, &[0x06, 0x00, 0x12, 0x01, 0x00, 0x13, 0x03]),
+    ASKS_A,
+    (Chip::A, &[0x03]),
+    ASKS_A,
 ];
 
-/// Where row three-transfers stops if its port fails in this setting, and which blocks it leaves.
-fn port_stop(setting: usize) -> (Stop, &'static [Block<'static>]) {
-    let moved = if setting == 0 {
-        [Some((0, 0)), Some((2, 0))]
-    } else {
-        [Some((1, 0)), None]
-    };
-    let stop = Stop {
-        setting,
-        cause: StopCause::Port,
-        moved,
-    };
-    let blocks = if setting == 0 {
-        &NONE_MOVED
-    } else {
-        &SECOND_UNMOVED
-    };
-    (stop, blocks)
+/// A transfer of a module that the rack hasn't.
+const NO_ROOM: Case<'static> = Case {
+    shape: "2x1x1",
+    text: "batch 1\npush 5 0 6 0\n",
+    end: End::Refused(RunRefusal::Shape),
+    blocks: &[(0, 0, &[0]), (1, 0, &[0x0001_0000])],
+};
+
+/// Rows part-refusals, switch-stops, recorded-change and five-settings, and row wide_rack of 16 modules, which have one switch.
+#[test]
+fn ports_are_sent_settings(rt: HostRuntime) {
+    let rows = [
+        rightly(NO_ROOM, &[]),
+        rightly(TWO, &TWO_SENT),
+        rightly(THREE, &THREE_SENT),
+        rightly(on(THREE, "16x2x1"), &THREE_SENT),
+        rightly(FIVE, &FIVE_SENT),
+        rightly(on(FIVE, "16x2x1"), &FIVE_SENT),
+    ];
+    let wrong = first_wrong(&rt, &rows);
+    assert!(rt; wrong == rows.len(), "row {wrong}");
 }
 
-/// Whether row three-transfers stops in this setting where its port fails one call and would take all others, and calls
-/// it no more.
-fn stops_at_call<R: AllocGlobal + Threads + Sync>(
-    rt: &R,
-    shape: &str,
-    before: usize,
+/// Row wide_rack.
+const ACROSS: Case<'static> = Case {
+    shape: "17x2x1",
+    text: "batch 2\npush 16 0 0 0\npull 0 1 16 1\n",
+    end: End::Completed(1, 2),
+    blocks: &[(0, 0, &[0x0010_0000]), (0, 1, &[0x0010_0100])],
+};
+
+const ACROSS_SENT: [Sent; 4] = [
+    (Chip::A, &[0x04, 0x00, 0x00, 0x10, 0x00, 0x10, 0x00, 0x03]),
+    (Chip::B, &[0x04, 0x00, 0x10, 0x00, 0x00, 0x00, 0x10, 0x03]),
+    ASKS_A,
+    ASKS_B,
+];
+
+/// Row three-transfers on a rack with two switches.
+const THREE_WIDE_SENT: [Sent; 8] = [
+    (Chip::A, &[0x04, 0x00, 0x00, 0x01, 0x00, 0x01, 0x02, 0x03]),
+    (Chip::B, &[0x04, 0x00, 0x01, 0x00, 0x00, 0x02, 0x01, 0x03]),
+    ASKS_A,
+    ASKS_B,
+    (Chip::A, &[0x05, 0x01, 0x05, 0x02, 0x00, 0x00, 0x02, 0x03]),
+    (Chip::B, &[0x05, 0x00, 0x05, 0x01, 0x00, 0x02, 0x00, 0x03]),
+    ASKS_A,
+    ASKS_B,
+];
+
+/// Row five-settings on such a rack.
+const FIVE_WIDE_SENT: [Sent; 20] = [
+    (Chip::A, &[0x04, 0x00, 0x00, 0x01, 0x03]),
+    (Chip::B, &[0x04, 0x00, 0x01, 0x00, 0x03]),
+    ASKS_A,
+    ASKS_B,
+    (Chip::A, &[0x03]),
+    (Chip::B, &[0x03]),
+    ASKS_A,
+    ASKS_B,
+    (Chip::A, &[0x05, 0x01, 0x00, 0x00, 0x02, 0x03]),
+    (Chip::B, &[0x05, 0x00, 0x00, 0x02, 0x00, 0x03]),
+    ASKS_A,
+    ASKS_B,
+    (Chip::A, &[0x05, 0x02, 0x00, 0x00, 0x03, 0x03]),
+    (Chip::B, &[0x05, 0x00, 0x00, 0x03, 0x00, 0x03]),
+    ASKS_A,
+    ASKS_B,
+    (Chip::A, &[0x03]),
+    (Chip::B, &[0x03]),
+    ASKS_A,
+    ASKS_B,
+];
+
+/// All links of the widest rack at once.
+const TURNED: Case<'static> = Case {
+    shape: "32x2x1",
+    text: TURNED_ROUND,
+    end: End::Completed(1, 32),
+    blocks: &[
+        (31, 1, &[0x0000_0000]),
+        (16, 1, &[0x000f_0000]),
+        (15, 1, &[0x0010_0000]),
+        (0, 1, &[0x001f_0000]),
+    ],
+};
+
+/// Module m feeds module 31 - m.
+const TURNED_FORTH: [u8; 98] = [
+    0x04, 0x00, 0x00, 0x1f, 0x00, 0x01, 0x1e, 0x00, 0x02, 0x1d, 0x00, 0x03, 0x1c, 0x00, 0x04, 0x1b,
+    0x00, 0x05, 0x1a, 0x00, 0x06, 0x19, 0x00, 0x07, 0x18, 0x00, 0x08, 0x17, 0x00, 0x09, 0x16, 0x00,
+    0x0a, 0x15, 0x00, 0x0b, 0x14, 0x00, 0x0c, 0x13, 0x00, 0x0d, 0x12, 0x00, 0x0e, 0x11, 0x00, 0x0f,
+    0x10, 0x00, 0x10, 0x0f, 0x00, 0x11, 0x0e, 0x00, 0x12, 0x0d, 0x00, 0x13, 0x0c, 0x00, 0x14, 0x0b,
+    0x00, 0x15, 0x0a, 0x00, 0x16, 0x09, 0x00, 0x17, 0x08, 0x00, 0x18, 0x07, 0x00, 0x19, 0x06, 0x00,
+    0x1a, 0x05, 0x00, 0x1b, 0x04, 0x00, 0x1c, 0x03, 0x00, 0x1d, 0x02, 0x00, 0x1e, 0x01, 0x00, 0x1f,
+    0x00, 0x03,
+];
+
+/// Module 31 - m feeds module m.
+const TURNED_BACK: [u8; 98] = [
+    0x04, 0x00, 0x1f, 0x00, 0x00, 0x1e, 0x01, 0x00, 0x1d, 0x02, 0x00, 0x1c, 0x03, 0x00, 0x1b, 0x04,
+    0x00, 0x1a, 0x05, 0x00, 0x19, 0x06, 0x00, 0x18, 0x07, 0x00, 0x17, 0x08, 0x00, 0x16, 0x09, 0x00,
+    0x15, 0x0a, 0x00, 0x14, 0x0b, 0x00, 0x13, 0x0c, 0x00, 0x12, 0x0d, 0x00, 0x11, 0x0e, 0x00, 0x10,
+    0x0f, 0x00, 0x0f, 0x10, 0x00, 0x0e, 0x11, 0x00, 0x0d, 0x12, 0x00, 0x0c, 0x13, 0x00, 0x0b, 0x14,
+    0x00, 0x0a, 0x15, 0x00, 0x09, 0x16, 0x00, 0x08, 0x17, 0x00, 0x07, 0x18, 0x00, 0x06, 0x19, 0x00,
+    0x05, 0x1a, 0x00, 0x04, 0x1b, 0x00, 0x03, 0x1c, 0x00, 0x02, 0x1d, 0x00, 0x01, 0x1e, 0x00, 0x00,
+    0x1f, 0x03,
+];
+
+const TURNED_SENT: [Sent; 4] = [
+    (Chip::A, &TURNED_FORTH),
+    (Chip::B, &TURNED_BACK),
+    ASKS_A,
+    ASKS_B,
+];
+
+/// Row wide_rack, and row five-settings beside a module more.
+#[test]
+fn ports_are_sent_wide_settings(rt: HostRuntime) {
+    let rows = [
+        rightly(ACROSS, &ACROSS_SENT),
+        rightly(on(THREE, "17x2x1"), &THREE_WIDE_SENT),
+        rightly(on(FIVE, "17x2x1"), &FIVE_WIDE_SENT),
+        rightly(TURNED, &TURNED_SENT),
+    ];
+    let wrong = first_wrong(&rt, &rows);
+    assert!(rt; wrong == rows.len(), "row {wrong}");
+}
+
+/// A run of a case that stops before a word has moved, at this output, by a port of this manner that was sent all and asked for all.
+fn stop_at(
+    case: Case<'static>,
+    blocks: &'static [Block<'static>],
+    sent: &'static [Sent],
+    manner: Manner,
+    output: u8,
+) -> Row {
+    let end = End::Stopped(0, StopCause::SwitchDisagrees(output), &[(0, 0), (1, 0)]);
+    Row {
+        case: Case {
+            end,
+            blocks,
+            ..case
+        },
+        manner,
+        sent,
+        calls: sent.len(),
+    }
+}
+
+/// A run of row three-transfers that stops in this setting for this cause, by a port of this manner that is called so often: in setting 1
+/// transfers 0 and 2 have moved, and transfer 1 hasn't.
+fn three_stop(
+    shape: &'static str,
+    manner: Manner,
+    calls: usize,
     setting: usize,
-) -> bool {
-    let (stop, blocks) = port_stop(setting);
-    let manner = Manner::FailsOnce(before);
-    let Some(ran) = run_recorded(rt, shape, THREE_TRANSFERS, manner, blocks) else {
-        return false;
+    cause: StopCause,
+) -> Row {
+    let (moved, blocks): (&[(usize, usize)], &[Block<'_>]) = if setting == 0 {
+        (
+            &[(0, 0), (2, 0)],
+            &[
+                (1, 0, &[0x0001_0000]),
+                (2, 0, &[0x0002_0000]),
+                (2, 1, &[0x0002_0100]),
+            ],
+        )
+    } else {
+        (
+            &[(1, 0)],
+            &[(1, 0, &[0]), (2, 0, &[0x0002_0000]), (2, 1, &[0x0001_0100])],
+        )
     };
-    ran.seen.is_stopped(stop) && ran.calls.count == before.saturating_add(1)
+    let sent: &[Sent] = if shape == "17x2x1" {
+        &THREE_WIDE_SENT
+    } else {
+        &THREE_SENT
+    };
+    Row {
+        case: Case {
+            shape,
+            end: End::Stopped(setting, cause, moved),
+            blocks,
+            ..THREE
+        },
+        manner,
+        sent,
+        calls,
+    }
 }
 
-/// A setting makes two calls: it is sent, and asked for.
+/// The same in setting 1, at this output, by a port that was sent all and asked for all.
+fn second_stop(shape: &'static str, manner: Manner, calls: usize, output: u8) -> Row {
+    three_stop(shape, manner, calls, 1, StopCause::SwitchDisagrees(output))
+}
+
+/// Rows switch-stops and switch-answers: a port that answers nothing, and one that in setting 1 alone answers another input, none, and an
+/// input where there is to be none. Each byte in place of each output's answer is tried in `cuts`.
+#[test]
+fn ports_answer_wrongly(rt: HostRuntime) {
+    let unmoved: &[Block<'_>] = &[
+        (1, 0, &[0x0001_0000, 0x0001_0001]),
+        (2, 0, &[0x0002_0000, 0x0002_0001]),
+    ];
+    let rows = [
+        stop_at(TWO, unmoved, &TWO_SENT, Manner::SilentFrom(0), 0),
+        second_stop("3x2x1", Manner::Answers(3, 0, 0x91), 4, 0),
+        second_stop("3x2x1", Manner::Answers(3, 0, 0x00), 4, 0),
+        second_stop("3x2x1", Manner::Answers(3, 31, 0x80), 4, 31),
+    ];
+    let wrong = first_wrong(&rt, &rows);
+    assert!(rt; wrong == rows.len(), "row {wrong}");
+}
+
+/// Row wide_rack. Where both switches disagree, A is told. The outputs of B are numbered behind those of A. In setting 1 of three-transfers
+/// A feeds output 2 by input 0 and no other, and B output 0 by input 2.
+#[test]
+fn wide_ports_answer_wrongly(rt: HostRuntime) {
+    let unmoved: &[Block<'_>] = &[(0, 0, &[0]), (0, 1, &[0x0100])];
+    let rows = [
+        stop_at(ACROSS, unmoved, &ACROSS_SENT, Manner::Silent(2), 0),
+        stop_at(ACROSS, unmoved, &ACROSS_SENT, Manner::Silent(3), 32),
+        stop_at(ACROSS, unmoved, &ACROSS_SENT, Manner::SilentFrom(0), 0),
+        stop_at(
+            ACROSS,
+            unmoved,
+            &ACROSS_SENT,
+            Manner::Answers(3, 16, 0x00),
+            48,
+        ),
+        stop_at(
+            ACROSS,
+            unmoved,
+            &ACROSS_SENT,
+            Manner::Answers(3, 31, 0x80),
+            63,
+        ),
+        second_stop("17x2x1", Manner::Answers(6, 2, 0x81), 8, 2),
+        second_stop("17x2x1", Manner::Answers(6, 2, 0x00), 8, 2),
+        second_stop("17x2x1", Manner::Answers(6, 1, 0x80), 8, 1),
+        second_stop("17x2x1", Manner::Answers(7, 0, 0x81), 8, 32),
+        second_stop("17x2x1", Manner::Answers(7, 0, 0x00), 8, 32),
+        second_stop("17x2x1", Manner::Answers(7, 1, 0x82), 8, 33),
+        second_stop("17x2x1", Manner::SilentFrom(6), 8, 2),
+        second_stop("17x2x1", Manner::SilentFrom(7), 8, 32),
+    ];
+    let wrong = first_wrong(&rt, &rows);
+    assert!(rt; wrong == rows.len(), "row {wrong}");
+}
+
+/// Row failed-calls. A setting makes two calls, and four where there are two switches: all are set, and then all are asked.
 #[test]
 fn a_failed_port_is_not_called_again(rt: HostRuntime) {
-    assert!(rt; stops_at_call(&rt, "3x2x1", 0, 0));
-    assert!(rt; stops_at_call(&rt, "3x2x1", 1, 0));
-    assert!(rt; stops_at_call(&rt, "3x2x1", 2, 1));
-    assert!(rt; stops_at_call(&rt, "3x2x1", 3, 1));
-}
-
-/// Where there are two switches a setting makes four calls: both are sent, and then both asked for.
-#[test]
-fn a_failed_port_to_two_switches_is_not_called_again(rt: HostRuntime) {
-    for before in 0..8 {
-        assert!(rt;
-            stops_at_call(&rt, "17x2x1", before, before / 4),
-            "{before}"
+    for before in 0..4 {
+        let row = three_stop(
+            "3x2x1",
+            Manner::Fails(before),
+            before.saturating_add(1),
+            before / 2,
+            StopCause::Port,
         );
+        assert!(rt; is_right(&rt, &row), "{before}");
     }
-}
-
-/// Whether row three-transfers goes to its end by so many calls.
-fn takes_calls<R: AllocGlobal + Threads + Sync>(rt: &R, shape: &str, calls: usize) -> bool {
-    match run_recorded(rt, shape, THREE_TRANSFERS, Manner::FailsOnce(calls), &[]) {
-        Some(ran) => ran.seen.is_ended(completed(2, 3)) && ran.calls.count == calls,
-        None => false,
+    for before in 0..8 {
+        let row = three_stop(
+            "17x2x1",
+            Manner::Fails(before),
+            before.saturating_add(1),
+            before / 4,
+            StopCause::Port,
+        );
+        assert!(rt; is_right(&rt, &row), "{before}");
     }
-}
-
-#[test]
-fn calls_of_a_port(rt: HostRuntime) {
-    assert!(rt; takes_calls(&rt, "3x2x1", 4));
-    assert!(rt; takes_calls(&rt, "17x2x1", 8));
 }

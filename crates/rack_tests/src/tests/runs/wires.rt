@@ -1,73 +1,20 @@
-//! Wires that fail.
+//! Wires that fail: for good, or in one call alone.
 
-use super::running::{Block, block_of, run_with, stopped, stops_at_fuse};
 use crate::tests::common::{TWO_PUSHES, with_wires};
+use crate::tests::running::{Case, End, FORMS, Form, ends_so};
 use contract_data::FailureCount;
-use peek_poke::{PlainWire, Wire, WireFault, WireMaker};
+use peek_poke::{FuseWires, PlainWire, Wire, WireFault, WireMaker};
 use setting_runner::StopCause;
 use std::sync::atomic::{AtomicUsize, Ordering};
 use std::thread::Threads;
 
-/// A stop at a transfer's wire.
-fn wire_stop(transfer: usize) -> StopCause {
-    StopCause::Wire(transfer)
-}
-
-/// Row overlaps-and-fuses: a wire of 14 bytes carries one word and five bytes of the next.
-#[test]
-fn overlaps_and_fuses_push(rt: HostRuntime) {
-    let blocks = [block_of(1, 0, &[0, 0x0001_0001])];
-    let stop = stopped(wire_stop(0), (0, 1), None);
-    assert!(rt; stops_at_fuse(&rt, "2x1x2", "batch 1\npush 0 0 1 0\n", 14, stop, &blocks));
-}
-
-/// Row overlaps-and-fuses: a wire of seven bytes brings no word back.
-#[test]
-fn overlaps_and_fuses_pull(rt: HostRuntime) {
-    let blocks = [block_of(0, 0, &[0, 1])];
-    let stop = stopped(wire_stop(0), (0, 0), None);
-    assert!(rt; stops_at_fuse(&rt, "2x1x2", "batch 1\npull 0 0 1 0\n", 7, stop, &blocks));
-}
-
-/// The blocks that row two-pushes writes, where of transfer 0 one word has moved, and of transfer 1 both.
-const HALF_MOVED: [Block<'static>; 2] = [
-    Block {
-        module: 1,
-        block: 0,
-        words: &[0, 0x0001_0001],
-    },
-    Block {
-        module: 2,
-        block: 0,
-        words: &[0x0001_0100, 0x0001_0101],
-    },
-];
-
-#[test]
-fn a_failed_wire_lets_the_others_go_on(rt: HostRuntime) {
-    let stop = stopped(wire_stop(0), (0, 1), Some((1, 2)));
-    assert!(rt; stops_at_fuse(&rt, "3x2x2", TWO_PUSHES, 9, stop, &HALF_MOVED));
-}
-
-/// Row swap with a wire that carries one word and five bytes of the next.
-#[test]
-fn swap_stops(rt: HostRuntime) {
-    let blocks = [
-        block_of(0, 0, &[0x0001_0000, 0x0001_0001]),
-        block_of(1, 0, &[0, 0x0001_0001]),
-    ];
-    let stop = stopped(wire_stop(0), (0, 1), Some((1, 2)));
-    let swap = "batch 2\npush 0 0 1 0\npush 1 0 0 0\n";
-    assert!(rt; stops_at_fuse(&rt, "2x1x2", swap, 14, stop, &blocks));
-}
-
-/// A line of which one call fails, and the calls before it and behind it don't.
+/// A line of which one call fails, where there is one, and the calls before it and behind it don't.
 #[derive(Drop)]
 struct HoledLine {
     plain: PlainWire,
     failed: FailureCount,
     calls: usize,
-    failing_call: usize,
+    failing_call: Option<usize>,
 }
 
 impl Wire for HoledLine {
@@ -78,8 +25,9 @@ impl Wire for HoledLine {
     ghost never_fails = { λ _. ⊥ };
 
     fn carry(&mut self, byte: u8) -> Result<u8, WireFault> {
-        self.calls = self.calls.saturating_add(1);
-        if self.calls == self.failing_call {
+        let before = self.calls;
+        self.calls = before.saturating_add(1);
+        if self.failing_call == Some(before) {
             self.failed.raise();
             return Err(WireFault);
         }
@@ -87,10 +35,10 @@ impl Wire for HoledLine {
     }
 }
 
-/// Gives each transfer a line of which this call fails, counted from 1, and counts the lines.
+/// Gives transfer 0 a line that carries so many bytes, fails once and then works, the others lines that don't fail, and counts the lines.
 #[derive(Clone, Copy)]
 struct HoledLines<'a> {
-    failing_call: usize,
+    bytes: usize,
     made: &'a AtomicUsize,
 }
 
@@ -99,42 +47,101 @@ impl<'a> WireMaker for HoledLines<'a> {
 
     ghost is_sure = { λ _ _. ⊥ };
 
-    fn line(&self, _transfer: usize) -> HoledLine {
+    fn line(&self, transfer: usize) -> HoledLine {
         self.made.fetch_add(1, Ordering::SeqCst);
         HoledLine {
             plain: PlainWire::new(),
             failed: FailureCount::zero(),
             calls: 0,
-            failing_call: self.failing_call,
+            failing_call: if transfer == 0 {
+                Some(self.bytes)
+            } else {
+                None
+            },
         }
     }
 }
 
-/// Whether a run of one transfer of two words on the rack `2x1x2` stops with just one word moved, where the
-/// twelfth byte of its wire fails and all others go, and no second wire is made.
-fn stops_with_one_word<R: AllocGlobal + Threads + Sync>(
+/// Whether a run in this form of so many transfers ends as the case says, where the wire of transfer 0 carries so many bytes and fails
+/// then, for good or once, and no wire is made a second time.
+fn stops_in<R: AllocGlobal + Threads + Sync>(
     rt: &R,
-    text: &str,
-    written: Block<'_>,
+    form: Form,
+    case: &Case<'_>,
+    bytes: usize,
+    transfers: usize,
 ) -> bool {
+    let wires = FuseWires { transfer: 0, bytes };
     let made = AtomicUsize::new(0);
-    let mut plant = with_wires(HoledLines {
-        failing_call: 12,
-        made: &made,
-    });
-    let stop = stopped(wire_stop(0), (0, 1), None);
-    let stops = match run_with(rt, "2x1x2", text, &mut plant, &[written]) {
-        Some(seen) => seen.is_stopped(stop),
-        None => false,
-    };
-    stops && made.load(Ordering::SeqCst) == 1
+    let holed = HoledLines { bytes, made: &made };
+    let told = AtomicUsize::new(0);
+    let told_holed = AtomicUsize::new(0);
+    ends_so(rt, form, &mut with_wires(wires), case, &told)
+        && ends_so(rt, form, &mut with_wires(holed), case, &told_holed)
+        && made.load(Ordering::SeqCst) == transfers
 }
 
-/// A wire that has failed isn't tried again, though it would carry the bytes then.
+/// Whether runs in both forms do, which stop in setting 0 at that wire, with so many words of each transfer moved.
+fn stops<R: AllocGlobal + Threads + Sync>(
+    rt: &R,
+    shape: &str,
+    text: &str,
+    bytes: usize,
+    moved: &[(usize, usize)],
+    blocks: &[(usize, usize, &[u32])],
+) -> bool {
+    let case = Case {
+        shape,
+        text,
+        end: End::Stopped(0, StopCause::Wire(0), moved),
+        blocks,
+    };
+    for form in FORMS {
+        if !stops_in(rt, form, &case, bytes, moved.len()) {
+            return false;
+        }
+    }
+    true
+}
+
+/// A wire of 14 bytes carries one word and five bytes of the next.
 #[test]
-fn a_failed_wire_is_not_tried_again(rt: HostRuntime) {
-    let pushed = block_of(1, 0, &[0, 0x0001_0001]);
-    assert!(rt; stops_with_one_word(&rt, "batch 1\npush 0 0 1 0\n", pushed));
-    let pulled = block_of(0, 0, &[0x0001_0000, 1]);
-    assert!(rt; stops_with_one_word(&rt, "batch 1\npull 0 0 1 0\n", pulled));
+fn overlaps_and_fuses_push(rt: HostRuntime) {
+    let blocks: [(usize, usize, &[u32]); 1] = [(1, 0, &[0, 0x0001_0001])];
+    assert!(rt;
+        stops(
+            &rt,
+            "2x1x2",
+            "batch 1\npush 0 0 1 0\n",
+            14,
+            &[(0, 1)],
+            &blocks
+        )
+    );
+}
+
+/// A wire of seven bytes brings no word back, and one of 11 bytes one.
+#[test]
+fn overlaps_and_fuses_pull(rt: HostRuntime) {
+    let pull = "batch 1\npull 0 0 1 0\n";
+    let none: [(usize, usize, &[u32]); 1] = [(0, 0, &[0, 1])];
+    assert!(rt; stops(&rt, "2x1x2", pull, 7, &[(0, 0)], &none));
+    let one: [(usize, usize, &[u32]); 1] = [(0, 0, &[0x0001_0000, 1])];
+    assert!(rt; stops(&rt, "2x1x2", pull, 11, &[(0, 1)], &one));
+}
+
+/// Row swap with a wire that carries one word and five bytes of the next, and row two-pushes with one that carries one word.
+#[test]
+fn a_failed_wire_lets_the_others_go_on(rt: HostRuntime) {
+    let swap = "batch 2\npush 0 0 1 0\npush 1 0 0 0\n";
+    let swapped: [(usize, usize, &[u32]); 2] = [
+        (0, 0, &[0x0001_0000, 0x0001_0001]),
+        (1, 0, &[0, 0x0001_0001]),
+    ];
+    assert!(rt; stops(&rt, "2x1x2", swap, 14, &[(0, 1), (1, 2)], &swapped));
+    let pushed: [(usize, usize, &[u32]); 2] = [
+        (1, 0, &[0, 0x0001_0001]),
+        (2, 0, &[0x0001_0100, 0x0001_0101]),
+    ];
+    assert!(rt; stops(&rt, "3x2x2", TWO_PUSHES, 9, &[(0, 1), (1, 2)], &pushed));
 }

@@ -1,38 +1,28 @@
 //! When workers arrive at the gate, and whether they move words at once.
 
-use super::running::{Block, FOUR_PUSHES, MOVED, TURNED_ROUND, block_of, completed, run_with};
 use crate::tests::common::{TWO_PUSHES, two, with_gate};
 use crate::tests::meeting::Meeting;
-use crossbar::MemoryPort;
-use exchange_limits::WorkerCount;
+use crate::tests::running::{Case, End, Form, TURNED_ROUND, ends_so};
+use exchange_limits::{MAX_WORKERS, WorkerCount};
 use peek_poke::{PlainWire, PlainWires, Wire, WireFault, WireMaker};
-use schedule_certificate::{Gate, OpenGate};
-use setting_runner::Plant;
+use schedule_certificate::Gate;
+use std::alloc::{AllocError, Global};
 use std::sync::atomic::{AtomicBool, AtomicUsize, Ordering};
 use std::thread::{Threads, yield_now};
 
 /// How long a worker waits for another.
 const TURNS: usize = 10_000_000;
 
-/// Whether a batch of one setting, run with this plant, moves so many words and leaves these blocks.
-fn moves<R: AllocGlobal + Threads + Sync, W: WireMaker + Sync, G: Gate + Sync>(
-    rt: &R,
-    shape: &str,
-    text: &str,
-    plant: &mut Plant<MemoryPort, W, G>,
-    words: usize,
-    blocks: &[Block<'_>],
-) -> bool {
-    match run_with(rt, shape, text, plant, blocks) {
-        Some(seen) => seen.is_ended(completed(1, words)),
-        None => false,
-    }
-}
-
 /// Whether both workers of row two-pushes meet at the gate, and all its words are moved.
 fn two_pushes_meet<R: AllocGlobal + Threads + Sync>(rt: &R) -> bool {
+    let case = Case {
+        shape: "3x2x2",
+        text: TWO_PUSHES,
+        end: End::Completed(1, 4),
+        blocks: &[(1, 0, &[0, 1]), (2, 0, &[0x0001_0100, 0x0001_0101])],
+    };
     let mut plant = with_gate(PlainWires, Meeting::new(), two());
-    moves(rt, "3x2x2", TWO_PUSHES, &mut plant, 4, &MOVED) && plant.gate.is_met()
+    ends_so(rt, Form::Workers, &mut plant, &case, &AtomicUsize::new(0)) && plant.gate.is_met()
 }
 
 #[test]
@@ -40,121 +30,204 @@ fn two_pushes_meet_at_the_gate(rt: HostRuntime) {
     assert!(rt; two_pushes_meet(&rt));
 }
 
-/// How often one worker arrives, and how often any does.
+/// What is seen of the workers of a run: how often each has arrived, how many wires have begun, whether one has waited for the others for
+/// too long, and whether one was made, or carried a byte, before its worker had arrived.
 #[derive(Drop)]
-struct Counting {
-    worker: usize,
-    times: AtomicUsize,
-    all: AtomicUsize,
+struct Watch {
+    /// A count for each number, and for 0, which no worker has.
+    arrived: Vec<AtomicUsize>,
+    /// How many wires wait for one another in their first byte, each of which is carried by the worker of the transfer's number and 1.
+    /// Without it none waits.
+    held: Option<usize>,
+    begun: AtomicUsize,
+    gave_up: AtomicBool,
+    early: AtomicBool,
 }
 
-impl Counting {
-    fn of(worker: usize) -> Counting {
-        Counting {
-            worker,
-            times: AtomicUsize::new(0),
-            all: AtomicUsize::new(0),
+impl Watch {
+    fn new(alloc: Global, held: Option<usize>) -> Result<Watch, AllocError> {
+        let mut arrived = Vec::new(alloc);
+        for _ in 0..=MAX_WORKERS {
+            arrived.push(AtomicUsize::new(0))?;
+        }
+        Ok(Watch {
+            arrived,
+            held,
+            begun: AtomicUsize::new(0),
+            gave_up: AtomicBool::new(false),
+            early: AtomicBool::new(false),
+        })
+    }
+
+    /// Whether each worker of the list has arrived as often as stands beside it, and no other has.
+    fn has_seen(&self, arrivals: &[(usize, usize)]) -> bool {
+        for (place, count) in self.arrived.iter().enumerate() {
+            if count.load(Ordering::SeqCst) != times_of(arrivals, place) {
+                return false;
+            }
+        }
+        true
+    }
+
+    /// Whether just so many wires began, and no wire was early or gave up.
+    fn is_timely(&self, wires: usize) -> bool {
+        self.begun.load(Ordering::SeqCst) == wires
+            && !self.gave_up.load(Ordering::SeqCst)
+            && !self.early.load(Ordering::SeqCst)
+    }
+
+    /// Sees that the worker of a transfer has arrived, where each has its own.
+    fn look(&self, transfer: usize) {
+        if self.held.is_some() && !self.has_arrived(transfer.saturating_add(1)) {
+            self.early.store(true, Ordering::SeqCst);
         }
     }
 
-    /// Whether the worker has arrived so often, and all together so often.
-    fn is_just(&self, times: usize, all: usize) -> bool {
-        self.times.load(Ordering::SeqCst) == times && self.all.load(Ordering::SeqCst) == all
+    /// Whether a worker has arrived.
+    fn has_arrived(&self, worker: usize) -> bool {
+        match self.arrived.get(worker) {
+            Some(times) => times.load(Ordering::SeqCst) > 0,
+            None => false,
+        }
     }
+
+    /// Begins a wire, and waits until so many have begun, or one has given up.
+    fn begin(&self) {
+        self.begun.fetch_add(1, Ordering::SeqCst);
+        let wanted = self.held.unwrap_or(0);
+        for _ in 0..TURNS {
+            if self.begun.load(Ordering::SeqCst) >= wanted || self.gave_up.load(Ordering::SeqCst) {
+                return;
+            }
+            yield_now();
+        }
+        self.gave_up.store(true, Ordering::SeqCst);
+    }
+}
+
+/// How often a worker arrives by a list.
+fn times_of(arrivals: &[(usize, usize)], worker: usize) -> usize {
+    for (number, times) in arrivals {
+        if *number == worker {
+            return *times;
+        }
+    }
+    0
 }
 
 /// A gate that counts.
 #[derive(Clone, Copy)]
-struct CountingGate<'a> {
-    counting: &'a Counting,
+struct WatchedGate<'a> {
+    watch: &'a Watch,
 }
 
-impl<'a> Gate for CountingGate<'a> {
+impl<'a> Gate for WatchedGate<'a> {
     fn arrive(&self, place: usize) {
-        if place == self.counting.worker {
-            self.counting.times.fetch_add(1, Ordering::SeqCst);
+        if let Some(count) = self.watch.arrived.get(place).or(self.watch.arrived.first()) {
+            count.fetch_add(1, Ordering::SeqCst);
         }
-        self.counting.all.fetch_add(1, Ordering::SeqCst);
     }
 }
 
-/// A run of a batch of one setting by so many workers, what it leaves in block 1 of module 1 of a rack of 32 modules whose
-/// blocks have one word, and how often each worker who arrives does.
+/// A line whose first byte waits for the other lines' first bytes, where they are held.
+#[derive(Drop)]
+struct WatchedLine<'a> {
+    plain: PlainWire,
+    watch: &'a Watch,
+    transfer: usize,
+    has_begun: bool,
+}
+
+impl<'a> Wire for WatchedLine<'a> {
+    ghost failures = { λ _. 0 };
+
+    ghost carried = { λ line. line.plain };
+
+    ghost never_fails = { λ _. Unit {0} };
+
+    fn carry(&mut self, byte: u8) -> Result<u8, WireFault> {
+        self.watch.look(self.transfer);
+        if !self.has_begun {
+            self.has_begun = true;
+            self.watch.begin();
+        }
+        self.plain.carry(byte)
+    }
+}
+
+/// Gives all transfers such lines.
+#[derive(Clone, Copy)]
+struct WatchedLines<'a> {
+    watch: &'a Watch,
+}
+
+impl<'a> WireMaker for WatchedLines<'a> {
+    type Line = WatchedLine<'a>;
+
+    ghost is_sure = { λ _ _. Unit {0} };
+
+    fn line(&self, transfer: usize) -> WatchedLine<'a> {
+        self.watch.look(transfer);
+        WatchedLine {
+            plain: PlainWire::new(),
+            watch: self.watch,
+            transfer,
+            has_begun: false,
+        }
+    }
+}
+
+/// A run of a batch of one setting by so many workers, what it leaves in block 1 of module 1 of a rack of 32 modules whose blocks have one
+/// word, and how often each worker who arrives does. Where it is held, there is a worker for each transfer, and all wires wait for one
+/// another.
 #[derive(Clone, Copy)]
 struct Row {
     text: &'static str,
     transfers: usize,
     workers: usize,
+    is_held: bool,
     word: u32,
     arrivals: &'static [(usize, usize)],
 }
 
-/// Whether the row's run goes to its end with this gate.
-fn goes_through<R: AllocGlobal + Threads + Sync>(
+/// Whether a row's run goes to its end, and is seen as it says.
+fn is_seen<R: AllocGlobal + Threads + Sync>(
     rt: &R,
     row: &Row,
     workers: WorkerCount,
-    gate: CountingGate<'_>,
+    watch: &Watch,
 ) -> bool {
     let words = [row.word];
-    let mut plant = with_gate(PlainWires, gate, workers);
-    moves(
-        rt,
-        "32x2x1",
-        row.text,
-        &mut plant,
-        row.transfers,
-        &[block_of(1, 1, &words)],
-    )
+    let case = Case {
+        shape: "32x2x1",
+        text: row.text,
+        end: End::Completed(1, row.transfers),
+        blocks: &[(1, 1, &words)],
+    };
+    let mut plant = with_gate(WatchedLines { watch }, WatchedGate { watch }, workers);
+    ends_so(rt, Form::Workers, &mut plant, &case, &AtomicUsize::new(0))
+        && watch.has_seen(row.arrivals)
+        && watch.is_timely(row.transfers)
 }
 
-/// Whether in the row's run one worker arrives so often, and all together so often.
-fn arrives<R: AllocGlobal + Threads + Sync>(
-    rt: &R,
-    row: &Row,
-    worker: usize,
-    times: usize,
-    all: usize,
-) -> bool {
+/// Whether that is so of a new watch.
+fn is_right<R: AllocGlobal + Threads + Sync>(rt: &R, row: &Row) -> bool {
     let Some(workers) = WorkerCount::new(row.workers) else {
         return false;
     };
-    let counting = Counting::of(worker);
-    let gate = CountingGate {
-        counting: &counting,
+    let held = if row.is_held {
+        Some(row.transfers)
+    } else {
+        None
     };
-    goes_through(rt, row, workers, gate) && counting.is_just(times, all)
+    match Watch::new(rt.alloc(), held) {
+        Ok(watch) => is_seen(rt, row, workers, &watch),
+        Err(_) => false,
+    }
 }
 
-/// How many arrivals a list has.
-fn sum(arrivals: &[(usize, usize)]) -> usize {
-    let mut all: usize = 0;
-    for (_, times) in arrivals {
-        all = all.saturating_add(*times);
-    }
-    all
-}
-
-/// Whether in the row's run just its workers arrive, each so often.
-fn arrive_just<R: AllocGlobal + Threads + Sync>(rt: &R, row: &Row) -> bool {
-    let all = sum(row.arrivals);
-    for (worker, times) in row.arrivals {
-        if !arrives(rt, row, *worker, *times, all) {
-            return false;
-        }
-    }
-    true
-}
-
-/// The number of the first row whose run doesn't have just its arrivals.
-fn first_wrong<R: AllocGlobal + Threads + Sync>(rt: &R, rows: &[Row]) -> Option<usize> {
-    for (number, row) in rows.iter().enumerate() {
-        if !arrive_just(rt, row) {
-            return Some(number);
-        }
-    }
-    None
-}
+/// Four transfers of one setting.
+const FOUR_PUSHES: &str = "batch 4\npush 0 0 1 1\npush 1 0 2 1\npush 2 0 3 1\npush 3 0 0 1\n";
 
 /// Two transfers of one setting.
 const TWO_TO_THREE: &str = "batch 2\npush 0 0 1 1\npush 1 0 2 1\n";
@@ -196,346 +269,111 @@ const EACH_OF_32: [(usize, usize); 32] = [
     (32, 1),
 ];
 
-/// Row arrivals.
-const ARRIVALS: [Row; 13] = [
-    // Four transfers. One worker doesn't fork.
-    Row {
-        text: FOUR_PUSHES,
-        transfers: 4,
-        workers: 1,
-        word: 0,
-        arrivals: &[(1, 0)],
-    },
-    Row {
-        text: FOUR_PUSHES,
-        transfers: 4,
-        workers: 2,
-        word: 0,
-        arrivals: &[(1, 1), (2, 1)],
-    },
-    // A half that is one worker doesn't fork. Of three and of five workers the first half has one more than the other.
-    Row {
-        text: FOUR_PUSHES,
-        transfers: 4,
-        workers: 3,
-        word: 0,
-        arrivals: &[(1, 2), (2, 1), (3, 1)],
-    },
-    // Four workers fork twice: 1 and 2 from 3 and 4, and then each from the other.
-    Row {
-        text: FOUR_PUSHES,
-        transfers: 4,
-        workers: 4,
-        word: 0,
-        arrivals: &[(1, 2), (2, 1), (3, 2), (4, 1)],
-    },
-    Row {
-        text: FOUR_PUSHES,
-        transfers: 4,
-        workers: 5,
-        word: 0,
-        arrivals: &[(1, 2), (3, 1), (4, 2), (5, 1)],
-    },
-    // Workers beyond the transfers are halved like all others: of sixteen the second half begins with worker 9, of 64 with 33.
-    Row {
-        text: FOUR_PUSHES,
-        transfers: 4,
-        workers: 16,
-        word: 0,
-        arrivals: &[(1, 2), (5, 1), (9, 2), (13, 1)],
-    },
-    Row {
-        text: TWO_TO_THREE,
-        transfers: 2,
-        workers: 16,
-        word: 0,
-        arrivals: &[(1, 1), (9, 1)],
-    },
-    Row {
-        text: TWO_TO_THREE,
-        transfers: 2,
-        workers: 64,
-        word: 0,
-        arrivals: &[(1, 1), (33, 1)],
-    },
-    // One transfer is moved without a fork; of three, the first half has one.
-    Row {
-        text: "batch 1\npush 0 0 1 1\n",
-        transfers: 1,
-        workers: 4,
-        word: 0,
-        arrivals: &[(1, 0)],
-    },
-    Row {
-        text: "batch 3\npush 0 0 1 1\npush 1 0 2 1\npush 2 0 3 1\n",
-        transfers: 3,
-        workers: 4,
-        word: 0,
-        arrivals: &[(1, 1), (3, 2), (4, 1)],
-    },
-    // Two workers and eight, who have more than one transfer each.
-    Row {
-        text: TURNED_ROUND,
-        transfers: 32,
-        workers: 2,
-        word: 0x001e_0000,
-        arrivals: &[(1, 1), (2, 1)],
-    },
-    Row {
-        text: TURNED_ROUND,
-        transfers: 32,
-        workers: 8,
-        word: 0x001e_0000,
-        arrivals: &[
-            (1, 3),
-            (2, 1),
-            (3, 2),
-            (4, 1),
-            (5, 3),
-            (6, 1),
-            (7, 2),
-            (8, 1),
-        ],
-    },
-    Row {
-        text: TURNED_ROUND,
-        transfers: 32,
-        workers: 32,
-        word: 0x001e_0000,
-        arrivals: &EACH_OF_32,
-    },
-];
+/// A run of four transfers that isn't held.
+const FOUR: Row = Row {
+    text: FOUR_PUSHES,
+    transfers: 4,
+    workers: 1,
+    is_held: false,
+    word: 0,
+    arrivals: &[],
+};
 
+/// The same of two transfers.
+const TWO: Row = Row {
+    text: TWO_TO_THREE,
+    transfers: 2,
+    ..FOUR
+};
+
+/// The same of 32.
+const ALL: Row = Row {
+    text: TURNED_ROUND,
+    transfers: 32,
+    word: 0x001e_0000,
+    ..FOUR
+};
+
+/// A row with so many workers and these arrivals.
+fn by(row: Row, workers: usize, arrivals: &'static [(usize, usize)]) -> Row {
+    Row {
+        workers,
+        arrivals,
+        ..row
+    }
+}
+
+/// A row that is held.
+fn held(row: Row) -> Row {
+    Row {
+        is_held: true,
+        ..row
+    }
+}
+
+/// Row arrivals.
 #[test]
 fn workers_arrive(rt: HostRuntime) {
-    assert!(rt; first_wrong(&rt, &ARRIVALS).is_none());
-}
-
-/// Lines that wait until so many of them have begun.
-#[derive(Drop)]
-struct Company {
-    wanted: usize,
-    begun: AtomicUsize,
-    gave_up: AtomicBool,
-}
-
-impl Company {
-    fn of(wanted: usize) -> Company {
-        Company {
-            wanted,
-            begun: AtomicUsize::new(0),
-            gave_up: AtomicBool::new(false),
-        }
-    }
-
-    /// Begins a line, and waits until all have begun, or one has given up.
-    fn begin(&self) {
-        self.begun.fetch_add(1, Ordering::SeqCst);
-        for _ in 0..TURNS {
-            if self.begun.load(Ordering::SeqCst) >= self.wanted || self.has_given_up() {
-                return;
-            }
-            yield_now();
-        }
-        self.gave_up.store(true, Ordering::SeqCst);
-    }
-
-    /// Whether a line has waited for too long.
-    fn has_given_up(&self) -> bool {
-        self.gave_up.load(Ordering::SeqCst)
-    }
-
-    /// Whether just so many lines began, and none gave up.
-    fn is_met(&self) -> bool {
-        self.begun.load(Ordering::SeqCst) == self.wanted && !self.has_given_up()
-    }
-}
-
-/// A line whose first byte waits until the other lines' first bytes have begun.
-#[derive(Drop)]
-struct HeldLine<'a> {
-    plain: PlainWire,
-    company: &'a Company,
-    begun: bool,
-}
-
-impl<'a> Wire for HeldLine<'a> {
-    ghost failures = { λ _. 0 };
-
-    ghost carried = { λ line. line.plain };
-
-    ghost never_fails = { λ _. Unit {0} };
-
-    fn carry(&mut self, byte: u8) -> Result<u8, WireFault> {
-        if !self.begun {
-            self.begun = true;
-            self.company.begin();
-        }
-        self.plain.carry(byte)
+    let one = Row {
+        text: "batch 1\npush 0 0 1 1\n",
+        transfers: 1,
+        ..FOUR
+    };
+    let three = Row {
+        text: "batch 3\npush 0 0 1 1\npush 1 0 2 1\npush 2 0 3 1\n",
+        transfers: 3,
+        ..FOUR
+    };
+    let rows = [
+        // One worker doesn't fork. A half that is one worker doesn't. Of three and of five workers the first half has one more than the other.
+        FOUR,
+        by(FOUR, 2, &[(1, 1), (2, 1)]),
+        by(FOUR, 3, &[(1, 2), (2, 1), (3, 1)]),
+        by(FOUR, 5, &[(1, 2), (3, 1), (4, 2), (5, 1)]),
+        // Workers beyond the transfers are halved like all others: of sixteen the second half begins with worker 9, of 64 with 33.
+        by(FOUR, 16, &[(1, 2), (5, 1), (9, 2), (13, 1)]),
+        by(TWO, 16, &[(1, 1), (9, 1)]),
+        by(TWO, 64, &[(1, 1), (33, 1)]),
+        // One transfer is moved without a fork; of three, the first half has one.
+        by(one, 4, &[]),
+        by(three, 4, &[(1, 1), (3, 2), (4, 1)]),
+        // Two workers and eight, who have more than one transfer each.
+        by(ALL, 2, &[(1, 1), (2, 1)]),
+        by(
+            ALL,
+            8,
+            &[
+                (1, 3),
+                (2, 1),
+                (3, 2),
+                (4, 1),
+                (5, 3),
+                (6, 1),
+                (7, 2),
+                (8, 1),
+            ],
+        ),
+    ];
+    for (number, row) in rows.iter().enumerate() {
+        assert!(rt; is_right(&rt, row), "row {number}");
     }
 }
 
-/// Gives all transfers lines that wait for one another.
-#[derive(Clone, Copy)]
-struct HeldLines<'a> {
-    company: &'a Company,
-}
-
-impl<'a> WireMaker for HeldLines<'a> {
-    type Line = HeldLine<'a>;
-
-    ghost is_sure = { λ _ _. Unit {0} };
-
-    fn line(&self, _transfer: usize) -> HeldLine<'a> {
-        HeldLine {
-            plain: PlainWire::new(),
-            company: self.company,
-            begun: false,
-        }
-    }
-}
-
-/// Whether a batch of one setting is run by as many workers as it has transfers, whose lines are held.
-fn are_held<R: AllocGlobal + Threads + Sync>(
-    rt: &R,
-    shape: &str,
-    text: &str,
-    workers: WorkerCount,
-    words: usize,
-) -> bool {
-    let company = Company::of(workers.get());
-    let wires = HeldLines { company: &company };
-    let mut plant = with_gate(wires, OpenGate, workers);
-    moves(rt, shape, text, &mut plant, words, &[]) && company.is_met()
-}
-
-#[test]
-fn two_wires_are_held(rt: HostRuntime) {
-    assert!(rt; are_held(&rt, "4x2x2", TWO_PUSHES, WorkerCount::new(2).unwrap(), 4));
-}
-
-/// Four workers move four transfers at once, each its own.
-#[test]
-fn four_wires_are_held(rt: HostRuntime) {
-    assert!(rt; are_held(&rt, "4x2x2", FOUR_PUSHES, WorkerCount::new(4).unwrap(), 8));
-}
-
-/// 32 workers move all transfers of the widest setting at once.
+/// As many workers as transfers, whose wires wait for one another, and are made when their workers have arrived. Four workers fork twice:
+/// 1 and 2 from 3 and 4, and then each from the other.
 #[test]
 fn all_wires_are_held(rt: HostRuntime) {
-    assert!(rt;
-        are_held(
-            &rt,
-            "32x2x1",
-            TURNED_ROUND,
-            WorkerCount::new(32).unwrap(),
-            32
-        )
-    );
-}
-
-/// Which workers have arrived, and whether a wire was made, or a byte carried, before its worker had.
-#[derive(Drop)]
-struct Arrivals {
-    places: [AtomicBool; 5],
-    early: AtomicBool,
-}
-
-impl Arrivals {
-    fn none() -> Arrivals {
-        Arrivals {
-            places: [
-                AtomicBool::new(false),
-                AtomicBool::new(false),
-                AtomicBool::new(false),
-                AtomicBool::new(false),
-                AtomicBool::new(false),
-            ],
-            early: AtomicBool::new(false),
-        }
-    }
-
-    /// Sees that this worker has arrived.
-    fn expect(&self, place: usize) {
-        if let Some(arrived) = self.places.get(place) {
-            if !arrived.load(Ordering::SeqCst) {
-                self.early.store(true, Ordering::SeqCst);
-            }
-        }
-    }
-}
-
-/// A gate that notes who has arrived.
-#[derive(Clone, Copy)]
-struct NotingGate<'a> {
-    arrivals: &'a Arrivals,
-}
-
-impl<'a> Gate for NotingGate<'a> {
-    fn arrive(&self, place: usize) {
-        if let Some(arrived) = self.arrivals.places.get(place) {
-            arrived.store(true, Ordering::SeqCst);
-        }
-    }
-}
-
-/// A line that is carried by one worker.
-#[derive(Drop)]
-struct WatchedLine<'a> {
-    plain: PlainWire,
-    arrivals: &'a Arrivals,
-    worker: usize,
-}
-
-impl<'a> Wire for WatchedLine<'a> {
-    ghost failures = { λ _. 0 };
-
-    ghost carried = { λ line. line.plain };
-
-    ghost never_fails = { λ _. Unit {0} };
-
-    fn carry(&mut self, byte: u8) -> Result<u8, WireFault> {
-        self.arrivals.expect(self.worker);
-        self.plain.carry(byte)
-    }
-}
-
-/// Gives transfer t a line that worker t + 1 carries.
-#[derive(Clone, Copy)]
-struct WatchedLines<'a> {
-    arrivals: &'a Arrivals,
-}
-
-impl<'a> WireMaker for WatchedLines<'a> {
-    type Line = WatchedLine<'a>;
-
-    ghost is_sure = { λ _ _. Unit {0} };
-
-    fn line(&self, transfer: usize) -> WatchedLine<'a> {
-        let worker = transfer.saturating_add(1);
-        self.arrivals.expect(worker);
-        WatchedLine {
-            plain: PlainWire::new(),
-            arrivals: self.arrivals,
-            worker,
-        }
-    }
-}
-
-/// Whether four workers of four transfers all arrive before their wires are made, and before a byte of them is carried.
-fn arrive_early<R: AllocGlobal + Threads + Sync>(rt: &R) -> bool {
-    let arrivals = Arrivals::none();
-    let wires = WatchedLines {
-        arrivals: &arrivals,
+    let pushes = Row {
+        text: TWO_PUSHES,
+        word: 0x0001_0100,
+        ..TWO
     };
-    let gate = NotingGate {
-        arrivals: &arrivals,
-    };
-    let mut plant = with_gate(wires, gate, WorkerCount::new(4).unwrap());
-    moves(rt, "4x2x1", FOUR_PUSHES, &mut plant, 4, &[]) && !arrivals.early.load(Ordering::SeqCst)
-}
-
-#[test]
-fn workers_arrive_before_they_move(rt: HostRuntime) {
-    assert!(rt; arrive_early(&rt));
+    let rows = [
+        by(pushes, 2, &[(1, 1), (2, 1)]),
+        by(FOUR, 4, &[(1, 2), (2, 1), (3, 2), (4, 1)]),
+        by(ALL, 32, &EACH_OF_32),
+    ];
+    for (number, row) in rows.iter().enumerate() {
+        assert!(rt; is_right(&rt, &held(*row)), "row {number}");
+    }
 }

@@ -1,10 +1,10 @@
-//! How sessions end whose reader or writer fails.
+//! How sessions end whose reader or writer fails once, and then works: neither is tried again.
 
-use super::office::is_served;
+use super::served::is_served;
 use super::streams::{ALL, AT_ONCE, Full, Reading, Script, Writing};
 use client_session::ServeFault;
 
-/// A reader that hands out at most so many bytes a call, and fails after so many calls.
+/// A reader that hands out at most so many bytes a call, and fails once after so many calls.
 fn failing_at(fails_at: usize, step: usize) -> Reading {
     let mut reading = AT_ONCE;
     reading.step = step;
@@ -26,7 +26,7 @@ const MUTE: [(&str, usize, &str, usize); 6] = [
     ("batch 1\npush 0 0 0 0\n", 10, "", 0),
 ];
 
-/// The reader hands out a byte a call.
+/// The reader hands out a byte a call. The end of the text is its 23rd call. Behind `bye` it isn't asked.
 #[test]
 fn session_ends_by_its_reader(rt: HostRuntime) {
     for (says, fails_at, hears, entries) in MUTE {
@@ -35,22 +35,13 @@ fn session_ends_by_its_reader(rt: HostRuntime) {
             .reading(failing_at(fails_at, 1));
         assert!(rt; is_served(&rt, &script), "behind {fails_at}");
     }
-}
-
-/// The end of the text is the reader's 23rd call.
-#[test]
-fn session_ends_before_its_reader_fails(rt: HostRuntime) {
     let whole = Script::of(TWO_LINES, TWO_REPLIES, 1);
     assert!(rt; is_served(&rt, &whole.reading(failing_at(23, 1))));
-}
-
-#[test]
-fn nothing_is_asked_for_behind_bye(rt: HostRuntime) {
     let bye = Script::of("bye\n", "bye\n", 0);
     assert!(rt; is_served(&rt, &bye.reading(failing_at(1, 4))));
 }
 
-/// A writer that has room for so many bytes, and then does this.
+/// A writer that has room for so many bytes, then does this once, and has room again.
 fn with_room(room: usize, full: Full) -> Writing {
     let mut writing = ALL;
     writing.room = room;
@@ -67,6 +58,7 @@ const DEAF: [(usize, Full, &str); 5] = [
     (26, Full::Fails, "word 00000000\nrefused line"),
 ];
 
+/// All replies have 27 bytes. A writer that fails when it is flushed has the reply.
 #[test]
 fn session_ends_by_its_writer(rt: HostRuntime) {
     for (room, full, hears) in DEAF {
@@ -75,16 +67,8 @@ fn session_ends_by_its_writer(rt: HostRuntime) {
             .writing(with_room(room, full));
         assert!(rt; is_served(&rt, &script), "behind {room}");
     }
-}
-
-#[test]
-fn session_ends_before_its_writer_fails(rt: HostRuntime) {
     let whole = Script::of(TWO_LINES, TWO_REPLIES, 1);
     assert!(rt; is_served(&rt, &whole.writing(with_room(27, Full::Fails))));
-}
-
-#[test]
-fn session_ends_by_a_writer_that_is_not_flushed(rt: HostRuntime) {
     let mut writing = ALL;
     writing.flush_fails = true;
     let script = Script::of(TWO_LINES, "word 00000000\n", 1).ending(ServeFault::Write);

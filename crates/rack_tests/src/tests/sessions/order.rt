@@ -1,6 +1,6 @@
 //! When a reader is asked and when a reply is flushed, and what a seat is worth behind a session.
 
-use super::office::{Day, NO_FUSE, is_served, is_so};
+use super::served::{Day, NO_FUSE, is_served, is_so};
 use super::streams::{ALL, AT_ONCE, Script};
 use client_session::ServeFault;
 use std::sync::Wait;

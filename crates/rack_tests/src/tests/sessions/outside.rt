@@ -3,10 +3,13 @@
 ghost use Rattle.std.specs.Prelude.{◌≡◌, ◌≤◌, length, take};
 ghost use Rattle.progress_word.specs.declared.limits.TheConstants.{ALL_PARTS};
 
-use super::office::{NO_FUSE, Saying, open};
-use crate::tests::common::zeros;
+use super::served::{NO_FUSE, Saying, serve_at_once};
+use crate::tests::common::{with_wires, zeros};
+use crate::tests::office::{close, open_pair};
 use batch_book::{Call, Entry};
 use module_memory::Rack;
+use peek_poke::FuseWires;
+use schedule_certificate::OpenGate;
 use std::alloc::{AllocError, Global};
 use std::io;
 use std::io::Read;
@@ -171,11 +174,12 @@ fn is_outside<L: Ledger + Send + Sync, R: AllocGlobal + Threads + Wait + Sync>(
     requires name { blank.name ≡ L.name }
     requires parts { (blank.parts ≡ L.parts) × (blank.parts ≡ ALL_PARTS) }
 {
-    let Some(office) = open::<L>(rt.alloc(), blank, rack, NO_FUSE) else {
+    let opened = open_pair::<L, FuseWires, OpenGate>(rt.alloc(), blank, rack, with_wires(NO_FUSE));
+    let Some(office) = opened else {
         return false;
     };
-    let (office, _) = office.serve_at_once(rt, unheard(planner), unheard(peeker));
-    match office.close(rt.alloc()) {
+    let (office, _) = serve_at_once(rt, office, unheard(planner), unheard(peeker));
+    match close(rt.alloc(), office) {
         Some(closed) => has_entry_between(closed.book.history()),
         None => false,
     }

@@ -1,6 +1,6 @@
 //! Worked rows of two clients, one after the other: over wires with a fuse, and over shared words and runs.
 
-use super::office::{Day, NO_FUSE, is_so};
+use super::served::{Day, NO_FUSE, is_so};
 use super::streams::Script;
 use peek_poke::FuseWires;
 use std::sync::Wait;

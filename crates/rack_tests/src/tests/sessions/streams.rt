@@ -14,7 +14,7 @@ pub struct Reading {
     pub step: usize,
     /// Whether it hands out a line at most.
     pub by_line: bool,
-    /// After how many of these it fails.
+    /// After how many of these it fails, once.
     pub fails_at: usize,
     /// How many replies were flushed at each `read`. An empty list says nothing of this.
     pub flushed: &'static [usize],
@@ -22,7 +22,7 @@ pub struct Reading {
     pub asked: Option<usize>,
 }
 
-/// A reader that hands out its text once, as much as there is room for, and never fails.
+/// A reader that hands out its text once, as much as there is room for, and doesn't fail.
 pub const AT_ONCE: Reading = Reading {
     times: 1,
     step: usize::MAX,
@@ -32,8 +32,8 @@ pub const AT_ONCE: Reading = Reading {
     asked: None,
 };
 
-/// What a writer does when it has no room.
-#[derive(Clone, Copy, PartialEq, Eq)]
+/// What a writer does, once, when it has no room.
+#[derive(Clone, Copy)]
 pub enum Full {
     Fails,
     TakesNothing,
@@ -48,9 +48,9 @@ pub struct Writing {
     pub step: usize,
     /// How many it has room for.
     pub room: usize,
-    /// What it does then.
+    /// What it does then. Behind that it has room again.
     pub full: Full,
-    /// Whether it fails when it is flushed.
+    /// Whether it fails when it is first flushed.
     pub flush_fails: bool,
 }
 
@@ -75,7 +75,8 @@ pub struct Script {
 }
 
 impl Script {
-    /// A client that says this, is to hear that, and adds so many entries. Its session ends by itself, over a reader and a writer that don't fail.
+    /// A client that says this, is to hear that, and adds so many entries. Its session ends by itself, over a reader and a writer that
+    /// don't fail.
     pub fn of(says: &'static str, hears: &'static str, entries: usize) -> Script {
         Script {
             says,
@@ -165,6 +166,7 @@ impl<'a> Speaker<'a> {
 impl Read for Speaker<'_> {
     fn read(&mut self, buf: &mut [u8]) -> io::Result<usize> {
         if self.reads >= self.reading.fails_at {
+            self.reading.fails_at = usize::MAX;
             return Err(io::ErrorKind::Other.into());
         }
         self.look();
@@ -238,8 +240,12 @@ impl<'a> Listener<'a> {
 impl Write for Listener<'_> {
     fn write(&mut self, buf: &[u8]) -> io::Result<usize> {
         let count = buf.len().min(self.writing.step).min(self.writing.room);
-        if count == 0 && self.writing.full == Full::Fails {
-            return Err(io::ErrorKind::Other.into());
+        if count == 0 {
+            self.writing.room = usize::MAX;
+            return match self.writing.full {
+                Full::Fails => Err(io::ErrorKind::Other.into()),
+                Full::TakesNothing => Ok(0),
+            };
         }
         self.writing.room -= count;
         if self.is_between && !self.is_flushed() {
@@ -253,6 +259,7 @@ impl Write for Listener<'_> {
 
     fn flush(&mut self) -> io::Result<()> {
         if self.writing.flush_fails {
+            self.writing.flush_fails = false;
             return Err(io::ErrorKind::Other.into());
         }
         self.flushed.store(self.lines, Ordering::SeqCst);

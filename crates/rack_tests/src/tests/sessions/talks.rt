@@ -3,9 +3,12 @@
 ghost use Rattle.std.specs.Prelude.{◌≡◌};
 ghost use Rattle.progress_word.specs.declared.limits.TheConstants.{ALL_PARTS};
 
-use super::office::{NO_FUSE, Saying, open};
-use crate::tests::common::zeros;
+use super::served::{NO_FUSE, Saying, serve_at_once};
+use crate::tests::common::{with_wires, zeros};
+use crate::tests::office::open_pair;
 use module_memory::Rack;
+use peek_poke::FuseWires;
+use schedule_certificate::OpenGate;
 use std::io;
 use std::io::Read;
 use std::marker::Brand;
@@ -91,14 +94,10 @@ fn hear_on<L: Ledger + Send + Sync, R: AllocGlobal + Threads + Wait + Sync>(
     requires parts { (blank.parts ≡ L.parts) × (blank.parts ≡ ALL_PARTS) }
 {
     let [first, second] = wanted;
-    match open::<L>(rt.alloc(), blank, rack, NO_FUSE) {
+    match open_pair::<L, FuseWires, OpenGate>(rt.alloc(), blank, rack, with_wires(NO_FUSE)) {
         Some(office) => {
-            let (_, is_right) = office.serve_at_once(
-                rt,
-                saying(talk, 0, first),
-                saying(talk, 1, second),
-            );
-            is_right
+            let (one, other) = (saying(talk, 0, first), saying(talk, 1, second));
+            serve_at_once(rt, office, one, other).1
         }
         None => false,
     }

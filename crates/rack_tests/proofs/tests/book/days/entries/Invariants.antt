@@ -1,4 +1,4 @@
-use Rattle.rack_tests.proofs.tests.book.days.has_all.Given as goal
+use Rattle.rack_tests.proofs.tests.book.days.entries.Given as goal
 
 abbrev pub ghosts-day : goal.ghosts-day
 ghosts-day g a = record { name = a.blank.name; parts = a.blank.parts }

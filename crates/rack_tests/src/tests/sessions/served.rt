@@ -6,14 +6,14 @@ ghost use Rattle.client_session.specs.Sessions.{seat_back};
 
 use super::streams::{Listener, Script, Speaker};
 use crate::tests::common::{with_wires, zeros};
-use batch_book::{Closed, Seat, Shared};
+use crate::tests::office::{Pair, close, open_pair};
+use batch_book::{Seat, Shared};
 use client_session::{ServeFault, serve};
 use crossbar::MemoryPort;
 use exchange_limits::WorkerCount;
 use module_memory::Rack;
 use peek_poke::FuseWires;
 use schedule_certificate::OpenGate;
-use std::alloc::Global;
 use std::io::Read;
 use std::marker::Brand;
 use std::sync::Wait;
@@ -30,43 +30,8 @@ pub const NO_FUSE: FuseWires = FuseWires {
 /// The exchange of the tests.
 pub type Exchange<L> = Shared<L, MemoryPort, FuseWires, OpenGate>;
 
-/// What is left of it.
-pub type Remains<L> = Closed<L, MemoryPort, FuseWires, OpenGate>;
-
-/// An exchange, and its two seats.
-#[derive(Drop)]
-pub struct Office<L: Ledger> {
-    shared: Exchange<L>,
-    first: Seat<L>,
-    second: Seat<L>,
-    ghost of_first: { first.exchange ≡ Some shared.word },
-    ghost of_second: { second.exchange ≡ Some shared.word },
-}
-
-/// Opens an exchange of two seats.
-pub fn open<L: Ledger>(
-    alloc: Global,
-    blank: Blank,
-    rack: Rack,
-    wires: FuseWires,
-) -> Option<Office<L>>
-    requires name { blank.name ≡ L.name }
-    requires parts { (blank.parts ≡ L.parts) × (blank.parts ≡ ALL_PARTS) }
-{
-    let plant = with_wires(wires);
-    let made = Shared::<L, MemoryPort, FuseWires, OpenGate>::new(alloc, blank, rack, plant, 2);
-    let Ok((shared, mut seats)) = made else {
-        return None;
-    };
-    prove!(seats.len() == 2);
-    let second = seats.remove(1);
-    let first = seats.remove(0);
-    Some(Office {
-        shared,
-        first,
-        second,
-    })
-}
+/// An exchange of the tests, with two seats.
+pub type Office<L> = Pair<L, FuseWires, OpenGate>;
 
 /// The seat that came back, and the fault, if there was one.
 fn back<L: Ledger>(ended: Result<Seat<L>, (Seat<L>, ServeFault)>) -> (Seat<L>, Option<ServeFault>)
@@ -113,80 +78,65 @@ fn is_heard(listener: &Listener<'_>, script: &Script, fault: Option<ServeFault>)
         && (listener.is_flushed() || fault == Some(ServeFault::Write))
 }
 
-impl<L: Ledger> Office<L> {
-    /// Plays both scripts of a day, one after the other. Whether all is as they say.
-    fn play<R: AllocGlobal + Threads + Wait + Sync>(self, rt: &R, day: &Day) -> (Office<L>, bool) {
-        let Office {
-            shared,
-            first,
-            second,
-        } = self;
-        let [one, other] = &day.scripts;
-        let (first, is_right) = play(rt, &shared, first, one);
-        let (first, second) = if day.is_one_seat {
-            (first, second)
-        } else {
-            (second, first)
-        };
-        let (first, is_right_too) = play(rt, &shared, first, other);
-        let office = Office {
-            shared,
-            first,
-            second,
-        };
-        (office, is_right && is_right_too)
-    }
+/// Plays both scripts of a day, one after the other. Whether all is as they say.
+fn play_both<L: Ledger, R: AllocGlobal + Threads + Wait + Sync>(
+    rt: &R,
+    office: Office<L>,
+    day: &Day,
+) -> (Office<L>, bool) {
+    let Pair {
+        shared,
+        first,
+        second,
+    } = office;
+    let [one, other] = &day.scripts;
+    let (first, is_right) = play(rt, &shared, first, one);
+    let (first, second) = if day.is_one_seat {
+        (first, second)
+    } else {
+        (second, first)
+    };
+    let (first, is_right_too) = play(rt, &shared, first, other);
+    let office = Pair {
+        shared,
+        first,
+        second,
+    };
+    (office, is_right && is_right_too)
+}
 
-    /// Serves two clients at once, each in a thread, which are to hear this. Whether both do.
-    pub fn serve_at_once<
-        R: AllocGlobal + Threads + Wait + Sync,
-        I: Read + Send + Drop,
-        J: Read + Send + Drop,
-    >(self, rt: &R, one: Saying<I>, other: Saying<J>) -> (Office<L>, bool)
-    where
-        L: Send + Sync,
-    {
-        let Office {
-            shared,
-            first,
-            second,
-        } = self;
-        let lent = &shared;
-        let (one, other) = join(
-            rt,
-            move || -> (Seat<L>, bool)
-                requires { first.exchange ≡ Some lent.now.word }
-                ensures { result.0.exchange ≡ first.exchange }
-            { hear(rt, lent, first, one) },
-            move || -> (Seat<L>, bool)
-                requires { second.exchange ≡ Some lent.now.word }
-                ensures { result.0.exchange ≡ second.exchange }
-            { hear(rt, lent, second, other) },
-        );
-        let (first, is_right) = one;
-        let (second, is_right_too) = other;
-        let office = Office {
-            shared,
-            first,
-            second,
-        };
-        (office, is_right && is_right_too)
-    }
-
-    /// Closes the exchange.
-    pub fn close(self, alloc: Global) -> Option<Remains<L>>
-        requires { L.parts ≡ ALL_PARTS }
-    {
-        let Office {
-            shared,
-            first,
-            second,
-        } = self;
-        match Vec::from_array(alloc, [first, second]) {
-            Ok(seats) => shared.close(seats).ok(),
-            Err(_) => None,
-        }
-    }
+/// Serves two clients at once, each in a thread, which are to hear this. Whether both do.
+pub fn serve_at_once<
+    L: Ledger + Send + Sync,
+    R: AllocGlobal + Threads + Wait + Sync,
+    I: Read + Send + Drop,
+    J: Read + Send + Drop,
+>(rt: &R, office: Office<L>, one: Saying<I>, other: Saying<J>) -> (Office<L>, bool) {
+    let Pair {
+        shared,
+        first,
+        second,
+    } = office;
+    let lent = &shared;
+    let (one, other) = join(
+        rt,
+        move || -> (Seat<L>, bool)
+            requires { first.exchange ≡ Some lent.now.word }
+            ensures { result.0.exchange ≡ first.exchange }
+        { hear(rt, lent, first, one) },
+        move || -> (Seat<L>, bool)
+            requires { second.exchange ≡ Some lent.now.word }
+            ensures { result.0.exchange ≡ second.exchange }
+        { hear(rt, lent, second, other) },
+    );
+    let (first, is_right) = one;
+    let (second, is_right_too) = other;
+    let office = Pair {
+        shared,
+        first,
+        second,
+    };
+    (office, is_right && is_right_too)
 }
 
 /// A reader that has what a client says, and what the client is to hear.
@@ -241,8 +191,8 @@ fn is_played<L: Ledger, R: AllocGlobal + Threads + Wait + Sync>(
 {
     let [one, other] = &day.scripts;
     let entries = one.entries.saturating_add(other.entries);
-    let (office, is_right) = office.play(rt, day);
-    match office.close(rt.alloc()) {
+    let (office, is_right) = play_both(rt, office, day);
+    match close(rt.alloc(), office) {
         Some(closed) => is_right && closed.book.history().len() == entries,
         None => false,
     }
@@ -258,7 +208,7 @@ fn spend<L: Ledger, R: AllocGlobal + Threads + Wait + Sync>(
     requires name { blank.name ≡ L.name }
     requires parts { (blank.parts ≡ L.parts) × (blank.parts ≡ ALL_PARTS) }
 {
-    match open::<L>(rt.alloc(), blank, rack, day.wires) {
+    match open_pair::<L, FuseWires, OpenGate>(rt.alloc(), blank, rack, with_wires(day.wires)) {
         Some(office) => is_played(rt, office, day),
         None => false,
     }

@@ -1,0 +1,95 @@
+//! Runs of row two-pushes, on a rack with one switch and on one with two.
+
+use super::faults::{Fault, blocks_of, count_of_faults, end_of, fault_of, moved_of};
+use crate::tests::common::{TWO_PUSHES, plan, two};
+use crate::tests::running::{Case, Form, ends};
+use crossbar::Chip;
+use exchange_limits::WorkerCount;
+use schedule_certificate::Planned;
+use setting_runner::StopCause;
+use std::sync::atomic::AtomicUsize;
+use std::thread::Threads;
+
+/// Whether a run in this form by so many workers ends as it should.
+fn ends_rightly<R: AllocGlobal + Threads + Sync>(
+    rt: &R,
+    form: Form,
+    planned: &Planned,
+    is_wide: bool,
+    fault: Fault,
+    workers: WorkerCount,
+) -> bool {
+    let words = fault.words(is_wide);
+    let (moved, blocks) = (moved_of(words), blocks_of(words));
+    let case = Case {
+        shape: if is_wide { "17x2x2" } else { "3x2x2" },
+        text: TWO_PUSHES,
+        end: end_of(fault.cause(is_wide), &moved),
+        blocks: &blocks,
+    };
+    let mut plant = fault.plant(workers);
+    ends(rt, form, &mut plant, planned, &case, &AtomicUsize::new(0))
+        && fault.is_set_rightly(is_wide, &plant.port)
+}
+
+/// Whether runs in both forms do, and those by two workers. Of answers, a run by the plant's workers on a rack with one switch, and alone
+/// on one with two.
+fn is_right<R: AllocGlobal + Threads + Sync>(
+    rt: &R,
+    planned: &Planned,
+    is_wide: bool,
+    fault: Fault,
+) -> bool {
+    let is_answer = matches!(fault, Fault::Answer(_, _, _));
+    (is_answer && is_wide
+        || ends_rightly(rt, Form::Workers, planned, is_wide, fault, WorkerCount::ONE))
+        && (is_answer && !is_wide || ends_rightly(rt, Form::Alone, planned, is_wide, fault, two()))
+        && (is_answer || ends_rightly(rt, Form::Workers, planned, is_wide, fault, two()))
+}
+
+/// The number of the first fault for which they don't, or how many there are.
+fn first_wrong<R: AllocGlobal + Threads + Sync>(rt: &R, planned: &Planned, is_wide: bool) -> usize {
+    let count = count_of_faults(is_wide);
+    for number in 0..count {
+        if !is_right(rt, planned, is_wide, fault_of(number)) {
+            return number;
+        }
+    }
+    count
+}
+
+/// Whether they do for all faults.
+fn are_right<R: AllocGlobal + Threads + Sync>(rt: &R, is_wide: bool) -> bool {
+    match plan(rt, TWO_PUSHES) {
+        Some(planned) => first_wrong(rt, &planned, is_wide) == count_of_faults(is_wide),
+        None => false,
+    }
+}
+
+#[test]
+fn each_byte_and_each_answer(rt: HostRuntime) {
+    assert!(rt; are_right(&rt, false));
+}
+
+#[test]
+fn each_byte_and_each_answer_of_two_switches(rt: HostRuntime) {
+    assert!(rt; are_right(&rt, true));
+}
+
+/// Whether row two-pushes stops at this output, where one of a switch answers this byte.
+fn disagrees(is_wide: bool, answer: (Chip, u8, u8), number: u8) -> bool {
+    let (chip, output, reply) = answer;
+    Fault::Answer(chip, output, reply).cause(is_wide) == Some(StopCause::SwitchDisagrees(number))
+}
+
+/// A loose output's answer counts by its top bit alone, and an input is one of 32. The outputs of the second switch are numbered behind
+/// those of the first.
+#[test]
+fn named_answers(rt: HostRuntime) {
+    assert!(rt; disagrees(false, (Chip::A, 18, 0xa1), 18));
+    assert!(rt; !disagrees(false, (Chip::A, 18, 0x81), 18));
+    assert!(rt; disagrees(false, (Chip::A, 5, 0x80), 5));
+    assert!(rt; !disagrees(false, (Chip::A, 5, 0x7f), 5));
+    assert!(rt; disagrees(true, (Chip::B, 0, 0x00), 32));
+    assert!(rt; !disagrees(true, (Chip::B, 0, 0x81), 32));
+}

@@ -1,0 +1,236 @@
+//! The same faults in a session: what it is told, its seat's list, the history and the words.
+
+ghost use Rattle.std.specs.Prelude.{◌≡◌, Some};
+ghost use Rattle.progress_word.specs.declared.limits.TheConstants.{ALL_PARTS};
+ghost use Rattle.client_session.specs.Sessions.{seat_back};
+
+use super::faults::{Fault, FaultyPort, blocks_of, count_of_faults, fault_of};
+use crate::tests::common::{marked, two};
+use crate::tests::running::has_blocks;
+use batch_book::{Closed, Seat, Shared};
+use client_session::{ServeFault, serve};
+use exchange_limits::WorkerCount;
+use module_memory::Rack;
+use peek_poke::FuseWires;
+use schedule_certificate::OpenGate;
+use setting_runner::StopCause;
+use std::alloc::{AllocError, Global};
+use std::marker::Brand;
+use std::sync::Wait;
+use std::sync::ledger::{Blank, Ledger};
+use std::thread::Threads;
+
+/// What the session reads: it runs the row, and then looks at what is left.
+const SCRIPT: &str = "\
+batch 2
+push 0 0 1 0
+push 1 1 2 0
+plan 1
+run 1
+show 1
+run 1
+progress
+peek 1 80000800
+peek 1 80000804
+peek 2 80000800
+peek 2 80000804
+bye
+";
+
+/// How many calls of the book that makes: `plan` makes two.
+const CALLS: usize = 10;
+
+/// Why a run stopped, as it is told.
+fn cause_text(alloc: Global, cause: StopCause) -> Result<String, AllocError> {
+    match cause {
+        StopCause::Port => String::from_str(alloc, "port"),
+        StopCause::SwitchDisagrees(output) => format!(in alloc; "switch {output}"),
+        StopCause::Wire(transfer) => format!(in alloc; "wire {transfer}"),
+    }
+}
+
+/// What a session is told of a run, and of the batch and the progress behind it.
+fn run_text(
+    alloc: Global,
+    cause: Option<StopCause>,
+    words: [usize; 2],
+) -> Result<String, AllocError> {
+    let Some(cause) = cause else {
+        let ran =
+            "ran 1 run 1 settings 1 words 4 bits 468\nbatch 1 transfers 2 ran\nrefused already\nprogress run 1 done 1\n";
+        return String::from_str(alloc, ran);
+    };
+    let cause = cause_text(alloc, cause)?;
+    let [zero, one] = words;
+    let stopped = "batch 1 transfers 2 stopped\nrefused already\nprogress run 1 done 0\n";
+    format!(in alloc; "stopped 1 run 1 setting 0 {cause} moved 0:{zero} 1:{one}\n{stopped}")
+}
+
+/// The words of block 0 of module 1, where so many were moved.
+fn first_words(moved: usize) -> &'static str {
+    match moved {
+        0 => "word 00010000\nword 00010001\n",
+        1 => "word 00000000\nword 00010001\n",
+        _ => "word 00000000\nword 00000001\n",
+    }
+}
+
+/// The same of module 2.
+fn second_words(moved: usize) -> &'static str {
+    match moved {
+        0 => "word 00020000\nword 00020001\n",
+        1 => "word 00010100\nword 00020001\n",
+        _ => "word 00010100\nword 00010101\n",
+    }
+}
+
+/// All that a session is told in whose run this fails or lies.
+fn wanted(alloc: Global, fault: Fault) -> Result<String, AllocError> {
+    let words = fault.words(false);
+    let run = run_text(alloc, fault.cause(false), words)?;
+    let [zero, one] = words;
+    let (first, second) = (first_words(zero), second_words(one));
+    format!(in alloc; "accepted 1\nplanned 1 settings 1\n{run}{first}{second}bye\n")
+}
+
+/// Whether the session is told that.
+fn is_told(alloc: Global, told: &[u8], fault: Fault) -> bool {
+    match wanted(alloc, fault) {
+        Ok(text) => told == text.as_str().as_bytes(),
+        Err(_) => false,
+    }
+}
+
+/// An exchange in which something fails or lies.
+type Faulty<L> = Shared<L, FaultyPort, FuseWires, OpenGate>;
+
+/// The seat that came back from a session, and whether that ended by itself.
+fn back<L: Ledger>(ended: Result<Seat<L>, (Seat<L>, ServeFault)>) -> (Seat<L>, bool)
+    ensures { result.0 ≡ seat_back ended }
+{
+    match ended {
+        Ok(seat) => (seat, true),
+        Err((seat, _)) => (seat, false),
+    }
+}
+
+/// Serves the session from a seat, which comes back. Whether it ends by itself, and is told what it should be.
+fn session<L: Ledger, R: AllocGlobal + Threads + Wait + Sync>(
+    rt: &R,
+    exchange: &Faulty<L>,
+    seat: Seat<L>,
+    fault: Fault,
+) -> (Seat<L>, bool)
+    requires { seat.exchange ≡ Some exchange.now.word }
+    ensures { result.0.exchange ≡ seat.exchange }
+{
+    let mut reader = SCRIPT.as_bytes();
+    let mut told = Vec::new(rt.alloc());
+    let (seat, has_ended) = back(serve(
+        rt,
+        rt.alloc(),
+        exchange,
+        seat,
+        &mut reader,
+        &mut told,
+        WorkerCount::ONE,
+    ));
+    (
+        seat,
+        has_ended && is_told(rt.alloc(), told.as_slice(), fault),
+    )
+}
+
+/// Whether an exchange has just the entries of the session, the words that the run leaves, and those that it was opened with.
+fn is_left<L: Ledger>(closed: &Closed<L, FaultyPort, FuseWires, OpenGate>, fault: Fault) -> bool {
+    let [seat] = closed.seats.as_slice() else {
+        return false;
+    };
+    seat.log().len() == CALLS
+        && closed.book.history().len() == CALLS
+        && has_blocks(closed.book.rack(), &blocks_of(fault.words(false)))
+        && has_blocks(closed.book.opening(), &blocks_of([0, 0]))
+        && fault.is_set_rightly(false, &closed.plant.port)
+}
+
+/// Whether the session is told what it should be from the one seat of an exchange, which is left as it should be.
+fn is_right<L: Ledger, R: AllocGlobal + Threads + Wait + Sync>(
+    rt: &R,
+    exchange: Faulty<L>,
+    seat: Seat<L>,
+    fault: Fault,
+) -> bool
+    requires seat { seat.exchange ≡ Some exchange.word }
+    requires parts { L.parts ≡ ALL_PARTS }
+{
+    let (seat, is_told) = session(rt, &exchange, seat, fault);
+    let Ok(seats) = Vec::from_array(rt.alloc(), [seat]) else {
+        return false;
+    };
+    match exchange.close(seats) {
+        Ok(closed) => is_told && is_left(&closed, fault),
+        Err(_) => false,
+    }
+}
+
+/// The same of a new exchange with this rack.
+fn is_served<L: Ledger, R: AllocGlobal + Threads + Wait + Sync>(
+    rt: &R,
+    blank: Blank,
+    rack: Rack,
+    fault: Fault,
+    workers: WorkerCount,
+) -> bool
+    requires name { blank.name ≡ L.name }
+    requires parts { (blank.parts ≡ L.parts) × (blank.parts ≡ ALL_PARTS) }
+{
+    match Faulty::<L>::new(rt.alloc(), blank, rack, fault.plant(workers), 1) {
+        Ok((exchange, mut seats)) => {
+            prove!(seats.len() == 1);
+            is_right(rt, exchange, seats.remove(0), fault)
+        }
+        Err(_) => false,
+    }
+}
+
+/// Whether the session is told what it should be, where this fails or lies.
+fn runs_to<R: AllocGlobal + Threads + Wait + Sync>(
+    rt: &R,
+    fault: Fault,
+    workers: WorkerCount,
+) -> bool {
+    match marked(rt.alloc(), "3x2x2") {
+        Some(rack) => is_served::<Brand, R>(rt, Blank::new(16), rack, fault, workers),
+        None => false,
+    }
+}
+
+/// The answers that are tried in a session.
+const ANSWERS: [u8; 8] = [0x00, 0x7f, 0x80, 0x81, 0x91, 0x92, 0xa1, 0xff];
+
+/// Whether it is, by one worker and by two. Of answers some are tried, by one.
+fn is_right_for<R: AllocGlobal + Threads + Wait + Sync>(rt: &R, fault: Fault) -> bool {
+    match fault {
+        Fault::Answer(_, _, reply) => {
+            !ANSWERS.contains(&reply) || runs_to(rt, fault, WorkerCount::ONE)
+        }
+        _ => runs_to(rt, fault, WorkerCount::ONE) && runs_to(rt, fault, two()),
+    }
+}
+
+/// The number of the first fault for which it isn't, or how many there are.
+fn first_wrong<R: AllocGlobal + Threads + Wait + Sync>(rt: &R) -> usize {
+    let count = count_of_faults(false);
+    for number in 0..count {
+        if !is_right_for(rt, fault_of(number)) {
+            return number;
+        }
+    }
+    count
+}
+
+#[test]
+fn each_byte_and_some_answers_in_a_session(rt: HostRuntime) {
+    let wrong = first_wrong(&rt);
+    assert!(rt; wrong == count_of_faults(false), "fault {wrong}");
+}
