@@ -10,8 +10,8 @@ what it says of how many settings are enough. Then each start of a thread is ref
 answer. Of `host` a session may also end for want of memory, and without threads nobody is served, and no file is made. A file is the
 standard input. Beside command lines stands which calls of the libraries they make.
 
-Calls: `hostile_use NAME` makes a call that the program doesn't make, on its worked row, between two marks. The same is done with the
-growths between them. Each time the answer is want of memory, with all that was lent as before, or the row's own answer. A call whose
+Calls: `hostile_use NAME` makes a call that the program doesn't make, or that is handed a rack, on its worked row, between two marks. The same is
+done with the growths between them. Each time the answer is want of memory, with all that was lent as before, or the row's own answer. A call whose
 name says that it takes none meets no growth. Nor do the last reading and the closing of an exchange, which `hostile_use clients` makes.
 """
 

@@ -1,7 +1,8 @@
-//! The calls that the program `exchange` doesn't make where it may want memory, and those that never want any, by their names.
+//! The calls that the program `exchange` doesn't make where it may want memory, those that hand back what they were lent where there is
+//! none, and those that never want any, by their names.
 
 use crate::met::Met;
-use crate::{book_calls, graph_calls, plan_calls, rack_calls};
+use crate::{book_calls, graph_calls, loan_calls, plan_calls, rack_calls};
 use std::thread::Threads;
 
 /// A call, on the worked row that is named for it.
@@ -9,13 +10,14 @@ use std::thread::Threads;
 pub enum NamedCall {
     OfGraph(graph_calls::GraphCall),
     FirstFit,
+    OfLoan(loan_calls::LoanCall),
     OfBook(book_calls::BookCall),
     OfPlan(plan_calls::PlanCall),
     OfRack(rack_calls::RackCall),
 }
 
 /// All of them, each with its name, which has no space. Those whose names say that they take none never want any.
-pub const CALLS: [(&str, NamedCall); 12] = [
+pub const CALLS: [(&str, NamedCall); 16] = [
     ("split", NamedCall::OfGraph(graph_calls::GraphCall::Split)),
     (
         "Table::new",
@@ -29,6 +31,16 @@ pub const CALLS: [(&str, NamedCall); 12] = [
     (
         "Book::apply(Settle),stranger",
         NamedCall::OfBook(book_calls::BookCall::SettleStranger),
+    ),
+    ("Rack::part", NamedCall::OfLoan(loan_calls::LoanCall::Part)),
+    ("run", NamedCall::OfLoan(loan_calls::LoanCall::Run)),
+    (
+        "Book::new",
+        NamedCall::OfLoan(loan_calls::LoanCall::OpenBook),
+    ),
+    (
+        "Shared::new",
+        NamedCall::OfLoan(loan_calls::LoanCall::OpenExchange),
     ),
     (
         "Table::insert,takes-none",
@@ -66,6 +78,7 @@ impl NamedCall {
         match self {
             NamedCall::OfGraph(call) => graph_calls::make(rt, call),
             NamedCall::FirstFit => plan_calls::fit_first(rt),
+            NamedCall::OfLoan(call) => loan_calls::make(rt, call),
             NamedCall::OfBook(call) => book_calls::make(rt, call),
             NamedCall::OfPlan(call) => plan_calls::make(rt, call),
             NamedCall::OfRack(call) => rack_calls::make(rt, call),

@@ -1,5 +1,5 @@
-//! One call that the program `exchange` doesn't make or that takes no memory, on the worked row that is named for it:
-//! `hostile_use NAME` makes it and says whether its answer is the row's, or want of memory that leaves all as before. Without a name
+//! One call that the program `exchange` doesn't make, that is handed a rack or that takes no memory, on the worked row that is named for
+//! it: `hostile_use NAME` makes it and says whether its answer is the row's, or want of memory that leaves all as before. Without a name
 //! each call is made once.
 //!
 //! `tools/hostile` runs it while the growths of that one call are refused in turn. `hostile_use clients SHAPE SCRIPT..` serves the
@@ -11,6 +11,7 @@ mod calls;
 mod clients;
 mod graph_calls;
 mod history;
+mod loan_calls;
 mod marks;
 mod met;
 mod plan_calls;
