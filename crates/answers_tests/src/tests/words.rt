@@ -1,6 +1,6 @@
 //! The numbers of workers that the words of the command line name, which no row can show.
 
-use command_words::{Job, WordsFault, read_words};
+use command_words::{Job, read_words};
 use std::alloc::{AllocError, Global};
 
 /// Puts the words of a line, which one space parts.
@@ -66,17 +66,4 @@ fn words_name_workers(rt: HostRuntime) {
         ("exchange host S A B --workers 5", 5),
     ];
     assert!(rt; all_name_workers(rt.alloc(), &rows));
-}
-
-/// Whether want of memory within clap is want of memory, and nothing that is to be printed.
-fn is_no_memory(fault: WordsFault) -> bool {
-    match fault {
-        WordsFault::NoMemory => true,
-        WordsFault::Clap(_) => false,
-    }
-}
-
-#[test]
-fn clap_without_memory(rt: HostRuntime) {
-    assert!(rt; is_no_memory(WordsFault::from(clap::Error::from(AllocError))));
 }
