@@ -1,0 +1,9 @@
+pub mod NeedChanges
+pub mod Ends
+pub mod Bits
+pub mod PartnerMasks
+pub mod Joined
+pub mod Gathered
+pub mod Matchings
+pub mod Searching
+pub mod Plans

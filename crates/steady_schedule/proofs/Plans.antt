@@ -1,0 +1,67 @@
+-- What follows from a shortest schedule: no setting is empty. And it changes once a setting at most.
+use Rattle.std.proofs.Common.{◌≡◌, ℕ, ◌<◌, ◌≤◌, List, [], ◌∷◌, length, get_or, take, drop, zero, suc, cond, Bool, true, false, All, refl, ap, ◌∙◌, inl, inr, arith}
+use Rattle.std.specs.List.{remove}
+use Rattle.std.proofs.lemmas.Bool.{cases_lt}
+use Rattle.std.proofs.lemmas.List.Edits.{length-remove}
+use Rattle.std.proofs.lemmas.List.Elements.{All-append, All-take, All-drop}
+use Rattle.std.proofs.lemmas.List.Sums.{sum_by-remove}
+use Rattle.batch.proofs.Lists.{count_of}
+use Rattle.batch.specs.declared.transfer.Transfer.{Transfer}
+use Rattle.link_graph.specs.Certificates.{Naming, IsCertificate, IsShortest}
+use Rattle.link_graph.specs.Schedules.{times, IsScheduleOf}
+use Rattle.link_graph.specs.Uses.{IsMatching}
+use Rattle.link_graph.proofs.Koenig.{certified}
+use Rattle.steady_schedule.specs.Changes.{join_same, changes_after, changes}
+use Rattle.steady_schedule.specs.Plans.{SteadyPlan, IsSteady}
+
+no_items : (xs : List ℕ) → length xs ≤ 0 → xs ≡ []
+no_items [] le = refl
+no_items (x ∷ xs) le = absurd (omega arith)
+
+module _ (batch : List Transfer) (settings : List (List ℕ)) (k : ℕ) (k_in : k < length settings) (empty : get_or settings k [] ≡ []) (schedule : IsScheduleOf batch settings) where
+  all_fewer : (P : List ℕ → Type 0) → All P settings → All P (remove settings k)
+  all_fewer P all = All-append P (take k settings) (drop (suc k) settings) (All-take P k settings all) (All-drop P (suc k) settings all)
+
+  times_fewer : (t : ℕ) → times t (remove settings k) ≡ times t settings
+  times_fewer t = omega (arith, sum_by-remove (count_of t) settings k [] k_in, ap (count_of t) empty)
+
+  without_empty : IsScheduleOf batch (remove settings k)
+  without_empty = record {
+    matchings = all_fewer (IsMatching batch) schedule.matchings;
+    once = λ t lt. times_fewer t ∙ schedule.once t lt;
+    no_other = all_fewer (All (λ t. t < length batch)) schedule.no_other;
+  }
+
+get_or-any : (xs : List (List ℕ)) (k : ℕ) (d e : List ℕ) → k < length xs → get_or xs k d ≡ get_or xs k e
+get_or-any [] k d e lt = absurd (omega arith)
+get_or-any (x ∷ xs) zero d e lt = refl
+get_or-any (x ∷ xs) (suc k) d e lt = get_or-any xs k d e (omega arith)
+
+none_empty : (batch : List Transfer) (settings : List (List ℕ)) → IsShortest batch settings → All (λ setting. 0 < length setting) settings
+none_empty batch settings s k d k_in = elim (cases_lt 0 (length (get_or settings k d))) [
+  | inl some ↦ some
+  | inr none ↦
+      let empty : get_or settings k [] ≡ [] = get_or-any settings k [] d k_in ∙ no_items (get_or settings k d) none in
+      absurd (omega (arith, s.least (remove settings k) (without_empty batch settings k k_in empty s.schedule), length-remove settings k k_in))
+]
+
+pub certified_none_empty : (batch : List Transfer) (settings : List (List ℕ)) (named : Naming) → IsScheduleOf batch settings → IsCertificate batch settings named → All (λ setting. 0 < length setting) settings
+certified_none_empty batch settings named schedule certificate = none_empty batch settings (certified batch settings named schedule certificate)
+
+abbrev change_of : Bool → ℕ
+change_of b = cond b 0 1
+
+one_change : (b : Bool) → change_of b ≤ 1
+one_change true = omega arith
+one_change false = omega arith
+
+after_few : (batch : List Transfer) (before : List ℕ) (rest : List (List ℕ)) → changes_after batch before rest ≤ length rest
+after_few batch before [] = omega arith
+after_few batch before (setting ∷ rest) = omega (arith, one_change (join_same batch before setting), after_few batch setting rest)
+
+changes_few : (batch : List Transfer) (settings : List (List ℕ)) → changes batch settings ≤ length settings
+changes_few batch [] = omega arith
+changes_few batch (setting ∷ rest) = omega (arith, after_few batch setting rest)
+
+pub steady_few : (plan : SteadyPlan) → IsSteady plan → plan.changes ≤ length plan.settings
+steady_few plan s = omega (arith, s.counted, changes_few plan.batch plan.settings)

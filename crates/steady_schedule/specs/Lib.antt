@@ -1,0 +1,9 @@
+pub mod Changes
+pub mod Masks
+pub mod Partners
+pub mod Plans
+pub mod Joined
+pub mod Gathered
+pub mod Matchings
+pub mod Searches
+pub mod Laws

@@ -1,0 +1,45 @@
+-- Steady plans: a shortest schedule of a batch, how often it changes the switch, and how often any
+-- schedule has to.
+use Rattle.std.specs.Prelude.{◌≡◌, ◌<◌, ℕ, List, [], length, All, AllPairs, Option, Some, None}
+use Rattle.batch.specs.declared.transfer.Transfer.{Transfer}
+use Rattle.link_graph.specs.declared.link.Link.{Link}
+use Rattle.link_graph.specs.Schedules.{IsScheduleOf}
+use Rattle.link_graph.specs.Certificates.{Naming, IsCertificate}
+use Rattle.steady_schedule.specs.Changes.{changes}
+use Rattle.steady_schedule.specs.Partners.{partners, HasMostPartners}
+
+-- a batch, the settings of a schedule, what its certificate names, how often it changes the switch,
+-- and a link with the number of its partners
+pub record SteadyPlan : Type 0 where
+  pub batch : List Transfer
+  pub settings : List (List ℕ)
+  pub named : Naming
+  pub changes : ℕ
+  pub demanding : Option (Link × ℕ)
+
+-- the plan of these
+abbrev pub steady_plan : List Transfer → List (List ℕ) → Naming → ℕ → Option (Link × ℕ) → SteadyPlan
+steady_plan batch settings named changes demanding =
+    record {
+      batch = batch;
+      settings = settings;
+      named = named;
+      changes = changes;
+      demanding = demanding;
+    }
+
+-- a link with the most partners, the first of these, and how many these are; an empty batch has none
+abbrev pub IsDemanding : List Transfer → Option (Link × ℕ) → Type 0
+IsDemanding batch None = batch ≡ []
+IsDemanding batch (Some (link, count)) =
+    HasMostPartners batch link × (count ≡ partners batch link)
+
+-- A schedule of the batch, whose certificate shows that it is shortest. No setting is empty, numbers
+-- ascend in each, the changes are counted, and the link has the most partners.
+pub record IsSteady (plan : SteadyPlan) : Type 0 where
+  pub schedule : IsScheduleOf plan.batch plan.settings
+  pub certificate : IsCertificate plan.batch plan.settings plan.named
+  pub none_empty : All (λ setting. 0 < length setting) plan.settings
+  pub ascending : All (AllPairs (λ t u. t < u)) plan.settings
+  pub counted : plan.changes ≡ changes plan.batch plan.settings
+  pub demands : IsDemanding plan.batch plan.demanding
