@@ -11,4 +11,6 @@ tools/texts/run.py
 tools/hosts/run.sh
 bench/planning/run.sh --check
 bench/run/growth.sh --check
+bench/run/apply.sh --check
+bench/session/lines.sh --check
 tools/hostile/run.sh
