@@ -1,6 +1,7 @@
 pub mod OneMeaning
 pub mod Parts
 pub mod Known
+pub mod Asking
 pub mod Lists
 pub mod Taken
 pub mod Doing

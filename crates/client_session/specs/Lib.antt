@@ -1,4 +1,5 @@
 pub mod Bytes
+pub mod Asking
 pub mod Faults
 pub mod Commands
 pub mod Replies

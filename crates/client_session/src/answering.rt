@@ -1,12 +1,12 @@
-//! What is done for a command, and its reply line.
+//! What is done for a command, and its reply line, which is put into an empty one.
 
-ghost use Rattle.std.specs.Prelude.{◌≡◌, ℕ, List, Option};
+ghost use Rattle.std.specs.Prelude.{◌≡◌, [], ℕ, List, Option};
 ghost use Rattle.client_session.specs.Turns.{TellsReply, Submits, Plans, DoesCommand};
 ghost use Rattle.client_session.specs.Steps.{IsNoFetch, StandsAlone, Acts};
 
 use crate::command::Command;
 use crate::exchange_seat::ExchangeSeat;
-use crate::reply_line::{batch_refused, bye, progress, refused, told};
+use crate::reply_line::{put_batch_refused, put_bye, put_progress, put_refused, put_told};
 use batch::Batch;
 use batch_book::{Call, Reply};
 use crossbar::ConfigPort;
@@ -19,18 +19,20 @@ use std::sync::Wait;
 use std::sync::ledger::Ledger;
 use std::thread::Threads;
 
-/// Makes a call that fetches no batch, and gives its reply line.
+/// Makes a call that fetches no batch, and puts its reply line.
 fn call<R: Threads + Wait + Sync, L: Ledger, P: ConfigPort, W: WireMaker + Sync, G: Gate + Sync>(
     rt: &R,
     seat: &mut ExchangeSeat<'_, L, P, W, G>,
+    line: &mut Line,
     id: usize,
     call: Call,
-) -> Line
-    requires { IsNoFetch call }
-    ensures { Acts seat.old seat.new (TellsReply seat.old.session id call) result }
+)
+    requires empty { line.old ≡ [] }
+    requires other { IsNoFetch call }
+    ensures { Acts seat.old seat.new (TellsReply seat.old.session id call) line.new }
 {
     let reply = seat.call(rt, call);
-    told(id, &reply)
+    put_told(line, id, &reply);
 }
 
 /// Submits the batch that the text denotes, or tells the text's first fault.
@@ -40,13 +42,14 @@ pub(crate) fn submit<
     P: ConfigPort,
     W: WireMaker + Sync,
     G: Gate + Sync,
->(rt: &R, alloc: Global, seat: &mut ExchangeSeat<'_, L, P, W, G>, text: &[u8]) -> Line
+>(rt: &R, alloc: Global, seat: &mut ExchangeSeat<'_, L, P, W, G>, line: &mut Line, text: &[u8])
+    requires { line.old ≡ [] }
     ensures { Acts seat.old seat.new
-        (Submits seat.old.shape seat.old.session text.now) result }
+        (Submits seat.old.shape seat.old.session text.now) line.new }
 {
     match Batch::read(alloc, text, seat.shape()) {
-        Ok(batch) => call(rt, seat, 0, Call::Submit(batch)),
-        Err(fault) => batch_refused(fault),
+        Ok(batch) => call(rt, seat, line, 0, Call::Submit(batch)),
+        Err(fault) => put_batch_refused(line, fault),
     }
 }
 
@@ -55,21 +58,23 @@ fn plan<R: Threads + Wait + Sync, L: Ledger, P: ConfigPort, W: WireMaker + Sync,
     rt: &R,
     alloc: Global,
     seat: &mut ExchangeSeat<'_, L, P, W, G>,
+    line: &mut Line,
     id: usize,
     workers: WorkerCount,
-) -> Line
-    ensures { Acts seat.old seat.new (Plans seat.old.session id) result }
+)
+    requires { line.old ≡ [] }
+    ensures { Acts seat.old seat.new (Plans seat.old.session id) line.new }
 {
     match seat.call(rt, Call::Fetch(id)) {
         Reply::Fetched(batch) => match schedule(rt, alloc, batch, workers, &OpenGate) {
-            Ok(planned) => call(rt, seat, id, Call::Settle(id, planned)),
-            Err(_) => refused(b"no memory"),
+            Ok(planned) => call(rt, seat, line, id, Call::Settle(id, planned)),
+            Err(_) => put_refused(line, b"no memory"),
         },
-        reply => told(id, &reply),
+        reply => put_told(line, id, &reply),
     }
 }
 
-/// Does what a line commands that has no lines behind it, and gives the reply line.
+/// Does what a line commands that has no lines behind it, and puts the reply line.
 pub(crate) fn answer<
     R: Threads + Wait + Sync,
     L: Ledger,
@@ -80,25 +85,33 @@ pub(crate) fn answer<
     rt: &R,
     alloc: Global,
     seat: &mut ExchangeSeat<'_, L, P, W, G>,
+    line: &mut Line,
     command: Option<Command>,
     workers: WorkerCount,
-) -> Line
+)
+    requires empty { line.old ≡ [] }
     requires alone { StandsAlone command }
     ensures { (text : List ℕ) → Acts seat.old seat.new
-        (DoesCommand seat.old.shape seat.old.session command text) result }
+        (DoesCommand seat.old.shape seat.old.session command text) line.new }
 {
     match command {
-        None => refused(b"line"),
-        Some(Command::Batch(_)) => refused(b"too many"),
-        Some(Command::Plan(id)) => plan(rt, alloc, seat, id, workers),
-        Some(Command::Run(id)) => call(rt, seat, id, Call::Run(id)),
-        Some(Command::Show(id)) => call(rt, seat, id, Call::Show(id)),
-        Some(Command::Drop(id)) => call(rt, seat, id, Call::Discard(id)),
-        Some(Command::Peek(module, address)) => call(rt, seat, 0, Call::Peek(module, address)),
+        None => put_refused(line, b"line"),
+        Some(Command::Batch(_)) => put_refused(line, b"too many"),
+        Some(Command::Plan(id)) => plan(rt, alloc, seat, line, id, workers),
+        Some(Command::Run(id)) => call(rt, seat, line, id, Call::Run(id)),
+        Some(Command::Show(id)) => call(rt, seat, line, id, Call::Show(id)),
+        Some(Command::Drop(id)) => call(rt, seat, line, id, Call::Discard(id)),
+        Some(Command::Peek(module, address)) => call(
+            rt,
+            seat,
+            line,
+            0,
+            Call::Peek(module, address),
+        ),
         Some(Command::Poke(module, address, word)) => {
-            call(rt, seat, 0, Call::Poke(module, address, word))
+            call(rt, seat, line, 0, Call::Poke(module, address, word))
         }
-        Some(Command::Progress) => progress(seat.progress()),
-        Some(Command::Bye) => bye(),
+        Some(Command::Progress) => put_progress(line, seat.progress()),
+        Some(Command::Bye) => put_bye(line),
     }
 }

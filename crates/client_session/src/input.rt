@@ -1,12 +1,14 @@
 //! Lines from any reader, through a buffer of its own, with a limit on the calls of `read`.
 
-ghost use Rattle.std.specs.Prelude.{◌≡◌, ℕ, ◌+◌, ◌-◌, ◌^◌, ◌<◌, ◌≤◌, length, take, drop, [], None, IfSome, MatchResult, MatchOption, IsSome, IfOk, IfErr};
+ghost use Rattle.std.specs.Prelude.{◌≡◌, ℕ, ◌+◌, ◌-◌, ◌^◌, ◌<◌, ◌≤◌, length, take, drop, [], Some, None, IfSome, MatchResult, MatchOption, IsSome, IfOk, IfErr};
 ghost use Rattle.std.specs.Io.KnownBytes.{IsAtEnd};
 ghost use Rattle.client_session.specs.Bytes.{PendingInput, HasNoFeed, TakesIn, HasLine, fuel};
+ghost use Rattle.client_session.specs.Asking.{GivesEachTime, StopsAsking};
 ghost use Rattle.client_session.specs.Faults.{HasBroughtNothing, IsFaultAt};
+ghost use Rattle.client_session.specs.Steps.{of_input};
 
+use crate::asked_reader::AskedReader;
 use crate::limits::{LINE_BYTES, MAX_READS};
-use std::io::Read;
 use std::marker::Model;
 
 /// Why no line came.
@@ -72,13 +74,20 @@ impl Input {
     }
 
     /// Asks the reader once, where there is room.
-    fn fill<R: Read>(&mut self, reader: &mut R) -> Result<usize, InputFault>
+    fn fill<R: AskedReader>(&mut self, reader: &mut R) -> Result<usize, InputFault>
         requires { length self.old.pending ≤ LINE_BYTES }
         ensures takes { TakesIn (R.remaining reader.old) (R.remaining reader.new) self.old self.new }
         ensures count { IfOk result (λ n. length self.new.pending ≡ length self.old.pending + n) }
         ensures end { IfOk result (λ n. n ≡ 0 → IsAtEnd (R.remaining reader.new)) }
         ensures reads { IfOk result (λ n. 0 < n → self.new.reads ≡ self.old.reads + 1) }
         ensures err { IfErr result (λ e. HasBroughtNothing e self.old self.new) }
+        ensures gives { IfOk result (λ n. 0 < n →
+            GivesEachTime (R.asked reader.old) (R.asked reader.new) self.old.reads self.new.reads) }
+        ensures last { IfOk result (λ n. n ≡ 0 →
+            StopsAsking (R.asked reader.old) (R.asked reader.new) self.old.reads None) }
+        ensures stops { IfErr result (λ e.
+            StopsAsking (R.asked reader.old) (R.asked reader.new) self.old.reads
+            (Some (of_input e))) }
         ensures room { (length self.new.pending ≤ LINE_BYTES + 1) × (self.new.reads ≤ MAX_READS)
             × (self.old.reads ≤ self.new.reads) }
     {
@@ -86,7 +95,7 @@ impl Input {
             return Err(InputFault::Turns);
         }
         let len = self.len;
-        match reader.read(&mut self.buffer[len..]) {
+        match reader.ask(&mut self.buffer[len..]) {
             Ok(n) => {
                 self.len = len + n;
                 self.reads += n.min(1);
@@ -110,12 +119,23 @@ impl Input {
 
     /// The length of the line in front, without its line feed, or nothing at the end of the input. Takes time by
     /// the length of the line times the reads that it came in.
-    pub(crate) fn next_line<R: Read>(&mut self, reader: &mut R) -> Result<Option<usize>, InputFault>
+    pub(crate) fn next_line<R: AskedReader>(
+        &mut self,
+        reader: &mut R,
+    ) -> Result<Option<usize>, InputFault>
+        requires { self.old.reads ≤ MAX_READS }
         ensures takes { TakesIn (R.remaining reader.old) (R.remaining reader.new) self.old self.new }
         ensures line { IfOk result (λ found. MatchOption found
             ((self.new.pending ≡ []) × IsAtEnd (R.remaining reader.new))
             (λ n. HasLine self.new.pending n × (n ≤ LINE_BYTES))) }
         ensures err { IfErr result (λ e. IsFaultAt e (R.remaining reader.new) self.new) }
+        ensures asks { MatchResult result
+            (λ found. MatchOption found
+            (StopsAsking (R.asked reader.old) (R.asked reader.new) self.old.reads None)
+            (λ _. GivesEachTime (R.asked reader.old) (R.asked reader.new)
+            self.old.reads self.new.reads))
+            (λ e. StopsAsking (R.asked reader.old) (R.asked reader.new) self.old.reads
+            (Some (of_input e))) }
         ensures fuel { fuel self.new ≤ fuel self.old }
         ensures room { (length self.new.pending ≤ LINE_BYTES + 1) × (self.new.reads ≤ MAX_READS) }
     {

@@ -6,6 +6,7 @@
 #![tactic(auto)]
 
 mod answering;
+mod asked_reader;
 mod command;
 mod exchange_seat;
 mod fault;
@@ -16,6 +17,7 @@ pub mod reply_line;
 mod serving;
 mod turns;
 
+pub use asked_reader::{AskedReader, CountedReader};
 pub use command::Command;
 pub use fault::ServeFault;
 pub use limits::{LINE_BYTES, MAX_READS};

@@ -1,7 +1,7 @@
 //! The reply lines, with their line feeds. They are public for whoever serves sessions over something else than a reader
-//! and a writer.
+//! and a writer. A session lends the line that a reply is put into, since it would cost more to hand one about.
 
-ghost use Rattle.std.specs.Prelude.{◌≡◌, ◌≤◌, ◌<◌, ◌+◌, ◌*◌, ◌++◌, ◌∷◌, length, flat_map, codes};
+ghost use Rattle.std.specs.Prelude.{◌≡◌, [], ◌≤◌, ◌<◌, ◌+◌, ◌*◌, ◌++◌, ◌∷◌, length, flat_map, codes};
 ghost use Rattle.client_session.specs.Steps.{CanBeTold};
 ghost use Rattle.line_words.specs.BatchFaults.{batch_words};
 ghost use Rattle.client_session.specs.Replies.{refusal_words, run_words, cause_words, state_words, moved_words, ran_words, stopped_words, reply_line, refused, refused_line, progress_line, with_feed};
@@ -44,23 +44,32 @@ fn refusal_text(refusal: Refusal) -> &'static [u8]
     }
 }
 
+/// Puts the line of a refusal in these words.
+pub(crate) fn put_refused(line: &mut Line, words: &[u8])
+    requires empty { line.old ≡ [] }
+    requires short { length words.now ≤ 20 }
+    ensures { line.new ≡ refused_line words.now }
+{
+    line.put(b"refused ");
+    line.put(words);
+    line.put(b"\n");
+}
+
 /// The line of a refusal in these words.
 pub fn refused(words: &[u8]) -> Line
     requires { length words.now ≤ 20 }
     ensures { result ≡ refused_line words.now }
 {
     let mut line = Line::new();
-    line.put(b"refused ");
-    line.put(words);
-    line.put(b"\n");
+    put_refused(&mut line, words);
     line
 }
 
-/// The line of the refusal that tells of a batch text's first fault.
-pub fn batch_refused(fault: BatchFault) -> Line
-    ensures { result ≡ refused_line (batch_words fault) }
+/// Puts the line of the refusal that tells of a batch text's first fault.
+pub(crate) fn put_batch_refused(line: &mut Line, fault: BatchFault)
+    requires { line.old ≡ [] }
+    ensures { line.new ≡ refused_line (batch_words fault) }
 {
-    let mut line = Line::new();
     line.put(b"refused ");
     match fault {
         BatchFault::Line(n) => {
@@ -80,6 +89,14 @@ pub fn batch_refused(fault: BatchFault) -> Line
         BatchFault::NoMemory => line.put(b"no memory"),
     }
     line.put(b"\n");
+}
+
+/// The line of the refusal that tells of a batch text's first fault.
+pub fn batch_refused(fault: BatchFault) -> Line
+    ensures { result ≡ refused_line (batch_words fault) }
+{
+    let mut line = Line::new();
+    put_batch_refused(&mut line, fault);
     line
 }
 
@@ -181,12 +198,12 @@ fn put_ran(line: &mut Line, id: usize, run: usize, settings: usize, words: usize
     line.put_number(line_bits(words as u64));
 }
 
-/// The line of a reply to a command that names this batch, or to one that names none.
-pub fn told(id: usize, reply: &Reply) -> Line
-    requires { CanBeTold reply.now }
-    ensures { result ≡ reply_line id reply.now }
+/// Puts the line of a reply to a command that names this batch, or to one that names none.
+pub(crate) fn put_told(line: &mut Line, id: usize, reply: &Reply)
+    requires empty { line.old ≡ [] }
+    requires can { CanBeTold reply.now }
+    ensures { line.new ≡ reply_line id reply.now }
 {
-    let mut line = Line::new();
     match reply {
         Reply::Accepted(new) => {
             line.put(b"accepted ");
@@ -203,14 +220,14 @@ pub fn told(id: usize, reply: &Reply) -> Line
             run,
             settings,
             words,
-        } => put_ran(&mut line, id, *run, *settings, *words),
+        } => put_ran(line, id, *run, *settings, *words),
         Reply::Stopped {
             run,
             setting,
             cause,
             moved,
-        } => put_stopped(&mut line, id, *run, *setting, *cause, moved.as_slice()),
-        Reply::RunRefused(refusal) => put_run_refusal(&mut line, *refusal),
+        } => put_stopped(line, id, *run, *setting, *cause, moved.as_slice()),
+        Reply::RunRefused(refusal) => put_run_refusal(line, *refusal),
         Reply::Shown { transfers, state } => {
             line.put(b"batch ");
             line.put_number(id as u64);
@@ -234,7 +251,28 @@ pub fn told(id: usize, reply: &Reply) -> Line
         }
     }
     line.put(b"\n");
+}
+
+/// The line of a reply to a command that names this batch, or to one that names none.
+pub fn told(id: usize, reply: &Reply) -> Line
+    requires { CanBeTold reply.now }
+    ensures { result ≡ reply_line id reply.now }
+{
+    let mut line = Line::new();
+    put_told(&mut line, id, reply);
     line
+}
+
+/// Puts the line of a reading of the progress word.
+pub(crate) fn put_progress(line: &mut Line, reading: Reading)
+    requires { line.old ≡ [] }
+    ensures { line.new ≡ progress_line reading }
+{
+    line.put(b"progress run ");
+    line.put_number(reading.run);
+    line.put(b" done ");
+    line.put_number(reading.done);
+    line.put(b"\n");
 }
 
 /// The line of a reading of the progress word.
@@ -242,12 +280,16 @@ pub fn progress(reading: Reading) -> Line
     ensures { result ≡ progress_line reading }
 {
     let mut line = Line::new();
-    line.put(b"progress run ");
-    line.put_number(reading.run);
-    line.put(b" done ");
-    line.put_number(reading.done);
-    line.put(b"\n");
+    put_progress(&mut line, reading);
     line
+}
+
+/// Puts the line that a session ends with.
+pub(crate) fn put_bye(line: &mut Line)
+    requires { line.old ≡ [] }
+    ensures { line.new ≡ with_feed (codes "bye") }
+{
+    line.put(b"bye\n");
 }
 
 /// The line that a session ends with.
@@ -255,6 +297,6 @@ pub fn bye() -> Line
     ensures { result ≡ with_feed (codes "bye") }
 {
     let mut line = Line::new();
-    line.put(b"bye\n");
+    put_bye(&mut line);
     line
 }

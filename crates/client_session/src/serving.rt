@@ -3,9 +3,11 @@
 ghost use Rattle.std.specs.Prelude.{◌≡◌, Some, OnOk, IfErr};
 ghost use Rattle.std.specs.Io.KnownBytes.{Appends};
 ghost use Rattle.batch_book.specs.Seats.{IsSameSeat};
-ghost use Rattle.client_session.specs.Sessions.{HasEnded, Passes, IsServed, fault_in, seat_back};
+ghost use Rattle.client_session.specs.Asking.{AsksWithinLimit};
+ghost use Rattle.client_session.specs.Sessions.{HasEnded, Passes, IsServed, fault_in, seat_back, fault_back};
 ghost use Rattle.client_session.specs.Steps.{IsCutLine};
 
+use crate::asked_reader::AskedReader;
 use crate::exchange_seat::ExchangeSeat;
 use crate::fault::ServeFault;
 use crate::input::Input;
@@ -13,10 +15,11 @@ use crate::turns::turn;
 use batch_book::{Seat, Shared};
 use crossbar::ConfigPort;
 use exchange_limits::WorkerCount;
+use line_words::Line;
 use peek_poke::WireMaker;
 use schedule_certificate::Gate;
 use std::alloc::Global;
-use std::io::{Read, Write};
+use std::io::Write;
 use std::sync::Wait;
 use std::sync::ledger::Ledger;
 use std::thread::Threads;
@@ -48,7 +51,7 @@ fn serve_seat<
     P: ConfigPort,
     W: WireMaker + Sync,
     G: Gate + Sync,
-    I: Read,
+    I: AskedReader,
     O: Write,
 >(
     rt: &R,
@@ -58,13 +61,15 @@ fn serve_seat<
     writer: &mut O,
     workers: WorkerCount,
 ) -> Result<(), ServeFault>
-    ensures { Passes (I.remaining reader.old) (I.remaining reader.new)
+    ensures session { Passes (I.remaining reader.old) (I.remaining reader.new)
         (O.contents writer.old) (O.contents writer.new) seat.old seat.new
         (HasEnded (fault_in result) (I.remaining reader.new) seat.old seat.new) }
+    ensures asks { AsksWithinLimit (I.asked reader.old) (I.asked reader.new) (fault_in result) }
 {
     let mut input = Input::new();
     while let Some(n) = input.next_line(reader)? {
-        let (line, ends) = turn(rt, alloc, seat, &mut input, reader, n, workers)?;
+        let mut line = Line::new();
+        let ends = turn(rt, alloc, seat, &mut input, reader, &mut line, n, workers)?;
         send(writer, line.as_bytes())?;
         if ends {
             return Ok(());
@@ -81,6 +86,9 @@ fn serve_seat<
 /// memory, so none is lost whose call was made; want of memory is a reply, but for the text of a batch, where it
 /// ends the session.
 ///
+/// The reader is asked at most [`MAX_READS`](crate::MAX_READS) times. Where it has been, and would have to be asked
+/// once more, the session ends with `Turns`.
+///
 /// A command takes time by its lines and by its call, whatever the session has said before it.
 pub fn serve<
     R: Threads + Wait + Sync,
@@ -88,7 +96,7 @@ pub fn serve<
     P: ConfigPort,
     W: WireMaker + Sync,
     G: Gate + Sync,
-    I: Read,
+    I: AskedReader,
     O: Write,
 >(
     rt: &R,
@@ -104,6 +112,7 @@ pub fn serve<
     ensures session { IsServed shared.now.shape seat result
         (I.remaining reader.old) (I.remaining reader.new)
         (O.contents writer.old) (O.contents writer.new) }
+    ensures asks { AsksWithinLimit (I.asked reader.old) (I.asked reader.new) (fault_back result) }
 {
     let mut exchange_seat = ExchangeSeat::new(shared, seat);
     let ended = serve_seat(rt, alloc, &mut exchange_seat, reader, writer, workers);

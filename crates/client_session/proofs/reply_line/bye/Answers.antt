@@ -1,5 +1,4 @@
-use Rattle.std.proofs.Common.{rules}
 use Rattle.client_session.proofs.reply_line.bye.Goals as goal
 
 pub returns : goal.returns
-returns c = search rules
+returns c = c.put_bye.ensures

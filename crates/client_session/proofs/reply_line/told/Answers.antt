@@ -1,6 +1,4 @@
-use Rattle.std.proofs.Common.{arith}
-use Rattle.std.proofs.lemmas.Grind.{common_steps}
 use Rattle.client_session.proofs.reply_line.told.Goals as goal
 
 pub returns : goal.returns
-returns c = grind (arith, common_steps)
+returns c = c.put_told.ensures

@@ -1,8 +1,10 @@
 use Rattle.std.proofs.Common.{◌≤◌}
+use Rattle.client_session.specs.Asking.{GivesEachTime}
 use Rattle.client_session.specs.Bytes.{fuel}
 use Rattle.client_session.specs.Steps.{LinesTaken}
 use Rattle.client_session.proofs.turns.take_lines.Given as goal
 
 abbrev pub invariant-loop : goal.invariant-loop
 invariant-loop g l =
-    LinesTaken (g.I.Read.remaining l.initial.reader) (g.I.Read.remaining l.reader) l.initial.input l.input l.initial.text.items l.text.items l.counter × (fuel l.input ≤ fuel l.initial.input)
+    LinesTaken (g.I.AskedReader.remaining l.initial.reader) (g.I.AskedReader.remaining l.reader) l.initial.input l.input l.initial.text.items l.text.items l.counter × (fuel l.input ≤ fuel l.initial.input)
+    × GivesEachTime (g.I.AskedReader.asked l.initial.reader) (g.I.AskedReader.asked l.reader) l.initial.input.reads l.input.reads

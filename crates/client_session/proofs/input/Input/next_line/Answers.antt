@@ -1,16 +1,22 @@
 use Rattle.std.proofs.lemmas.Grind.{common_steps}
-use Rattle.std.proofs.Common.{arith}
+use Rattle.std.proofs.Common.{Some, refl, arith}
+use Rattle.std.proofs.lemmas.Result.{err_from_is_err_and}
+use Rattle.client_session.specs.declared.fault.ServeFault.TheVariants.{LineTooLong}
+use Rattle.client_session.proofs.Asking.{gives_none, gives_more, stops_after, stops_here, asked_at_end}
 use Rattle.client_session.proofs.Taking.{TakesIn-more, TakesIn-none, fuel_read, found_at_end}
 use Rattle.client_session.proofs.input.Input.next_line.Goals as goal
 
 pub loop-n-init : goal.loop-n-init
-loop-n-init g c = (TakesIn-none _ _, omega arith)
+loop-n-init g c = (TakesIn-none _ _, omega arith, gives_none refl c.requires)
 
 pub loop-n-preserved : goal.loop-n-preserved
 loop-n-preserved g c =
     let more = c.in_ok-fill.ensures in
-    let less = fuel_read _ c.fill.new.self _ more.count more.room.0 more.room.2 more.room.1 more.reads in
-    (TakesIn-more _ _ _ _ _ _ c.loop-n.invariant.0 more.takes, omega (arith, less, c.loop-n.invariant.1))
+    let less = fuel_read _ c.fill.new.self _ more.count more.room.0 more.room.2 more.room.1 more.reads in (
+      TakesIn-more _ _ _ _ _ _ c.loop-n.invariant.0 more.takes,
+      omega (arith, less, c.loop-n.invariant.1),
+      gives_more c.loop-n.invariant.2 (more.gives (omega arith)),
+    )
 
 pub returns-in_err-fill-clause-takes : goal.returns-in_err-fill-clause-takes
 returns-in_err-fill-clause-takes g c = TakesIn-more _ _ _ _ _ _ c.loop-n.invariant.0 c.in_err-fill.ensures.takes
@@ -19,7 +25,7 @@ pub returns-then-self-clause-line : goal.returns-then-self-clause-line
 returns-then-self-clause-line g c = tt
 
 pub returns-then-branch-eq0-clause-line : goal.returns-then-branch-eq0-clause-line
-returns-then-branch-eq0-clause-line g c = found_at_end c.at_end.result (g.R.Read.remaining c.fill.new.reader) c.fill.new.self (c.in_ok-fill.ensures.end c.if-branch-eq0.true) c.at_end.ensures.ok
+returns-then-branch-eq0-clause-line g c = found_at_end c.at_end.result (g.R.AskedReader.remaining c.fill.new.reader) c.fill.new.self (c.in_ok-fill.ensures.end c.if-branch-eq0.true) c.at_end.ensures.ok
 
 pub returns-then-branch-eq0-clause-takes : goal.returns-then-branch-eq0-clause-takes
 returns-then-branch-eq0-clause-takes g c = TakesIn-more _ _ _ _ _ _ c.loop-n.invariant.0 c.in_ok-fill.ensures.takes
@@ -29,3 +35,19 @@ returns-then-branch-eq0-clause-err g c = grind (arith, common_steps)
 
 pub returns-in-Some-clause-line : goal.returns-in-Some-clause-line
 returns-in-Some-clause-line g c = grind (arith, common_steps)
+
+pub returns-in_err-fill-clause-asks : goal.returns-in_err-fill-clause-asks
+returns-in_err-fill-clause-asks g c =
+    let p = err_from_is_err_and c.from_residual.result c.from_residual.ensures.1 in
+    rw (p.1, p.2) (stops_after c.loop-n.invariant.2 c.in_err-fill.ensures.stops)
+
+pub returns-then-branch-eq0-clause-asks : goal.returns-then-branch-eq0-clause-asks
+returns-then-branch-eq0-clause-asks g c =
+    let last = c.in_ok-fill.ensures.last c.if-branch-eq0.true in
+    asked_at_end c.at_end.result _ _ _ _ c.fill.new.self (stops_after c.loop-n.invariant.2 last) c.at_end.ensures.ok c.at_end.ensures.err
+
+pub returns-then-self-clause-asks : goal.returns-then-self-clause-asks
+returns-then-self-clause-asks g c = stops_here (Some LineTooLong) c.loop-n.invariant.2 (λ few. few)
+
+pub returns-in-Some-clause-asks : goal.returns-in-Some-clause-asks
+returns-in-Some-clause-asks g c = c.loop-n.invariant.2
