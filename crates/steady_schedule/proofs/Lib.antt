@@ -6,4 +6,10 @@ pub mod Joined
 pub mod Gathered
 pub mod Matchings
 pub mod Searching
+pub mod Sums
+pub mod Halls
+pub mod Covers
+pub mod Waiting
+pub mod Steps
+pub mod Slots
 pub mod Plans

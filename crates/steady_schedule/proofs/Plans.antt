@@ -1,5 +1,5 @@
 -- What follows from a shortest schedule: no setting is empty. And it changes once a setting at most.
-use Rattle.std.proofs.Common.{◌≡◌, ℕ, ◌<◌, ◌≤◌, List, [], ◌∷◌, length, get_or, take, drop, zero, suc, cond, Bool, true, false, All, refl, ap, ◌∙◌, inl, inr, arith}
+use Rattle.std.proofs.Common.{◌≡◌, ℕ, ◌<◌, ◌≤◌, List, [], ◌∷◌, length, get_or, take, drop, suc, cond, Bool, true, false, Option, Some, None, All, refl, ap, ◌∙◌, inl, inr, arith}
 use Rattle.std.specs.List.{remove}
 use Rattle.std.proofs.lemmas.Bool.{cases_lt}
 use Rattle.std.proofs.lemmas.List.Edits.{length-remove}
@@ -8,11 +8,14 @@ use Rattle.std.proofs.lemmas.List.Sums.{sum_by-remove}
 use Rattle.batch.proofs.Lists.{count_of}
 use Rattle.batch.specs.declared.transfer.Transfer.{Transfer}
 use Rattle.link_graph.specs.Certificates.{Naming, IsCertificate, IsShortest}
+use Rattle.link_graph.specs.declared.link.Link.{Link}
+use Rattle.link_graph.specs.Counts.{uses}
 use Rattle.link_graph.specs.Schedules.{times, IsScheduleOf}
 use Rattle.link_graph.specs.Uses.{IsMatching}
 use Rattle.link_graph.proofs.Koenig.{certified}
+use Rattle.steady_schedule.proofs.Gathered.{any_default}
 use Rattle.steady_schedule.specs.Changes.{join_same, changes_after, changes}
-use Rattle.steady_schedule.specs.Plans.{SteadyPlan, IsSteady}
+use Rattle.steady_schedule.specs.Plans.{SteadyPlan, IsSteady, NamesBusiest}
 
 no_items : (xs : List ℕ) → length xs ≤ 0 → xs ≡ []
 no_items [] le = refl
@@ -32,16 +35,11 @@ module _ (batch : List Transfer) (settings : List (List ℕ)) (k : ℕ) (k_in : 
     no_other = all_fewer (All (λ t. t < length batch)) schedule.no_other;
   }
 
-get_or-any : (xs : List (List ℕ)) (k : ℕ) (d e : List ℕ) → k < length xs → get_or xs k d ≡ get_or xs k e
-get_or-any [] k d e lt = absurd (omega arith)
-get_or-any (x ∷ xs) zero d e lt = refl
-get_or-any (x ∷ xs) (suc k) d e lt = get_or-any xs k d e (omega arith)
-
 none_empty : (batch : List Transfer) (settings : List (List ℕ)) → IsShortest batch settings → All (λ setting. 0 < length setting) settings
 none_empty batch settings s k d k_in = elim (cases_lt 0 (length (get_or settings k d))) [
   | inl some ↦ some
   | inr none ↦
-      let empty : get_or settings k [] ≡ [] = get_or-any settings k [] d k_in ∙ no_items (get_or settings k d) none in
+      let empty : get_or settings k [] ≡ [] = any_default settings k [] d k_in ∙ no_items (get_or settings k d) none in
       absurd (omega (arith, s.least (remove settings k) (without_empty batch settings k k_in empty s.schedule), length-remove settings k k_in))
 ]
 
@@ -65,3 +63,9 @@ changes_few batch (setting ∷ rest) = omega (arith, after_few batch setting res
 
 pub steady_few : (plan : SteadyPlan) → IsSteady plan → plan.changes ≤ length plan.settings
 steady_few plan s = omega (arith, s.counted, changes_few plan.batch plan.settings)
+
+-- ---- the busiest link
+
+pub named_most : (batch : List Transfer) (link : Option Link) (named : List ℕ) → NamesBusiest batch link named → (other : Link) → uses batch other ≤ length named
+named_most batch None named n other = rw n.0 (omega arith)
+named_most batch (Some link) named n other = omega (arith, n.0.most other, n.2)

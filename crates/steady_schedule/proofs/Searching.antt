@@ -10,7 +10,7 @@ use Rattle.std.proofs.lemmas.Option.{none-some, same_Some}
 use Rattle.batch.specs.declared.limits.TheConstants.{MAX_MODULES}
 use Rattle.steady_schedule.specs.Masks.{has_bit, has_pair}
 use Rattle.steady_schedule.specs.Matchings.{partner, AreMatched}
-use Rattle.steady_schedule.specs.Searches.{AreNear, AllSeen, IsStuck, IsInVain, IsFound, IsFreed}
+use Rattle.steady_schedule.specs.Searches.{AreNear, IsStuck, IsInVain, IsFound, IsFreed}
 use Rattle.steady_schedule.proofs.Matchings.{has_low, at_set, at_other}
 
 -- ---- masks
@@ -40,19 +40,12 @@ module _ (n k : ℕ) (had : has_bit n k ≡ true) where
 some_is : (o : Option ℕ) (v : ℕ) → o ≡ Some v → IsSome o
 some_is o v e = rw e refl
 
-not_both : (o : Option ℕ) → o ≡ None → IsSome o → ⊥
-not_both o none some = false≢true (rw none at some)
-
 along : (o p : Option ℕ) → o ≡ p → IsSome p → IsSome o
 along o p e some = rw e some
 
 -- ---- a link is freed
 
 module _ (near : List ℕ) (full unseen y : ℕ) (of back : List (Option ℕ)) (m : AreMatched of back) where
-  -- it was free
-  pub was_free : partner back y ≡ None → IsFreed near full unseen y of of back back
-  was_free none = record { freed = none; near_kept = λ n. n; full_kept = λ z f s. s; free_kept = λ z e. e; back_kept = λ w ne s. s; seen_kept = λ w ne s. refl }
-
   module _ (x : ℕ) (joined : partner back y ≡ Some x) where
     own : partner of x ≡ Some y
     own = (m.each_other x y).1 joined
@@ -89,17 +82,6 @@ module _ (near : List ℕ) (full unseen y : ℕ) (of back : List (Option ℕ)) (
 
     not_x : (z : ℕ) → partner of z ≡ None → z ≢ x
     not_x z none same = none-some y (sym none ∙ (ap (partner of) same ∙ own))
-
-    -- its partner goes without
-    pub goes_without : has_bit full x ≡ false → IsFreed near full unseen y of of_less back back_less
-    goes_without low = record {
-      freed = y_less;
-      near_kept = near_less;
-      full_kept = λ z f s. along (partner of_less z) (partner of z) (at_other of x z None (λ same. false≢true (sym low ∙ (ap (has_bit full) (sym same) ∙ f)))) s;
-      free_kept = free_less;
-      back_kept = λ w ne s. along (partner back_less w) (partner back w) (at_other back y w None ne) s;
-      seen_kept = λ w ne s. at_other back y w None ne;
-    }
 
     -- its partner finds another
     pub goes_elsewhere : (of_now back_now : List (Option ℕ)) → has_bit unseen y ≡ false → IsFound near full unseen x of_less of_now back_less back_now → IsFreed near full unseen y of of_now back back_now
@@ -149,13 +131,7 @@ module _ (near : List ℕ) (full unseen y : ℕ) (of back : List (Option ℕ)) (
             record { x = s.x; joined = at_other back_now y w (Some x) other ∙ s.joined; is_full = s.is_full; seen = s.seen };
       }
 
-      pub stuck_here : has_bit full x ≡ true → AllSeen near now x → IsStuck near full now back_again y
-      stuck_here is_full seen = record { x = x; joined = back_at; is_full = is_full; seen = seen }
-
 -- ---- the search from a link
-
-pub nothing_seen : (near : List ℕ) (full unseen : ℕ) (of back : List (Option ℕ)) → IsInVain near full unseen unseen of of back back
-nothing_seen near full unseen of back = record { same = λ z. refl; back_same = λ y. refl; fewer = λ y t. t; stuck = λ y t f. absurd (false≢true (sym f ∙ t)) }
 
 module _ (near : List ℕ) (full unseen now x y : ℕ) (of of_now back back_now : List (Option ℕ)) (v : IsInVain near full unseen now of of_now back back_now) (is_near : has_pair near x y ≡ true) (was : has_bit now y ≡ true) (less : ℕ) (out : has_bit less y ≡ false) (others : (i : ℕ) → i ≢ y → has_bit less i ≡ has_bit now i) where
   less_fewer : (i : ℕ) → has_bit less i ≡ true → has_bit now i ≡ true
@@ -188,9 +164,6 @@ module _ (near : List ℕ) (full unseen now x y : ℕ) (of of_now back back_now 
 
   -- a link that was freed is the partner
   module _ (of_after back_after : List (Option ℕ)) (m : AreMatched of_after back_after) (x_in : x < MAX_MODULES) (y_in : y < MAX_MODULES) (x_free : partner of x ≡ None) (f : IsFreed near full less y of_now of_after back_now back_after) where
-    pub still_free : partner of_after x ≡ None
-    still_free = f.free_kept x (v.same x ∙ x_free)
-
     abbrev of_new : List (Option ℕ)
     of_new = set of_after x (Some y)
 

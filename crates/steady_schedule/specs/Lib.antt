@@ -6,4 +6,8 @@ pub mod Joined
 pub mod Gathered
 pub mod Matchings
 pub mod Searches
+pub mod Waiting
+pub mod Covers
+pub mod Steps
+pub mod Slots
 pub mod Laws

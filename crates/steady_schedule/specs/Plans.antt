@@ -3,6 +3,7 @@
 use Rattle.std.specs.Prelude.{◌≡◌, ◌<◌, ℕ, List, [], length, All, AllPairs, Option, Some, None}
 use Rattle.batch.specs.declared.transfer.Transfer.{Transfer}
 use Rattle.link_graph.specs.declared.link.Link.{Link}
+use Rattle.link_graph.specs.Counts.{uses, AreUsers, IsBusiest}
 use Rattle.link_graph.specs.Schedules.{IsScheduleOf}
 use Rattle.link_graph.specs.Certificates.{Naming, IsCertificate}
 use Rattle.steady_schedule.specs.Changes.{changes}
@@ -27,6 +28,12 @@ steady_plan batch settings named changes demanding =
       changes = changes;
       demanding = demanding;
     }
+
+-- the busiest link and all transfers that use it, as many as its uses; of an empty batch neither
+abbrev pub NamesBusiest : List Transfer → Option Link → List ℕ → Type 0
+NamesBusiest batch None transfers = (batch ≡ []) × (transfers ≡ [])
+NamesBusiest batch (Some link) transfers =
+    IsBusiest batch link × AreUsers batch link transfers × (length transfers ≡ uses batch link)
 
 -- a link with the most partners, the first of these, and how many these are; an empty batch has none
 abbrev pub IsDemanding : List Transfer → Option (Link × ℕ) → Type 0

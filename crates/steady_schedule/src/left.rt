@@ -1,6 +1,12 @@
 //! The transfers of each pair of links that wait for a setting.
 
-use crate::masks::Masks;
+ghost use Rattle.std.specs.Prelude.{◌≡◌, ℕ, ◌+◌, ◌-◌, ◌<◌, ◌≤◌, [], set};
+ghost use Rattle.batch.specs.Batches.{IsBatch};
+ghost use Rattle.batch.specs.declared.limits.TheConstants.{MAX_MODULES, MAX_TRANSFERS};
+ghost use Rattle.link_graph.specs.declared.link.End.{End};
+ghost use Rattle.steady_schedule.specs.Waiting.{place_of, count_at, waiting, AreCounted, AreTold};
+
+use crate::masks::{Masks, with_module, without_module};
 use batch::MAX_MODULES;
 use link_graph::LinkGraph;
 
@@ -10,7 +16,7 @@ pub(crate) const PAIRS: usize = MAX_MODULES * MAX_MODULES;
 /// The links of one end.
 #[derive(Drop)]
 pub(crate) struct Side {
-    /// For each link the links of the other end that it has transfers with.
+    /// For each link those of the other end with which it has transfers that wait.
     pub(crate) near: Masks,
     /// How many transfers of each link wait.
     pub(crate) uses: [usize; MAX_MODULES],
@@ -23,10 +29,14 @@ pub(crate) struct Left {
     pub(crate) counts: [usize; PAIRS],
     pub(crate) zero: Side,
     pub(crate) three: Side,
+    ghost told: { AreTold counts zero.near zero.uses three.near three.uses },
 }
 
 impl Left {
-    fn none() -> Left {
+    /// No transfers.
+    fn none() -> Left
+        ensures { AreCounted [] result.counts }
+    {
         Left {
             counts: [0; PAIRS],
             zero: Side {
@@ -41,50 +51,60 @@ impl Left {
     }
 
     /// All transfers of a graph.
-    pub(crate) fn of(graph: &LinkGraph) -> Option<Left> {
+    pub(crate) fn of(graph: &LinkGraph) -> Left
+        requires { IsBatch graph.now }
+        ensures { AreCounted graph.now result.counts }
+    {
         let mut left = Left::none();
         for t in 0..graph.len() {
-            let (start, answer) = graph.ends(t)?;
-            left.add(start.module, answer.module)?;
+            let (start, answer) = graph.ends_of(t);
+            left.add(start.module, answer.module);
         }
-        Some(left)
+        left
     }
 
     /// How many transfers of a pair wait.
-    pub(crate) fn count(&self, zero: usize, three: usize) -> usize {
-        if zero < MAX_MODULES && three < MAX_MODULES {
-            self.counts[zero * MAX_MODULES + three]
-        } else {
-            0
-        }
+    pub(crate) fn count(&self, zero: usize, three: usize) -> usize
+        requires zero_in { zero < MAX_MODULES }
+        requires three_in { three < MAX_MODULES }
+        ensures { result ≡ count_at self.now.counts zero three }
+    {
+        self.counts[zero * MAX_MODULES + three]
     }
 
-    fn add(&mut self, zero: usize, three: usize) -> Option<()> {
-        if zero >= MAX_MODULES || three >= MAX_MODULES {
-            return None;
-        }
-        let place = zero * MAX_MODULES + three;
-        self.counts[place] = self.counts[place].checked_add(1)?;
-        self.zero.near[zero] |= 1u32 << three;
-        self.three.near[three] |= 1u32 << zero;
-        self.zero.uses[zero] = self.zero.uses[zero].checked_add(1)?;
-        self.three.uses[three] = self.three.uses[three].checked_add(1)?;
-        Some(())
+    /// One transfer more waits.
+    fn add(&mut self, zero: usize, three: usize)
+        requires zero_in { zero < MAX_MODULES }
+        requires three_in { three < MAX_MODULES }
+        requires few { (end : End) (m : ℕ) → m < MAX_MODULES
+            → waiting self.old.counts end m < MAX_TRANSFERS }
+        ensures { self.new.counts ≡ set self.old.counts (place_of zero three)
+            (count_at self.old.counts zero three + 1) }
+    {
+        self.counts[zero * MAX_MODULES + three] += 1;
+        self.zero.uses[zero] += 1;
+        self.three.uses[three] += 1;
+        self.zero.near[zero] = with_module(self.zero.near[zero], three);
+        self.three.near[three] = with_module(self.three.near[three], zero);
     }
 
-    /// Takes some of the transfers of a pair.
-    pub(crate) fn take(&mut self, zero: usize, three: usize, count: usize) -> Option<()> {
-        if zero >= MAX_MODULES || three >= MAX_MODULES {
-            return None;
-        }
+    /// Some transfers of a pair wait no more.
+    pub(crate) fn take(&mut self, zero: usize, three: usize, count: usize)
+        requires zero_in { zero < MAX_MODULES }
+        requires three_in { three < MAX_MODULES }
+        requires some { 0 < count }
+        requires there { count ≤ count_at self.old.counts zero three }
+        ensures { self.new.counts ≡ set self.old.counts (place_of zero three)
+            (count_at self.old.counts zero three - count) }
+    {
         let place = zero * MAX_MODULES + three;
-        self.counts[place] = self.counts[place].checked_sub(count)?;
-        self.zero.uses[zero] = self.zero.uses[zero].checked_sub(count)?;
-        self.three.uses[three] = self.three.uses[three].checked_sub(count)?;
-        if self.counts[place] == 0 {
-            self.zero.near[zero] ^= 1u32 << three;
-            self.three.near[three] ^= 1u32 << zero;
+        self.counts[place] -= count;
+        self.zero.uses[zero] -= count;
+        self.three.uses[three] -= count;
+        if self.counts[place] > 0 {
+            return;
         }
-        Some(())
+        self.zero.near[zero] = without_module(self.zero.near[zero], three);
+        self.three.near[three] = without_module(self.three.near[three], zero);
     }
 }

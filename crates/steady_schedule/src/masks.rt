@@ -1,6 +1,6 @@
 //! Masks of modules.
 
-ghost use Rattle.std.specs.Prelude.{◌≡◌, ◌≢◌, ◌<◌, ℕ, true, false};
+ghost use Rattle.std.specs.Prelude.{◌≡◌, ◌≢◌, ◌<◌, ℕ, true, false, ◌||◌, ◌==◌};
 ghost use Rattle.steady_schedule.specs.Masks.{has_bit};
 
 use batch::MAX_MODULES;
@@ -25,13 +25,21 @@ pub(crate) fn has(mask: u32, module: usize) -> bool
     mask >> module & 1 == 1
 }
 
-/// Takes a module out of a mask that has it.
-pub(crate) fn take_out(mask: &mut u32, module: usize)
-    requires low { «module» < MAX_MODULES }
-    requires has { has_bit mask.old «module» ≡ true }
-    ensures out { has_bit mask.new «module» ≡ false }
-    ensures others { (m : ℕ) → m ≢ «module» → has_bit mask.new m ≡ has_bit mask.old m }
-    ensures less { mask.new < mask.old }
+/// The mask with a module more, where it hadn't it.
+pub(crate) fn with_module(mask: u32, module: usize) -> u32
+    requires { «module» < MAX_MODULES }
+    ensures { (m : ℕ) → has_bit result m ≡ (has_bit mask m || «module» == m) }
 {
-    *mask ^= 1u32 << module;
+    mask | 1u32 << module
+}
+
+/// The mask without a module that it has.
+pub(crate) fn without_module(mask: u32, module: usize) -> u32
+    requires low { «module» < MAX_MODULES }
+    requires has { has_bit mask «module» ≡ true }
+    ensures out { has_bit result «module» ≡ false }
+    ensures others { (m : ℕ) → m ≢ «module» → has_bit result m ≡ has_bit mask m }
+    ensures less { result < mask }
+{
+    mask ^ 1u32 << module
 }

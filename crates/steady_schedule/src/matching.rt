@@ -5,7 +5,7 @@ ghost use Rattle.steady_schedule.specs.Masks.{has_bit};
 ghost use Rattle.steady_schedule.specs.Matchings.{partner, AreMatched};
 ghost use Rattle.steady_schedule.specs.Searches.{AllSeen, IsStuck, IsInVain, IsFound, IsFreed};
 
-use crate::masks::{Masks, has, lowest, take_out};
+use crate::masks::{Masks, has, lowest, without_module};
 use batch::MAX_MODULES;
 
 /// For each module the one that its link is joined to, where it is joined.
@@ -97,7 +97,7 @@ pub(crate) fn augment(
 {
     'search: while near[x] & *unseen != 0 {
         let y = lowest(near[x] & *unseen);
-        take_out(unseen, y);
+        *unseen = without_module(*unseen, y);
         if make_room(y, near, full, of, back, unseen) {
             join(of, back, x, y);
             return true;

@@ -1,129 +1,225 @@
 //! The number of its setting for each transfer.
 
-ghost use Rattle.std.specs.Prelude.{length, IfOk, IfSome};
-ghost use Rattle.steady_schedule.specs.Gathered.{AreNumbers};
+ghost use Rattle.std.specs.Prelude.{◌≡◌, ℕ, ◌+◌, ◌-◌, ◌*◌, ◌<◌, ◌≤◌, All, Some, None, length, set, IfOk, slice_index};
+ghost use Rattle.batch.specs.Batches.{IsBatch};
+ghost use Rattle.batch.specs.declared.limits.TheConstants.{MAX_MODULES, MAX_TRANSFERS};
+ghost use Rattle.link_graph.specs.declared.link.Link.{Link};
+ghost use Rattle.link_graph.specs.Counts.{uses};
+ghost use Rattle.steady_schedule.specs.Matchings.{partner};
+ghost use Rattle.steady_schedule.specs.Slots.{slot, AreStarts, AreWithin, IsHeld, IsHeldAs, AreNumbered, AreWritten, AreReadTo, AreProper};
+ghost use Rattle.steady_schedule.specs.Steps.{AreTaken};
+ghost use Rattle.steady_schedule.specs.Waiting.{sum_below, place_of, count_at, AreCounted, HaveMost};
 
 use crate::left::{Left, PAIRS};
 use crate::stepping::{Matching, next_step};
-use batch::MAX_MODULES;
+use batch::{MAX_MODULES, MAX_TRANSFERS};
 use link_graph::LinkGraph;
 use std::alloc::{AllocError, Global};
 
-/// Where the numbers of each pair's transfers begin, where they stand one pair behind the other.
-type Starts = [usize; PAIRS];
-
-fn starts(left: &Left) -> Option<Starts> {
-    let mut starts = [0; PAIRS];
-    let mut start = 0usize;
-    for place in 0..PAIRS {
-        starts[place] = start;
-        start = start.checked_add(left.counts[place])?;
-    }
-    Some(starts)
+/// Where the slots of each pair of links begin. There is one for each of its transfers.
+#[derive(Drop)]
+struct Places {
+    totals: [usize; PAIRS],
+    starts: [usize; PAIRS],
+    /// How many slots there are.
+    room: usize,
+    ghost placed: { AreStarts totals starts room },
 }
 
-/// Writes the numbers of some settings for a pair's next transfers, which stand before those that have
-/// theirs: the first number last.
-fn write_pair(slots: &mut [usize], at: usize, first: usize, settings: usize) -> Option<()> {
-    for i in 0..settings {
-        let place = at.checked_add(settings - 1 - i)?;
-        if place >= slots.len() {
-            return None;
+impl Places {
+    /// Places for so many transfers of each pair.
+    fn of(totals: &[usize; PAIRS]) -> Places
+        requires { All (λ total. total ≤ MAX_TRANSFERS) totals.now }
+        ensures { result.totals ≡ totals.now }
+    {
+        let mut starts = [0; PAIRS];
+        let mut room = 0;
+        for place in 0..PAIRS {
+            starts[place] = room;
+            room += totals[place];
         }
-        slots[place] = first.checked_add(i)?;
+        Places {
+            totals: *totals,
+            starts,
+            room,
+        }
     }
-    Some(())
+
+    /// Where slot `i` of a pair is, or where its last one ends.
+    fn slot(&self, zero: usize, three: usize, i: usize) -> usize
+        requires zero_in { zero < MAX_MODULES }
+        requires three_in { three < MAX_MODULES }
+        requires there { i ≤ count_at self.now.totals zero three }
+        ensures { result ≡ sum_below (place_of zero three) (slice_index self.now.totals) + i }
+    {
+        self.starts[zero * MAX_MODULES + three] + i
+    }
+}
+
+/// Writes the numbers of some settings into slots, the first of them last.
+fn write_pair(slots: &mut [usize], at: usize, first: usize, settings: usize)
+    requires room { at + settings ≤ length slots.old }
+    requires few { first + settings ≤ MAX_TRANSFERS }
+    ensures { AreWritten at first settings slots.old slots.new }
+{
+    let end = at + settings;
+    for place in at..end {
+        slots[place] = first + (end - 1 - place);
+    }
+}
+
+/// Holds the pair of a link 0, where it is joined, for some settings: takes as many of its transfers, and
+/// writes the numbers of the settings for them.
+fn hold_one(
+    left: &mut Left,
+    matching: &Matching,
+    places: &Places,
+    slots: &mut [usize],
+    zero: usize,
+    first: usize,
+    settings: usize,
+)
+    requires zero_in { zero < MAX_MODULES }
+    requires some { 0 < settings }
+    requires there { (y : ℕ) → partner matching.now.zero zero ≡ Some y
+        → settings ≤ count_at left.old.counts zero y }
+    requires few { first + settings ≤ MAX_TRANSFERS }
+    requires within { AreWithin places.now.totals left.old.counts slots.old }
+    ensures free { partner matching.now.zero zero ≡ None
+        → IsHeldAs left.old.counts slots.old left.new.counts slots.new }
+    ensures joined { (y : ℕ) → partner matching.now.zero zero ≡ Some y
+        → IsHeld places.now.totals zero y first settings
+        left.old.counts slots.old left.new.counts slots.new }
+{
+    let Some(three) = matching.zero[zero] else {
+        return;
+    };
+    left.take(zero, three, settings);
+    let at = places.slot(zero, three, left.count(zero, three));
+    write_pair(slots, at, first, settings);
 }
 
 /// Holds the matching for some settings.
 fn hold(
     left: &mut Left,
     matching: &Matching,
-    starts: &Starts,
+    places: &Places,
     slots: &mut [usize],
     first: usize,
     settings: usize,
-) -> Option<()> {
+)
+    requires some { 0 < settings }
+    requires there { (x y : ℕ) → partner matching.now.zero x ≡ Some y
+        → settings ≤ count_at left.old.counts x y }
+    requires few { first + settings ≤ MAX_TRANSFERS }
+    requires numbered { AreNumbered places.now.totals left.old.counts slots.old first }
+    ensures taken { AreTaken matching.now.zero settings MAX_MODULES left.old.counts left.new.counts }
+    ensures numbered { AreNumbered places.now.totals left.new.counts slots.new (first + settings) }
+{
     for zero in 0..MAX_MODULES {
-        if let Some(three) = matching.zero[zero] {
-            left.take(zero, three, settings)?;
-            let start = *starts.get((zero * MAX_MODULES).checked_add(three)?)?;
-            let at = start.checked_add(left.count(zero, three))?;
-            write_pair(slots, at, first, settings)?;
-        }
+        hold_one(left, matching, places, slots, zero, first, settings);
     }
-    Some(())
 }
 
-/// Writes the numbers of their settings for the transfers of each pair.
-fn write_all(graph: &LinkGraph, slots: &mut [usize], settings: usize) -> Option<()> {
-    let mut left = Left::of(graph)?;
-    let starts = starts(&left)?;
+/// Writes the numbers of their settings for all transfers that wait.
+fn fill(left: &mut Left, places: &Places, slots: &mut [usize], settings: usize)
+    requires most { HaveMost left.old.counts settings }
+    requires few { settings ≤ MAX_TRANSFERS }
+    requires numbered { AreNumbered places.now.totals left.old.counts slots.old 0 }
+    ensures done { (u v : ℕ) → u < MAX_MODULES → v < MAX_MODULES
+        → count_at left.new.counts u v ≡ 0 }
+    ensures numbered { AreNumbered places.now.totals left.new.counts slots.new settings }
+{
     let mut matching = Matching::none();
     let mut first = 0;
     'steps: while first < settings {
-        let held = next_step(&left, &mut matching, settings - first)?;
-        if held == 0 || held > settings - first {
-            return None;
-        }
-        hold(&mut left, &matching, &starts, slots, first, held)?;
+        let held = next_step(left, &mut matching, settings - first);
+        hold(left, &matching, places, slots, first, held);
         first += held;
     }
-    Some(())
 }
 
-/// The number of transfer `t`, the next of its pair.
+/// The number of a pair's next transfer: that of its last slot that is left.
 fn next_number(
-    left: &mut Left,
-    starts: &Starts,
+    left: &mut [usize; PAIRS],
+    places: &Places,
     slots: &[usize],
     zero: usize,
     three: usize,
-) -> Option<usize> {
-    left.take(zero, three, 1)?;
-    let start = *starts.get(zero.checked_mul(MAX_MODULES)?.checked_add(three)?)?;
-    let place = start.checked_add(left.count(zero, three))?;
-    slots.get(place).copied()
+) -> usize
+    requires zero_in { zero < MAX_MODULES }
+    requires three_in { three < MAX_MODULES }
+    requires some { 0 < count_at left.old zero three }
+    requires there { count_at left.old zero three ≤ count_at places.now.totals zero three }
+    requires room { length slots.now
+        ≡ sum_below (MAX_MODULES * MAX_MODULES) (slice_index places.now.totals) }
+    ensures left { left.new ≡ set left.old (place_of zero three) (count_at left.old zero three - 1) }
+    ensures number { result
+        ≡ slot places.now.totals slots.now zero three (count_at left.old zero three - 1) }
+{
+    let place = zero * MAX_MODULES + three;
+    left[place] -= 1;
+    slots[places.slot(zero, three, left[place])]
 }
 
-/// The numbers of all transfers, in order, where each is below that of the settings.
+/// The numbers of all transfers, in order.
 fn read_all(
     alloc: Global,
     graph: &LinkGraph,
+    places: &Places,
     slots: &[usize],
-    settings: usize,
-) -> Result<Option<Vec<usize>>, AllocError>
-    ensures { IfOk result (λ read. IfSome read (AreNumbers (length graph.now) settings)) }
+) -> Result<Vec<usize>, AllocError>
+    requires batch { IsBatch graph.now }
+    requires counted { AreCounted graph.now places.now.totals }
+    requires room { length slots.now
+        ≡ sum_below (MAX_MODULES * MAX_MODULES) (slice_index places.now.totals) }
+    ensures { IfOk result (λ numbers.
+        AreReadTo graph.now places.now.totals slots.now numbers.items (length graph.now)) }
 {
+    let mut left = places.totals;
     let mut numbers = Vec::with_capacity(alloc, graph.len())?;
-    let Some(mut left) = Left::of(graph) else {
-        return Ok(None);
-    };
-    let Some(starts) = starts(&left) else {
-        return Ok(None);
-    };
     for t in 0..graph.len() {
         let (start, answer) = graph.ends_of(t);
-        match next_number(&mut left, &starts, slots, start.module, answer.module) {
-            Some(number) if number < settings => numbers.push(number)?,
-            _ => return Ok(None),
-        }
+        let number = next_number(&mut left, places, slots, start.module, answer.module);
+        numbers.push(number)?;
     }
-    Ok(Some(numbers))
+    Ok(numbers)
 }
 
-/// The number of its setting for each transfer, where the search finds matchings with all full links.
+/// The numbers of all transfers, by way of slots in which none is written yet.
+fn number_by(
+    alloc: Global,
+    graph: &LinkGraph,
+    settings: usize,
+    left: &mut Left,
+    places: &Places,
+    slots: &mut [usize],
+) -> Result<Vec<usize>, AllocError>
+    requires batch { IsBatch graph.now }
+    requires counted { AreCounted graph.now places.now.totals }
+    requires most { HaveMost left.old.counts settings }
+    requires few { settings ≤ MAX_TRANSFERS }
+    requires numbered { AreNumbered places.now.totals left.old.counts slots.old 0 }
+    ensures { IfOk result (λ numbers. AreProper graph.now settings numbers.items) }
+{
+    fill(left, places, slots, settings);
+    read_all(alloc, graph, places, slots)
+}
+
+/// The number of its setting for each transfer, where no link has more transfers than there are
+/// settings.
 pub(crate) fn number_all(
     alloc: Global,
     graph: &LinkGraph,
     settings: usize,
-) -> Result<Option<Vec<usize>>, AllocError>
-    ensures { IfOk result (λ read. IfSome read (AreNumbers (length graph.now) settings)) }
+) -> Result<Vec<usize>, AllocError>
+    requires batch { IsBatch graph.now }
+    requires most { (link : Link) → uses graph.now link ≤ settings }
+    requires few { settings ≤ MAX_TRANSFERS }
+    ensures { IfOk result (λ numbers. AreProper graph.now settings numbers.items) }
 {
-    let count = graph.len();
-    let mut slots = vec![in alloc; 0; count]?;
-    if write_all(graph, &mut slots, settings).is_none() {
-        return Ok(None);
-    }
-    read_all(alloc, graph, &slots, settings)
+    let mut left = Left::of(graph);
+    let places = Places::of(&left.counts);
+    let mut slots = vec![in alloc; 0; places.room]?;
+    number_by(alloc, graph, settings, &mut left, &places, &mut slots)
 }

@@ -1,11 +1,17 @@
 //! Steps: matchings that are held for some settings.
 
-ghost use Rattle.std.specs.Prelude.{◌≡◌, ◌<◌, ◌≤◌, None, IfSome};
+ghost use Rattle.std.specs.Prelude.{◌≡◌, ◌≢◌, ℕ, ◌+◌, ◌<◌, ◌≤◌, Some, None, IfSome, IsSome, true};
+ghost use Rattle.link_graph.specs.declared.link.End.TheVariants.{Zero, Three};
 ghost use Rattle.batch.specs.declared.limits.TheConstants.{MAX_MODULES};
+ghost use Rattle.steady_schedule.specs.Covers.{IsSide, IsFullMask, AreCovered, KeepsPartners};
+ghost use Rattle.steady_schedule.specs.Masks.{has_bit, has_pair};
 ghost use Rattle.steady_schedule.specs.Matchings.{partner, AreMatched};
+ghost use Rattle.steady_schedule.specs.Searches.{AreNear};
+ghost use Rattle.steady_schedule.specs.Steps.{CanHold};
+ghost use Rattle.steady_schedule.specs.Waiting.{count_at, waiting, HaveMost};
 
 use crate::left::{Left, Side};
-use crate::masks::has;
+use crate::masks::{has, with_module};
 use crate::matching::{Partners, augment, join, part};
 use batch::MAX_MODULES;
 
@@ -27,49 +33,94 @@ impl Matching {
     }
 }
 
-/// The links that have so many uses.
-fn full(side: &Side, most: usize) -> u32 {
+/// The links that have so many transfers.
+fn full(uses: &[usize; MAX_MODULES], most: usize) -> u32
+    ensures { IsFullMask uses.now most MAX_MODULES result }
+{
     let mut mask = 0;
     for module in 0..MAX_MODULES {
-        if side.uses[module] == most {
-            mask |= 1u32 << module;
+        if uses[module] == most {
+            mask = with_module(mask, module);
         }
     }
     mask
 }
 
+/// Parts the pair of a link, where no transfer of it waits.
+fn part_one(left: &Left, matching: &mut Matching, zero: usize)
+    requires { zero < MAX_MODULES }
+    ensures near { (y : ℕ) → partner matching.new.zero zero ≡ Some y
+        → has_pair left.now.zero.near zero y ≡ true }
+    ensures others { (x : ℕ) → x ≢ zero
+        → partner matching.new.zero x ≡ partner matching.old.zero x }
+{
+    let Some(three) = matching.zero[zero] else {
+        return;
+    };
+    if left.count(zero, three) > 0 {
+        return;
+    }
+    part(&mut matching.zero, &mut matching.three, zero, three);
+}
+
 /// Parts the pairs of which no transfer waits.
-fn part_done(left: &Left, matching: &mut Matching) {
+fn part_done(left: &Left, matching: &mut Matching)
+    ensures { AreNear left.now.zero.near matching.new.zero }
+{
     for zero in 0..MAX_MODULES {
-        if let Some(three) = matching.zero[zero] {
-            if left.count(zero, three) == 0 {
-                part(&mut matching.zero, &mut matching.three, zero, three);
-            }
-        }
+        part_one(left, matching, zero);
     }
 }
 
-/// Finds a partner for each full link of a side.
-fn cover(side: &Side, most: usize, of: &mut Partners, back: &mut Partners) -> Option<()>
-    requires { AreMatched of.old back.old }
-    ensures { AreMatched of.new back.new }
+/// Finds a partner for a link that is full and has none.
+///
+/// By counting there is one. Were the search in vain, all links near it would be seen, each of them the
+/// partner of a full link all of whose links are seen. So these full links, one more than those that are
+/// seen, would have more transfers than those may have.
+fn cover_one(x: usize, side: &Side, most: usize, full: u32, of: &mut Partners, back: &mut Partners)
+    requires x_in { x < MAX_MODULES }
+    requires some { 0 < most }
+    requires side { IsSide side.now.near side.now.uses most }
+    requires full { IsFullMask side.now.uses most MAX_MODULES full }
+    requires matched { AreMatched of.old back.old }
+    ensures matched { AreMatched of.new back.new }
+    ensures near { AreNear side.now.near of.old → AreNear side.now.near of.new }
+    ensures found { has_bit full x ≡ true → IsSome (partner of.new x) }
+    ensures full { (z : ℕ) → has_bit full z ≡ true → IsSome (partner of.old z)
+        → IsSome (partner of.new z) }
+    ensures back { KeepsPartners back.old back.new }
 {
-    let full = full(side, most);
-    for x in 0..MAX_MODULES {
-        if has(full, x) && of[x].is_none() {
-            let mut unseen = u32::MAX;
-            if !augment(x, &side.near, full, of, back, &mut unseen) {
-                return None;
-            }
-        }
+    if !has(full, x) || of[x].is_some() {
+        return;
     }
-    Some(())
+    let mut unseen = u32::MAX;
+    let found = augment(x, &side.near, full, of, back, &mut unseen);
+    prove!(found);
+}
+
+/// Finds a partner for each full link of a side.
+fn cover(side: &Side, most: usize, of: &mut Partners, back: &mut Partners)
+    requires some { 0 < most }
+    requires side { IsSide side.now.near side.now.uses most }
+    requires matched { AreMatched of.old back.old }
+    requires near { AreNear side.now.near of.old }
+    ensures matched { AreMatched of.new back.new }
+    ensures near { AreNear side.now.near of.new }
+    ensures covered { AreCovered side.now.uses most MAX_MODULES of.new }
+    ensures back { KeepsPartners back.old back.new }
+{
+    let full = full(&side.uses, most);
+    for x in 0..MAX_MODULES {
+        cover_one(x, side, most, full, of, back);
+    }
 }
 
 /// The free link that has the most transfers with this one.
 fn best_free(left: &Left, zero: usize, back: &Partners) -> Option<usize>
+    requires { zero < MAX_MODULES }
     ensures free { IfSome result (λ three. partner back.now three ≡ None) }
     ensures low { IfSome result (λ three. three < MAX_MODULES) }
+    ensures some { IfSome result (λ three. 0 < count_at left.now.counts zero three) }
 {
     let mut best = None;
     let mut most = 0;
@@ -83,40 +134,98 @@ fn best_free(left: &Left, zero: usize, back: &Partners) -> Option<usize>
     best
 }
 
-/// Joins links that are free.
-fn join_free(left: &Left, matching: &mut Matching) {
+/// Joins a link that is free to one that is free, where they have transfers with each other.
+fn join_one(left: &Left, matching: &mut Matching, zero: usize)
+    requires { zero < MAX_MODULES }
+    ensures near { AreNear left.now.zero.near matching.old.zero
+        → AreNear left.now.zero.near matching.new.zero }
+    ensures zero { KeepsPartners matching.old.zero matching.new.zero }
+    ensures three { KeepsPartners matching.old.three matching.new.three }
+{
+    if matching.zero[zero].is_some() {
+        return;
+    }
+    let Some(three) = best_free(left, zero, &matching.three) else {
+        return;
+    };
+    join(&mut matching.zero, &mut matching.three, zero, three);
+}
+
+/// Joins links that are free and have transfers with each other.
+fn join_free(left: &Left, matching: &mut Matching)
+    requires { AreNear left.now.zero.near matching.old.zero }
+    ensures near { AreNear left.now.zero.near matching.new.zero }
+    ensures zero { KeepsPartners matching.old.zero matching.new.zero }
+    ensures three { KeepsPartners matching.old.three matching.new.three }
+{
     for zero in 0..MAX_MODULES {
-        if matching.zero[zero].is_none() {
-            if let Some(three) = best_free(left, zero, &matching.three) {
-                join(&mut matching.zero, &mut matching.three, zero, three);
-            }
-        }
+        join_one(left, matching, zero);
     }
 }
 
-/// For how many settings the matching can be held: no longer than each of its pairs has transfers, nor
-/// so long that a link that isn't joined would have more transfers than there are settings left.
-fn longest(left: &Left, matching: &Matching, most: usize) -> Option<usize> {
+/// For how many settings a link 0 can be as it is: no longer than its pair has transfers, or so long that
+/// it has no more of them than there are settings left.
+fn zero_room(left: &Left, matching: &Matching, most: usize, module: usize) -> usize
+    requires low { «module» < MAX_MODULES }
+    requires most { HaveMost left.now.counts most }
+    requires near { AreNear left.now.zero.near matching.now.zero }
+    requires covered { AreCovered left.now.zero.uses most MAX_MODULES matching.now.zero }
+    ensures some { 0 < result }
+    ensures pair { (y : ℕ) → partner matching.now.zero «module» ≡ Some y
+        → result ≤ count_at left.now.counts «module» y }
+    ensures out { partner matching.now.zero «module» ≡ None
+        → waiting left.now.counts Zero «module» + result ≤ most }
+{
+    match matching.zero[module] {
+        Some(three) => left.count(module, three),
+        None => most - left.zero.uses[module],
+    }
+}
+
+/// The same of a link 3, whose pair counts at its link 0.
+fn three_room(left: &Left, matching: &Matching, most: usize, module: usize) -> usize
+    requires low { «module» < MAX_MODULES }
+    requires some { 0 < most }
+    requires most { HaveMost left.now.counts most }
+    requires covered { AreCovered left.now.three.uses most MAX_MODULES matching.now.three }
+    ensures some { 0 < result }
+    ensures out { partner matching.now.three «module» ≡ None
+        → waiting left.now.counts Three «module» + result ≤ most }
+{
+    match matching.three[module] {
+        Some(_) => most,
+        None => most - left.three.uses[module],
+    }
+}
+
+/// For how many settings the matching can be held.
+fn longest(left: &Left, matching: &Matching, most: usize) -> usize
+    requires some { 0 < most }
+    requires most { HaveMost left.now.counts most }
+    requires near { AreNear left.now.zero.near matching.now.zero }
+    requires zero { AreCovered left.now.zero.uses most MAX_MODULES matching.now.zero }
+    requires three { AreCovered left.now.three.uses most MAX_MODULES matching.now.three }
+    ensures { CanHold left.now.counts matching.now.zero matching.now.three most result }
+{
     let mut settings = most;
     for module in 0..MAX_MODULES {
-        let zero = match matching.zero[module] {
-            Some(three) => left.count(module, three),
-            None => most.checked_sub(left.zero.uses[module])?,
-        };
-        settings = settings.min(zero);
-        if matching.three[module].is_none() {
-            settings = settings.min(most.checked_sub(left.three.uses[module])?);
-        }
+        settings = settings
+            .min(zero_room(left, matching, most, module))
+            .min(three_room(left, matching, most, module));
     }
-    Some(settings)
+    settings
 }
 
-/// Makes the next matching, and says for how many settings it is held.
-#[tactic(auto, using(crate::proofs::Matchings::turned))]
-pub(crate) fn next_step(left: &Left, matching: &mut Matching, most: usize) -> Option<usize> {
+/// Makes the next matching, and says for how many of the settings that are left it is held. It begins with
+/// the one before, as far as its pairs have transfers.
+pub(crate) fn next_step(left: &Left, matching: &mut Matching, most: usize) -> usize
+    requires some { 0 < most }
+    requires most { HaveMost left.now.counts most }
+    ensures { CanHold left.now.counts matching.new.zero matching.new.three most result }
+{
     part_done(left, matching);
-    cover(&left.zero, most, &mut matching.zero, &mut matching.three)?;
-    cover(&left.three, most, &mut matching.three, &mut matching.zero)?;
+    cover(&left.zero, most, &mut matching.zero, &mut matching.three);
+    cover(&left.three, most, &mut matching.three, &mut matching.zero);
     join_free(left, matching);
     longest(left, matching, most)
 }

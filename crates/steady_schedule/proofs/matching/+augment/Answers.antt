@@ -3,34 +3,34 @@ use Rattle.steady_schedule.proofs.Matchings.{has_low}
 use Rattle.steady_schedule.proofs.Searching.{both_bits, no_bit, x_less, goes_elsewhere, stays, one_stuck, found_here}
 use Rattle.steady_schedule.proofs.matching.+augment.Goals as goal
 
-pub augment-take_out-requires-clause-has : goal.augment-take_out-requires-clause-has
-augment-take_out-requires-clause-has t c = (both_bits (get_or c.args.near.now c.args.x 0) c.search.unseen c.lowest-y.result c.lowest-y.ensures.has).1
+pub augment-without_module-requires-clause-has : goal.augment-without_module-requires-clause-has
+augment-without_module-requires-clause-has t c = (both_bits (get_or c.args.near.now c.args.x 0) c.search.unseen c.lowest-y.result c.lowest-y.ensures.has).1
 
 pub augment-make_room-requires : goal.augment-make_room-requires
 augment-make_room-requires t c =
-    let less : c.take_out.new.mask < c.search.unseen = c.take_out.ensures.less in
+    let less : c.without_module.result < c.search.unseen = c.without_module.ensures.less in
     let few : c.search.unseen ≤ c.args.unseen.now = c.search.invariant.fewer in
-    (first_of (omega arith, search rules), (c.lowest-y.ensures.within, (c.take_out.ensures.out, c.search.invariant.matched)))
+    (first_of (omega arith, search rules), (c.lowest-y.ensures.within, (c.without_module.ensures.out, c.search.invariant.matched)))
 
 pub augment-returns-then-make_room-clause-found : goal.augment-returns-then-make_room-clause-found
 augment-returns-then-make_room-clause-found t c = λ _.
     let bits = both_bits (get_or c.args.near.now c.args.x 0) c.search.unseen c.lowest-y.result c.lowest-y.ensures.has in
     rw (c.join.ensures.of, c.join.ensures.back)
-    (found_here c.args.near.now c.args.full c.args.unseen.now c.search.unseen c.args.x c.lowest-y.result c.args.of.now c.search.of c.args.back.now c.search.back c.search.invariant.vain bits.0 bits.1 c.take_out.new.mask c.take_out.ensures.out c.take_out.ensures.others c.make_room.new.of c.make_room.new.back c.make_room.ensures.matched c.requires.x_in c.lowest-y.ensures.within c.requires.free (c.make_room.ensures.freed c.if-make_room.true))
+    (found_here c.args.near.now c.args.full c.args.unseen.now c.search.unseen c.args.x c.lowest-y.result c.args.of.now c.search.of c.args.back.now c.search.back c.search.invariant.vain bits.0 bits.1 c.without_module.result c.without_module.ensures.out c.without_module.ensures.others c.make_room.new.of c.make_room.new.back c.make_room.ensures.matched c.requires.x_in c.lowest-y.ensures.within c.requires.free (c.make_room.ensures.freed c.if-make_room.true))
 
 pub augment-returns-then-make_room-clause-fewer : goal.augment-returns-then-make_room-clause-fewer
-augment-returns-then-make_room-clause-fewer t c = omega (arith, c.make_room.ensures.fewer, c.take_out.ensures.less, c.search.invariant.fewer)
+augment-returns-then-make_room-clause-fewer t c = omega (arith, c.make_room.ensures.fewer, c.without_module.ensures.less, c.search.invariant.fewer)
 
 pub augment-search-smaller : goal.augment-search-smaller
-augment-search-smaller t c = omega (arith, c.make_room.ensures.fewer, c.take_out.ensures.less)
+augment-search-smaller t c = omega (arith, c.make_room.ensures.fewer, c.without_module.ensures.less)
 
 pub augment-search-preserved : goal.augment-search-preserved
 augment-search-preserved t c =
     let bits = both_bits (get_or c.args.near.now c.args.x 0) c.search.unseen c.lowest-y.result c.lowest-y.ensures.has in
     record {
       matched = c.make_room.ensures.matched;
-      vain = one_stuck c.args.near.now c.args.full c.args.unseen.now c.search.unseen c.args.x c.lowest-y.result c.args.of.now c.search.of c.args.back.now c.search.back c.search.invariant.vain bits.0 bits.1 c.take_out.new.mask c.take_out.ensures.out c.take_out.ensures.others c.make_room.new.unseen c.make_room.new.of c.make_room.new.back (c.make_room.ensures.vain c.if-make_room.false) (c.make_room.ensures.stuck c.if-make_room.false);
-      fewer = omega (arith, c.make_room.ensures.fewer, c.take_out.ensures.less, c.search.invariant.fewer);
+      vain = one_stuck c.args.near.now c.args.full c.args.unseen.now c.search.unseen c.args.x c.lowest-y.result c.args.of.now c.search.of c.args.back.now c.search.back c.search.invariant.vain bits.0 bits.1 c.without_module.result c.without_module.ensures.out c.without_module.ensures.others c.make_room.new.unseen c.make_room.new.of c.make_room.new.back (c.make_room.ensures.vain c.if-make_room.false) (c.make_room.ensures.stuck c.if-make_room.false);
+      fewer = omega (arith, c.make_room.ensures.fewer, c.without_module.ensures.less, c.search.invariant.fewer);
     }
 
 pub augment-returns-clause-seen : goal.augment-returns-clause-seen

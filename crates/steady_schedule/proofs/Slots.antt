@@ -1,0 +1,368 @@
+-- Slots, as the numbers of some settings are written, and as they are read.
+use Rattle.std.proofs.Common.{◌≡◌, ◌≢◌, ◌==◌, ℕ, zero, suc, ◌+◌, ◌-◌, ◌*◌, ◌/◌, ◌%◌, ◌<◌, ◌≤◌, ◌⊎◌, All, List, [], ◌∷◌, ◌++◌, length, get_or, set, drop, slice_index, slice_get, Bool, ◌&&◌, eq-eqb, Option, Some, refl, sym, ap, ◌∙◌, subst, inl, inr, get_or-set_same, get_or-set_other, arith}
+use Rattle.std.proofs.lemmas.Bool.{cases_eq, cases_lt, cases_order}
+use Rattle.std.proofs.lemmas.Bool.Decides.{eqb_tells}
+use Rattle.std.proofs.lemmas.List.{length-set, length_push, drop_more, get_or_append_left, get_or_push}
+use Rattle.std.proofs.lemmas.List.Sums.{sum_by-cons, count_by-le-length}
+use Rattle.std.proofs.lemmas.List.Elements.{All-from_get_or}
+use Rattle.std.proofs.lemmas.Option.{same_Some, slice_get_cases, slice_get_within, get_or_from_slice_get}
+use Rattle.batch.specs.declared.limits.TheConstants.{MAX_MODULES}
+use Rattle.batch.specs.declared.transfer.Transfer.{Transfer}
+use Rattle.link_graph.specs.declared.link.End.{End}
+use Rattle.link_graph.specs.declared.link.End.TheVariants.{Zero, Three}
+use Rattle.link_graph.specs.Counts.{module_at}
+use Rattle.link_graph.specs.Uses.{AreApart}
+use Rattle.link_graph.proofs.Users.{at_used}
+use Rattle.steady_schedule.specs.Matchings.{partner, AreMatched}
+use Rattle.steady_schedule.specs.Waiting.{sum_below, pair_count, place_of, count_at, HaveMost, AreCounted}
+use Rattle.steady_schedule.specs.Slots.{slot, IsWritten, AreOneOrApart, AreNumbered, AreNumberedFrom, AreWritten, AreReadTo, AreProper}
+use Rattle.steady_schedule.proofs.Matchings.{has_low, partner_low}
+use Rattle.steady_schedule.proofs.NeedChanges.{bit}
+use Rattle.steady_schedule.proofs.Sums.{at_most_sum}
+use Rattle.steady_schedule.proofs.Waiting.{same_place, count_here, count_other}
+
+-- ---- where slots lie
+
+prefix_less : (p q : ℕ) (f : ℕ → ℕ) → p < q → sum_below p f + f p ≤ sum_below q f
+unfolding sum_below
+prefix_less p zero f lt = absurd (omega arith)
+prefix_less p (suc q) f lt = elim (cases_eq p q) [
+  | inl e ↦ omega (arith, ap f e, ap (λ (n : ℕ). sum_below n f) e)
+  | inr ne ↦ omega (arith, prefix_less p q f (omega arith))
+]
+
+one_place : (p q i j : ℕ) (f : ℕ → ℕ) → i < f p → j < f q → sum_below p f + i ≡ sum_below q f + j → p ≡ q
+one_place p q i j f i_in j_in same = elim (cases_order p q) [
+  | inl e ↦ e
+  | inr other ↦ elim other [ inl lt ↦ absurd (omega (arith, prefix_less p q f lt)) | inr lt ↦ absurd (omega (arith, prefix_less q p f lt)) ]
+]
+
+module _ (totals : List ℕ) where
+  abbrev start : ℕ → ℕ → ℕ
+  start u v = sum_below (place_of u v) (slice_index totals)
+
+  pub same_slot : (u v i w x j : ℕ) → v < MAX_MODULES → x < MAX_MODULES → i < count_at totals u v → j < count_at totals w x → start u v + i ≡ start w x + j → (u ≡ w) × (v ≡ x)
+  same_slot u v i w x j v_in x_in i_in j_in same = same_place u v w x v_in x_in (one_place (place_of u v) (place_of w x) i j (slice_index totals) i_in j_in same)
+
+  pub slot_inside : (u v i : ℕ) → u < MAX_MODULES → v < MAX_MODULES → i ≤ count_at totals u v → start u v + i ≤ sum_below (MAX_MODULES * MAX_MODULES) (slice_index totals)
+  slot_inside u v i u_in v_in le =
+      let low : place_of u v < MAX_MODULES * MAX_MODULES = omega arith in
+      omega (arith, le, prefix_less (place_of u v) (MAX_MODULES * MAX_MODULES) (slice_index totals) low)
+
+-- ---- nothing is written
+
+pub none_numbered : (totals slots : List ℕ) → length slots ≡ sum_below (MAX_MODULES * MAX_MODULES) (slice_index totals) → AreNumbered totals totals slots 0
+none_numbered totals slots sized = record {
+  sized = sized;
+  within = λ u v u_in v_in. omega arith;
+  below = λ u v i w. absurd (omega (arith, w.done, w.there));
+  falling = λ u v i j w lt there. absurd (omega (arith, w.done, w.there));
+  apart = λ u v i w x j one other same. absurd (omega (arith, one.done, one.there));
+}
+
+-- ---- the numbers of one step
+
+pub begun : (totals left slots : List ℕ) (zeros : List (Option ℕ)) (first k : ℕ) → AreNumbered totals left slots first → AreNumberedFrom zeros first 0 totals left slots (first + k)
+begun totals left slots zeros first k a = record {
+  numbered = record { sized = a.sized; within = a.within; below = λ u v i w. omega (arith, a.below u v i w); falling = a.falling; apart = a.apart };
+  recent = λ u v i w le. absurd (omega (arith, le, a.below u v i w));
+}
+
+pub not_joined : (totals left slots : List ℕ) (zeros : List (Option ℕ)) (first n next : ℕ) → AreNumberedFrom zeros first n totals left slots next → AreNumberedFrom zeros first (n + 1) totals left slots next
+not_joined totals left slots zeros first n next a = record { numbered = a.numbered; recent = λ u v i w le. let r = a.recent u v i w le in (omega (arith, r.0), r.1) }
+
+module _ (totals left slots after : List ℕ) (zero three : List (Option ℕ)) (first k n y : ℕ) (m : AreMatched zero three) (joined : partner zero n ≡ Some y) (so_far : AreNumberedFrom zero first n totals left slots (first + k)) (places : length left ≡ MAX_MODULES * MAX_MODULES) (k_there : k ≤ count_at left n y) (w : AreWritten (sum_below (place_of n y) (slice_index totals) + (count_at left n y - k)) first k slots after) where
+  n_in : n < MAX_MODULES
+  n_in = has_low zero n y m.sized joined
+
+  y_in : y < MAX_MODULES
+  y_in = partner_low zero three n y m joined
+
+  abbrev c : ℕ
+  c = count_at left n y
+
+  abbrev less : List ℕ
+  less = set left (place_of n y) (c - k)
+
+  within_old : c ≤ count_at totals n y
+  within_old = so_far.numbered.within n y n_in y_in
+
+  abbrev IsNew : ℕ → ℕ → ℕ → Type 0
+  IsNew u v i = (u ≡ n) × (v ≡ y) × (i < c) × (slot totals after u v i + i + 1 ≡ first + c)
+
+  abbrev IsOld : ℕ → ℕ → ℕ → Type 0
+  IsOld u v i = IsWritten totals left u v i × (slot totals after u v i ≡ slot totals slots u v i)
+
+  here : (i : ℕ) → c - k ≤ i → i < count_at totals n y → IsNew n y i ⊎ IsOld n y i
+  here i done there = elim (cases_lt i c) [
+    | inl lt ↦ inr_new (omega (arith, w.here (start totals n y + i) (omega (arith, done)) (omega (arith, lt, k_there))), lt)
+    | inr le ↦ inr (record { zero_in = n_in; three_in = y_in; done = le; there = there }, w.behind (start totals n y + i) (omega (arith, le, k_there)))
+  ]
+    where
+      inr_new : (slot totals after n y i + i + 1 ≡ first + c) × (i < c) → IsNew n y i ⊎ IsOld n y i
+      inr_new p = inl (refl, refl, p.1, p.0)
+
+  elsewhere : (u v i : ℕ) → (n ≡ u → y ≡ v → ⊥) → IsWritten totals left u v i → slot totals after u v i ≡ slot totals slots u v i
+  elsewhere u v i other is =
+      let at : ℕ = start totals n y + (c - k) in
+      let p : ℕ = start totals u v + i in
+      elim (cases_lt p at) [
+        | inl lt ↦ w.before p lt
+        | inr from ↦ elim (cases_lt p (at + k)) [
+          | inr behind ↦ w.behind p behind
+          | inl inside ↦
+              let same = same_slot totals n y (p - start totals n y) u v i y_in is.three_in (omega (arith, inside, from, within_old, k_there)) is.there (omega (arith, from)) in
+              absurd (other same.0 same.1)
+        ]
+      ]
+
+  new_or_old : (u v i : ℕ) → IsWritten totals less u v i → IsNew u v i ⊎ IsOld u v i
+  new_or_old u v i is = elim (cases_eq n u) [
+    | inl e ↦ elim (cases_eq y v) [
+      | inl f ↦
+          let place : place_of n y ≡ place_of u v = omega (arith, e, f) in
+          let done : c - k ≤ i = omega (arith, is.done, count_here left n y (c - k) places n_in y_in, ap (λ (q : ℕ). get_or less q 0) place) in
+          subst (λ (a : ℕ). IsNew a v i ⊎ IsOld a v i) e (subst (λ (b : ℕ). IsNew n b i ⊎ IsOld n b i) f (here i done (subst (λ (b : ℕ). i < count_at totals n b) (sym f) (subst (λ (a : ℕ). i < count_at totals a v) (sym e) is.there))))
+      | inr ne ↦ old u v i is (λ _ f. ne f)
+    ]
+    | inr ne ↦ old u v i is (λ e _. ne e)
+  ]
+    where
+      old : (u v i : ℕ) → IsWritten totals less u v i → (n ≡ u → y ≡ v → ⊥) → IsNew u v i ⊎ IsOld u v i
+      old u v i is other =
+          let was : IsWritten totals left u v i = record { zero_in = is.zero_in; three_in = is.three_in; done = omega (arith, is.done, count_other left n y (c - k) places n_in y_in u v is.three_in other); there = is.there } in
+          inr (was, elsewhere u v i other was)
+
+  -- numbers of the pair that were written before are less
+  old_less : (i : ℕ) → IsWritten totals left n y i → slot totals slots n y i < first
+  old_less i is = elim (cases_lt (slot totals slots n y i) first) [ inl lt ↦ lt | inr le ↦ absurd (omega (arith, (so_far.recent n y i is le).0)) ]
+
+  falls : (u v i j : ℕ) → IsWritten totals less u v i → i < j → j < count_at totals u v → slot totals after u v j < slot totals after u v i
+  falls u v i j is lt there =
+      let later : IsWritten totals less u v j = record { zero_in = is.zero_in; three_in = is.three_in; done = omega (arith, is.done, lt); there = there } in
+      elim (new_or_old u v i is) [
+        | inl new ↦ elim (new_or_old u v j later) [
+          | inl new_too ↦ omega (arith, new.3, new_too.3, lt)
+          | inr old ↦
+              let less_old : slot totals slots u v j < first = subst (λ (a : ℕ). slot totals slots a v j < first) (sym new.0) (subst (λ (b : ℕ). slot totals slots n b j < first) (sym new.1) (old_less j (subst (λ (b : ℕ). IsWritten totals left n b j) new.1 (subst (λ (a : ℕ). IsWritten totals left a v j) new.0 old.0)))) in
+              omega (arith, less_old, old.1, new.2, new.3)
+        ]
+        | inr old ↦ elim (new_or_old u v j later) [
+          | inl new ↦
+              let done : c ≤ i = subst (λ (b : ℕ). count_at left n b ≤ i) new.1 (subst (λ (a : ℕ). count_at left a v ≤ i) new.0 old.0.done) in
+              absurd (omega (arith, done, new.2, lt))
+          | inr old_too ↦ omega (arith, old.1, old_too.1, so_far.numbered.falling u v i j old.0 lt there)
+        ]
+      ]
+
+  -- a pair that has the number of one that is new
+  new_apart : (u v i a b j : ℕ) → IsNew u v i → IsOld a b j → slot totals after u v i ≡ slot totals after a b j → (u ≢ a) × (v ≢ b)
+  new_apart u v i a b j new old same =
+      let r = so_far.recent a b j old.0 (omega (arith, same, new.2, new.3, old.1)) in (
+        λ e. omega (arith, r.0, e, new.0),
+        λ e.
+            let own : partner three y ≡ Some a = subst (λ (z : ℕ). partner three z ≡ Some a) (sym e ∙ new.1) ((m.each_other a b).0 r.1) in
+            omega (arith, r.0, same_Some a n (sym own ∙ (m.each_other n y).0 joined)),
+      )
+
+  are_apart : (u v i a b j : ℕ) → IsWritten totals less u v i → IsWritten totals less a b j → slot totals after u v i ≡ slot totals after a b j → AreOneOrApart u v a b
+  are_apart u v i a b j one other same = elim (new_or_old u v i one) [
+    | inl new ↦ elim (new_or_old a b j other) [
+      | inl new_too ↦ inl (new.0 ∙ sym new_too.0, new.1 ∙ sym new_too.1)
+      | inr old ↦ inr (new_apart u v i a b j new old same)
+    ]
+    | inr old ↦ elim (new_or_old a b j other) [
+      | inl new ↦ let p = new_apart a b j u v i new old (sym same) in inr (λ e. p.0 (sym e), λ e. p.1 (sym e))
+      | inr old_too ↦ so_far.numbered.apart u v i a b j old.0 old_too.0 (sym old.1 ∙ (same ∙ old_too.1))
+    ]
+  ]
+
+  pub joined_numbered : AreNumberedFrom zero first (n + 1) totals less after (first + k)
+  joined_numbered = record {
+    numbered = record {
+      sized = w.sized ∙ so_far.numbered.sized;
+      within = λ u v u_in v_in. elim (cases_eq n u) [
+        | inl e ↦ elim (cases_eq y v) [
+          | inl f ↦ subst (λ (a : ℕ). count_at less a v ≤ count_at totals a v) e (subst (λ (b : ℕ). count_at less n b ≤ count_at totals n b) f (omega (arith, count_here left n y (c - k) places n_in y_in, within_old)))
+          | inr ne ↦ omega (arith, count_other left n y (c - k) places n_in y_in u v v_in (λ _ f. ne f), so_far.numbered.within u v u_in v_in)
+        ]
+        | inr ne ↦ omega (arith, count_other left n y (c - k) places n_in y_in u v v_in (λ e _. ne e), so_far.numbered.within u v u_in v_in)
+      ];
+      below = λ u v i is. elim (new_or_old u v i is) [
+        | inl new ↦ omega (arith, new.3, new_done u v i is new, k_there)
+        | inr old ↦ omega (arith, old.1, so_far.numbered.below u v i old.0)
+      ];
+      falling = falls;
+      apart = are_apart;
+    };
+    recent = λ u v i is le. elim (new_or_old u v i is) [
+      | inl new ↦ (omega (arith, new.0), ap (partner zero) new.0 ∙ (joined ∙ ap (λ (z : ℕ). Some z) (sym new.1)))
+      | inr old ↦ let r = so_far.recent u v i old.0 (omega (arith, le, old.1)) in (omega (arith, r.0), r.1)
+    ];
+  }
+    where
+      new_done : (u v i : ℕ) → IsWritten totals less u v i → IsNew u v i → c - k ≤ i
+      new_done u v i is new =
+          let place : place_of u v ≡ place_of n y = omega (arith, new.0, new.1) in
+          omega (arith, is.done, count_here left n y (c - k) places n_in y_in, ap (λ (q : ℕ). get_or less q 0) place)
+
+-- ---- the numbers as they are read
+
+abbrev hits : ℕ → ℕ → Transfer → Bool
+hits u v x = x.initiator == u && x.responder == v
+
+hits_own : (x : Transfer) → bit (hits x.initiator x.responder x) ≡ 1
+hits_own x = rw (eq-eqb x.initiator x.initiator refl, eq-eqb x.responder x.responder refl) refl
+
+pub pair_behind : (batch : List Transfer) (t : ℕ) (x : Transfer) (u v : ℕ) → slice_get batch t ≡ Some x → pair_count (drop t batch) u v ≡ bit (hits u v x) + pair_count (drop (t + 1) batch) u v
+pair_behind batch t x u v here =
+    let split : drop t batch ≡ x ∷ drop (t + 1) batch = drop_more batch t x (slice_get_within batch t x here) ∙ ap (λ (y : Transfer). y ∷ drop (t + 1) batch) (get_or_from_slice_get batch t x x here) in
+    ap (λ (xs : List Transfer). pair_count xs u v) split ∙ sum_by-cons (λ y. bit (hits u v y)) x (drop (t + 1) batch)
+
+pair_drop : (batch : List Transfer) (n u v : ℕ) → pair_count (drop n batch) u v ≤ pair_count batch u v
+pair_drop batch zero u v = omega arith
+pair_drop [] (suc n) u v = omega arith
+pair_drop (x ∷ xs) (suc n) u v = omega (arith, pair_drop xs n u v, sum_by-cons (λ y. bit (hits u v y)) x xs)
+
+pair_later : (batch : List Transfer) (n m u v : ℕ) → n ≤ m → pair_count (drop m batch) u v ≤ pair_count (drop n batch) u v
+pair_later batch zero m u v le = pair_drop batch m u v
+pair_later batch (suc n) zero u v le = absurd (omega arith)
+pair_later [] (suc n) (suc m) u v le = omega arith
+pair_later (x ∷ xs) (suc n) (suc m) u v le = pair_later xs n m u v (omega arith)
+
+own_behind : (batch : List Transfer) (t : ℕ) (x : Transfer) → slice_get batch t ≡ Some x → pair_count (drop (t + 1) batch) x.initiator x.responder < pair_count batch x.initiator x.responder
+own_behind batch t x here = omega (arith, pair_behind batch t x x.initiator x.responder here, hits_own x, pair_drop batch t x.initiator x.responder)
+
+later_fewer : (batch : List Transfer) (t u : ℕ) (y : Transfer) → t < u → slice_get batch u ≡ Some y → pair_count (drop (u + 1) batch) y.initiator y.responder < pair_count (drop (t + 1) batch) y.initiator y.responder
+later_fewer batch t u y less there = omega (arith, pair_behind batch u y y.initiator y.responder there, hits_own y, pair_later batch (t + 1) u y.initiator y.responder (omega arith))
+
+other_modules : (e : End) (m : ℕ) (x y : Transfer) → (x.initiator ≢ y.initiator) × (x.responder ≢ y.responder) → module_at e x ≡ m → module_at e y ≡ m → ⊥
+other_modules Zero m x y apart one other = apart.0 (one ∙ sym other)
+other_modules Three m x y apart one other = apart.1 (one ∙ sym other)
+
+module _ (batch : List Transfer) (totals left slots numbers : List ℕ) (settings : ℕ) (counted : AreCounted batch totals) (done : (u v : ℕ) → u < MAX_MODULES → v < MAX_MODULES → count_at left u v ≡ 0) (n : AreNumbered totals left slots settings) (read : AreReadTo batch totals slots numbers (length batch)) (low : (t : ℕ) (x : Transfer) → slice_get batch t ≡ Some x → (x.initiator < MAX_MODULES) × (x.responder < MAX_MODULES)) where
+  -- how many of a pair stand behind transfer t
+  abbrev behind : ℕ → ℕ → ℕ → ℕ
+  behind t u v = pair_count (drop (t + 1) batch) u v
+
+  known : (t : ℕ) → t < length batch → (x : Transfer) × (slice_get batch t ≡ Some x)
+  known t t_in = elim (slice_get_cases batch t).1 [ inl p ↦ (p.0, p.2) | inr p ↦ absurd (omega (arith, p.0)) ]
+
+  own_written : (t : ℕ) (x : Transfer) → slice_get batch t ≡ Some x → IsWritten totals left x.initiator x.responder (behind t x.initiator x.responder)
+  own_written t x here =
+      let is_low = low t x here in record {
+        zero_in = is_low.0;
+        three_in = is_low.1;
+        done = omega (arith, done x.initiator x.responder is_low.0 is_low.1);
+        there = omega (arith, counted.at x.initiator x.responder is_low.0 is_low.1, own_behind batch t x here);
+      }
+
+  -- two transfers of one pair have different numbers
+  same_pair : (t u : ℕ) (x y : Transfer) → t < u → slice_get batch t ≡ Some x → slice_get batch u ≡ Some y → (x.initiator ≡ y.initiator) × (x.responder ≡ y.responder) → slot totals slots x.initiator x.responder (behind t x.initiator x.responder) ≡ slot totals slots y.initiator y.responder (behind u y.initiator y.responder) → ⊥
+  same_pair t u x y less here there one same =
+      let moved : slot totals slots y.initiator y.responder (behind u y.initiator y.responder) ≡ slot totals slots x.initiator x.responder (behind u x.initiator x.responder) = rw (one.0, one.1) refl in
+      let fewer : behind u x.initiator x.responder < behind t x.initiator x.responder = rw (one.0, one.1) (later_fewer batch t u y less there) in
+      let at_u : IsWritten totals left x.initiator x.responder (behind u x.initiator x.responder) = rw (one.0, one.1) (own_written u y there) in
+      omega (arith, same, moved, n.falling x.initiator x.responder (behind u x.initiator x.responder) (behind t x.initiator x.responder) at_u fewer (own_written t x here).there)
+
+  apart_transfers : (t u : ℕ) (x y : Transfer) → slice_get batch t ≡ Some x → slice_get batch u ≡ Some y → (x.initiator ≢ y.initiator) × (x.responder ≢ y.responder) → AreApart batch t u
+  apart_transfers t u x y here there apart = record {
+    none_common = λ link one other. other_modules link.end link.«module» x y apart (at_used batch t link x here one) (at_used batch u link y there other);
+  }
+
+  pub are_proper : AreProper batch settings numbers
+  are_proper = record {
+    sized = read.sized;
+    below = λ t t_in.
+        let x = known t t_in in
+        omega (arith, read.at t x.0 t_in x.1, n.below x.0.initiator x.0.responder (behind t x.0.initiator x.0.responder) (own_written t x.0 x.1));
+    apart = λ t u less u_in same.
+        let x = known t (omega arith) in
+        let y = known u u_in in
+        let x_at = read.at t x.0 (omega arith) x.1 in
+        let y_at = read.at u y.0 u_in y.1 in
+        apart_transfers t u x.0 y.0 x.1 y.1
+        (elim (n.apart x.0.initiator x.0.responder (behind t x.0.initiator x.0.responder) y.0.initiator y.0.responder (behind u y.0.initiator y.0.responder) (own_written t x.0 x.1) (own_written u y.0 y.1) (sym x_at ∙ (same ∙ y_at))) [
+          | inr apart ↦ apart
+          | inl one ↦ absurd (same_pair t u x.0 y.0 less x.1 y.1 one (sym x_at ∙ (same ∙ y_at)))
+        ]);
+  }
+
+-- ---- where slots begin
+
+pub starts_more : (totals starts : List ℕ) (n room : ℕ) → n < length starts → room ≡ sum_below n (slice_index totals) → ((p : ℕ) → p < n → get_or starts p 0 ≡ sum_below p (slice_index totals)) → (p : ℕ) → p < n + 1 → get_or (set starts n room) p 0 ≡ sum_below p (slice_index totals)
+starts_more totals starts n room n_in is so_far p lt = elim (cases_eq p n) [
+  | inl e ↦ ap (λ (q : ℕ). get_or (set starts n room) q 0) e ∙ (get_or-set_same starts n room 0 n_in ∙ (is ∙ ap (λ (q : ℕ). sum_below q (slice_index totals)) (sym e)))
+  | inr ne ↦ get_or-set_other starts n p room 0 ne ∙ so_far p (omega arith)
+]
+
+no_hit : (u v : ℕ) (x : Transfer) → (x.initiator ≡ u → x.responder ≡ v → ⊥) → bit (hits u v x) ≡ 0
+no_hit u v x other = elim (eqb_tells x.initiator u) [
+  | inl p ↦ elim (eqb_tells x.responder v) [ inl q ↦ absurd (other p.1 q.1) | inr q ↦ rw (p.0, q.0) refl ]
+  | inr p ↦ rw p.0 refl
+]
+
+at_end : (xs : List ℕ) (y i : ℕ) → i ≡ length xs → get_or (xs ++ y ∷ []) i 0 ≡ y
+at_end xs y i e = get_or_push xs y 0 i (sym e)
+
+-- ---- one pair at a time
+
+pub all_taken : (left : List ℕ) → HaveMost left 0 → (u v : ℕ) → u < MAX_MODULES → v < MAX_MODULES → count_at left u v ≡ 0
+all_taken left most u v u_in v_in = omega (arith, most Zero u u_in, at_most_sum MAX_MODULES v (λ w. count_at left u w) v_in)
+
+pub counted_less : (batch : List Transfer) (t : ℕ) (x : Transfer) (left : List ℕ) (a b : ℕ) → AreCounted (drop t batch) left → slice_get batch t ≡ Some x → a ≡ x.initiator → b ≡ x.responder → a < MAX_MODULES → b < MAX_MODULES → AreCounted (drop (t + 1) batch) (set left (place_of a b) (count_at left a b - 1))
+counted_less batch t x left a b c here start answer a_in b_in = record {
+  places = length-set left (place_of a b) (count_at left a b - 1) ∙ c.places;
+  at = λ u v u_in v_in.
+      let split = pair_behind batch t x u v here in
+      elim (cases_eq a u) [
+        | inl e ↦ elim (cases_eq b v) [
+          | inl f ↦
+              let place : place_of u v ≡ place_of a b = omega (arith, e, f) in
+              let one : bit (hits u v x) ≡ 1 = rw (eq-eqb x.initiator u (omega (arith, e, start)), eq-eqb x.responder v (omega (arith, f, answer))) refl in
+              omega (arith, split, one, c.at u v u_in v_in, count_here left a b (count_at left a b - 1) c.places a_in b_in, ap (λ (p : ℕ). get_or (set left (place_of a b) (count_at left a b - 1)) p 0) place, ap (λ (p : ℕ). get_or left p 0) place)
+          | inr ne ↦
+              let none : bit (hits u v x) ≡ 0 = no_hit u v x (λ _ g. ne (answer ∙ g)) in
+              omega (arith, split, none, c.at u v u_in v_in, count_other left a b (count_at left a b - 1) c.places a_in b_in u v v_in (λ _ g. ne g))
+        ]
+        | inr ne ↦
+            let none : bit (hits u v x) ≡ 0 = no_hit u v x (λ g _. ne (start ∙ g)) in
+            omega (arith, split, none, c.at u v u_in v_in, count_other left a b (count_at left a b - 1) c.places a_in b_in u v v_in (λ g _. ne g))
+      ];
+}
+
+-- the transfer waits
+pub own_waits : (batch : List Transfer) (t : ℕ) (x : Transfer) (left : List ℕ) (a b : ℕ) → AreCounted (drop t batch) left → slice_get batch t ≡ Some x → a ≡ x.initiator → b ≡ x.responder → a < MAX_MODULES → b < MAX_MODULES → count_at left a b ≡ 1 + pair_count (drop (t + 1) batch) a b
+own_waits batch t x left a b c here start answer a_in b_in =
+    let one : bit (hits a b x) ≡ 1 = rw (eq-eqb x.initiator a (sym start), eq-eqb x.responder b (sym answer)) refl in
+    omega (arith, c.at a b a_in b_in, pair_behind batch t x a b here, one)
+
+pub few_left : (batch : List Transfer) (t : ℕ) (totals left : List ℕ) (a b : ℕ) → AreCounted batch totals → AreCounted (drop t batch) left → a < MAX_MODULES → b < MAX_MODULES → count_at left a b ≤ count_at totals a b
+few_left batch t totals left a b all c a_in b_in = omega (arith, all.at a b a_in b_in, c.at a b a_in b_in, pair_drop batch t a b)
+
+pub read_more : (batch : List Transfer) (totals slots numbers : List ℕ) (n number : ℕ) (x : Transfer) → AreReadTo batch totals slots numbers n → slice_get batch n ≡ Some x → number ≡ slot totals slots x.initiator x.responder (pair_count (drop (n + 1) batch) x.initiator x.responder) → AreReadTo batch totals slots (numbers ++ number ∷ []) (n + 1)
+read_more batch totals slots numbers n number x r here is = record {
+  sized = omega (arith, length_push numbers number, r.sized);
+  at = λ t y lt there. elim (cases_eq t n) [
+    | inl e ↦
+        let same : x ≡ y = same_Some x y (sym here ∙ subst (λ (k : ℕ). slice_get batch k ≡ Some y) e there) in
+        let value : get_or (numbers ++ number ∷ []) t 0 ≡ number = at_end numbers number t (omega (arith, e, r.sized)) in
+        value ∙ (is ∙ subst (λ (z : Transfer). slot totals slots x.initiator x.responder (pair_count (drop (n + 1) batch) x.initiator x.responder) ≡ slot totals slots z.initiator z.responder (pair_count (drop (t + 1) batch) z.initiator z.responder)) same (ap (λ (k : ℕ). slot totals slots x.initiator x.responder (pair_count (drop (k + 1) batch) x.initiator x.responder)) (sym e)))
+    | inr ne ↦
+        let before : t < n = omega arith in
+        get_or_append_left numbers (number ∷ []) 0 t (omega (arith, before, r.sized)) ∙ r.at t y before there
+  ];
+}
+
+pub own_number : (batch : List Transfer) (totals slots : List ℕ) (t : ℕ) (x : Transfer) (left : List ℕ) (a b : ℕ) → AreCounted (drop t batch) left → slice_get batch t ≡ Some x → a ≡ x.initiator → b ≡ x.responder → a < MAX_MODULES → b < MAX_MODULES → slot totals slots a b (count_at left a b - 1) ≡ slot totals slots x.initiator x.responder (pair_count (drop (t + 1) batch) x.initiator x.responder)
+own_number batch totals slots t x left a b c here start answer a_in b_in =
+    let i : count_at left a b - 1 ≡ pair_count (drop (t + 1) batch) a b = omega (arith, own_waits batch t x left a b c here start answer a_in b_in) in
+    ap (λ (k : ℕ). slot totals slots a b k) i ∙ (ap (λ (u : ℕ). slot totals slots u b (pair_count (drop (t + 1) batch) u b)) start ∙ ap (λ (v : ℕ). slot totals slots x.initiator v (pair_count (drop (t + 1) batch) x.initiator v)) answer)
+
+pub counts_few : (batch : List Transfer) (counts : List ℕ) (most : ℕ) → AreCounted batch counts → length batch ≤ most → All (λ count. count ≤ most) counts
+counts_few batch counts most c few = All-from_get_or (λ count. count ≤ most) counts 0 (λ k lt.
+    let u : ℕ = k / MAX_MODULES in
+    let v : ℕ = k % MAX_MODULES in
+    let place : place_of u v ≡ k = omega arith in
+    let u_in : u < MAX_MODULES = omega (arith, c.places) in
+    omega (arith, few, ap (λ (p : ℕ). get_or counts p 0) place, c.at u v u_in (omega arith), count_by-le-length (hits u v) batch))

@@ -1,0 +1,134 @@
+-- Steps: which matchings can be held, and what waits after that.
+use Rattle.std.proofs.Common.{◌≡◌, ◌≢◌, ℕ, ◌+◌, ◌-◌, ◌*◌, ◌<◌, ◌≤◌, List, length, set, Bool, true, false, ◌&&◌, cond, Option, Some, None, refl, sym, ap, ◌∙◌, subst, inl, inr, arith}
+use Rattle.std.specs.Prelude.{nat_lt}
+use Rattle.std.proofs.lemmas.Bool.{cases_eq, lt-ltb, le-ltb, eq-eqb, ne_eqb, ltb-true}
+use Rattle.std.proofs.lemmas.Bool.Decides.{nat_tests}
+use Rattle.std.proofs.lemmas.List.{length-set}
+use Rattle.std.proofs.lemmas.Option.{none-some, same_Some}
+use Rattle.batch.specs.declared.limits.TheConstants.{MAX_MODULES}
+use Rattle.link_graph.specs.declared.link.End.TheVariants.{Zero, Three}
+use Rattle.steady_schedule.specs.Masks.{has_pair}
+use Rattle.steady_schedule.specs.Matchings.{partner, AreMatched}
+use Rattle.steady_schedule.specs.Searches.{AreNear}
+use Rattle.steady_schedule.specs.Covers.{IsSide}
+use Rattle.steady_schedule.specs.Waiting.{place_of, count_at, waiting, AreTold, HaveMost}
+use Rattle.steady_schedule.specs.Steps.{CanHoldAt, CanHold, is_partner, AreTaken}
+use Rattle.steady_schedule.proofs.Matchings.{has_low, partner_low}
+use Rattle.steady_schedule.proofs.Sums.{sum_same, sum_changed, partner_cases}
+use Rattle.steady_schedule.proofs.Waiting.{count_here, count_other}
+
+-- ---- the two sides
+
+module _ (counts zn zu tn tu : List ℕ) (t : AreTold counts zn zu tn tu) where
+  pub zero_side : (most : ℕ) → HaveMost counts most → IsSide zn zu most
+  zero_side most h = record { count = λ x y. count_at counts x y; near_is = t.near_zero; uses_is = t.uses_zero; few = λ y y_in. h Three y y_in }
+
+  pub three_side : (most : ℕ) → HaveMost counts most → IsSide tn tu most
+  three_side most h = record { count = λ x y. count_at counts y x; near_is = λ x y x_in y_in. t.near_three y x y_in x_in; uses_is = t.uses_three; few = λ y y_in. h Zero y y_in }
+
+  module _ (zero three : List (Option ℕ)) (m : AreMatched zero three) where
+    pub near_counts : (x y : ℕ) → AreNear zn zero → partner zero x ≡ Some y → 0 < count_at counts x y
+    near_counts x y near joined = ltb-true 0 (count_at counts x y) (sym (t.near_zero x y (has_low zero x y m.sized joined) (partner_low zero three x y m joined)) ∙ near x y joined)
+
+    pub near_from_counts : (x y : ℕ) → partner zero x ≡ Some y → 0 < count_at counts x y → has_pair zn x y ≡ true
+    near_from_counts x y joined some = t.near_zero x y (has_low zero x y m.sized joined) (partner_low zero three x y m joined) ∙ lt-ltb 0 (count_at counts x y) some
+
+    pub near_turned : AreNear zn zero → AreNear tn three
+    near_turned near y x joined =
+        let own = (m.each_other x y).1 joined in
+        t.near_three x y (has_low zero x y m.sized own) (partner_low zero three x y m own) ∙ lt-ltb 0 (count_at counts x y) (near_counts x y near own)
+
+    pub near_back : AreNear tn three → AreNear zn zero
+    near_back near x y joined =
+        let own = (m.each_other x y).0 joined in
+        let x_in = has_low zero x y m.sized joined in
+        let y_in = partner_low zero three x y m joined in
+        t.near_zero x y x_in y_in ∙ (sym (t.near_three x y x_in y_in) ∙ near y x own)
+
+-- ---- for how many settings
+
+pub held_less : (counts : List ℕ) (zero three : List (Option ℕ)) (most k l x : ℕ) → l ≤ k → CanHoldAt counts zero three most k x → CanHoldAt counts zero three most l x
+held_less counts zero three most k l x le h = record {
+  pair = λ y e. omega (arith, le, h.pair y e);
+  zero_out = λ e. omega (arith, le, h.zero_out e);
+  three_out = λ e. omega (arith, le, h.three_out e);
+}
+
+-- ---- what waits after that
+
+taken_of : (o : Option ℕ) (v old k : ℕ) → o ≡ Some v → cond (true && is_partner o v) (old - k) old ≡ old - k
+taken_of o v old k e = rw (e, eq-eqb v v refl) refl
+
+not_taken : (o : Option ℕ) (v old k : ℕ) (b : Bool) → (o ≡ Some v → ⊥) → cond (b && is_partner o v) (old - k) old ≡ old
+not_taken None v old k true other = refl
+not_taken None v old k false other = refl
+not_taken (Some w) v old k true other = rw (ne_eqb w v (λ e. other (ap (λ (n : ℕ). Some n) e))) refl
+not_taken (Some w) v old k false other = refl
+
+module _ (zero three : List (Option ℕ)) (m : AreMatched zero three) (k : ℕ) (old new : List ℕ) (taken : AreTaken zero k MAX_MODULES old new) where
+  at_pair : (x y : ℕ) → partner zero x ≡ Some y → count_at new x y ≡ count_at old x y - k
+  at_pair x y joined =
+      let x_in = has_low zero x y m.sized joined in
+      taken.at x y x_in (partner_low zero three x y m joined) ∙ (rw (lt-ltb x MAX_MODULES x_in) (taken_of (partner zero x) y (count_at old x y) k joined))
+
+  at_others : (x y : ℕ) → x < MAX_MODULES → y < MAX_MODULES → (partner zero x ≡ Some y → ⊥) → count_at new x y ≡ count_at old x y
+  at_others x y x_in y_in other = taken.at x y x_in y_in ∙ not_taken (partner zero x) y (count_at old x y) k (nat_lt x MAX_MODULES) other
+
+  module _ (most : ℕ) (h : HaveMost old most) (can : CanHold old zero three most k) where
+    zero_less : (x : ℕ) → x < MAX_MODULES → waiting new Zero x ≤ most - k
+    zero_less x x_in = partner_cases (partner zero x) (waiting new Zero x ≤ most - k)
+        (λ none. omega (arith, (can.each x x_in).zero_out none, sum_same MAX_MODULES (λ v. count_at new x v) (λ v. count_at old x v) (λ v v_in. at_others x v x_in v_in (λ e. none-some v (sym none ∙ e)))))
+        (λ y joined.
+        let changed = sum_changed MAX_MODULES y (λ v. count_at old x v) (λ v. count_at new x v) (partner_low zero three x y m joined) (λ v v_in ne. at_others x v x_in v_in (λ e. ne (same_Some v y (sym e ∙ joined)))) in
+        omega (arith, changed, at_pair x y joined, (can.each x x_in).pair y joined, h Zero x x_in))
+
+    three_less : (y : ℕ) → y < MAX_MODULES → waiting new Three y ≤ most - k
+    three_less y y_in = partner_cases (partner three y) (waiting new Three y ≤ most - k)
+        (λ none. omega (arith, (can.each y y_in).three_out none, sum_same MAX_MODULES (λ u. count_at new u y) (λ u. count_at old u y) (λ u u_in. at_others u y u_in y_in (λ e. none-some u (sym none ∙ (m.each_other u y).0 e)))))
+        (λ x back.
+        let joined = (m.each_other x y).1 back in
+        let x_in = has_low zero x y m.sized joined in
+        let changed = sum_changed MAX_MODULES x (λ u. count_at old u y) (λ u. count_at new u y) x_in (λ u u_in ne. at_others u y u_in y_in (λ e. ne (same_Some u x (sym ((m.each_other u y).0 e) ∙ back)))) in
+        omega (arith, changed, at_pair x y joined, (can.each x x_in).pair y joined, h Three y y_in))
+
+    pub less_waits : HaveMost new (most - k)
+    less_waits Zero x x_in = zero_less x x_in
+    less_waits Three y y_in = three_less y y_in
+
+-- ---- one module more
+
+pub none_taken : (zero : List (Option ℕ)) (k : ℕ) (old : List ℕ) → length old ≡ MAX_MODULES * MAX_MODULES → AreTaken zero k 0 old old
+none_taken zero k old places = record { places = places; at = λ u v u_in v_in. rw (le-ltb u 0 (omega arith)) refl }
+
+module _ (zero : List (Option ℕ)) (k n : ℕ) (old now : List ℕ) (so_far : AreTaken zero k n old now) (n_in : n < MAX_MODULES) where
+  still : (u v : ℕ) → u < MAX_MODULES → v < MAX_MODULES → u ≢ n → count_at now u v ≡ cond (nat_lt u (n + 1) && is_partner (partner zero u) v) (count_at old u v - k) (count_at old u v)
+  still u v u_in v_in ne =
+      let same : nat_lt u (n + 1) ≡ nat_lt u n = grind (arith, nat_tests) in
+      rw same (so_far.at u v u_in v_in)
+
+  pub untouched : (v : ℕ) → v < MAX_MODULES → count_at now n v ≡ count_at old n v
+  untouched v v_in = so_far.at n v n_in v_in ∙ (rw (le-ltb n n (omega arith)) refl)
+
+  pub free_taken : partner zero n ≡ None → AreTaken zero k (n + 1) old now
+  free_taken none = record {
+    places = so_far.places;
+    at = λ u v u_in v_in. elim (cases_eq u n) [
+      | inl e ↦ subst (λ (x : ℕ). count_at now x v ≡ cond (nat_lt x (n + 1) && is_partner (partner zero x) v) (count_at old x v - k) (count_at old x v)) (sym e) (untouched v v_in ∙ sym (not_taken (partner zero n) v (count_at old n v) k (nat_lt n (n + 1)) (λ j. none-some v (sym none ∙ j))))
+      | inr ne ↦ still u v u_in v_in ne
+    ];
+  }
+
+  pub joined_taken : (y : ℕ) → y < MAX_MODULES → partner zero n ≡ Some y → AreTaken zero k (n + 1) old (set now (place_of n y) (count_at now n y - k))
+  joined_taken y y_in joined =
+      let after : List ℕ = set now (place_of n y) (count_at now n y - k) in
+      record {
+        places = length-set now (place_of n y) (count_at now n y - k) ∙ so_far.places;
+        at = λ u v u_in v_in. elim (cases_eq u n) [
+          | inl e ↦ subst (λ (x : ℕ). count_at after x v ≡ cond (nat_lt x (n + 1) && is_partner (partner zero x) v) (count_at old x v - k) (count_at old x v)) (sym e)
+              (elim (cases_eq v y) [
+                | inl f ↦ subst (λ (w : ℕ). count_at after n w ≡ cond (nat_lt n (n + 1) && is_partner (partner zero n) w) (count_at old n w - k) (count_at old n w)) (sym f) (count_here now n y (count_at now n y - k) so_far.places n_in y_in ∙ (ap (λ (c : ℕ). c - k) (untouched y y_in) ∙ sym (rw (lt-ltb n (n + 1) (omega arith)) (taken_of (partner zero n) y (count_at old n y) k joined))))
+                | inr ne ↦ count_other now n y (count_at now n y - k) so_far.places n_in y_in n v v_in (λ _ g. ne (sym g)) ∙ (untouched v v_in ∙ sym (not_taken (partner zero n) v (count_at old n v) k (nat_lt n (n + 1)) (λ j. ne (same_Some v y (sym j ∙ joined)))))
+              ])
+          | inr ne ↦ count_other now n y (count_at now n y - k) so_far.places n_in y_in u v v_in (λ g _. ne (sym g)) ∙ still u v u_in v_in ne
+        ];
+      }

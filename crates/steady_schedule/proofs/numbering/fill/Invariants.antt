@@ -1,0 +1,14 @@
+use Rattle.std.proofs.Common.{◌-◌, ◌≤◌}
+use Rattle.steady_schedule.specs.Slots.{AreNumbered}
+use Rattle.steady_schedule.specs.Waiting.{HaveMost}
+use Rattle.steady_schedule.proofs.numbering.fill.Given as goal
+
+abbrev pub invariant-steps : goal.invariant-steps
+invariant-steps l = record {
+  few : l.first ≤ l.settings;
+  most : HaveMost l.left.counts (l.settings - l.first);
+  numbered : AreNumbered l.places.totals l.left.counts l.slots l.first;
+}
+
+abbrev pub decreases-steps : goal.decreases-steps
+decreases-steps l = l.settings - l.first

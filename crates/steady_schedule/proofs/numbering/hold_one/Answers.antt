@@ -1,0 +1,52 @@
+use Rattle.std.proofs.Common.{◌≡◌, ◌+◌, ◌-◌, ◌*◌, ◌<◌, List, length, set, slice_index, sym, ap, ◌∙◌, subst, ℕ, arith}
+use Rattle.batch.specs.declared.limits.TheConstants.{MAX_MODULES}
+use Rattle.std.proofs.lemmas.Option.{same_Some}
+use Rattle.steady_schedule.specs.Waiting.{sum_below, place_of, count_at}
+use Rattle.steady_schedule.specs.Slots.{IsHeld}
+use Rattle.steady_schedule.proofs.Matchings.{partner_low}
+use Rattle.steady_schedule.proofs.Slots.{slot_inside}
+use Rattle.steady_schedule.proofs.Waiting.{count_here}
+use Rattle.steady_schedule.proofs.numbering.hold_one.Goals as goal
+
+pub take-requires-clause-three_in : goal.take-requires-clause-three_in
+take-requires-clause-three_in c = partner_low c.args.matching.now.zero c.args.matching.now.three c.args.zero c.in-Some.three c.args.matching.now.matched c.in-Some.is
+
+pub take-requires-clause-there : goal.take-requires-clause-there
+take-requires-clause-there c = c.requires.there c.in-Some.three c.in-Some.is
+
+pub count-requires-clause-three_in : goal.count-requires-clause-three_in
+count-requires-clause-three_in c = partner_low c.args.matching.now.zero c.args.matching.now.three c.args.zero c.in-Some.three c.args.matching.now.matched c.in-Some.is
+
+pub slot-at-requires-clause-three_in : goal.slot-at-requires-clause-three_in
+slot-at-requires-clause-three_in c = partner_low c.args.matching.now.zero c.args.matching.now.three c.args.zero c.in-Some.three c.args.matching.now.matched c.in-Some.is
+
+module _ (totals left after : List ℕ) (u v k count : ℕ) (places : length left ≡ MAX_MODULES * MAX_MODULES) (u_in : u < MAX_MODULES) (v_in : v < MAX_MODULES) (taken : after ≡ set left (place_of u v) (count_at left u v - k)) (counted : count ≡ count_at after u v) where
+  is_less : count ≡ count_at left u v - k
+  is_less = counted ∙ (ap (λ (xs : List ℕ). count_at xs u v) taken ∙ count_here left u v (count_at left u v - k) places u_in v_in)
+
+pub slot-at-requires-clause-there : goal.slot-at-requires-clause-there
+slot-at-requires-clause-there c =
+    let l = c.args.left.now in
+    let m = c.args.matching.now in
+    let v_in = partner_low m.zero m.three c.args.zero c.in-Some.three m.matched c.in-Some.is in
+    omega (arith, is_less c.args.places.now.totals l.counts c.take.new.self.counts c.args.zero c.in-Some.three c.args.settings c.count.result l.told.places c.requires.zero_in v_in c.take.ensures c.count.ensures, c.requires.within.within c.args.zero c.in-Some.three c.requires.zero_in v_in)
+
+pub write_pair-requires-clause-room : goal.write_pair-requires-clause-room
+write_pair-requires-clause-room c =
+    let l = c.args.left.now in
+    let m = c.args.matching.now in
+    let totals = c.args.places.now.totals in
+    let v_in = partner_low m.zero m.three c.args.zero c.in-Some.three m.matched c.in-Some.is in
+    let less = is_less totals l.counts c.take.new.self.counts c.args.zero c.in-Some.three c.args.settings c.count.result l.told.places c.requires.zero_in v_in c.take.ensures c.count.ensures in
+    omega (arith, less, c.slot-at.ensures, c.requires.within.sized, c.requires.there c.in-Some.three c.in-Some.is, slot_inside totals c.args.zero c.in-Some.three (count_at l.counts c.args.zero c.in-Some.three) c.requires.zero_in v_in (c.requires.within.within c.args.zero c.in-Some.three c.requires.zero_in v_in))
+
+pub returns-clause-joined : goal.returns-clause-joined
+returns-clause-joined c y e =
+    let l = c.args.left.now in
+    let m = c.args.matching.now in
+    let totals = c.args.places.now.totals in
+    let v_in = partner_low m.zero m.three c.args.zero c.in-Some.three m.matched c.in-Some.is in
+    let less = is_less totals l.counts c.take.new.self.counts c.args.zero c.in-Some.three c.args.settings c.count.result l.told.places c.requires.zero_in v_in c.take.ensures c.count.ensures in
+    let place = c.slot-at.ensures ∙ ap (λ (n : ℕ). sum_below (place_of c.args.zero c.in-Some.three) (slice_index totals) + n) less in
+    subst (λ (z : ℕ). IsHeld totals c.args.zero z c.args.first c.args.settings l.counts c.args.slots.now c.take.new.self.counts c.write_pair.new.slots) (same_Some c.in-Some.three y (sym c.in-Some.is ∙ e))
+    (record { taken = c.take.ensures; written = rw place at c.write_pair.ensures })

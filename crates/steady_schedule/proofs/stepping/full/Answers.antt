@@ -1,0 +1,12 @@
+use Rattle.steady_schedule.proofs.Covers.{none_full, full_more, full_same}
+use Rattle.steady_schedule.proofs.stepping.full.Goals as goal
+use Rattle.steady_schedule.proofs.stepping.full.Goals.{then-uses-module, else-uses-module}
+
+pub loop-module-init : goal.loop-module-init
+loop-module-init c = none_full c.args.uses.now c.args.most
+
+pub loop-module-preserved : goal.loop-module-preserved
+loop-module-preserved c = elim c.if-uses-module.branch [
+  | then-uses-module w ↦ rw w.mask-is (full_more c.args.uses.now c.args.most c.loop-module.module c.loop-module.mask w.with_module-mask.result c.loop-module.invariant w.if-uses-module.true w.with_module-mask.ensures)
+  | else-uses-module w ↦ rw w.mask-is (full_same c.args.uses.now c.args.most c.loop-module.module c.loop-module.mask c.loop-module.invariant w.if-uses-module.false)
+]

@@ -1,0 +1,10 @@
+use Rattle.steady_schedule.specs.Covers.{KeepsPartners}
+use Rattle.steady_schedule.specs.Searches.{AreNear}
+use Rattle.steady_schedule.proofs.stepping.join_free.Given as goal
+
+abbrev pub invariant-loop-zero : goal.invariant-loop-zero
+invariant-loop-zero l = record {
+  near : AreNear l.left.zero.near l.matching.zero;
+  zero : KeepsPartners l.initial.matching.zero l.matching.zero;
+  three : KeepsPartners l.initial.matching.three l.matching.three;
+}

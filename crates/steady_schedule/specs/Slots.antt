@@ -1,0 +1,92 @@
+-- Slots for the numbers of settings. Those of a pair stand one behind the other, one for each of its
+-- transfers, and are written from the last to the first.
+use Rattle.std.specs.Prelude.{◌≡◌, ◌≢◌, ℕ, ◌+◌, ◌-◌, ◌*◌, ◌<◌, ◌≤◌, ◌⊎◌, List, length, Option, Some, slice_get, slice_index, set, drop}
+use Rattle.batch.specs.declared.limits.TheConstants.{MAX_MODULES, MAX_TRANSFERS}
+use Rattle.batch.specs.declared.transfer.Transfer.{Transfer}
+use Rattle.link_graph.specs.Uses.{AreApart}
+use Rattle.steady_schedule.specs.Matchings.{partner}
+use Rattle.steady_schedule.specs.Waiting.{sum_below, pair_count, place_of, count_at}
+
+-- where the slots of each place begin, and how many slots there are
+pub record AreStarts (totals starts : List ℕ) (room : ℕ) : Type 0 where
+  pub at : (p : ℕ) → p < MAX_MODULES * MAX_MODULES
+      → slice_index starts p ≡ sum_below p (slice_index totals)
+  pub all : room ≡ sum_below (MAX_MODULES * MAX_MODULES) (slice_index totals)
+  pub few : room ≤ MAX_MODULES * MAX_MODULES * MAX_TRANSFERS
+
+-- slot i of a pair
+abbrev pub slot : List ℕ → List ℕ → ℕ → ℕ → ℕ → ℕ
+slot totals slots u v i = slice_index slots (sum_below (place_of u v) (slice_index totals) + i)
+
+-- slot i of a pair is written: those of the transfers that wait aren't yet
+pub record IsWritten (totals left : List ℕ) (u v i : ℕ) : Type 0 where
+  pub zero_in : u < MAX_MODULES
+  pub three_in : v < MAX_MODULES
+  pub done : count_at left u v ≤ i
+  pub there : i < count_at totals u v
+
+-- two pairs are one, or have no common link
+abbrev pub AreOneOrApart : ℕ → ℕ → ℕ → ℕ → Type 0
+AreOneOrApart u v w x = ((u ≡ w) × (v ≡ x)) ⊎ ((u ≢ w) × (v ≢ x))
+
+-- The numbers that are written are below that of the next setting. Those of a pair fall, and two pairs
+-- with the same number have no common link.
+pub record AreNumbered (totals left slots : List ℕ) (next : ℕ) : Type 0 where
+  pub sized : length slots ≡ sum_below (MAX_MODULES * MAX_MODULES) (slice_index totals)
+  pub within : (u v : ℕ) → u < MAX_MODULES → v < MAX_MODULES
+      → count_at left u v ≤ count_at totals u v
+  pub below : (u v i : ℕ) → IsWritten totals left u v i → slot totals slots u v i < next
+  pub falling : (u v i j : ℕ) → IsWritten totals left u v i → i < j → j < count_at totals u v
+      → slot totals slots u v j < slot totals slots u v i
+  pub apart : (u v i w x j : ℕ) → IsWritten totals left u v i → IsWritten totals left w x j
+      → slot totals slots u v i ≡ slot totals slots w x j → AreOneOrApart u v w x
+
+-- the same while the matching is written: only joined pairs of the first n modules have numbers from
+-- `first` on
+pub record AreNumberedFrom (zero : List (Option ℕ)) (first n : ℕ) (totals left slots : List ℕ)
+    (next : ℕ) : Type 0 where
+  pub numbered : AreNumbered totals left slots next
+  pub recent : (u v i : ℕ) → IsWritten totals left u v i → first ≤ slot totals slots u v i
+      → (u < n) × (partner zero u ≡ Some v)
+
+-- the numbers from `first` on are written into k slots, the first of them last
+pub record AreWritten (at first k : ℕ) (old new : List ℕ) : Type 0 where
+  pub sized : length new ≡ length old
+  pub here : (p : ℕ) → at ≤ p → p < at + k → slice_index new p + p + 1 ≡ first + (at + k)
+  pub before : (p : ℕ) → p < at → slice_index new p ≡ slice_index old p
+  pub behind : (p : ℕ) → at + k ≤ p → slice_index new p ≡ slice_index old p
+
+-- there is a slot for each transfer, and no more of them wait than there are
+pub record AreWithin (totals left slots : List ℕ) : Type 0 where
+  pub sized : length slots ≡ sum_below (MAX_MODULES * MAX_MODULES) (slice_index totals)
+  pub within : (u v : ℕ) → u < MAX_MODULES → v < MAX_MODULES
+      → count_at left u v ≤ count_at totals u v
+
+-- k transfers of the pair are taken, and the numbers from `first` on are written for them
+pub record IsHeld (totals : List ℕ) (u v first k : ℕ) (left slots left_now slots_now : List ℕ)
+    : Type 0 where
+  pub taken : left_now ≡ set left (place_of u v) (count_at left u v - k)
+  pub written : AreWritten
+      (sum_below (place_of u v) (slice_index totals) + (count_at left u v - k)) first k slots slots_now
+
+-- nothing has changed
+pub record IsHeldAs (left slots left_now slots_now : List ℕ) : Type 0 where
+  pub same : left_now ≡ left
+  pub slots_same : slots_now ≡ slots
+
+-- each of the first n transfers has the number of its slot, the last that is left of its pair's
+pub record AreReadTo (batch : List Transfer) (totals slots numbers : List ℕ) (n : ℕ) : Type 0 where
+  pub sized : length numbers ≡ n
+  pub at : (t : ℕ) (x : Transfer) → t < n → slice_get batch t ≡ Some x
+      → slice_index numbers t
+      ≡ slot totals slots x.initiator x.responder
+      (pair_count (drop (t + 1) batch) x.initiator x.responder)
+
+-- ---- the numbers of all transfers
+
+-- each transfer has a number below that of the settings, and two with the same one have no common link
+pub record AreProper (batch : List Transfer) (settings : ℕ) (numbers : List ℕ) : Type 0 where
+  pub sized : length numbers ≡ length batch
+  pub below : (t : ℕ) → t < length batch → slice_index numbers t < settings
+  pub apart : (t u : ℕ) → t < u → u < length batch → slice_index numbers t ≡ slice_index numbers u
+      → AreApart batch t u
