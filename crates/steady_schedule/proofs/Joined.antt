@@ -92,12 +92,14 @@ fresh_module batch setting i v x lt here matching =
 
 -- ---- two tables
 
-within_from_joined : (xs ys : List Transfer) (joined : List (Option ℕ)) → AreJoined xs joined → AreJoined ys joined → join_within xs ys ≡ true
-within_from_joined xs ys joined one other =
+pub within_from : (xs ys : List Transfer) → ((u v : ℕ) → join xs u v ≡ true → join ys u v ≡ true) → join_within xs ys ≡ true
+within_from xs ys implied =
     list_all-from_AllPass (λ x. join ys x.initiator x.responder) xs (λ k d lt.
     let x : Transfer = get_or xs k d in
-    let itself : join xs x.initiator x.responder ≡ true = list_any_at (λ (y : Transfer). y.initiator == x.initiator && y.responder == x.responder) xs k d lt (and_from (x.initiator == x.initiator) (x.responder == x.responder) (eq-eqb x.initiator x.initiator refl) (eq-eqb x.responder x.responder refl)) in
-    (other.just x.initiator x.responder).0 ((one.just x.initiator x.responder).1 itself))
+    implied x.initiator x.responder (list_any_at (λ (y : Transfer). y.initiator == x.initiator && y.responder == x.responder) xs k d lt (and_from (x.initiator == x.initiator) (x.responder == x.responder) (eq-eqb x.initiator x.initiator refl) (eq-eqb x.responder x.responder refl))))
+
+within_from_joined : (xs ys : List Transfer) (joined : List (Option ℕ)) → AreJoined xs joined → AreJoined ys joined → join_within xs ys ≡ true
+within_from_joined xs ys joined one other = within_from xs ys (λ u v t. (other.just u v).0 ((one.just u v).1 t))
 
 pub same_from_joined : (batch : List Transfer) (one other : List ℕ) (joined before : List (Option ℕ)) → joined ≡ before → AreJoined (members batch one) before → AreJoined (members batch other) joined → join_same batch one other ≡ true
 same_from_joined batch one other joined before same one_is other_is =

@@ -12,4 +12,6 @@ pub mod Covers
 pub mod Waiting
 pub mod Steps
 pub mod Slots
+pub mod Potential
+pub mod Heads
 pub mod Plans

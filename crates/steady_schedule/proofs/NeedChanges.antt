@@ -30,11 +30,11 @@ use Rattle.steady_schedule.specs.Partners.{joins_to, partners}
 abbrev pub bit : Bool → ℕ
 bit b = cond b 1 0
 
-count_within : (n : ℕ) (f g h : ℕ → Bool) → ((i : ℕ) → bit (f i) ≤ bit (g i) + bit (h i)) → count_below n f ≤ count_below n g + count_below n h
+pub count_within : (n : ℕ) (f g h : ℕ → Bool) → ((i : ℕ) → bit (f i) ≤ bit (g i) + bit (h i)) → count_below n f ≤ count_below n g + count_below n h
 count_within zero f g h is = omega arith
 count_within (suc n) f g h is = omega (arith, is n, count_within n f g h is)
 
-count_none : (n : ℕ) (f : ℕ → Bool) → ((i : ℕ) → f i ≡ false) → count_below n f ≡ 0
+pub count_none : (n : ℕ) (f : ℕ → Bool) → ((i : ℕ) → f i ≡ false) → count_below n f ≡ 0
 count_none zero f none = refl
 count_none (suc n) f none = omega (arith, ap bit (none n), count_none n f none)
 
@@ -43,7 +43,7 @@ count_past zero k c le = refl
 count_past (suc n) k c le = grind (arith, nat_tests, count_past n k c (omega arith))
 
 -- a number is at most one of those below n
-count_one : (n k : ℕ) (c : Bool) → count_below n (λ i. c && k == i) ≤ bit c
+pub count_one : (n k : ℕ) (c : Bool) → count_below n (λ i. c && k == i) ≤ bit c
 count_one zero k c = omega arith
 count_one (suc n) k c = elim (eqb_tells k n) [
   | inl p ↦ grind (arith, nat_tests, count_past n k c (omega (arith, p.1)))

@@ -1,11 +1,11 @@
 -- Slots, as the numbers of some settings are written, and as they are read.
-use Rattle.std.proofs.Common.{◌≡◌, ◌≢◌, ◌==◌, ℕ, zero, suc, ◌+◌, ◌-◌, ◌*◌, ◌/◌, ◌%◌, ◌<◌, ◌≤◌, ◌⊎◌, All, List, [], ◌∷◌, ◌++◌, length, get_or, set, drop, slice_index, slice_get, Bool, ◌&&◌, eq-eqb, Option, Some, refl, sym, ap, ◌∙◌, subst, inl, inr, get_or-set_same, get_or-set_other, arith}
-use Rattle.std.proofs.lemmas.Bool.{cases_eq, cases_lt, cases_order}
+use Rattle.std.proofs.Common.{◌≡◌, ◌≢◌, ◌==◌, ℕ, zero, suc, ◌+◌, ◌-◌, ◌*◌, ◌/◌, ◌%◌, ◌<◌, ◌≤◌, ◌⊎◌, All, List, [], ◌∷◌, ◌++◌, length, get_or, set, drop, slice_index, slice_get, Bool, ◌&&◌, eq-eqb, Option, Some, refl, sym, ap, ◌∙◌, subst, inl, inr, get_or-set_same, get_or-set_other, arith, None, true}
+use Rattle.std.proofs.lemmas.Bool.{cases_eq, cases_lt, cases_order, cases_Bool, and_parts, eqb-true}
 use Rattle.std.proofs.lemmas.Bool.Decides.{eqb_tells}
 use Rattle.std.proofs.lemmas.List.{length-set, length_push, drop_more, get_or_append_left, get_or_push}
 use Rattle.std.proofs.lemmas.List.Sums.{sum_by-cons, count_by-le-length}
 use Rattle.std.proofs.lemmas.List.Elements.{All-from_get_or}
-use Rattle.std.proofs.lemmas.Option.{same_Some, slice_get_cases, slice_get_within, get_or_from_slice_get}
+use Rattle.std.proofs.lemmas.Option.{same_Some, slice_get_cases, slice_get_within, get_or_from_slice_get, none-some}
 use Rattle.batch.specs.declared.limits.TheConstants.{MAX_MODULES}
 use Rattle.batch.specs.declared.transfer.Transfer.{Transfer}
 use Rattle.link_graph.specs.declared.link.End.{End}
@@ -15,7 +15,7 @@ use Rattle.link_graph.specs.Uses.{AreApart}
 use Rattle.link_graph.proofs.Users.{at_used}
 use Rattle.steady_schedule.specs.Matchings.{partner, AreMatched}
 use Rattle.steady_schedule.specs.Waiting.{sum_below, pair_count, place_of, count_at, HaveMost, AreCounted}
-use Rattle.steady_schedule.specs.Slots.{slot, IsWritten, AreOneOrApart, AreNumbered, AreNumberedFrom, AreWritten, AreReadTo, AreProper}
+use Rattle.steady_schedule.specs.Slots.{slot, IsWritten, AreOneOrApart, AreNumbered, AreNumberedFrom, AreWritten, AreReadTo, AreProper, HasNumber, KeepNumbers, AreSteps, JoinsAs, HaveHeads, AreFewSteps}
 use Rattle.steady_schedule.proofs.Matchings.{has_low, partner_low}
 use Rattle.steady_schedule.proofs.NeedChanges.{bit}
 use Rattle.steady_schedule.proofs.Sums.{at_most_sum}
@@ -66,10 +66,18 @@ pub begun : (totals left slots : List ℕ) (zeros : List (Option ℕ)) (first k 
 begun totals left slots zeros first k a = record {
   numbered = record { sized = a.sized; within = a.within; below = λ u v i w. omega (arith, a.below u v i w); falling = a.falling; apart = a.apart };
   recent = λ u v i w le. absurd (omega (arith, le, a.below u v i w));
+  each = λ u v d u_in. absurd (omega arith);
 }
 
-pub not_joined : (totals left slots : List ℕ) (zeros : List (Option ℕ)) (first n next : ℕ) → AreNumberedFrom zeros first n totals left slots next → AreNumberedFrom zeros first (n + 1) totals left slots next
-not_joined totals left slots zeros first n next a = record { numbered = a.numbered; recent = λ u v i w le. let r = a.recent u v i w le in (omega (arith, r.0), r.1) }
+pub not_joined : (totals left slots : List ℕ) (zeros : List (Option ℕ)) (first n next : ℕ) → partner zeros n ≡ None → AreNumberedFrom zeros first n totals left slots next → AreNumberedFrom zeros first (n + 1) totals left slots next
+not_joined totals left slots zeros first n next none a = record {
+  numbered = a.numbered;
+  recent = λ u v i w le. let r = a.recent u v i w le in (omega (arith, r.0), r.1);
+  each = λ u v d u_in joined. elim (cases_eq u n) [
+    | inl e ↦ absurd (none-some v (sym none ∙ subst (λ (x : ℕ). partner zeros x ≡ Some v) e joined))
+    | inr ne ↦ a.each u v d (omega arith) joined
+  ];
+}
 
 module _ (totals left slots after : List ℕ) (zero three : List (Option ℕ)) (first k n y : ℕ) (m : AreMatched zero three) (joined : partner zero n ≡ Some y) (so_far : AreNumberedFrom zero first n totals left slots (first + k)) (places : length left ≡ MAX_MODULES * MAX_MODULES) (k_there : k ≤ count_at left n y) (w : AreWritten (sum_below (place_of n y) (slice_index totals) + (count_at left n y - k)) first k slots after) where
   n_in : n < MAX_MODULES
@@ -177,6 +185,22 @@ module _ (totals left slots after : List ℕ) (zero three : List (Option ℕ)) (
     ]
   ]
 
+  still_written : (u v i : ℕ) → IsWritten totals left u v i → IsWritten totals less u v i
+  still_written u v i is = record {
+    zero_in = is.zero_in;
+    three_in = is.three_in;
+    done = elim (cases_eq n u) [
+      | inl e ↦ elim (cases_eq y v) [
+        | inl f ↦
+            let place : place_of n y ≡ place_of u v = omega (arith, e, f) in
+            omega (arith, is.done, count_here left n y (c - k) places n_in y_in, ap (λ (q : ℕ). get_or less q 0) place, ap (λ (q : ℕ). get_or left q 0) place)
+        | inr ne ↦ omega (arith, is.done, count_other left n y (c - k) places n_in y_in u v is.three_in (λ _ f. ne f))
+      ]
+      | inr ne ↦ omega (arith, is.done, count_other left n y (c - k) places n_in y_in u v is.three_in (λ e _. ne e))
+    ];
+    there = is.there;
+  }
+
   pub joined_numbered : AreNumberedFrom zero first (n + 1) totals less after (first + k)
   joined_numbered = record {
     numbered = record {
@@ -199,12 +223,86 @@ module _ (totals left slots after : List ℕ) (zero three : List (Option ℕ)) (
       | inl new ↦ (omega (arith, new.0), ap (partner zero) new.0 ∙ (joined ∙ ap (λ (z : ℕ). Some z) (sym new.1)))
       | inr old ↦ let r = so_far.recent u v i old.0 (omega (arith, le, old.1)) in (omega (arith, r.0), r.1)
     ];
+    each = λ u v d u_in own from to. elim (cases_eq u n) [
+      | inl e ↦
+          let same : y ≡ v = same_Some y v (sym joined ∙ subst (λ (a : ℕ). partner zero a ≡ Some v) e own) in
+          subst (λ (a : ℕ). HasNumber totals less after d a v) (sym e) (subst (λ (b : ℕ). HasNumber totals less after d n b) same (new_has d from to))
+      | inr ne ↦
+          let has = so_far.each u v d (omega arith) own from to in
+          let is = still_written u v has.0 has.1 in
+          (has.0, is, elsewhere u v has.0 (λ f _. ne (sym f)) has.1 ∙ has.2)
+    ];
   }
     where
       new_done : (u v i : ℕ) → IsWritten totals less u v i → IsNew u v i → c - k ≤ i
       new_done u v i is new =
           let place : place_of u v ≡ place_of n y = omega (arith, new.0, new.1) in
           omega (arith, is.done, count_here left n y (c - k) places n_in y_in, ap (λ (q : ℕ). get_or less q 0) place)
+
+      new_has : (d : ℕ) → first ≤ d → d < first + k → HasNumber totals less after d n y
+      new_has d from to =
+          let i : ℕ = c - 1 - (d - first) in
+          let in_c : i < c = omega (arith, from, to, k_there) in
+          let done : c - k ≤ i = omega (arith, from, to, k_there) in (
+            i,
+            record { zero_in = n_in; three_in = y_in; done = omega (arith, done, count_here left n y (c - k) places n_in y_in); there = omega (arith, in_c, within_old) },
+            omega (arith, from, to, k_there, w.here (start totals n y + i) (omega (arith, done)) (omega (arith, in_c, k_there))),
+          )
+
+  -- the numbers before it stay
+  pub joined_keeps : KeepNumbers totals first left slots less after
+  joined_keeps = record {
+    old = λ u v d lt has. elim (new_or_old u v has.0 (still_written u v has.0 has.1)) [
+      | inl new ↦
+          let done : c ≤ has.0 = subst (λ (b : ℕ). count_at left n b ≤ has.0) new.1 (subst (λ (a : ℕ). count_at left a v ≤ has.0) new.0 has.1.done) in
+          absurd (omega (arith, done, new.2))
+      | inr old ↦ (has.0, still_written u v has.0 has.1, old.1 ∙ has.2)
+    ];
+    only = λ u v d lt has. elim (new_or_old u v has.0 has.1) [
+      | inl new ↦ absurd (omega (arith, lt, new.2, new.3, has.2))
+      | inr old ↦ (has.0, old.0, sym old.1 ∙ has.2)
+    ];
+  }
+
+pub keep_all : (totals : List ℕ) (first : ℕ) (left slots : List ℕ) → KeepNumbers totals first left slots left slots
+keep_all totals first left slots = record { old = λ u v d lt has. has; only = λ u v d lt has. has }
+
+pub keep_both : (totals : List ℕ) (first : ℕ) (left slots left_now slots_now left_then slots_then : List ℕ) → KeepNumbers totals first left slots left_now slots_now → KeepNumbers totals first left_now slots_now left_then slots_then → KeepNumbers totals first left slots left_then slots_then
+keep_both totals first left slots left_now slots_now left_then slots_then one other = record {
+  old = λ u v d lt has. other.old u v d lt (one.old u v d lt has);
+  only = λ u v d lt has. one.only u v d lt (other.only u v d lt has);
+}
+
+-- ---- one step more
+
+pub no_steps : (totals left slots : List ℕ) → AreSteps totals left slots 0 []
+no_steps totals left slots d lt = absurd (omega arith)
+
+module _ (totals left slots left_now slots_now : List ℕ) (zeros : List (Option ℕ)) (first k : ℕ) (heads : List ℕ) (so_far : AreSteps totals left slots first heads) (kept : KeepNumbers totals first left slots left_now slots_now) (now : AreNumberedFrom zeros first MAX_MODULES totals left_now slots_now (first + k)) where
+  -- just the joined pairs have a number of the step
+  on_step : (d u v : ℕ) → first ≤ d → d < first + k → HasNumber totals left_now slots_now d u v → partner zeros u ≡ Some v
+  on_step d u v from to has = (now.recent u v has.0 has.1 (omega (arith, from, has.2))).1
+
+  same_on_step : (d e : ℕ) → first ≤ d → d < first + k → first ≤ e → e < first + k → (u v : ℕ) → HasNumber totals left_now slots_now d u v → HasNumber totals left_now slots_now e u v
+  same_on_step d e d_from d_to e_from e_to u v has = now.each u v e has.1.zero_in (on_step d u v d_from d_to has) e_from e_to
+
+  pub one_step : AreSteps totals left_now slots_now (first + k) (first ∷ heads)
+  one_step d lt = elim (cases_lt d first) [
+    | inl before ↦ elim (so_far d before) [
+      | inl head ↦ inl (suc head.0, omega (arith, head.1), head.2)
+      | inr same ↦ inr (
+        same.0,
+        λ u v. (
+          λ has. kept.old u v d before ((same.1 u v).0 (kept.only u v (d - 1) (omega arith) has)),
+          λ has. kept.old u v (d - 1) (omega arith) ((same.1 u v).1 (kept.only u v d before has)),
+        ),
+      )
+    ]
+    | inr from ↦ elim (cases_eq d first) [
+      | inl e ↦ inl (0, omega arith, sym e)
+      | inr ne ↦ inr (omega arith, λ u v. (same_on_step (d - 1) d (omega arith) (omega arith) from lt u v, same_on_step d (d - 1) from lt (omega arith) (omega arith) u v))
+    ]
+  ]
 
 -- ---- the numbers as they are read
 
@@ -239,6 +337,22 @@ later_fewer batch t u y less there = omega (arith, pair_behind batch u y y.initi
 other_modules : (e : End) (m : ℕ) (x y : Transfer) → (x.initiator ≢ y.initiator) × (x.responder ≢ y.responder) → module_at e x ≡ m → module_at e y ≡ m → ⊥
 other_modules Zero m x y apart one other = apart.0 (one ∙ sym other)
 other_modules Three m x y apart one other = apart.1 (one ∙ sym other)
+
+-- the transfer of a pair behind which so many of its transfers stand
+find_behind : (batch : List Transfer) (u v i : ℕ) → i < pair_count batch u v → (t : ℕ) × (x : Transfer) × (slice_get batch t ≡ Some x) × (hits u v x ≡ true) × (pair_count (drop (t + 1) batch) u v ≡ i)
+find_behind [] u v i lt = absurd (omega arith)
+find_behind (x ∷ xs) u v i lt =
+    let split = sum_by-cons (λ y. bit (hits u v y)) x xs in
+    elim (cases_lt i (pair_count xs u v)) [
+      | inl later ↦
+          let r = find_behind xs u v i later in
+          let more : suc r.0 + 1 ≡ suc (r.0 + 1) = omega arith in
+          (suc r.0, r.1, r.2, r.3, ap (λ (n : ℕ). pair_count (drop n (x ∷ xs)) u v) more ∙ r.4)
+      | inr here ↦ elim (cases_Bool (hits u v x)) [
+        | inl hit ↦ (0, x, refl, hit, omega (arith, split, ap bit hit, here))
+        | inr none ↦ absurd (omega (arith, split, ap bit none, here))
+      ]
+    ]
 
 module _ (batch : List Transfer) (totals left slots numbers : List ℕ) (settings : ℕ) (counted : AreCounted batch totals) (done : (u v : ℕ) → u < MAX_MODULES → v < MAX_MODULES → count_at left u v ≡ 0) (n : AreNumbered totals left slots settings) (read : AreReadTo batch totals slots numbers (length batch)) (low : (t : ℕ) (x : Transfer) → slice_get batch t ≡ Some x → (x.initiator < MAX_MODULES) × (x.responder < MAX_MODULES)) where
   -- how many of a pair stand behind transfer t
@@ -286,6 +400,34 @@ module _ (batch : List Transfer) (totals left slots numbers : List ℕ) (setting
           | inr apart ↦ apart
           | inl one ↦ absurd (same_pair t u x.0 y.0 less x.1 y.1 one (sym x_at ∙ (same ∙ y_at)))
         ]);
+  }
+
+  -- just the pairs that have a number of slots have one of transfers
+  joins_from : (d u v : ℕ) → JoinsAs batch numbers d u v → HasNumber totals left slots d u v
+  joins_from d u v j =
+      let is = own_written j.t j.x j.here in
+      let at = read.at j.t j.x (slice_get_within batch j.t j.x j.here) j.here in
+      subst (λ (a : ℕ). HasNumber totals left slots d a v) j.zero_is (subst (λ (b : ℕ). HasNumber totals left slots d j.x.initiator b) j.three_is (behind j.t j.x.initiator j.x.responder, is, sym at ∙ j.number))
+
+  joins_to_number : (d u v : ℕ) → HasNumber totals left slots d u v → JoinsAs batch numbers d u v
+  joins_to_number d u v has =
+      let is = has.1 in
+      let f = find_behind batch u v has.0 (omega (arith, is.there, counted.at u v is.zero_in is.three_in)) in
+      let both = and_parts (f.1.initiator == u) (f.1.responder == v) f.3 in
+      let a = eqb-true f.1.initiator u both.0 in
+      let b = eqb-true f.1.responder v both.1 in
+      let at = read.at f.0 f.1 (slice_get_within batch f.0 f.1 f.2) f.2 in
+      let moved : slot totals slots f.1.initiator f.1.responder (behind f.0 f.1.initiator f.1.responder) ≡ slot totals slots u v (behind f.0 u v) = rw (a, b) refl in
+      record { t = f.0; x = f.1; here = f.2; zero_is = a; three_is = b; number = at ∙ (moved ∙ (ap (slot totals slots u v) f.4 ∙ has.2)) }
+
+  pub heads_read : (spare most : ℕ) → AreFewSteps totals left slots settings spare most → HaveHeads batch settings most numbers
+  heads_read spare most f = record {
+    heads = f.heads;
+    few = omega (arith, f.few);
+    same = λ d lt. elim (f.steps d lt) [
+      | inl head ↦ inl head
+      | inr same ↦ inr (same.0, λ u v. (λ j. joins_to_number d u v ((same.1 u v).0 (joins_from (d - 1) u v j)), λ j. joins_to_number (d - 1) u v ((same.1 u v).1 (joins_from d u v j))))
+    ];
   }
 
 -- ---- where slots begin
@@ -366,3 +508,6 @@ counts_few batch counts most c few = All-from_get_or (λ count. count ≤ most) 
     let place : place_of u v ≡ k = omega arith in
     let u_in : u < MAX_MODULES = omega (arith, c.places) in
     omega (arith, few, ap (λ (p : ℕ). get_or counts p 0) place, c.at u v u_in (omega arith), count_by-le-length (hits u v) batch))
+
+pub fewer_heads : (batch : List Transfer) (settings few most : ℕ) (numbers : List ℕ) → few ≤ most → HaveHeads batch settings few numbers → HaveHeads batch settings most numbers
+fewer_heads batch settings few most numbers le h = record { heads = h.heads; few = omega (arith, h.few, le); same = h.same }

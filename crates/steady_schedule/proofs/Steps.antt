@@ -1,7 +1,7 @@
 -- Steps: which matchings can be held, and what waits after that.
 use Rattle.std.proofs.Common.{◌≡◌, ◌≢◌, ℕ, ◌+◌, ◌-◌, ◌*◌, ◌<◌, ◌≤◌, List, length, set, Bool, true, false, ◌&&◌, cond, Option, Some, None, refl, sym, ap, ◌∙◌, subst, inl, inr, arith}
-use Rattle.std.specs.Prelude.{nat_lt}
-use Rattle.std.proofs.lemmas.Bool.{cases_eq, lt-ltb, le-ltb, eq-eqb, ne_eqb, ltb-true}
+use Rattle.std.specs.Prelude.{min, ◌⊎◌, nat_lt}
+use Rattle.std.proofs.lemmas.Bool.{cases_eq, lt-ltb, le-ltb, eq-eqb, ne_eqb, ltb-true, cases_lt}
 use Rattle.std.proofs.lemmas.Bool.Decides.{nat_tests}
 use Rattle.std.proofs.lemmas.List.{length-set}
 use Rattle.std.proofs.lemmas.Option.{none-some, same_Some}
@@ -12,10 +12,12 @@ use Rattle.steady_schedule.specs.Matchings.{partner, AreMatched}
 use Rattle.steady_schedule.specs.Searches.{AreNear}
 use Rattle.steady_schedule.specs.Covers.{IsSide}
 use Rattle.steady_schedule.specs.Waiting.{place_of, count_at, waiting, AreTold, HaveMost}
-use Rattle.steady_schedule.specs.Steps.{CanHoldAt, CanHold, is_partner, AreTaken}
+use Rattle.steady_schedule.specs.Steps.{CanHoldAt, CanHold, is_partner, AreTaken, IsTight}
+use Rattle.steady_schedule.specs.Steps.IsTight.{all, by_pair, by_zero, by_three}
 use Rattle.steady_schedule.proofs.Matchings.{has_low, partner_low}
 use Rattle.steady_schedule.proofs.Sums.{sum_same, sum_changed, partner_cases}
 use Rattle.steady_schedule.proofs.Waiting.{count_here, count_other}
+use Rattle.link_graph.specs.declared.link.End.{End}
 
 -- ---- the two sides
 
@@ -66,7 +68,7 @@ not_taken (Some w) v old k true other = rw (ne_eqb w v (λ e. other (ap (λ (n :
 not_taken (Some w) v old k false other = refl
 
 module _ (zero three : List (Option ℕ)) (m : AreMatched zero three) (k : ℕ) (old new : List ℕ) (taken : AreTaken zero k MAX_MODULES old new) where
-  at_pair : (x y : ℕ) → partner zero x ≡ Some y → count_at new x y ≡ count_at old x y - k
+  pub at_pair : (x y : ℕ) → partner zero x ≡ Some y → count_at new x y ≡ count_at old x y - k
   at_pair x y joined =
       let x_in = has_low zero x y m.sized joined in
       taken.at x y x_in (partner_low zero three x y m joined) ∙ (rw (lt-ltb x MAX_MODULES x_in) (taken_of (partner zero x) y (count_at old x y) k joined))
@@ -74,26 +76,50 @@ module _ (zero three : List (Option ℕ)) (m : AreMatched zero three) (k : ℕ) 
   at_others : (x y : ℕ) → x < MAX_MODULES → y < MAX_MODULES → (partner zero x ≡ Some y → ⊥) → count_at new x y ≡ count_at old x y
   at_others x y x_in y_in other = taken.at x y x_in y_in ∙ not_taken (partner zero x) y (count_at old x y) k (nat_lt x MAX_MODULES) other
 
-  module _ (most : ℕ) (h : HaveMost old most) (can : CanHold old zero three most k) where
-    zero_less : (x : ℕ) → x < MAX_MODULES → waiting new Zero x ≤ most - k
-    zero_less x x_in = partner_cases (partner zero x) (waiting new Zero x ≤ most - k)
-        (λ none. omega (arith, (can.each x x_in).zero_out none, sum_same MAX_MODULES (λ v. count_at new x v) (λ v. count_at old x v) (λ v v_in. at_others x v x_in v_in (λ e. none-some v (sym none ∙ e)))))
-        (λ y joined.
-        let changed = sum_changed MAX_MODULES y (λ v. count_at old x v) (λ v. count_at new x v) (partner_low zero three x y m joined) (λ v v_in ne. at_others x v x_in v_in (λ e. ne (same_Some v y (sym e ∙ joined)))) in
-        omega (arith, changed, at_pair x y joined, (can.each x x_in).pair y joined, h Zero x x_in))
+  -- with as many transfers fewer where a link is joined, and as many where it isn't
+  pub zero_joined : (x y : ℕ) → partner zero x ≡ Some y → k ≤ count_at old x y → waiting new Zero x + k ≡ waiting old Zero x
+  zero_joined x y joined le =
+      let x_in = has_low zero x y m.sized joined in
+      let changed = sum_changed MAX_MODULES y (λ v. count_at old x v) (λ v. count_at new x v) (partner_low zero three x y m joined) (λ v v_in ne. at_others x v x_in v_in (λ e. ne (same_Some v y (sym e ∙ joined)))) in
+      omega (arith, changed, at_pair x y joined, le)
 
-    three_less : (y : ℕ) → y < MAX_MODULES → waiting new Three y ≤ most - k
-    three_less y y_in = partner_cases (partner three y) (waiting new Three y ≤ most - k)
-        (λ none. omega (arith, (can.each y y_in).three_out none, sum_same MAX_MODULES (λ u. count_at new u y) (λ u. count_at old u y) (λ u u_in. at_others u y u_in y_in (λ e. none-some u (sym none ∙ (m.each_other u y).0 e)))))
+  pub zero_free : (x : ℕ) → x < MAX_MODULES → partner zero x ≡ None → waiting new Zero x ≡ waiting old Zero x
+  zero_free x x_in none = sum_same MAX_MODULES (λ v. count_at new x v) (λ v. count_at old x v) (λ v v_in. at_others x v x_in v_in (λ e. none-some v (sym none ∙ e)))
+
+  pub three_joined : (x y : ℕ) → partner zero x ≡ Some y → k ≤ count_at old x y → waiting new Three y + k ≡ waiting old Three y
+  three_joined x y joined le =
+      let y_in = partner_low zero three x y m joined in
+      let changed = sum_changed MAX_MODULES x (λ u. count_at old u y) (λ u. count_at new u y) (has_low zero x y m.sized joined) (λ u u_in ne. at_others u y u_in y_in (λ e. ne (same_Some u x (sym ((m.each_other u y).0 e) ∙ (m.each_other x y).0 joined)))) in
+      omega (arith, changed, at_pair x y joined, le)
+
+  pub three_free : (y : ℕ) → y < MAX_MODULES → partner three y ≡ None → waiting new Three y ≡ waiting old Three y
+  three_free y y_in none = sum_same MAX_MODULES (λ u. count_at new u y) (λ u. count_at old u y) (λ u u_in. at_others u y u_in y_in (λ e. none-some u (sym none ∙ (m.each_other u y).0 e)))
+
+  pub fewer : (x y : ℕ) → x < MAX_MODULES → y < MAX_MODULES → count_at new x y ≤ count_at old x y
+  fewer x y x_in y_in = partner_cases (partner zero x) (count_at new x y ≤ count_at old x y)
+      (λ none. omega (arith, at_others x y x_in y_in (λ e. none-some y (sym none ∙ e))))
+      (λ z joined. elim (cases_eq z y) [
+        | inl e ↦ omega (arith, at_pair x y (joined ∙ ap (λ (n : ℕ). Some n) e))
+        | inr ne ↦ omega (arith, at_others x y x_in y_in (λ e. ne (same_Some z y (sym joined ∙ e))))
+      ])
+
+  module _ (most : ℕ) (h : HaveMost old most) (can : CanHold old zero three most k) where
+    -- how many wait of a link: as many fewer, or as many, which are few
+    pub waits_now : (end : End) (x : ℕ) → x < MAX_MODULES → (waiting new end x + k ≡ waiting old end x) ⊎ ((waiting new end x ≡ waiting old end x) × (waiting old end x + k ≤ most))
+    waits_now Zero x x_in = partner_cases (partner zero x) ((waiting new Zero x + k ≡ waiting old Zero x) ⊎ ((waiting new Zero x ≡ waiting old Zero x) × (waiting old Zero x + k ≤ most)))
+        (λ none. inr (zero_free x x_in none, (can.each x x_in).zero_out none))
+        (λ y joined. inl (zero_joined x y joined ((can.each x x_in).pair y joined)))
+    waits_now Three y y_in = partner_cases (partner three y) ((waiting new Three y + k ≡ waiting old Three y) ⊎ ((waiting new Three y ≡ waiting old Three y) × (waiting old Three y + k ≤ most)))
+        (λ none. inr (three_free y y_in none, (can.each y y_in).three_out none))
         (λ x back.
         let joined = (m.each_other x y).1 back in
-        let x_in = has_low zero x y m.sized joined in
-        let changed = sum_changed MAX_MODULES x (λ u. count_at old u y) (λ u. count_at new u y) x_in (λ u u_in ne. at_others u y u_in y_in (λ e. ne (same_Some u x (sym ((m.each_other u y).0 e) ∙ back)))) in
-        omega (arith, changed, at_pair x y joined, (can.each x x_in).pair y joined, h Three y y_in))
+        inl (three_joined x y joined ((can.each x (has_low zero x y m.sized joined)).pair y joined)))
 
     pub less_waits : HaveMost new (most - k)
-    less_waits Zero x x_in = zero_less x x_in
-    less_waits Three y y_in = three_less y y_in
+    less_waits end x x_in = elim (waits_now end x x_in) [
+      | inl less ↦ omega (arith, less, h end x x_in)
+      | inr same ↦ omega (arith, same.0, same.1)
+    ]
 
 -- ---- one module more
 
@@ -132,3 +158,18 @@ module _ (zero : List (Option ℕ)) (k n : ℕ) (old now : List ℕ) (so_far : A
           | inr ne ↦ count_other now n y (count_at now n y - k) so_far.places n_in y_in u v v_in (λ g _. ne (sym g)) ∙ still u v u_in v_in ne
         ];
       }
+
+-- ---- no longer
+
+pub tighter : (counts : List ℕ) (zero three : List (Option ℕ)) (most old z t k n : ℕ) → n < MAX_MODULES → k ≡ min (min old z) t → IsTight counts zero three most old → ((y : ℕ) → partner zero n ≡ Some y → z ≡ count_at counts n y) → (partner zero n ≡ None → waiting counts Zero n + z ≡ most) → ((y : ℕ) → partner three n ≡ Some y → t ≡ most) → (partner three n ≡ None → waiting counts Three n + t ≡ most) → IsTight counts zero three most k
+tighter counts zero three most old z t k n n_in is tight z_pair z_out t_pair t_out = elim (cases_lt k old) [
+  | inr le ↦ subst (IsTight counts zero three most) (omega arith) tight
+  | inl lt ↦ elim (cases_lt k z) [
+    | inr le ↦ partner_cases (partner zero n) (IsTight counts zero three most k)
+        (λ none. by_zero n n_in none (omega (arith, z_out none)))
+        (λ y joined. by_pair n y joined (omega (arith, z_pair y joined)))
+    | inl lt_too ↦ partner_cases (partner three n) (IsTight counts zero three most k)
+        (λ none. by_three n n_in none (omega (arith, t_out none)))
+        (λ y joined. all (omega (arith, t_pair y joined)))
+  ]
+]

@@ -1,12 +1,6 @@
 -- Settings that are made of the numbers of settings that transfers have.
 use Rattle.std.specs.Prelude.{◌≡◌, ℕ, ◌<◌, ◌≤◌, List, [], ◌∷◌, ◌++◌, length, All, AllPairs, Contains, slice_index, slice_index_or, slice_set}
-use Rattle.std.specs.Global.{Vec}
 use Rattle.link_graph.specs.Schedules.{times}
-
--- so many numbers, each below that of the settings
-pub record AreNumbers (count settings : ℕ) (numbers : Vec ℕ) : Type 0 where
-  pub sized : length numbers.items ≡ count
-  pub below : All (λ k. k < settings) numbers.items
 
 -- so many lists, each of them empty
 pub record AreEmpty (lists : List (List ℕ)) (count : ℕ) : Type 0 where

@@ -10,4 +10,6 @@ pub mod Waiting
 pub mod Covers
 pub mod Steps
 pub mod Slots
+pub mod Potentials
+pub mod Bounds
 pub mod Laws

@@ -1,6 +1,6 @@
 -- Slots for the numbers of settings. Those of a pair stand one behind the other, one for each of its
 -- transfers, and are written from the last to the first.
-use Rattle.std.specs.Prelude.{◌≡◌, ◌≢◌, ℕ, ◌+◌, ◌-◌, ◌*◌, ◌<◌, ◌≤◌, ◌⊎◌, List, length, Option, Some, slice_get, slice_index, set, drop}
+use Rattle.std.specs.Prelude.{◌≡◌, ◌≢◌, ◌↔◌, Contains, ℕ, ◌+◌, ◌-◌, ◌*◌, ◌<◌, ◌≤◌, ◌⊎◌, List, length, Option, Some, slice_get, slice_index, set, drop}
 use Rattle.batch.specs.declared.limits.TheConstants.{MAX_MODULES, MAX_TRANSFERS}
 use Rattle.batch.specs.declared.transfer.Transfer.{Transfer}
 use Rattle.link_graph.specs.Uses.{AreApart}
@@ -41,13 +41,44 @@ pub record AreNumbered (totals left slots : List ℕ) (next : ℕ) : Type 0 wher
   pub apart : (u v i w x j : ℕ) → IsWritten totals left u v i → IsWritten totals left w x j
       → slot totals slots u v i ≡ slot totals slots w x j → AreOneOrApart u v w x
 
--- the same while the matching is written: only joined pairs of the first n modules have numbers from
--- `first` on
+-- some slot of the pair has the number d
+abbrev pub HasNumber : List ℕ → List ℕ → List ℕ → ℕ → ℕ → ℕ → Type 0
+HasNumber totals left slots d u v =
+    (i : ℕ) × IsWritten totals left u v i × (slot totals slots u v i ≡ d)
+
+-- The same while the matching is written: just joined pairs of the first n modules have each number
+-- from `first` on.
 pub record AreNumberedFrom (zero : List (Option ℕ)) (first n : ℕ) (totals left slots : List ℕ)
     (next : ℕ) : Type 0 where
   pub numbered : AreNumbered totals left slots next
   pub recent : (u v i : ℕ) → IsWritten totals left u v i → first ≤ slot totals slots u v i
       → (u < n) × (partner zero u ≡ Some v)
+  pub each : (u v d : ℕ) → u < n → partner zero u ≡ Some v → first ≤ d → d < next
+      → HasNumber totals left slots d u v
+
+-- the same pairs have the numbers below `first`
+pub record KeepNumbers (totals : List ℕ) (first : ℕ) (left slots left_now slots_now : List ℕ)
+    : Type 0 where
+  pub old : (u v d : ℕ) → d < first → HasNumber totals left slots d u v
+      → HasNumber totals left_now slots_now d u v
+  pub only : (u v d : ℕ) → d < first → HasNumber totals left_now slots_now d u v
+      → HasNumber totals left slots d u v
+
+-- the same pairs have two numbers
+abbrev pub HaveSame : List ℕ → List ℕ → List ℕ → ℕ → ℕ → Type 0
+HaveSame totals left slots d e =
+    (u v : ℕ) → HasNumber totals left slots d u v ↔ HasNumber totals left slots e u v
+
+-- each number but the heads has the pairs of the one before
+abbrev pub AreSteps : List ℕ → List ℕ → List ℕ → ℕ → List ℕ → Type 0
+AreSteps totals left slots next heads =
+    (d : ℕ) → d < next → Contains heads d ⊎ ((0 < d) × HaveSame totals left slots (d - 1) d)
+
+-- the steps are few: with some to spare, their heads are at most so many
+pub record AreFewSteps (totals left slots : List ℕ) (next spare most : ℕ) : Type 0 where
+  pub heads : List ℕ
+  pub few : length heads + spare ≤ most
+  pub steps : AreSteps totals left slots next heads
 
 -- the numbers from `first` on are written into k slots, the first of them last
 pub record AreWritten (at first k : ℕ) (old new : List ℕ) : Type 0 where
@@ -90,3 +121,19 @@ pub record AreProper (batch : List Transfer) (settings : ℕ) (numbers : List �
   pub below : (t : ℕ) → t < length batch → slice_index numbers t < settings
   pub apart : (t u : ℕ) → t < u → u < length batch → slice_index numbers t ≡ slice_index numbers u
       → AreApart batch t u
+
+-- a transfer of the pair has the number d
+pub record JoinsAs (batch : List Transfer) (numbers : List ℕ) (d u v : ℕ) : Type 0 where
+  pub t : ℕ
+  pub x : Transfer
+  pub here : slice_get batch t ≡ Some x
+  pub zero_is : x.initiator ≡ u
+  pub three_is : x.responder ≡ v
+  pub number : slice_index numbers t ≡ d
+
+-- there are at most so many heads, and each number but these has the pairs of the one before
+pub record HaveHeads (batch : List Transfer) (settings most : ℕ) (numbers : List ℕ) : Type 0 where
+  pub heads : List ℕ
+  pub few : length heads ≤ most
+  pub same : (d : ℕ) → d < settings → Contains heads d
+      ⊎ ((0 < d) × ((u v : ℕ) → JoinsAs batch numbers (d - 1) u v ↔ JoinsAs batch numbers d u v))

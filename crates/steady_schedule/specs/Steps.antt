@@ -12,11 +12,23 @@ pub record CanHoldAt (counts : List ℕ) (zero three : List (Option ℕ)) (most 
   pub zero_out : partner zero x ≡ None → waiting counts Zero x + k ≤ most
   pub three_out : partner three x ≡ None → waiting counts Three x + k ≤ most
 
--- the same for all modules, and k is some of the settings
+-- It can't be held longer: these are all settings, or a pair has no more transfers, or a link that
+-- isn't joined is full then.
+pub data IsTight (counts : List ℕ) (zero three : List (Option ℕ)) (most k : ℕ) : Type 0 where
+  all : k ≡ most → IsTight counts zero three most k
+  by_pair : (x y : ℕ) → partner zero x ≡ Some y → k ≡ count_at counts x y
+      → IsTight counts zero three most k
+  by_zero : (x : ℕ) → x < MAX_MODULES → partner zero x ≡ None → waiting counts Zero x + k ≡ most
+      → IsTight counts zero three most k
+  by_three : (x : ℕ) → x < MAX_MODULES → partner three x ≡ None → waiting counts Three x + k ≡ most
+      → IsTight counts zero three most k
+
+-- The matching can be held for k of the settings, and no longer.
 pub record CanHold (counts : List ℕ) (zero three : List (Option ℕ)) (most k : ℕ) : Type 0 where
   pub some : 0 < k
   pub few : k ≤ most
   pub each : (x : ℕ) → x < MAX_MODULES → CanHoldAt counts zero three most k x
+  pub tight : IsTight counts zero three most k
 
 -- whether a partner is module v
 abbrev pub is_partner : Option ℕ → ℕ → Bool

@@ -6,8 +6,9 @@
 //! nor so long that a link outside of it has more of them than settings are left then. The next step begins
 //! with what stands (Inukai 1979; Gopal and Wong 1985, for satellites that switch beams).
 //!
-//! So the settings are as many as the transfers of the busiest link, and no schedule has fewer. How often
-//! the switch changes is counted over the schedule itself.
+//! So the settings are as many as the transfers of the busiest link, and no schedule has fewer. Each step
+//! uses a pair up, or makes a link full, and that stays full: so the switch changes at most as often as
+//! there are pairs of links and links in use. How often it does is counted over the schedule itself.
 #![tactic(auto)]
 
 mod changing;

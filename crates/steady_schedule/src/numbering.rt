@@ -6,7 +6,9 @@ ghost use Rattle.batch.specs.declared.limits.TheConstants.{MAX_MODULES, MAX_TRAN
 ghost use Rattle.link_graph.specs.declared.link.Link.{Link};
 ghost use Rattle.link_graph.specs.Counts.{uses};
 ghost use Rattle.steady_schedule.specs.Matchings.{partner};
-ghost use Rattle.steady_schedule.specs.Slots.{slot, AreStarts, AreWithin, IsHeld, IsHeldAs, AreNumbered, AreWritten, AreReadTo, AreProper};
+ghost use Rattle.steady_schedule.specs.Bounds.{most_changes, IsReachedBy};
+ghost use Rattle.steady_schedule.specs.Potentials.{potential, IsReached};
+ghost use Rattle.steady_schedule.specs.Slots.{slot, AreStarts, AreWithin, IsHeld, IsHeldAs, AreNumbered, AreNumberedFrom, KeepNumbers, AreFewSteps, AreWritten, AreReadTo, AreProper, HaveHeads};
 ghost use Rattle.steady_schedule.specs.Steps.{AreTaken};
 ghost use Rattle.steady_schedule.specs.Waiting.{sum_below, place_of, count_at, AreCounted, HaveMost};
 
@@ -114,7 +116,10 @@ fn hold(
     requires few { first + settings ≤ MAX_TRANSFERS }
     requires numbered { AreNumbered places.now.totals left.old.counts slots.old first }
     ensures taken { AreTaken matching.now.zero settings MAX_MODULES left.old.counts left.new.counts }
-    ensures numbered { AreNumbered places.now.totals left.new.counts slots.new (first + settings) }
+    ensures numbered { AreNumberedFrom matching.now.zero first MAX_MODULES
+        places.now.totals left.new.counts slots.new (first + settings) }
+    ensures kept { KeepNumbers places.now.totals first
+        left.old.counts slots.old left.new.counts slots.new }
 {
     for zero in 0..MAX_MODULES {
         hold_one(left, matching, places, slots, zero, first, settings);
@@ -124,11 +129,14 @@ fn hold(
 /// Writes the numbers of their settings for all transfers that wait.
 fn fill(left: &mut Left, places: &Places, slots: &mut [usize], settings: usize)
     requires most { HaveMost left.old.counts settings }
+    requires reached { IsReached left.old.counts settings }
     requires few { settings ≤ MAX_TRANSFERS }
     requires numbered { AreNumbered places.now.totals left.old.counts slots.old 0 }
     ensures done { (u v : ℕ) → u < MAX_MODULES → v < MAX_MODULES
         → count_at left.new.counts u v ≡ 0 }
     ensures numbered { AreNumbered places.now.totals left.new.counts slots.new settings }
+    ensures steps { AreFewSteps places.now.totals left.new.counts slots.new settings 0
+        (potential places.now.totals left.old.counts settings) }
 {
     let mut matching = Matching::none();
     let mut first = 0;
@@ -197,17 +205,22 @@ fn number_by(
 ) -> Result<Vec<usize>, AllocError>
     requires batch { IsBatch graph.now }
     requires counted { AreCounted graph.now places.now.totals }
+    requires whole { left.old.counts ≡ places.now.totals }
     requires most { HaveMost left.old.counts settings }
+    requires reached { IsReached left.old.counts settings }
     requires few { settings ≤ MAX_TRANSFERS }
-    requires numbered { AreNumbered places.now.totals left.old.counts slots.old 0 }
-    ensures { IfOk result (λ numbers. AreProper graph.now settings numbers.items) }
+    requires room { length slots.old
+        ≡ sum_below (MAX_MODULES * MAX_MODULES) (slice_index places.now.totals) }
+    ensures proper { IfOk result (λ numbers. AreProper graph.now settings numbers.items) }
+    ensures heads { IfOk result (λ numbers.
+        HaveHeads graph.now settings (most_changes graph.now) numbers.items) }
 {
     fill(left, places, slots, settings);
     read_all(alloc, graph, places, slots)
 }
 
-/// The number of its setting for each transfer, where no link has more transfers than there are
-/// settings.
+/// The number of its setting for each transfer, where the busiest link has as many transfers as there
+/// are settings.
 pub(crate) fn number_all(
     alloc: Global,
     graph: &LinkGraph,
@@ -215,8 +228,11 @@ pub(crate) fn number_all(
 ) -> Result<Vec<usize>, AllocError>
     requires batch { IsBatch graph.now }
     requires most { (link : Link) → uses graph.now link ≤ settings }
+    requires reached { IsReachedBy graph.now settings }
     requires few { settings ≤ MAX_TRANSFERS }
-    ensures { IfOk result (λ numbers. AreProper graph.now settings numbers.items) }
+    ensures proper { IfOk result (λ numbers. AreProper graph.now settings numbers.items) }
+    ensures heads { IfOk result (λ numbers.
+        HaveHeads graph.now settings (most_changes graph.now) numbers.items) }
 {
     let mut left = Left::of(graph);
     let places = Places::of(&left.counts);

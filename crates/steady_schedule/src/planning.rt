@@ -7,6 +7,8 @@ ghost use Rattle.link_graph.specs.declared.link.Link.{Link};
 ghost use Rattle.link_graph.specs.Certificates.{IsCertificate};
 ghost use Rattle.link_graph.specs.Counts.{uses};
 ghost use Rattle.link_graph.specs.Schedules.{IsScheduleOf};
+ghost use Rattle.steady_schedule.specs.Bounds.{most_changes, IsReachedBy};
+ghost use Rattle.steady_schedule.specs.Changes.{changes};
 ghost use Rattle.steady_schedule.specs.Plans.{NamesBusiest, IsSteady};
 
 use crate::changing::count_changes;
@@ -29,14 +31,17 @@ fn certificate_of(graph: &LinkGraph) -> Result<Certificate, AllocError>
     Ok(Certificate::of(link, transfers).unwrap())
 }
 
-/// A schedule of so many settings, where no link has more uses.
+/// A schedule of so many settings, where the busiest link has as many uses.
 fn schedule_of(alloc: Global, graph: &LinkGraph, settings: usize) -> Result<Schedule, AllocError>
     requires batch { IsBatch graph.now }
     requires most { (link : Link) → uses graph.now link ≤ settings }
+    requires reached { IsReachedBy graph.now settings }
     requires few { settings ≤ MAX_TRANSFERS }
     ensures schedule { IfOk result (IsScheduleOf graph.now) }
     ensures ascending { IfOk result (All (AllPairs (λ t u. t < u))) }
     ensures count { IfOk result (λ schedule. length schedule ≡ settings) }
+    ensures changes { IfOk result (λ schedule.
+        changes graph.now schedule ≤ most_changes graph.now) }
 {
     let numbers = number_all(alloc, graph, settings)?;
     let lists = gather(alloc, settings, &numbers)?;
@@ -50,6 +55,7 @@ fn plan_of(graph: LinkGraph, schedule: Schedule, certificate: Certificate) -> St
     requires ascending { All (AllPairs (λ t u. t < u)) schedule }
     ensures batch { result.batch ≡ graph }
     ensures steady { IsSteady result }
+    ensures changes { result.changes ≡ changes graph schedule }
 {
     let changes = count_changes(&graph, &schedule);
     let demanding = most_partners(&graph);
@@ -58,10 +64,12 @@ fn plan_of(graph: LinkGraph, schedule: Schedule, certificate: Certificate) -> St
 
 /// Plans a batch: a schedule with as few settings as any, and a switch that changes seldom.
 ///
-/// Takes time that grows with the numbers of transfers and of settings.
+/// It changes at most once for each pair of links in use together, and once for each link in use. Takes
+/// time that grows with the number of transfers.
 pub fn steady(alloc: Global, batch: &Batch) -> Result<Steady, AllocError>
     ensures batch { IfOk result (λ steady. steady.batch ≡ batch.now) }
     ensures steady { IfOk result IsSteady }
+    ensures few { IfOk result (λ steady. steady.changes ≤ most_changes batch.now) }
 {
     prove!(batch.len() <= MAX_TRANSFERS);
     let graph = LinkGraph::of(batch)?;

@@ -172,9 +172,9 @@ fn zero_room(left: &Left, matching: &Matching, most: usize, module: usize) -> us
     requires covered { AreCovered left.now.zero.uses most MAX_MODULES matching.now.zero }
     ensures some { 0 < result }
     ensures pair { (y : ℕ) → partner matching.now.zero «module» ≡ Some y
-        → result ≤ count_at left.now.counts «module» y }
+        → result ≡ count_at left.now.counts «module» y }
     ensures out { partner matching.now.zero «module» ≡ None
-        → waiting left.now.counts Zero «module» + result ≤ most }
+        → waiting left.now.counts Zero «module» + result ≡ most }
 {
     match matching.zero[module] {
         Some(three) => left.count(module, three),
@@ -189,8 +189,9 @@ fn three_room(left: &Left, matching: &Matching, most: usize, module: usize) -> u
     requires most { HaveMost left.now.counts most }
     requires covered { AreCovered left.now.three.uses most MAX_MODULES matching.now.three }
     ensures some { 0 < result }
+    ensures pair { (y : ℕ) → partner matching.now.three «module» ≡ Some y → result ≡ most }
     ensures out { partner matching.now.three «module» ≡ None
-        → waiting left.now.counts Three «module» + result ≤ most }
+        → waiting left.now.counts Three «module» + result ≡ most }
 {
     match matching.three[module] {
         Some(_) => most,
@@ -198,7 +199,7 @@ fn three_room(left: &Left, matching: &Matching, most: usize, module: usize) -> u
     }
 }
 
-/// For how many settings the matching can be held.
+/// For how many settings the matching can be held at most.
 fn longest(left: &Left, matching: &Matching, most: usize) -> usize
     requires some { 0 < most }
     requires most { HaveMost left.now.counts most }

@@ -1,7 +1,9 @@
-use Rattle.std.proofs.Common.{◌≡◌, ◌-◌, ◌+◌, subst, arith}
+use Rattle.std.proofs.Common.{◌≡◌, ◌-◌, ◌+◌, ◌<◌, ◌∷◌, [], ℕ, subst, sym, ap, arith}
+use Rattle.steady_schedule.specs.Potentials.{potential, IsReached}
 use Rattle.steady_schedule.specs.Waiting.{HaveMost}
 use Rattle.steady_schedule.proofs.Matchings.{has_low}
-use Rattle.steady_schedule.proofs.Slots.{all_taken}
+use Rattle.steady_schedule.proofs.Potential.{falls, reached_now}
+use Rattle.steady_schedule.proofs.Slots.{all_taken, no_steps, one_step}
 use Rattle.steady_schedule.proofs.Steps.{less_waits}
 use Rattle.steady_schedule.proofs.numbering.fill.Goals as goal
 
@@ -9,18 +11,48 @@ pub hold-requires-clause-there : goal.hold-requires-clause-there
 hold-requires-clause-there c x y joined =
     (c.next_step-held.ensures.each x (has_low c.next_step-held.new.matching.zero x y c.next_step-held.new.matching.matched.sized joined)).pair y joined
 
+pub steps-init : goal.steps-init
+steps-init c =
+    let whole : c.args.settings - 0 ≡ c.args.settings = omega arith in
+    let totals = c.args.places.now.totals in
+    let counts = c.args.left.now.counts in
+    record {
+      few = omega arith;
+      most = subst (HaveMost counts) (sym whole) c.requires.most;
+      reached = subst (IsReached counts) (sym whole) c.requires.reached;
+      numbered = c.requires.numbered;
+      steps = record { heads = []; few = omega (arith, ap (λ (n : ℕ). potential totals counts n) whole); steps = no_steps totals counts c.args.slots.now };
+    }
+
 pub steps-preserved : goal.steps-preserved
 steps-preserved c =
     let can = c.next_step-held.ensures in
     let m = c.next_step-held.new.matching in
-    let left : c.args.settings - c.steps.first - c.next_step-held.result ≡ c.args.settings - (c.steps.first + c.next_step-held.result) = omega arith in
+    let totals = c.args.places.now.totals in
+    let most = c.args.settings - c.steps.first in
+    let k = c.next_step-held.result in
+    let after = c.hold.new.left.counts in
+    let rest : most - k ≡ c.args.settings - (c.steps.first + k) = omega arith in
+    let less = falls totals c.steps.left.counts after m.zero m.three m.matched most k c.hold.ensures.taken c.steps.invariant.most can c.steps.invariant.numbered.within c.steps.invariant.reached in
+    let less_rest : potential totals after (c.args.settings - (c.steps.first + k)) < potential totals c.steps.left.counts most = subst (λ (n : ℕ). potential totals after n < potential totals c.steps.left.counts most) rest less in
     record {
       few = omega (arith, can.few);
-      most = subst (HaveMost c.hold.new.left.counts) left (less_waits m.zero m.three m.matched c.next_step-held.result c.steps.left.counts c.hold.new.left.counts c.hold.ensures.taken (c.args.settings - c.steps.first) c.steps.invariant.most can);
-      numbered = c.hold.ensures.numbered;
+      most = subst (HaveMost after) rest (less_waits m.zero m.three m.matched k c.steps.left.counts after c.hold.ensures.taken most c.steps.invariant.most can);
+      reached = subst (IsReached after) rest (reached_now totals c.steps.left.counts after m.zero m.three m.matched most k c.hold.ensures.taken c.steps.invariant.most can c.steps.invariant.reached);
+      numbered = c.hold.ensures.numbered.numbered;
+      steps = record {
+        heads = c.steps.first ∷ c.steps.invariant.steps.heads;
+        few = omega (arith, c.steps.invariant.steps.few, less_rest);
+        steps = one_step totals c.steps.left.counts c.steps.slots after c.hold.new.slots m.zero c.steps.first k c.steps.invariant.steps.heads c.steps.invariant.steps.steps c.hold.ensures.kept c.hold.ensures.numbered;
+      };
     }
 
-pub returns-clause-done : goal.returns-clause-done
-returns-clause-done c =
+pub returns : goal.returns
+returns c =
     let none : c.args.settings - c.steps.first ≡ 0 = omega arith in
-    all_taken c.steps.left.counts (subst (HaveMost c.steps.left.counts) none c.steps.invariant.most)
+    let all : c.steps.first ≡ c.args.settings = omega (arith, c.steps.invariant.few) in
+    record {
+      done = all_taken c.steps.left.counts (subst (HaveMost c.steps.left.counts) none c.steps.invariant.most);
+      numbered = rw all at c.steps.invariant.numbered;
+      steps = record { heads = c.steps.invariant.steps.heads; few = omega (arith, c.steps.invariant.steps.few); steps = rw all at c.steps.invariant.steps.steps };
+    }

@@ -1,5 +1,6 @@
 use Rattle.std.proofs.Common.{◌-◌, ◌≤◌}
-use Rattle.steady_schedule.specs.Slots.{AreNumbered}
+use Rattle.steady_schedule.specs.Potentials.{potential, IsReached}
+use Rattle.steady_schedule.specs.Slots.{AreNumbered, AreFewSteps}
 use Rattle.steady_schedule.specs.Waiting.{HaveMost}
 use Rattle.steady_schedule.proofs.numbering.fill.Given as goal
 
@@ -7,7 +8,9 @@ abbrev pub invariant-steps : goal.invariant-steps
 invariant-steps l = record {
   few : l.first ≤ l.settings;
   most : HaveMost l.left.counts (l.settings - l.first);
+  reached : IsReached l.left.counts (l.settings - l.first);
   numbered : AreNumbered l.places.totals l.left.counts l.slots l.first;
+  steps : AreFewSteps l.places.totals l.left.counts l.slots l.first (potential l.places.totals l.left.counts (l.settings - l.first)) (potential l.places.totals l.initial.left.counts l.settings);
 }
 
 abbrev pub decreases-steps : goal.decreases-steps

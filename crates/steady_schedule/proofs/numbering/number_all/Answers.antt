@@ -1,7 +1,7 @@
 use Rattle.std.proofs.Common.{arith}
 use Rattle.batch.specs.declared.limits.TheConstants.{MAX_TRANSFERS}
 use Rattle.link_graph.proofs.Users.{made}
-use Rattle.steady_schedule.proofs.Slots.{counts_few, none_numbered}
+use Rattle.steady_schedule.proofs.Slots.{counts_few}
 use Rattle.steady_schedule.proofs.Waiting.{waiting_uses, all_low}
 use Rattle.steady_schedule.proofs.numbering.number_all.Goals as goal
 
@@ -11,7 +11,10 @@ of-places-requires c = counts_few c.args.graph.now c.of-left.result.counts MAX_T
 pub number_by-requires-clause-most : goal.number_by-requires-clause-most
 number_by-requires-clause-most c = λ end m m_in. omega (arith, waiting_uses c.args.graph.now c.of-left.result.counts end m c.of-left.ensures (all_low c.args.graph.now c.requires.batch) m_in, c.requires.most (made end m))
 
-pub number_by-requires-clause-numbered : goal.number_by-requires-clause-numbered
-number_by-requires-clause-numbered c =
-    let all = rw c.of-places.ensures at c.of-places.result.placed.all in
-    rw c.of-places.ensures (none_numbered c.of-left.result.counts c.deref_mut.result.now (omega (arith, all, c.deref_mut.ensures.len, c.in_ok-slots.ensures.len)))
+pub number_by-requires-clause-reached : goal.number_by-requires-clause-reached
+number_by-requires-clause-reached c =
+    let r = c.requires.reached in
+    record { end = r.end; m = r.m; m_in = r.m_in; is = omega (arith, waiting_uses c.args.graph.now c.of-left.result.counts r.end r.m c.of-left.ensures (all_low c.args.graph.now c.requires.batch) r.m_in, r.is) }
+
+pub number_by-requires-clause-room : goal.number_by-requires-clause-room
+number_by-requires-clause-room c = omega (arith, c.of-places.result.placed.all, c.deref_mut.ensures.len, c.in_ok-slots.ensures.len)

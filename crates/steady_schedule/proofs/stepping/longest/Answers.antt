@@ -1,17 +1,25 @@
-use Rattle.std.proofs.Common.{◌≤◌, ℕ, sym, subst, inl, inr, arith}
+use Rattle.std.proofs.Common.{◌≡◌, ◌≤◌, ℕ, refl, sym, ap, ◌∙◌, subst, inl, inr, arith}
+use Rattle.std.specs.Prelude.{min}
 use Rattle.std.proofs.lemmas.Bool.{cases_eq}
+use Rattle.batch.specs.declared.limits.TheConstants.{MAX_MODULES}
 use Rattle.steady_schedule.specs.Steps.{CanHoldAt}
-use Rattle.steady_schedule.proofs.Steps.{held_less}
+use Rattle.steady_schedule.specs.Steps.IsTight.{all}
+use Rattle.steady_schedule.proofs.Steps.{held_less, tighter}
 use Rattle.steady_schedule.proofs.stepping.longest.Goals as goal
+
+pub loop-module-init : goal.loop-module-init
+loop-module-init c = record { some = c.requires.some; few = omega arith; each = λ x lt. absurd (omega arith); tight = all refl }
 
 pub loop-module-preserved : goal.loop-module-preserved
 loop-module-preserved c =
     let counts = c.args.left.now.counts in
     let m = c.args.matching.now in
     let k = c.min-settings.result in
+    let t = c.three_room.result in
     let zero : k ≤ c.zero_room.result = omega (arith, c.min.ensures, c.min-settings.ensures) in
-    let three : k ≤ c.three_room.result = omega (arith, c.min.ensures, c.min-settings.ensures) in
+    let three : k ≤ t = omega (arith, c.min.ensures, c.min-settings.ensures) in
     let old : k ≤ c.loop-module.settings = omega (arith, c.min.ensures, c.min-settings.ensures) in
+    let is = c.min-settings.ensures ∙ ap (λ (q : ℕ). min q t) c.min.ensures in
     record {
       some = omega (arith, c.min.ensures, c.min-settings.ensures, c.zero_room.ensures.some, c.three_room.ensures.some, c.loop-module.invariant.some);
       few = omega (arith, old, c.loop-module.invariant.few);
@@ -23,4 +31,10 @@ loop-module-preserved c =
         })
         | inr ne ↦ held_less counts m.zero m.three c.args.most c.loop-module.settings k x old (c.loop-module.invariant.each x (omega arith))
       ];
+      tight = tighter counts m.zero m.three c.args.most c.loop-module.settings c.zero_room.result t k c.loop-module.module c.loop-module-test.true is c.loop-module.invariant.tight c.zero_room.ensures.pair c.zero_room.ensures.out c.three_room.ensures.pair c.three_room.ensures.out;
     }
+
+pub returns : goal.returns
+returns c =
+    let all_modules : c.loop-module.module ≡ MAX_MODULES = omega arith in
+    record { some = c.loop-module.invariant.some; few = c.loop-module.invariant.few; each = λ x lt. c.loop-module.invariant.each x (omega arith); tight = c.loop-module.invariant.tight }

@@ -1,5 +1,5 @@
 use Rattle.std.proofs.Common.{ℕ, ◌<◌, ◌≤◌}
-use Rattle.steady_schedule.specs.Steps.{CanHoldAt}
+use Rattle.steady_schedule.specs.Steps.{CanHoldAt, IsTight}
 use Rattle.steady_schedule.proofs.stepping.longest.Given as goal
 
 abbrev pub invariant-loop-module : goal.invariant-loop-module
@@ -7,4 +7,5 @@ invariant-loop-module l = record {
   some : 0 < l.settings;
   few : l.settings ≤ l.most;
   each : (x : ℕ) → x < l.«module» → CanHoldAt l.left.counts l.matching.zero l.matching.three l.most l.settings x;
+  tight : IsTight l.left.counts l.matching.zero l.matching.three l.most l.settings;
 }
