@@ -21,7 +21,7 @@ work=$(mktemp -d)
 trap 'rm -rf "$work"' EXIT
 
 # A tenth to a fifth more than was counted. A fifth of a session makes its rack, a tenth takes the batch and plans it, and the rest runs it.
-declare -A greatest=([apply]=32 [run]=60 [serve]=27)
+declare -A greatest=([apply]=32 [run]=60 [serve]=25)
 
 {
     echo "batch 2048"

@@ -51,7 +51,8 @@ def manual(program):
 
 
 def options(help_text):
-    return " ".join(re.search(r"--[\w-]+", line)[0] for line in listed(help_text, "Options"))
+    found = (re.match(r" +(?:-\w, )?(--[\w-]+)", line) for line in listed(help_text, "Options"))
+    return " ".join(it[1] for it in found if it)
 
 
 def completions(program):
