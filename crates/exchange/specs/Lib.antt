@@ -1,0 +1,5 @@
+pub mod Responses
+pub mod Validities
+pub mod Notes
+pub mod Outcomes
+pub mod Ends

@@ -1,29 +1,26 @@
 -- What `plan` answers to the answer of `direct`.
-use Rattle.std.proofs.Common.{◌≡◌, ℕ, List, subst, arith}
+use Rattle.std.proofs.Common.{◌≡◌, List, subst}
 use Rattle.batch.specs.declared.transfer.Transfer.{Transfer}
-use Rattle.batch.specs.Extent.{widest, IsShape}
+use Rattle.batch.specs.Extent.{widest}
 use Rattle.batch.proofs.OneReading as batch_reading
 use Rattle.link_graph.specs.Certificates.{IsCertified}
 use Rattle.move_directions.specs.declared.moves.Move.{Move}
-use Rattle.move_directions.specs.Text.{Denotes}
 use Rattle.move_directions.proofs.Bounds.{fewest}
 use Rattle.move_directions.proofs.OneReading as moves_reading
 use Rattle.plan_answers.specs.Answers as answered
 use Rattle.plan_answers.specs.Directing as directing
 use Rattle.plan_answers.specs.Laws.{TellsFewest, DirectedThenPlanned}
 use Rattle.plan_answers.specs.Refusals.{Printed}
-
-wide : IsShape widest
-wide = record { some_module = omega arith; few_modules = omega arith; some_block = omega arith; few_blocks = omega arith; some_word = omega arith; few_words = omega arith }
+use Rattle.plan_answers.proofs.Widest.{widest_fits}
 
 -- the plan's batch is the one that does the moves
 told : (moves : List Move) (given printed : Printed) → directing.SaysDirections moves given.text → answered.IsPlanned widest given.text printed → TellsFewest moves printed
 told moves given printed says (answered.planned plan denotes is few tells done) =
-    let same : plan.batch ≡ says.batch = batch_reading.one_batch widest wide given.text plan.batch says.batch denotes says.says in
+    let same : plan.batch ≡ says.batch = batch_reading.one_batch widest widest_fits given.text plan.batch says.batch denotes says.says in
     let certified = subst (λ (batch : List Transfer). IsCertified batch plan.settings plan.named) same (record { schedule = is.shortest.schedule; certificate = is.certificate }) in
     let least = fewest moves says.batch says.directs says.halves plan.settings plan.named certified in
     record { plan = plan; tells = (tells, done); count = least.0; fewest = least.1 }
-told moves given printed says (answered.refused fault first line) = absurd (batch_reading.apart widest wide given.text says.batch fault says.says first)
+told moves given printed says (answered.refused fault first line) = absurd (batch_reading.apart widest widest_fits given.text says.batch fault says.says first)
 
 pub directed_then_planned : DirectedThenPlanned
 directed_then_planned text moves given printed denotes (directing.directed list reads says done) planned =

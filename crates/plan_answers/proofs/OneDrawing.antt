@@ -1,46 +1,30 @@
--- Two texts have one answer of `draw` at most, and what is judged is shown.
-use Rattle.std.proofs.Common.{◌≡◌, ◌≢◌, ℕ, ◌<◌, ◌≤◌, ◌+◌, List, [], ◌∷◌, length, Option, Some, None, refl, sym, ap, ◌∙◌, subst, arith}
+-- Two texts have one answer of `draw` at most.
+use Rattle.std.proofs.Common.{◌≡◌, ℕ, List, [], ◌∷◌, length, Option, Some, None, refl, sym, ap, ◌∙◌, subst, arith}
 use Rattle.std.specs.Prelude.{IfSome}
 use Rattle.batch.specs.declared.transfer.Transfer.{Transfer}
 use Rattle.batch.specs.Extent.{Extent, IsShape}
-use Rattle.batch.specs.Text.{Denotes}
-use Rattle.batch.proofs.OneReading.{one_batch, apart, one_fault}
 use Rattle.link_graph.specs.declared.check_fault.CheckFault.{CheckFault}
 use Rattle.link_graph.specs.declared.check_fault.CheckFault.TheVariants.{WrongLink}
 use Rattle.link_graph.specs.Checks.{IsSettingsFault}
 use Rattle.link_graph.specs.Certificates.{Naming, naming}
 use Rattle.link_graph.specs.Schedules.{IsScheduleOf}
-use Rattle.link_graph.specs.ScheduleText.{Said, said, Says}
-use Rattle.link_graph.proofs.Koenig.{certified}
 use Rattle.link_graph.proofs.OneFault.{same_fault}
-use Rattle.link_graph.proofs.SaidLines.{one_said}
+use Rattle.refusals.specs.declared.refusal.Refusal.{Refusal}
+use Rattle.refusals.specs.declared.refusal.Refusal.TheVariants.{NoSetting}
+use Rattle.refusals.specs.Refusals.{refusal_words}
+use Rattle.refusals.specs.Sources.{of_check}
 use Rattle.schedule_picture.specs.declared.shown.Shown.{Shown}
 use Rattle.schedule_picture.specs.declared.verdict.Verdict.{Verdict}
-use Rattle.schedule_picture.specs.Picture.{picture_of, whole}
+use Rattle.schedule_picture.specs.Picture.{picture_of}
 use Rattle.schedule_picture.specs.Verdicts.{IsVerdict}
 use Rattle.schedule_picture.proofs.OneVerdict.{one_verdict}
-use Rattle.plan_answers.specs.declared.checking_fault.CheckingFault.{CheckingFault}
-use Rattle.plan_answers.specs.declared.checking_fault.CheckingFault.TheVariants as checking
-use Rattle.plan_answers.specs.declared.drawing_fault.DrawingFault.{DrawingFault}
-use Rattle.plan_answers.specs.declared.drawing_fault.DrawingFault.TheVariants.{Settings, Checking, NoSetting, NoMemory}
 use Rattle.plan_answers.specs.declared.setting_range.SettingRange.{SettingRange}
-use Rattle.plan_answers.specs.Refusals.{Printed, IsRefused, drawing_words}
-use Rattle.plan_answers.specs.Answers.{IsJudged, IsShown}
-use Rattle.plan_answers.specs.Drawings.{IsInOrder, AreWanted, IsBadWish, AreShown, IsOutside, IsValid, IsInvalid, IsDrawing, IsFirstUndrawn, IsDrawn, drawn, undrawn}
+use Rattle.plan_answers.specs.Refusals.{Printed, IsRefused}
+use Rattle.plan_answers.specs.Validities.{IsValid, IsUnscheduled, IsInvalid, unread, unscheduled}
+use Rattle.plan_answers.specs.Drawings.{IsInOrder, AreWanted, IsBadWish, AreShown, IsOutside, IsDrawing, IsFirstUndrawn, no_range, invalid, no_setting, IsDrawn, drawn, undrawn}
+use Rattle.plan_answers.proofs.OneReading.{same_texts, texts_right, one_text_wrong}
+use Rattle.plan_answers.proofs.Printing.{printed_same, refused_same}
 use Rattle.plan_answers.proofs.Ranges.{one_range}
-use Rattle.plan_answers.proofs.OneVerdict.{printed_same, refused_same, none_bad, one_schedule_fault}
-
-pub shown_from : (shape : Extent) (batch schedule : List ℕ) (ts : List Transfer) (settings : List (List ℕ)) (named : Naming) (count : ℕ) → IsJudged shape batch schedule ts settings named → count ≡ length settings → IsShown shape batch schedule count
-shown_from shape batch schedule ts settings named count j counted = record {
-  transfers = ts;
-  settings = settings;
-  named = named;
-  batch_read = j.batch_read;
-  schedule_read = j.schedule_read;
-  shortest = certified ts settings named j.certified.schedule j.certified.certificate;
-  certificate = j.certified.certificate;
-  counted = counted;
-}
 
 -- ---- which settings are drawn
 
@@ -77,17 +61,7 @@ same_outside : (range : Option SettingRange) (settings k l : ℕ) → IsOutside 
 same_outside None settings k l a b = absurd a
 same_outside (Some range) settings k l a b = a.1 ∙ sym b.1
 
--- ---- and so are the texts of a batch and of a schedule
-
--- what they say of one list of transfers, they say of each that the batch text denotes
-same_said : (P : List Transfer → List (List ℕ) → Option Naming → Type 0) (shape : Extent) → IsShape shape → (batch schedule : List ℕ) (ts us : List Transfer) (xs ys : List (List ℕ)) (m n : Option Naming)
-    → Denotes shape batch ts → Denotes shape batch us → Says schedule (said xs m) → Says schedule (said ys n) → P us ys n → P ts xs m
-same_said P shape valid batch schedule ts us xs ys m n a b c d p =
-    let transfers : ts ≡ us = one_batch shape valid batch ts us a b in
-    let all : said xs m ≡ said ys n = one_said schedule (said xs m) (said ys n) c d in
-    let settings : xs ≡ ys = ap (λ (s : Said). s.settings) all in
-    let named : m ≡ n = ap (λ (s : Said). s.certificate) all in
-    rw (transfers, settings, named) p
+-- ---- a schedule, or what is wrong with it
 
 wrong_same : (t u : ℕ) → WrongLink t ≡ WrongLink u → t ≡ u
 wrong_same t u e = cc
@@ -99,31 +73,23 @@ no_fault batch settings fault s bad =
     same_fault batch settings (naming None (t ∷ [])) fault (WrongLink t) (bad.1 (naming None (t ∷ []))) (s, record { before = []; after = []; parts = refl; good = λ k d lt. absurd (omega (arith, lt)); bad = λ used. used }) in
     omega (arith, wrong_same 0 1 (sym (is 0) ∙ is 1))
 
-valid_right : (shape : Extent) → IsShape shape → (batch schedule : List ℕ) (ts : List Transfer) (xs : List (List ℕ)) (v : Verdict) (fault : CheckingFault) → IsValid shape batch schedule ts xs v → IsInvalid shape batch schedule fault → ⊥
-valid_right shape valid batch schedule ts xs v (checking.Batch fault) a wrong = apart shape valid batch ts fault a.batch_read wrong
-valid_right shape valid batch schedule ts xs v (checking.Schedule fault) a wrong = none_bad schedule _ fault a.schedule_read wrong.2
-valid_right shape valid batch schedule ts xs v checking.NoCertificate a wrong = wrong
-valid_right shape valid batch schedule ts xs v (checking.Check fault) a wrong =
-    no_fault ts xs fault a.valid
-    (same_said (λ t x n. IsSettingsFault t x fault) shape valid batch schedule ts wrong.0 xs wrong.1 a.certificate wrong.2 a.batch_read wrong.3 a.schedule_read wrong.4 wrong.5)
+-- a valid schedule has nothing wrong
+valid_right : (shape : Extent) → IsShape shape → (batch schedule : List ℕ) (ts : List Transfer) (xs : List (List ℕ)) (v : Verdict) (refusal : Refusal) → IsValid shape batch schedule ts xs v → IsInvalid shape batch schedule refusal → ⊥
+valid_right shape valid batch schedule ts xs v refusal a (unread wrong) = texts_right shape valid batch schedule ts xs a.certificate refusal a.texts wrong
+valid_right shape valid batch schedule ts xs v refusal a (unscheduled us ys m texts wrong) =
+    no_fault ts xs wrong.0 a.valid (same_texts (λ t x n. IsSettingsFault t x wrong.0) shape valid batch schedule ts us xs ys a.certificate m a.texts texts wrong.1)
 
-one_invalid : (shape : Extent) → IsShape shape → (batch schedule : List ℕ) (f g : CheckingFault) → IsInvalid shape batch schedule f → IsInvalid shape batch schedule g → f ≡ g
-one_invalid shape valid batch schedule (checking.Batch f) (checking.Batch g) a b = ap checking.Batch (one_fault shape valid batch f g a b)
-one_invalid shape valid batch schedule (checking.Batch f) (checking.Schedule g) a b = absurd (apart shape valid batch b.0 f b.1 a)
-one_invalid shape valid batch schedule (checking.Batch f) checking.NoCertificate a b = absurd b
-one_invalid shape valid batch schedule (checking.Batch f) (checking.Check g) a b = absurd (apart shape valid batch b.0 f b.3 a)
-one_invalid shape valid batch schedule (checking.Schedule f) (checking.Batch g) a b = absurd (apart shape valid batch a.0 g a.1 b)
-one_invalid shape valid batch schedule (checking.Schedule f) (checking.Schedule g) a b = ap checking.Schedule (one_schedule_fault schedule f g a.2 b.2)
-one_invalid shape valid batch schedule (checking.Schedule f) checking.NoCertificate a b = absurd b
-one_invalid shape valid batch schedule (checking.Schedule f) (checking.Check g) a b = absurd (none_bad schedule _ f b.4 a.2)
-one_invalid shape valid batch schedule checking.NoCertificate g a b = absurd a
-one_invalid shape valid batch schedule (checking.Check f) (checking.Batch g) a b = absurd (apart shape valid batch a.0 g a.3 b)
-one_invalid shape valid batch schedule (checking.Check f) (checking.Schedule g) a b = absurd (none_bad schedule _ g a.4 b.2)
-one_invalid shape valid batch schedule (checking.Check f) checking.NoCertificate a b = absurd b
-one_invalid shape valid batch schedule (checking.Check f) (checking.Check g) a b =
-    let other = same_said (λ t x n. IsSettingsFault t x g) shape valid batch schedule a.0 b.0 a.1 b.1 a.2 b.2 a.3 b.3 a.4 b.4 b.5 in
+one_unscheduled : (ts : List Transfer) (xs : List (List ℕ)) (q r : Refusal) → IsUnscheduled ts xs q → IsUnscheduled ts xs r → q ≡ r
+one_unscheduled ts xs q r a b =
     let nothing : Naming = naming None [] in
-    ap checking.Check (same_fault a.0 a.1 nothing f g (a.5.1 nothing) (other.1 nothing))
+    a.2 ∙ ap of_check (same_fault ts xs nothing a.0 b.0 (a.1.1 nothing) (b.1.1 nothing)) ∙ sym b.2
+
+one_invalid : (shape : Extent) → IsShape shape → (batch schedule : List ℕ) (q r : Refusal) → IsInvalid shape batch schedule q → IsInvalid shape batch schedule r → q ≡ r
+one_invalid shape valid batch schedule q r (unread a) (unread b) = one_text_wrong shape valid batch schedule q r a b
+one_invalid shape valid batch schedule q r (unread a) (unscheduled ts xs m texts b) = absurd (texts_right shape valid batch schedule ts xs m q texts a)
+one_invalid shape valid batch schedule q r (unscheduled ts xs m texts a) (unread b) = absurd (texts_right shape valid batch schedule ts xs m r texts b)
+one_invalid shape valid batch schedule q r (unscheduled ts xs m texts a) (unscheduled us ys n others b) =
+    one_unscheduled ts xs q r a (same_texts (λ t x c. IsUnscheduled t x r) shape valid batch schedule ts us xs ys m n texts others b)
 
 -- ---- one answer
 
@@ -137,7 +103,7 @@ same_picture text other range ts xs v p q = p.2 ∙ ap (picture_of ts xs v) (sam
 same_reading : (P : List Transfer → List (List ℕ) → Verdict → Type 0) (shape : Extent) → IsShape shape → (batch schedule : List ℕ) (ts us : List Transfer) (xs ys : List (List ℕ)) (v w : Verdict)
     → IsValid shape batch schedule ts xs v → IsValid shape batch schedule us ys w → P us ys w → P ts xs v
 same_reading P shape valid batch schedule ts us xs ys v w a b p =
-    let moved = same_said (λ t x n. (u : Verdict) × IsVerdict t x n u × P t x u) shape valid batch schedule ts us xs ys a.certificate b.certificate a.batch_read b.batch_read a.schedule_read b.schedule_read (w, b.known, p) in
+    let moved = same_texts (λ t x n. (u : Verdict) × IsVerdict t x n u × P t x u) shape valid batch schedule ts us xs ys a.certificate b.certificate a.texts b.texts (w, b.known, p) in
     subst (P ts xs) (one_verdict ts xs a.certificate moved.0 v moved.1 a.known) moved.2
 
 one_text : (shape : Extent) → IsShape shape → (batch schedule : List ℕ) (wish : Option (List ℕ)) (t u : List ℕ) → IsDrawing shape batch schedule wish t → IsDrawing shape batch schedule wish u → t ≡ u
@@ -147,39 +113,35 @@ one_text shape valid batch schedule wish t u a b =
     same_picture t u a.range a.transfers a.settings a.verdict (a.shown, a.are_shown, a.drawing)
     (same_reading (Shows u a.range) shape valid batch schedule a.transfers b.transfers a.settings b.settings a.verdict b.verdict a.valid b.valid shows)
 
--- what is drawn has nothing wrong
-drawn_right : (shape : Extent) → IsShape shape → (batch schedule : List ℕ) (wish : Option (List ℕ)) (text : List ℕ) (fault : DrawingFault) → IsDrawing shape batch schedule wish text → IsFirstUndrawn shape batch schedule wish fault → ⊥
-drawn_right shape valid batch schedule wish text Settings a wrong = good_wish wish a.range a.wanted wrong
-drawn_right shape valid batch schedule wish text (Checking fault) a wrong = valid_right shape valid batch schedule a.transfers a.settings a.verdict fault a.valid wrong.2
-drawn_right shape valid batch schedule wish text (NoSetting k) a wrong =
-    let range : wrong.3 ≡ a.range = same_wish wish wrong.3 a.range wrong.4 a.wanted in
-    let outside : IsOutside a.range (length wrong.1) k = subst (λ (r : Option SettingRange). IsOutside r (length wrong.1) k) range wrong.6 in
-    not_outside a.range (length a.settings) k a.shown a.are_shown
-    (same_reading (λ t x v. IsOutside a.range (length x) k) shape valid batch schedule a.transfers wrong.0 a.settings wrong.1 a.verdict wrong.2 a.valid wrong.5 outside)
-drawn_right shape valid batch schedule wish text NoMemory a wrong = wrong
+-- a setting that is missing in one reading is missing in each
+same_missing : (shape : Extent) → IsShape shape → (batch schedule : List ℕ) (wish : Option (List ℕ)) (f g : Option SettingRange) (ts us : List Transfer) (xs ys : List (List ℕ)) (v w : Verdict) (k : ℕ)
+    → AreWanted wish f → AreWanted wish g → IsValid shape batch schedule ts xs v → IsValid shape batch schedule us ys w → IsOutside g (length ys) k → IsOutside f (length xs) k
+same_missing shape valid batch schedule wish f g ts us xs ys v w k wanted want a b outside =
+    same_reading (λ t x u. IsOutside f (length x) k) shape valid batch schedule ts us xs ys v w a b (subst (λ (r : Option SettingRange). IsOutside r (length ys) k) (same_wish wish g f want wanted) outside)
 
-one_undrawn : (shape : Extent) → IsShape shape → (batch schedule : List ℕ) (wish : Option (List ℕ)) (f g : DrawingFault) → IsFirstUndrawn shape batch schedule wish f → IsFirstUndrawn shape batch schedule wish g → f ≡ g
-one_undrawn shape valid batch schedule wish Settings Settings a b = refl
-one_undrawn shape valid batch schedule wish Settings (Checking g) a b = absurd (good_wish wish b.0 b.1 a)
-one_undrawn shape valid batch schedule wish Settings (NoSetting l) a b = absurd (good_wish wish b.3 b.4 a)
-one_undrawn shape valid batch schedule wish Settings NoMemory a b = absurd b
-one_undrawn shape valid batch schedule wish (Checking f) Settings a b = absurd (good_wish wish a.0 a.1 b)
-one_undrawn shape valid batch schedule wish (Checking f) (Checking g) a b = ap Checking (one_invalid shape valid batch schedule f g a.2 b.2)
-one_undrawn shape valid batch schedule wish (Checking f) (NoSetting l) a b = absurd (valid_right shape valid batch schedule b.0 b.1 b.2 f b.5 a.2)
-one_undrawn shape valid batch schedule wish (Checking f) NoMemory a b = absurd b
-one_undrawn shape valid batch schedule wish (NoSetting k) Settings a b = absurd (good_wish wish a.3 a.4 b)
-one_undrawn shape valid batch schedule wish (NoSetting k) (Checking g) a b = absurd (valid_right shape valid batch schedule a.0 a.1 a.2 g a.5 b.2)
-one_undrawn shape valid batch schedule wish (NoSetting k) (NoSetting l) a b =
-    let range : b.3 ≡ a.3 = same_wish wish b.3 a.3 b.4 a.4 in
-    let outside : IsOutside a.3 (length b.1) l = subst (λ (r : Option SettingRange). IsOutside r (length b.1) l) range b.6 in
-    ap NoSetting (same_outside a.3 (length a.1) k l a.6
-    (same_reading (λ t x v. IsOutside a.3 (length x) l) shape valid batch schedule a.0 b.0 a.1 b.1 a.2 b.2 a.5 b.5 outside))
-one_undrawn shape valid batch schedule wish (NoSetting k) NoMemory a b = absurd b
-one_undrawn shape valid batch schedule wish NoMemory g a b = absurd a
+-- what is drawn has nothing wrong
+drawn_right : (shape : Extent) → IsShape shape → (batch schedule : List ℕ) (wish : Option (List ℕ)) (text : List ℕ) (refusal : Refusal) → IsDrawing shape batch schedule wish text → IsFirstUndrawn shape batch schedule wish refusal → ⊥
+drawn_right shape valid batch schedule wish text refusal a (no_range bad is) = good_wish wish a.range a.wanted bad
+drawn_right shape valid batch schedule wish text refusal a (invalid range wanted wrong) = valid_right shape valid batch schedule a.transfers a.settings a.verdict refusal a.valid wrong
+drawn_right shape valid batch schedule wish text refusal a (no_setting range ts xs v k wanted is outside _) =
+    not_outside a.range (length a.settings) k a.shown a.are_shown
+    (same_missing shape valid batch schedule wish a.range range a.transfers ts a.settings xs a.verdict v k a.wanted wanted a.valid is outside)
+
+one_undrawn : (shape : Extent) → IsShape shape → (batch schedule : List ℕ) (wish : Option (List ℕ)) (q r : Refusal) → IsFirstUndrawn shape batch schedule wish q → IsFirstUndrawn shape batch schedule wish r → q ≡ r
+one_undrawn shape valid batch schedule wish q r (no_range a is) (no_range b are) = is ∙ sym are
+one_undrawn shape valid batch schedule wish q r (no_range a is) (invalid range wanted b) = absurd (good_wish wish range wanted a)
+one_undrawn shape valid batch schedule wish q r (no_range a is) (no_setting range us ys w l wanted b out are) = absurd (good_wish wish range wanted a)
+one_undrawn shape valid batch schedule wish q r (invalid range wanted a) (no_range b are) = absurd (good_wish wish range wanted b)
+one_undrawn shape valid batch schedule wish q r (invalid range wanted a) (invalid other want b) = one_invalid shape valid batch schedule q r a b
+one_undrawn shape valid batch schedule wish q r (invalid range wanted a) (no_setting other us ys w l want b out are) = absurd (valid_right shape valid batch schedule us ys w q b a)
+one_undrawn shape valid batch schedule wish q r (no_setting range ts xs v k wanted a outside is) (no_range b are) = absurd (good_wish wish range wanted b)
+one_undrawn shape valid batch schedule wish q r (no_setting range ts xs v k wanted a outside is) (invalid other want b) = absurd (valid_right shape valid batch schedule ts xs v r a b)
+one_undrawn shape valid batch schedule wish q r (no_setting range ts xs v k wanted a outside is) (no_setting other us ys w l want b out are) =
+    is ∙ ap NoSetting (same_outside range (length xs) k l outside (same_missing shape valid batch schedule wish range other ts us xs ys v w l wanted want a b out)) ∙ sym are
 
 pub one_drawing : (shape : Extent) → IsShape shape → (batch schedule : List ℕ) (wish : Option (List ℕ)) (p q : Printed) → IsDrawn shape batch schedule wish p → IsDrawn shape batch schedule wish q → q ≡ p
 one_drawing shape valid batch schedule wish p q (drawn a ends) (drawn b stops) = printed_same q p (one_text shape valid batch schedule wish q.text p.text b a) (stops ∙ sym ends)
 one_drawing shape valid batch schedule wish p q (drawn a ends) (undrawn g b is) = absurd (drawn_right shape valid batch schedule wish p.text g a b)
 one_drawing shape valid batch schedule wish p q (undrawn f a is) (drawn b stops) = absurd (drawn_right shape valid batch schedule wish q.text f b a)
 one_drawing shape valid batch schedule wish p q (undrawn f a is) (undrawn g b was) =
-    refused_same (drawing_words g) q p was (subst (λ (r : DrawingFault). IsRefused (drawing_words r) p) (one_undrawn shape valid batch schedule wish f g a b) is)
+    refused_same (refusal_words g) q p was (subst (λ (r : Refusal). IsRefused (refusal_words r) p) (one_undrawn shape valid batch schedule wish f g a b) is)

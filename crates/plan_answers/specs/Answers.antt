@@ -1,23 +1,23 @@
--- What the commands that need no rack answer.
-use Rattle.std.specs.Prelude.{◌≡◌, ℕ, List, ◌++◌, length, Some, None, codes}
+-- What `plan` and `check` answer.
+use Rattle.std.specs.Prelude.{◌≡◌, ℕ, List, ◌++◌, length, Option, Some, None, codes}
 use Rattle.std.specs.Fmt.{decimal}
 use Rattle.batch.specs.declared.fault.BatchFault.{BatchFault}
 use Rattle.batch.specs.declared.transfer.Transfer.{Transfer}
 use Rattle.batch.specs.Extent.{Extent}
 use Rattle.batch.specs.Text.{Denotes}
 use Rattle.batch.specs.Faults.{IsFirstFault}
-use Rattle.link_graph.specs.declared.schedule_fault.ScheduleFault.{ScheduleFault}
-use Rattle.link_graph.specs.declared.schedule_fault.ScheduleFault.TheVariants as schedule_fault
-use Rattle.link_graph.specs.Certificates.{Naming, IsShortest, IsCertificate, IsCertified}
+use Rattle.link_graph.specs.declared.check_fault.CheckFault.{CheckFault}
+use Rattle.link_graph.specs.Certificates.{Naming, IsShortest, IsCertificate}
 use Rattle.link_graph.specs.Checks.{IsFirstCheckFault}
 use Rattle.link_graph.specs.ScheduleText.{said, Says}
-use Rattle.link_graph.specs.ScheduleFaults.{IsFirstBadLine}
+use Rattle.refusals.specs.declared.refusal.Refusal.{Refusal}
+use Rattle.refusals.specs.declared.refusal.Refusal.TheVariants.{NoCertificate}
+use Rattle.refusals.specs.Refusals.{refusal_words}
+use Rattle.refusals.specs.Sources.{of_batch, of_check}
 use Rattle.schedule_certificate.specs.Plans.{Plan, IsPlan, HasFewReinsertions}
 use Rattle.plan_answers.specs.declared.limits.TheConstants.{DONE}
-use Rattle.plan_answers.specs.declared.checking_fault.CheckingFault.{CheckingFault}
-use Rattle.plan_answers.specs.declared.checking_fault.CheckingFault.TheVariants as checking
-use Rattle.line_words.specs.BatchFaults.{batch_words}
-use Rattle.plan_answers.specs.Refusals.{Printed, IsRefused, checking_words}
+use Rattle.plan_answers.specs.Refusals.{Printed, IsRefused}
+use Rattle.plan_answers.specs.Texts.{AreTexts, IsTextWrong}
 
 -- no other answer is such
 abbrev pub IsOnly : (Printed → Type 0) → Printed → Type 0
@@ -39,17 +39,9 @@ pub data IsPlanned (shape : Extent) (batch : List ℕ) (printed : Printed) : Typ
   planned : (plan : Plan) → Denotes shape batch plan.batch → IsPlan plan → HasFewReinsertions plan
       → SaysPlan printed.text plan → printed.status ≡ DONE → IsPlanned shape batch printed
   refused : (fault : BatchFault) → IsFirstFault shape batch fault
-      → IsRefused (batch_words fault) printed → IsPlanned shape batch printed
+      → IsRefused (refusal_words (of_batch fault)) printed → IsPlanned shape batch printed
 
 -- ---- `check`
-
--- The texts are those of this batch and of this schedule of it, with a certificate that shows that
--- none is shorter.
-pub record IsJudged (shape : Extent) (batch schedule : List ℕ) (transfers : List Transfer)
-    (settings : List (List ℕ)) (named : Naming) : Type 0 where
-  pub batch_read : Denotes shape batch transfers
-  pub schedule_read : Says schedule (said settings (Some named))
-  pub certified : IsCertified transfers settings named
 
 -- The texts are those of a batch and of a shortest schedule of it, which has so many settings, with
 -- a certificate that shows it.
@@ -57,31 +49,25 @@ pub record IsShown (shape : Extent) (batch schedule : List ℕ) (count : ℕ) : 
   pub transfers : List Transfer
   pub settings : List (List ℕ)
   pub named : Naming
-  pub batch_read : Denotes shape batch transfers
-  pub schedule_read : Says schedule (said settings (Some named))
+  pub texts : AreTexts shape batch schedule transfers settings (Some named)
   pub shortest : IsShortest transfers settings
   pub certificate : IsCertificate transfers settings named
   pub counted : count ≡ length settings
 
--- the first line at fault of the schedule text
-abbrev pub IsFirstScheduleFault : List ℕ → ScheduleFault → Type 0
-IsFirstScheduleFault schedule (schedule_fault.Line n) = IsFirstBadLine schedule n
-IsFirstScheduleFault schedule schedule_fault.NoMemory = ⊥
+-- what is first wrong with a schedule: it has no certificate, or else what the checker finds
+abbrev pub IsUnshown : List Transfer → List (List ℕ) → Option Naming → Refusal → Type 0
+IsUnshown transfers settings None refusal = refusal ≡ NoCertificate
+IsUnshown transfers settings (Some named) refusal =
+    (fault : CheckFault) × IsFirstCheckFault transfers settings named fault
+    × (refusal ≡ of_check fault)
 
--- What is first wrong: the batch text is looked at first, then the schedule text, then whether it
--- has the certificate part, then what the checker finds.
-abbrev pub IsFirstWrong : Extent → List ℕ → List ℕ → CheckingFault → Type 0
-IsFirstWrong shape batch schedule (checking.Batch fault) = IsFirstFault shape batch fault
-IsFirstWrong shape batch schedule (checking.Schedule fault) =
-    (transfers : List Transfer) × Denotes shape batch transfers
-    × IsFirstScheduleFault schedule fault
-IsFirstWrong shape batch schedule checking.NoCertificate =
-    (transfers : List Transfer) × (settings : List (List ℕ)) × Denotes shape batch transfers
-    × Says schedule (said settings None)
-IsFirstWrong shape batch schedule (checking.Check fault) =
-    (transfers : List Transfer) × (settings : List (List ℕ)) × (named : Naming)
-    × Denotes shape batch transfers × Says schedule (said settings (Some named))
-    × IsFirstCheckFault transfers settings named fault
+-- what is first wrong: the texts are looked at first, then the schedule
+pub data IsFirstWrong (shape : Extent) (batch schedule : List ℕ) (refusal : Refusal) : Type 0 where
+  unread : IsTextWrong shape batch schedule refusal → IsFirstWrong shape batch schedule refusal
+  unshown : (transfers : List Transfer) (settings : List (List ℕ)) (certificate : Option Naming)
+      → AreTexts shape batch schedule transfers settings certificate
+      → IsUnshown transfers settings certificate refusal
+      → IsFirstWrong shape batch schedule refusal
 
 -- `shortest S`
 abbrev pub shortest_line : ℕ → List ℕ
@@ -91,5 +77,5 @@ shortest_line count = codes "shortest " ++ decimal count ++ codes "\n"
 pub data IsChecked (shape : Extent) (batch schedule : List ℕ) (printed : Printed) : Type 0 where
   shortest : (count : ℕ) → IsShown shape batch schedule count → printed.text ≡ shortest_line count
       → printed.status ≡ DONE → IsChecked shape batch schedule printed
-  refused : (fault : CheckingFault) → IsFirstWrong shape batch schedule fault
-      → IsRefused (checking_words fault) printed → IsChecked shape batch schedule printed
+  refused : (refusal : Refusal) → IsFirstWrong shape batch schedule refusal
+      → IsRefused (refusal_words refusal) printed → IsChecked shape batch schedule printed

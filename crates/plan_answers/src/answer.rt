@@ -1,23 +1,37 @@
-ghost use Rattle.std.specs.Prelude.{◌≡◌, IfOk};
-ghost use Rattle.plan_answers.specs.Refusals.{IsRefused};
+ghost use Rattle.std.specs.Prelude.{◌≡◌, IfOk, IfSome};
+ghost use Rattle.refusals.specs.Refusals.{refusal_line};
+ghost use Rattle.plan_answers.specs.Refusals.{Refuses};
 
 use crate::limits::{DONE, REFUSED};
+use refusals::{Refusal, Validity};
 use std::alloc::{AllocError, Global};
 use std::marker::Model;
 
 /// What a command prints on standard output, and the status that the program ends with.
+///
+/// Where that is a refusal, it keeps which one, and what was found out about a schedule that is
+/// refused. Whoever prints it can say more.
 #[derive(Drop)]
 pub struct Answer {
     bytes: Vec<u8>,
     code: u8,
+    cause: Option<Refusal>,
+    known: Validity,
 }
 
 impl Model for Answer {
+    ghost use Rattle.std.specs.Prelude.{◌≡◌, IfSome};
+    ghost use Rattle.refusals.specs.Refusals.{refusal_line};
     ghost use Rattle.plan_answers.specs.Refusals.{Printed};
+    ghost use Rattle.plan_answers.specs.declared.limits.TheConstants.{REFUSED};
 
     ghost Value = { Printed };
 
     ghost view = { λ a. record { text = a.bytes.items; status = a.code } };
+
+    // a refusal is printed as its line, under its status
+    ghost invariant = { λ a. IfSome a.cause (λ refusal.
+        (a.bytes.items ≡ refusal_line refusal) × (a.code ≡ REFUSED)) };
 }
 
 impl Answer {
@@ -35,6 +49,19 @@ impl Answer {
         self.code
     }
 
+    /// The refusal whose line is printed, where it is one.
+    pub fn refusal(&self) -> Option<Refusal>
+        ensures { IfSome result (λ refusal.
+            (self.now.text ≡ refusal_line refusal) × (self.now.status ≡ REFUSED)) }
+    {
+        self.cause
+    }
+
+    /// What is known of a schedule that is refused.
+    pub fn validity(&self) -> Validity {
+        self.known
+    }
+
     /// A text under the status [`DONE`].
     pub fn done(text: Vec<u8>) -> Answer
         ensures text { result.text ≡ text.items }
@@ -43,10 +70,12 @@ impl Answer {
         Answer {
             bytes: text,
             code: DONE,
+            cause: None,
+            known: Validity::Unknown,
         }
     }
 
-    /// A text under the status [`REFUSED`].
+    /// A text that is no refusal's line, under the status [`REFUSED`].
     pub fn failed(text: Vec<u8>) -> Answer
         ensures text { result.text ≡ text.items }
         ensures status { result.status ≡ REFUSED }
@@ -54,14 +83,31 @@ impl Answer {
         Answer {
             bytes: text,
             code: REFUSED,
+            cause: None,
+            known: Validity::Unknown,
         }
     }
 
-    /// The line of a refusal that says these words, under the status [`REFUSED`].
-    pub fn refused(alloc: Global, words: &str) -> Result<Answer, AllocError>
-        ensures { IfOk result (IsRefused words.now) }
+    /// The line of a refusal, under the status [`REFUSED`]. Want of memory is the error.
+    pub fn refused(alloc: Global, refusal: Refusal) -> Result<Answer, AllocError>
+        ensures { IfOk result (Refuses refusal) }
     {
-        let line = format!(in alloc; "refused {words}\n")?;
-        Ok(Answer::failed(line.into_bytes()))
+        if let Refusal::NoMemory = refusal {
+            return Err(AllocError);
+        }
+        Ok(Answer {
+            bytes: Vec::from_slice(alloc, refusal.line().as_bytes())?,
+            code: REFUSED,
+            cause: Some(refusal),
+            known: Validity::Unknown,
+        })
+    }
+
+    /// The same answer, with what is known of the schedule that it refuses.
+    pub fn with_validity(mut self, validity: Validity) -> Answer
+        ensures { result ≡ self }
+    {
+        self.known = validity;
+        self
     }
 }

@@ -1,50 +1,52 @@
-ghost use Rattle.std.specs.Prelude.{IfOk, IfErr};
+//! The command `check`.
+
+ghost use Rattle.std.specs.Prelude.{◌≡◌, ◌≢◌, List, ℕ, IfOk, IfErr, OnOk, length};
+ghost use Rattle.std.specs.Option.{IsSomeAnd};
 ghost use Rattle.batch.specs.Extent.{widest};
-ghost use Rattle.plan_answers.specs.Answers.{IsOnly, IsJudged, IsFirstWrong, IsChecked};
-ghost use Rattle.plan_answers.specs.Refusals.{IsRealChecking};
+ghost use Rattle.link_graph.specs.Certificates.{IsCertified};
+ghost use Rattle.refusals.specs.declared.refusal.Refusal.TheVariants.{NoMemory};
+ghost use Rattle.plan_answers.specs.Texts.{AreTexts};
+ghost use Rattle.plan_answers.specs.Answers.{IsOnly, IsUnshown, IsChecked};
 
 use crate::answer::Answer;
-use crate::checking_fault::CheckingFault;
-use batch::{Batch, Shape};
-use link_graph::{Certificate, Schedule, check_schedule};
+use crate::texts::ReadTexts;
+use crate::validity::validity_of;
+use link_graph::check_schedule;
+use refusals::Refusal;
 use std::alloc::{AllocError, Global};
 
-/// A batch, and a schedule of it with a certificate that shows that none is shorter.
-pub(crate) struct Judged {
-    pub(crate) batch: Batch,
-    pub(crate) schedule: Schedule,
-    pub(crate) certificate: Certificate,
-}
-
-// Said once, so that no function that lets go of one has to say it again.
-impl Drop for Judged {
-    fn drop(self) {
-        let Judged {
-            batch: _,
-            schedule: _,
-            certificate: _,
-        } = self;
-    }
-}
-
-/// The batch and the shortest schedule of it that the texts say, or what is first wrong.
-pub(crate) fn judge(alloc: Global, batch: &[u8], schedule: &[u8]) -> Result<Judged, CheckingFault>
-    ensures judged { IfOk result (λ found.
-        IsJudged widest batch.now schedule.now found.batch found.schedule found.certificate) }
-    ensures wrong { IfErr result (λ fault. IsRealChecking fault
-        → IsFirstWrong widest batch.now schedule.now fault) }
+/// How many settings the schedule of the texts has, where its certificate shows that none is
+/// shorter; or what is wrong.
+fn judge(alloc: Global, texts: &ReadTexts) -> Result<usize, Refusal>
+    ensures certified { OnOk result
+        (IsSomeAnd texts.now.certificate (IsCertified texts.now.batch texts.now.schedule)) }
+    ensures settings { IfOk result (λ settings. settings ≡ length texts.now.schedule) }
+    ensures wrong { IfErr result (λ refusal. refusal ≢ NoMemory
+        → IsUnshown texts.now.batch texts.now.schedule texts.now.certificate refusal) }
 {
-    let batch = Batch::read(alloc, batch, Shape::WIDEST)?;
-    let (schedule, certificate) = Schedule::read(alloc, schedule)?;
-    let Some(certificate) = certificate else {
-        return Err(CheckingFault::NoCertificate);
+    let Some(certificate) = &texts.certificate else {
+        return Err(Refusal::NoCertificate);
     };
-    check_schedule(alloc, &batch, &schedule, &certificate)?;
-    Ok(Judged {
-        batch,
-        schedule,
-        certificate,
-    })
+    let shortest = check_schedule(alloc, &texts.batch, &texts.schedule, certificate)?;
+    Ok(shortest.settings)
+}
+
+/// The answer to texts that say this.
+fn answer_texts(alloc: Global, texts: &ReadTexts) -> Result<Answer, AllocError>
+    ensures { (batch schedule : List ℕ)
+        → AreTexts widest batch schedule texts.now.batch texts.now.schedule texts.now.certificate
+        → IfOk result (IsChecked widest batch schedule) }
+{
+    match judge(alloc, texts) {
+        Ok(settings) => {
+            let line = format!(in alloc; "shortest {settings}\n")?;
+            Ok(Answer::done(line.into_bytes()))
+        }
+        Err(refusal) => {
+            let answer = Answer::refused(alloc, refusal)?;
+            Ok(answer.with_validity(validity_of(alloc, texts, refusal)))
+        }
+    }
 }
 
 /// The answer of `exchange check`: `shortest S` where the schedule text says a shortest schedule, of
@@ -58,12 +60,8 @@ pub fn answer_check(alloc: Global, batch: &[u8], schedule: &[u8]) -> Result<Answ
     ensures checked { IfOk result (IsChecked widest batch.now schedule.now) }
     ensures one { IfOk result (IsOnly (IsChecked widest batch.now schedule.now)) }
 {
-    match judge(alloc, batch, schedule) {
-        Ok(judged) => {
-            let count = judged.schedule.settings();
-            let line = format!(in alloc; "shortest {count}\n")?;
-            Ok(Answer::done(line.into_bytes()))
-        }
-        Err(fault) => Answer::refused(alloc, fault.words(alloc)?.as_str()),
+    match ReadTexts::read(alloc, batch, schedule) {
+        Ok(texts) => answer_texts(alloc, &texts),
+        Err(refusal) => Answer::refused(alloc, refusal),
     }
 }

@@ -1,32 +1,22 @@
 //! The command `direct`.
 
-ghost use Rattle.std.specs.Prelude.{◌≡◌, ◌≢◌, IfOk, string_bytes};
-ghost use Rattle.batch.specs.declared.fault.BatchFault.TheVariants as batch_fault;
-ghost use Rattle.plan_answers.specs.Directing.{moves_words as words_of, RefusesMoves, IsDirected};
+ghost use Rattle.std.specs.Prelude.{◌≡◌, IfOk};
+ghost use Rattle.plan_answers.specs.Directing.{of_moves, IsDirected};
 
 use crate::answer::Answer;
-use crate::refusal::batch_words;
 use batch::BatchFault;
 use move_directions::{MoveList, direct};
+use refusals::Refusal;
 use std::alloc::{AllocError, Global};
 
-/// What is told of the fault of a text of moves. Where that is want of memory, the error is the same.
-fn moves_words(alloc: Global, fault: BatchFault) -> Result<String, AllocError>
-    ensures real { IfOk result (λ _. fault ≢ batch_fault.NoMemory) }
-    ensures text { IfOk result (λ words. string_bytes words ≡ words_of fault) }
+/// The refusal of the fault of a text of moves.
+fn refusal_of(fault: BatchFault) -> Refusal
+    ensures { result ≡ of_moves fault }
 {
     match fault {
-        BatchFault::Line(n) => format!(in alloc; "moves line {n}"),
-        other => batch_words(alloc, other),
+        BatchFault::Line(n) => Refusal::MovesLine(n),
+        other => other.into(),
     }
-}
-
-/// The refusal of the fault of a text of moves. Where that is want of memory, the error is the same.
-fn refuse_moves(alloc: Global, fault: BatchFault) -> Result<Answer, AllocError>
-    ensures { IfOk result (RefusesMoves fault) }
-{
-    let words = moves_words(alloc, fault)?;
-    Answer::refused(alloc, words.as_str())
 }
 
 /// The answer of `exchange direct`: the text of a batch that does the moves that the text denotes, in their order, by
@@ -43,6 +33,6 @@ pub fn answer_direct(alloc: Global, moves: &[u8]) -> Result<Answer, AllocError>
             let batch = direct(alloc, &moves)?;
             Ok(Answer::done(batch.write()?))
         }
-        Err(fault) => refuse_moves(alloc, fault),
+        Err(fault) => Answer::refused(alloc, refusal_of(fault)),
     }
 }

@@ -3,32 +3,23 @@
 //!
 //! Each `answer_` function reads its texts, does what the command asks for, and gives an [`Answer`]:
 //! what was asked for, or the line of the refusal of what is first wrong. It reads no file and prints
-//! nothing.
+//! nothing. [`answer_plan_alone`] is for those who start no thread.
 #![tactic(auto)]
 
-mod alone;
 mod answer;
 mod checking;
-mod checking_fault;
 mod directing;
 mod drawing;
-mod drawing_fault;
-mod enough;
 pub mod laws;
 mod limits;
 mod planning;
-mod refusal;
 mod setting_range;
+mod texts;
+mod validity;
 
-pub use alone::answer_plan_alone;
 pub use answer::Answer;
 pub use checking::answer_check;
-pub use checking_fault::CheckingFault;
 pub use directing::answer_direct;
 pub use drawing::answer_draw;
-pub use drawing_fault::DrawingFault;
-pub use enough::settings_enough;
-pub use exchange_limits::WorkerCount;
 pub use limits::{DONE, REFUSED};
-pub use planning::answer_plan;
-pub use refusal::{batch_words, refuse_batch};
+pub use planning::{answer_plan, answer_plan_alone};

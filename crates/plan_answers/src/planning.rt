@@ -1,18 +1,19 @@
+//! The command `plan`.
+
 ghost use Rattle.std.specs.Prelude.{IfOk};
 ghost use Rattle.batch.specs.Extent.{widest};
 ghost use Rattle.schedule_certificate.specs.Plans.{IsPlan};
 ghost use Rattle.plan_answers.specs.Answers.{TellsPlan, IsPlanned};
 
 use crate::answer::Answer;
-use crate::refusal::refuse_batch;
 use batch::{Batch, Shape};
 use exchange_limits::WorkerCount;
-use schedule_certificate::{OpenGate, Planned, schedule};
+use schedule_certificate::{OpenGate, Planned, schedule, schedule_alone};
 use std::alloc::{AllocError, Global};
 use std::thread::Threads;
 
 /// The answer that says a plan.
-pub(crate) fn tell(planned: &Planned) -> Result<Answer, AllocError>
+fn tell(planned: &Planned) -> Result<Answer, AllocError>
     requires { IsPlan planned.now }
     ensures { IfOk result (TellsPlan planned.now) }
 {
@@ -38,6 +39,19 @@ pub fn answer_plan<R: Threads + Sync>(
             let planned = schedule(rt, alloc, batch, workers, &OpenGate)?;
             tell(&planned)
         }
-        Err(fault) => refuse_batch(alloc, fault),
+        Err(fault) => Answer::refused(alloc, fault.into()),
+    }
+}
+
+/// The answer of `exchange plan`, as [`answer_plan`] gives it with one worker. It starts no thread.
+pub fn answer_plan_alone(alloc: Global, batch: &[u8]) -> Result<Answer, AllocError>
+    ensures { IfOk result (λ answer. IsPlanned widest batch.now answer) }
+{
+    match Batch::read(alloc, batch, Shape::WIDEST) {
+        Ok(batch) => {
+            let planned = schedule_alone(alloc, batch)?;
+            tell(&planned)
+        }
+        Err(fault) => Answer::refused(alloc, fault.into()),
     }
 }

@@ -3,4 +3,3 @@ pub mod Reporting
 pub mod Fewest
 pub mod Switches
 pub mod Openings
-pub mod Wrongs

@@ -1,25 +1,25 @@
 -- Two texts and an image have one answer of `run`, and one of `apply`, at most.
-use Rattle.std.proofs.Common.{◌≡◌, ℕ, ◌≤◌, List, Option, inl, inr, ap, ap₂, sym, refl, ◌∙◌, subst, arith}
+use Rattle.std.proofs.Common.{◌≡◌, ℕ, ◌≤◌, List, Option, inl, inr, ap, ap₂, sym, ◌∙◌, subst, arith}
 use Rattle.batch.specs.declared.transfer.Transfer.{Transfer}
 use Rattle.batch.specs.Extent.{Extent}
 use Rattle.batch.specs.Faults.{IsFirstFault}
-use Rattle.batch.specs.Overlap.{IsApart, IsFirstOverlap}
+use Rattle.batch.specs.Overlap.{IsApart}
 use Rattle.batch.specs.Text.{Denotes}
 use Rattle.batch.specs.ShapeText.{DenotesShape}
 use Rattle.batch.proofs.Shapes.{one_shape}
 use Rattle.batch.proofs.OneReading.{one_batch, apart, one_fault}
 use Rattle.batch.proofs.FirstOverlap.{one_first}
-use Rattle.module_memory.specs.declared.fault.ImageFault.{ImageFault}
 use Rattle.module_memory.proofs.CoreLaw.{one_placed}
+use Rattle.refusals.specs.declared.refusal.Refusal.{Refusal}
+use Rattle.refusals.specs.declared.refusal.Refusal.TheVariants.{Overlap}
+use Rattle.refusals.specs.Refusals.{refusal_words}
+use Rattle.refusals.specs.Sources.{of_batch, of_image}
 use Rattle.schedule_certificate.specs.Parts.{IsDegree}
-use Rattle.rack_answers.specs.declared.running_fault.RunningFault.{RunningFault}
-use Rattle.rack_answers.specs.declared.running_fault.RunningFault.TheVariants.{Shape, Batch, Image, Overlap, NoMemory}
 use Rattle.plan_answers.specs.Refusals.{Printed, IsRefused}
-use Rattle.rack_answers.specs.Refusals.{running_words}
-use Rattle.rack_answers.specs.Answers.{Told, IsResult, IsFirstRunWrong, IsRunAnswer, ran, run_refused}
-use Rattle.rack_answers.specs.Openings.{IsWrongImage, IsRightImage}
+use Rattle.rack_answers.specs.Answers.{Told, IsResult, IsWrongOf, image_wrong, overlapping, IsFirstRunWrong, shape_wrong, batch_wrong, run_wrong, IsRunAnswer, ran, run_refused}
+use Rattle.rack_answers.specs.Openings.{IsRightImage}
 use Rattle.rack_answers.proofs.Openings.{one_opening, opening_blocks, right_image, not_wrong, one_wrong}
-use Rattle.plan_answers.proofs.OneVerdict.{printed_same, refused_same}
+use Rattle.plan_answers.proofs.Printing.{printed_same, refused_same}
 
 -- a degree is reached, so none is greater
 at_most : (batch : List Transfer) (m n : ℕ) → IsDegree batch m → IsDegree batch n → m ≤ n
@@ -46,56 +46,54 @@ same_result told shape batch image p q a b =
 same_extent : (shape batch : List ℕ) (a b : Extent) (ts : List Transfer) → DenotesShape shape a → DenotesShape shape b → Denotes b batch ts → Denotes a batch ts
 same_extent shape batch a b ts one other denotes = subst (λ (x : Extent). Denotes x batch ts) (sym (one_shape shape a b one other)) denotes
 
--- what is wrong with an image for a shape text
-same_wrong : (shape : List ℕ) (image : Option (List ℕ)) (a b : Extent) (fault : ImageFault) → DenotesShape shape a → DenotesShape shape b → IsWrongImage b image fault → IsWrongImage a image fault
-same_wrong shape image a b fault one other wrong = subst (λ (x : Extent). IsWrongImage x image fault) (sym (one_shape shape a b one other)) wrong
+-- what is wrong with running the batch is wrong with each that the texts say
+same_run : (shape batch : List ℕ) (image : Option (List ℕ)) (a b : Extent) (ts us : List Transfer) (refusal : Refusal) → DenotesShape shape a → DenotesShape shape b → Denotes a batch ts → Denotes b batch us → IsWrongOf b image us refusal → IsWrongOf a image ts refusal
+same_run shape batch image a b ts us refusal one other says tells wrong =
+    let extents : a ≡ b = one_shape shape a b one other in
+    let transfers : ts ≡ us = one_batch a one.allowed batch ts us says (same_extent shape batch a b us one other tells) in
+    rw (extents, transfers) wrong
 
-same_right : (shape : List ℕ) (image : Option (List ℕ)) (a b : Extent) → DenotesShape shape a → DenotesShape shape b → IsRightImage b image → IsRightImage a image
-same_right shape image a b one other right = subst (λ (x : Extent). IsRightImage x image) (sym (one_shape shape a b one other)) right
+-- nothing is wrong with running what was run
+run_right : (extent : Extent) (image : Option (List ℕ)) (ts : List Transfer) (refusal : Refusal) → IsRightImage extent image → IsApart ts → IsWrongOf extent image ts refusal → ⊥
+run_right extent image ts refusal right apart (image_wrong fault wrong is) = not_wrong extent image fault right wrong
+run_right extent image ts refusal right apart (overlapping _ found) = apart found.0 found.1 found.2.overlap
 
 -- a batch that is run has nothing wrong
-result_right : (told : Told) (shape batch : List ℕ) (image : Option (List ℕ)) (text : List ℕ) (fault : RunningFault) → IsResult told shape batch image text → IsFirstRunWrong shape batch image fault → ⊥
-result_right told shape batch image text Shape a wrong = wrong a.extent a.shape_read
-result_right told shape batch image text (Batch fault) a wrong =
-    apart wrong.0 wrong.1.allowed batch a.transfers fault (same_extent shape batch wrong.0 a.extent a.transfers wrong.1 a.shape_read a.batch_read) wrong.2
-result_right told shape batch image text (Image fault) a wrong =
-    not_wrong a.extent image fault (right_image a.extent image a.opening a.is_opening) (same_wrong shape image a.extent wrong.0 fault a.shape_read wrong.2 wrong.4)
-result_right told shape batch image text (Overlap i j) a wrong =
-    let transfers : a.transfers ≡ wrong.1 = one_batch a.extent a.shape_read.allowed batch a.transfers wrong.1 a.batch_read (same_extent shape batch a.extent wrong.0 wrong.1 a.shape_read wrong.2 wrong.3) in
-    subst IsApart transfers a.apart i j wrong.5.overlap
-result_right told shape batch image text NoMemory a wrong = wrong
+result_right : (told : Told) (shape batch : List ℕ) (image : Option (List ℕ)) (text : List ℕ) (refusal : Refusal) → IsResult told shape batch image text → IsFirstRunWrong shape batch image refusal → ⊥
+result_right told shape batch image text refusal a (shape_wrong bad is) = bad a.extent a.shape_read
+result_right told shape batch image text refusal a (batch_wrong extent fault says wrong is) =
+    apart extent says.allowed batch a.transfers fault (same_extent shape batch extent a.extent a.transfers says a.shape_read a.batch_read) wrong
+result_right told shape batch image text refusal a (run_wrong extent ts says tells wrong) =
+    run_right a.extent image a.transfers refusal (right_image a.extent image a.opening a.is_opening) a.apart
+    (same_run shape batch image a.extent extent a.transfers ts refusal a.shape_read says a.batch_read tells wrong)
 
 -- there is one first thing that is wrong
-one_run_wrong : (shape batch : List ℕ) (image : Option (List ℕ)) (f g : RunningFault) → IsFirstRunWrong shape batch image f → IsFirstRunWrong shape batch image g → f ≡ g
-one_run_wrong shape batch image Shape Shape a b = refl
-one_run_wrong shape batch image Shape (Batch g) a b = absurd (a b.0 b.1)
-one_run_wrong shape batch image Shape (Image g) a b = absurd (a b.0 b.2)
-one_run_wrong shape batch image Shape (Overlap k l) a b = absurd (a b.0 b.2)
-one_run_wrong shape batch image (Batch f) Shape a b = absurd (b a.0 a.1)
-one_run_wrong shape batch image (Batch f) (Batch g) a b =
-    ap Batch (one_fault a.0 a.1.allowed batch f g a.2 (subst (λ (x : Extent). IsFirstFault x batch g) (one_shape shape b.0 a.0 b.1 a.1) b.2))
-one_run_wrong shape batch image (Batch f) (Image g) a b = absurd (apart a.0 a.1.allowed batch b.1 f (same_extent shape batch a.0 b.0 b.1 a.1 b.2 b.3) a.2)
-one_run_wrong shape batch image (Batch f) (Overlap k l) a b = absurd (apart a.0 a.1.allowed batch b.1 f (same_extent shape batch a.0 b.0 b.1 a.1 b.2 b.3) a.2)
-one_run_wrong shape batch image (Image f) Shape a b = absurd (b a.0 a.2)
-one_run_wrong shape batch image (Image f) (Batch g) a b = absurd (apart b.0 b.1.allowed batch a.1 g (same_extent shape batch b.0 a.0 a.1 b.1 a.2 a.3) b.2)
-one_run_wrong shape batch image (Image f) (Image g) a b = ap Image (one_wrong a.0 image f g a.4 (same_wrong shape image a.0 b.0 g a.2 b.2 b.4))
-one_run_wrong shape batch image (Image f) (Overlap k l) a b = absurd (not_wrong a.0 image f (same_right shape image a.0 b.0 a.2 b.2 b.4) a.4)
-one_run_wrong shape batch image (Overlap i j) Shape a b = absurd (b a.0 a.2)
-one_run_wrong shape batch image (Overlap i j) (Batch g) a b = absurd (apart b.0 b.1.allowed batch a.1 g (same_extent shape batch b.0 a.0 a.1 b.1 a.2 a.3) b.2)
-one_run_wrong shape batch image (Overlap i j) (Image g) a b = absurd (not_wrong b.0 image g (same_right shape image b.0 a.0 b.2 a.2 a.4) b.4)
-one_run_wrong shape batch image (Overlap i j) (Overlap k l) a b =
-    let transfers : a.1 ≡ b.1 = one_batch a.0 a.2.allowed batch a.1 b.1 a.3 (same_extent shape batch a.0 b.0 b.1 a.2 b.2 b.3) in
-    let same = one_first a.1 i j k l a.5 (subst (λ (x : List Transfer). IsFirstOverlap x k l) (sym transfers) b.5) in
-    ap₂ Overlap same.0 same.1
-one_run_wrong shape batch image Shape NoMemory a b = absurd b
-one_run_wrong shape batch image (Batch f) NoMemory a b = absurd b
-one_run_wrong shape batch image (Image f) NoMemory a b = absurd b
-one_run_wrong shape batch image (Overlap i j) NoMemory a b = absurd b
-one_run_wrong shape batch image NoMemory g a b = absurd a
+one_of_run : (extent : Extent) (image : Option (List ℕ)) (ts : List Transfer) (q r : Refusal) → IsWrongOf extent image ts q → IsWrongOf extent image ts r → q ≡ r
+one_of_run extent image ts q r (image_wrong f a is) (image_wrong g b are) = is ∙ ap of_image (one_wrong extent image f g a b) ∙ sym are
+one_of_run extent image ts q r (image_wrong f a is) (overlapping right b) = absurd (not_wrong extent image f right a)
+one_of_run extent image ts q r (overlapping right a) (image_wrong g b are) = absurd (not_wrong extent image g right b)
+one_of_run extent image ts q r (overlapping right a) (overlapping _ b) =
+    let same = one_first ts a.0 a.1 b.0 b.1 a.2 b.2 in
+    a.3 ∙ ap₂ Overlap same.0 same.1 ∙ sym b.3
+
+one_run_wrong : (shape batch : List ℕ) (image : Option (List ℕ)) (q r : Refusal) → IsFirstRunWrong shape batch image q → IsFirstRunWrong shape batch image r → q ≡ r
+one_run_wrong shape batch image q r (shape_wrong a is) (shape_wrong b are) = is ∙ sym are
+one_run_wrong shape batch image q r (shape_wrong a is) (batch_wrong y g says b are) = absurd (a y says)
+one_run_wrong shape batch image q r (shape_wrong a is) (run_wrong y us says tells b) = absurd (a y says)
+one_run_wrong shape batch image q r (batch_wrong x f says a is) (shape_wrong b are) = absurd (b x says)
+one_run_wrong shape batch image q r (batch_wrong x f says a is) (batch_wrong y g other b are) =
+    is ∙ ap of_batch (one_fault x says.allowed batch f g a (subst (λ (e : Extent). IsFirstFault e batch g) (one_shape shape y x other says) b)) ∙ sym are
+one_run_wrong shape batch image q r (batch_wrong x f says a is) (run_wrong y us other tells b) =
+    absurd (apart x says.allowed batch us f (same_extent shape batch x y us says other tells) a)
+one_run_wrong shape batch image q r (run_wrong x ts says tells a) (shape_wrong b are) = absurd (b x says)
+one_run_wrong shape batch image q r (run_wrong x ts says tells a) (batch_wrong y g other b are) =
+    absurd (apart y other.allowed batch ts g (same_extent shape batch y x ts other says tells) b)
+one_run_wrong shape batch image q r (run_wrong x ts says tells a) (run_wrong y us other tell b) =
+    one_of_run x image ts q r a (same_run shape batch image x y ts us r says other tells tell b)
 
 pub one_run : (told : Told) (shape batch : List ℕ) (image : Option (List ℕ)) (p q : Printed) → IsRunAnswer told shape batch image p → IsRunAnswer told shape batch image q → q ≡ p
 one_run told shape batch image p q (ran a ends) (ran b stops) = printed_same q p (same_result told shape batch image q.text p.text b a) (stops ∙ sym ends)
 one_run told shape batch image p q (ran a ends) (run_refused g b is) = absurd (result_right told shape batch image p.text g a b)
 one_run told shape batch image p q (run_refused f a is) (ran b stops) = absurd (result_right told shape batch image q.text f b a)
 one_run told shape batch image p q (run_refused f a is) (run_refused g b was) =
-    refused_same (running_words g) q p was (subst (λ (r : RunningFault). IsRefused (running_words r) p) (one_run_wrong shape batch image f g a b) is)
+    refused_same (refusal_words g) q p was (subst (λ (r : Refusal). IsRefused (refusal_words r) p) (one_run_wrong shape batch image f g a b) is)

@@ -1,22 +1,24 @@
 -- What `run` and `apply` answer.
 use Rattle.std.specs.Prelude.{◌≡◌, ℕ, List, length, Option}
+use Rattle.batch.specs.declared.fault.BatchFault.{BatchFault}
 use Rattle.batch.specs.declared.transfer.Transfer.{Transfer}
 use Rattle.batch.specs.Extent.{Extent}
 use Rattle.batch.specs.Text.{Denotes}
 use Rattle.batch.specs.Faults.{IsFirstFault}
 use Rattle.batch.specs.Overlap.{IsApart, IsFirstOverlap}
 use Rattle.batch.specs.ShapeText.{DenotesShape, IsBadShape}
+use Rattle.module_memory.specs.declared.fault.ImageFault.{ImageFault}
 use Rattle.module_memory.specs.Store.{Store}
 use Rattle.module_memory.specs.Images.{image_of}
 use Rattle.module_memory.specs.Core.{IsPlaced}
+use Rattle.refusals.specs.declared.refusal.Refusal.{Refusal}
+use Rattle.refusals.specs.declared.refusal.Refusal.TheVariants.{Shape, Overlap}
+use Rattle.refusals.specs.Refusals.{refusal_words}
+use Rattle.refusals.specs.Sources.{of_batch, of_image}
 use Rattle.schedule_certificate.specs.Plans.{Plan}
 use Rattle.schedule_certificate.specs.Parts.{IsDegree}
 use Rattle.plan_answers.specs.declared.limits.TheConstants.{DONE}
-use Rattle.rack_answers.specs.declared.running_fault.RunningFault.{RunningFault}
-use Rattle.rack_answers.specs.declared.running_fault.RunningFault.TheVariants as running
 use Rattle.plan_answers.specs.Refusals.{Printed, IsRefused}
-pub use Rattle.plan_answers.specs.Answers.{IsPlanned, IsChecked}
-use Rattle.rack_answers.specs.Refusals.{running_words}
 use Rattle.rack_answers.specs.Openings.{IsOfImageOrMarked, IsWrongImage, IsRightImage}
 
 -- what is printed of transfers that were placed in so many settings, and of the store after them
@@ -57,41 +59,34 @@ pub record IsResultOf (told : Told) (extent : Extent) (image : Option (List ℕ)
   pub printed : text ≡ told plan.batch (length plan.settings) placed
 
 -- what is wrong with running transfers: the first two that overlap
-abbrev pub IsOverlapOf : List Transfer → RunningFault → Type 0
-IsOverlapOf transfers running.Shape = ⊥
-IsOverlapOf transfers (running.Batch fault) = ⊥
-IsOverlapOf transfers (running.Image fault) = ⊥
-IsOverlapOf transfers (running.Overlap i j) = IsFirstOverlap transfers i j
-IsOverlapOf transfers running.NoMemory = ⊥
+abbrev pub IsOverlapOf : List Transfer → Refusal → Type 0
+IsOverlapOf transfers refusal =
+    (i : ℕ) × (j : ℕ) × IsFirstOverlap transfers i j × (refusal ≡ Overlap i j)
 
 -- what is first wrong with running transfers that the rack has over an image: the image is looked
 -- at first, then whether transfers overlap
-abbrev pub IsWrongOf : Extent → Option (List ℕ) → List Transfer → RunningFault → Type 0
-IsWrongOf extent image transfers running.Shape = ⊥
-IsWrongOf extent image transfers (running.Batch fault) = ⊥
-IsWrongOf extent image transfers (running.Image fault) = IsWrongImage extent image fault
-IsWrongOf extent image transfers (running.Overlap i j) =
-    IsRightImage extent image × IsFirstOverlap transfers i j
-IsWrongOf extent image transfers running.NoMemory = ⊥
+pub data IsWrongOf (extent : Extent) (image : Option (List ℕ)) (transfers : List Transfer)
+    (refusal : Refusal) : Type 0 where
+  image_wrong : (fault : ImageFault) → IsWrongImage extent image fault
+      → refusal ≡ of_image fault → IsWrongOf extent image transfers refusal
+  overlapping : IsRightImage extent image → IsOverlapOf transfers refusal
+      → IsWrongOf extent image transfers refusal
 
--- what is first wrong: the shape text is looked at first, then the batch text, then the image, then
--- whether transfers overlap
-abbrev pub IsFirstRunWrong : List ℕ → List ℕ → Option (List ℕ) → RunningFault → Type 0
-IsFirstRunWrong shape batch image running.Shape = IsBadShape shape
-IsFirstRunWrong shape batch image (running.Batch fault) =
-    (extent : Extent) × DenotesShape shape extent × IsFirstFault extent batch fault
-IsFirstRunWrong shape batch image (running.Image fault) =
-    (extent : Extent) × (transfers : List Transfer) × DenotesShape shape extent
-    × Denotes extent batch transfers × IsWrongImage extent image fault
-IsFirstRunWrong shape batch image (running.Overlap i j) =
-    (extent : Extent) × (transfers : List Transfer) × DenotesShape shape extent
-    × Denotes extent batch transfers × IsRightImage extent image × IsFirstOverlap transfers i j
-IsFirstRunWrong shape batch image running.NoMemory = ⊥
+-- what is first wrong: the shape text is looked at first, then the batch text, then what is run
+pub data IsFirstRunWrong (shape batch : List ℕ) (image : Option (List ℕ)) (refusal : Refusal)
+    : Type 0 where
+  shape_wrong : IsBadShape shape → refusal ≡ Shape → IsFirstRunWrong shape batch image refusal
+  batch_wrong : (extent : Extent) (fault : BatchFault) → DenotesShape shape extent
+      → IsFirstFault extent batch fault → refusal ≡ of_batch fault
+      → IsFirstRunWrong shape batch image refusal
+  run_wrong : (extent : Extent) (transfers : List Transfer) → DenotesShape shape extent
+      → Denotes extent batch transfers → IsWrongOf extent image transfers refusal
+      → IsFirstRunWrong shape batch image refusal
 
 -- what is printed of the run, or what is first wrong, each under its status
 pub data IsRunAnswer (told : Told) (shape batch : List ℕ) (image : Option (List ℕ))
     (printed : Printed) : Type 0 where
   ran : IsResult told shape batch image printed.text → printed.status ≡ DONE
       → IsRunAnswer told shape batch image printed
-  run_refused : (fault : RunningFault) → IsFirstRunWrong shape batch image fault
-      → IsRefused (running_words fault) printed → IsRunAnswer told shape batch image printed
+  run_refused : (refusal : Refusal) → IsFirstRunWrong shape batch image refusal
+      → IsRefused (refusal_words refusal) printed → IsRunAnswer told shape batch image printed

@@ -7,7 +7,6 @@ use Rattle.module_memory.specs.declared.fault.ImageFault.TheVariants.{Length, No
 use Rattle.module_memory.specs.Store.{Store, zeros_of}
 use Rattle.module_memory.specs.Mark.{IsMarked}
 use Rattle.module_memory.specs.Images.{HasImage, IsImageFault, image_length}
-pub use Rattle.plan_answers.specs.Lent.{bytes_of}
 
 -- the store of the image, where there is one; else each word tells where it stands
 abbrev pub IsOfImageOrMarked : Extent → Option (List ℕ) → Store → Type 0

@@ -14,9 +14,10 @@ use Rattle.c004_commands.specs.declared.port.TheConstants.{PORTS}
 use Rattle.crossbar.specs.declared.chip.Wiring.{Wiring}
 use Rattle.crossbar.specs.declared.chip.Wiring.TheVariants.{Both, Forth, Back}
 use Rattle.crossbar.specs.declared.switch.TheConstants.{JOINED_MODULES}
+use Rattle.refusals.specs.Refusals.{refusal_words}
+use Rattle.refusals.specs.Sources.{of_batch}
 use Rattle.schedule_certificate.specs.Plans.{Plan, IsPlan, HasFewReinsertions}
 use Rattle.setting_runner.specs.Sending.{sent_for}
-use Rattle.line_words.specs.BatchFaults.{batch_words}
 use Rattle.line_words.specs.HexWords.{hex2}
 use Rattle.plan_answers.specs.declared.limits.TheConstants.{DONE}
 use Rattle.plan_answers.specs.Refusals.{Printed, IsRefused}
@@ -75,4 +76,4 @@ pub data IsSwitched (shape : Extent) (batch : List ℕ) (printed : Printed) : Ty
   switched : (plan : Plan) → Denotes shape batch plan.batch → IsPlan plan → HasFewReinsertions plan
       → printed.text ≡ switch_text plan → printed.status ≡ DONE → IsSwitched shape batch printed
   unplanned : (fault : BatchFault) → IsFirstFault shape batch fault
-      → IsRefused (batch_words fault) printed → IsSwitched shape batch printed
+      → IsRefused (refusal_words (of_batch fault)) printed → IsSwitched shape batch printed

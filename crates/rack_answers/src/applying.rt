@@ -1,36 +1,32 @@
 //! The command `apply` on the calling thread alone.
 
-ghost use Rattle.std.specs.Prelude.{◌≡◌, IfOk, IfErr, Some, length};
+ghost use Rattle.std.specs.Prelude.{◌≡◌, ◌≢◌, IfOk, IfErr, Some, length};
 ghost use Rattle.batch.specs.Overlap.{IsApart};
 ghost use Rattle.module_memory.specs.Core.{FitsIn, IsPlaced};
 ghost use Rattle.plan_answers.specs.Answers.{IsOnly};
 ghost use Rattle.rack_answers.specs.Answers.{IsResultOf, IsResult, IsOverlapOf, IsWrongOf, IsFirstRunWrong, IsRunAnswer, image_alone};
-ghost use Rattle.rack_answers.specs.Refusals.{IsRealRunning};
+ghost use Rattle.refusals.specs.declared.refusal.Refusal.TheVariants.{NoMemory};
 
 use crate::running::{Telling, Unheard, marked_rack, tell};
-use crate::running_fault::RunningFault;
 use batch::{Batch, Shape, laws};
 use crossbar::MemoryPort;
 use exchange_limits::WorkerCount;
 use module_memory::Rack;
 use peek_poke::PlainWires;
 use plan_answers::Answer;
+use refusals::Refusal;
 use schedule_certificate::{OpenGate, Planned, schedule_alone};
 use setting_runner::{Outcome, Plant, RunRefusal, run_alone};
 use std::alloc::{AllocError, Global};
 
 /// Runs a plan on a rack, over a port and wires that never fail. Gives the rack as the run leaves it, and
 /// how many settings there were.
-fn run_plain_alone(
-    alloc: Global,
-    rack: Rack,
-    planned: &Planned,
-) -> Result<(Rack, usize), RunningFault>
+fn run_plain_alone(alloc: Global, rack: Rack, planned: &Planned) -> Result<(Rack, usize), Refusal>
     requires fits { FitsIn rack.shape planned.now.batch }
     ensures settings { IfOk result (λ ran. ran.1 ≡ length planned.now.settings) }
     ensures placed { IfOk result (λ ran. IsPlaced rack planned.now.batch ran.0) }
     ensures apart { IfOk result (λ _. IsApart planned.now.batch) }
-    ensures wrong { IfErr result (λ e. IsRealRunning e → IsOverlapOf planned.now.batch e) }
+    ensures wrong { IfErr result (λ e. e ≢ NoMemory → IsOverlapOf planned.now.batch e) }
 {
     laws::first_overlap();
     let mut plant = Plant {
@@ -42,10 +38,10 @@ fn run_plain_alone(
     let (rack, outcome) = run_alone(alloc, rack, &mut plant, planned, &mut Unheard);
     match outcome {
         Outcome::Completed { settings, .. } => Ok((rack, settings)),
-        Outcome::Refused(refusal) => match refusal {
-            RunRefusal::Overlap(i, j) => Err(RunningFault::Overlap(i, j)),
+        Outcome::Refused(why) => match why {
+            RunRefusal::Overlap(i, j) => Err(Refusal::Overlap(i, j)),
             RunRefusal::Shape => unreachable!(),
-            RunRefusal::NoMemory => Err(RunningFault::NoMemory),
+            RunRefusal::NoMemory => Err(Refusal::NoMemory),
         },
         Outcome::Stopped { .. } => unreachable!(),
     }
@@ -57,11 +53,11 @@ fn apply_plan(
     shape: Shape,
     image: &[u8],
     planned: &Planned,
-) -> Result<Vec<u8>, RunningFault>
+) -> Result<Vec<u8>, Refusal>
     requires fits { FitsIn shape planned.now.batch }
     ensures result { IfOk result (λ text.
         IsResultOf image_alone shape (Some image.now) planned.now text.items) }
-    ensures wrong { IfErr result (λ e. IsRealRunning e
+    ensures wrong { IfErr result (λ e. e ≢ NoMemory
         → IsWrongOf shape (Some image.now) planned.now.batch e) }
 {
     let rack = marked_rack(alloc, shape, Some(image))?;
@@ -70,16 +66,11 @@ fn apply_plan(
 }
 
 /// The image that a run of the batch leaves, or what is first wrong.
-fn apply_texts(
-    alloc: Global,
-    shape: &[u8],
-    batch: &[u8],
-    image: &[u8],
-) -> Result<Vec<u8>, RunningFault>
+fn apply_texts(alloc: Global, shape: &[u8], batch: &[u8], image: &[u8]) -> Result<Vec<u8>, Refusal>
     ensures result { IfOk result (λ text.
         IsResult image_alone shape.now batch.now (Some image.now) text.items) }
-    ensures wrong { IfErr result (λ fault. IsRealRunning fault
-        → IsFirstRunWrong shape.now batch.now (Some image.now) fault) }
+    ensures wrong { IfErr result (λ refusal. refusal ≢ NoMemory
+        → IsFirstRunWrong shape.now batch.now (Some image.now) refusal) }
 {
     let shape = Shape::read(shape)?;
     let batch = Batch::read(alloc, batch, shape)?;
@@ -101,6 +92,6 @@ pub fn answer_apply_alone(
 {
     match apply_texts(alloc, shape, batch, image) {
         Ok(text) => Ok(Answer::done(text)),
-        Err(fault) => Answer::refused(alloc, fault.words(alloc)?.as_str()),
+        Err(refusal) => Answer::refused(alloc, refusal),
     }
 }

@@ -6,20 +6,14 @@
 //! nothing. Those whose names end in `_alone` start no thread, and need no handle.
 #![tactic(auto)]
 
-mod alone;
 mod applying;
 mod opening;
-mod refusal;
 mod report;
 mod running;
-mod running_fault;
 mod spaced;
 mod switching;
 
-pub use alone::answer_switch_alone;
 pub use applying::answer_apply_alone;
 pub use opening::opening_rack;
-pub use refusal::image_words;
 pub use running::{answer_apply, answer_run};
-pub use running_fault::RunningFault;
-pub use switching::answer_switch;
+pub use switching::{answer_switch, answer_switch_alone};

@@ -8,19 +8,19 @@ ghost use Rattle.plan_answers.specs.Answers.{IsOnly};
 ghost use Rattle.rack_answers.specs.Answers.{IsResultOf, IsResult, IsOverlapOf, IsWrongOf, IsFirstRunWrong, IsRunAnswer, image_alone};
 ghost use Rattle.plan_answers.specs.Lent.{bytes_of};
 ghost use Rattle.rack_answers.specs.Openings.{IsOfImageOrMarked, IsWrongImage};
-ghost use Rattle.rack_answers.specs.Refusals.{IsRealRunning};
+ghost use Rattle.refusals.specs.declared.refusal.Refusal.TheVariants.{NoMemory};
 ghost use Rattle.rack_answers.specs.Reports.{report_of};
 ghost use Rattle.rack_answers.specs.Tellings.{told_by};
 
 use crate::opening::opening_rack;
 use crate::report::report;
-use crate::running_fault::RunningFault;
 use batch::{Batch, Shape, laws};
 use crossbar::MemoryPort;
 use exchange_limits::WorkerCount;
 use module_memory::{ImageFault, Rack};
 use peek_poke::PlainWires;
 use plan_answers::Answer;
+use refusals::Refusal;
 use schedule_certificate::{OpenGate, Planned, schedule};
 use setting_runner::{Notice, Outcome, Plant, RunRefusal, run};
 use std::alloc::{AllocError, Global};
@@ -68,12 +68,12 @@ fn run_plain<R: Threads + Sync>(
     rack: Rack,
     planned: &Planned,
     workers: WorkerCount,
-) -> Result<(Rack, usize), RunningFault>
+) -> Result<(Rack, usize), Refusal>
     requires fits { FitsIn rack.shape planned.now.batch }
     ensures settings { IfOk result (λ ran. ran.1 ≡ length planned.now.settings) }
     ensures placed { IfOk result (λ ran. IsPlaced rack planned.now.batch ran.0) }
     ensures apart { IfOk result (λ _. IsApart planned.now.batch) }
-    ensures wrong { IfErr result (λ e. IsRealRunning e → IsOverlapOf planned.now.batch e) }
+    ensures wrong { IfErr result (λ e. e ≢ NoMemory → IsOverlapOf planned.now.batch e) }
 {
     laws::first_overlap();
     let mut plant = Plant {
@@ -85,10 +85,10 @@ fn run_plain<R: Threads + Sync>(
     let (rack, outcome) = run(rt, alloc, rack, &mut plant, planned, &mut Unheard);
     match outcome {
         Outcome::Completed { settings, .. } => Ok((rack, settings)),
-        Outcome::Refused(refusal) => match refusal {
-            RunRefusal::Overlap(i, j) => Err(RunningFault::Overlap(i, j)),
+        Outcome::Refused(why) => match why {
+            RunRefusal::Overlap(i, j) => Err(Refusal::Overlap(i, j)),
             RunRefusal::Shape => unreachable!(),
-            RunRefusal::NoMemory => Err(RunningFault::NoMemory),
+            RunRefusal::NoMemory => Err(Refusal::NoMemory),
         },
         Outcome::Stopped { .. } => unreachable!(),
     }
@@ -120,11 +120,11 @@ fn tell_plan<R: Threads + Sync>(
     planned: &Planned,
     workers: WorkerCount,
     telling: Telling,
-) -> Result<Vec<u8>, RunningFault>
+) -> Result<Vec<u8>, Refusal>
     requires fits { FitsIn shape planned.now.batch }
     ensures result { IfOk result (λ text.
         IsResultOf (told_by telling) shape (bytes_of image.entry) planned.now text.items) }
-    ensures wrong { IfErr result (λ e. IsRealRunning e
+    ensures wrong { IfErr result (λ e. e ≢ NoMemory
         → IsWrongOf shape (bytes_of image.entry) planned.now.batch e) }
 {
     let rack = marked_rack(alloc, shape, image)?;
@@ -141,11 +141,11 @@ fn tell_run<R: Threads + Sync>(
     image: Option<&[u8]>,
     workers: WorkerCount,
     telling: Telling,
-) -> Result<Vec<u8>, RunningFault>
+) -> Result<Vec<u8>, Refusal>
     ensures result { IfOk result (λ text. IsResult (told_by telling) shape.now batch.now
         (bytes_of image.entry) text.items) }
-    ensures wrong { IfErr result (λ fault. IsRealRunning fault
-        → IsFirstRunWrong shape.now batch.now (bytes_of image.entry) fault) }
+    ensures wrong { IfErr result (λ refusal. refusal ≢ NoMemory
+        → IsFirstRunWrong shape.now batch.now (bytes_of image.entry) refusal) }
 {
     let shape = Shape::read(shape)?;
     let batch = Batch::read(alloc, batch, shape)?;
@@ -170,7 +170,7 @@ fn answer_telling<R: Threads + Sync>(
 {
     match tell_run(rt, alloc, shape, batch, image, workers, telling) {
         Ok(text) => Ok(Answer::done(text)),
-        Err(fault) => Answer::refused(alloc, fault.words(alloc)?.as_str()),
+        Err(refusal) => Answer::refused(alloc, refusal),
     }
 }
 

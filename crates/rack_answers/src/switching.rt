@@ -12,8 +12,8 @@ use batch::{Batch, Shape};
 use crossbar::{JOINED_MODULES, Pair, Wiring};
 use exchange_limits::WorkerCount;
 use line_words::{Line, hex2_of};
-use plan_answers::{Answer, refuse_batch};
-use schedule_certificate::{OpenGate, Planned, schedule};
+use plan_answers::Answer;
+use schedule_certificate::{OpenGate, Planned, schedule, schedule_alone};
 use setting_runner::{PairList, WIDE_CHANGE_BYTES, bytes_for, setting_numbers};
 use std::alloc::{AllocError, Global};
 use std::thread::Threads;
@@ -115,7 +115,7 @@ fn switch_lines(alloc: Global, planned: &Planned) -> Result<Vec<u8>, AllocError>
 }
 
 /// The answer that tells what a run of the plan sends the switches.
-pub(crate) fn tell(alloc: Global, planned: &Planned) -> Result<Answer, AllocError>
+fn tell(alloc: Global, planned: &Planned) -> Result<Answer, AllocError>
     ensures { IfOk result (TellsSwitch planned.now) }
 {
     let text = switch_lines(alloc, planned)?;
@@ -142,6 +142,19 @@ pub fn answer_switch<R: Threads + Sync>(
             let planned = schedule(rt, alloc, batch, workers, &OpenGate)?;
             tell(alloc, &planned)
         }
-        Err(fault) => refuse_batch(alloc, fault),
+        Err(fault) => Answer::refused(alloc, fault.into()),
+    }
+}
+
+/// The answer of `exchange switch`, as [`answer_switch`] gives it with one worker. It starts no thread.
+pub fn answer_switch_alone(alloc: Global, batch: &[u8]) -> Result<Answer, AllocError>
+    ensures { IfOk result (λ answer. IsSwitched widest batch.now answer) }
+{
+    match Batch::read(alloc, batch, Shape::WIDEST) {
+        Ok(batch) => {
+            let planned = schedule_alone(alloc, batch)?;
+            tell(alloc, &planned)
+        }
+        Err(fault) => Answer::refused(alloc, fault.into()),
     }
 }

@@ -5,5 +5,7 @@
 #![tactic(auto)]
 
 mod refusal;
+mod validity;
 
 pub use refusal::{REFUSAL_ROOM, Refusal};
+pub use validity::Validity;

@@ -2,10 +2,11 @@ ghost use Rattle.std.specs.Prelude.{◌≡◌, ◌≤◌, ◌+◌, ◌++◌, len
 ghost use Rattle.std.specs.Fmt.{decimal};
 ghost use Rattle.refusals.specs.Refusals.{link_words, memory_words, refusal_line, refusal_words, two_numbers};
 
-use batch::BatchFault;
+use batch::{BatchFault, ShapeFault};
 use line_words::{LINE_ROOM, Line, NUMBER_ROOM};
 use link_graph::{CheckFault, Link, ScheduleFault};
 use module_memory::{ImageFault, MemoryFault};
+use std::alloc::AllocError;
 
 /// Room for the line of a refusal, whatever its numbers are.
 pub const REFUSAL_ROOM: usize = 100;
@@ -78,6 +79,28 @@ pub enum Refusal {
     HistoryFull,
     /// `no memory`: there was no memory.
     NoMemory,
+}
+
+impl From<AllocError> for Refusal {
+    ghost use Rattle.std.specs.Prelude.{◌≡◌};
+    ghost use Rattle.refusals.specs.declared.refusal.Refusal.TheVariants.{NoMemory};
+
+    ghost from_gives = { λ _ gives. gives ≡ NoMemory };
+
+    fn from(_error: AllocError) -> Refusal {
+        Refusal::NoMemory
+    }
+}
+
+impl From<ShapeFault> for Refusal {
+    ghost use Rattle.std.specs.Prelude.{◌≡◌};
+    ghost use Rattle.refusals.specs.declared.refusal.Refusal.TheVariants.{Shape};
+
+    ghost from_gives = { λ _ gives. gives ≡ Shape };
+
+    fn from(_fault: ShapeFault) -> Refusal {
+        Refusal::Shape
+    }
 }
 
 impl From<BatchFault> for Refusal {

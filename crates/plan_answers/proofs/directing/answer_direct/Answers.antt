@@ -1,7 +1,8 @@
-use Rattle.std.proofs.Common.{◌∙◌, subst}
+use Rattle.std.proofs.Common.{◌∙◌, ap, subst}
 use Rattle.std.proofs.lemmas.Result.{IfOk-weaker}
 use Rattle.batch.specs.Batches.{IsBatch}
-use Rattle.plan_answers.specs.Directing.{RefusesMoves, IsDirected, directed, refused}
+use Rattle.plan_answers.specs.Directing.{of_moves, IsDirected, directed, refused}
+use Rattle.plan_answers.specs.Refusals.{Refuses}
 use Rattle.plan_answers.proofs.directing.answer_direct.Goals as goal
 
 pub returns-in_ok-write-in-Ok : goal.returns-in_ok-write-in-Ok
@@ -17,5 +18,6 @@ returns-in_ok-write-in-Ok c =
 
 pub returns-in-Err : goal.returns-in-Err
 returns-in-Err c =
-    IfOk-weaker c.refuse_moves.result (RefusesMoves c.in-Err.fault) (IsDirected c.args.moves.now)
-    (λ p is. refused c.in-Err.fault (c.in-Err.ensures.fault is.0) is.1) c.refuse_moves.ensures
+    let refuses = rw c.refusal_of.ensures at c.refused.ensures in
+    IfOk-weaker c.refused.result (Refuses (of_moves c.in-Err.fault)) (IsDirected c.args.moves.now)
+    (λ p is. refused c.in-Err.fault (c.in-Err.ensures.fault (λ e. is.0 (ap of_moves e))) is.1) refuses

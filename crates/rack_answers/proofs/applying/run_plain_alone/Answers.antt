@@ -1,4 +1,4 @@
-use Rattle.std.proofs.Common.{ap, sym, ◌∙◌}
+use Rattle.std.proofs.Common.{ap, refl, sym, ◌∙◌}
 use Rattle.setting_runner.specs.declared.outcome.Outcome.TheVariants.{Refused}
 use Rattle.rack_answers.proofs.applying.run_plain_alone.Goals as goal
 
@@ -10,4 +10,6 @@ returns-in-Completed-clause-apart c =
 
 pub returns-in-Overlap-clause-wrong : goal.returns-in-Overlap-clause-wrong
 returns-in-Overlap-clause-wrong c real =
-    (c.run_alone-rack.ensures.overlap c.in-Overlap.i c.in-Overlap.j).0 (c.in-Refused.is ∙ ap Refused c.in-Overlap.is)
+    let i = c.in-Overlap.i in
+    let j = c.in-Overlap.j in
+    (i, j, (c.run_alone-rack.ensures.overlap i j).0 (c.in-Refused.is ∙ ap Refused c.in-Overlap.is), refl)

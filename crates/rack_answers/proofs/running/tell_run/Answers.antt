@@ -1,17 +1,18 @@
+use Rattle.std.proofs.Common.{◌≢◌, ap, refl}
 use Rattle.std.proofs.lemmas.Result.{err_from_is_err_and, IfOk-weaker, IfErr-weaker}
-use Rattle.rack_answers.specs.Answers.{IsResultOf, IsResult, IsWrongOf, IsFirstRunWrong}
+use Rattle.rack_answers.specs.Answers.{IsResultOf, IsResult, IsWrongOf, IsFirstRunWrong, batch_wrong, run_wrong}
 use Rattle.plan_answers.specs.Lent.{bytes_of}
 use Rattle.rack_answers.specs.Tellings.{told_by}
-use Rattle.rack_answers.specs.Refusals.{IsRealRunning}
+use Rattle.refusals.specs.declared.refusal.Refusal.TheVariants.{NoMemory}
+use Rattle.refusals.specs.Sources.{of_batch}
 use Rattle.batch.specs.Text.{Denotes}
 use Rattle.rack_answers.proofs.Fewest.{fewest_settings, fits_in}
-use Rattle.rack_answers.proofs.Wrongs.{first_wrong}
 use Rattle.rack_answers.proofs.running.tell_run.Goals as goal
 
 pub returns-in_err-batch-clause-wrong : goal.returns-in_err-batch-clause-wrong
 returns-in_err-batch-clause-wrong g c =
     let p = err_from_is_err_and c.from_residual-in_err-batch.result c.from_residual-in_err-batch.ensures.1 in
-    rw (p.1, p.2) (λ real. (c.in_ok-shape.shape, c.in_ok-shape.ensures.shape, c.in_err-batch.ensures.fault real))
+    rw (p.1, p.2) (λ real. batch_wrong c.in_ok-shape.shape c.in_err-batch.field-0.0 c.in_ok-shape.ensures.shape (c.in_err-batch.ensures.fault (λ e. real (ap of_batch e))) refl)
 
 pub tell_plan-requires-clause-fits : goal.tell_plan-requires-clause-fits
 tell_plan-requires-clause-fits g c κs within =
@@ -44,5 +45,5 @@ returns-clause-wrong g c =
     let same = c.in_ok-planned.ensures.batch in
     let image = bytes_of c.args.image in
     let batch : Denotes c.in_ok-shape.shape c.args.batch.now c.in_ok-planned.planned.batch = rw same c.in_ok-batch.ensures.batch in
-    IfErr-weaker c.tell_plan.result (λ e. IsRealRunning e → IsWrongOf c.in_ok-shape.shape image c.in_ok-planned.planned.batch e) (λ e. IsRealRunning e → IsFirstRunWrong c.args.shape.now c.args.batch.now image e)
-    (λ e wrong real. first_wrong c.args.shape.now c.args.batch.now image c.in_ok-shape.shape c.in_ok-planned.planned.batch c.in_ok-shape.ensures.shape batch e (wrong real)) c.tell_plan.ensures.wrong
+    IfErr-weaker c.tell_plan.result (λ e. e ≢ NoMemory → IsWrongOf c.in_ok-shape.shape image c.in_ok-planned.planned.batch e) (λ e. e ≢ NoMemory → IsFirstRunWrong c.args.shape.now c.args.batch.now image e)
+    (λ e wrong real. run_wrong c.in_ok-shape.shape c.in_ok-planned.planned.batch c.in_ok-shape.ensures.shape batch (wrong real)) c.tell_plan.ensures.wrong

@@ -1,6 +1,8 @@
+use Rattle.std.proofs.Common.{ap}
 use Rattle.std.proofs.lemmas.Result.{IfOk-weaker}
 use Rattle.batch.specs.Extent.{widest}
-use Rattle.plan_answers.specs.Refusals.{RefusesBatch}
+use Rattle.refusals.specs.Sources.{of_batch}
+use Rattle.plan_answers.specs.Refusals.{Refuses}
 use Rattle.rack_answers.specs.Switching.{TellsSwitch, IsSwitched, switched, unplanned}
 use Rattle.rack_answers.proofs.switching.answer_switch.Goals as goal
 
@@ -13,5 +15,6 @@ returns-in_ok-planned-in-Ok g c =
 
 pub returns-in-Err : goal.returns-in-Err
 returns-in-Err g c =
-    IfOk-weaker c.refuse_batch.result (RefusesBatch c.in-Err.fault) (IsSwitched widest c.args.batch.now)
-    (λ p is. unplanned c.in-Err.fault (c.in-Err.ensures.fault is.0) is.1) c.refuse_batch.ensures
+    let refuses = rw c.into.ensures at c.refused.ensures in
+    IfOk-weaker c.refused.result (Refuses (of_batch c.in-Err.fault)) (IsSwitched widest c.args.batch.now)
+    (λ p is. unplanned c.in-Err.fault (c.in-Err.ensures.fault (λ e. is.0 (ap of_batch e))) is.1) refuses

@@ -1,6 +1,0 @@
-use Rattle.std.proofs.Common.{arith}
-use Rattle.std.proofs.lemmas.Grind.{common_steps}
-use Rattle.client_session.proofs.reply_line.put_batch_refused.Goals as goal
-
-pub returns : goal.returns
-returns c = grind (arith, common_steps)

@@ -1,3 +1,0 @@
-pub mod Begun
-pub mod Held
-pub mod Told

@@ -1,0 +1,64 @@
+-- A schedule whose certificate is wrong is one of the batch all the same.
+use Rattle.std.proofs.Common.{◌≡◌, ℕ, List, Option, Some, None, refl, sym, subst, inl, inr, ◌⊎◌}
+use Rattle.std.specs.Prelude.{⊤}
+use Rattle.batch.specs.declared.transfer.Transfer.{Transfer}
+use Rattle.batch.specs.Extent.{Extent}
+use Rattle.link_graph.specs.declared.check_fault.CheckFault.{CheckFault}
+use Rattle.link_graph.specs.declared.check_fault.CheckFault.TheVariants as check_fault
+use Rattle.link_graph.specs.declared.link.Link.{Link}
+use Rattle.link_graph.specs.Certificates.{Naming}
+use Rattle.link_graph.specs.Checks.{IsFirstCheckFault}
+use Rattle.link_graph.specs.Schedules.{IsScheduleOf}
+use Rattle.link_graph.proofs.OneFault.{none_wrong}
+use Rattle.refusals.specs.declared.refusal.Refusal.{Refusal}
+use Rattle.refusals.specs.declared.refusal.Refusal.TheVariants.{CheckWrongLink, CheckCertificateRepeats, CheckNotTight}
+use Rattle.refusals.specs.Sources.{of_check}
+use Rattle.schedule_picture.specs.declared.verdict.Standing.TheVariants.{Wrong}
+use Rattle.schedule_picture.specs.declared.verdict.Verdict.{Verdict}
+use Rattle.schedule_picture.specs.Verdicts.{IsBusiestOf, uses_of, IsStanding, IsVerdict}
+use Rattle.plan_answers.specs.Answers.{IsUnshown}
+use Rattle.plan_answers.specs.Texts.{AreTexts}
+use Rattle.plan_answers.specs.Validities.{IsValid, AreEnough}
+
+-- a refusal of the certificate
+abbrev IsOfCertificate : Refusal → Type 0
+IsOfCertificate (CheckWrongLink t) = ⊤
+IsOfCertificate (CheckCertificateRepeats t) = ⊤
+IsOfCertificate (CheckNotTight s u) = ⊤
+IsOfCertificate refusal = ⊥
+
+-- it is one of these
+abbrev pub IsOneOfThem : Refusal → Type 0
+IsOneOfThem refusal =
+    ((t : ℕ) × (refusal ≡ CheckWrongLink t)) ⊎ (((t : ℕ) × (refusal ≡ CheckCertificateRepeats t)) ⊎ ((s : ℕ) × (u : ℕ) × (refusal ≡ CheckNotTight s u)))
+
+of_certificate : (refusal : Refusal) → IsOneOfThem refusal → IsOfCertificate refusal
+of_certificate refusal (inl is) = subst IsOfCertificate (sym is.1) tt
+of_certificate refusal (inr (inl is)) = subst IsOfCertificate (sym is.1) tt
+of_certificate refusal (inr (inr is)) = subst IsOfCertificate (sym is.2) tt
+
+-- the settings were found right before it was looked at
+scheduled : (ts : List Transfer) (xs : List (List ℕ)) (named : Naming) (fault : CheckFault) → IsFirstCheckFault ts xs named fault → IsOfCertificate (of_check fault) → IsScheduleOf ts xs
+scheduled ts xs named (check_fault.Unknown t) first of = absurd of
+scheduled ts xs named (check_fault.Repeated t) first of = absurd of
+scheduled ts xs named (check_fault.Missing t) first of = absurd of
+scheduled ts xs named (check_fault.Clash k link) first of = absurd of
+scheduled ts xs named (check_fault.WrongLink t) first of = first.0
+scheduled ts xs named (check_fault.CertificateRepeats t) first of = first.0
+scheduled ts xs named (check_fault.NotTight s u) first of = first.0
+scheduled ts xs named check_fault.NoMemory first of = absurd first
+
+stands_wrong : (ts : List Transfer) (xs : List (List ℕ)) (m : Option Naming) (refusal : Refusal) → IsUnshown ts xs m refusal → IsOfCertificate refusal → IsScheduleOf ts xs × IsStanding ts xs m Wrong
+stands_wrong ts xs None refusal is of = absurd (subst IsOfCertificate is of)
+stands_wrong ts xs (Some named) refusal is of =
+    let schedule = scheduled ts xs named is.0 is.1 (subst IsOfCertificate is.2 of) in
+    (schedule, λ certificate. none_wrong ts xs named is.0 schedule certificate is.1)
+
+-- as many settings are enough as the busiest link has transfers
+pub enough : (shape : Extent) (batch schedule : List ℕ) (ts : List Transfer) (xs : List (List ℕ)) (m : Option Naming) (refusal : Refusal) (link : Option Link) → AreTexts shape batch schedule ts xs m → IsUnshown ts xs m refusal → IsOneOfThem refusal → IsBusiestOf ts link → AreEnough shape batch schedule (uses_of ts link)
+enough shape batch schedule ts xs m refusal link texts is one most =
+    let found = stands_wrong ts xs m refusal is (of_certificate refusal one) in
+    let verdict : Verdict = record { fewest = uses_of ts link; busiest = link; standing = Wrong } in
+    let known : IsVerdict ts xs m verdict = record { link = link; most = most; fewest = refl; standing = found.1; busiest = refl } in
+    let valid : IsValid shape batch schedule ts xs verdict = record { certificate = m; texts = texts; valid = found.0; known = known } in
+    (ts, xs, verdict, valid, refl)

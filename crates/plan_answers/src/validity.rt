@@ -1,0 +1,71 @@
+//! Whether a schedule is one of its batch, whatever certificate it has.
+
+ghost use Rattle.std.specs.Prelude.{◌≡◌, ◌≢◌, List, ℕ, Option, OnOk, IfOk, IfErr};
+ghost use Rattle.batch.specs.Extent.{widest};
+ghost use Rattle.link_graph.specs.declared.link.Link.{Link};
+ghost use Rattle.link_graph.specs.Schedules.{IsScheduleOf};
+ghost use Rattle.refusals.specs.declared.refusal.Refusal.TheVariants.{NoMemory};
+ghost use Rattle.schedule_picture.specs.Verdicts.{IsBusiestOf, uses_of, IsVerdict};
+ghost use Rattle.plan_answers.specs.Answers.{IsUnshown};
+ghost use Rattle.plan_answers.specs.Texts.{AreTexts};
+ghost use Rattle.plan_answers.specs.Validities.{IsUnscheduled, IsKnown};
+
+use crate::texts::ReadTexts;
+use batch::Batch;
+use link_graph::LinkGraph;
+use refusals::{Refusal, Validity};
+use schedule_picture::{Verdict, verdict_on};
+use std::alloc::{AllocError, Global};
+
+/// What is known of how many settings the schedule has, where it is one of the batch; or what is
+/// first wrong with its settings.
+pub(crate) fn verdict_of(alloc: Global, texts: &ReadTexts) -> Result<Verdict, Refusal>
+    ensures schedule { OnOk result (IsScheduleOf texts.now.batch texts.now.schedule) }
+    ensures verdict { IfOk result
+        (IsVerdict texts.now.batch texts.now.schedule texts.now.certificate) }
+    ensures wrong { IfErr result (λ refusal. refusal ≢ NoMemory
+        → IsUnscheduled texts.now.batch texts.now.schedule refusal) }
+{
+    let certificate = texts.certificate.as_ref();
+    Ok(verdict_on(alloc, &texts.batch, &texts.schedule, certificate)?)
+}
+
+/// How many transfers the busiest link has, so that no schedule has fewer settings.
+fn most_uses(batch: &Batch) -> Result<usize, AllocError>
+    ensures { IfOk result (λ most. (link : Option Link) × IsBusiestOf batch.now link
+        × (most ≡ uses_of batch.now link)) }
+{
+    let graph = LinkGraph::of(batch)?;
+    match graph.busiest() {
+        Some(link) => Ok(graph.uses(link)),
+        None => Ok(0),
+    }
+}
+
+/// What is known of a schedule that `check` refuses so: whether it is one of the batch, and how many
+/// settings are enough then.
+///
+/// Nothing is known where there is no memory, or where the settings themselves are refused.
+pub(crate) fn validity_of(alloc: Global, texts: &ReadTexts, refusal: Refusal) -> Validity
+    requires { IsUnshown texts.now.batch texts.now.schedule texts.now.certificate refusal }
+    ensures { (batch schedule : List ℕ)
+        → AreTexts widest batch schedule texts.now.batch texts.now.schedule texts.now.certificate
+        → IsKnown batch schedule result }
+{
+    match refusal {
+        Refusal::NoCertificate => match verdict_of(alloc, texts) {
+            Ok(verdict) => Validity::Valid(verdict.fewest),
+            Err(wrong) => match wrong {
+                Refusal::NoMemory => Validity::Unknown,
+                _ => Validity::Invalid,
+            },
+        },
+        Refusal::CheckWrongLink(_)
+        | Refusal::CheckCertificateRepeats(_)
+        | Refusal::CheckNotTight { .. } => match most_uses(&texts.batch) {
+            Ok(most) => Validity::Valid(most),
+            Err(_) => Validity::Unknown,
+        },
+        _ => Validity::Unknown,
+    }
+}

@@ -1,0 +1,20 @@
+use Rattle.std.proofs.Common.{ap}
+use Rattle.std.proofs.lemmas.Result.{IfOk-weaker}
+use Rattle.batch.specs.Extent.{widest}
+use Rattle.refusals.specs.Sources.{of_batch}
+use Rattle.plan_answers.specs.Refusals.{Refuses}
+use Rattle.rack_answers.specs.Switching.{TellsSwitch, IsSwitched, switched, unplanned}
+use Rattle.rack_answers.proofs.switching.answer_switch_alone.Goals as goal
+
+pub returns-in_ok-planned-in-Ok : goal.returns-in_ok-planned-in-Ok
+returns-in_ok-planned-in-Ok c =
+    let plan = c.in_ok-planned-in-Ok.planned in
+    let its = c.in_ok-planned-in-Ok.ensures in
+    IfOk-weaker c.tell.result (TellsSwitch plan) (IsSwitched widest c.args.batch.now)
+    (λ p tells. switched plan (rw its.batch c.in-Ok.ensures.batch) its.plan its.reinserted tells.0 tells.1) c.tell.ensures
+
+pub returns-in-Err : goal.returns-in-Err
+returns-in-Err c =
+    let refuses = rw c.into.ensures at c.refused.ensures in
+    IfOk-weaker c.refused.result (Refuses (of_batch c.in-Err.fault)) (IsSwitched widest c.args.batch.now)
+    (λ p is. unplanned c.in-Err.fault (c.in-Err.ensures.fault (λ e. is.0 (ap of_batch e))) is.1) refuses
