@@ -1,5 +1,5 @@
 -- What calls of the seat and readings do.
-use Rattle.std.proofs.Common.{◌≡◌, ◌≢◌, ℕ, ◌≤◌, List, [], ◌∷◌, ◌++◌, map, codes, Option, Some, Bool, true, false, sym, ap, ◌∙◌, append_assoc, append-nil, refl, subst, arith, inl, inr}
+use Rattle.std.proofs.Common.{◌≡◌, ◌≢◌, ℕ, ◌≤◌, List, [], ◌∷◌, ◌++◌, map, Option, Some, Bool, true, false, sym, ap, ◌∙◌, append_assoc, append-nil, refl, subst, arith, inl, inr}
 use Rattle.std.specs.List.{AllByRecursion}
 use Rattle.std.proofs.lemmas.List.{map-append}
 use Rattle.batch.specs.declared.fault.BatchFault.{BatchFault}
@@ -17,10 +17,12 @@ use Rattle.batch_book.specs.Replies.{is_logged}
 use Rattle.batch_book.specs.Answering.{IsReplyTo}
 use Rattle.batch_book.specs.History.{entry}
 use Rattle.batch_book.specs.Values.{value_of}
-use Rattle.line_words.specs.BatchFaults.{batch_words}
+use Rattle.refusals.specs.declared.refusal.Refusal.TheVariants as refusal
+use Rattle.refusals.specs.Refusals.{refusal_line}
+use Rattle.refusals.specs.Sources.{of_batch}
 use Rattle.client_session.specs.declared.command.Command.{Command}
 use Rattle.batch_book.specs.declared.reading.Reading.{Reading}
-use Rattle.client_session.specs.Replies.{reply_line, refused_line, progress_line}
+use Rattle.client_session.specs.Replies.{reply_line, progress_line}
 use Rattle.client_session.specs.Seats.{SeatView, logged, GoesOnFrom, IsCalled, IsProgressRead}
 use Rattle.client_session.specs.Turns.{Answer, plain_answer, tells, settles, TellsReply, Submits, Settles, Plans, ReadsProgress}
 use Rattle.client_session.specs.Steps.{CanBeTold, IsNoFetch, Did, Acts}
@@ -106,9 +108,9 @@ settled old mid new id batch plan line h shortest of acts =
     (acts.line_is ∙ ap (λ (x : Answer). x.line) same)
 
 -- a batch was fetched, and there was no memory to plan it
-pub unplanned : (old mid : SeatView) (id : ℕ) (batch : List Transfer) (line : List ℕ) → IsCalled old (call.Fetch id) (Fetched batch) mid → line ≡ refused_line (codes "no memory") → Acts old mid (Plans old.session id) line
+pub unplanned : (old mid : SeatView) (id : ℕ) (batch : List Transfer) (line : List ℕ) → IsCalled old (call.Fetch id) (Fetched batch) mid → line ≡ refusal_line refusal.NoMemory → Acts old mid (Plans old.session id) line
 unplanned old mid id batch line h e =
-    plans old mid id batch (plain_answer (entry old.session (call.Fetch id) (Fetched batch) ∷ []) (refused_line (codes "no memory"))) line (did_call old mid (call.Fetch id) (Fetched batch) _ h) (inr refl) e
+    plans old mid id batch (plain_answer (entry old.session (call.Fetch id) (Fetched batch) ∷ []) (refusal_line refusal.NoMemory)) line (did_call old mid (call.Fetch id) (Fetched batch) _ h) (inr refl) e
 
 -- the reply to `Fetch`, where it is no batch, can be told, and refuses it
 pub told_unfetched : (id : ℕ) (r : Reply) → IsReplyTo (call.Fetch id) r → ((batch : List Transfer) → r ≡ Fetched batch → ⊥) → CanBeTold r
@@ -138,13 +140,13 @@ read_progress old new r line h e = record {
 
 -- ---- batch texts
 
-tells_fault : (p : SeatView) (shape : Extent) (text : List ℕ) (fault : BatchFault) (line : List ℕ) → shape ≡ p.shape → fault ≢ NoMemory → (fault ≢ NoMemory → IsFirstFault shape text fault) → line ≡ refused_line (batch_words fault) → Acts p p (Submits p.shape p.session text) line
+tells_fault : (p : SeatView) (shape : Extent) (text : List ℕ) (fault : BatchFault) (line : List ℕ) → shape ≡ p.shape → fault ≢ NoMemory → (fault ≢ NoMemory → IsFirstFault shape text fault) → line ≡ refusal_line (of_batch fault) → Acts p p (Submits p.shape p.session text) line
 tells_fault p shape text fault line same other first e =
-    says p (Submits p.shape p.session text) (refused_line (batch_words fault)) line (inr (inl (fault, other, subst (λ (x : Extent). IsFirstFault x text fault) same (first other), refl))) e
+    says p (Submits p.shape p.session text) (refusal_line (of_batch fault)) line (inr (inl (fault, other, subst (λ (x : Extent). IsFirstFault x text fault) same (first other), refl))) e
 
 -- the first fault of a batch text is told, or want of memory
-pub faulty : (p : SeatView) (shape : Extent) (text : List ℕ) (fault : BatchFault) (line : List ℕ) → shape ≡ p.shape → (fault ≢ NoMemory → IsFirstFault shape text fault) → (fault ≡ NoMemory → NeedsMemory shape text) → line ≡ refused_line (batch_words fault) → Acts p p (Submits p.shape p.session text) line
-faulty p shape text NoMemory line same first needs e = says p (Submits p.shape p.session text) (refused_line (codes "no memory")) line (inr (inr (subst (λ (x : Extent). NeedsMemory x text) same (needs refl), refl))) e
+pub faulty : (p : SeatView) (shape : Extent) (text : List ℕ) (fault : BatchFault) (line : List ℕ) → shape ≡ p.shape → (fault ≢ NoMemory → IsFirstFault shape text fault) → (fault ≡ NoMemory → NeedsMemory shape text) → line ≡ refusal_line (of_batch fault) → Acts p p (Submits p.shape p.session text) line
+faulty p shape text NoMemory line same first needs e = says p (Submits p.shape p.session text) (refusal_line refusal.NoMemory) line (inr (inr (subst (λ (x : Extent). NeedsMemory x text) same (needs refl), refl))) e
 faulty p shape text (Line n) line same first needs e = tells_fault p shape text (Line n) line same (λ x. cc) first e
 faulty p shape text TooMany line same first needs e = tells_fault p shape text TooMany line same (λ x. cc) first e
 faulty p shape text (NoModule t) line same first needs e = tells_fault p shape text (NoModule t) line same (λ x. cc) first e

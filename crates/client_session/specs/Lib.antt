@@ -2,6 +2,7 @@ pub mod Bytes
 pub mod Asking
 pub mod Faults
 pub mod Commands
+pub mod Sources
 pub mod Replies
 pub mod Seats
 pub mod Turns

@@ -12,20 +12,23 @@ use Rattle.schedule_certificate.specs.Plans.{Plan, IsPlan}
 use Rattle.batch_book.specs.declared.entry.Entry.{Entry}
 use Rattle.batch_book.specs.declared.call.Call.{Call}
 use Rattle.batch_book.specs.declared.call.Call.TheVariants as call
-use Rattle.batch_book.specs.declared.refusal.Refusal.{Refusal}
+use Rattle.batch_book.specs.declared.refusal.Refusal.{Refusal as BookRefusal}
 use Rattle.batch_book.specs.declared.reply.Reply.{Reply}
 use Rattle.batch_book.specs.declared.reply.Reply.TheVariants.{Fetched, Refused}
 use Rattle.batch_book.specs.Answering.{IsReplyTo}
 use Rattle.batch_book.specs.History.{entry}
 use Rattle.batch_book.specs.Values.{value_of}
-use Rattle.line_words.specs.BatchFaults.{batch_words}
 use Rattle.batch_book.specs.declared.limits.TheConstants.{RUN_STEP}
+use Rattle.refusals.specs.declared.refusal.Refusal.{Refusal}
+use Rattle.refusals.specs.declared.refusal.Refusal.TheVariants as refusal
+use Rattle.refusals.specs.Refusals.{refusal_line}
+use Rattle.refusals.specs.Sources.{of_batch}
 use Rattle.client_session.specs.declared.command.Command.{Command}
 use Rattle.client_session.specs.declared.command.Command.TheVariants.{Batch, Plan as PlanOf, Run, Show, Drop, Peek, Poke, Progress, Bye}
 use Rattle.batch_book.specs.declared.reading.Reading.{Reading}
 use Rattle.client_session.specs.Bytes.{IsSessionLine}
 use Rattle.client_session.specs.Commands.{Means}
-use Rattle.client_session.specs.Replies.{with_feed, reply_line, refused_line, progress_line}
+use Rattle.client_session.specs.Replies.{with_feed, reply_line, progress_line}
 use Rattle.client_session.specs.Seats.{logged, reading_value}
 
 -- ---- what a command did
@@ -39,9 +42,9 @@ pub record Answer : Type 0 where
 abbrev pub plain_answer : List Entry → List ℕ → Answer
 plain_answer entries line = record { entries = entries; reading = None; line = line }
 
--- a refusal in these words, without a call
-abbrev pub refuses : List ℕ → Answer
-refuses words = plain_answer [] (refused_line words)
+-- it is refused so, without a call
+abbrev pub refuses : Refusal → Answer
+refuses why = plain_answer [] (refusal_line why)
 
 -- a call was made, and this was its reply, which is the line
 abbrev pub tells : ℕ → ℕ → Call → Reply → Answer
@@ -57,8 +60,8 @@ abbrev pub Submits : Extent → ℕ → List ℕ → Answer → Type 0
 Submits shape by text a =
     ((batch : List Transfer) × Denotes shape text batch × TellsReply by 0 (call.Submit batch) a)
     ⊎ ((fault : BatchFault) × (fault ≢ NoMemory) × IsFirstFault shape text fault
-    × (a ≡ refuses (batch_words fault)))
-    ⊎ (NeedsMemory shape text × (a ≡ refuses (codes "no memory")))
+    × (a ≡ refuses (of_batch fault)))
+    ⊎ (NeedsMemory shape text × (a ≡ refuses refusal.NoMemory))
 
 -- a batch was fetched, and a plan of it was settled: this was the reply, which is the line
 abbrev pub settles : ℕ → ℕ → List Transfer → Plan → Reply → Answer
@@ -74,12 +77,12 @@ Settles by id batch a =
     × IsReplyTo (call.Settle id plan) reply
     × (a ≡ settles by id batch plan reply))
     ⊎ (a ≡ plain_answer (entry by (call.Fetch id) (Fetched batch) ∷ [])
-    (refused_line (codes "no memory")))
+    (refusal_line refusal.NoMemory))
 
 -- `plan`: fetching was refused, and that is the line; or a batch was fetched
 abbrev pub Plans : ℕ → ℕ → Answer → Type 0
 Plans by id a =
-    ((why : Refusal) × IsReplyTo (call.Fetch id) (Refused why)
+    ((why : BookRefusal) × IsReplyTo (call.Fetch id) (Refused why)
     × (a ≡ tells by id (call.Fetch id) (Refused why)))
     ⊎ ((batch : List Transfer) × Settles by id batch a)
 
@@ -91,9 +94,9 @@ ReadsProgress a =
 
 -- What a command may do: this is the whole table of a session. The text is that of its lines.
 abbrev pub DoesCommand : Extent → ℕ → Option Command → List ℕ → Answer → Type 0
-DoesCommand shape by None text a = a ≡ refuses (codes "line")
+DoesCommand shape by None text a = a ≡ refuses refusal.Line
 DoesCommand shape by (Some (Batch count)) text a =
-    ((MAX_TRANSFERS < count) × (a ≡ refuses (codes "too many")))
+    ((MAX_TRANSFERS < count) × (a ≡ refuses refusal.TooMany))
     ⊎ ((count ≤ MAX_TRANSFERS) × Submits shape by text a)
 DoesCommand shape by (Some (PlanOf id)) text a = Plans by id a
 DoesCommand shape by (Some (Run id)) text a = TellsReply by id (call.Run id) a

@@ -6,13 +6,13 @@ ghost use Rattle.client_session.specs.Steps.{IsNoFetch, StandsAlone, Acts};
 
 use crate::command::Command;
 use crate::exchange_seat::ExchangeSeat;
-use crate::reply_line::{put_batch_refused, put_bye, put_progress, put_refused, put_told};
+use crate::reply_line::ReplyLine;
 use batch::Batch;
 use batch_book::{Call, Reply};
 use crossbar::ConfigPort;
 use exchange_limits::WorkerCount;
-use line_words::Line;
 use peek_poke::WireMaker;
+use refusals::Refusal;
 use schedule_certificate::{Gate, OpenGate, schedule};
 use std::alloc::Global;
 use std::sync::Wait;
@@ -23,7 +23,7 @@ use std::thread::Threads;
 fn call<R: Threads + Wait + Sync, L: Ledger, P: ConfigPort, W: WireMaker + Sync, G: Gate + Sync>(
     rt: &R,
     seat: &mut ExchangeSeat<'_, L, P, W, G>,
-    line: &mut Line,
+    line: &mut ReplyLine,
     id: usize,
     call: Call,
 )
@@ -32,7 +32,7 @@ fn call<R: Threads + Wait + Sync, L: Ledger, P: ConfigPort, W: WireMaker + Sync,
     ensures { Acts seat.old seat.new (TellsReply seat.old.session id call) line.new }
 {
     let reply = seat.call(rt, call);
-    put_told(line, id, &reply);
+    line.tell(id, &reply);
 }
 
 /// Submits the batch that the text denotes, or tells the text's first fault.
@@ -42,14 +42,14 @@ pub(crate) fn submit<
     P: ConfigPort,
     W: WireMaker + Sync,
     G: Gate + Sync,
->(rt: &R, alloc: Global, seat: &mut ExchangeSeat<'_, L, P, W, G>, line: &mut Line, text: &[u8])
+>(rt: &R, alloc: Global, seat: &mut ExchangeSeat<'_, L, P, W, G>, line: &mut ReplyLine, text: &[u8])
     requires { line.old ≡ [] }
     ensures { Acts seat.old seat.new
         (Submits seat.old.shape seat.old.session text.now) line.new }
 {
     match Batch::read(alloc, text, seat.shape()) {
         Ok(batch) => call(rt, seat, line, 0, Call::Submit(batch)),
-        Err(fault) => put_batch_refused(line, fault),
+        Err(fault) => line.refuse(Refusal::from(fault)),
     }
 }
 
@@ -58,7 +58,7 @@ fn plan<R: Threads + Wait + Sync, L: Ledger, P: ConfigPort, W: WireMaker + Sync,
     rt: &R,
     alloc: Global,
     seat: &mut ExchangeSeat<'_, L, P, W, G>,
-    line: &mut Line,
+    line: &mut ReplyLine,
     id: usize,
     workers: WorkerCount,
 )
@@ -68,9 +68,9 @@ fn plan<R: Threads + Wait + Sync, L: Ledger, P: ConfigPort, W: WireMaker + Sync,
     match seat.call(rt, Call::Fetch(id)) {
         Reply::Fetched(batch) => match schedule(rt, alloc, batch, workers, &OpenGate) {
             Ok(planned) => call(rt, seat, line, id, Call::Settle(id, planned)),
-            Err(_) => put_refused(line, b"no memory"),
+            Err(_) => line.refuse(Refusal::NoMemory),
         },
-        reply => put_told(line, id, &reply),
+        reply => line.tell(id, &reply),
     }
 }
 
@@ -85,7 +85,7 @@ pub(crate) fn answer<
     rt: &R,
     alloc: Global,
     seat: &mut ExchangeSeat<'_, L, P, W, G>,
-    line: &mut Line,
+    line: &mut ReplyLine,
     command: Option<Command>,
     workers: WorkerCount,
 )
@@ -95,8 +95,8 @@ pub(crate) fn answer<
         (DoesCommand seat.old.shape seat.old.session command text) line.new }
 {
     match command {
-        None => put_refused(line, b"line"),
-        Some(Command::Batch(_)) => put_refused(line, b"too many"),
+        None => line.refuse(Refusal::Line),
+        Some(Command::Batch(_)) => line.refuse(Refusal::TooMany),
         Some(Command::Plan(id)) => plan(rt, alloc, seat, line, id, workers),
         Some(Command::Run(id)) => call(rt, seat, line, id, Call::Run(id)),
         Some(Command::Show(id)) => call(rt, seat, line, id, Call::Show(id)),
@@ -111,7 +111,7 @@ pub(crate) fn answer<
         Some(Command::Poke(module, address, word)) => {
             call(rt, seat, line, 0, Call::Poke(module, address, word))
         }
-        Some(Command::Progress) => put_progress(line, seat.progress()),
-        Some(Command::Bye) => put_bye(line),
+        Some(Command::Progress) => line.tell_progress(seat.progress()),
+        Some(Command::Bye) => line.tell_bye(),
     }
 }

@@ -2,7 +2,7 @@
 //!
 //! [`serve`] reads the commands of one client and answers them from one seat of an exchange. Contracts see a
 //! session as a relation between the bytes that were read, the entries that are new in the seat's list, the
-//! progress that the seat has seen, and the bytes that were written.
+//! progress that the seat has seen, and the bytes that were written. A [`Listener`] is told beside them what is refused.
 #![tactic(auto)]
 
 mod answering;
@@ -13,12 +13,15 @@ mod fault;
 mod input;
 pub mod laws;
 mod limits;
+mod listener;
 pub mod reply_line;
 mod serving;
+mod sources;
 mod turns;
 
 pub use asked_reader::{AskedReader, CountedReader};
 pub use command::Command;
 pub use fault::ServeFault;
 pub use limits::{LINE_BYTES, MAX_READS};
+pub use listener::{Listener, Unheard};
 pub use serving::serve;

@@ -11,11 +11,12 @@ use crate::asked_reader::AskedReader;
 use crate::exchange_seat::ExchangeSeat;
 use crate::fault::ServeFault;
 use crate::input::Input;
+use crate::listener::Listener;
+use crate::reply_line::ReplyLine;
 use crate::turns::turn;
 use batch_book::{Seat, Shared};
 use crossbar::ConfigPort;
 use exchange_limits::WorkerCount;
-use line_words::Line;
 use peek_poke::WireMaker;
 use schedule_certificate::Gate;
 use std::alloc::Global;
@@ -44,6 +45,13 @@ fn send<O: Write>(writer: &mut O, line: &[u8]) -> Result<(), ServeFault>
     }
 }
 
+/// Tells of the refusal that a line says, where it says one.
+fn tell_refusal<H: Listener>(listener: &mut H, line: &ReplyLine) {
+    if let Some(refusal) = line.refusal() {
+        listener.refused(refusal);
+    }
+}
+
 /// Serves the session of a seat at its exchange.
 fn serve_seat<
     R: Threads + Wait + Sync,
@@ -53,12 +61,14 @@ fn serve_seat<
     G: Gate + Sync,
     I: AskedReader,
     O: Write,
+    H: Listener,
 >(
     rt: &R,
     alloc: Global,
     seat: &mut ExchangeSeat<'_, L, P, W, G>,
     reader: &mut I,
     writer: &mut O,
+    listener: &mut H,
     workers: WorkerCount,
 ) -> Result<(), ServeFault>
     ensures session { Passes (I.remaining reader.old) (I.remaining reader.new)
@@ -68,9 +78,12 @@ fn serve_seat<
 {
     let mut input = Input::new();
     while let Some(n) = input.next_line(reader)? {
-        let mut line = Line::new();
-        let ends = turn(rt, alloc, seat, &mut input, reader, &mut line, n, workers)?;
+        let mut line = ReplyLine::new();
+        let ends = turn(
+            rt, alloc, seat, &mut input, reader, listener, &mut line, n, workers,
+        )?;
         send(writer, line.as_bytes())?;
+        tell_refusal(listener, &line);
         if ends {
             return Ok(());
         }
@@ -86,6 +99,8 @@ fn serve_seat<
 /// memory, so none is lost whose call was made; want of memory is a reply, but for the text of a batch, where it
 /// ends the session.
 ///
+/// The listener is told of each command before it is done, and of a refusal behind its reply line.
+///
 /// The reader is asked at most [`MAX_READS`](crate::MAX_READS) times. Where it has been, and would have to be asked
 /// once more, the session ends with `Turns`.
 ///
@@ -98,6 +113,7 @@ pub fn serve<
     G: Gate + Sync,
     I: AskedReader,
     O: Write,
+    H: Listener,
 >(
     rt: &R,
     alloc: Global,
@@ -105,6 +121,7 @@ pub fn serve<
     seat: Seat<L>,
     reader: &mut I,
     writer: &mut O,
+    listener: &mut H,
     workers: WorkerCount,
 ) -> Result<Seat<L>, (Seat<L>, ServeFault)>
     requires seat { seat.exchange ≡ Some shared.now.word }
@@ -115,7 +132,15 @@ pub fn serve<
     ensures asks { AsksWithinLimit (I.asked reader.old) (I.asked reader.new) (fault_back result) }
 {
     let mut exchange_seat = ExchangeSeat::new(shared, seat);
-    let ended = serve_seat(rt, alloc, &mut exchange_seat, reader, writer, workers);
+    let ended = serve_seat(
+        rt,
+        alloc,
+        &mut exchange_seat,
+        reader,
+        writer,
+        listener,
+        workers,
+    );
     let seat = exchange_seat.into_seat();
     match ended {
         Ok(()) => Ok(seat),

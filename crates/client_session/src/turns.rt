@@ -14,10 +14,11 @@ use crate::exchange_seat::ExchangeSeat;
 use crate::fault::ServeFault;
 use crate::input::Input;
 use crate::limits::{LINE_BYTES, MAX_READS};
+use crate::listener::Listener;
+use crate::reply_line::ReplyLine;
 use batch::MAX_TRANSFERS;
 use crossbar::ConfigPort;
 use exchange_limits::WorkerCount;
-use line_words::Line;
 use peek_poke::WireMaker;
 use schedule_certificate::Gate;
 use std::alloc::Global;
@@ -59,13 +60,15 @@ fn batch<
     W: WireMaker + Sync,
     G: Gate + Sync,
     I: AskedReader,
+    H: Listener,
 >(
     rt: &R,
     alloc: Global,
     seat: &mut ExchangeSeat<'_, L, P, W, G>,
     input: &mut Input,
     reader: &mut I,
-    line: &mut Line,
+    listener: &mut H,
+    line: &mut ReplyLine,
     n: usize,
     count: usize,
 ) -> Result<(), ServeFault>
@@ -85,7 +88,9 @@ fn batch<
     let mut text = Vec::from_slice(alloc, &input.pending()[..n + 1])?;
     input.skip(n + 1);
     take_lines(input, reader, &mut text, count)?;
-    submit(rt, alloc, seat, line, text.as_slice());
+    let text = text.as_slice();
+    listener.heard(text);
+    submit(rt, alloc, seat, line, text);
     Ok(())
 }
 
@@ -119,13 +124,15 @@ pub(crate) fn turn<
     W: WireMaker + Sync,
     G: Gate + Sync,
     I: AskedReader,
+    H: Listener,
 >(
     rt: &R,
     alloc: Global,
     seat: &mut ExchangeSeat<'_, L, P, W, G>,
     input: &mut Input,
     reader: &mut I,
-    line: &mut Line,
+    listener: &mut H,
+    line: &mut ReplyLine,
     n: usize,
     workers: WorkerCount,
 ) -> Result<bool, ServeFault>
@@ -144,10 +151,11 @@ pub(crate) fn turn<
     let command = Command::read(&input.pending()[..n]);
     match lines_behind(command) {
         Some(count) => {
-            batch(rt, alloc, seat, input, reader, line, n, count)?;
+            batch(rt, alloc, seat, input, reader, listener, line, n, count)?;
             Ok(false)
         }
         None => {
+            listener.heard(&input.pending()[..n + 1]);
             input.skip(n + 1);
             answer(rt, alloc, seat, line, command, workers);
             Ok(ends(command))

@@ -21,12 +21,12 @@ use Rattle.batch_book.specs.Values.{greatest}
 use Rattle.client_session.specs.declared.fault.ServeFault.{ServeFault}
 use Rattle.client_session.specs.Seats.{SeatView, seat_view}
 use Rattle.client_session.specs.Sessions.{Passes, HasEnded}
-use Rattle.answers.specs.declared.session.Session.{Session}
-use Rattle.answers.specs.Frames.{Transcript, session_text, sessions_text, has_fault}
-use Rattle.answers.specs.Histories.{Part, part_of, IsHistoryOf, HaveOneHistory, HaveAnotherHistory}
-use Rattle.answers.specs.Serving.{HasItsScript}
-use Rattle.answers.specs.Sessions.{IsAttended}
-use Rattle.answers.specs.Hosting.{transcript, IsFresh, AreServedAt}
+use Rattle.session_answers.specs.declared.session.Session.{Session}
+use Rattle.session_answers.specs.Frames.{Transcript, session_text, sessions_text, has_fault}
+use Rattle.session_answers.specs.Histories.{Part, part_of, IsHistoryOf, HaveOneHistory, HaveAnotherHistory}
+use Rattle.session_answers.specs.Serving.{HasItsScript}
+use Rattle.session_answers.specs.Sessions.{IsAttended}
+use Rattle.session_answers.specs.Hosting.{transcript, IsFresh, AreServedAt}
 
 -- ---- lists
 

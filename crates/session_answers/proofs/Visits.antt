@@ -8,21 +8,20 @@ use Rattle.std.proofs.lemmas.List.FromFn.{get_or-range_with_len, length-range_wi
 use Rattle.std.proofs.lemmas.List.Sums.{sum-map}
 use Rattle.std.proofs.lemmas.Simd.{map-map}
 use Rattle.std.specs.Io.KnownBytes.{Appends}
-use Rattle.batch.specs.Extent.{Extent}
 use Rattle.batch_book.specs.Exchanges.{Exchange, AreNew, new_seat, parts_at}
 use Rattle.batch_book.specs.Seats.{SeatState, IsSameSeat}
 use Rattle.client_session.specs.declared.fault.ServeFault.{ServeFault}
 use Rattle.module_memory.specs.Store.{Store}
-use Rattle.answers.specs.declared.attended.Attended.{Attended}
-use Rattle.answers.specs.declared.attended.Ending.{Ending}
-use Rattle.answers.specs.declared.attended.Ending.TheVariants.{Unopened, Served}
-use Rattle.answers.specs.Histories.{Part, part_of, IsClosing}
-use Rattle.answers.specs.Hosting.{IsFresh}
-use Rattle.answers.specs.Hosts.{Guests, Visit, End, WasServed, AreHosted, IsVisit, end_of, ending_line, has_failed, visit_heading, visit_text}
+use Rattle.session_answers.specs.declared.attended.Attended.{Attended}
+use Rattle.session_answers.specs.declared.attended.Ending.{Ending}
+use Rattle.session_answers.specs.declared.attended.Ending.TheVariants.{Unopened, Served}
+use Rattle.session_answers.specs.Histories.{part_of, IsClosing}
+use Rattle.session_answers.specs.Hosting.{IsFresh}
+use Rattle.session_answers.specs.Hosts.{Guests, Visit, AreHosted, IsVisit, end_of, ending_line, has_failed, visit_heading, visit_text}
 use Rattle.plan_answers.specs.Refusals.{Printed}
-use Rattle.answers.specs.Sessions.{IsAttended}
-use Rattle.answers.specs.Visits.{visit, IsOfSeat, AreVisitsAt}
-use Rattle.answers.proofs.Sessions.{map_same, sum_mapped, one_more}
+use Rattle.session_answers.specs.Sessions.{IsAttended}
+use Rattle.session_answers.specs.Visits.{visit, IsOfSeat, AreVisitsAt}
+use Rattle.session_answers.proofs.Sessions.{map_same, sum_mapped, one_more}
 
 -- ---- all sessions
 

@@ -4,7 +4,7 @@ use Rattle.std.specs.Fmt.{decimal}
 use Rattle.std.specs.List.{list_any}
 use Rattle.client_session.specs.declared.fault.ServeFault.{ServeFault}
 use Rattle.client_session.specs.declared.fault.ServeFault.TheVariants.{Read, Write, LineTooLong, Cut, Turns, NoMemory}
-use Rattle.answers.specs.Histories.{Part}
+use Rattle.session_answers.specs.Histories.{Part}
 
 -- a session that has ended: its part of the history, what it was told, and the fault that ended it,
 -- where one did

@@ -3,10 +3,10 @@ use Rattle.std.specs.Prelude.{◌≡◌, ℕ, ◌<◌, List, [], map, All, Some}
 use Rattle.progress_word.specs.declared.limits.TheConstants.{ALL_PARTS}
 use Rattle.batch_book.specs.Exchanges.{Exchange}
 use Rattle.batch_book.specs.Seats.{SeatState, parts_of}
-use Rattle.answers.specs.declared.session.Session.{Session}
-use Rattle.answers.specs.Frames.{Transcript, session_text}
-use Rattle.answers.specs.Histories.{part_of}
-use Rattle.answers.specs.Serving.{AreSessionsOf}
+use Rattle.session_answers.specs.declared.session.Session.{Session}
+use Rattle.session_answers.specs.Frames.{Transcript, session_text}
+use Rattle.session_answers.specs.Histories.{part_of}
+use Rattle.session_answers.specs.Serving.{AreSessionsOf}
 
 -- what contracts see of a session that has ended
 abbrev pub transcript : {L : Type 0} → Session L → Transcript

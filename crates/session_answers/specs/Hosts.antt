@@ -8,14 +8,15 @@ use Rattle.batch.specs.ShapeText.{DenotesShape, IsBadShape}
 use Rattle.module_memory.specs.declared.fault.ImageFault.{ImageFault}
 use Rattle.module_memory.specs.Store.{Store}
 use Rattle.client_session.specs.declared.fault.ServeFault.{ServeFault}
-use Rattle.answers.specs.declared.attended.Ending.{Ending}
-use Rattle.answers.specs.declared.attended.Ending.TheVariants.{Unopened, Served}
+use Rattle.session_answers.specs.declared.attended.Ending.{Ending}
+use Rattle.session_answers.specs.declared.attended.Ending.TheVariants.{Unopened, Served}
 use Rattle.rack_answers.specs.Openings.{IsOfImageOrZeros, IsWrongImage}
-use Rattle.plan_answers.specs.Refusals.{Printed, IsRefused}
-use Rattle.rack_answers.specs.Refusals.{image_words}
-use Rattle.answers.specs.Histories.{Part, IsClosing}
-use Rattle.answers.specs.Sessions.{IsAttended}
-use Rattle.answers.specs.Talking.{end_line}
+use Rattle.plan_answers.specs.Refusals.{Printed, Refuses}
+use Rattle.refusals.specs.declared.refusal.Refusal.TheVariants.{Shape, Threads}
+use Rattle.refusals.specs.Sources.{of_image}
+use Rattle.session_answers.specs.Histories.{Part, IsClosing}
+use Rattle.session_answers.specs.Sessions.{IsAttended}
+use Rattle.session_answers.specs.Talking.{end_line}
 
 -- what is known of the clients of a host: how many they are, what each says, what its writer holds
 -- at first, its name, and whether its files may be such that they can't be opened
@@ -97,7 +98,7 @@ AreHosted opening g ends printed =
 pub data IsHosting (opening : Store) (g : Guests) (ends : List End) (printed : Printed)
     : Type 0 where
   hosted : AreHosted opening g ends printed → IsHosting opening g ends printed
-  threads_refused : IsRefused (codes "threads") printed → ends ≡ []
+  threads_refused : Refuses Threads printed → ends ≡ []
       → IsHosting opening g ends printed
 
 -- the sessions of the clients on a rack of the shape that the text denotes, whose words are first
@@ -108,8 +109,8 @@ pub data IsHostAnswer (shape : List ℕ) (image : Option (List ℕ)) (g : Guests
   opened : (extent : Extent) (opening : Store) → DenotesShape shape extent
       → IsOfImageOrZeros extent image opening → IsHosting opening g ends printed
       → IsHostAnswer shape image g ends printed
-  shape_refused : IsBadShape shape → IsRefused (codes "shape") printed → ends ≡ []
+  shape_refused : IsBadShape shape → Refuses Shape printed → ends ≡ []
       → IsHostAnswer shape image g ends printed
   image_refused : (extent : Extent) (fault : ImageFault) → DenotesShape shape extent
-      → IsWrongImage extent image fault → IsRefused (image_words fault) printed → ends ≡ []
+      → IsWrongImage extent image fault → Refuses (of_image fault) printed → ends ≡ []
       → IsHostAnswer shape image g ends printed

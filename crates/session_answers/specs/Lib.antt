@@ -6,12 +6,3 @@ pub mod Hosting
 pub mod Talking
 pub mod Hosts
 pub mod Visits
-pub use Rattle.batch.specs.Extent
-pub use Rattle.plan_answers.specs.declared.limits
-pub use Rattle.plan_answers.specs.Drawings
-pub use Rattle.plan_answers.specs.Directing
-pub use Rattle.rack_answers.specs.Answers
-pub use Rattle.rack_answers.specs.Openings
-pub use Rattle.rack_answers.specs.Refusals
-pub use Rattle.rack_answers.specs.Reports
-pub use Rattle.rack_answers.specs.Switching

@@ -1,16 +1,17 @@
 -- What `serve` answers.
-use Rattle.std.specs.Prelude.{◌≡◌, ℕ, List, codes, length, map, All, slice_get, Option, Some}
+use Rattle.std.specs.Prelude.{◌≡◌, ℕ, List, length, map, All, slice_get, Option, Some}
 use Rattle.std.specs.List.{range_with_len}
 use Rattle.batch.specs.Extent.{Extent}
 use Rattle.batch.specs.ShapeText.{DenotesShape, IsBadShape}
 use Rattle.module_memory.specs.declared.fault.ImageFault.{ImageFault}
 use Rattle.module_memory.specs.Store.{Store}
 use Rattle.rack_answers.specs.Openings.{IsOfImageOrZeros, IsWrongImage}
-use Rattle.plan_answers.specs.Refusals.{Printed, IsRefused}
-use Rattle.rack_answers.specs.Refusals.{image_words}
-use Rattle.answers.specs.Frames.{Transcript, sessions_text, has_fault}
-use Rattle.answers.specs.Histories.{IsClosing}
-use Rattle.answers.specs.Sessions.{IsAttended}
+use Rattle.plan_answers.specs.Refusals.{Printed, Refuses}
+use Rattle.refusals.specs.declared.refusal.Refusal.TheVariants.{Shape}
+use Rattle.refusals.specs.Sources.{of_image}
+use Rattle.session_answers.specs.Frames.{Transcript, sessions_text, has_fault}
+use Rattle.session_answers.specs.Histories.{IsClosing}
+use Rattle.session_answers.specs.Sessions.{IsAttended}
 
 -- a session that read a front of the script at its number's place
 abbrev pub HasItsScript : Extent → List (List ℕ) → Transcript → Type 0
@@ -39,8 +40,8 @@ pub data IsServeAnswer (shape : List ℕ) (image : Option (List ℕ)) (scripts :
   served : (extent : Extent) (opening : Store) → DenotesShape shape extent
       → IsOfImageOrZeros extent image opening → AreServed opening scripts printed
       → IsServeAnswer shape image scripts printed
-  shape_refused : IsBadShape shape → IsRefused (codes "shape") printed
+  shape_refused : IsBadShape shape → Refuses Shape printed
       → IsServeAnswer shape image scripts printed
   image_refused : (extent : Extent) (fault : ImageFault) → DenotesShape shape extent
-      → IsWrongImage extent image fault → IsRefused (image_words fault) printed
+      → IsWrongImage extent image fault → Refuses (of_image fault) printed
       → IsServeAnswer shape image scripts printed

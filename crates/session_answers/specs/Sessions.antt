@@ -4,7 +4,7 @@ use Rattle.std.specs.Io.KnownBytes.{Consumes}
 use Rattle.batch.specs.Extent.{Extent}
 use Rattle.client_session.specs.Seats.{SeatView}
 use Rattle.client_session.specs.Sessions.{HasEnded}
-use Rattle.answers.specs.Frames.{Transcript}
+use Rattle.session_answers.specs.Frames.{Transcript}
 
 -- a seat of this session, which has asked nothing and seen nothing, at an exchange whose rack has
 -- this shape

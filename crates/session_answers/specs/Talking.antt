@@ -1,16 +1,17 @@
 -- What `talk` answers.
-use Rattle.std.specs.Prelude.{◌≡◌, ◌∷◌, ℕ, List, [], codes, Option, Some, None, is_some}
+use Rattle.std.specs.Prelude.{◌≡◌, ◌∷◌, ℕ, List, [], Option, Some, None, is_some}
 use Rattle.batch.specs.Extent.{Extent}
 use Rattle.batch.specs.ShapeText.{DenotesShape, IsBadShape}
 use Rattle.module_memory.specs.declared.fault.ImageFault.{ImageFault}
 use Rattle.module_memory.specs.Store.{Store}
 use Rattle.client_session.specs.declared.fault.ServeFault.{ServeFault}
 use Rattle.rack_answers.specs.Openings.{IsOfImageOrZeros, IsWrongImage}
-use Rattle.plan_answers.specs.Refusals.{Printed, IsRefused}
-use Rattle.rack_answers.specs.Refusals.{image_words}
-use Rattle.answers.specs.Frames.{Transcript, ended_line}
-use Rattle.answers.specs.Histories.{IsClosing}
-use Rattle.answers.specs.Sessions.{IsAttended}
+use Rattle.plan_answers.specs.Refusals.{Printed, Refuses}
+use Rattle.refusals.specs.declared.refusal.Refusal.TheVariants.{Shape}
+use Rattle.refusals.specs.Sources.{of_image}
+use Rattle.session_answers.specs.Frames.{Transcript, ended_line}
+use Rattle.session_answers.specs.Histories.{IsClosing}
+use Rattle.session_answers.specs.Sessions.{IsAttended}
 
 -- the line that tells which fault ended a session, where one did
 abbrev pub end_line : Option ServeFault → List ℕ
@@ -37,8 +38,8 @@ pub data IsTalkAnswer (shape : List ℕ) (image : Option (List ℕ)) (before aft
   talked : (extent : Extent) (opening : Store) → DenotesShape shape extent
       → IsOfImageOrZeros extent image opening → HasTalked opening before after told printed
       → IsTalkAnswer shape image before after told printed
-  shape_refused : IsBadShape shape → IsRefused (codes "shape") printed
+  shape_refused : IsBadShape shape → Refuses Shape printed
       → IsUntouched before after told → IsTalkAnswer shape image before after told printed
   image_refused : (extent : Extent) (fault : ImageFault) → DenotesShape shape extent
-      → IsWrongImage extent image fault → IsRefused (image_words fault) printed
+      → IsWrongImage extent image fault → Refuses (of_image fault) printed
       → IsUntouched before after told → IsTalkAnswer shape image before after told printed

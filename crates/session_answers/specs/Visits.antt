@@ -2,10 +2,10 @@
 use Rattle.std.specs.Prelude.{ℕ, List, map, Option}
 use Rattle.batch_book.specs.Exchanges.{Exchange}
 use Rattle.batch_book.specs.Seats.{SeatState, IsSameSeat}
-use Rattle.answers.specs.declared.attended.Attended.{Attended}
-use Rattle.answers.specs.Histories.{part_of}
-use Rattle.answers.specs.Hosting.{AreAllSeats}
-use Rattle.answers.specs.Hosts.{Guests, Visit, IsVisit, AreVisits, end_of}
+use Rattle.session_answers.specs.declared.attended.Attended.{Attended}
+use Rattle.session_answers.specs.Histories.{part_of}
+use Rattle.session_answers.specs.Hosting.{AreAllSeats}
+use Rattle.session_answers.specs.Hosts.{Guests, Visit, IsVisit, AreVisits, end_of}
 
 -- what contracts see of a session that has ended
 abbrev pub visit : {L C : Type 0} → (C → Option (List ℕ)) → Attended L C → Visit

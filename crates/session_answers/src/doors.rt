@@ -1,5 +1,5 @@
 ghost use Rattle.std.specs.Prelude.{◌≡◌, ℕ, List, Option, IfOk, IfErr, true};
-ghost use Rattle.answers.specs.Hosts.{Guests};
+ghost use Rattle.session_answers.specs.Hosts.{Guests};
 
 use crate::all_there::AllThere;
 use std::io;

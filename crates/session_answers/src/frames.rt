@@ -1,8 +1,8 @@
 //! How sessions are printed.
 
 ghost use Rattle.std.specs.Prelude.{◌≡◌, ◌++◌, IfOk, OnOk, map};
-ghost use Rattle.answers.specs.Frames.{ended_line, end_text, heading, sessions_text, has_fault};
-ghost use Rattle.answers.specs.Hosting.{transcript, text_of};
+ghost use Rattle.session_answers.specs.Frames.{ended_line, end_text, heading, sessions_text, has_fault};
+ghost use Rattle.session_answers.specs.Hosting.{transcript, text_of};
 
 use crate::session::Session;
 use client_session::ServeFault;

@@ -6,12 +6,12 @@ ghost use Rattle.std.specs.Io.KnownBytes.{Appends};
 ghost use Rattle.progress_word.specs.declared.limits.TheConstants.{ALL_PARTS};
 ghost use Rattle.batch_book.specs.Exchanges.{AreNew};
 ghost use Rattle.batch_book.specs.Seats.{IsSameSeat};
-ghost use Rattle.answers.specs.Histories.{part_of, HaveOneHistory, HaveAnotherHistory, IsClosing};
-ghost use Rattle.answers.specs.Hosting.{AreAllSeats, IsFresh};
-ghost use Rattle.answers.specs.Sessions.{IsAttended};
+ghost use Rattle.session_answers.specs.Histories.{part_of, HaveOneHistory, HaveAnotherHistory, IsClosing};
+ghost use Rattle.session_answers.specs.Hosting.{AreAllSeats, IsFresh};
+ghost use Rattle.session_answers.specs.Sessions.{IsAttended};
 
 use batch_book::{Seat, Shared, Unclosed};
-use client_session::{ServeFault, serve};
+use client_session::{Listener, ServeFault, serve};
 use crossbar::MemoryPort;
 use exchange_limits::{MAX_SESSIONS, WorkerCount};
 use module_memory::Rack;
@@ -57,14 +57,15 @@ pub fn open_exchange<L: Ledger>(
 }
 
 /// Serves a client from a seat that has done nothing yet, to the session's end: gives the seat back, and the fault that
-/// ended the session, where one did.
-pub fn attend<L: Ledger, R: Threads + Wait + Sync, I: Read, O: Write>(
+/// ended the session, where one did. The listener is told of what is refused.
+pub fn attend<L: Ledger, R: Threads + Wait + Sync, I: Read, O: Write, H: Listener>(
     rt: &R,
     alloc: Global,
     exchange: &PlainExchange<L>,
     seat: Seat<L>,
     reader: &mut I,
     writer: &mut O,
+    listener: &mut H,
     workers: WorkerCount,
 ) -> (Seat<L>, Option<ServeFault>)
     requires seat { IsFresh exchange.now seat }
@@ -74,7 +75,7 @@ pub fn attend<L: Ledger, R: Threads + Wait + Sync, I: Read, O: Write>(
         × IsAttended exchange.now.shape (I.remaining reader.old) (I.remaining reader.new)
         (record { part = part_of result.0; told = told; fault = result.1 }) }
 {
-    match serve(rt, alloc, exchange, seat, reader, writer, workers) {
+    match serve(rt, alloc, exchange, seat, reader, writer, listener, workers) {
         Ok(seat) => (seat, None),
         Err((seat, fault)) => (seat, Some(fault)),
     }

@@ -6,10 +6,10 @@ ghost use Rattle.std.specs.List.{list_any};
 ghost use Rattle.progress_word.specs.declared.limits.TheConstants.{ALL_PARTS};
 ghost use Rattle.batch_book.specs.Exchanges.{AreNew};
 ghost use Rattle.plan_answers.specs.Lent.{bytes_of};
-ghost use Rattle.plan_answers.specs.Refusals.{IsRefused};
-ghost use Rattle.answers.specs.Hosting.{IsFresh};
-ghost use Rattle.answers.specs.Hosts.{end_of, ending_line, visit_heading, visit_text, has_failed, IsHosting, IsHostAnswer};
-ghost use Rattle.answers.specs.Visits.{visit, IsOfSeat, AreVisitsAt};
+ghost use Rattle.plan_answers.specs.Refusals.{Refuses};
+ghost use Rattle.session_answers.specs.Hosting.{IsFresh};
+ghost use Rattle.session_answers.specs.Hosts.{end_of, ending_line, visit_heading, visit_text, has_failed, IsHosting, IsHostAnswer};
+ghost use Rattle.session_answers.specs.Visits.{visit, IsOfSeat, AreVisitsAt};
 
 use crate::all_there::AllThere;
 use crate::attended::{Attended, Ending};
@@ -19,11 +19,13 @@ use crate::hall::{PlainExchange, attend, finish, open_exchange};
 use crate::latch::Latch;
 use batch::Shape;
 use batch_book::Seat;
+use client_session::Unheard;
 use exchange_limits::{MAX_SESSIONS, WorkerCount};
 use module_memory::Rack;
 use plan_answers::Answer;
 use progress_word::ALL_PARTS;
-use rack_answers::{image_words, opening_rack};
+use rack_answers::opening_rack;
+use refusals::Refusal;
 use std::alloc::{AllocError, Global};
 use std::marker::Brand;
 use std::snapshot::Snapshot;
@@ -95,6 +97,7 @@ fn host_client<L: Ledger, R: Threads + Wait + Sync, D: Doors>(
         seat,
         &mut reader,
         &mut writer,
+        &mut Unheard,
         floor.workers,
     );
     let receipt = floor.doors.close(writer);
@@ -334,11 +337,11 @@ fn part<L: Ledger, C: Drop>(
 }
 
 /// A refusal, which leaves no sessions.
-fn refused<C>(alloc: Global, words: &str) -> Result<Hosted<C>, AllocError>
-    ensures refusal { IfOk result (λ hosted. IsRefused words.now hosted.answer) }
+fn refused<C>(alloc: Global, refusal: Refusal) -> Result<Hosted<C>, AllocError>
+    ensures refusal { IfOk result (λ hosted. Refuses refusal hosted.answer) }
     ensures none { IfOk result (λ hosted. hosted.endings.items ≡ []) }
 {
-    let answer = Answer::refused(alloc, words)?;
+    let answer = Answer::refused(alloc, refusal)?;
     Ok(Hosted {
         answer,
         endings: Vec::new(alloc),
@@ -364,7 +367,7 @@ fn host<L: Ledger + Send + Sync, R: Threads + Wait + Sync, D: Doors>(
     let opening = rack.copy()?;
     let (exchange, seats) = open_exchange::<L>(alloc, blank, rack, workers, doors.clients())?;
     let Some(sessions) = host_seats(rt, alloc, &exchange, seats, doors, workers)? else {
-        return refused(alloc, "threads");
+        return refused(alloc, Refusal::Threads);
     };
     let text = ends_of(alloc, doors, sessions.as_slice())?;
     let failed = any_failed(sessions.as_slice());
@@ -381,7 +384,7 @@ fn host<L: Ledger + Send + Sync, R: Threads + Wait + Sync, D: Doors>(
 /// while the exchange answers a call of another. Planning and runs are given so many workers each. Each reply line is written,
 /// and the writer flushed, before the client's next command is read. For each client, in order, comes the line `session I NAME`,
 /// and where a fault ended the session, or its files couldn't be opened, a line `ended ..` that says so, under the status
-/// [`REFUSED`](crate::REFUSED). Under that status too, a last line `logs disagree` would say that the sessions' lists aren't
+/// [`REFUSED`](plan_answers::REFUSED). Under that status too, a last line `logs disagree` would say that the sessions' lists aren't
 /// those of the exchange's history, or that this began on another rack.
 ///
 /// Want of memory behind the sessions, for the list of their ends and for what is said of them, is the same error as want of
@@ -400,13 +403,13 @@ pub fn answer_host<R: Threads + Wait + Sync, D: Doors>(
         (D.guests doors.now) (map (end_of D.received) hosted.endings.items) hosted.answer) }
 {
     let Ok(shape) = Shape::read(shape) else {
-        return refused(alloc, "shape");
+        return refused(alloc, Refusal::Shape);
     };
     match opening_rack(alloc, shape, image) {
         Ok(rack) => {
             let blank = Blank::new(ALL_PARTS as u64);
             host::<Brand, R, D>(rt, alloc, blank, rack, workers, doors)
         }
-        Err(fault) => refused(alloc, image_words(alloc, fault)?.as_str()),
+        Err(fault) => refused(alloc, Refusal::from(fault)),
     }
 }

@@ -1,10 +1,9 @@
-//! The answers of the commands: from the bytes of their texts to the bytes that are printed, and the
-//! status that the program ends with.
+//! The answers of the commands with sessions, `serve`, `host` and `talk`: from the bytes of their texts to the bytes that
+//! are printed, and the status that the program ends with.
 //!
-//! Each `answer_` function reads its texts, does what the command asks for, and gives an [`Answer`]:
-//! what was asked for, or the line of the refusal of what is first wrong. It reads no file and prints
-//! nothing. Those of the commands that need no rack are [`plan_answers`]'s, and those of `run`, `apply` and
-//! `switch` [`rack_answers`]'s.
+//! Each `answer_` function opens an exchange, serves its clients, closes it, and gives an
+//! [`Answer`](plan_answers::Answer): what is printed behind the sessions, or the line of the refusal of what is first
+//! wrong.
 #![tactic(auto)]
 
 mod all_there;
@@ -20,14 +19,8 @@ mod talking;
 
 pub use all_there::AllThere;
 pub use attended::Ending;
-pub use client_session::{LINE_BYTES, MAX_READS};
 pub use doors::Doors;
 pub use frames::push_end;
 pub use hosting::{Hosted, answer_host};
-pub use plan_answers::{
-    Answer, CheckingFault, DONE, DrawingFault, REFUSED, WorkerCount, answer_check, answer_direct,
-    answer_draw, answer_plan,
-};
-pub use rack_answers::{RunningFault, answer_apply, answer_run, answer_switch};
 pub use serving::answer_serve;
 pub use talking::answer_talk;

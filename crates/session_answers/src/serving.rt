@@ -4,20 +4,22 @@ ghost use Rattle.std.specs.Prelude.{◌≡◌, ◌≤◌, IfOk, length, map};
 ghost use Rattle.progress_word.specs.declared.limits.TheConstants.{ALL_PARTS};
 ghost use Rattle.batch_book.specs.Exchanges.{AreNew};
 ghost use Rattle.batch_book.specs.Seats.{IsSameSeat};
-ghost use Rattle.answers.specs.Hosting.{transcript, IsReady, AreServedAt};
+ghost use Rattle.session_answers.specs.Hosting.{transcript, IsReady, AreServedAt};
 ghost use Rattle.plan_answers.specs.Lent.{bytes_of};
-ghost use Rattle.answers.specs.Serving.{HasItsScript, AreServed, IsServeAnswer};
+ghost use Rattle.session_answers.specs.Serving.{HasItsScript, AreServed, IsServeAnswer};
 
 use crate::frames::{frame, has_fault};
 use crate::hall::{PlainExchange, attend, finish, open_exchange};
 use crate::session::Session;
 use batch::Shape;
 use batch_book::Seat;
+use client_session::Unheard;
 use exchange_limits::{MAX_SESSIONS, WorkerCount};
 use module_memory::Rack;
 use plan_answers::Answer;
 use progress_word::ALL_PARTS;
-use rack_answers::{image_words, opening_rack};
+use rack_answers::opening_rack;
+use refusals::Refusal;
 use std::alloc::{AllocError, Global};
 use std::marker::Brand;
 use std::sync::Wait;
@@ -41,7 +43,16 @@ fn serve_script<L: Ledger, R: Threads + Wait + Sync>(
 {
     let mut reader = scripts[seat.session()].as_slice();
     let mut told = Vec::new(alloc);
-    let (seat, fault) = attend(rt, alloc, exchange, seat, &mut reader, &mut told, workers);
+    let (seat, fault) = attend(
+        rt,
+        alloc,
+        exchange,
+        seat,
+        &mut reader,
+        &mut told,
+        &mut Unheard,
+        workers,
+    );
     Session { seat, told, fault }
 }
 
@@ -106,11 +117,11 @@ fn host<L: Ledger + Send + Sync, R: Threads + Wait + Sync>(
 /// of the shape which the shape text denotes, whose words are first those of the image or, where there is none, 0; or the
 /// refusal of the shape, or else of the image.
 ///
-/// There are 1 to [`MAX_SESSIONS`] scripts, of lines of at most [`LINE_BYTES`](crate::LINE_BYTES) bytes. Each is
+/// There are 1 to [`MAX_SESSIONS`] scripts, of lines of at most [`LINE_BYTES`](client_session::LINE_BYTES) bytes. Each is
 /// served in a thread of its own, or by the caller where none can be had, and waits while the exchange answers
 /// the calls of the others; planning and runs are given so many workers each. For each script, in
 /// order, comes the line `session I`, and then what the session was told; where a fault ended it, a line
-/// `ended ..` says so, and the status is [`REFUSED`](crate::REFUSED). When all have ended the exchange is closed.
+/// `ended ..` says so, and the status is [`REFUSED`](plan_answers::REFUSED). When all have ended the exchange is closed.
 /// Under that status too, a last line `logs disagree` would say that the sessions' lists aren't those of its
 /// history, or that this began on another rack.
 pub fn answer_serve<R: Threads + Wait + Sync>(
@@ -127,13 +138,13 @@ pub fn answer_serve<R: Threads + Wait + Sync>(
         (map (λ s. s.items) scripts.now)) }
 {
     let Ok(shape) = Shape::read(shape) else {
-        return Answer::refused(alloc, "shape");
+        return Answer::refused(alloc, Refusal::Shape);
     };
     match opening_rack(alloc, shape, image) {
         Ok(rack) => {
             let blank = Blank::new(ALL_PARTS as u64);
             host::<Brand, R>(rt, alloc, blank, rack, workers, scripts)
         }
-        Err(fault) => Answer::refused(alloc, image_words(alloc, fault)?.as_str()),
+        Err(fault) => Answer::refused(alloc, Refusal::from(fault)),
     }
 }

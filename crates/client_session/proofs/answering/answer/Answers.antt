@@ -1,27 +1,29 @@
 use Rattle.std.proofs.Common.{◌≡◌, codes, inl, refl, Some, rules}
 use Rattle.client_session.specs.declared.command.Command.TheVariants.{Batch, Progress, Bye}
-use Rattle.client_session.specs.Replies.{with_feed, refused_line}
+use Rattle.refusals.specs.declared.refusal.Refusal.TheVariants as refusal
+use Rattle.refusals.specs.Refusals.{refusal_line}
+use Rattle.client_session.specs.Replies.{with_feed}
 use Rattle.client_session.proofs.Doing.{says, read_progress, which}
 use Rattle.client_session.proofs.answering.answer.Goals as goal
 
 pub returns-in-None : goal.returns-in-None
-returns-in-None g c = rw c.in-None.is (λ text. says _ _ (refused_line (codes "line")) _ refl c.put_refused.ensures)
+returns-in-None g c = rw c.in-None.is (λ text. says _ _ (refusal_line refusal.Line) c.refuse.new.self refl c.refuse.ensures)
 
 pub returns-in-Some-Batch : goal.returns-in-Some-Batch
 returns-in-Some-Batch g c =
     let is : c.args.command ≡ Some (Batch c.in-Some-Batch.field-0-0) = which _ _ _ c.in-Some-Batch.is (rw c.in-Some-Batch.is at c.in-Some-Batch.field-0-is) in
-    let alone = rw is at c.requires.alone in
-    rw is (λ text. says _ _ (refused_line (codes "too many")) _ (inl (alone, refl)) c.put_refused-in-Some-Batch.ensures)
+    let many = rw is at c.requires.alone in
+    rw is (λ text. says _ _ (refusal_line refusal.TooMany) c.refuse-in-Some-Batch.new.self (inl (many, refl)) c.refuse-in-Some-Batch.ensures)
 
 pub returns-in-Some-Progress : goal.returns-in-Some-Progress
 returns-in-Some-Progress g c =
     let is : c.args.command ≡ Some Progress = which _ _ _ c.in-Some-Progress.is (rw c.in-Some-Progress.is at c.in-Some-Progress.field-0-is) in
-    rw is (λ text. read_progress _ _ c.progress.result _ c.progress.ensures c.put_progress.ensures)
+    rw is (λ text. read_progress _ _ c.progress.result _ c.progress.ensures c.tell_progress.ensures)
 
 pub returns-in-Some-Bye : goal.returns-in-Some-Bye
 returns-in-Some-Bye g c =
     let is : c.args.command ≡ Some Bye = which _ _ _ c.in-Some-Bye.is (rw c.in-Some-Bye.is at c.in-Some-Bye.field-0-is) in
-    rw is (λ text. says _ _ (with_feed (codes "bye")) _ refl c.put_bye.ensures)
+    rw is (λ text. says _ _ (with_feed (codes "bye")) _ refl c.tell_bye.ensures)
 
 pub returns-in-Some-Run : goal.returns-in-Some-Run
 returns-in-Some-Run g c = search rules

@@ -29,7 +29,7 @@ returns-in_err-send-clause-session g c =
     let p = err_from_is_err_and c.from_residual-in_err-send.result c.from_residual-in_err-send.ensures.1 in
     let mid = c.next_line.new.self in
     let s = Serving-read _ _ _ _ _ _ _ c.loop-n.input mid c.loop-n.invariant.0 c.in_ok-n.ensures.takes in
-    let cut = rw c.as_bytes.ensures.bytes at c.in_err-send.ensures.err in
+    let cut = rw c.as_bytes.ensures at c.in_err-send.ensures.err in
     rw (p.1, p.2) (stopped_writing _ _ _ _ _ _ _ _ _ _ mid c.turn.new.input _ _ s c.in_ok-ends.ensures.ok cut)
 
 pub returns-then-ends-clause-session : goal.returns-then-ends-clause-session
@@ -37,7 +37,7 @@ returns-then-ends-clause-session g c =
     let mid = c.next_line.new.self in
     let s = Serving-read _ _ _ _ _ _ _ c.loop-n.input mid c.loop-n.invariant.0 c.in_ok-n.ensures.takes in
     let t = rw c.if-ends.true at c.in_ok-ends.ensures.ok in
-    let sent = rw c.as_bytes.ensures.bytes at c.in_ok-send.ensures.ok in
+    let sent = rw c.as_bytes.ensures at c.in_ok-send.ensures.ok in
     ended_by_bye _ _ _ _ _ _ _ _ _ mid c.turn.new.input _ s t sent
 
 pub loop-n-preserved : goal.loop-n-preserved
@@ -45,7 +45,7 @@ loop-n-preserved g c =
     let mid = c.next_line.new.self in
     let s = Serving-read _ _ _ _ _ _ _ c.loop-n.input mid c.loop-n.invariant.0 c.in_ok-n.ensures.takes in
     let t = rw c.if-ends.false at c.in_ok-ends.ensures.ok in
-    let sent = rw c.as_bytes.ensures.bytes at c.in_ok-send.ensures.ok in (
+    let sent = rw c.as_bytes.ensures at c.in_ok-send.ensures.ok in (
       Serving-turn _ _ _ _ _ _ _ _ _ mid c.turn.new.input _ s t sent,
       gives_more (gives_more c.loop-n.invariant.1 (rw c.in-Some.is at c.in_ok-n.ensures.asks)) c.in_ok-ends.ensures.asks,
     )

@@ -1,6 +1,6 @@
 use Rattle.std.proofs.Common.{arith}
-use Rattle.answers.proofs.Sessions.{one_more_text}
-use Rattle.answers.proofs.frames.frame.Goals as goal
+use Rattle.session_answers.proofs.Sessions.{one_more_text}
+use Rattle.session_answers.proofs.frames.frame.Goals as goal
 
 pub loop-session-preserved : goal.loop-session-preserved
 loop-session-preserved g c =

@@ -1,6 +1,6 @@
 use Rattle.std.proofs.Common.{◌≡◌, true, false, is_some, sym, rules, arith}
-use Rattle.answers.proofs.Sessions.{fault_here, no_fault_yet}
-use Rattle.answers.proofs.frames.has_fault.Goals as goal
+use Rattle.session_answers.proofs.Sessions.{fault_here, no_fault_yet}
+use Rattle.session_answers.proofs.frames.has_fault.Goals as goal
 
 pub returns-then-is_some : goal.returns-then-is_some
 returns-then-is_some g c =

@@ -1,6 +1,6 @@
 use Rattle.std.proofs.Common.{arith}
 use Rattle.std.proofs.lemmas.Grind.{common_steps}
-use Rattle.answers.proofs.frames.push_end.Goals as goal
+use Rattle.session_answers.proofs.frames.push_end.Goals as goal
 
 pub returns : goal.returns
 returns c = grind (arith, common_steps)

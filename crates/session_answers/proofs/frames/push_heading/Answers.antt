@@ -1,7 +1,7 @@
 use Rattle.std.proofs.Common.{◌∙◌}
-use Rattle.answers.specs.Frames.{heading}
-use Rattle.answers.proofs.Sessions.{put}
-use Rattle.answers.proofs.frames.push_heading.Goals as goal
+use Rattle.session_answers.specs.Frames.{heading}
+use Rattle.session_answers.proofs.Sessions.{put}
+use Rattle.session_answers.proofs.frames.push_heading.Goals as goal
 
 pub returns : goal.returns
 returns c =

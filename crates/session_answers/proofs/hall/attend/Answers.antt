@@ -1,6 +1,6 @@
 use Rattle.std.proofs.Common.{Some, None}
-use Rattle.answers.proofs.Sessions.{its_session}
-use Rattle.answers.proofs.hall.attend.Goals as goal
+use Rattle.session_answers.proofs.Sessions.{its_session}
+use Rattle.session_answers.proofs.hall.attend.Goals as goal
 
 pub returns-in-Ok-clause-session : goal.returns-in-Ok-clause-session
 returns-in-Ok-clause-session g c = its_session c.args.exchange.now c.args.seat c.in-Ok.seat _ _ _ _ None c.requires.seat c.in-Ok.ensures.seat c.in-Ok.ensures.session

@@ -1,7 +1,7 @@
 use Rattle.std.proofs.Common.{◌≡◌, true, false, sym, ◌∙◌, rules}
 use Rattle.batch_book.specs.History.{IsLegal}
-use Rattle.answers.proofs.Sessions.{one_history, history_elsewhere, another_history}
-use Rattle.answers.proofs.hall.close.Goals as goal
+use Rattle.session_answers.proofs.Sessions.{one_history, history_elsewhere, another_history}
+use Rattle.session_answers.proofs.hall.close.Goals as goal
 
 pub returns-in-Ok-clause-agree : goal.returns-in-Ok-clause-agree
 returns-in-Ok-clause-agree g c =

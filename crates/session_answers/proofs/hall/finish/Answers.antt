@@ -1,6 +1,6 @@
 use Rattle.std.proofs.Common.{◌≡◌, ◌++◌, false, refl, rules}
-use Rattle.answers.specs.Histories.{disagree_line, disagree}
-use Rattle.answers.proofs.hall.finish.Goals as goal
+use Rattle.session_answers.specs.Histories.{disagree_line, disagree}
+use Rattle.session_answers.proofs.hall.finish.Goals as goal
 
 pub returns-then-not-close : goal.returns-then-not-close
 returns-then-not-close g c =

@@ -1,6 +1,6 @@
 use Rattle.std.proofs.Common.{◌≡◌, ◌++◌, map, Some}
 use Rattle.std.specs.Vec.Iter.{into_iter_items}
-use Rattle.answers.proofs.hosting.all_of.Given as goal
+use Rattle.session_answers.proofs.hosting.all_of.Given as goal
 
 abbrev pub invariant-loop-one : goal.invariant-loop-one
 invariant-loop-one g l =

@@ -1,7 +1,7 @@
 use Rattle.std.proofs.Common.{◌≡◌, true, false, sym, rules, arith}
-use Rattle.answers.specs.Hosts.{has_failed}
-use Rattle.answers.proofs.Visits.{fails_here, none_failed_yet}
-use Rattle.answers.proofs.hosting.any_failed.Goals as goal
+use Rattle.session_answers.specs.Hosts.{has_failed}
+use Rattle.session_answers.proofs.Visits.{fails_here, none_failed_yet}
+use Rattle.session_answers.proofs.hosting.any_failed.Goals as goal
 
 pub returns-then-has_failed : goal.returns-then-has_failed
 returns-then-has_failed g c =

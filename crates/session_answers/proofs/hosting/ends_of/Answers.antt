@@ -1,6 +1,6 @@
 use Rattle.std.proofs.Common.{arith, refl}
-use Rattle.answers.proofs.Visits.{one_more_end}
-use Rattle.answers.proofs.hosting.ends_of.Goals as goal
+use Rattle.session_answers.proofs.Visits.{one_more_end}
+use Rattle.session_answers.proofs.hosting.ends_of.Goals as goal
 
 pub loop-session-preserved : goal.loop-session-preserved
 loop-session-preserved g c =

@@ -1,8 +1,8 @@
 use Rattle.std.proofs.Common.{◌≡◌, map, take}
 use Rattle.std.specs.List.{flat_map}
-use Rattle.answers.specs.Hosts.{visit_text}
-use Rattle.answers.specs.Visits.{visit}
-use Rattle.answers.proofs.hosting.ends_of.Given as goal
+use Rattle.session_answers.specs.Hosts.{visit_text}
+use Rattle.session_answers.specs.Visits.{visit}
+use Rattle.session_answers.proofs.hosting.ends_of.Given as goal
 
 abbrev pub invariant-loop-session : goal.invariant-loop-session
 invariant-loop-session g l =

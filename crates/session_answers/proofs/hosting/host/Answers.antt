@@ -1,6 +1,6 @@
-use Rattle.answers.specs.Hosts.{hosted}
-use Rattle.answers.proofs.Visits.{are_hosted, new_for}
-use Rattle.answers.proofs.hosting.host.Goals as goal
+use Rattle.session_answers.specs.Hosts.{hosted}
+use Rattle.session_answers.proofs.Visits.{are_hosted, new_for}
+use Rattle.session_answers.proofs.hosting.host.Goals as goal
 
 pub returns : goal.returns
 returns g c =

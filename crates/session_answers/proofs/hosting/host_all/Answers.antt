@@ -1,8 +1,8 @@
 use Rattle.std.proofs.Common.{length, arith, refl, Some, sym, ap, ◌≡◌}
 use Rattle.std.proofs.lemmas.List.{length-map}
 use Rattle.std.proofs.lemmas.Result.{IfOk-weaker}
-use Rattle.answers.proofs.Visits.{had, as_many, kept_each, where_some, all_visited}
-use Rattle.answers.proofs.hosting.host_all.Goals as goal
+use Rattle.session_answers.proofs.Visits.{had, as_many, kept_each, where_some, all_visited}
+use Rattle.session_answers.proofs.hosting.host_all.Goals as goal
 
 pub returns-in-Ok : goal.returns-in-Ok
 returns-in-Ok g c =

@@ -1,5 +1,5 @@
-use Rattle.answers.proofs.Visits.{was_served}
-use Rattle.answers.proofs.hosting.host_client.Goals as goal
+use Rattle.session_answers.proofs.Visits.{was_served}
+use Rattle.session_answers.proofs.hosting.host_client.Goals as goal
 
 pub returns : goal.returns
 returns g c =

@@ -1,7 +1,7 @@
-use Rattle.std.proofs.Common.{◌≡◌, ◌∷◌, map, refl}
+use Rattle.std.proofs.Common.{◌≡◌, ◌∷◌, refl}
 use Rattle.std.specs.Vec.Iter.{into_iter_items}
-use Rattle.answers.proofs.Visits.{one_more_taken}
-use Rattle.answers.proofs.hosting.part.Goals as goal
+use Rattle.session_answers.proofs.Visits.{one_more_taken}
+use Rattle.session_answers.proofs.hosting.part.Goals as goal
 
 pub loop-session-preserved : goal.loop-session-preserved
 loop-session-preserved g c =

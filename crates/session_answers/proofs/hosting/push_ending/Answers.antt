@@ -1,7 +1,7 @@
 use Rattle.std.proofs.Common.{sym, ap}
-use Rattle.answers.specs.Hosts.{ending_line}
-use Rattle.answers.proofs.Sessions.{put}
-use Rattle.answers.proofs.hosting.push_ending.Goals as goal
+use Rattle.session_answers.specs.Hosts.{ending_line}
+use Rattle.session_answers.proofs.Sessions.{put}
+use Rattle.session_answers.proofs.hosting.push_ending.Goals as goal
 
 pub returns-in-Unopened : goal.returns-in-Unopened
 returns-in-Unopened g c =

@@ -2,9 +2,9 @@ use Rattle.std.proofs.Common.{◌≡◌, ◌∷◌, All, subst, suc, arith, rule
 use Rattle.std.proofs.lemmas.Grind.{common_steps}
 use Rattle.std.specs.Vec.Iter.{into_iter_items}
 use Rattle.batch_book.specs.Seats.{SeatState}
-use Rattle.answers.specs.Hosting.{IsFresh}
-use Rattle.answers.proofs.Visits.{one_more_thread, all_pushed, all_fresh}
-use Rattle.answers.proofs.hosting.start_all.Goals as goal
+use Rattle.session_answers.specs.Hosting.{IsFresh}
+use Rattle.session_answers.proofs.Visits.{one_more_thread, all_pushed}
+use Rattle.session_answers.proofs.hosting.start_all.Goals as goal
 
 pub spawn_with-requires-clause-runs : goal.spawn_with-requires-clause-runs
 spawn_with-requires-clause-runs g c =

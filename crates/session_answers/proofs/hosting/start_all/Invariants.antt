@@ -1,7 +1,7 @@
 use Rattle.std.proofs.Common.{◌≡◌, ◌++◌, All, map}
 use Rattle.std.specs.Vec.Iter.{into_iter_items}
-use Rattle.answers.specs.Hosting.{IsFresh}
-use Rattle.answers.proofs.hosting.start_all.Given as goal
+use Rattle.session_answers.specs.Hosting.{IsFresh}
+use Rattle.session_answers.proofs.hosting.start_all.Given as goal
 
 abbrev pub invariant-loop-seat : goal.invariant-loop-seat
 invariant-loop-seat g l =

@@ -1,11 +1,11 @@
 use Rattle.std.proofs.Common.{◌≡◌, map, sym}
 use Rattle.std.proofs.lemmas.Result.{IfOk-weaker}
-use Rattle.answers.specs.Frames.{Transcript, sessions_text, has_fault}
-use Rattle.answers.specs.Histories.{part_of, IsClosing}
-use Rattle.answers.specs.Hosting.{transcript}
-use Rattle.answers.specs.Serving.{AreServed}
-use Rattle.answers.proofs.Sessions.{parts_are}
-use Rattle.answers.proofs.serving.host.Goals as goal
+use Rattle.session_answers.specs.Frames.{Transcript, sessions_text, has_fault}
+use Rattle.session_answers.specs.Histories.{part_of, IsClosing}
+use Rattle.session_answers.specs.Hosting.{transcript}
+use Rattle.session_answers.specs.Serving.{AreServed}
+use Rattle.session_answers.proofs.Sessions.{parts_are}
+use Rattle.session_answers.proofs.serving.host.Goals as goal
 
 pub returns : goal.returns
 returns g c =

@@ -1,7 +1,7 @@
 use Rattle.std.proofs.Common.{arith, sym}
 use Rattle.std.proofs.lemmas.List.{length-map}
-use Rattle.answers.proofs.Sessions.{both, all_served}
-use Rattle.answers.proofs.serving.serve_all.Goals as goal
+use Rattle.session_answers.proofs.Sessions.{both, all_served}
+use Rattle.session_answers.proofs.serving.serve_all.Goals as goal
 
 pub returns : goal.returns
 returns g c =

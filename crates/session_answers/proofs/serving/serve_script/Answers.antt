@@ -1,5 +1,5 @@
-use Rattle.answers.proofs.Sessions.{its_script, script_at}
-use Rattle.answers.proofs.serving.serve_script.Goals as goal
+use Rattle.session_answers.proofs.Sessions.{its_script, script_at}
+use Rattle.session_answers.proofs.serving.serve_script.Goals as goal
 
 pub returns-clause-served : goal.returns-clause-served
 returns-clause-served g c =

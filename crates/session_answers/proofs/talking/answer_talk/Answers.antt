@@ -1,11 +1,11 @@
-use Rattle.std.proofs.Common.{◌≡◌, [], refl, ◌∙◌}
+use Rattle.std.proofs.Common.{[], refl, ap}
 use Rattle.std.proofs.KnownBytes.{Appends-nil}
 use Rattle.std.proofs.lemmas.Result.{IfOk-weaker}
 use Rattle.plan_answers.specs.Lent.{bytes_of}
-use Rattle.plan_answers.specs.Refusals.{IsRefused}
-use Rattle.rack_answers.specs.Refusals.{image_words}
-use Rattle.answers.specs.Talking.{HasTalked, IsTalkAnswer, talked, image_refused}
-use Rattle.answers.proofs.talking.answer_talk.Goals as goal
+use Rattle.plan_answers.specs.Refusals.{Refuses}
+use Rattle.refusals.specs.Sources.{of_image}
+use Rattle.session_answers.specs.Talking.{HasTalked, IsTalkAnswer, talked, image_refused}
+use Rattle.session_answers.proofs.talking.answer_talk.Goals as goal
 
 pub returns-in-Ok-opening_rack : goal.returns-in-Ok-opening_rack
 returns-in-Ok-opening_rack g c =
@@ -19,12 +19,11 @@ returns-in-Ok-opening_rack g c =
           (λ p is. talked c.in-Ok.shape rack c.in-Ok.ensures.shape c.in-Ok-opening_rack.ensures.rack is) t.2,
     )
 
-pub returns-in_ok-image_words-in-Err : goal.returns-in_ok-image_words-in-Err
-returns-in_ok-image_words-in-Err g c =
-    let before = g.I.Read.remaining c.args.reader.now in
-    let said : c.as_str.result.now ≡ image_words c.in-Err.fault = c.as_str.ensures.value ∙ c.in_ok-image_words-in-Err.ensures.text in (
+pub returns-in-Err : goal.returns-in-Err
+returns-in-Err g c =
+    let before = g.I.Read.remaining c.args.reader.now in (
       [],
       Appends-nil _,
-      IfOk-weaker c.refused-in-Err.result (IsRefused c.as_str.result.now) (IsTalkAnswer c.args.shape.now (bytes_of c.args.image) before before [])
-          (λ p is. image_refused c.in-Ok.shape c.in-Err.fault c.in-Ok.ensures.shape (c.in-Err.ensures.wrong c.in_ok-image_words-in-Err.ensures.real) (rw said at is) (refl, refl)) c.refused-in-Err.ensures,
+      IfOk-weaker c.refused-in-Err.result (Refuses (of_image c.in-Err.fault)) (IsTalkAnswer c.args.shape.now (bytes_of c.args.image) before before [])
+          (λ p is. image_refused c.in-Ok.shape c.in-Err.fault c.in-Ok.ensures.shape (c.in-Err.ensures.wrong (λ e. is.0 (ap of_image e))) is (refl, refl)) (rw c.from.ensures at c.refused-in-Err.ensures),
     )

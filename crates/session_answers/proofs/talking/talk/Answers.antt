@@ -1,11 +1,11 @@
 use Rattle.std.proofs.Common.{◌≡◌, ◌++◌, ◌∷◌, [], is_some, map, sym, subst, rules}
 use Rattle.std.proofs.KnownBytes.{Appends-nil}
 use Rattle.std.proofs.lemmas.Result.{IfOk-weaker}
-use Rattle.answers.specs.Histories.{part_of, IsClosing}
-use Rattle.answers.specs.Hosting.{AreAllSeats}
-use Rattle.answers.specs.Talking.{HasTalked}
-use Rattle.answers.proofs.Talks.{alone, all_there, has_talked}
-use Rattle.answers.proofs.talking.talk.Goals as goal
+use Rattle.session_answers.specs.Histories.{part_of, IsClosing}
+use Rattle.session_answers.specs.Hosting.{AreAllSeats}
+use Rattle.session_answers.specs.Talking.{HasTalked}
+use Rattle.session_answers.proofs.Talks.{alone, all_there, has_talked}
+use Rattle.session_answers.proofs.talking.talk.Goals as goal
 
 pub finish-requires-clause-seats : goal.finish-requires-clause-seats
 finish-requires-clause-seats g c =

@@ -1,6 +1,6 @@
 use Rattle.std.proofs.Common.{arith}
 use Rattle.std.proofs.lemmas.Grind.{common_steps}
-use Rattle.client_session.proofs.reply_line.put_progress.Goals as goal
+use Rattle.client_session.proofs.reply_line.ReplyLine.tell_progress.Goals as goal
 
 pub returns : goal.returns
 returns c = grind (arith, common_steps)

@@ -1,5 +1,5 @@
 use Rattle.std.proofs.Common.{refl}
-use Rattle.answers.proofs.all_there.AllThere.of.Goals as goal
+use Rattle.session_answers.proofs.all_there.AllThere.of.Goals as goal
 
 pub returns : goal.returns
 returns g c = refl

@@ -1,5 +1,5 @@
 use Rattle.std.proofs.Common.{refl}
-use Rattle.answers.proofs.all_there.AllThere.threads.Goals as goal
+use Rattle.session_answers.proofs.all_there.AllThere.threads.Goals as goal
 
 pub returns : goal.returns
 returns c = refl

@@ -1,0 +1,34 @@
+//! Which refusal one of the book is, and one of a run.
+
+ghost use Rattle.std.specs.Prelude.{◌≡◌};
+ghost use Rattle.client_session.specs.Sources.{of_book, of_run};
+
+use refusals::Refusal;
+use setting_runner::RunRefusal;
+
+/// That of a call which the book refused.
+pub(crate) fn of_book(refusal: batch_book::Refusal) -> Refusal
+    ensures { result ≡ of_book refusal }
+{
+    match refusal {
+        batch_book::Refusal::HistoryFull => Refusal::HistoryFull,
+        batch_book::Refusal::BookFull => Refusal::BookFull,
+        batch_book::Refusal::Unknown => Refusal::Unknown,
+        batch_book::Refusal::Unplanned => Refusal::Unplanned,
+        batch_book::Refusal::Stranger => Refusal::Stranger,
+        batch_book::Refusal::Already => Refusal::Already,
+        batch_book::Refusal::Memory(fault) => Refusal::Memory(fault),
+        batch_book::Refusal::NoMemory => Refusal::NoMemory,
+    }
+}
+
+/// That of a run which was refused.
+pub(crate) fn of_run(refusal: RunRefusal) -> Refusal
+    ensures { result ≡ of_run refusal }
+{
+    match refusal {
+        RunRefusal::Overlap(i, j) => Refusal::Overlap(i, j),
+        RunRefusal::Shape => Refusal::Shape,
+        RunRefusal::NoMemory => Refusal::NoMemory,
+    }
+}
