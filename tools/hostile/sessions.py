@@ -97,11 +97,11 @@ class Exchange:
 
 
 class Session:
-    """A session that reads a script."""
+    """A session that reads a script. Each refusal is kept with what was sent: a line, or a batch with its lines."""
 
     def __init__(self, exchange, number, script):
         self.exchange, self.number, self.script, self.at = exchange, number, script, 0
-        self.written, self.ended = [], None
+        self.written, self.refused, self.ended = [], [], None
 
     def line(self, is_inside):
         """The next line, or None at the end, where it is kept how the session ended."""
@@ -125,13 +125,15 @@ class Session:
         """
         told = iter(told) if told is not None else None
         while True:
-            line = self.line(False)
+            before, line = self.at, self.line(False)
             if line is None:
                 break
             reply = self.reply_to(line, next(told, None) if told else None)
             if reply is None:
                 break
             self.written.append(reply + "\n")
+            if reply.startswith("refused "):
+                self.refused.append((reply.encode(), self.script[before : self.at]))
             if reply == "bye":
                 break
         return "".join(self.written) + (f"ended {self.ended}\n" if self.ended else "")
@@ -228,6 +230,13 @@ def answer_serve(shape, scripts, image=None):
         return f"refused {why}\n".encode(), 1
     texts = [f"session {number}\n" + Session(exchange, number, script).serve() for number, script in enumerate(scripts)]
     return "".join(texts).encode(), int(any("\nended " in text for text in texts))
+
+
+def answer_talk(shape, script):
+    """What `talk` prints of a script, its status, and each refusal of a line with what was sent."""
+    session = Session(Exchange(plain.read_shape(shape)), 0, script)
+    text = session.serve()
+    return text.encode(), int(session.ended is not None), session.refused
 
 
 def is_told_without_memory(shape, scripts, text, image=None):

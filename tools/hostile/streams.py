@@ -53,7 +53,7 @@ def refused_batch(name, text, refusal):
 
 def refused_file(name, reason):
     """The refusal of a file that can't be read for a reason of the system."""
-    return Ended(b"refused file\n", b"exchange: %s: %s\n" % (notes.shown(name), reason.encode()), 1)
+    return Ended(b"refused file\n", f"exchange: {notes.shown(name)}: {reason}\n".encode(), 1)
 
 
 def reason_of(name):
@@ -132,7 +132,7 @@ def pipes():
         ("nothing", [], b"refused batch line 1\n"),
     ]:
         for name, given in [("pipe", os.devnull), ("-", "pipe")]:
-            told = b"standard input" if name == "-" else b"pipe"
+            told = "standard input" if name == "-" else "pipe"
             wanted = refused_batch(told, b"".join(parts), refusal) if refusal else Ended(PLAN, b"", 0)
             writer = threading.Thread(target=pieces, args=("pipe", parts))
             writer.start()
@@ -201,7 +201,7 @@ def inputs():
         for what, (line_before, error) in UNREADABLE.items():
             expect(f"{line}: {what}", under(line_before, *words), refused_file("standard input", os.strerror(error)))
         expect(f"{line}: an endless input", under("ulimit -v 400000; exec </dev/zero;", *words), NO_MEMORY)
-    nothing = refused_batch(b"standard input", b"", b"refused batch line 1\n")
+    nothing = refused_batch("standard input", b"", b"refused batch line 1\n")
     expect("plan -: nothing", ask("plan", "-", seconds=LIMIT), nothing)
     expect("switch -: nothing", ask("switch", "-", seconds=LIMIT), nothing)
     expect("serve -: nothing", ask("serve", "2x2x2", "-", seconds=LIMIT), Ended(b"session 0\n", b"", 0))

@@ -1,13 +1,14 @@
 #!/usr/bin/env python3
 """Spoilt texts: what the program answers to them, and what the plain implementation does.
 
-    texts.py [COUNT]        COUNT texts of each kind, 10000 where it isn't said; of patterns a quarter, of scripts side by side a twentieth
+    texts.py [COUNT]        COUNT texts of each kind, 10000 where it isn't said; of patterns and of scripts for `talk` a quarter, of scripts side by
+                            side a twentieth
 
 Text number n of a kind is the same each time. A plan isn't the only one of its batch, so `plan` is judged by what a plan is, and `switch`
 by the plan that `plan` gives; all other answers are compared byte by byte. Of a pattern several workers have to give the plan of one, byte by
 byte. In a quarter of the runs one of the files is standard input, and a tenth of the files have odd names.
-The line on standard error beside a refusal is compared byte by byte too, with what notes.py tells. What it says is then taken away from the
-texts: they have to be refused otherwise, or told of otherwise. In a tenth of the runs `--quiet` leaves that line out.
+The line on standard error beside a refusal is compared byte by byte too, with what notes.py tells. What it says is wanted in a line is then
+put there: the texts have to be refused otherwise, or told of otherwise. In a tenth of the runs `--quiet` leaves that line out.
 """
 
 import multiprocessing
@@ -64,12 +65,12 @@ def odd_name(draw, file):
 def named(answer, file, text):
     """A text and the name that is told of its file; no name where there is no text."""
     if text is None:
-        return b"", b""
-    return (b"standard input" if file == answer.given else notes.shown(answer.names[file])), text
+        return "", b""
+    return ("standard input" if file == answer.given else notes.shown(answer.names[file])), text
 
 
 def is_well_told(answer, asked, line, answer_to):
-    """Whether the line beside an answer is the one that belongs there, and says what is so: without that the answer is another, or what
+    """Whether the line beside an answer is the one that belongs there, and says what is wanted: with that the answer is another, or what
     is told. `answer_to` gives the answer to what is asked."""
     wanted = notes.told(asked, line) if line.startswith(b"refused ") else b""
     if answer.err != (b"" if answer.is_quiet else wanted):
@@ -321,6 +322,20 @@ def try_script(draw):
     return is_served(answer, wanted, status, asked), last_line(wanted), [words.encode(), text, image], answer
 
 
+def try_talk(draw):
+    """A spoilt script, put to `talk`, which tells a line beside each that it refuses. A few submit more batches than a book holds."""
+    shape = spoil.shape(draw)
+    text = spoil.spoil(draw, spoil.script(draw, shape, draw.choice([5, 15, 30]), range(5)))
+    if draw.random() < 0.003:
+        text = b"batch 0\n" * 250 + text + b"batch 0\n" * 8
+    words, quiet = "{}x{}x{}".format(*shape), ["--quiet"] if draw.random() < 0.1 else []
+    answer = ask("talk", words, *quiet, given=keep("script", text))
+    wanted, status, refused = sessions.answer_talk(words.encode(), text)
+    told = [notes.told(notes.Asked("batch", ("", sent), shape=words.encode()), refusal) for refusal, sent in refused]
+    well = answer == (wanted, b"" if quiet else b"".join(told), status)
+    return well, refused[-1][0] if refused else b"no refusal", [words.encode(), text], answer
+
+
 def try_scripts(draw):
     """Sixteen scripts side by side whose replies don't depend on the order of the sessions: each has a module of its own."""
     shape = (draw.randint(SCRIPTS, plain.MODULES), draw.randint(2, 4), draw.randint(1, 4))
@@ -345,6 +360,7 @@ KINDS = {
     "schedules to draw": try_draw,
     "shapes to run": try_shape,
     "scripts to serve": try_script,
+    "scripts to talk": try_talk,
     "sixteen scripts side by side": try_scripts,
 }
 
@@ -375,7 +391,7 @@ def try_some(share):
 
 def main():
     count = int(sys.argv[1]) if len(sys.argv) > 1 else 10000
-    parts = {try_pattern: 4, try_scripts: 20}
+    parts = {try_pattern: 4, try_talk: 4, try_scripts: 20}
     counts = {kind: count // parts.get(try_it, 1) for kind, try_it in KINDS.items()}
     shares = [(kind, range(at, min(at + 250, most))) for kind, most in counts.items() for at in range(0, most, 250)]
     classes, wrong = {kind: Counter() for kind in KINDS}, []

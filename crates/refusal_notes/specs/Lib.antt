@@ -1,8 +1,5 @@
 pub mod Lines
-pub mod Forms
-pub mod Listed
-pub mod Causes
+pub mod Wanted
 pub mod Notes
-pub mod Refusals
 pub mod Pairs
 pub mod Told

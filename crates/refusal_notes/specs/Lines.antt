@@ -1,8 +1,10 @@
--- The lines of a text, and the words of a line.
-use Rattle.std.specs.Prelude.{◌≡◌, ℕ, ◌-◌, ◌==◌, ◌⊎◌, Bool, List, [], Some, is_some, slice_get, unwrap_or}
-use Rattle.std.specs.List.{slice_split}
+-- The lines of a text, the words of a line, and the lines that list an entry.
+use Rattle.std.specs.Prelude.{◌≡◌, ℕ, ◌-◌, ◌==◌, ◌&&◌, ◌||◌, ◌⊎◌, Bool, List, [], Some, codes, is_some, length, nat_eq, slice_get, unwrap_or}
+use Rattle.std.specs.List.{slice_split, starts_with}
 use Rattle.std.specs.Fmt.{decimal}
 use Rattle.batch.specs.Text.{IsNumber, line_feed, space}
+use Rattle.refusal_notes.specs.declared.listed.Listing.{Listing}
+use Rattle.refusal_notes.specs.declared.listed.Listing.TheVariants.{Transfers, Moves, Settings}
 
 -- what stands between these bytes: the last piece is what stands behind the last of them
 abbrev pub pieces : ℕ → List ℕ → List (List ℕ)
@@ -31,3 +33,12 @@ abbrev pub Announces : List ℕ → ℕ → Type 0
 Announces text n =
     HasNumber (line_at text 1) 1 n
     ⊎ (((k : ℕ) → HasNumber (line_at text 1) 1 k → ⊥) × (n ≡ 0))
+
+-- whether a line begins as that of a transfer, of a move, or of a setting
+abbrev pub is_listed : Listing → List ℕ → Bool
+is_listed Transfers line =
+    starts_with nat_eq line (codes "push ") || starts_with nat_eq line (codes "pull ")
+is_listed Moves line = starts_with nat_eq line (codes "move ")
+is_listed Settings line =
+    starts_with nat_eq line (codes "setting ")
+    || (starts_with nat_eq line (codes "setting") && (length line == 7))

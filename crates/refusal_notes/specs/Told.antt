@@ -2,12 +2,13 @@
 use Rattle.std.specs.Prelude.{◌≡◌, ℕ, ◌+◌, ◌-◌, ◌^◌, ◌⊎◌, ◌++◌, min, List, Option, None, MatchOption, codes}
 use Rattle.batch.specs.Extent.{Extent, widest}
 use Rattle.batch.specs.ShapeText.{DenotesShape, IsBadShape}
-use Rattle.refusal_notes.specs.declared.cause.Limit.TheVariants.{Modules, Blocks, Announced}
+use Rattle.refusals.specs.declared.refusal.Refusal.{Refusal}
+use Rattle.refusals.specs.declared.refusal.Refusal.TheVariants as refused
+use Rattle.refusal_notes.specs.declared.limit.Limit.{Limit}
+use Rattle.refusal_notes.specs.declared.limit.Limit.TheVariants.{Modules, Blocks, Announced}
 use Rattle.refusal_notes.specs.declared.listed.Listing.TheVariants.{Settings}
 use Rattle.refusal_notes.specs.declared.note.LineNote.{LineNote}
 use Rattle.refusal_notes.specs.declared.told.Texts.{Texts}
-use Rattle.refusal_notes.specs.declared.refusal.Refusal.{Refusal}
-use Rattle.refusal_notes.specs.declared.refusal.Refusal.TheVariants as refused
 use Rattle.refusal_notes.specs.Lines.{Announces}
 use Rattle.refusal_notes.specs.Notes.{IsNoteAbove, IsNoteOf}
 
@@ -15,20 +16,11 @@ use Rattle.refusal_notes.specs.Notes.{IsNoteAbove, IsNoteOf}
 abbrev pub IsShapeOf : List ℕ → Extent → Type 0
 IsShapeOf word shape = DenotesShape word shape ⊎ (IsBadShape word × (shape ≡ widest))
 
--- the line of a transfer, as far as numbers go
-abbrev pub line_of : ℕ → ℕ
-line_of t = min (t + 2) (2 ^ 64 - 1)
-
--- a transfer names a module, or a block, that a rack of this shape hasn't
-abbrev pub IsModuleTold : Texts → ℕ → LineNote → Type 0
-IsModuleTold texts t note =
+-- a transfer, on line T + 2 as far as numbers go, names what isn't below a limit of the rack's shape
+abbrev pub IsTransferTold : (Extent → Limit) → Texts → ℕ → LineNote → Type 0
+IsTransferTold limit texts t note =
     (shape : Extent) × IsShapeOf texts.shape.now shape
-    × IsNoteAbove texts.listing (Modules shape.modules) texts.list.text.now (line_of t) note
-
-abbrev pub IsBlockTold : Texts → ℕ → LineNote → Type 0
-IsBlockTold texts t note =
-    (shape : Extent) × IsShapeOf texts.shape.now shape
-    × IsNoteAbove texts.listing (Blocks shape.blocks) texts.list.text.now (line_of t) note
+    × IsNoteAbove texts.listing (limit shape) texts.list.text.now (min (t + 2) (2 ^ 64 - 1)) note
 
 -- of these refusals a line is told, and of no other
 abbrev pub IsLineTold : Refusal → Texts → Option LineNote → Type 0
@@ -43,8 +35,10 @@ IsLineTold refused.Count texts told =
     × IsNoteOf texts.listing texts.list.text.now (n + 2) note)
 IsLineTold refused.TooMany texts told =
     MatchOption told ⊥ (IsNoteAbove texts.listing Announced texts.list.text.now 1)
-IsLineTold (refused.NoModule t) texts told = MatchOption told ⊥ (IsModuleTold texts t)
-IsLineTold (refused.NoBlock t) texts told = MatchOption told ⊥ (IsBlockTold texts t)
+IsLineTold (refused.NoModule t) texts told =
+    MatchOption told ⊥ (IsTransferTold (λ shape. Modules shape.modules) texts t)
+IsLineTold (refused.NoBlock t) texts told =
+    MatchOption told ⊥ (IsTransferTold (λ shape. Blocks shape.blocks) texts t)
 IsLineTold _ texts told = told ≡ None
 
 -- the line on standard error that has these words

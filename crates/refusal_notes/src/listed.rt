@@ -1,10 +1,7 @@
 //! How many lines list an entry.
 
 ghost use Rattle.std.specs.Prelude.{◌≡◌, filter, length};
-ghost use Rattle.refusal_notes.specs.Lines.{lines};
-ghost use Rattle.refusal_notes.specs.Listed.{is_listed as the_listed};
-
-use crate::form::is_setting;
+ghost use Rattle.refusal_notes.specs.Lines.{is_listed as the_listed, lines};
 
 /// What a text lists.
 #[derive(Clone, Copy)]
@@ -24,7 +21,9 @@ pub(crate) fn is_listed(listing: Listing, line: &[u8]) -> bool
     match listing {
         Listing::Transfers => line.starts_with(b"push ") || line.starts_with(b"pull "),
         Listing::Moves => line.starts_with(b"move "),
-        Listing::Settings => is_setting(line),
+        Listing::Settings => {
+            line.starts_with(b"setting ") || line.starts_with(b"setting") && line.len() == 7
+        }
     }
 }
 

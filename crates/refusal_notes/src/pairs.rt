@@ -9,20 +9,12 @@ use crate::lines::{line_at, number_at};
 use crate::listed::{Listing, is_listed};
 use batch::{MAX_TRANSFERS, number_from_digits};
 
-/// The line of a transfer, which is counted from 0.
-fn transfer_line(batch: &[u8], t: usize) -> &[u8]
-    requires { IsNumber t }
-    ensures { result.now ≡ transfer_at batch.now t }
-{
-    line_at(batch, t + 2)
-}
-
 /// Whether this word of a transfer's line is this module.
 fn names(batch: &[u8], t: usize, place: usize, module: usize) -> bool
     requires { IsNumber t }
     ensures { IsTrue result → HasNumber (transfer_at batch.now t) place «module» }
 {
-    match number_at(transfer_line(batch, t), place) {
+    match number_at(line_at(batch, t + 2), place) {
         Some(n) => n == module,
         None => false,
     }
@@ -100,27 +92,15 @@ pub(crate) fn times_held(schedule: &[u8], t: usize) -> usize {
     times
 }
 
-/// The number of the first setting's line that holds this transfer, counted from 1, behind so many lines.
-fn setting_behind(schedule: &[u8], above: usize, t: usize) -> Option<usize> {
-    let at = schedule
-        .split(|b| *b == b'\n')
-        .skip(above)
-        .position(|line| times_in(line, t) > 0)?;
-    above.checked_add(at)?.checked_add(1)
-}
-
-/// The number of the first setting's line that holds this transfer, counted from 1.
-pub(crate) fn setting_with(schedule: &[u8], t: usize) -> Option<usize> {
-    setting_behind(schedule, 0, t)
-}
-
-/// The numbers of the settings' lines that hold this transfer for the first and for the second time: one number
-/// twice where one line holds it twice.
-pub(crate) fn settings_with(schedule: &[u8], t: usize) -> Option<(usize, usize)> {
-    let first = setting_behind(schedule, 0, t)?;
-    if times_in(line_at(schedule, first), t) > 1 {
-        return Some((first, first));
+/// The number of the line, counted from 1, in which a setting holds this transfer once more than so many times.
+pub(crate) fn standing(schedule: &[u8], t: usize, times: usize) -> Option<usize> {
+    let mut left = times;
+    for (above, line) in schedule.split(|b| *b == b'\n').enumerate() {
+        let here = times_in(line, t);
+        if here > left {
+            return above.checked_add(1);
+        }
+        left -= here;
     }
-    let second = setting_behind(schedule, first, t)?;
-    Some((first, second))
+    None
 }

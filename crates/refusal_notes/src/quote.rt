@@ -2,7 +2,7 @@
 
 ghost use Rattle.refusal_notes.specs.Notes.{IsQuoteOf};
 
-use std::fmt;
+use std::fmt::{self, Display, Formatter, Write};
 
 /// How many bytes of a line are quoted. This is the project's choice.
 pub const MAX_QUOTED: usize = 60;
@@ -21,21 +21,15 @@ impl<'a> Quote<'a> {
     pub(crate) fn of(line: &'a [u8]) -> Quote<'a>
         ensures { IsQuoteOf line.entry.now result }
     {
-        if line.len() > MAX_QUOTED {
-            return Quote {
-                bytes: &line[..MAX_QUOTED],
-                is_cut: true,
-            };
-        }
         Quote {
-            bytes: line,
-            is_cut: false,
+            bytes: &line[..MAX_QUOTED.min(line.len())],
+            is_cut: line.len() > MAX_QUOTED,
         }
     }
 }
 
-impl<'a> fmt::Display for Quote<'a> {
-    fn fmt<W: fmt::Write>(&self, f: &mut fmt::Formatter<W>) -> fmt::Result {
+impl<'a> Display for Quote<'a> {
+    fn fmt<W: Write>(&self, f: &mut Formatter<W>) -> fmt::Result {
         f.write_char('"')?;
         for byte in self.bytes {
             write_byte(f, *byte)?;
@@ -45,7 +39,7 @@ impl<'a> fmt::Display for Quote<'a> {
 }
 
 /// A byte as it is shown: as it is where it is printable.
-fn write_byte<W: fmt::Write>(f: &mut fmt::Formatter<W>, byte: u8) -> fmt::Result {
+fn write_byte<W: Write>(f: &mut Formatter<W>, byte: u8) -> fmt::Result {
     if byte.is_ascii() {
         return write_shown(f, char::from(byte));
     }
@@ -54,7 +48,7 @@ fn write_byte<W: fmt::Write>(f: &mut fmt::Formatter<W>, byte: u8) -> fmt::Result
 
 /// A character as it is shown: escaped where a terminal wouldn't show it, but obey it. Beyond ASCII these are control
 /// characters, those of no width, those that turn the direction of a text, and those that break its lines.
-pub(crate) fn write_shown<W: fmt::Write>(f: &mut fmt::Formatter<W>, c: char) -> fmt::Result {
+pub(crate) fn write_shown<W: Write>(f: &mut Formatter<W>, c: char) -> fmt::Result {
     match c {
         '"' => f.write_str("\\\""),
         '\\' => f.write_str("\\\\"),

@@ -1,26 +1,49 @@
 //! The second line of a refusal.
 
-ghost use Rattle.std.specs.Prelude.{◌≡◌, List, ℕ, IfSome, string_bytes};
-ghost use Rattle.refusal_notes.specs.declared.refusal.Refusal.{Refusal};
-ghost use Rattle.refusal_notes.specs.Refusals.{refusal_line};
+ghost use Rattle.std.specs.Prelude.{◌≡◌, ◌≢◌, List, ℕ, IfSome, string_bytes};
 ghost use Rattle.refusal_notes.specs.Told.{line_told};
 
 use crate::told::{Named, Note, Texts};
+use refusals::Refusal;
 use std::alloc::Global;
 use std::fmt::Display;
 
-/// The line that is told on standard error beside this line of a refusal, with its line feed: which line
-/// of which text, what stands there, and what is wanted.
+/// The line that is told on standard error beside this refusal, with its line feed: which line of which text, what
+/// stands there, and what is wanted there.
 ///
-/// There is none where there is no memory for it, and where the line says no refusal of these texts. Takes
-/// time that grows with the lengths of the texts.
-pub fn second_line(alloc: Global, line: &[u8], texts: Texts<'_>) -> Option<String>
-    ensures refusal { IfSome result (λ _. (refusal : Refusal) × (line.now ≡ refusal_line refusal)) }
+/// There is none of want of memory, nor of a file that can't be read, of which [`file_line`] tells. There is none where there
+/// is no memory for it. Takes time that grows with the lengths of the texts.
+pub fn second_line(alloc: Global, refusal: Refusal, texts: Texts<'_>) -> Option<String>
     ensures text { IfSome result (λ text.
         (words : List ℕ) × (string_bytes text ≡ line_told words)) }
+    ensures refusal { IfSome result (λ _. refusal ≢ Refusal.NoMemory) }
 {
-    let note = Note::of(line, texts)?;
-    told(alloc, &note)
+    match refusal {
+        Refusal::NoMemory | Refusal::File => None,
+        _ => told(alloc, &Note { refusal, texts }),
+    }
+}
+
+/// The same beside a refusal that a session is told, on a rack of the shape that this word says. What it sent is the line
+/// that was refused, or all lines of its batch with their line feeds.
+pub fn session_line<'a>(
+    alloc: Global,
+    refusal: Refusal,
+    shape: &'a str,
+    sent: &'a [u8],
+) -> Option<String>
+    ensures { IfSome result (λ text. (words : List ℕ) × (string_bytes text ≡ line_told words)) }
+{
+    let list = Named {
+        name: "",
+        text: sent,
+    };
+    let texts = Texts {
+        list,
+        shape,
+        ..Texts::NONE
+    };
+    second_line(alloc, refusal, texts)
 }
 
 /// The line that is told on standard error of a file that can't be read, for this reason, without the
@@ -33,28 +56,15 @@ pub fn file_line(alloc: Global, name: &str, reason: &str) -> Option<String>
         Some((words, _)) => words,
         None => reason,
     };
-    match format!(in alloc; "{named}: {reason}") {
-        Ok(words) => told(alloc, &words),
-        Err(_) => None,
-    }
+    let words = format!(in alloc; "{named}: {reason}").ok()?;
+    told(alloc, &words)
 }
 
 /// The line that tells this.
 fn told<T: Display>(alloc: Global, what: &T) -> Option<String>
     ensures { IfSome result (λ text. (words : List ℕ) × (string_bytes text ≡ line_told words)) }
 {
-    match what.to_string(alloc) {
-        Ok(words) => framed(alloc, words.as_str()),
-        Err(_) => None,
-    }
-}
-
-/// The line that has these words.
-fn framed(alloc: Global, words: &str) -> Option<String>
-    ensures { IfSome result (λ text. string_bytes text ≡ line_told words.now) }
-{
-    match format!(in alloc; "exchange: {words}\n") {
-        Ok(line) => Some(line),
-        Err(_) => None,
-    }
+    let words = what.to_string(alloc).ok()?;
+    let line = format!(in alloc; "exchange: {words}\n").ok()?;
+    Some(line)
 }

@@ -1,30 +1,26 @@
 //! What may stand in a line.
 
 ghost use Rattle.std.specs.Prelude.{◌≡◌, ℕ, Bool};
-ghost use Rattle.batch.specs.Text.{IsNumber};
-ghost use Rattle.refusal_notes.specs.Forms.{IsWantedAt, certificate_line, is_end as the_end, wanted_at};
+ghost use Rattle.refusal_notes.specs.Wanted.{IsWantedAt, certificate_line, is_none_line as none_line};
 
-use crate::form::is_none_line;
 use crate::lines::{announced, line_at};
 use crate::listed::Listing;
-use batch::MAX_MODULES;
-use std::fmt;
+use batch::{MAX_DIGITS, MAX_MODULES};
+use std::fmt::{self, Display, Formatter, Write};
+
+/// How each line is written, whatever stands in it.
+const RULES: &str =
+    "small letters, single spaces, numbers of at most nine digits and no leading zero, a line feed at its end";
+
+const _: () = prove!(MAX_DIGITS == 9);
 
 /// What is wanted in a line.
 #[derive(Clone, Copy)]
-pub enum Wanted {
-    /// The first line of a batch.
-    BatchHead,
-    /// A transfer.
-    Transfer,
-    /// The first line of a text of moves.
-    MovesHead,
-    /// A move.
-    Move,
-    /// The first line of a schedule.
-    SettingsHead,
-    /// A setting.
-    Setting,
+pub(crate) enum Wanted {
+    /// The first line of a text that lists these.
+    Head(Listing),
+    /// The line of one of these.
+    Entry(Listing),
     /// The link of a certificate.
     BusiestLink,
     /// The transfers of a certificate.
@@ -39,22 +35,12 @@ impl Wanted {
         ensures { IsWantedAt listing text.now number result }
     {
         let n = announced(text);
-        Wanted::with(listing, n, is_none_line(line_at(text, n + 2)), number)
-    }
-
-    /// What is wanted in this line of a text that announces so many entries.
-    fn with(listing: Listing, n: usize, none: bool, number: usize) -> Wanted
-        requires { IsNumber n }
-        ensures { result ≡ wanted_at listing n none number }
-    {
-        match (listing, number) {
-            (Listing::Transfers, 0 | 1) => Wanted::BatchHead,
-            (Listing::Moves, 0 | 1) => Wanted::MovesHead,
-            (Listing::Settings, 0 | 1) => Wanted::SettingsHead,
-            (Listing::Transfers, _) if number <= n + 1 => Wanted::Transfer,
-            (Listing::Moves, _) if number <= n + 1 => Wanted::Move,
-            (Listing::Settings, _) if number <= n + 1 => Wanted::Setting,
-            (Listing::Settings, _) => Wanted::of_certificate(number - (n + 2), none),
+        match listing {
+            _ if number <= 1 => Wanted::Head(listing),
+            _ if number <= n + 1 => Wanted::Entry(listing),
+            Listing::Settings => {
+                Wanted::of_certificate(number - (n + 2), is_none_line(line_at(text, n + 2)))
+            }
             _ => Wanted::End,
         }
     }
@@ -69,34 +55,41 @@ impl Wanted {
             _ => Wanted::End,
         }
     }
+}
 
-    /// Whether it is the end of the text.
-    pub(crate) fn is_end(self) -> bool
-        ensures { result ≡ the_end self }
-    {
-        matches!(self, Wanted::End)
+/// Whether this is the line `busiest none`.
+fn is_none_line(line: &[u8]) -> bool
+    ensures { result ≡ none_line line.now }
+{
+    line.starts_with(b"busiest none") && line.len() == 12
+}
+
+/// The form of the line in full.
+impl Display for Wanted {
+    fn fmt<W: Write>(&self, f: &mut Formatter<W>) -> fmt::Result {
+        let form = match self {
+            Wanted::Head(Listing::Transfers) => "\"batch N\", where N counts the transfers",
+            Wanted::Head(Listing::Moves) => "\"moves N\", where N counts the moves",
+            Wanted::Head(Listing::Settings) => "\"settings S\", where S counts the settings",
+            Wanted::Entry(Listing::Transfers) => "\"push I b R c\" or \"pull I b R c\"",
+            Wanted::Entry(Listing::Moves) => "\"move M b N c\"",
+            Wanted::Entry(Listing::Settings) => {
+                "\"setting T U ..\", where T, U .. are transfers, or \"setting\" alone"
+            }
+            Wanted::BusiestLink => return write_link(f),
+            Wanted::Named => "\"named T U ..\", where T, U .. are transfers, one at least",
+            Wanted::End => return f.write_str("the text's end"),
+        };
+        write!(f, "{form}: {RULES}")
     }
 }
 
-/// The form of the line, and what its letters stand for where that isn't plain.
-impl fmt::Display for Wanted {
-    fn fmt<W: fmt::Write>(&self, f: &mut fmt::Formatter<W>) -> fmt::Result {
-        let last = MAX_MODULES - 1;
-        f.write_str(match self {
-            Wanted::BatchHead => "\"batch N\"",
-            Wanted::Transfer => "\"push I b R c\" or \"pull I b R c\"",
-            Wanted::MovesHead => "\"moves N\"",
-            Wanted::Move => "\"move M b N c\"",
-            Wanted::SettingsHead => "\"settings S\"",
-            Wanted::Setting => "\"setting T U ..\"",
-            Wanted::BusiestLink => {
-                return write!(
-                    f,
-                    "\"busiest link E module M\", where E is 0 or 3 and M 0 to {last}, or \"busiest none\""
-                );
-            }
-            Wanted::Named => "\"named T U ..\"",
-            Wanted::End => "the text's end",
-        })
-    }
+/// Writes the form of a link.
+fn write_link<W: Write>(f: &mut Formatter<W>) -> fmt::Result {
+    let last = MAX_MODULES - 1;
+    write!(
+        f,
+        "\"busiest link E module M\", where E is 0 or 3 and M 0 to {last}, "
+    )?;
+    write!(f, "or \"busiest none\": {RULES}")
 }

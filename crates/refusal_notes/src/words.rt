@@ -1,111 +1,197 @@
-//! What is told of a line, in words.
+//! What is told of a refusal, in words.
 
-use crate::cause::{Cause, Limit, Sign};
+use crate::limit::Limit;
+use crate::lines::{announced, line_at};
+use crate::listed::{Listing, is_listed, listed};
 use crate::note::LineNote;
+use crate::pairs::written;
 use crate::quote::Quote;
-use crate::told::Named;
+use crate::told::{Named, Note, Texts};
 use crate::wanted::Wanted;
-use batch::{MAX_DIGITS, MAX_TRANSFERS};
-use std::fmt;
+use batch::{MAX_BLOCKS, MAX_MODULES, MAX_TRANSFERS, MAX_WORDS};
+use refusals::Refusal;
+use std::fmt::{self, Display, Formatter, Write};
 
-/// Writes what is told of a line of the text of this name; the shape is that of the rack, if it has one.
-pub(crate) fn write_note<W: fmt::Write>(
-    f: &mut fmt::Formatter<W>,
-    named: Named<'_>,
-    note: LineNote<'_>,
-    shape: &str,
-) -> fmt::Result {
-    let number = note.number;
-    write!(f, "{named}:{number}: ")?;
-    match note.cause {
-        Cause::Seen(Sign::Missing) if number <= 1 => {
-            write!(f, "the text is empty; wanted is {}", note.wanted)
+/// A text, and which line of it, where that is known.
+#[derive(Clone, Copy)]
+pub(crate) struct Place<'a>(pub Named<'a>, pub Option<usize>);
+
+/// So many of this, with an `s` where it isn't one.
+#[derive(Clone, Copy)]
+pub(crate) struct Many(pub usize, pub &'static str);
+
+/// So many of this, by their numbers.
+#[derive(Clone, Copy)]
+pub(crate) struct Numbered(pub usize, pub &'static str);
+
+impl<'a> Display for Place<'a> {
+    fn fmt<W: Write>(&self, f: &mut Formatter<W>) -> fmt::Result {
+        let Place(named, line) = *self;
+        match line {
+            Some(number) if named.name.is_empty() => write!(f, "line {number} of the batch"),
+            Some(number) => write!(f, "{named}:{number}"),
+            None => write!(f, "{named}"),
         }
-        Cause::Seen(sign) => write_sign(f, sign, note.quote, note.wanted),
-        Cause::Above(n, limit) => write_above(f, n, limit, note.wanted, shape),
-        Cause::Form => write!(f, "{} isn't {}", note.quote, note.wanted),
     }
 }
 
-/// Writes a sign, with what is quoted and what is wanted.
-fn write_sign<W: fmt::Write>(
-    f: &mut fmt::Formatter<W>,
-    sign: Sign,
-    quote: Quote<'_>,
-    wanted: Wanted,
-) -> fmt::Result {
-    match sign {
-        Sign::Missing => write!(f, "the text ends above this line; wanted is {wanted}"),
-        Sign::Behind if quote.bytes.is_empty() => {
-            f.write_str("an empty line stands behind the last line; nothing may follow")
-        }
-        Sign::Behind => write!(f, "{quote} stands behind the last line; nothing may follow"),
-        Sign::Blank => write!(f, "an empty line; wanted is {wanted}"),
-        Sign::CarriageReturn => f.write_str("a carriage return; lines end with a line feed alone"),
-        Sign::Comment => write!(f, "{quote} is a comment; a text has none"),
-        Sign::Tab => write!(f, "a tab in {quote}; single spaces stand between words"),
-        Sign::LeadingZero => write!(f, "a leading zero in {quote}; numbers have none"),
-        Sign::TooLong => write!(f, "{quote}: numbers have at most {MAX_DIGITS} digits"),
-        Sign::Capital | Sign::Spaces => write!(
-            f,
-            "{quote} isn't {wanted}, in small letters with single spaces"
-        ),
-        Sign::Unended => write!(
-            f,
-            "no line feed behind {quote}; each line ends with one, the last too"
-        ),
+impl Display for Many {
+    fn fmt<W: Write>(&self, f: &mut Formatter<W>) -> fmt::Result {
+        let Many(n, what) = *self;
+        let plural = if n == 1 { "" } else { "s" };
+        write!(f, "{n} {what}{plural}")
     }
 }
 
-/// Writes so many of this, by their numbers.
-pub(crate) fn write_numbered<W: fmt::Write>(
-    f: &mut fmt::Formatter<W>,
-    n: usize,
-    what: &str,
-) -> fmt::Result {
-    match n {
-        1 => write!(f, "{what} 0 alone"),
-        _ => write!(f, "{what}s 0 to {}", n.saturating_sub(1)),
+impl Display for Numbered {
+    fn fmt<W: Write>(&self, f: &mut Formatter<W>) -> fmt::Result {
+        let Numbered(n, what) = *self;
+        match n {
+            0 => f.write_str("none"),
+            1 => write!(f, "{what} 0 alone"),
+            _ => write!(f, "{what}s 0 to {}", n - 1),
+        }
+    }
+}
+
+/// Writes what is told of a line that was refused.
+pub(crate) fn write_line<W: Write>(f: &mut Formatter<W>, note: Note<'_>) -> fmt::Result {
+    let (list, listing, schedule) = (note.texts.list, note.texts.listing, note.texts.other);
+    let Some(line) = note.line() else {
+        return Ok(());
+    };
+    let number = Some(line.number);
+    match (note.refusal, line.above) {
+        (Refusal::Count, _) if is_miscounted(list, listing) => write_counts(f, list, listing),
+        (Refusal::ScheduleLine(_), _) if ends_settings(schedule, line) => {
+            write_counts(f, schedule, Listing::Settings)
+        }
+        (Refusal::ScheduleLine(_), _) => write_form(f, Place(schedule, number), line),
+        (_, Some((n, limit))) => {
+            write!(f, "{}: ", Place(list, number))?;
+            write_above(f, n, limit, note.texts)
+        }
+        _ => write_form(f, Place(list, number), line),
+    }
+}
+
+/// Writes what stands in a line, and what is wanted there.
+fn write_form<W: Write>(f: &mut Formatter<W>, place: Place<'_>, line: LineNote<'_>) -> fmt::Result {
+    let (quote, wanted) = (line.quote, line.wanted);
+    let is_missing = quote.bytes.is_empty() && !line.is_ended;
+    write!(f, "{place}: ")?;
+    match wanted {
+        _ if is_missing && line.number <= 1 => write!(f, "the text is empty; wanted is {wanted}"),
+        _ if is_missing => write!(f, "the text ends above this line; wanted is {wanted}"),
+        Wanted::End => write!(f, "{quote} stands behind the last line; nothing may follow"),
+        _ if line.is_ended => write!(f, "{quote} isn't {wanted}"),
+        _ => write!(f, "{quote} with no line feed isn't {wanted}"),
     }
 }
 
 /// Writes which number isn't below its limit.
-fn write_above<W: fmt::Write>(
-    f: &mut fmt::Formatter<W>,
+fn write_above<W: Write>(
+    f: &mut Formatter<W>,
     n: usize,
     limit: Limit,
-    wanted: Wanted,
-    shape: &str,
+    texts: Texts<'_>,
 ) -> fmt::Result {
+    let shape = texts.shape;
+    let (of, within) = match shape {
+        "" => ("", ""),
+        _ => (" of ", " in a rack of "),
+    };
     match limit {
-        Limit::Modules(modules) => {
-            write!(f, "module {n}; a rack")?;
-            write_shape_name(f, shape)?;
-            f.write_str(" has ")?;
-            write_numbered(f, modules, "module")
+        Limit::Modules(most) => {
+            let modules = Numbered(most, "module");
+            write!(f, "module {n}; a rack{of}{shape} has {modules}")
         }
-        Limit::Blocks(blocks) if shape.is_empty() => {
-            write!(f, "block {n}; a module has ")?;
-            write_numbered(f, blocks, "block")
+        Limit::Blocks(most) => {
+            let blocks = Numbered(most, "block");
+            write!(f, "block {n}; a module{within}{shape} has {blocks}")
         }
-        Limit::Blocks(blocks) => {
-            write!(f, "block {n}; in a rack of {shape} a module has ")?;
-            write_numbered(f, blocks, "block")
+        Limit::Announced => {
+            let (what, text) = match texts.listing {
+                Listing::Moves => ("moves", "a text of moves"),
+                _ => ("transfers", "a batch"),
+            };
+            write!(f, "{n} {what}; {text} has at most {MAX_TRANSFERS}")
         }
-        Limit::Announced => match wanted {
-            Wanted::MovesHead => write!(
-                f,
-                "{n} moves; a text of moves has at most {MAX_TRANSFERS}"
-            ),
-            _ => write!(f, "{n} transfers; a batch has at most {MAX_TRANSFERS}"),
-        },
     }
 }
 
-/// Writes which shape the rack has, where it has one.
-fn write_shape_name<W: fmt::Write>(f: &mut fmt::Formatter<W>, shape: &str) -> fmt::Result {
-    if shape.is_empty() {
-        return Ok(());
+/// Whether other than the announced number of lines list an entry.
+fn is_miscounted(named: Named<'_>, listing: Listing) -> bool {
+    listed(listing, named.text) != announced(named.text)
+}
+
+/// Whether a schedule has other than the announced number of settings, and this is the line in which they end, or go on.
+fn ends_settings(schedule: Named<'_>, line: LineNote<'_>) -> bool {
+    let text = line_at(schedule.text, line.number);
+    let ends = match line.wanted {
+        Wanted::Entry(_) => text.is_empty() || text.starts_with(b"busiest "),
+        Wanted::BusiestLink => is_listed(Listing::Settings, text),
+        _ => false,
+    };
+    ends && is_miscounted(schedule, Listing::Settings)
+}
+
+/// Writes how many lines list an entry, and how many line 1 says.
+fn write_counts<W: Write>(f: &mut Formatter<W>, named: Named<'_>, listing: Listing) -> fmt::Result {
+    let what = match listing {
+        Listing::Transfers => "transfer line",
+        Listing::Moves => "move line",
+        Listing::Settings => "setting line",
+    };
+    let lines = Many(listed(listing, named.text), what);
+    let said = announced(named.text);
+    write!(f, "{named}: {lines}, and line 1 says {said}")
+}
+
+/// Writes what is told of a word, of how many settings there are, of an image, an overlap, or threads.
+pub(crate) fn write_asked<W: Write>(f: &mut Formatter<W>, note: Note<'_>) -> fmt::Result {
+    let (other, shape) = (note.texts.other, note.texts.shape);
+    match note.refusal {
+        Refusal::Shape => {
+            let quote = Quote::of(shape.as_bytes());
+            write!(f, "{quote} isn't \"MxKxW\": 1 to {MAX_MODULES} modules, ")?;
+            write!(f, "1 to {MAX_BLOCKS} blocks each, ")?;
+            write!(f, "1 to {MAX_WORDS} words each")
+        }
+        Refusal::Settings => {
+            let quote = Quote::of(note.texts.range.as_bytes());
+            write!(f, "{quote} isn't \"A..B\": two settings, counted from 0, ")?;
+            f.write_str("of which the second isn't below the first")
+        }
+        Refusal::NoSetting(k) => {
+            let settings = Numbered(announced(other.text), "setting");
+            write!(f, "setting {k}; {other} has {settings}")
+        }
+        Refusal::Image { is, wanted } => {
+            let bytes = Many(is, "byte");
+            write!(f, "{other}: {bytes}; an image of {shape} has {wanted}")
+        }
+        Refusal::Overlap(t, u) => write_overlap(f, note.texts.list, t, u),
+        _ => f.write_str("no thread could be had for each client; fewer clients may do"),
     }
-    write!(f, " of {shape}")
+}
+
+/// Writes which block two transfers write.
+fn write_overlap<W: Write>(
+    f: &mut Formatter<W>,
+    list: Named<'_>,
+    t: usize,
+    u: usize,
+) -> fmt::Result {
+    let (first, second) = (t.saturating_add(2), u.saturating_add(2));
+    write!(
+        f,
+        "{}: transfers {t} and {u} both write ",
+        Place(list, Some(second))
+    )?;
+    match written(line_at(list.text, second)) {
+        Some((module, block)) => write!(f, "block {block} of module {module}")?,
+        None => f.write_str("one block")?,
+    }
+    write!(f, " (lines {first} and {second})")
 }

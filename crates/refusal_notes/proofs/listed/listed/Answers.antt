@@ -4,7 +4,7 @@ use Rattle.std.specs.Prelude.{◌==◌}
 use Rattle.std.proofs.lemmas.Iterator.Consumers.{count_from_yields_List, YieldsList-from_filter}
 use Rattle.std.proofs.lemmas.Iterator.Splits.{YieldsList-from_slice_split}
 use Rattle.batch.specs.Text.{line_feed}
-use Rattle.refusal_notes.specs.Listed.{is_listed}
+use Rattle.refusal_notes.specs.Lines.{is_listed}
 use Rattle.refusal_notes.proofs.listed.listed.Goals as goal
 
 pub returns : goal.returns

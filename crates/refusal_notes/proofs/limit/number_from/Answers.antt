@@ -1,6 +1,6 @@
 use Rattle.std.proofs.Common.{arith}
 use Rattle.refusal_notes.proofs.Numbers.{one_number}
-use Rattle.refusal_notes.proofs.cause.number_from.Goals as goal
+use Rattle.refusal_notes.proofs.limit.number_from.Goals as goal
 
 pub returns-else-n-least-clause-none : goal.returns-else-n-least-clause-none
 returns-else-n-least-clause-none c n h =

@@ -1,5 +1,0 @@
-use Rattle.std.proofs.Common.{rules}
-use Rattle.refusal_notes.proofs.told.Texts.of_batch.Goals as goal
-
-pub returns : goal.returns
-returns c = search rules
