@@ -1,7 +1,7 @@
 -- Clients of a host of whom all bytes are known.
 use Rattle.std.specs.Prelude.{ℕ, List, [], Option, Some, length, codes, option_map, is_none, slice_get}
 use Rattle.std.specs.Borrow.{Bor}
-use Rattle.answers.specs.Hosts.{Guests}
+use Rattle.session_answers.specs.Hosts.{Guests}
 
 -- each says these bytes, holds nothing at first, and can be opened
 abbrev pub known_guests : List (Bor (List ℕ)) → Guests

@@ -1,4 +1,4 @@
-//! The tests of `answers` and of `command_words` that rows can't take over: numbers of workers, how the end of a session is framed, and a host
+//! The tests of `session_answers` and of `command_words` that rows can't take over: numbers of workers, how the end of a session is framed, and a host
 //! whose clients' bytes are known.
 #![tactic(auto)]
 

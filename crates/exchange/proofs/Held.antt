@@ -5,7 +5,7 @@ use Rattle.std.proofs.Math.Seq.{get_or-append_seam}
 use Rattle.std.proofs.lemmas.List.{get_or_append_left, get_or_default, map-append}
 use Rattle.command_words.specs.Jobs.{NameInputOnce, input_name}
 use Rattle.command_words.proofs.Inputs.{behind_first}
-use Rattle.dispatch.specs.Responses.{IsHeld, AreHeld}
+use Rattle.exchange.specs.Responses.{IsHeld, AreHeld}
 
 -- where files that were read before aren't standard input, this has the bytes that it had then
 pub held_later : (old now : Option (List ℕ)) (name bytes : List ℕ) → (name ≡ input_name → now ≡ old) → IsHeld now name bytes → IsHeld old name bytes

@@ -1,18 +1,25 @@
 -- What is printed behind what a session was told, and what is told beside it.
-use Rattle.std.proofs.Common.{ℕ, List, Option, Some, None, Result, Ok, Err, IfOk, OnErr, ◌⊎◌, inl, inr, refl, subst, sym, ◌≡◌, []}
+use Rattle.std.proofs.Common.{ℕ, List, Option, Some, None, Result, Ok, Err, IfOk, OnErr, IfSome, ◌⊎◌, inl, inr, refl, subst, sym, ◌≡◌, []}
 use Rattle.std.specs.Prelude.{String, option_map, string_bytes}
 use Rattle.std.specs.Global.{Global}
 use Rattle.std.specs.Io.KnownBytes.{Appends}
-use Rattle.std.proofs.KnownBytes.{Appends-trans}
-use Rattle.answers.specs.Refusals.{Printed}
+use Rattle.std.proofs.KnownBytes.{Appends-nil, Appends-trans}
+use Rattle.plan_answers.specs.Refusals.{Printed}
 use Rattle.command_words.specs.declared.words.Job.TheVariants.{Talk}
 use Rattle.command_words.specs.declared.words.Request.{Request}
-use Rattle.dispatch.specs.declared.notes.Answered.{Answered}
-use Rattle.dispatch.specs.declared.notes.Missed.{Missed}
-use Rattle.dispatch.specs.Responses.{IsSomeTalk, IsToldBy, IsAnswerTo, behind_told, unanswered}
-use Rattle.dispatch.specs.Notes.{IsNoteOn, IsNoted, IsToldUnless}
-use Rattle.dispatch.specs.Outcomes.{HasNote, IsAnswered, IsMissed}
-use Rattle.dispatch.specs.Ends.{IsDone, IsPrinted, streams_of}
+use Rattle.refusals.specs.declared.refusal.Refusal.TheVariants as refusal
+use Rattle.refusal_notes.specs.Told.{line_told}
+use Rattle.exchange.specs.declared.unanswered.Unanswered.TheVariants.{File, NoMemory}
+use Rattle.exchange.specs.declared.notes.Answered.{Answered}
+use Rattle.exchange.specs.declared.notes.Missed.{Missed}
+use Rattle.exchange.specs.Responses.{IsSomeTalk, IsToldBy, IsAnswerTo, behind_told, unanswered}
+use Rattle.exchange.specs.Notes.{IsBeside, IsNoteOn, IsNoted, IsToldUnless}
+use Rattle.exchange.specs.Outcomes.{HasNote, IsAnswered, IsMissed}
+use Rattle.command_words.specs.declared.words.WordsFault.{WordsFault}
+use Rattle.command_words.specs.declared.words.WordsFault.TheVariants as words_fault
+use Rattle.command_words.specs.Jobs.{AskFor, IsFaultIn}
+use Rattle.exchange.specs.declared.limits.TheConstants.{UNWRITTEN}
+use Rattle.exchange.specs.Ends.{Streams, IsDone, IsEndFor, IsEndForWords, IsPrinted, streams_of}
 
 -- what a session was told stands before what is said of its end
 pub talked : (r : Result Answered Missed) (input : Option (List ℕ)) (shape : List ℕ) (image held holds : Option (List ℕ))
@@ -34,49 +41,65 @@ abbrev pub bytes_of_line : Option (String Global) → Option (List ℕ)
 bytes_of_line note = option_map (λ line. string_bytes line) note
 
 -- what is told of an answer is told of what is printed, which the answer ends
-noted : (request : Request) (told : List ℕ) (end : Printed) (note : Option (List ℕ)) (eb ea : Option (List ℕ))
-    → IsToldBy request.job told → IsNoteOn end note → IsToldUnless request.is_quiet note eb ea → IsNoted request (behind_told told end) eb ea
-noted request told end held eb ea by on (inl silent) = inl silent
-noted request told end None eb ea by on (inr t) = absurd (let bad : None ≡ Some t.1 = t.2 in cc)
-noted request told end (Some line) eb ea by on (inr t) =
+noted : (request : Request) (told : List ℕ) (end : Printed) (note : Option (List ℕ)) (eb em ea : Option (List ℕ))
+    → IsToldBy request.job told → IsNoteOn end note → IsBeside request eb em → IsToldUnless request.is_quiet note em ea → IsNoted request (behind_told told end) eb ea
+noted request told end held eb em ea by on beside (inl silent) = (em, beside, inl silent)
+noted request told end None eb em ea by on beside (inr t) = absurd (let bad : None ≡ Some t.1 = t.2 in cc)
+noted request told end (Some line) eb em ea by on beside (inr t) =
     let same : t.1 ≡ line = (let e : Some line ≡ Some t.1 = t.2 in cc) in
-    inr (t.0, t.1, rw same (told, end, by, refl, refl, on), t.3)
+    (em, beside, inr (t.0, t.1, rw same (told, end, by, refl, refl, on), t.3))
+
+-- what is told of a file that can't be read
+pub file_told : (r : Option (String Global)) → IfSome r (λ text. (words : List ℕ) × (string_bytes text ≡ line_told words)) → IsNoteOn (unanswered File) (bytes_of_line r)
+file_told None h = tt
+file_told (Some text) h = record { refused = refl; of = (refusal.File, (λ e. cc), refl); whole = h }
 
 -- an answer that is printed behind it
-pub answered : {E : Type 0} (r : Result ℕ E) (input : Option (List ℕ)) (request : Request) (told : List ℕ) (done : Answered) (held holds has eb ea : Option (List ℕ))
+pub answered : {E : Type 0} (r : Result ℕ E) (input : Option (List ℕ)) (request : Request) (told : List ℕ) (done : Answered) (held holds has eb em ea : Option (List ℕ))
     → Appends held holds told → IsToldBy request.job told → IsAnswerTo input request.job (behind_told told done.answer) → IsAnswered done
-    → IfOk r (IsPrinted holds has done.answer) → IsToldUnless request.is_quiet (bytes_of_line done.note) eb ea
+    → IsBeside request eb em → IfOk r (IsPrinted holds has done.answer) → IsToldUnless request.is_quiet (bytes_of_line done.note) em ea
     → IfOk r (IsDone input request (streams_of held has eb ea))
-answered (Ok status) input request told done held holds has eb ea first by is note then said = (
+answered (Ok status) input request told done held holds has eb em ea first by is note beside then said = (
   behind_told told done.answer,
   inl is,
   record { text = Appends-trans held holds has told done.answer.text first then.text; status = then.status },
-  noted request told done.answer (bytes_of_line done.note) eb ea by note said,
+  noted request told done.answer (bytes_of_line done.note) eb em ea by note beside said,
 )
-answered (Err e) input request told done held holds has eb ea first by is note then said = tt
+answered (Err e) input request told done held holds has eb em ea first by is note beside then said = tt
 
 -- and why there is none
-pub not_answered : {E : Type 0} (r : Result ℕ E) (input : Option (List ℕ)) (request : Request) (told : List ℕ) (missed : Missed) (held holds has eb ea : Option (List ℕ))
+pub not_answered : {E : Type 0} (r : Result ℕ E) (input : Option (List ℕ)) (request : Request) (told : List ℕ) (missed : Missed) (held holds has eb em ea : Option (List ℕ))
     → Appends held holds told → IsToldBy request.job told → IsMissed missed
-    → IfOk r (IsPrinted holds has (unanswered missed.why)) → IsToldUnless request.is_quiet (bytes_of_line missed.note) eb ea
+    → IsBeside request eb em → IfOk r (IsPrinted holds has (unanswered missed.why)) → IsToldUnless request.is_quiet (bytes_of_line missed.note) em ea
     → IfOk r (IsDone input request (streams_of held has eb ea))
-not_answered (Ok status) input request told missed held holds has eb ea first by note then said = (
+not_answered (Ok status) input request told missed held holds has eb em ea first by note beside then said = (
   behind_told told (unanswered missed.why),
   inr (told, missed.why, by, refl),
   record { text = Appends-trans held holds has told (unanswered missed.why).text first then.text; status = then.status },
-  noted request told (unanswered missed.why) (bytes_of_line missed.note) eb ea by note said,
+  noted request told (unanswered missed.why) (bytes_of_line missed.note) eb em ea by note beside said,
 )
-not_answered (Err e) input request told missed held holds has eb ea first by note then said = tt
+not_answered (Err e) input request told missed held holds has eb em ea first by note beside then said = tt
 
 -- what holds of an answer holds of it beside a note
 pub same_answer : (P : Printed → Type 0) (beside answer : Printed) → beside ≡ answer → P answer → P beside
 same_answer P beside answer same is = subst P (sym same) is
 
--- where the answer can't be written, that is so whatever the words were
-pub unwritten : {X E : Type 0} (r : Result X E) (Q : Type 0) (P : X → Type 0) → Q → IfOk r (λ x. Q ⊎ P x)
-unwritten (Ok x) Q P q = inl q
-unwritten (Err e) Q P q = tt
+-- what the program ends with, where what is printed has this as its status, or can't be written
+pub ended : {E : Type 0} (r : Result ℕ E) (exit : ℕ) (P : Option (List ℕ) → ℕ → Type 0) (before after : Option (List ℕ))
+    → IfOk r (P before) → IfOk r (λ status. (exit ≡ status) × (after ≡ before)) → OnErr r (exit ≡ UNWRITTEN) → (exit ≡ UNWRITTEN) ⊎ P after exit
+ended (Ok status) exit P before after is done unwritten = inr (subst (λ (e : Option (List ℕ)). P e exit) (sym done.1) (subst (P before) (sym done.0) is))
+ended (Err e) exit P before after is done unwritten = inl unwritten
 
-pub unwritten_unread : {X E : Type 0} (r : Result X E) (Q P : Type 0) → Q → OnErr r (Q ⊎ P)
-unwritten_unread (Ok x) Q P q = tt
-unwritten_unread (Err e) Q P q = inl q
+-- the end for a request, and for words that are at fault
+pub asked : {E : Type 0} (r : Result ℕ E) (words : List (List ℕ)) (input : Option (List ℕ)) (request : Request) (streams : Streams) → AskFor words request → IfOk r (IsDone input request streams) → IfOk r (IsEndForWords words input streams)
+asked (Ok status) words input request streams ask is = (Ok request, ask, tt, is)
+asked (Err e) words input request streams ask is = tt
+
+pub faulty : {E : Type 0} (r : Result ℕ E) (words : List (List ℕ)) (input : Option (List ℕ)) (fault : WordsFault) (streams : Streams) → IsFaultIn words fault → IfOk r (IsEndFor input (Err fault) streams) → IfOk r (IsEndForWords words input streams)
+faulty (Ok status) words input fault streams wrong is = (Err fault, tt, wrong, is)
+faulty (Err e) words input fault streams wrong is = tt
+
+-- want of memory for the words
+pub wordless : {E : Type 0} (r : Result ℕ E) (input held has err : Option (List ℕ)) → IfOk r (IsPrinted held has (unanswered NoMemory)) → IfOk r (IsEndFor input (Err words_fault.NoMemory) (streams_of held has err err))
+wordless (Ok status) input held has err is = (is, Appends-nil err)
+wordless (Err e) input held has err is = tt

@@ -1,16 +1,16 @@
 -- How the program ends.
 use Rattle.std.specs.Prelude.{◌≡◌, ◌⊎◌, ℕ, List, [], Option, Result, Ok, Err, IfErr, IfOk}
 use Rattle.std.specs.Io.KnownBytes.{Appends}
-use Rattle.answers.specs.Refusals.{Printed}
-use Rattle.answers.specs.limits.TheConstants.{DONE}
+use Rattle.plan_answers.specs.Refusals.{Printed}
+use Rattle.plan_answers.specs.declared.limits.TheConstants.{DONE}
 use Rattle.command_words.specs.declared.words.Request.{Request}
 use Rattle.command_words.specs.declared.words.WordsFault.{WordsFault}
 use Rattle.command_words.specs.declared.words.WordsFault.TheVariants as words_fault
 use Rattle.command_words.specs.Jobs.{AskFor, AsksForHelp, IsFaultIn}
-use Rattle.dispatch.specs.declared.limits.TheConstants.{MISUSED}
-use Rattle.dispatch.specs.declared.unanswered.Unanswered.TheVariants.{NoMemory}
-use Rattle.dispatch.specs.Responses.{IsResponseTo, unanswered}
-use Rattle.dispatch.specs.Notes.{IsNoted}
+use Rattle.exchange.specs.declared.limits.TheConstants.{MISUSED}
+use Rattle.exchange.specs.declared.unanswered.Unanswered.TheVariants.{NoMemory}
+use Rattle.exchange.specs.Responses.{IsResponseTo, unanswered}
+use Rattle.exchange.specs.Notes.{IsNoted}
 
 -- this was printed behind what stood there, and ends with its status
 pub record IsPrinted (before after : Option (List ℕ)) (printed : Printed) (code : ℕ) : Type 0 where
@@ -51,7 +51,7 @@ IsEndFor input (Ok request) streams code = IsDone input request streams code
 IsEndFor input (Err words_fault.NoMemory) streams code =
     IsPrinted streams.out_before streams.out_after (unanswered NoMemory) code × IsSilent streams
 IsEndFor input (Err (words_fault.Clap error)) streams code =
-    (AsksForHelp error → code ≡ DONE)
+    (AsksForHelp error → (code ≡ DONE) × IsSilent streams)
     × ((AsksForHelp error → ⊥) → (code ≡ MISUSED) × (streams.out_after ≡ streams.out_before))
 
 -- how it ends for these words

@@ -1,5 +1,4 @@
 pub mod Responses
-pub mod Validities
 pub mod Notes
 pub mod Outcomes
 pub mod Ends

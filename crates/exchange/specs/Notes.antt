@@ -1,25 +1,21 @@
 -- What is told on standard error beside what is printed.
-use Rattle.std.specs.Prelude.{◌≡◌, ◌⊎◌, ◌++◌, ℕ, Bool, false, List, [], Option, Some, IfSome}
+use Rattle.std.specs.Prelude.{◌≡◌, ◌≢◌, ◌⊎◌, ◌++◌, ℕ, Bool, false, List, [], Option, Some, IfSome}
 use Rattle.std.specs.Io.KnownBytes.{Appends}
-use Rattle.answers.specs.Refusals.{Printed}
-use Rattle.answers.specs.limits.TheConstants.{REFUSED}
+use Rattle.plan_answers.specs.Refusals.{Printed}
+use Rattle.plan_answers.specs.declared.limits.TheConstants.{REFUSED}
 use Rattle.command_words.specs.declared.words.Job.{Job}
 use Rattle.command_words.specs.declared.words.Request.{Request}
-use Rattle.refusal_notes.specs.declared.refusal.Refusal.{Refusal}
-use Rattle.refusal_notes.specs.Refusals.{refusal_line}
+use Rattle.refusals.specs.declared.refusal.Refusal.{Refusal}
+use Rattle.refusals.specs.declared.refusal.Refusal.TheVariants.{NoMemory}
+use Rattle.refusals.specs.Refusals.{refusal_line}
 use Rattle.refusal_notes.specs.Told.{line_told}
-use Rattle.dispatch.specs.declared.unanswered.Unanswered.TheVariants.{File}
-use Rattle.dispatch.specs.Responses.{IsToldBy, unanswered_line}
+use Rattle.exchange.specs.Responses.{IsTalk, IsToldBy}
 
 -- ---- of what a line is told
 
--- this line says a refusal of what the files hold or the words say
+-- this line says a refusal, which isn't want of memory
 abbrev pub SaysRefusal : List ℕ → Type 0
-SaysRefusal line = (refusal : Refusal) × (line ≡ refusal_line refusal)
-
--- this line says a refusal, or that a file can't be read
-abbrev pub IsExplained : List ℕ → Type 0
-IsExplained line = SaysRefusal line ⊎ (line ≡ unanswered_line File)
+SaysRefusal line = (refusal : Refusal) × (refusal ≢ NoMemory) × (line ≡ refusal_line refusal)
 
 -- it is a whole line that begins with the program's name
 abbrev pub IsWholeLine : List ℕ → Type 0
@@ -28,7 +24,7 @@ IsWholeLine line = (words : List ℕ) × (line ≡ line_told words)
 -- the line is told of what is printed: of a refusal, and of nothing else
 pub record Tells (printed : Printed) (line : List ℕ) : Type 0 where
   pub refused : printed.status ≡ REFUSED
-  pub of : IsExplained printed.text
+  pub of : SaysRefusal printed.text
   pub whole : IsWholeLine line
 
 -- what is told of what is printed, if anything is
@@ -54,10 +50,17 @@ IsNoteFor job printed line =
     (told : List ℕ) × (end : Printed) × IsToldBy job told × (printed.text ≡ told ++ end.text)
     × (printed.status ≡ end.status) × Tells end line
 
--- what was told on standard error of what is printed: nothing, or one text of a refusal, and nothing
--- where the words ask for that
+-- what was told beside the replies of a session: nothing, but for `talk`, where the words don't ask
+-- for silence; what is told there nobody says
+abbrev pub IsBeside : Request → Option (List ℕ) → Option (List ℕ) → Type 0
+IsBeside request before after =
+    (after ≡ before) ⊎ ((request.is_quiet ≡ false) × IsTalk request.job)
+
+-- what was told on standard error of what is printed, behind what was told beside a session: nothing,
+-- or one text of a refusal, and nothing where the words ask for that
 abbrev pub IsNoted : Request → Printed → Option (List ℕ) → Option (List ℕ) → Type 0
 IsNoted request printed before after =
-    Appends before after []
+    (mid : Option (List ℕ)) × IsBeside request before mid
+    × (Appends mid after []
     ⊎ ((request.is_quiet ≡ false) × (line : List ℕ) × IsNoteFor request.job printed line
-    × IsBegun before after line)
+    × IsBegun mid after line))

@@ -1,9 +1,9 @@
 -- What is told beside an answer, or where there is none.
 use Rattle.std.specs.Prelude.{MatchResult, Result, option_map, string_bytes}
-use Rattle.dispatch.specs.declared.notes.Answered.{Answered}
-use Rattle.dispatch.specs.declared.notes.Missed.{Missed}
-use Rattle.dispatch.specs.Notes.{IsNoteOn}
-use Rattle.dispatch.specs.Responses.{unanswered}
+use Rattle.exchange.specs.declared.notes.Answered.{Answered}
+use Rattle.exchange.specs.declared.notes.Missed.{Missed}
+use Rattle.exchange.specs.Notes.{IsNoteOn}
+use Rattle.exchange.specs.Responses.{unanswered}
 
 -- what is told beside an answer
 abbrev pub IsAnswered : Answered → Type 0

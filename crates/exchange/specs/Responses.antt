@@ -1,21 +1,25 @@
 -- What the program prints for a job.
-use Rattle.std.specs.Prelude.{◌≡◌, ◌⊎◌, ◌<◌, ℕ, List, [], ◌++◌, Option, Some, None, IfSome, codes, ⊤, true, length, slice_index_or}
-use Rattle.answers.specs.Extent.{widest}
-use Rattle.answers.specs.Answers.{IsPlanned, IsChecked, IsRunAnswer, image_alone}
-use Rattle.answers.specs.Drawings.{IsDrawn}
-use Rattle.answers.specs.Directing.{IsDirected}
-use Rattle.answers.specs.Hosts.{Guests, End, IsHostAnswer}
-use Rattle.answers.specs.Refusals.{Printed}
-use Rattle.answers.specs.Reports.{report_of}
-use Rattle.answers.specs.Serving.{IsServeAnswer}
-use Rattle.answers.specs.Switching.{IsSwitched}
-use Rattle.answers.specs.Talking.{IsTalkAnswer}
-use Rattle.answers.specs.limits.TheConstants.{REFUSED}
+use Rattle.std.specs.Prelude.{◌≡◌, ◌⊎◌, ◌<◌, ℕ, List, [], ◌++◌, Option, Some, None, IfSome, ⊤, true, length, slice_index_or}
+use Rattle.batch.specs.Extent.{widest}
+use Rattle.plan_answers.specs.Answers.{IsPlanned, IsChecked}
+use Rattle.rack_answers.specs.Answers.{IsRunAnswer, image_alone}
+use Rattle.plan_answers.specs.Drawings.{IsDrawn}
+use Rattle.plan_answers.specs.Directing.{IsDirected}
+use Rattle.session_answers.specs.Hosts.{Guests, End, IsHostAnswer}
+use Rattle.plan_answers.specs.Refusals.{Printed}
+use Rattle.rack_answers.specs.Reports.{report_of}
+use Rattle.session_answers.specs.Serving.{IsServeAnswer}
+use Rattle.rack_answers.specs.Switching.{IsSwitched}
+use Rattle.session_answers.specs.Talking.{IsTalkAnswer}
+use Rattle.plan_answers.specs.declared.limits.TheConstants.{REFUSED}
 use Rattle.command_words.specs.declared.words.Job.{Job}
 use Rattle.command_words.specs.declared.words.Job.TheVariants.{Plan, Check, Draw, Switch, Direct, Apply, Run, Serve, Host, Talk}
 use Rattle.command_words.specs.Jobs.{input_name}
-use Rattle.dispatch.specs.declared.unanswered.Unanswered.{Unanswered}
-use Rattle.dispatch.specs.declared.unanswered.Unanswered.TheVariants.{File, NoMemory}
+use Rattle.refusals.specs.declared.refusal.Refusal.{Refusal}
+use Rattle.refusals.specs.declared.refusal.Refusal.TheVariants as refusal
+use Rattle.refusals.specs.Refusals.{refusal_line}
+use Rattle.exchange.specs.declared.unanswered.Unanswered.{Unanswered}
+use Rattle.exchange.specs.declared.unanswered.Unanswered.TheVariants.{File, NoMemory}
 
 -- what a file of this name holds, where standard input had these bytes: it may be standard input,
 -- and then it holds them, as far as they are known
@@ -128,19 +132,24 @@ IsAnswerTo input (Talk shape image) answer =
     (told : List ℕ) × (end : Printed) × (answer ≡ behind_told told end)
     × IsSomeTalk input shape image told end
 
+-- the job is `talk`
+abbrev pub IsTalk : Job → Type 0
+IsTalk (Talk shape image) = ⊤
+IsTalk job = ⊥
+
 -- what a session is told before there is an answer; there is one with `talk` alone
 abbrev pub IsToldBy : Job → List ℕ → Type 0
 IsToldBy (Talk shape image) told = ⊤
 IsToldBy job told = told ≡ []
 
--- the line where there is no answer
-abbrev pub unanswered_line : Unanswered → List ℕ
-unanswered_line File = codes "refused file\n"
-unanswered_line NoMemory = codes "refused no memory\n"
+-- which refusal that is
+abbrev pub refusal_of : Unanswered → Refusal
+refusal_of File = refusal.File
+refusal_of NoMemory = refusal.NoMemory
 
 -- what is printed where there is no answer
 abbrev pub unanswered : Unanswered → Printed
-unanswered why = record { text = unanswered_line why; status = REFUSED }
+unanswered why = record { text = refusal_line (refusal_of why); status = REFUSED }
 
 -- the answer to a job, or why there is none, behind what a session was told
 abbrev pub IsResponseTo : Option (List ℕ) → Job → Printed → Type 0

@@ -1,7 +1,7 @@
 //! The files of the clients of a host.
 
-use answers::{AllThere, Doors};
 use command_words::Text;
+use session_answers::{AllThere, Doors};
 use std::alloc::Global;
 use std::fs::{File, OpenOptions};
 use std::io;
@@ -39,7 +39,7 @@ pub(crate) struct FileDoors<'a, R> {
 
 impl<'a, R: ClientFiles> Doors for FileDoors<'a, R> {
     ghost use Rattle.std.specs.Prelude.{None};
-    ghost use Rattle.dispatch.specs.Responses.{guests_of};
+    ghost use Rattle.exchange.specs.Responses.{guests_of};
 
     type Reader = File;
 

@@ -1,9 +1,19 @@
 //! The controller of a rack of transputer modules whose links meet in one crossbar switch or two.
 //!
-//! The program hands the words of the command line and the system's own streams to `dispatch`.
+//! Each command reads the files that its words name, and prints one answer. Only `main` names the system's own streams
+//! and words: it hands them to [`respond`].
 #![tactic(auto)]
 
-use dispatch::respond;
+mod beside;
+mod doors;
+mod files;
+mod jobs;
+mod limits;
+mod notes;
+mod responding;
+mod unanswered;
+
+use crate::responding::respond;
 use std::process::ExitCode;
 use std::rt::Env;
 use std::{env, io};

@@ -1,16 +1,15 @@
 //! What is told beside an answer.
 
 ghost use Rattle.std.specs.Prelude.{◌≡◌, IfOk, option_map, string_bytes};
-ghost use Rattle.dispatch.specs.Notes.{IsBegun, IsNoteOn, IsToldUnless};
-ghost use Rattle.dispatch.specs.Responses.{unanswered};
-ghost use Rattle.dispatch.specs.declared.unanswered.Unanswered.TheVariants.{File};
-ghost use Rattle.dispatch.specs.Validities.{IsKnown};
+ghost use Rattle.exchange.specs.Notes.{IsBegun, IsNoteOn, IsToldUnless};
+ghost use Rattle.exchange.specs.Responses.{unanswered};
+ghost use Rattle.exchange.specs.declared.unanswered.Unanswered.TheVariants.{File};
 
 use crate::unanswered::Unanswered;
-use answers::{Answer, REFUSED};
 use command_words::Text;
-use plan_answers::settings_enough;
-use refusal_notes::{Named, Texts, Validity, file_line, second_line};
+use plan_answers::Answer;
+use refusal_notes::{Listing, Named, Texts, file_line, second_line};
+use refusals::Validity;
 use std::alloc::{AllocError, Global};
 use std::io;
 use std::io::{ErrorKind, Write};
@@ -31,7 +30,7 @@ pub(crate) struct Missed {
 
 impl From<AllocError> for Missed {
     ghost use Rattle.std.specs.Prelude.{◌≡◌, None};
-    ghost use Rattle.dispatch.specs.declared.unanswered.Unanswered.TheVariants.{NoMemory};
+    ghost use Rattle.exchange.specs.declared.unanswered.Unanswered.TheVariants.{NoMemory};
 
     ghost from_gives = { λ _ missed. (missed.why ≡ NoMemory) × (missed.note ≡ None) };
 
@@ -63,32 +62,50 @@ pub(crate) fn with_rack_note<'a>(
     ensures answer { result.answer ≡ answer }
     ensures note { IsNoteOn result.answer (option_map (λ line. string_bytes line) result.note) }
 {
-    let texts = Texts::of_rack(shape.as_str(), Named::NONE, named_image(image, words));
+    let texts = of_rack(shape.as_str(), Named::NONE, named_image(image, words));
     with_note(alloc, answer, texts)
+}
+
+/// A batch, or moves, alone.
+pub(crate) fn of_list<'a>(list: Named<'a>, listing: Listing) -> Texts<'a> {
+    Texts {
+        list,
+        listing,
+        ..Texts::NONE
+    }
+}
+
+/// A batch and a schedule, the word of the settings to draw, which may be empty, and what is known of the schedule.
+pub(crate) fn of_schedule<'a>(
+    batch: Named<'a>,
+    schedule: Named<'a>,
+    range: &'a str,
+    validity: Validity,
+) -> Texts<'a> {
+    Texts {
+        list: batch,
+        other: schedule,
+        range,
+        validity,
+        ..Texts::NONE
+    }
+}
+
+/// The word of a rack's shape, a batch, and the image of the rack, which may be none.
+pub(crate) fn of_rack<'a>(shape: &'a str, batch: Named<'a>, image: Named<'a>) -> Texts<'a> {
+    Texts {
+        list: batch,
+        other: image,
+        shape,
+        ..Texts::NONE
+    }
 }
 
 /// What is told beside an answer to these texts.
 fn note_on(alloc: Global, answer: &Answer, texts: Texts<'_>) -> Option<String>
     ensures { IsNoteOn answer.now (option_map (λ line. string_bytes line) result) }
 {
-    if answer.status() == REFUSED {
-        return second_line(alloc, answer.text(), texts);
-    }
-    None
-}
-
-/// What is known of a schedule of which this was answered. It is looked at where that is a refusal alone.
-pub(crate) fn validity_of(alloc: Global, answer: &Answer, batch: &[u8], schedule: &[u8]) -> Validity
-    ensures { IsKnown batch.now schedule.now result }
-{
-    if answer.status() != REFUSED {
-        return Validity::Unknown;
-    }
-    match settings_enough(alloc, batch, schedule) {
-        Ok(Some(enough)) => Validity::Valid(enough),
-        Ok(None) => Validity::Invalid,
-        Err(_) => Validity::Unknown,
-    }
+    second_line(alloc, answer.refusal()?, texts)
 }
 
 /// Why there is no answer where a file of this name can't be read, and what is told of it.
@@ -146,7 +163,7 @@ pub(crate) fn tell_note<E: Write>(note: &Option<String>, is_quiet: bool, err: &m
 }
 
 /// Tells a line, as far as it can be written. Whether it can changes no answer.
-fn tell<E: Write>(line: &[u8], err: &mut E)
+pub(crate) fn tell<E: Write>(line: &[u8], err: &mut E)
     ensures { IsBegun (E.contents err.old) (E.contents err.new) line.now }
 {
     let mut rest = line;

@@ -1,29 +1,24 @@
-//! Why a command has no answer.
+use refusals::Refusal;
 
-ghost use Rattle.std.specs.Prelude.{◌≡◌};
-ghost use Rattle.dispatch.specs.Responses.{unanswered_line};
-
-use thiserror::Error;
-
-/// Why a command has no answer.
-#[derive(Clone, Copy, Debug, PartialEq, Eq, Error)]
+/// Why a job has no answer.
+#[derive(Clone, Copy, Debug, PartialEq, Eq)]
 pub enum Unanswered {
-    /// A file can't be read.
-    #[error("refused file")]
+    /// A file, or standard input, can't be read.
     File,
     /// There was no memory.
-    #[error("refused no memory")]
     NoMemory,
 }
 
-impl Unanswered {
-    /// The line that tells it.
-    pub fn line(self) -> &'static str
-        ensures { result.now ≡ unanswered_line self }
-    {
-        match self {
-            Unanswered::File => "refused file\n",
-            Unanswered::NoMemory => "refused no memory\n",
+impl From<Unanswered> for Refusal {
+    ghost use Rattle.std.specs.Prelude.{◌≡◌};
+    ghost use Rattle.exchange.specs.Responses.{refusal_of};
+
+    ghost from_gives = { λ why gives. gives ≡ refusal_of why };
+
+    fn from(why: Unanswered) -> Refusal {
+        match why {
+            Unanswered::File => Refusal::File,
+            Unanswered::NoMemory => Refusal::NoMemory,
         }
     }
 }

@@ -1,5 +1,4 @@
 ghost use Rattle.std.specs.Prelude.{◌≡◌, IfOk, IfSome};
-ghost use Rattle.refusals.specs.Refusals.{refusal_line};
 ghost use Rattle.plan_answers.specs.Refusals.{Refuses};
 
 use crate::limits::{DONE, REFUSED};
@@ -20,10 +19,8 @@ pub struct Answer {
 }
 
 impl Model for Answer {
-    ghost use Rattle.std.specs.Prelude.{◌≡◌, IfSome};
-    ghost use Rattle.refusals.specs.Refusals.{refusal_line};
-    ghost use Rattle.plan_answers.specs.Refusals.{Printed};
-    ghost use Rattle.plan_answers.specs.declared.limits.TheConstants.{REFUSED};
+    ghost use Rattle.std.specs.Prelude.{IfSome};
+    ghost use Rattle.plan_answers.specs.Refusals.{Printed, Refuses};
 
     ghost Value = { Printed };
 
@@ -31,7 +28,7 @@ impl Model for Answer {
 
     // a refusal is printed as its line, under its status
     ghost invariant = { λ a. IfSome a.cause (λ refusal.
-        (a.bytes.items ≡ refusal_line refusal) × (a.code ≡ REFUSED)) };
+        Refuses refusal (record { text = a.bytes.items; status = a.code })) };
 }
 
 impl Answer {
@@ -51,8 +48,7 @@ impl Answer {
 
     /// The refusal whose line is printed, where it is one.
     pub fn refusal(&self) -> Option<Refusal>
-        ensures { IfSome result (λ refusal.
-            (self.now.text ≡ refusal_line refusal) × (self.now.status ≡ REFUSED)) }
+        ensures { IfSome result (λ refusal. Refuses refusal self.now) }
     {
         self.cause
     }

@@ -2,10 +2,11 @@
 
 ghost use Rattle.std.specs.Prelude.{◌≤◌, IfOk, None, Some, codes, length, map};
 ghost use Rattle.exchange_limits.specs.declared.limits.TheConstants.{MAX_SESSIONS};
-ghost use Rattle.answers.specs.Hosts.{end_of, IsHostAnswer};
+ghost use Rattle.session_answers.specs.Hosts.{end_of, IsHostAnswer};
 ghost use Rattle.answers_tests.specs.Known.{known_guests};
 
-use answers::{AllThere, Doors, Ending, Hosted, WorkerCount, answer_host};
+use exchange_limits::WorkerCount;
+use session_answers::{AllThere, Doors, Ending, Hosted, answer_host};
 use std::alloc::{AllocError, Global};
 use std::io;
 use std::io::ErrorKind;

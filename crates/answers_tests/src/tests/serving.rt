@@ -1,6 +1,6 @@
 //! How the end of a session is framed.
 
-use answers::push_end;
+use session_answers::push_end;
 use client_session::ServeFault;
 use std::alloc::Global;
 

@@ -1,8 +1,8 @@
 use Rattle.std.proofs.Common.{◌≡◌, ◌<◌, ℕ, [], length, map, get_or}
 use Rattle.std.specs.Prelude.{◌≢◌}
 use Rattle.command_words.specs.Jobs.{input_name}
-use Rattle.dispatch.specs.Responses.{IsHeld}
-use Rattle.dispatch.proofs.responding.read_files.Given as goal
+use Rattle.exchange.specs.Responses.{IsHeld}
+use Rattle.exchange.proofs.files.read_files.Given as goal
 
 abbrev pub invariant-loop-name : goal.invariant-loop-name
 invariant-loop-name g l = record {

@@ -1,5 +1,5 @@
-use Rattle.dispatch.proofs.Held.{held_later, first_is_other}
-use Rattle.dispatch.proofs.responding.read_texts.Goals as goal
+use Rattle.exchange.proofs.Held.{held_later, first_is_other}
+use Rattle.exchange.proofs.files.read_texts.Goals as goal
 
 pub returns-clause-second : goal.returns-clause-second
 returns-clause-second g c =

@@ -1,6 +1,6 @@
-use Rattle.dispatch.specs.Responses.{IsSomeApply}
-use Rattle.dispatch.proofs.Told.{same_answer}
-use Rattle.dispatch.proofs.responding.apply.Goals as goal
+use Rattle.exchange.specs.Responses.{IsSomeApply}
+use Rattle.exchange.proofs.Told.{same_answer}
+use Rattle.exchange.proofs.jobs.apply.Goals as goal
 
 pub returns-clause-answer : goal.returns-clause-answer
 returns-clause-answer g c =

@@ -1,9 +1,9 @@
 use Rattle.std.proofs.Common.{ℕ, List, subst}
-use Rattle.answers.specs.Extent.{widest}
-use Rattle.answers.specs.Answers.{IsChecked}
-use Rattle.dispatch.specs.Responses.{IsSomeCheck}
-use Rattle.dispatch.proofs.Told.{same_answer}
-use Rattle.dispatch.proofs.responding.check.Goals as goal
+use Rattle.batch.specs.Extent.{widest}
+use Rattle.plan_answers.specs.Answers.{IsChecked}
+use Rattle.exchange.specs.Responses.{IsSomeCheck}
+use Rattle.exchange.proofs.Told.{same_answer}
+use Rattle.exchange.proofs.jobs.check.Goals as goal
 
 pub returns-clause-answer : goal.returns-clause-answer
 returns-clause-answer g c =

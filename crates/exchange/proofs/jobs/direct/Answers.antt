@@ -1,8 +1,8 @@
 use Rattle.std.proofs.Common.{ℕ, List, subst}
-use Rattle.answers.specs.Directing.{IsDirected}
-use Rattle.dispatch.specs.Responses.{IsSomeDirect}
-use Rattle.dispatch.proofs.Told.{same_answer}
-use Rattle.dispatch.proofs.responding.direct.Goals as goal
+use Rattle.plan_answers.specs.Directing.{IsDirected}
+use Rattle.exchange.specs.Responses.{IsSomeDirect}
+use Rattle.exchange.proofs.Told.{same_answer}
+use Rattle.exchange.proofs.jobs.direct.Goals as goal
 
 pub returns-clause-answer : goal.returns-clause-answer
 returns-clause-answer g c =

@@ -1,8 +1,8 @@
-use Rattle.answers.specs.Extent.{widest}
-use Rattle.answers.specs.Drawings.{IsDrawn}
-use Rattle.dispatch.specs.Responses.{IsSomeDraw}
-use Rattle.dispatch.proofs.Told.{same_answer}
-use Rattle.dispatch.proofs.responding.draw.Goals as goal
+use Rattle.batch.specs.Extent.{widest}
+use Rattle.plan_answers.specs.Drawings.{IsDrawn}
+use Rattle.exchange.specs.Responses.{IsSomeDraw}
+use Rattle.exchange.proofs.Told.{same_answer}
+use Rattle.exchange.proofs.jobs.draw.Goals as goal
 
 pub returns-clause-answer : goal.returns-clause-answer
 returns-clause-answer g c =

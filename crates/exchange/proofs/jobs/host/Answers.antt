@@ -1,7 +1,7 @@
 use Rattle.std.specs.Prelude.{option_map}
-use Rattle.dispatch.specs.Responses.{IsSomeHost}
-use Rattle.dispatch.proofs.Told.{same_answer}
-use Rattle.dispatch.proofs.responding.host.Goals as goal
+use Rattle.exchange.specs.Responses.{IsSomeHost}
+use Rattle.exchange.proofs.Told.{same_answer}
+use Rattle.exchange.proofs.jobs.host.Goals as goal
 
 pub returns-clause-answer : goal.returns-clause-answer
 returns-clause-answer g c =

@@ -1,9 +1,9 @@
 use Rattle.std.proofs.Common.{ℕ, List, subst}
-use Rattle.answers.specs.Extent.{widest}
-use Rattle.answers.specs.Answers.{IsPlanned}
-use Rattle.dispatch.specs.Responses.{IsSomePlan}
-use Rattle.dispatch.proofs.Told.{same_answer}
-use Rattle.dispatch.proofs.responding.plan.Goals as goal
+use Rattle.batch.specs.Extent.{widest}
+use Rattle.plan_answers.specs.Answers.{IsPlanned}
+use Rattle.exchange.specs.Responses.{IsSomePlan}
+use Rattle.exchange.proofs.Told.{same_answer}
+use Rattle.exchange.proofs.jobs.plan.Goals as goal
 
 pub returns-clause-answer : goal.returns-clause-answer
 returns-clause-answer g c =

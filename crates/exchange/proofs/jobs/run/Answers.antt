@@ -1,9 +1,9 @@
 use Rattle.std.proofs.Common.{List, ℕ, [], ◌∷◌, arith}
 use Rattle.std.specs.Prelude.{option_map}
-use Rattle.dispatch.specs.Responses.{IsSomeRun}
-use Rattle.dispatch.proofs.Held.{held_later, image_is_other}
-use Rattle.dispatch.proofs.Told.{same_answer}
-use Rattle.dispatch.proofs.responding.run.Goals as goal
+use Rattle.exchange.specs.Responses.{IsSomeRun}
+use Rattle.exchange.proofs.Held.{held_later, image_is_other}
+use Rattle.exchange.proofs.Told.{same_answer}
+use Rattle.exchange.proofs.jobs.run.Goals as goal
 
 pub returns-clause-answer : goal.returns-clause-answer
 returns-clause-answer g c =

@@ -1,9 +1,9 @@
 use Rattle.std.proofs.Common.{map}
 use Rattle.std.specs.Prelude.{option_map}
-use Rattle.dispatch.specs.Responses.{IsSomeServe}
-use Rattle.dispatch.proofs.Held.{all_held_later, image_is_other, names_behind}
-use Rattle.dispatch.proofs.Told.{same_answer}
-use Rattle.dispatch.proofs.responding.serve.Goals as goal
+use Rattle.exchange.specs.Responses.{IsSomeServe}
+use Rattle.exchange.proofs.Held.{all_held_later, image_is_other, names_behind}
+use Rattle.exchange.proofs.Told.{same_answer}
+use Rattle.exchange.proofs.jobs.serve.Goals as goal
 
 pub read_files-requires : goal.read_files-requires
 read_files-requires g c = rw c.as_slice.ensures (names_behind c.args.image.now c.args.scripts.now c.requires.input)

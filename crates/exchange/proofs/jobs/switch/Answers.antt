@@ -1,9 +1,9 @@
 use Rattle.std.proofs.Common.{ℕ, List, subst}
-use Rattle.answers.specs.Extent.{widest}
-use Rattle.answers.specs.Switching.{IsSwitched}
-use Rattle.dispatch.specs.Responses.{IsSomeSwitch}
-use Rattle.dispatch.proofs.Told.{same_answer}
-use Rattle.dispatch.proofs.responding.switch.Goals as goal
+use Rattle.batch.specs.Extent.{widest}
+use Rattle.rack_answers.specs.Switching.{IsSwitched}
+use Rattle.exchange.specs.Responses.{IsSomeSwitch}
+use Rattle.exchange.proofs.Told.{same_answer}
+use Rattle.exchange.proofs.jobs.switch.Goals as goal
 
 pub returns-clause-answer : goal.returns-clause-answer
 returns-clause-answer g c =

@@ -1,12 +1,12 @@
 use Rattle.std.proofs.Common.{◌≡◌, ℕ, List, Option, Some, [], ◌∷◌, refl, subst, rules, arith}
 use Rattle.std.specs.Prelude.{◌≢◌, option_map}
 use Rattle.std.proofs.KnownBytes.{Appends-nil}
-use Rattle.answers.specs.Talking.{IsTalkAnswer}
+use Rattle.session_answers.specs.Talking.{IsTalkAnswer}
 use Rattle.command_words.specs.Jobs.{input_name}
-use Rattle.dispatch.specs.Responses.{IsSomeTalk}
-use Rattle.dispatch.proofs.Held.{image_is_other}
-use Rattle.dispatch.proofs.Told.{same_answer}
-use Rattle.dispatch.proofs.responding.talk.Goals as goal
+use Rattle.exchange.specs.Responses.{IsSomeTalk}
+use Rattle.exchange.proofs.Held.{image_is_other}
+use Rattle.exchange.proofs.Told.{same_answer}
+use Rattle.exchange.proofs.jobs.talk.Goals as goal
 
 pub returns-in_err-words-clause-answer : goal.returns-in_err-words-clause-answer
 returns-in_err-words-clause-answer g c = ([], Appends-nil _, search rules)

@@ -1,7 +1,7 @@
 use Rattle.std.proofs.Common.{◌++◌, take}
 use Rattle.std.proofs.KnownBytes.{Appends-trans}
-use Rattle.dispatch.proofs.Begun.{cut}
-use Rattle.dispatch.proofs.notes.tell.Goals as goal
+use Rattle.exchange.proofs.Begun.{cut}
+use Rattle.exchange.proofs.notes.tell.Goals as goal
 
 pub loop-rest-preserved : goal.loop-rest-preserved
 loop-rest-preserved g c =

@@ -1,6 +1,6 @@
 use Rattle.std.proofs.Common.{inr, ap}
 use Rattle.std.specs.Prelude.{option_map, string_bytes}
-use Rattle.dispatch.proofs.notes.tell_note.Goals as goal
+use Rattle.exchange.proofs.notes.tell_note.Goals as goal
 
 pub returns-in-Some : goal.returns-in-Some
 returns-in-Some g c =

@@ -1,12 +1,37 @@
-use Rattle.dispatch.proofs.Told.{answered, not_answered}
-use Rattle.dispatch.proofs.responding.carry_out.Goals as goal
+use Rattle.std.proofs.Common.{Err, inl, inr, refl}
+use Rattle.std.proofs.KnownBytes.{Appends-nil}
+use Rattle.command_words.specs.declared.words.WordsFault.TheVariants as words_fault
+use Rattle.exchange.proofs.Told.{answered, asked, faulty, not_answered, wordless}
+use Rattle.exchange.proofs.responding.print_response.Goals as goal
 
-pub returns-in-Ok : goal.returns-in-Ok
-returns-in-Ok g c =
-    let t = c.in-Ok.ensures in
-    answered c.print_noted.result _ c.args.request t.0 c.in-Ok.done _ _ _ _ _ t.1 t.2 t.3 t.4 c.print_noted.ensures.printed c.print_noted.ensures.told
+pub returns-in-Ok-answer_to : goal.returns-in-Ok-answer_to
+returns-in-Ok-answer_to g c =
+    let t = c.in-Ok-answer_to.ensures.response in
+    asked c.print_noted.result _ _ c.in-Ok.request _ c.in-Ok.ensures.request
+    (answered c.print_noted.result _ c.in-Ok.request t.0 c.in-Ok-answer_to.done _ _ _ _ _ _ t.1 t.2 t.3 t.4 c.in-Ok-answer_to.ensures.beside c.print_noted.ensures.printed c.print_noted.ensures.told)
 
 pub returns-in-Err : goal.returns-in-Err
 returns-in-Err g c =
-    let t = c.in-Err.ensures in
-    not_answered c.refuse_noted.result _ c.args.request t.0 c.in-Err.missed _ _ _ _ _ t.1 t.2 t.4 c.refuse_noted.ensures.printed c.refuse_noted.ensures.told
+    let t = c.in-Err.ensures.response in
+    asked c.refuse_noted.result _ _ c.in-Ok.request _ c.in-Ok.ensures.request
+    (not_answered c.refuse_noted.result _ c.in-Ok.request t.0 c.in-Err.missed _ _ _ _ _ _ t.1 t.2 t.4 c.in-Err.ensures.beside c.refuse_noted.ensures.printed c.refuse_noted.ensures.told)
+
+pub returns-in-Err-NoMemory : goal.returns-in-Err-NoMemory
+returns-in-Err-NoMemory g c = faulty c.refuse.result _ _ words_fault.NoMemory _ tt (wordless c.refuse.result (g.I.Read.remaining c.args.input.now) (g.O.Write.contents c.args.out.now) (g.O.Write.contents c.refuse.new.out) (g.E.Write.contents c.args.err.now) c.refuse.ensures)
+
+pub returns-in_ok-write-in-Err-Clap : goal.returns-in_ok-write-in-Err-Clap
+returns-in_ok-write-in-Err-Clap g c =
+    let fault = c.use_stderr.ensures.0 c.if-use_stderr.true in (
+      Err (words_fault.Clap c.in-Err-Clap.error),
+      tt,
+      rw (c.in-Err-Clap.is, c.in-Err-Clap.field-0-is) at c.read_words.ensures.fault,
+      ((λ help. elim help [ inl is ↦ absurd (fault.0 is) | inr is ↦ absurd (fault.1 is) ]), (λ other. (refl, refl))),
+    )
+
+pub returns-in_ok-write-in-Err-Clap-2 : goal.returns-in_ok-write-in-Err-Clap-2
+returns-in_ok-write-in-Err-Clap-2 g c = (
+  Err (words_fault.Clap c.in-Err-Clap.error),
+  tt,
+  rw (c.in-Err-Clap.is, c.in-Err-Clap.field-0-is) at c.read_words.ensures.fault,
+  ((λ help. (refl, Appends-nil _)), (λ other. absurd (let yes = c.use_stderr.ensures.1 ((λ e. other (inl e)), (λ e. other (inr e))) in let no = c.if-use_stderr.false in cc))),
+)

@@ -1,5 +1,5 @@
 use Rattle.std.proofs.Common.{refl}
-use Rattle.dispatch.proofs.responding.refuse.Goals as goal
+use Rattle.exchange.proofs.responding.refuse.Goals as goal
 
 pub returns : goal.returns
-returns g c = record { text = rw (c.as_bytes.ensures.value, c.line.ensures) at c.in_ok-write_all.ensures.bytes; status = refl }
+returns g c = record { text = rw (c.as_bytes.ensures.bytes, c.line.ensures, c.from.ensures) at c.in_ok-write_all.ensures.bytes; status = refl }

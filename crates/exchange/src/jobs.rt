@@ -1,0 +1,320 @@
+//! The answer to each job.
+
+ghost use Rattle.std.specs.Prelude.{◌≡◌, ◌∷◌, ◌++◌, [], List, ℕ, IfOk, option_to_list};
+ghost use Rattle.std.specs.Io.KnownBytes.{Appends};
+ghost use Rattle.plan_answers.specs.Lent.{bytes_of};
+ghost use Rattle.command_words.specs.Jobs.{CanBeServed, IsWithinLimits, NameInputOnce, files_of, input_name};
+ghost use Rattle.exchange.specs.Responses.{IsSomePlan, IsSomeCheck, IsSomeDraw, IsSomeSwitch, IsSomeDirect, IsSomeApply, IsSomeRun, IsSomeServe, IsSomeHost, IsSomeTalk};
+ghost use Rattle.exchange.specs.Responses.{IsAnswerTo, IsToldBy, behind_told};
+ghost use Rattle.exchange.specs.Notes.{IsBeside};
+ghost use Rattle.exchange.specs.Outcomes.{HasNote};
+
+use crate::beside::Beside;
+use crate::doors::{ClientFiles, FileDoors};
+use crate::files::{read_file, read_files, read_image, read_texts, slice_of};
+use crate::notes::{
+    Answered, Missed, named, named_image, of_list, of_rack, of_schedule, with_note, with_rack_note,
+};
+use client_session::{Listener, Unheard};
+use command_words::{Job, Request, Text, TextList};
+use exchange_limits::WorkerCount;
+use plan_answers::{answer_check, answer_direct, answer_draw, answer_plan};
+use rack_answers::{answer_apply, answer_run, answer_switch};
+use refusal_notes::Listing;
+use session_answers::{answer_host, answer_serve, answer_talk};
+use std::io::{Read, Write};
+use std::rt::Files;
+use std::sync::Wait;
+use std::thread::Threads;
+
+/// The answer to a job, or why it has none, with what is told beside it. A session of `talk` is told its replies on
+/// `out` before, and a line on `err` beside each that is a refusal.
+pub(crate) fn answer_to<
+    R: AllocGlobal + Files + Threads + Wait + ClientFiles + Sync,
+    I: Read,
+    O: Write,
+    E: Write,
+>(rt: &R, request: Request, input: &mut I, out: &mut O, err: &mut E) -> Result<Answered, Missed>
+    requires limits { IsWithinLimits request.job }
+    requires input { NameInputOnce (files_of request.job) }
+    ensures response { (told : List ℕ) × Appends (O.contents out.old) (O.contents out.new) told
+        × IsToldBy request.job told
+        × IfOk result (λ done.
+        IsAnswerTo (I.remaining input.old) request.job (behind_told told done.answer))
+        × HasNote result }
+    ensures beside { IsBeside request (E.contents err.old) (E.contents err.new) }
+{
+    let Request { job, is_quiet } = request;
+    match job {
+        Job::Plan { file, workers } => plan(rt, &file, workers, input),
+        Job::Check { batch, schedule } => check(rt, &batch, &schedule, input),
+        Job::Draw {
+            batch,
+            schedule,
+            settings,
+        } => draw(rt, &batch, &schedule, &settings, input),
+        Job::Switch { batch, workers } => switch(rt, &batch, workers, input),
+        Job::Direct { moves } => direct(rt, &moves, input),
+        Job::Apply {
+            shape,
+            batch,
+            image,
+            workers,
+        } => apply(rt, &shape, &batch, &image, workers, input),
+        Job::Run {
+            shape,
+            batch,
+            image,
+            workers,
+        } => run(rt, &shape, &batch, &image, workers, input),
+        Job::Serve {
+            shape,
+            scripts,
+            image,
+            workers,
+        } => serve(rt, &shape, &scripts, &image, workers, input),
+        Job::Host {
+            shape,
+            clients,
+            image,
+            workers,
+        } => host(rt, &shape, &clients, &image, workers, input),
+        Job::Talk { shape, image } if is_quiet => {
+            talk(rt, &shape, &image, input, out, &mut Unheard)
+        }
+        Job::Talk { shape, image } => {
+            let mut beside = Beside::new(rt.alloc(), shape.as_str(), err);
+            talk(rt, &shape, &image, input, out, &mut beside)
+        }
+    }
+}
+
+/// The answer of `exchange plan FILE`.
+fn plan<R: AllocGlobal + Files + Threads + Sync, I: Read>(
+    rt: &R,
+    file: &Text,
+    workers: WorkerCount,
+    input: &mut I,
+) -> Result<Answered, Missed>
+    ensures answer { IfOk result (λ done.
+        IsSomePlan (I.remaining input.old) file.now done.answer) }
+    ensures note { HasNote result }
+{
+    let held = read_file(rt, file, input)?;
+    let text = held.as_slice();
+    let answer = answer_plan(rt, rt.alloc(), text, workers)?;
+    let texts = of_list(named(file, text), Listing::Transfers);
+    Ok(with_note(rt.alloc(), answer, texts))
+}
+
+/// The answer of `exchange check BATCH SCHEDULE`.
+fn check<R: AllocGlobal + Files, I: Read>(
+    rt: &R,
+    batch: &Text,
+    schedule: &Text,
+    input: &mut I,
+) -> Result<Answered, Missed>
+    requires { NameInputOnce (batch.now ∷ schedule.now ∷ []) }
+    ensures answer { IfOk result (λ done.
+        IsSomeCheck (I.remaining input.old) batch.now schedule.now done.answer) }
+    ensures note { HasNote result }
+{
+    let (first, second) = read_texts(rt, batch, schedule, input)?;
+    let (first, second) = (first.as_slice(), second.as_slice());
+    let answer = answer_check(rt.alloc(), first, second)?;
+    let (batch, schedule) = (named(batch, first), named(schedule, second));
+    let texts = of_schedule(batch, schedule, "", answer.validity());
+    Ok(with_note(rt.alloc(), answer, texts))
+}
+
+/// The answer of `exchange draw BATCH SCHEDULE`. The files are read before the range of settings is looked at.
+fn draw<R: AllocGlobal + Files, I: Read>(
+    rt: &R,
+    batch: &Text,
+    schedule: &Text,
+    settings: &Option<Text>,
+    input: &mut I,
+) -> Result<Answered, Missed>
+    requires { NameInputOnce (batch.now ∷ schedule.now ∷ []) }
+    ensures answer { IfOk result (λ done.
+        IsSomeDraw (I.remaining input.old) batch.now schedule.now settings.now done.answer) }
+    ensures note { HasNote result }
+{
+    let (first, second) = read_texts(rt, batch, schedule, input)?;
+    let (first, second) = (first.as_slice(), second.as_slice());
+    let answer = answer_draw(rt.alloc(), first, second, bytes_in(settings))?;
+    let (batch, schedule) = (named(batch, first), named(schedule, second));
+    let texts = of_schedule(batch, schedule, word_in(settings), answer.validity());
+    Ok(with_note(rt.alloc(), answer, texts))
+}
+
+/// The bytes of a text, where there is one.
+fn bytes_in(text: &Option<Text>) -> Option<&[u8]>
+    ensures { bytes_of result ≡ text.now }
+{
+    match text {
+        Some(text) => Some(text.as_str().as_bytes()),
+        None => None,
+    }
+}
+
+/// A word, where there is one.
+fn word_in(text: &Option<Text>) -> &str {
+    match text {
+        Some(text) => text.as_str(),
+        None => "",
+    }
+}
+
+/// The answer of `exchange switch BATCH`.
+fn switch<R: AllocGlobal + Files + Threads + Sync, I: Read>(
+    rt: &R,
+    batch: &Text,
+    workers: WorkerCount,
+    input: &mut I,
+) -> Result<Answered, Missed>
+    ensures answer { IfOk result (λ done.
+        IsSomeSwitch (I.remaining input.old) batch.now done.answer) }
+    ensures note { HasNote result }
+{
+    let held = read_file(rt, batch, input)?;
+    let text = held.as_slice();
+    let answer = answer_switch(rt, rt.alloc(), text, workers)?;
+    let texts = of_list(named(batch, text), Listing::Transfers);
+    Ok(with_note(rt.alloc(), answer, texts))
+}
+
+/// The answer of `exchange direct MOVES`.
+fn direct<R: AllocGlobal + Files, I: Read>(
+    rt: &R,
+    moves: &Text,
+    input: &mut I,
+) -> Result<Answered, Missed>
+    ensures answer { IfOk result (λ done.
+        IsSomeDirect (I.remaining input.old) moves.now done.answer) }
+    ensures note { HasNote result }
+{
+    let held = read_file(rt, moves, input)?;
+    let text = held.as_slice();
+    let answer = answer_direct(rt.alloc(), text)?;
+    let texts = of_list(named(moves, text), Listing::Moves);
+    Ok(with_note(rt.alloc(), answer, texts))
+}
+
+/// The answer of `exchange apply SHAPE BATCH IMAGE`. The files are read before the shape is looked at.
+fn apply<R: AllocGlobal + Files + Threads + Sync, I: Read>(
+    rt: &R,
+    shape: &Text,
+    batch: &Text,
+    image: &Text,
+    workers: WorkerCount,
+    input: &mut I,
+) -> Result<Answered, Missed>
+    requires input { NameInputOnce (batch.now ∷ image.now ∷ []) }
+    ensures answer { IfOk result (λ done.
+        IsSomeApply (I.remaining input.old) shape.now batch.now image.now done.answer) }
+    ensures note { HasNote result }
+{
+    let (first, second) = read_texts(rt, batch, image, input)?;
+    let shape = shape.as_str();
+    let (first, second) = (first.as_slice(), second.as_slice());
+    let answer = answer_apply(rt, rt.alloc(), shape.as_bytes(), first, second, workers)?;
+    let texts = of_rack(shape, named(batch, first), named(image, second));
+    Ok(with_note(rt.alloc(), answer, texts))
+}
+
+/// The answer of `exchange run SHAPE BATCH`. The image's file, if one is named, is read first, and then the batch's,
+/// before the shape is looked at.
+fn run<R: AllocGlobal + Files + Threads + Sync, I: Read>(
+    rt: &R,
+    shape: &Text,
+    batch: &Text,
+    image: &Option<Text>,
+    workers: WorkerCount,
+    input: &mut I,
+) -> Result<Answered, Missed>
+    requires input { NameInputOnce (option_to_list image.now ++ batch.now ∷ []) }
+    ensures answer { IfOk result (λ done.
+        IsSomeRun (I.remaining input.old) shape.now batch.now image.now done.answer) }
+    ensures note { HasNote result }
+{
+    let words = read_image(rt, image, input)?;
+    let held = read_file(rt, batch, input)?;
+    let shape = shape.as_str();
+    let (held, words) = (held.as_slice(), slice_of(&words));
+    let answer = answer_run(rt, rt.alloc(), shape.as_bytes(), held, words, workers)?;
+    let texts = of_rack(shape, named(batch, held), named_image(image, words));
+    Ok(with_note(rt.alloc(), answer, texts))
+}
+
+/// The answer of `exchange serve SHAPE SCRIPT..`. The image's file, if one is named, is read first, and then the
+/// scripts' files in the order of the words, before the shape is looked at.
+fn serve<R: AllocGlobal + Files + Threads + Wait + Sync, I: Read>(
+    rt: &R,
+    shape: &Text,
+    scripts: &TextList,
+    image: &Option<Text>,
+    workers: WorkerCount,
+    input: &mut I,
+) -> Result<Answered, Missed>
+    requires scripts { CanBeServed scripts.now }
+    requires input { NameInputOnce (option_to_list image.now ++ scripts.now) }
+    ensures answer { IfOk result (λ done.
+        IsSomeServe (I.remaining input.old) shape.now scripts.now image.now done.answer) }
+    ensures note { HasNote result }
+{
+    let words = read_image(rt, image, input)?;
+    let files = read_files(rt, scripts.as_slice(), input)?;
+    let shape_text = shape.as_str().as_bytes();
+    let (files, words) = (files.as_slice(), slice_of(&words));
+    let answer = answer_serve(rt, rt.alloc(), shape_text, words, workers, files)?;
+    Ok(with_rack_note(rt.alloc(), answer, shape, image, words))
+}
+
+/// The answer of `exchange host SHAPE CLIENT..`, behind the sessions of the clients. The image's file, if one is named, is read
+/// first.
+fn host<R: AllocGlobal + Files + Threads + Wait + ClientFiles + Sync, I: Read>(
+    rt: &R,
+    shape: &Text,
+    clients: &TextList,
+    image: &Option<Text>,
+    workers: WorkerCount,
+    input: &mut I,
+) -> Result<Answered, Missed>
+    requires clients { CanBeServed clients.now }
+    ensures answer { IfOk result (λ done.
+        IsSomeHost (I.remaining input.old) shape.now clients.now image.now done.answer) }
+    ensures note { HasNote result }
+{
+    let words = read_image(rt, image, input)?;
+    let shape_text = shape.as_str().as_bytes();
+    let words = slice_of(&words);
+    let alloc = rt.alloc();
+    let clients = clients.as_slice();
+    let doors = FileDoors { rt, alloc, clients };
+    let hosted = answer_host(rt, alloc, shape_text, words, workers, &doors)?;
+    Ok(with_rack_note(alloc, hosted.answer, shape, image, words))
+}
+
+/// The answer of `exchange talk SHAPE`, behind a session over `input` and `out`, of whose refusals the listener is told.
+/// The image's file, if one is named, is read first.
+fn talk<R: AllocGlobal + Files + Threads + Wait + Sync, I: Read, O: Write, H: Listener>(
+    rt: &R,
+    shape: &Text,
+    image: &Option<Text>,
+    input: &mut I,
+    out: &mut O,
+    listener: &mut H,
+) -> Result<Answered, Missed>
+    requires input { NameInputOnce (option_to_list image.now ++ input_name ∷ []) }
+    ensures answer { (told : List ℕ) × Appends (O.contents out.old) (O.contents out.new) told
+        × IfOk result (λ done.
+        IsSomeTalk (I.remaining input.old) shape.now image.now told done.answer) }
+    ensures note { HasNote result }
+{
+    let words = read_image(rt, image, input)?;
+    let shape_text = shape.as_str().as_bytes();
+    let words = slice_of(&words);
+    let answer = answer_talk(rt, rt.alloc(), shape_text, words, input, out, listener)?;
+    Ok(with_rack_note(rt.alloc(), answer, shape, image, words))
+}
