@@ -47,7 +47,7 @@ fn put_cause(line: &mut Line, cause: StopCause)
 }
 
 /// Puts transfers behind the line, each with the words that it has moved.
-fn put_moved(line: &mut Line, moved: &[(usize, usize)])
+fn put_moved(line: &mut Line, moved: &[(u16, u16)])
     requires room { length line.old + 1400 ≤ LINE_ROOM }
     requires few { length moved.now ≤ MAX_MODULES }
     ensures text { line.new ≡ line.old ++ flat_map moved_words moved.now }
@@ -55,9 +55,9 @@ fn put_moved(line: &mut Line, moved: &[(usize, usize)])
 {
     for (transfer, words) in moved {
         line.put(b" ");
-        line.put_number(*transfer as u64);
+        line.put_number(u64::from(*transfer));
         line.put(b":");
-        line.put_number(*words as u64);
+        line.put_number(u64::from(*words));
     }
 }
 
@@ -68,7 +68,7 @@ pub fn put_stopped(
     run: usize,
     setting: usize,
     cause: StopCause,
-    moved: &[(usize, usize)],
+    moved: &[(u16, u16)],
 )
     requires empty { length line.old ≡ 0 }
     requires few { length moved.now ≤ MAX_MODULES }

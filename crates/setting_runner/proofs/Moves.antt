@@ -1,5 +1,6 @@
 -- Moves of blocks, one after the other and part by part.
 use Rattle.std.proofs.Common.{◌≡◌, ◌<◌, ◌≤◌, ◌+◌, ℕ, zero, suc, List, [], ◌∷◌, ◌++◌, length, take, drop, get_or, refl, sym, ap, ap₂, ◌∙◌, arith, subst, add-one, append-nil}
+use Rattle.std.specs.Prelude.{All}
 use Rattle.std.proofs.lemmas.List.{drop_all, take_all}
 use Rattle.batch.specs.declared.transfer.Transfer.{Transfer}
 use Rattle.module_memory.specs.Lending.{Left, BlockAt}
@@ -36,6 +37,9 @@ AreMovable-at rest batch [] bays i d e a h = absurd (omega arith)
 AreMovable-at rest batch (t ∷ ts) [] i d e a h = absurd a
 AreMovable-at rest batch (t ∷ ts) (b ∷ bs) zero d e a h = a.0
 AreMovable-at rest batch (t ∷ ts) (b ∷ bs) (suc i) d e a h = AreMovable-at rest batch ts bs i d e a.1 (omega arith)
+
+pub AreMovable-known : (rest : Left) (batch : List Transfer) (ts : List ℕ) (bays : List BlockAt) → AreMovable rest batch ts bays → All (λ t. t < length batch) ts
+AreMovable-known rest batch ts bays a = λ i d h. (AreMovable-at rest batch ts bays i d (record { place = record { «module» = 0; block = 0 }; words = [] }) a h).known
 
 pub AreMovable-take : (rest : Left) (batch : List Transfer) (ts : List ℕ) (bays : List BlockAt) (i : ℕ) → AreMovable rest batch ts bays → AreMovable rest batch (take i ts) (take i bays)
 AreMovable-take rest batch [] [] zero a = tt

@@ -155,7 +155,7 @@ fn run_setting_alone<P: ConfigPort, W: WireMaker, G>(
     if let Err(cause) = set_switches(&mut plant.port, shape.modules(), &setting.standing, pairs) {
         return Err(Stop {
             cause,
-            moved: none_moved(setting.numbers),
+            moved: none_moved(setting.batch, setting.numbers),
         });
     }
     let words = shape.words();

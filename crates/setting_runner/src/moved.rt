@@ -5,23 +5,24 @@ ghost use Rattle.std.specs.Slice.Iter.{iter_rest};
 ghost use Rattle.setting_runner.specs.Equal.{same_moved};
 
 use crate::short_list::{Blank, ShortList};
-use batch::MAX_MODULES;
+use batch::{MAX_MODULES, MAX_TRANSFERS, MAX_WORDS};
 use std::marker::Model;
 use std::slice;
 
-impl Blank for (usize, usize) {
+impl Blank for (u16, u16) {
     ghost blank = { (0, 0) };
 
-    fn blank() -> (usize, usize) {
+    fn blank() -> (u16, u16) {
         (0, 0)
     }
 }
 
 /// The transfers of a setting by ascending number, at most one of each module, each with the number of words
-/// that it has moved, from none to those of a block. Contracts see the list.
+/// that it has moved, from none to those of a block. Contracts see the list. It has 136 bytes, since a reply may
+/// be one of these.
 #[derive(Clone, Copy, Debug)]
 pub struct Moved {
-    entries: ShortList<(usize, usize)>,
+    entries: ShortList<(u16, u16)>,
 }
 
 impl Model for Moved {
@@ -61,21 +62,21 @@ impl Moved {
 
     /// The transfer at a position, and how many words it has moved. Nothing where the position isn't below the
     /// number of transfers.
-    pub fn get(&self, i: usize) -> Option<(usize, usize)>
+    pub fn get(&self, i: usize) -> Option<(u16, u16)>
         ensures { result ≡ slice_get self.now i }
     {
         self.as_slice().get(i).copied()
     }
 
     /// The transfers in order, each with the number of words that it has moved.
-    pub fn iter(&self) -> slice::Iter<'_, (usize, usize)>
+    pub fn iter(&self) -> slice::Iter<'_, (u16, u16)>
         ensures { iter_rest result ≡ self.now }
     {
         self.as_slice().iter()
     }
 
     /// The transfers in order, each with the number of words that it has moved.
-    pub fn as_slice(&self) -> &[(usize, usize)]
+    pub fn as_slice(&self) -> &[(u16, u16)]
         ensures entries { result.now ≡ self.now }
         ensures few { length self.now ≤ MAX_MODULES }
     {
@@ -84,10 +85,20 @@ impl Moved {
 
     /// Puts a transfer behind the others.
     pub(crate) fn push(&mut self, transfer: usize, words: usize)
-        requires { length self.old < MAX_MODULES }
+        requires room { length self.old < MAX_MODULES }
+        requires transfer { transfer < MAX_TRANSFERS }
+        requires words { words ≤ MAX_WORDS }
         ensures { self.new ≡ self.old ++ (transfer, words) ∷ [] }
     {
-        self.entries.push((transfer, words));
+        self.push_entry((transfer as u16, words as u16));
+    }
+
+    /// Puts a transfer behind the others, with the words that it has moved.
+    fn push_entry(&mut self, entry: (u16, u16))
+        requires { length self.old < MAX_MODULES }
+        ensures { self.new ≡ self.old ++ entry ∷ [] }
+    {
+        self.entries.push(entry);
     }
 
     /// These transfers, and behind them the others.
@@ -97,7 +108,7 @@ impl Moved {
     {
         let mut all = self;
         for entry in others.as_slice() {
-            all.push(entry.0, entry.1);
+            all.push_entry(*entry);
         }
         all
     }

@@ -1,6 +1,6 @@
 //! One setting of a run.
 
-ghost use Rattle.std.specs.Prelude.{◌≡◌, ◌≤◌, ◌<◌, ℕ, AllPairs, MatchOption, length, MatchResult, OnOk, IfErr, IfSome};
+ghost use Rattle.std.specs.Prelude.{◌≡◌, ◌≤◌, ◌<◌, ℕ, All, AllPairs, MatchOption, length, MatchResult, OnOk, IfErr, IfSome};
 ghost use Rattle.crossbar.specs.Pairs.{ArePairs};
 ghost use Rattle.setting_runner.specs.declared.outcome.StopCause.TheVariants.{Wire};
 ghost use Rattle.setting_runner.specs.Moves.{AreMovable, HaveMoved, none_sure, all_moved, AllWhole};
@@ -81,7 +81,7 @@ pub fn run_setting<R: Threads + Sync, P: ConfigPort, W: WireMaker + Sync, G: Gat
     if let Err(cause) = set_switches(&mut plant.port, shape.modules(), &setting.standing, pairs) {
         return Err(Stop {
             cause,
-            moved: none_moved(setting.numbers),
+            moved: none_moved(setting.batch, setting.numbers),
         });
     }
     let words = shape.words();
@@ -103,10 +103,13 @@ pub fn run_setting<R: Threads + Sync, P: ConfigPort, W: WireMaker + Sync, G: Gat
 }
 
 /// The transfers of a setting of which no word has moved.
-pub(crate) fn none_moved(numbers: &[usize]) -> Moved
-    requires { length numbers.now ≤ MAX_MODULES }
+pub(crate) fn none_moved(batch: &Batch, numbers: &[usize]) -> Moved
+    requires few { length numbers.now ≤ MAX_MODULES }
+    requires known { All (λ t. t < length batch.now) numbers.now }
     ensures { result ≡ all_moved numbers.now 0 }
 {
+    // Asked for its contract alone: no transfer has a greater number.
+    let _few = batch.len();
     let mut moved = Moved::none();
     for t in numbers {
         moved.push(*t, 0);
@@ -122,8 +125,8 @@ pub(crate) fn least_short(moved: &Moved, words: usize) -> Option<usize>
         (λ transfer. IsLeastShort words transfer moved.now) }
 {
     for entry in moved.as_slice() {
-        if entry.1 < words {
-            return Some(entry.0);
+        if usize::from(entry.1) < words {
+            return Some(usize::from(entry.0));
         }
     }
     None

@@ -86,6 +86,8 @@ pub(crate) fn move_in_turn<W: WireMaker, G>(
     ensures { HaveMoved (W.is_sure work.now.wires.now) work.now.rest.now work.now.batch.now
         numbers.now bays.old bays.new result }
 {
+    // Asked for their contracts alone: no transfer has a greater number, and no block more words.
+    let _few = (work.batch.len(), work.rest.shape().words());
     let mut moved = Moved::none();
     for i in 0..numbers.len() {
         let t = numbers[i];

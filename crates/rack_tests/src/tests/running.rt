@@ -66,7 +66,7 @@ pub enum End<'a> {
     /// At its end, with so many settings and words.
     Completed(usize, usize),
     /// In this setting, for this cause, with these transfers, each of which has moved so many words.
-    Stopped(usize, StopCause, &'a [(usize, usize)]),
+    Stopped(usize, StopCause, &'a [(u16, u16)]),
     Refused(RunRefusal),
 }
 

@@ -139,11 +139,11 @@ impl Fault {
     }
 
     /// How many words each transfer of the row has moved then.
-    pub fn words(self, is_wide: bool) -> [usize; 2] {
+    pub fn words(self, is_wide: bool) -> [u16; 2] {
         match (self, self.cause(is_wide)) {
             (_, None) => [2, 2],
-            (Fault::Wire(0, bytes), _) => [bytes / WORD_BYTES, 2],
-            (Fault::Wire(_, bytes), _) => [2, bytes / WORD_BYTES],
+            (Fault::Wire(0, bytes), _) => [words_in(bytes), 2],
+            (Fault::Wire(_, bytes), _) => [2, words_in(bytes)],
             _ => [0, 0],
         }
     }
@@ -154,6 +154,15 @@ impl Fault {
             Fault::Port(bytes) => port.is_set(is_wide) == (bytes >= setting_bytes(is_wide)),
             _ => port.is_set(is_wide),
         }
+    }
+}
+
+/// How many words have moved with so many bytes.
+fn words_in(bytes: usize) -> u16 {
+    match bytes {
+        0..WORD_BYTES => 0,
+        WORD_BYTES..WIRE_BYTES => 1,
+        _ => 2,
     }
 }
 
@@ -182,7 +191,7 @@ fn is_called_for(is_wide: bool, chip: Chip, output: u8, reply: u8) -> bool {
 }
 
 /// The words of block 0 of module 1, where so many were moved.
-pub fn words_of_1(moved: usize) -> &'static [u32] {
+pub fn words_of_1(moved: u16) -> &'static [u32] {
     match moved {
         0 => &[0x0001_0000, 0x0001_0001],
         1 => &[0, 0x0001_0001],
@@ -191,7 +200,7 @@ pub fn words_of_1(moved: usize) -> &'static [u32] {
 }
 
 /// The same of module 2.
-pub fn words_of_2(moved: usize) -> &'static [u32] {
+pub fn words_of_2(moved: u16) -> &'static [u32] {
     match moved {
         0 => &[0x0002_0000, 0x0002_0001],
         1 => &[0x0001_0100, 0x0002_0001],
@@ -200,7 +209,7 @@ pub fn words_of_2(moved: usize) -> &'static [u32] {
 }
 
 /// All blocks of the row's rack, where so many words were moved.
-pub fn blocks_of(words: [usize; 2]) -> [Block<'static>; 6] {
+pub fn blocks_of(words: [u16; 2]) -> [Block<'static>; 6] {
     let [zero, one] = words;
     [
         (0, 0, &[0, 1]),
@@ -213,13 +222,13 @@ pub fn blocks_of(words: [usize; 2]) -> [Block<'static>; 6] {
 }
 
 /// What each transfer has moved.
-pub fn moved_of(words: [usize; 2]) -> [(usize, usize); 2] {
+pub fn moved_of(words: [u16; 2]) -> [(u16, u16); 2] {
     let [zero, one] = words;
     [(0, zero), (1, one)]
 }
 
 /// How the row ends for this cause, or without one.
-pub fn end_of(cause: Option<StopCause>, moved: &[(usize, usize)]) -> End<'_> {
+pub fn end_of(cause: Option<StopCause>, moved: &[(u16, u16)]) -> End<'_> {
     match cause {
         Some(cause) => End::Stopped(0, cause, moved),
         None => End::Completed(1, 4),

@@ -53,7 +53,7 @@ fn cause_text(alloc: Global, cause: StopCause) -> Result<String, AllocError> {
 fn run_text(
     alloc: Global,
     cause: Option<StopCause>,
-    words: [usize; 2],
+    words: [u16; 2],
 ) -> Result<String, AllocError> {
     let Some(cause) = cause else {
         let ran =
@@ -67,7 +67,7 @@ fn run_text(
 }
 
 /// The words of block 0 of module 1, where so many were moved.
-fn first_words(moved: usize) -> &'static str {
+fn first_words(moved: u16) -> &'static str {
     match moved {
         0 => "word 00010000\nword 00010001\n",
         1 => "word 00000000\nword 00010001\n",
@@ -76,7 +76,7 @@ fn first_words(moved: usize) -> &'static str {
 }
 
 /// The same of module 2.
-fn second_words(moved: usize) -> &'static str {
+fn second_words(moved: u16) -> &'static str {
     match moved {
         0 => "word 00020000\nword 00020001\n",
         1 => "word 00010100\nword 00020001\n",

@@ -393,7 +393,7 @@ fn three_stop(
     setting: usize,
     cause: StopCause,
 ) -> Row {
-    let (moved, blocks): (&[(usize, usize)], &[Block<'_>]) = if setting == 0 {
+    let (moved, blocks): (&[(u16, u16)], &[Block<'_>]) = if setting == 0 {
         (
             &[(0, 0), (2, 0)],
             &[

@@ -87,7 +87,7 @@ fn stops<R: AllocGlobal + Threads + Sync>(
     shape: &str,
     text: &str,
     bytes: usize,
-    moved: &[(usize, usize)],
+    moved: &[(u16, u16)],
     blocks: &[(usize, usize, &[u32])],
 ) -> bool {
     let case = Case {

@@ -50,7 +50,7 @@ fn great_numbers(rt: HostRuntime) {
 }
 
 /// Whether a stop of batch 7 in run 2 is told so.
-fn is_stopped(setting: usize, cause: StopCause, moved: &[(usize, usize)], want: &str) -> bool
+fn is_stopped(setting: usize, cause: StopCause, moved: &[(u16, u16)], want: &str) -> bool
     requires { length moved.now ≤ MAX_MODULES }
 {
     let mut line = Line::new();
@@ -72,7 +72,7 @@ fn stops(rt: HostRuntime) {
 
 /// As many transfers with numbers of four digits as a setting may have, of which one has moved no word and the others
 /// a whole block.
-const LONGEST: [(usize, usize); 32] = [
+const LONGEST: [(u16, u16); 32] = [
     (1000, 256),
     (1234, 256),
     (1500, 256),

@@ -3,9 +3,12 @@ use Rattle.std.specs.Prelude.{All, AllPairs}
 use Rattle.setting_runner.specs.Moves.{HaveMoved, none_sure, AllWhole}
 use Rattle.setting_runner.specs.Answers.{IsSetFault}
 use Rattle.setting_runner.specs.Runs.{Given, IsLeastShort}
-use Rattle.setting_runner.proofs.Moves.{HaveMoved-forget, none_have_moved, whole_moves}
+use Rattle.setting_runner.proofs.Moves.{AreMovable-known, HaveMoved-forget, none_have_moved, whole_moves}
 use Rattle.setting_runner.proofs.Causes.{all_zero, set_fault_stops, no_wire, sure_moved, names_moved}
 use Rattle.setting_runner.proofs.alone.run_setting_alone.Goals as goal
+
+pub none_moved-requires-clause-known : goal.none_moved-requires-clause-known
+none_moved-requires-clause-known g c = AreMovable-known _ _ _ _ c.requires.movable
 
 pub returns-in-Err-clause-moved : goal.returns-in-Err-clause-moved
 returns-in-Err-clause-moved g c =

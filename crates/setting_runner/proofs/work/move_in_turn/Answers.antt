@@ -13,6 +13,11 @@ transfer_of-transfer-requires g c =
     let m = AreMovable-at c.args.work.now.rest.now c.args.work.now.batch.now c.args.numbers.now c.args.bays.now c.loop-i.i 0 (record { place = record { «module» = 0; block = 0 }; words = [] }) c.requires.movable c.loop-i-test.true in
     m.known
 
+pub push-requires-clause-transfer : goal.push-requires-clause-transfer
+push-requires-clause-transfer g c =
+    let m = AreMovable-at c.args.work.now.rest.now c.args.work.now.batch.now c.args.numbers.now c.args.bays.now c.loop-i.i 0 (record { place = record { «module» = 0; block = 0 }; words = [] }) c.requires.movable c.loop-i-test.true in
+    omega (arith, m.known, c.len.ensures.batch)
+
 pub bounds-bays-i : goal.bounds-bays-i
 bounds-bays-i g c = omega (arith, AreMovable-length c.args.work.now.rest.now c.args.work.now.batch.now c.args.numbers.now c.args.bays.now c.requires.movable)
 
