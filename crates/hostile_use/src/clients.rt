@@ -11,7 +11,7 @@ use crate::marks::{begin, end};
 use crate::plants::plant_of;
 use batch::Shape;
 use batch_book::{Closed, Seat, Shared, Unclosed};
-use client_session::{ServeFault, serve};
+use client_session::{ServeFault, Unheard, serve};
 use crossbar::MemoryPort;
 use exchange_limits::WorkerCount;
 use module_memory::Rack;
@@ -103,6 +103,7 @@ fn serve_script<L: Ledger, R: AllocGlobal + Eprint + Threads + Wait + Sync>(
         seat,
         &mut reader,
         &mut lines,
+        &mut Unheard,
         workers(),
     );
     let told = Told {

@@ -1,2 +1,1 @@
 pub mod HexWords
-pub mod BatchFaults

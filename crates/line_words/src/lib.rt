@@ -2,9 +2,6 @@
 //!
 //! They are read from the left, each with the rest behind it, and put one behind another into a [`Line`]. Neither
 //! takes memory, so that a reply whose call was made is never lost for want of it.
-//!
-//! The definitions also have the words that are said of a batch text's fault, in a session and by the program: both
-//! cite them.
 #![tactic(auto)]
 
 mod hex;

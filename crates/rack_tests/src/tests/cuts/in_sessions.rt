@@ -8,7 +8,7 @@ use super::faults::{Fault, FaultyPort, blocks_of, count_of_faults, fault_of};
 use crate::tests::common::{marked, two};
 use crate::tests::running::has_blocks;
 use batch_book::{Closed, Seat, Shared};
-use client_session::{ServeFault, serve};
+use client_session::{ServeFault, Unheard, serve};
 use exchange_limits::WorkerCount;
 use module_memory::Rack;
 use peek_poke::FuseWires;
@@ -133,6 +133,7 @@ fn session<L: Ledger, R: AllocGlobal + Threads + Wait + Sync>(
         seat,
         &mut reader,
         &mut told,
+        &mut Unheard,
         WorkerCount::ONE,
     ));
     (

@@ -6,20 +6,23 @@ ghost use Rattle.client_session.specs.Steps.{CanBeTold};
 
 use batch::BatchFault;
 use batch_book::{Reading, Refusal, Reply};
-use client_session::reply_line::{batch_refused, progress, put_stopped, told};
+use client_session::reply_line::{ReplyLine, put_stopped};
 use line_words::Line;
+use refusals::Refusal as Refused;
 use setting_runner::{RunRefusal, StopCause};
 
 /// Whether the reply to a command that names batch 12 is told so.
 fn is_told(reply: Reply, want: &str) -> bool
     requires { CanBeTold reply }
 {
-    told(12, &reply).as_bytes() == want.as_bytes()
+    let mut line = ReplyLine::new();
+    line.tell(12, &reply);
+    line.as_bytes() == want.as_bytes()
 }
 
 /// Whether the fault of a batch text is told so.
 fn is_batch_fault(fault: BatchFault, want: &str) -> bool {
-    batch_refused(fault).as_bytes() == want.as_bytes()
+    Refused::from(fault).line().as_bytes() == want.as_bytes()
 }
 
 /// These have no memory, or a cause that a session doesn't meet.
@@ -46,7 +49,9 @@ fn great_numbers(rt: HostRuntime) {
         run: 65536,
         done: 4096,
     };
-    assert!(rt; progress(reading).as_bytes() == b"progress run 65536 done 4096\n".as_slice());
+    let mut line = ReplyLine::new();
+    line.tell_progress(reading);
+    assert!(rt; line.as_bytes() == b"progress run 65536 done 4096\n".as_slice());
 }
 
 /// Whether a stop of batch 7 in run 2 is told so.

@@ -4,11 +4,13 @@ ghost use Rattle.std.specs.Prelude.{◌≡◌, Some};
 ghost use Rattle.progress_word.specs.declared.limits.TheConstants.{ALL_PARTS};
 ghost use Rattle.client_session.specs.Sessions.{seat_back};
 
+use super::beside::Beside;
 use super::streams::{Listener, Script, Speaker};
 use crate::tests::common::{with_wires, zeros};
 use crate::tests::office::{Pair, close, open_pair};
 use batch_book::{Seat, Shared};
-use client_session::{ServeFault, serve};
+use client_session::{CountedReader, ServeFault, Unheard, serve};
+use contract_data::FailureCount;
 use crossbar::MemoryPort;
 use exchange_limits::WorkerCount;
 use module_memory::Rack;
@@ -56,6 +58,7 @@ fn play<L: Ledger, R: AllocGlobal + Threads + Wait + Sync>(
     let flushed = AtomicUsize::new(0);
     let mut speaker = Speaker::of(script, &flushed);
     let mut listener = Listener::of(script, &flushed);
+    let mut beside = Beside::of(script, &flushed);
     let before = seat.log().len();
     let (seat, fault) = back(serve(
         rt,
@@ -64,10 +67,13 @@ fn play<L: Ledger, R: AllocGlobal + Threads + Wait + Sync>(
         seat,
         &mut speaker,
         &mut listener,
+        &mut beside,
         WorkerCount::ONE,
     ));
     let added = seat.log().len().saturating_sub(before);
-    let is_right = speaker.is_right() && is_heard(&listener, script, fault);
+    let is_right = speaker.is_right()
+        && is_heard(&listener, script, fault)
+        && beside.is_right(script, fault);
     (seat, is_right && added == script.entries)
 }
 
@@ -146,7 +152,7 @@ pub struct Saying<I> {
     pub hears: &'static str,
 }
 
-/// Serves such a client from a seat, which comes back. Whether it hears that.
+/// Serves such a client from a seat, which comes back, over a reader that counts how often it is asked. Whether it hears that.
 fn hear<L: Ledger, R: AllocGlobal + Threads + Wait + Sync, I: Read + Drop>(
     rt: &R,
     shared: &Exchange<L>,
@@ -156,7 +162,11 @@ fn hear<L: Ledger, R: AllocGlobal + Threads + Wait + Sync, I: Read + Drop>(
     requires { seat.exchange ≡ Some shared.now.word }
     ensures { result.0.exchange ≡ seat.exchange }
 {
-    let Saying { mut reader, hears } = client;
+    let Saying { reader, hears } = client;
+    let mut reader = CountedReader {
+        reader,
+        count: FailureCount::zero(),
+    };
     let flushed = AtomicUsize::new(0);
     let mut listener = Listener::of(&Script::of("", hears, 0), &flushed);
     let (seat, fault) = back(serve(
@@ -166,6 +176,7 @@ fn hear<L: Ledger, R: AllocGlobal + Threads + Wait + Sync, I: Read + Drop>(
         seat,
         &mut reader,
         &mut listener,
+        &mut Unheard,
         WorkerCount::ONE,
     ));
     (seat, fault.is_none() && listener.is_right())
