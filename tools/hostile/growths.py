@@ -89,7 +89,7 @@ COMMANDS = [
     ["switch", "three"], ["switch", "three", "--workers", "2"], ["switch", "wide"], ["switch", "wide", "--workers", "2"],
     ["switch", "wrong"], ["switch", "-"],
     # `Schedule::read`, `check_schedule` and `answer_check`.
-    # `settings_enough` and `second_line`.
+    # What `answer_check` finds out of a schedule that it refuses, and `second_line`.
     ["check", "three", "schedule"], ["check", "three", "three"], ["check", "three", "long"], ["check", "-", "schedule"], ["check", "-", "-"],
     # `draw` and `answer_draw`.
     ["draw", "three", "schedule"], ["draw", "three", "three"],
