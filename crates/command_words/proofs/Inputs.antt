@@ -10,9 +10,6 @@ use Rattle.command_words.specs.Jobs.{NameInputOnce, input_name}
 abbrev pub NotBoth : Text → Text → Type 0
 NotBoth name later = name ≡ input_name → later ≢ input_name
 
-pub not_both : (a b : Text) → NameInputOnce (a ∷ b ∷ []) → NotBoth a b
-not_both a b once = once 0 1 a (omega arith) (omega arith)
-
 -- one name more
 pub one_more : (names : List Text) (i : ℕ) (name : Text) → i < length names → name ≡ get_or names i name → NameInputOnce (take i names) → All (λ other. NotBoth other name) (take i names) → NameInputOnce (take (i + 1) names)
 one_more names i name below is once before =

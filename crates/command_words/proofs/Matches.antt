@@ -1,15 +1,15 @@
 -- Clap's matches of the program's words, and what it finds at fault in them.
 use Rattle.std.proofs.Common.{◌≡◌, List, true, refl, ap, sym, ◌∙◌, subst, inl, inr, Result, Ok, Err, IfErr, IsErrAnd}
-use Rattle.std.specs.Prelude.{◌≢◌, OnErr}
-use Rattle.clap.specs.Words.{App, Text, FailsBy, HasKind, HasMatchesOf, IsAmong, fault_of, is_simple, is_simple_and_free, kind_of, subcommand_of, subcommand_rows_of}
+use Rattle.std.specs.Prelude.{◌≢◌}
+use Rattle.clap.specs.Words.{App, Text, FailsBy, HasKind, HasMatchesOf, fault_of, is_simple, is_simple_and_free, kind_of, subcommand_of, subcommand_rows_of}
 use Rattle.clap.specs.declared.error.Error.{Error}
 use Rattle.clap.specs.declared.error.kind.ErrorKind.{ErrorKind}
 use Rattle.clap.specs.declared.error.kind.ErrorKind.TheVariants.{DisplayHelp, DisplayVersion}
 use Rattle.clap.specs.declared.parser.matches.ArgMatches.{ArgMatches}
-use Rattle.command_words.specs.declared.words.Request.{Request}
-use Rattle.command_words.specs.declared.words.WordsFault.{WordsFault}
-use Rattle.command_words.specs.declared.words.WordsFault.TheVariants.{Clap, NoMemory}
-use Rattle.command_words.specs.Jobs.{Holds, IsFaultBy, IsFaultIn, IsMistake, IsTaken, MayBeDone, faults_of}
+use Rattle.command_words.specs.declared.jobs.Request.{Request}
+use Rattle.command_words.specs.declared.jobs.WordsFault.{WordsFault}
+use Rattle.command_words.specs.declared.jobs.WordsFault.TheVariants.{Clap, NoMemory}
+use Rattle.command_words.specs.Jobs.{Holds, IsFaultBy, IsFaultIn, IsMistake, IsOfWords, IsTaken, IsToldOf, MayBeDone, faults_of}
 use Rattle.command_words.specs.Program.{program}
 use Rattle.command_words.proofs.Wanted.{same_done}
 
@@ -39,18 +39,18 @@ passed_up (Err e) P Q made follows = follows e made
 pub told : (words : List Text) (error : Error) (fault : WordsFault) → HasKind (faults_of words) error → IsFaultBy error fault → IsFaultIn words fault
 told words error NoMemory has by = tt
 told words error (Clap e) (inl memory) by = absurd (by.0 memory)
-told words error (Clap e) (inr among) by = inl (subst (λ (x : Error). IsAmong (kind_of x) (faults_of words)) (sym by.1) among)
+told words error (Clap e) (inr among) by =
+    subst (λ (x : Error). IsOfWords x × IsToldOf words x) (sym by.1) (by.0, inl among)
 
 -- an error of another kind than a demand for help tells a mistake
 pub mistaken : (kind : ErrorKind) (error : Error) (fault : WordsFault) → kind_of error ≡ kind → kind ≢ DisplayHelp → kind ≢ DisplayVersion → IsFaultBy error fault → IsMistake fault
 mistaken kind error NoMemory is help version by = tt
-mistaken kind error (Clap e) is help version by = λ asks.
+mistaken kind error (Clap e) is help version by =
     let same : kind_of e ≡ kind = ap kind_of by.1 ∙ is in
-    elim asks [ inl h ↦ help (sym same ∙ h) | inr v ↦ version (sym same ∙ v) ]
+    (subst IsOfWords (sym by.1) by.0, λ asks. elim asks [ inl h ↦ help (sym same ∙ h) | inr v ↦ version (sym same ∙ v) ])
 
 -- a mistake is told of words that fit, where the job that they hold may not be done
-pub declined : (words : List Text) (request : Request) (r : Result Request WordsFault) → IsTaken words → Holds words request → IfErr r IsMistake → OnErr r (MayBeDone request.job → ⊥) → IfErr r (IsFaultIn words)
-declined words request (Ok x) taken holds mistake barred = tt
-declined words request (Err NoMemory) taken holds mistake barred = tt
-declined words request (Err (Clap error)) taken holds mistake barred =
-    inr (taken, mistake, λ other asks. barred (same_done (subcommand_of program words) other request asks.holds holds asks.job))
+pub declined : (words : List Text) (request : Request) (fault : WordsFault) → IsTaken words → Holds words request → IsMistake fault → (MayBeDone request.job → ⊥) → IsFaultIn words fault
+declined words request NoMemory taken holds mistake barred = tt
+declined words request (Clap error) taken holds mistake barred =
+    (mistake.0, inr (taken, mistake, λ other asks. barred (same_done (subcommand_of program words) other request asks.holds holds asks.job)))

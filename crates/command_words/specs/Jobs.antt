@@ -1,21 +1,27 @@
 -- The job that the words of the command line name.
-use Rattle.std.specs.Prelude.{◌≡◌, ◌≢◌, ◌⊎◌, ℕ, ◌≤◌, List, [], ◌∷◌, ◌++◌, Some, None, String, codes, length, map, string_bytes, Bool, true, false, All, AllPairs, option_to_list, IfErr, MatchOption, Result, ⊤}
+use Rattle.std.specs.Prelude.{◌≡◌, ◌≢◌, ◌⊎◌, ℕ, ◌≤◌, List, [], ◌∷◌, ◌++◌, Some, None, String, codes, length, map, string_bytes, Option, Bool, true, false, All, AllPairs, option_to_list, MatchOption, Result, Ok, Err, ⊤}
 use Rattle.std.specs.Str.Parse.{IsNumeral, digits_value, without_leading_plus}
-use Rattle.clap.specs.Words.{Row, Text, Kinds, IsAmong, all_of, fault_of, first_of, one_of, subcommand_of, subcommand_rows_of}
+use Rattle.clap.specs.Words.{Row, Text, Kinds, IsAmong, all_of, fault_of, first_of, found_of, one_of, rows_of, subcommand_of, subcommand_rows_of}
 use Rattle.clap.specs.declared.parser.matches.ArgMatches.{ArgMatches}
 use Rattle.clap.specs.Values.{kind_of}
 use Rattle.clap.specs.declared.error.Error.{Error}
 use Rattle.clap.specs.declared.error.kind.ErrorKind.TheVariants.{DisplayHelp, DisplayVersion, OutOfMemory}
 use Rattle.exchange_limits.specs.declared.limits.TheConstants.{MAX_WORKERS}
 use Rattle.command_words.specs.declared.limits.TheConstants.{MAX_CLIENTS}
-use Rattle.command_words.specs.declared.words.Job.{Job}
-use Rattle.command_words.specs.declared.words.Job.TheVariants.{Plan, Check, Draw, Switch, Direct, Apply, Run, Serve, Host, Talk}
-use Rattle.command_words.specs.declared.words.Request.{Request}
-use Rattle.command_words.specs.declared.words.WordsFault.{WordsFault}
-use Rattle.command_words.specs.declared.words.WordsFault.TheVariants.{Clap, NoMemory}
-use Rattle.command_words.specs.declared.words.Lack.{Lack}
-use Rattle.command_words.specs.declared.words.Lack.TheVariants.{Memory}
-use Rattle.command_words.specs.Program.{program}
+use Rattle.command_words.specs.declared.jobs.Job.{Job}
+use Rattle.command_words.specs.declared.jobs.Job.TheVariants.{Plan, Check, Draw, Switch, Direct, Apply, Run, Serve, Host, Talk}
+use Rattle.command_words.specs.declared.jobs.Request.{Request}
+use Rattle.command_words.specs.declared.jobs.WordsFault.{WordsFault}
+use Rattle.command_words.specs.declared.jobs.WordsFault.TheVariants.{Clap, NoMemory}
+use Rattle.command_words.specs.declared.reading.Lack.{Lack}
+use Rattle.command_words.specs.declared.reading.Lack.TheVariants.{Memory}
+use Rattle.command_words.specs.declared.commands.CommandName.{CommandName}
+use Rattle.command_words.specs.declared.commands.CommandName.TheVariants as name
+use Rattle.command_words.specs.Program.{program, word_of}
+
+-- what clap has found for the words and options of a command
+abbrev pub rows_in : ArgMatches → List Row
+rows_in matches = rows_of (found_of matches)
 
 -- the number that the text of `--workers` reads as
 abbrev pub HasWorkers : List Row → ℕ → Type 0
@@ -24,15 +30,13 @@ HasWorkers rows n =
     × IsNumeral 10 (without_leading_plus text) × (n ≡ digits_value 10 (without_leading_plus text))
     × (1 ≤ n) × (n ≤ MAX_WORKERS)
 
--- the text of a rack's shape
-abbrev pub HasShape : List Row → Text → Type 0
-HasShape rows shape = first_of (codes "SHAPE") rows ≡ Some shape
+-- the text of a word
+abbrev pub HasText : Text → List Row → Text → Type 0
+HasText id rows text = first_of id rows ≡ Some text
 
--- the texts of a batch and of a schedule
-abbrev pub HasTexts : List Row → Text → Text → Type 0
-HasTexts rows batch schedule =
-    (first_of (codes "BATCH") rows ≡ Some batch)
-    × (first_of (codes "SCHEDULE") rows ≡ Some schedule)
+-- the text of an option, where it is there
+abbrev pub HasOption : Text → List Row → Option Text → Type 0
+HasOption id rows text = first_of id rows ≡ text
 
 -- so many clients, or scripts, may be served at once
 abbrev pub CanBeServed : List Text → Type 0
@@ -42,32 +46,39 @@ CanBeServed served = (1 ≤ length served) × (length served ≤ MAX_CLIENTS)
 abbrev pub HasServed : Text → List Row → List Text → Type 0
 HasServed id rows served = (all_of id rows ≡ Some served) × CanBeServed served
 
--- the command by its name, with its texts and its number of workers where it takes one
+-- the command that this word calls, with its texts and its number of workers where it takes one
 abbrev pub IsJob : Text → List Row → Job → Type 0
-IsJob name rows (Plan file workers) =
-    (name ≡ codes "plan") × (first_of (codes "FILE") rows ≡ Some file) × HasWorkers rows workers
-IsJob name rows (Check batch schedule) = (name ≡ codes "check") × HasTexts rows batch schedule
-IsJob name rows (Draw batch schedule settings) =
-    (name ≡ codes "draw") × HasTexts rows batch schedule
-    × (first_of (codes "settings") rows ≡ settings)
-IsJob name rows (Switch batch workers) =
-    (name ≡ codes "switch") × (first_of (codes "BATCH") rows ≡ Some batch) × HasWorkers rows workers
-IsJob name rows (Direct moves) =
-    (name ≡ codes "direct") × (first_of (codes "MOVES") rows ≡ Some moves)
-IsJob name rows (Apply shape batch image workers) =
-    (name ≡ codes "apply") × HasShape rows shape × (first_of (codes "BATCH") rows ≡ Some batch)
-    × (first_of (codes "IMAGE") rows ≡ Some image) × HasWorkers rows workers
-IsJob name rows (Run shape batch image workers) =
-    (name ≡ codes "run") × HasShape rows shape × (first_of (codes "BATCH") rows ≡ Some batch)
-    × (first_of (codes "image") rows ≡ image) × HasWorkers rows workers
-IsJob name rows (Serve shape scripts image workers) =
-    (name ≡ codes "serve") × HasShape rows shape × HasServed (codes "SCRIPT") rows scripts
-    × (first_of (codes "image") rows ≡ image) × HasWorkers rows workers
-IsJob name rows (Host shape clients image workers) =
-    (name ≡ codes "host") × HasShape rows shape × HasServed (codes "CLIENT") rows clients
-    × (first_of (codes "image") rows ≡ image) × HasWorkers rows workers
-IsJob name rows (Talk shape image) =
-    (name ≡ codes "talk") × HasShape rows shape × (first_of (codes "image") rows ≡ image)
+IsJob word rows (Plan file workers) =
+    (word ≡ word_of name.Plan) × HasText (codes "FILE") rows file × HasWorkers rows workers
+IsJob word rows (Check batch schedule) =
+    (word ≡ word_of name.Check) × HasText (codes "BATCH") rows batch
+    × HasText (codes "SCHEDULE") rows schedule
+IsJob word rows (Draw batch schedule settings) =
+    (word ≡ word_of name.Draw) × HasText (codes "BATCH") rows batch
+    × HasText (codes "SCHEDULE") rows schedule × HasOption (codes "settings") rows settings
+IsJob word rows (Switch batch workers) =
+    (word ≡ word_of name.Switch) × HasText (codes "BATCH") rows batch × HasWorkers rows workers
+IsJob word rows (Direct moves) =
+    (word ≡ word_of name.Direct) × HasText (codes "MOVES") rows moves
+IsJob word rows (Apply shape batch image workers) =
+    (word ≡ word_of name.Apply) × HasText (codes "SHAPE") rows shape
+    × HasText (codes "BATCH") rows batch × HasText (codes "IMAGE") rows image
+    × HasWorkers rows workers
+IsJob word rows (Run shape batch image workers) =
+    (word ≡ word_of name.Run) × HasText (codes "SHAPE") rows shape
+    × HasText (codes "BATCH") rows batch × HasOption (codes "image") rows image
+    × HasWorkers rows workers
+IsJob word rows (Serve shape scripts image workers) =
+    (word ≡ word_of name.Serve) × HasText (codes "SHAPE") rows shape
+    × HasServed (codes "SCRIPT") rows scripts × HasOption (codes "image") rows image
+    × HasWorkers rows workers
+IsJob word rows (Host shape clients image workers) =
+    (word ≡ word_of name.Host) × HasText (codes "SHAPE") rows shape
+    × HasServed (codes "CLIENT") rows clients × HasOption (codes "image") rows image
+    × HasWorkers rows workers
+IsJob word rows (Talk shape image) =
+    (word ≡ word_of name.Talk) × HasText (codes "SHAPE") rows shape
+    × HasOption (codes "image") rows image
 
 -- the words as lists of their bytes
 abbrev pub texts_of : {Z : Type 0} → List (String Z) → List Text
@@ -77,15 +88,15 @@ texts_of words = map (λ word. string_bytes word) words
 abbrev pub AreMatchesOf : List Text → ArgMatches → Type 0
 AreMatchesOf words found = subcommand_rows_of found ≡ subcommand_of program words
 
--- whether the rows have `--quiet`
-pub record IsQuiet (rows : List Row) (quiet : Bool) : Type 0 where
-  pub none : one_of (codes "quiet") rows ≡ None → quiet ≡ false
-  pub there : one_of (codes "quiet") rows ≡ Some (codes "true") → quiet ≡ true
-  pub left_out : one_of (codes "quiet") rows ≡ Some (codes "false") → quiet ≡ false
+-- whether an option that has no value is there
+pub record IsFlag (id : Text) (rows : List Row) (there : Bool) : Type 0 where
+  pub none : one_of id rows ≡ None → there ≡ false
+  pub given : one_of id rows ≡ Some (codes "true") → there ≡ true
+  pub left_out : one_of id rows ≡ Some (codes "false") → there ≡ false
 
 -- a command's job, and whether nothing is to be told beside its answer
 abbrev pub IsRequest : Text → List Row → Request → Type 0
-IsRequest name rows request = IsJob name rows request.job × IsQuiet rows request.is_quiet
+IsRequest word rows request = IsJob word rows request.job × IsFlag (codes "quiet") rows request.is_quiet
 
 -- what clap finds in these words
 abbrev pub Holds : List Text → Request → Type 0
@@ -102,16 +113,9 @@ IsTaken words = faults_of words ≡ []
 
 -- as many clients, or scripts, as a job has may be served
 abbrev pub IsWithinLimits : Job → Type 0
-IsWithinLimits (Plan file workers) = ⊤
-IsWithinLimits (Check batch schedule) = ⊤
-IsWithinLimits (Draw batch schedule settings) = ⊤
-IsWithinLimits (Switch batch workers) = ⊤
-IsWithinLimits (Direct moves) = ⊤
-IsWithinLimits (Apply shape batch image workers) = ⊤
-IsWithinLimits (Run shape batch image workers) = ⊤
 IsWithinLimits (Serve shape scripts image workers) = CanBeServed scripts
 IsWithinLimits (Host shape clients image workers) = CanBeServed clients
-IsWithinLimits (Talk shape image) = ⊤
+IsWithinLimits job = ⊤
 
 -- the name of a file that stands for standard input
 abbrev pub input_name : Text
@@ -168,10 +172,14 @@ pub record AskFor (words : List Text) (request : Request) : Type 0 where
 abbrev pub AsksForHelp : Error → Type 0
 AsksForHelp error = (kind_of error ≡ DisplayHelp) ⊎ (kind_of error ≡ DisplayVersion)
 
--- it is a mistake that is told, or lack of memory
+-- the error isn't that there was no memory, so it tells something of the words
+abbrev pub IsOfWords : Error → Type 0
+IsOfWords error = kind_of error ≢ OutOfMemory
+
+-- a mistake in the words is told; or lack of memory, and then nothing is said about them
 abbrev pub IsMistake : WordsFault → Type 0
 IsMistake NoMemory = ⊤
-IsMistake (Clap error) = AsksForHelp error → ⊥
+IsMistake (Clap error) = IsOfWords error × (AsksForHelp error → ⊥)
 
 -- clap's error tells what the grammar finds at fault in the words; or a mistake, where they fit it,
 -- but ask for nothing that may be done
@@ -180,23 +188,20 @@ IsToldOf words error =
     IsAmong (kind_of error) (faults_of words)
     ⊎ (IsTaken words × IsMistake (Clap error) × ((request : Request) → AskFor words request → ⊥))
 
--- why words aren't read: what is at fault in them, or lack of memory
+-- why words aren't read: what is at fault in them; or lack of memory, and then nothing is said about
+-- them. No error of clap is about memory
 abbrev pub IsFaultIn : List Text → WordsFault → Type 0
 IsFaultIn words NoMemory = ⊤
-IsFaultIn words (Clap error) = IsToldOf words error
+IsFaultIn words (Clap error) = IsOfWords error × IsToldOf words error
 
 -- the fault is this error of clap, or lack of memory where that is what it tells
 abbrev pub IsFaultBy : Error → WordsFault → Type 0
 IsFaultBy error NoMemory = kind_of error ≡ OutOfMemory
-IsFaultBy error (Clap told) = (kind_of error ≢ OutOfMemory) × (told ≡ error)
+IsFaultBy error (Clap told) = IsOfWords error × (told ≡ error)
 
--- there is a text of this name
+-- there is a text of this word
 abbrev pub HasWord : Text → List Row → Type 0
-HasWord id rows = (text : Text) × (first_of id rows ≡ Some text)
-
--- there are the texts of a batch and of a schedule
-abbrev pub HasBoth : List Row → Type 0
-HasBoth rows = HasWord (codes "BATCH") rows × HasWord (codes "SCHEDULE") rows
+HasWord id rows = (text : Text) × HasText id rows text
 
 -- there are as many clients, or scripts, as may be served
 abbrev pub HasSomeServed : Text → List Row → Type 0
@@ -206,23 +211,30 @@ HasSomeServed id rows = (served : List Text) × HasServed id rows served
 abbrev pub HasSomeWorkers : List Row → Type 0
 HasSomeWorkers rows = (n : ℕ) × HasWorkers rows n
 
--- there is a text of this name, and a number of workers
-abbrev pub HasWorked : Text → List Row → Type 0
-HasWorked id rows = HasWord id rows × HasSomeWorkers rows
+-- there is what a command wants
+abbrev pub HasWanted : CommandName → List Row → Type 0
+HasWanted name.Plan rows = HasWord (codes "FILE") rows × HasSomeWorkers rows
+HasWanted name.Check rows = HasWord (codes "BATCH") rows × HasWord (codes "SCHEDULE") rows
+HasWanted name.Draw rows = HasWord (codes "BATCH") rows × HasWord (codes "SCHEDULE") rows
+HasWanted name.Switch rows = HasWord (codes "BATCH") rows × HasSomeWorkers rows
+HasWanted name.Direct rows = HasWord (codes "MOVES") rows
+HasWanted name.Apply rows =
+    HasWord (codes "SHAPE") rows × HasWord (codes "BATCH") rows × HasWord (codes "IMAGE") rows
+    × HasSomeWorkers rows
+HasWanted name.Run rows =
+    HasWord (codes "SHAPE") rows × HasWord (codes "BATCH") rows × HasSomeWorkers rows
+HasWanted name.Serve rows =
+    HasWord (codes "SHAPE") rows × HasSomeServed (codes "SCRIPT") rows × HasSomeWorkers rows
+HasWanted name.Host rows =
+    HasWord (codes "SHAPE") rows × HasSomeServed (codes "CLIENT") rows × HasSomeWorkers rows
+HasWanted name.Talk rows = HasWord (codes "SHAPE") rows
 
--- there is what a run over an image wants
-abbrev pub HasApply : List Row → Type 0
-HasApply rows =
-    HasWord (codes "SHAPE") rows × HasWord (codes "BATCH") rows × HasWorked (codes "IMAGE") rows
+-- what is read of the rows: something of which this is so; or what is lacking, which is memory where
+-- there is something to read
+abbrev pub IsRead : {X : Type 0} → (X → Type 0) → Type 0 → Result X Lack → Type 0
+IsRead is there (Ok x) = is x
+IsRead is there (Err lack) = there → lack ≡ Memory
 
--- there is what a run wants
-abbrev pub HasRun : List Row → Type 0
-HasRun rows = HasWord (codes "SHAPE") rows × HasWorked (codes "BATCH") rows
-
--- there is what a server wants, which names those whom it serves by this word
-abbrev pub HasServe : Text → List Row → Type 0
-HasServe id rows = HasWord (codes "SHAPE") rows × HasSomeServed id rows × HasSomeWorkers rows
-
--- where that is so, nothing but memory may be lacking
-abbrev pub LacksMemory : {X : Type 0} → Type 0 → Result X Lack → Type 0
-LacksMemory has result = IfErr result (λ lack. has → lack ≡ Memory)
+-- what is read of them for a command: its job, where there is what the command wants
+abbrev pub IsReadJob : CommandName → List Row → Result Job Lack → Type 0
+IsReadJob name rows = IsRead (IsJob (word_of name) rows) (HasWanted name rows)

@@ -1,12 +1,20 @@
 -- The commands of the program, as clap reads them.
-use Rattle.std.specs.Prelude.{◌≡◌, ℕ, List, [], ◌∷◌, Some, Result, IfOk, codes, pos, true, false}
-use Rattle.clap.specs.Words.{App, Rule, app_of, new_app, new_rule, with_rule, with_subcommand}
+use Rattle.std.specs.Prelude.{◌≡◌, ℕ, List, [], ◌∷◌, Some, codes, pos, true, false}
+use Rattle.std.specs.List.{fold}
+use Rattle.clap.specs.Words.{App, Rule, app_of, new_app, new_rule, rule_of, with_rule, with_subcommand}
+use Rattle.clap.specs.declared.builder.arg.Arg.{Arg}
 use Rattle.clap.specs.declared.builder.command.Command.{Command}
 use Rattle.clap.specs.declared.builder.command.Command.TheViews.{out-Command as fields_of}
 use Rattle.clap.specs.declared.builder.action.ArgAction.TheVariants.{SetTrue}
 use Rattle.clap.specs.declared.builder.value_parser.ValueParser.TheVariants as parser
 use Rattle.exchange_limits.specs.declared.limits.TheConstants.{MAX_WORKERS}
+use Rattle.command_words.specs.declared.commands.Argument.{Argument}
+use Rattle.command_words.specs.declared.commands.Argument.TheVariants as takes
+use Rattle.command_words.specs.declared.commands.CommandName.{CommandName}
+use Rattle.command_words.specs.declared.commands.CommandName.TheVariants.{Plan, Check, Draw, Switch, Direct, Apply, Run, Serve, Host, Talk}
 use Rattle.command_words.specs.declared.limits.TheConstants.{MAX_CLIENTS}
+
+-- ---- what a command takes
 
 -- a word that has to be there
 abbrev pub word : List ℕ → Rule
@@ -18,91 +26,80 @@ words id =
     record (word id)
     { range = Some (record { start_inclusive = 1; end_inclusive = MAX_CLIENTS }) }
 
+-- an option with a value, as `--image FILE`, which may be left out
+abbrev pub option : List ℕ → Rule
+option id = record (new_rule id) { long = Some id; value_names = 1 }
+
 -- `--workers`, at least 1, and 1 where it is left out
 abbrev pub workers : Rule
-workers = record (new_rule (codes "workers")) {
-  long = Some (codes "workers");
-  value_names = 1;
-  defaults = codes "1" ∷ [];
-  parser = Some (parser.Signed (pos 1) (pos MAX_WORKERS));
-}
+workers =
+    record (option (codes "workers")) {
+      defaults = codes "1" ∷ [];
+      parser = Some (parser.Signed (pos 1) (pos MAX_WORKERS));
+    }
 
--- `--image`, which may be left out
-abbrev pub image : Rule
-image = record (new_rule (codes "image")) { long = Some (codes "image"); value_names = 1 }
+-- an option with no value, as `--quiet`, which may be left out
+abbrev pub flag : List ℕ → Rule
+flag id = record (new_rule id) { long = Some id; action = Some SetTrue }
 
--- `--settings`, which may be left out
-abbrev pub settings : Rule
-settings = record (new_rule (codes "settings")) { long = Some (codes "settings"); value_names = 1 }
+-- what clap reads of an argument
+abbrev pub rule_for : Argument → Rule
+rule_for takes.Shape = word (codes "SHAPE")
+rule_for takes.File = word (codes "FILE")
+rule_for takes.Batch = word (codes "BATCH")
+rule_for takes.Schedule = word (codes "SCHEDULE")
+rule_for takes.Moves = word (codes "MOVES")
+rule_for takes.Image = word (codes "IMAGE")
+rule_for takes.Scripts = words (codes "SCRIPT")
+rule_for takes.Clients = words (codes "CLIENT")
+rule_for takes.ImageOption = option (codes "image")
+rule_for takes.Settings = option (codes "settings")
+rule_for takes.Workers = workers
+rule_for takes.Quiet = flag (codes "quiet")
 
--- `--quiet`, which may be left out, and has no value
-abbrev pub quiet : Rule
-quiet = record (new_rule (codes "quiet")) { long = Some (codes "quiet"); action = Some SetTrue }
+-- ---- the commands
 
--- the command with `--quiet`, which each one takes
-abbrev pub or_quiet : App → App
-or_quiet app = with_rule app quiet
+-- all of them, in their order
+abbrev pub commands : List CommandName
+commands =
+    Plan ∷ Check ∷ Draw ∷ Switch ∷ Direct ∷ Apply ∷ Run ∷ Serve ∷ Host ∷ Talk ∷ []
 
--- `plan FILE [--workers N] [--quiet]`
-abbrev pub plan : App
-plan = or_quiet (with_rule (with_rule (new_app (codes "plan")) (word (codes "FILE"))) workers)
+-- the word that calls a command
+abbrev pub word_of : CommandName → List ℕ
+word_of Plan = codes "plan"
+word_of Check = codes "check"
+word_of Draw = codes "draw"
+word_of Switch = codes "switch"
+word_of Direct = codes "direct"
+word_of Apply = codes "apply"
+word_of Run = codes "run"
+word_of Serve = codes "serve"
+word_of Host = codes "host"
+word_of Talk = codes "talk"
 
--- `check BATCH SCHEDULE [--quiet]`
-abbrev pub check : App
-check =
-    or_quiet
-    (with_rule (with_rule (new_app (codes "check")) (word (codes "BATCH"))) (word (codes "SCHEDULE")))
+-- what a command takes, in this order
+abbrev pub arguments_of : CommandName → List Argument
+arguments_of Plan = takes.File ∷ takes.Workers ∷ takes.Quiet ∷ []
+arguments_of Check = takes.Batch ∷ takes.Schedule ∷ takes.Quiet ∷ []
+arguments_of Draw = takes.Batch ∷ takes.Schedule ∷ takes.Settings ∷ takes.Quiet ∷ []
+arguments_of Switch = takes.Batch ∷ takes.Workers ∷ takes.Quiet ∷ []
+arguments_of Direct = takes.Moves ∷ takes.Quiet ∷ []
+arguments_of Apply =
+    takes.Shape ∷ takes.Batch ∷ takes.Image ∷ takes.Workers ∷ takes.Quiet ∷ []
+arguments_of Run = takes.Shape ∷ takes.Batch ∷ takes.ImageOption ∷ takes.Workers ∷ takes.Quiet ∷ []
+arguments_of Serve =
+    takes.Shape ∷ takes.Scripts ∷ takes.ImageOption ∷ takes.Workers ∷ takes.Quiet ∷ []
+arguments_of Host =
+    takes.Shape ∷ takes.Clients ∷ takes.ImageOption ∷ takes.Workers ∷ takes.Quiet ∷ []
+arguments_of Talk = takes.Shape ∷ takes.ImageOption ∷ takes.Quiet ∷ []
 
--- `draw BATCH SCHEDULE [--settings A..B] [--quiet]`
-abbrev pub draw : App
-draw =
-    or_quiet
-    (with_rule
-    (with_rule
-    (with_rule (new_app (codes "draw")) (word (codes "BATCH")))
-    (word (codes "SCHEDULE")))
-    settings)
+-- a command with these arguments more
+abbrev pub with_arguments : App → List Argument → App
+with_arguments = fold (λ app argument. with_rule app (rule_for argument))
 
--- the command with the words of a shape and of a batch
-abbrev pub on_rack : App → App
-on_rack app = with_rule (with_rule app (word (codes "SHAPE"))) (word (codes "BATCH"))
-
--- `apply SHAPE BATCH IMAGE [--workers N] [--quiet]`
-abbrev pub apply : App
-apply =
-    or_quiet (with_rule (with_rule (on_rack (new_app (codes "apply"))) (word (codes "IMAGE"))) workers)
-
--- `run SHAPE BATCH [--image FILE] [--workers N] [--quiet]`
-abbrev pub run : App
-run = or_quiet (with_rule (with_rule (on_rack (new_app (codes "run"))) image) workers)
-
--- the command with a shape, so many clients by this word, `--image`, `--workers` and `--quiet`
-abbrev pub serving : List ℕ → App → App
-serving id app =
-    or_quiet
-    (with_rule
-    (with_rule (with_rule (with_rule app (word (codes "SHAPE"))) (words id)) image)
-    workers)
-
--- `serve SHAPE SCRIPT.. [--image FILE] [--workers N] [--quiet]`
-abbrev pub serve : App
-serve = serving (codes "SCRIPT") (new_app (codes "serve"))
-
--- `host SHAPE CLIENT.. [--image FILE] [--workers N] [--quiet]`
-abbrev pub host : App
-host = serving (codes "CLIENT") (new_app (codes "host"))
-
--- `talk SHAPE [--image FILE] [--quiet]`
-abbrev pub talk : App
-talk = or_quiet (with_rule (with_rule (new_app (codes "talk")) (word (codes "SHAPE"))) image)
-
--- `switch BATCH [--workers N] [--quiet]`
-abbrev pub switch : App
-switch = or_quiet (with_rule (with_rule (new_app (codes "switch")) (word (codes "BATCH"))) workers)
-
--- `direct MOVES [--quiet]`
-abbrev pub direct : App
-direct = or_quiet (with_rule (new_app (codes "direct")) (word (codes "MOVES")))
+-- a command, with what it takes
+abbrev pub command : CommandName → App
+command name = with_arguments (new_app (word_of name)) (arguments_of name)
 
 -- the program's name, which a command has to follow, or `--version`
 abbrev pub top : App
@@ -110,23 +107,20 @@ top =
     let new = new_app (codes "exchange") in
     record new { top = record new.top { subcommand_required = true; has_version = true } }
 
--- the program with the commands that need no rack
-abbrev pub planner : App
-planner =
-    with_subcommand
-    (with_subcommand
-    (with_subcommand (with_subcommand (with_subcommand top plan.top) check.top) draw.top)
-    switch.top)
-    direct.top
+-- one command more below the program
+abbrev pub with_command : App → CommandName → App
+with_command app name = with_subcommand app (command name).top
 
 -- the whole program
 abbrev pub program : App
-program =
-    with_subcommand
-    (with_subcommand
-    (with_subcommand (with_subcommand (with_subcommand planner apply.top) run.top) serve.top)
-    host.top)
-    talk.top
+program = fold with_command top commands
+
+-- ---- clap's arguments and commands
+
+-- clap's argument is this one, and no command below shares it
+pub record IsArgument (wanted : Rule) (arg : Arg) : Type 0 where
+  pub rule : rule_of arg ≡ wanted
+  pub local : arg.global ≡ false
 
 -- the command has no argument that the commands below it share
 abbrev pub IsLocal : Command → Type 0
@@ -136,22 +130,3 @@ IsLocal command = (fields_of command).has_globals ≡ false
 pub record IsCommand (wanted : App) (command : Command) : Type 0 where
   pub app : app_of command ≡ wanted
   pub local : IsLocal command
-
--- one more argument is added to a command, where that could be had
-abbrev pub AddsRule : {E : Type 0} → Result Command E → Rule → Result Command E → Type 0
-AddsRule old rule new = (app : App) → IfOk old (IsCommand app) → IfOk new (IsCommand (with_rule app rule))
-
--- the words of a batch and of a schedule are added to a command, where that could be had
-abbrev pub AddsTexts : {E : Type 0} → Result Command E → Result Command E → Type 0
-AddsTexts old new = (app : App)
-    → IfOk old (IsCommand app)
-    → IfOk new
-    (IsCommand (with_rule (with_rule app (word (codes "BATCH"))) (word (codes "SCHEDULE"))))
-
--- one more command is added below a command, where both could be had
-abbrev pub AddsCommand : {E : Type 0}
-    → Result Command E → Result Command E → Result Command E → Type 0
-AddsCommand old below new = (app added : App)
-    → IfOk old (IsCommand app)
-    → IfOk below (IsCommand added)
-    → IfOk new (IsCommand (with_subcommand app added.top))

@@ -1,8 +1,9 @@
 //! The names of clients.
 
 ghost use Rattle.std.specs.Prelude.{◌≡◌, ◌≢◌, ◌↔◌, All, IsTrue};
-ghost use Rattle.command_words.specs.Jobs.{IsClientName, AreClientNames};
+ghost use Rattle.command_words.specs.Jobs.{AreClientNames, IsClientName, clients_of};
 
+use crate::jobs::Job;
 use crate::text::Text;
 
 /// Whether a client may have this name: it isn't empty, and stands in one line.
@@ -35,4 +36,14 @@ pub(crate) fn are_client_names(names: &[Text]) -> bool
         }
     }
     true
+}
+
+/// Whether a job's clients can be told apart.
+pub(crate) fn names_clients(job: &Job) -> bool
+    ensures { IsTrue result ↔ AreClientNames (clients_of job.now) }
+{
+    match job {
+        Job::Host { clients, .. } => are_client_names(clients.as_slice()),
+        _ => true,
+    }
 }

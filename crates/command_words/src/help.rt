@@ -1,13 +1,41 @@
 //! What the commands say of themselves. Where a text names a limit of batches, racks or workers, rows hold the words, and
 //! what lies on both sides of the limit; how many modules one switch joins is of the chip, and a row holds the words.
 
-/// What `plan --help` says first: an example that works in a clone.
-pub const PLAN_EXAMPLE: &str = "\
-Example:
-  ./exchange plan examples/three-transfers.txt";
+use crate::commands::CommandName;
 
-/// What `plan --help` says below its options.
-pub const PLAN_NOTES: &str = "\
+/// What help says of a command.
+pub(crate) struct CommandHelp {
+    /// What the command is about, in a line.
+    pub(crate) about: &'static str,
+    /// What its help says first: an example that works in a clone.
+    pub(crate) example: &'static str,
+    /// What its help says below its options.
+    pub(crate) notes: &'static str,
+}
+
+/// What help says of a command.
+pub(crate) fn help_of(name: CommandName) -> &'static CommandHelp {
+    match name {
+        CommandName::Plan => &PLAN,
+        CommandName::Check => &CHECK,
+        CommandName::Draw => &DRAW,
+        CommandName::Switch => &SWITCH,
+        CommandName::Direct => &DIRECT,
+        CommandName::Apply => &APPLY,
+        CommandName::Run => &RUN,
+        CommandName::Serve => &SERVE,
+        CommandName::Host => &HOST,
+        CommandName::Talk => &TALK,
+    }
+}
+
+/// What help says of `plan`.
+const PLAN: CommandHelp = CommandHelp {
+    about: "Prints a schedule of a batch: which transfers move in which switch setting",
+    example: "\
+Example:
+  ./exchange plan examples/three-transfers.txt",
+    notes: "\
 FILE is a batch text: the line `batch N`, then N lines of the form
   push I b R c   module I writes its block b into block c of module R
   pull I b R c   module I reads block c of module R into its block b
@@ -31,15 +59,16 @@ answer is what is first wrong, line by line:
   refused count          fewer than N lines follow, or something after them
 
 Status: 0 a schedule was printed, 1 the batch was refused or there was no
-memory, 2 the words fit no command, 3 the answer couldn't be written.";
+memory, 2 the words fit no command, 3 the answer couldn't be written.",
+};
 
-/// What `check --help` says first: an example that works in a clone.
-pub const CHECK_EXAMPLE: &str = "\
+/// What help says of `check`.
+const CHECK: CommandHelp = CommandHelp {
+    about: "Judges a schedule of a batch: whether its certificate shows that none is shorter",
+    example: "\
 Example:
-  ./exchange check examples/three-transfers.txt examples/three-transfers.plan.txt";
-
-/// What `check --help` says below its options.
-pub const CHECK_NOTES: &str = "\
+  ./exchange check examples/three-transfers.txt examples/three-transfers.plan.txt",
+    notes: "\
 BATCH is a batch text and SCHEDULE a schedule text with the certificate part,
 in the form that `exchange plan --help` shows. The certificate depends on the
 batch alone: for a schedule of your own take the last two lines of
@@ -68,15 +97,16 @@ the certificate is missing or wrong, the line on standard error says whether
 the schedule is valid, and if so how many settings are enough.
 
 Status: 0 it is shortest, 1 it was refused or there was no memory, 2 the
-words fit no command, 3 the answer couldn't be written.";
+words fit no command, 3 the answer couldn't be written.",
+};
 
-/// What `draw --help` says first: an example that works in a clone.
-pub const DRAW_EXAMPLE: &str = "\
+/// What help says of `draw`.
+const DRAW: CommandHelp = CommandHelp {
+    about: "Draws a schedule of a batch: a picture in SVG, to be looked at in a browser",
+    example: "\
 Example:
-  ./exchange draw examples/three-transfers.txt examples/three-transfers.plan.txt > schedule.svg";
-
-/// What `draw --help` says below its options.
-pub const DRAW_NOTES: &str = "\
+  ./exchange draw examples/three-transfers.txt examples/three-transfers.plan.txt > schedule.svg",
+    notes: "\
 BATCH is a batch text and SCHEDULE a schedule text, with the certificate part or
 without it, in the form that `exchange plan --help` shows.
 
@@ -103,15 +133,16 @@ Else it is the first of these that is wrong:
   refused no setting K    A..B has K, and SCHEDULE hasn't
 
 Status: 0 a picture was printed, 1 it was refused or there was no memory, 2 the
-words fit no command, 3 the answer couldn't be written.";
+words fit no command, 3 the answer couldn't be written.",
+};
 
-/// What `switch --help` says first: an example that works in a clone.
-pub const SWITCH_EXAMPLE: &str = "\
+/// What help says of `switch`.
+const SWITCH: CommandHelp = CommandHelp {
+    about: "Tells a real switch's bytes: what a run of a batch sends over the configuration link",
+    example: "\
 Example:
-  ./exchange switch examples/two-pushes.txt";
-
-/// What `switch --help` says below its options.
-pub const SWITCH_NOTES: &str = "\
+  ./exchange switch examples/two-pushes.txt",
+    notes: "\
 BATCH is a batch text, in the form that `exchange plan --help` shows.
 
 The answer tells which bytes a run of BATCH sends over the configuration link
@@ -132,15 +163,16 @@ Else it is the first of these that is wrong:
   refused ..     BATCH, as `exchange plan --help` shows
 
 Status: 0 the bytes were printed, 1 the batch was refused or there was no
-memory, 2 the words fit no command, 3 the answer couldn't be written.";
+memory, 2 the words fit no command, 3 the answer couldn't be written.",
+};
 
-/// What `direct --help` says first: an example that works in a clone.
-pub const DIRECT_EXAMPLE: &str = "\
+/// What help says of `direct`.
+const DIRECT: CommandHelp = CommandHelp {
+    about: "Makes a batch of moves: which are pushed and which are pulled, for the fewest settings",
+    example: "\
 Example:
-  ./exchange direct examples/patterns/gather.moves.txt";
-
-/// What `direct --help` says below its options.
-pub const DIRECT_NOTES: &str = "\
+  ./exchange direct examples/patterns/gather.moves.txt",
+    notes: "\
 MOVES is a text of moves: the line `moves N`, then N lines of the form
   move M b N c   block b of module M goes to block c of module N
 with modules from 0 to 31 and blocks from 0 to 63, at most 4096 lines.
@@ -161,15 +193,16 @@ Else it is the first of these that is wrong:
   refused count          fewer than N lines follow, or something after them
 
 Status: 0 a batch was printed, 1 the moves were refused or there was no memory,
-2 the words fit no command, 3 the answer couldn't be written.";
+2 the words fit no command, 3 the answer couldn't be written.",
+};
 
-/// What `apply --help` says first: an example that works in a clone.
-pub const APPLY_EXAMPLE: &str = "\
+/// What help says of `apply`.
+const APPLY: CommandHelp = CommandHelp {
+    about: "Runs a batch over your own words: an image in, the image with the blocks placed out",
+    example: "\
 Example:
-  ./exchange apply 3x2x2 examples/two-pushes.txt examples/before.img > after.img";
-
-/// What `apply --help` says below its options.
-pub const APPLY_NOTES: &str = "\
+  ./exchange apply 3x2x2 examples/two-pushes.txt examples/before.img > after.img",
+    notes: "\
 SHAPE is MxKxW: M modules, from 1 to 32, each of K blocks, from 1 to 64, each
 of W words, from 1 to 256. BATCH is a batch text, in the form that
 `exchange plan --help` shows, with modules below M and blocks below K.
@@ -187,15 +220,16 @@ Else nothing is run, and the answer is the first of these that is wrong:
   refused overlap I J   transfers I and J write one block
 
 Status: 0 the image was printed, 1 it was refused or there was no memory, 2 the
-words fit no command, 3 the answer couldn't be written.";
+words fit no command, 3 the answer couldn't be written.",
+};
 
-/// What `run --help` says first: an example that works in a clone.
-pub const RUN_EXAMPLE: &str = "\
+/// What help says of `run`.
+const RUN: CommandHelp = CommandHelp {
+    about: "Runs a batch on a rack: sets the switches, moves the blocks and reports",
+    example: "\
 Example:
-  ./exchange run 3x2x2 examples/two-pushes.txt";
-
-/// What `run --help` says below its options.
-pub const RUN_NOTES: &str = "\
+  ./exchange run 3x2x2 examples/two-pushes.txt",
+    notes: "\
 SHAPE is MxKxW: M modules, from 1 to 32, each of K blocks, from 1 to 64, each
 of W words, from 1 to 256. BATCH is a batch text, in the form that
 `exchange plan --help` shows, with modules below M and blocks below K.
@@ -218,15 +252,16 @@ several such pairs the one with the smallest I is told, then the smallest J. A
 block may be read and written: moved is what it held before the run.
 
 Status: 0 the batch was run, 1 it was refused or there was no memory, 2 the
-words fit no command, 3 the answer couldn't be written.";
+words fit no command, 3 the answer couldn't be written.",
+};
 
-/// What `serve --help` says first: an example that works in a clone.
-pub const SERVE_EXAMPLE: &str = "\
+/// What help says of `serve`.
+const SERVE: CommandHelp = CommandHelp {
+    about: "Serves scripts side by side on one exchange, and prints the replies to each",
+    example: "\
 Example:
-  ./exchange serve 2x2x2 examples/look.session.txt";
-
-/// What `serve --help` says below its options.
-pub const SERVE_NOTES: &str = "\
+  ./exchange serve 2x2x2 examples/look.session.txt",
+    notes: "\
 SHAPE is MxKxW, in the form that `exchange run --help` shows. Each SCRIPT is a
 file of session lines; 1 to 16 of them are served at once, each in a thread of
 its own where one can be had. They share one exchange: one rack, whose words are
@@ -288,10 +323,13 @@ Else nothing is served, and the answer is the first of these that is wrong:
 
 Status: 0 each session ended with its script or by `bye`, 1 one of them didn't,
 or the logs disagree, or nothing was served, or there was no memory, 2 the words
-fit no command, 3 the answer couldn't be written.";
+fit no command, 3 the answer couldn't be written.",
+};
 
-/// What `host --help` says first: an example of two shells.
-pub const HOST_EXAMPLE: &str = "\
+/// What help says of `host`.
+const HOST: CommandHelp = CommandHelp {
+    about: "Serves live clients side by side on one exchange, each through two pipes of its own",
+    example: "\
 Example: two clients on one rack. Make the pipes, and start the host:
   mkfifo amy.in amy.out bob.in bob.out
   ./exchange host 2x1x2 amy bob
@@ -300,10 +338,8 @@ In a second shell be amy:
   echo 'poke 0 80000800 000000ff' >&3; read reply <&4; echo $reply
   exec 3>&- 4<&-
 which prints `poked`. The last line closes amy's pipes, and her session ends. The
-host waits for bob: be him too, by the same lines with his name, or it waits on.";
-
-/// What `host --help` says below its options.
-pub const HOST_NOTES: &str = "\
+host waits for bob: be him too, by the same lines with his name, or it waits on.",
+    notes: "\
 SHAPE is MxKxW, in the form that `exchange run --help` shows. 1 to 16 clients
 are served at once, each in a thread of its own, on one exchange: one rack,
 whose words are at first 0, or those of the image where there is one. Lines and
@@ -337,16 +373,17 @@ these that is wrong:
 
 Status: 0 each session ended with its CLIENT.in or by `bye`, 1 one of them
 didn't, or the logs disagree, or nobody was served, or there was no memory, 2
-the words fit no command, 3 the answer couldn't be written.";
+the words fit no command, 3 the answer couldn't be written.",
+};
 
-/// What `talk --help` says first: an example that works in a clone.
-pub const TALK_EXAMPLE: &str = "\
+/// What help says of `talk`.
+const TALK: CommandHelp = CommandHelp {
+    about: "Serves you on the terminal: a session of one client, line by line",
+    example: "\
 Example:
   printf 'poke 0 80000800 000000ff\\npeek 0 80000800\\n' | ./exchange talk 1x1x1
-which prints `poked` and `word 000000ff`.";
-
-/// What `talk --help` says below its options.
-pub const TALK_NOTES: &str = "\
+which prints `poked` and `word 000000ff`.",
+    notes: "\
 SHAPE is MxKxW, in the form that `exchange run --help` shows. The words of the
 rack are at first 0, or those of the image where there is one. The session's lines
 are read from standard input, and each is answered on standard output before the
@@ -364,15 +401,16 @@ Else nothing is read, and the answer is the first of these that is wrong:
 
 Status: 0 the session ended with its input or by `bye`, 1 it didn't, or it was
 refused, or there was no memory, 2 the words fit no command, 3 the answer
-couldn't be written.";
+couldn't be written.",
+};
 
-/// What `exchange --help` says first: an example that works in a clone.
-pub const TOP_EXAMPLE: &str = "\
+/// What help says of the program, below the commands too.
+pub(crate) const PROGRAM: CommandHelp = CommandHelp {
+    about: "Plans block transfers between transputer modules that C004 crossbars join",
+    example: "\
 Example:
-  ./exchange run 3x2x2 examples/two-pushes.txt";
-
-/// What `--help` says below the commands.
-pub const TOP_NOTES: &str = "\
+  ./exchange run 3x2x2 examples/two-pushes.txt",
+    notes: "\
 `exchange plan --help` shows the form of a batch. Where a file's name is `-`,
 standard input is read; of a command's files one at most may be that. How many
 modules, blocks and words there may be, `exchange run --help` tells; how many
@@ -385,38 +423,43 @@ command takes --quiet, which leaves the second line out.
 
 Status: 0 the answer is there, 1 a refusal, whose one line says what is wrong,
 or a session that ended badly, 2 the words fit no command, 3 the answer couldn't
-be written.";
+be written.",
+};
+
+/// What is said of the shape of a rack.
+pub(crate) const SHAPE_HELP: &str = "The shape of the rack, as 3x2x2";
 
 /// What is said of a batch's file.
-pub const BATCH_HELP: &str = "The file of the batch, or - for standard input";
+pub(crate) const BATCH_HELP: &str = "The file of the batch, or - for standard input";
 
 /// What is said of a file of moves.
-pub const MOVES_HELP: &str = "The file of the moves, or - for standard input";
+pub(crate) const MOVES_HELP: &str = "The file of the moves, or - for standard input";
 
 /// What is said of a schedule's file.
-pub const SCHEDULE_HELP: &str = "The file of the schedule, or - for standard input";
+pub(crate) const SCHEDULE_HELP: &str = "The file of the schedule, or - for standard input";
 
 /// What is said of `--settings`.
-pub const SETTINGS_HELP: &str = "The settings to draw, A to B, counted from 0";
+pub(crate) const SETTINGS_HELP: &str = "The settings to draw, A to B, counted from 0";
 
 /// What is said of an image's file.
-pub const IMAGE_HELP: &str = "The file of the words before, or - for standard input";
+pub(crate) const IMAGE_HELP: &str = "The file of the words before, or - for standard input";
 
 /// What is said of `--image`.
-pub const WORDS_HELP: &str =
+pub(crate) const IMAGE_OPTION_HELP: &str =
     "The file of the words before, an image as `exchange apply --help` shows";
 
 /// What is said of a script.
-pub const SCRIPT_HELP: &str = "A file of session lines, or - for standard input";
+pub(crate) const SCRIPT_HELP: &str = "A file of session lines, or - for standard input";
 
 /// What is said of a client's name.
-pub const CLIENT_HELP: &str = "The name of a client, whose files are CLIENT.in and CLIENT.out";
+pub(crate) const CLIENT_HELP: &str =
+    "The name of a client, whose files are CLIENT.in and CLIENT.out";
 
 /// What is said of `--workers`.
-pub const WORKERS_HELP: &str = "\
+pub(crate) const WORKERS_HELP: &str = "\
 How many workers there may be, from 1 to 64. One is quickest here:
 wires of this program never wait. More are for wires that do, as an
 emulator's own, through the library";
 
 /// What is said of `--quiet`.
-pub const QUIET_HELP: &str = "Tell nothing on standard error beside a refusal";
+pub(crate) const QUIET_HELP: &str = "Tell nothing on standard error beside a refusal";

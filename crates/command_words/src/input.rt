@@ -1,8 +1,9 @@
 //! Which files are standard input.
 
 ghost use Rattle.std.specs.Prelude.{◌≡◌, ◌≢◌, ◌↔◌, ◌++◌, All, IsTrue, Some, option_to_list};
-ghost use Rattle.command_words.specs.Jobs.{NameInputOnce, input_name};
+ghost use Rattle.command_words.specs.Jobs.{NameInputOnce, files_of, input_name};
 
+use crate::jobs::Job;
 use crate::text::Text;
 
 /// Whether at most one of these names stands for standard input.
@@ -51,4 +52,26 @@ pub(crate) fn name_input_once_behind(first: &Option<Text>, names: &[Text]) -> bo
         return name_no_input(names);
     }
     name_input_once(names)
+}
+
+/// Whether at most one of a job's files is standard input.
+pub(crate) fn reads_input_once(job: &Job) -> bool
+    ensures { IsTrue result ↔ NameInputOnce (files_of job.now) }
+{
+    match job {
+        Job::Plan { .. } => true,
+        Job::Check { batch, schedule } => !(batch.is_input() && schedule.is_input()),
+        Job::Draw {
+            batch,
+            schedule,
+            ..
+        } => !(batch.is_input() && schedule.is_input()),
+        Job::Switch { .. } => true,
+        Job::Direct { .. } => true,
+        Job::Apply { batch, image, .. } => !(batch.is_input() && image.is_input()),
+        Job::Run { batch, image, .. } => !(is_input(image) && batch.is_input()),
+        Job::Serve { scripts, image, .. } => name_input_once_behind(image, scripts.as_slice()),
+        Job::Host { .. } => true,
+        Job::Talk { image, .. } => !is_input(image),
+    }
 }

@@ -2,15 +2,19 @@
 #![tactic(auto)]
 
 mod clients;
+mod commands;
+mod faults;
+mod grammar;
 mod help;
 mod input;
+mod jobs;
 mod limits;
+mod reading;
 mod text;
 mod text_list;
-mod words;
 
-pub use exchange_limits::WorkerCount;
+pub use jobs::{Job, Request, WordsFault};
 pub use limits::MAX_CLIENTS;
+pub use reading::read_words;
 pub use text::Text;
 pub use text_list::TextList;
-pub use words::{Job, Request, WordsFault, read_words};

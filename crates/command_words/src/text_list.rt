@@ -7,9 +7,14 @@ use std::marker::Model;
 
 /// Texts of their own, as words of the command line that stand for one thing each. Contracts see the list of
 /// their bytes.
-#[derive(Drop)]
 pub struct TextList {
     texts: Vec<Text>,
+}
+
+impl Drop for TextList {
+    fn drop(self) {
+        let TextList { texts: _ } = self;
+    }
 }
 
 impl Model for TextList {
@@ -31,27 +36,6 @@ impl TextList {
             list.push(Text::of(alloc, *text)?)?;
         }
         Ok(TextList { texts: list })
-    }
-
-    /// How many texts there are.
-    pub fn len(&self) -> usize
-        ensures { result ≡ length self.now }
-    {
-        self.texts.len()
-    }
-
-    /// Whether there is no text.
-    pub fn is_empty(&self) -> bool
-        ensures { IsTrue result ↔ (self.now ≡ []) }
-    {
-        self.texts.is_empty()
-    }
-
-    /// The text at a place, counted from 0.
-    pub fn get(&self, i: usize) -> Option<&Text>
-        ensures { option_copied result ≡ slice_get self.now i }
-    {
-        self.texts.get(i)
     }
 
     /// The texts, in their order.

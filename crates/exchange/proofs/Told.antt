@@ -5,8 +5,8 @@ use Rattle.std.specs.Global.{Global}
 use Rattle.std.specs.Io.KnownBytes.{Appends}
 use Rattle.std.proofs.KnownBytes.{Appends-nil, Appends-trans}
 use Rattle.plan_answers.specs.Refusals.{Printed}
-use Rattle.command_words.specs.declared.words.Job.TheVariants.{Talk}
-use Rattle.command_words.specs.declared.words.Request.{Request}
+use Rattle.command_words.specs.declared.jobs.Job.TheVariants.{Talk}
+use Rattle.command_words.specs.declared.jobs.Request.{Request}
 use Rattle.refusals.specs.declared.refusal.Refusal.TheVariants as refusal
 use Rattle.refusal_notes.specs.Told.{line_told}
 use Rattle.exchange.specs.declared.unanswered.Unanswered.TheVariants.{File, NoMemory}
@@ -15,8 +15,8 @@ use Rattle.exchange.specs.declared.notes.Missed.{Missed}
 use Rattle.exchange.specs.Responses.{IsSomeTalk, IsToldBy, IsAnswerTo, behind_told, unanswered}
 use Rattle.exchange.specs.Notes.{IsBeside, IsNoteOn, IsNoted, IsToldUnless}
 use Rattle.exchange.specs.Outcomes.{HasNote, IsAnswered, IsMissed}
-use Rattle.command_words.specs.declared.words.WordsFault.{WordsFault}
-use Rattle.command_words.specs.declared.words.WordsFault.TheVariants as words_fault
+use Rattle.command_words.specs.declared.jobs.WordsFault.{WordsFault}
+use Rattle.command_words.specs.declared.jobs.WordsFault.TheVariants as words_fault
 use Rattle.command_words.specs.Jobs.{AskFor, IsFaultIn}
 use Rattle.exchange.specs.declared.limits.TheConstants.{UNWRITTEN}
 use Rattle.exchange.specs.Ends.{Streams, IsDone, IsEndFor, IsEndForWords, IsPrinted, streams_of}

@@ -3,9 +3,9 @@ use Rattle.std.specs.Prelude.{◌≡◌, ◌⊎◌, ℕ, List, [], Option, Resul
 use Rattle.std.specs.Io.KnownBytes.{Appends}
 use Rattle.plan_answers.specs.Refusals.{Printed}
 use Rattle.plan_answers.specs.declared.limits.TheConstants.{DONE}
-use Rattle.command_words.specs.declared.words.Request.{Request}
-use Rattle.command_words.specs.declared.words.WordsFault.{WordsFault}
-use Rattle.command_words.specs.declared.words.WordsFault.TheVariants as words_fault
+use Rattle.command_words.specs.declared.jobs.Request.{Request}
+use Rattle.command_words.specs.declared.jobs.WordsFault.{WordsFault}
+use Rattle.command_words.specs.declared.jobs.WordsFault.TheVariants as words_fault
 use Rattle.command_words.specs.Jobs.{AskFor, AsksForHelp, IsFaultIn}
 use Rattle.exchange.specs.declared.limits.TheConstants.{MISUSED}
 use Rattle.exchange.specs.declared.unanswered.Unanswered.TheVariants.{NoMemory}

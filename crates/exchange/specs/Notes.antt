@@ -3,8 +3,8 @@ use Rattle.std.specs.Prelude.{◌≡◌, ◌≢◌, ◌⊎◌, ◌++◌, ℕ, Bo
 use Rattle.std.specs.Io.KnownBytes.{Appends}
 use Rattle.plan_answers.specs.Refusals.{Printed}
 use Rattle.plan_answers.specs.declared.limits.TheConstants.{REFUSED}
-use Rattle.command_words.specs.declared.words.Job.{Job}
-use Rattle.command_words.specs.declared.words.Request.{Request}
+use Rattle.command_words.specs.declared.jobs.Job.{Job}
+use Rattle.command_words.specs.declared.jobs.Request.{Request}
 use Rattle.refusals.specs.declared.refusal.Refusal.{Refusal}
 use Rattle.refusals.specs.declared.refusal.Refusal.TheVariants.{NoMemory}
 use Rattle.refusals.specs.Refusals.{refusal_line}

@@ -12,8 +12,8 @@ use Rattle.session_answers.specs.Serving.{IsServeAnswer}
 use Rattle.rack_answers.specs.Switching.{IsSwitched}
 use Rattle.session_answers.specs.Talking.{IsTalkAnswer}
 use Rattle.plan_answers.specs.declared.limits.TheConstants.{REFUSED}
-use Rattle.command_words.specs.declared.words.Job.{Job}
-use Rattle.command_words.specs.declared.words.Job.TheVariants.{Plan, Check, Draw, Switch, Direct, Apply, Run, Serve, Host, Talk}
+use Rattle.command_words.specs.declared.jobs.Job.{Job}
+use Rattle.command_words.specs.declared.jobs.Job.TheVariants.{Plan, Check, Draw, Switch, Direct, Apply, Run, Serve, Host, Talk}
 use Rattle.command_words.specs.Jobs.{input_name}
 use Rattle.refusals.specs.declared.refusal.Refusal.{Refusal}
 use Rattle.refusals.specs.declared.refusal.Refusal.TheVariants as refusal

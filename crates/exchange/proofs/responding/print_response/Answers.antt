@@ -1,6 +1,6 @@
 use Rattle.std.proofs.Common.{Err, inl, inr, refl}
 use Rattle.std.proofs.KnownBytes.{Appends-nil}
-use Rattle.command_words.specs.declared.words.WordsFault.TheVariants as words_fault
+use Rattle.command_words.specs.declared.jobs.WordsFault.TheVariants as words_fault
 use Rattle.exchange.proofs.Told.{answered, asked, faulty, not_answered, wordless}
 use Rattle.exchange.proofs.responding.print_response.Goals as goal
 

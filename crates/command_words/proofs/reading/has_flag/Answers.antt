@@ -1,0 +1,13 @@
+use Rattle.std.proofs.Common.{◌∙◌}
+use Rattle.clap.specs.Words.{found_of}
+use Rattle.clap.proofs.WalkLemmas.{one_text-rows}
+use Rattle.command_words.proofs.reading.has_flag.Goals as goal
+
+pub returns : goal.returns
+returns c =
+    let rows = one_text-rows (found_of c.args.matches.now) c.args.id.now in
+    record {
+      none = λ is. c.get_flag.ensures.none (rows ∙ is);
+      given = λ is. c.get_flag.ensures.value (rows ∙ is);
+      left_out = λ is. c.get_flag.ensures.other (rows ∙ is);
+    }

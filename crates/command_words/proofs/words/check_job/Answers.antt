@@ -1,5 +1,0 @@
-use Rattle.std.proofs.Common.{rules}
-use Rattle.command_words.proofs.words.check_job.Goals as goal
-
-pub returns-clause-job : goal.returns-clause-job
-returns-clause-job c = search rules

@@ -1,0 +1,55 @@
+//! The mistakes in words that clap lets through.
+
+ghost use Rattle.std.specs.Prelude.{◌≡◌, ◌≢◌, IfOk};
+ghost use Rattle.clap.specs.declared.error.kind.ErrorKind.TheVariants.{DisplayHelp, DisplayVersion, OutOfMemory};
+ghost use Rattle.clap.specs.Values.{kind_of};
+ghost use Rattle.command_words.specs.Jobs.{IsMistake};
+
+use crate::grammar::program;
+use crate::jobs::WordsFault;
+use clap::error::ErrorKind;
+use std::alloc::{AllocError, Global};
+
+/// The fault of words that clap has let through.
+fn misused(alloc: Global, kind: ErrorKind, message: &str) -> WordsFault
+    ensures { kind ≢ DisplayHelp → kind ≢ DisplayVersion → IsMistake result }
+{
+    match error_of(alloc, kind, message) {
+        Ok(error) => WordsFault::from(error),
+        Err(_) => WordsFault::NoMemory,
+    }
+}
+
+/// Clap's error of this kind.
+fn error_of(alloc: Global, kind: ErrorKind, message: &str) -> Result<clap::Error, AllocError>
+    ensures { IfOk result (λ error. kind_of error ≡ kind) }
+{
+    program(alloc)?.error(kind, message)
+}
+
+/// The fault of a word that is missing.
+pub(crate) fn missing(alloc: Global) -> WordsFault
+    ensures { IsMistake result }
+{
+    misused(
+        alloc,
+        ErrorKind::MissingRequiredArgument,
+        "a word is missing",
+    )
+}
+
+/// The fault of words of which several name standard input.
+pub(crate) fn named_twice(alloc: Global) -> WordsFault
+    ensures { IsMistake result }
+{
+    let message = "standard input, `-`, can be one file only";
+    misused(alloc, ErrorKind::ArgumentConflict, message)
+}
+
+/// The fault of words whose clients can't be told apart, or have a name that is no name.
+pub(crate) fn misnamed(alloc: Global) -> WordsFault
+    ensures { IsMistake result }
+{
+    let message = "a client's name is empty, has a line feed or stands twice";
+    misused(alloc, ErrorKind::ValueValidation, message)
+}

@@ -1,0 +1,163 @@
+//! The commands as clap has them.
+
+ghost use Rattle.std.specs.Prelude.{◌≡◌, IfErr, IfOk, OnOk};
+ghost use Rattle.command_words.specs.Jobs.{AreMatchesOf, IsFaultIn, IsTaken, texts_of};
+ghost use Rattle.clap.specs.Words.{app_of, new_app};
+ghost use Rattle.command_words.specs.Program.{IsArgument, IsCommand, IsLocal, command as command_app, flag, option, program, rule_for, top, with_arguments, with_command, word, words, workers};
+
+use crate::commands::{Argument, CommandName};
+use crate::help::{
+    BATCH_HELP, CLIENT_HELP, CommandHelp, IMAGE_HELP, IMAGE_OPTION_HELP, MOVES_HELP, PROGRAM,
+    QUIET_HELP, SCHEDULE_HELP, SCRIPT_HELP, SETTINGS_HELP, SHAPE_HELP, WORKERS_HELP, help_of,
+};
+use crate::jobs::WordsFault;
+use crate::limits::{MAX_CLIENTS, VERSION};
+use clap::{Arg, ArgAction, ArgMatches, Command, value_parser};
+use exchange_limits::MAX_WORKERS;
+use std::alloc::{AllocError, Global};
+
+/// A word that has to be there.
+fn word<'a>(alloc: Global, id: &'a str, help: &'a str) -> Arg<'a>
+    ensures { IsArgument (word id.entry.now) result }
+{
+    Arg::new(alloc, id).required(true).help(help)
+}
+
+/// From 1 to [`MAX_CLIENTS`] words.
+fn words<'a>(alloc: Global, id: &'a str, help: &'a str) -> Arg<'a>
+    ensures { IsArgument (words id.entry.now) result }
+{
+    word(alloc, id, help).num_args(1..=MAX_CLIENTS)
+}
+
+/// An option with a value, as `--image FILE`.
+fn option<'a>(alloc: Global, id: &'a str, value: &'a str, help: &'a str) -> Arg<'a>
+    ensures { IsArgument (option id.entry.now) result }
+{
+    Arg::new(alloc, id).long(id).value_name(value).help(help)
+}
+
+/// `--workers N`.
+fn workers<'a>(alloc: Global) -> Arg<'a>
+    ensures { IsArgument workers result }
+{
+    option(alloc, "workers", "1..64", WORKERS_HELP)
+        .value_parser(value_parser!(u8).range(1..=MAX_WORKERS as i64))
+        .default_value("1")
+}
+
+/// An option with no value, as `--quiet`.
+fn flag<'a>(alloc: Global, id: &'a str, help: &'a str) -> Arg<'a>
+    ensures { IsArgument (flag id.entry.now) result }
+{
+    Arg::new(alloc, id)
+        .long(id)
+        .action(ArgAction::SetTrue)
+        .help(help)
+}
+
+/// An argument as clap has it.
+fn arg_of<'a>(alloc: Global, argument: Argument) -> Arg<'a>
+    ensures { IsArgument (rule_for argument) result }
+{
+    match argument {
+        Argument::Shape => word(alloc, "SHAPE", SHAPE_HELP),
+        Argument::File => word(alloc, "FILE", BATCH_HELP),
+        Argument::Batch => word(alloc, "BATCH", BATCH_HELP),
+        Argument::Schedule => word(alloc, "SCHEDULE", SCHEDULE_HELP),
+        Argument::Moves => word(alloc, "MOVES", MOVES_HELP),
+        Argument::Image => word(alloc, "IMAGE", IMAGE_HELP),
+        Argument::Scripts => words(alloc, "SCRIPT", SCRIPT_HELP),
+        Argument::Clients => words(alloc, "CLIENT", CLIENT_HELP),
+        Argument::ImageOption => option(alloc, "image", "FILE", IMAGE_OPTION_HELP),
+        Argument::Settings => option(alloc, "settings", "A..B", SETTINGS_HELP),
+        Argument::Workers => workers(alloc),
+        Argument::Quiet => flag(alloc, "quiet", QUIET_HELP),
+    }
+}
+
+/// A command that this word calls, and that takes nothing, with what its help says.
+fn command<'a>(alloc: Global, word: &'a str, help: &CommandHelp) -> Command<'a>
+    ensures { IsCommand (new_app word.entry.now) result }
+{
+    Command::new(alloc, word)
+        .about(help.about)
+        .before_help(help.example)
+        .after_help(help.notes)
+}
+
+/// The command with these arguments, in their order.
+fn with_arguments<'a>(
+    alloc: Global,
+    command: Command<'a>,
+    arguments: &[Argument],
+) -> Result<Command<'a>, AllocError>
+    requires { IsLocal command }
+    ensures { IfOk result (IsCommand (with_arguments (app_of command.entry) arguments.now)) }
+{
+    let mut command = command;
+    for argument in arguments {
+        command = command.arg(arg_of(alloc, *argument))?;
+    }
+    Ok(command)
+}
+
+/// A command as clap has it, with what it takes.
+fn command_of<'a>(alloc: Global, name: CommandName) -> Result<Command<'a>, AllocError>
+    ensures { IfOk result (IsCommand (command_app name)) }
+{
+    let word: &'a str = name.word();
+    let command = command(alloc, word, help_of(name));
+    with_arguments(alloc, command, name.arguments())
+}
+
+/// The program with one command more.
+fn with_command<'a>(
+    alloc: Global,
+    program: Command<'a>,
+    name: CommandName,
+) -> Result<Command<'a>, AllocError>
+    requires { IsLocal program }
+    ensures { IfOk result (IsCommand (with_command (app_of program.entry) name)) }
+{
+    // A `?` would take the program apart here, which makes the proof long; `drop` does it elsewhere.
+    match command_of(alloc, name) {
+        Ok(command) => program.subcommand(command),
+        Err(error) => {
+            drop(program);
+            Err(error)
+        }
+    }
+}
+
+/// The program without its commands.
+fn top<'a>(alloc: Global) -> Command<'a>
+    ensures { IsCommand top result }
+{
+    command(alloc, "exchange", &PROGRAM)
+        .version(VERSION)
+        .subcommand_required(true)
+}
+
+/// The program with all its commands.
+pub(crate) fn program<'a>(alloc: Global) -> Result<Command<'a>, AllocError>
+    ensures { IfOk result (IsCommand program) }
+{
+    let mut program = top(alloc);
+    for name in &CommandName::ALL {
+        program = with_command(alloc, program, *name)?;
+    }
+    Ok(program)
+}
+
+/// The matches of the words.
+pub(crate) fn matches_of<'a>(
+    alloc: Global,
+    words: &'a [String],
+) -> Result<ArgMatches<'a>, WordsFault>
+    ensures matches { IfOk result (AreMatchesOf (texts_of words.entry.now)) }
+    ensures taken { OnOk result (IsTaken (texts_of words.entry.now)) }
+    ensures fault { IfErr result (IsFaultIn (texts_of words.entry.now)) }
+{
+    Ok(program(alloc)?.try_get_matches_from(words)?)
+}

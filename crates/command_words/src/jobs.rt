@@ -1,0 +1,122 @@
+//! What the words of the command line ask for, or why they ask for nothing.
+
+ghost use Rattle.std.specs.Prelude.{◌≡◌};
+ghost use Rattle.command_words.specs.declared.jobs.WordsFault.TheVariants.{NoMemory};
+ghost use Rattle.command_words.specs.Jobs.{IsFaultBy};
+
+use crate::text::Text;
+use crate::text_list::TextList;
+use clap::error::ErrorKind;
+use exchange_limits::WorkerCount;
+use std::alloc::AllocError;
+use thiserror::Error;
+
+/// What the program is to do.
+#[derive(Drop)]
+pub enum Job {
+    /// Plan the batch of a file, with so many workers.
+    Plan {
+        file: Text,
+        workers: WorkerCount,
+    },
+    /// Judge the schedule of a file against the batch of another.
+    Check {
+        batch: Text,
+        schedule: Text,
+    },
+    /// Draw the schedule of a file, which is one of the batch of another, or of its settings those of
+    /// the range.
+    Draw {
+        batch: Text,
+        schedule: Text,
+        settings: Option<Text>,
+    },
+    /// Tell what a run of the batch of a file sends the switches, with so many workers.
+    Switch {
+        batch: Text,
+        workers: WorkerCount,
+    },
+    /// Give the moves of a file directions that need the fewest settings.
+    Direct {
+        moves: Text,
+    },
+    /// Run the batch of a file over the words of an image's file, on a rack of the shape, with so many
+    /// workers.
+    Apply {
+        shape: Text,
+        batch: Text,
+        image: Text,
+        workers: WorkerCount,
+    },
+    /// Run the batch of a file on a rack of the shape, which may begin with the words of an image's
+    /// file, with so many workers.
+    Run {
+        shape: Text,
+        batch: Text,
+        image: Option<Text>,
+        workers: WorkerCount,
+    },
+    /// Serve the scripts of 1 to [`MAX_CLIENTS`](crate::MAX_CLIENTS) files, side by side on one exchange
+    /// with a rack of the shape, which may begin with the words of an image's file, with so many workers.
+    Serve {
+        shape: Text,
+        scripts: TextList,
+        image: Option<Text>,
+        workers: WorkerCount,
+    },
+    /// Serve 1 to [`MAX_CLIENTS`](crate::MAX_CLIENTS) clients of these names while they last, each
+    /// through two files of its own, on one exchange with a rack of the shape, which may begin with the
+    /// words of an image's file, with so many workers.
+    Host {
+        shape: Text,
+        clients: TextList,
+        image: Option<Text>,
+        workers: WorkerCount,
+    },
+    /// Serve one client, which is standard input and output, on an exchange with a rack of the shape,
+    /// which may begin with the words of an image's file.
+    Talk {
+        shape: Text,
+        image: Option<Text>,
+    },
+}
+
+/// What the words of the command line ask for.
+#[derive(Drop)]
+pub struct Request {
+    /// What the program is to do.
+    pub job: Job,
+    /// Whether nothing is to be told on standard error beside a refusal.
+    pub is_quiet: bool,
+}
+
+/// Why the words name no job.
+#[derive(Debug, Drop, Error)]
+pub enum WordsFault {
+    /// They fit no command, or ask for help. The error has the text to print. It never tells of lack of
+    /// memory.
+    #[error("{0}")]
+    Clap(clap::Error),
+    /// There was no memory to read them, and nothing is said about them.
+    #[error("no memory")]
+    NoMemory,
+}
+
+impl From<AllocError> for WordsFault {
+    ghost from_gives = { λ _ fault. fault ≡ NoMemory };
+
+    fn from(_error: AllocError) -> WordsFault {
+        WordsFault::NoMemory
+    }
+}
+
+impl From<clap::Error> for WordsFault {
+    ghost from_gives = { λ error fault. IsFaultBy error fault };
+
+    fn from(error: clap::Error) -> WordsFault {
+        match error.kind() {
+            ErrorKind::OutOfMemory => WordsFault::NoMemory,
+            _ => WordsFault::Clap(error),
+        }
+    }
+}

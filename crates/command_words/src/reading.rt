@@ -1,0 +1,295 @@
+//! From the words to what they ask for, by what clap finds in them.
+
+ghost use Rattle.std.specs.Prelude.{◌≡◌, IfErr, IfOk, OnErr, OnOk};
+ghost use Rattle.command_words.specs.declared.jobs.Job.{Job};
+ghost use Rattle.command_words.specs.declared.jobs.Request.{Request};
+ghost use Rattle.command_words.specs.declared.jobs.WordsFault.TheVariants.{NoMemory};
+ghost use Rattle.command_words.specs.declared.reading.Lack.TheVariants.{Memory};
+ghost use Rattle.command_words.specs.Jobs.{AskFor, HasOption, HasServed, HasSomeServed, HasSomeWorkers, HasText, HasWord, HasWorkers, Holds, IsFaultIn, IsFlag, IsMistake, IsRead, IsReadJob, IsRequest, IsTaken, IsWithinLimits, MayBeDone, rows_in, texts_of};
+
+use crate::clients::names_clients;
+use crate::commands::CommandName;
+use crate::faults::{misnamed, missing, named_twice};
+use crate::grammar::matches_of;
+use crate::input::reads_input_once;
+use crate::jobs::{Job, Request, WordsFault};
+use crate::limits::MAX_CLIENTS;
+use crate::text::Text;
+use crate::text_list::TextList;
+use clap::ArgMatches;
+use exchange_limits::WorkerCount;
+use std::alloc::{AllocError, Global};
+
+/// What a job lacks whose words clap has let through.
+#[derive(Clone, Copy)]
+enum Lack {
+    /// A word that has to be there. Clap has refused such words before.
+    Word,
+    /// Memory.
+    Memory,
+}
+
+impl From<AllocError> for Lack {
+    ghost from_gives = { λ _ lack. lack ≡ Memory };
+
+    fn from(_error: AllocError) -> Lack {
+        Lack::Memory
+    }
+}
+
+/// The fault of what a job lacks.
+fn fault_of(alloc: Global, lack: Lack) -> WordsFault
+    ensures memory { lack ≡ Memory → result ≡ NoMemory }
+    ensures mistake { IsMistake result }
+{
+    match lack {
+        Lack::Word => missing(alloc),
+        Lack::Memory => WordsFault::NoMemory,
+    }
+}
+
+/// The text of a word that has to be there.
+fn text_of(alloc: Global, matches: &ArgMatches<'_>, id: &str) -> Result<Text, Lack>
+    ensures { IsRead (HasText id.now (rows_in matches.now)) (HasWord id.now (rows_in matches.now)) result }
+{
+    match matches.get_str(id) {
+        Some(text) => Ok(Text::of(alloc, text)?),
+        None => Err(Lack::Word),
+    }
+}
+
+/// The text of an option, where it is there.
+fn option_of(alloc: Global, matches: &ArgMatches<'_>, id: &str) -> Result<Option<Text>, AllocError>
+    ensures { IfOk result (HasOption id.now (rows_in matches.now)) }
+{
+    match matches.get_str(id) {
+        Some(text) => Ok(Some(Text::of(alloc, text)?)),
+        None => Ok(None),
+    }
+}
+
+/// The texts of from 1 to [`MAX_CLIENTS`] words.
+fn served_of(alloc: Global, matches: &ArgMatches<'_>, id: &str) -> Result<TextList, Lack>
+    ensures { IsRead (HasServed id.now (rows_in matches.now))
+        (HasSomeServed id.now (rows_in matches.now)) result }
+{
+    match matches.get_strs(id) {
+        Some(texts) if texts.len() >= 1 && texts.len() <= MAX_CLIENTS => Ok(TextList::of(
+            alloc, texts,
+        )?),
+        _ => Err(Lack::Word),
+    }
+}
+
+/// The number of `--workers`.
+fn workers_of(matches: &ArgMatches<'_>) -> Result<WorkerCount, Lack>
+    ensures { IsRead (HasWorkers (rows_in matches.now)) (HasSomeWorkers (rows_in matches.now)) result }
+{
+    let Some(number) = matches.get_one::<usize>("workers") else {
+        return Err(Lack::Word);
+    };
+    WorkerCount::new(number).ok_or(Lack::Word)
+}
+
+/// Whether an option that has no value is there.
+fn has_flag(matches: &ArgMatches<'_>, id: &str) -> bool
+    ensures { IsFlag id.now (rows_in matches.now) result }
+{
+    matches.get_flag(id)
+}
+
+/// The job of `plan`.
+fn plan_job(alloc: Global, found: &ArgMatches<'_>) -> Result<Job, Lack>
+    ensures { IsReadJob CommandName.Plan (rows_in found.now) result }
+{
+    Ok(Job::Plan {
+        file: text_of(alloc, found, "FILE")?,
+        workers: workers_of(found)?,
+    })
+}
+
+/// The job of `check`.
+fn check_job(alloc: Global, found: &ArgMatches<'_>) -> Result<Job, Lack>
+    ensures { IsReadJob CommandName.Check (rows_in found.now) result }
+{
+    Ok(Job::Check {
+        batch: text_of(alloc, found, "BATCH")?,
+        schedule: text_of(alloc, found, "SCHEDULE")?,
+    })
+}
+
+/// The job of `draw`.
+fn draw_job(alloc: Global, found: &ArgMatches<'_>) -> Result<Job, Lack>
+    ensures { IsReadJob CommandName.Draw (rows_in found.now) result }
+{
+    Ok(Job::Draw {
+        batch: text_of(alloc, found, "BATCH")?,
+        schedule: text_of(alloc, found, "SCHEDULE")?,
+        settings: option_of(alloc, found, "settings")?,
+    })
+}
+
+/// The job of `switch`.
+fn switch_job(alloc: Global, found: &ArgMatches<'_>) -> Result<Job, Lack>
+    ensures { IsReadJob CommandName.Switch (rows_in found.now) result }
+{
+    Ok(Job::Switch {
+        batch: text_of(alloc, found, "BATCH")?,
+        workers: workers_of(found)?,
+    })
+}
+
+/// The job of `direct`.
+fn direct_job(alloc: Global, found: &ArgMatches<'_>) -> Result<Job, Lack>
+    ensures { IsReadJob CommandName.Direct (rows_in found.now) result }
+{
+    Ok(Job::Direct {
+        moves: text_of(alloc, found, "MOVES")?,
+    })
+}
+
+/// The job of `apply`.
+fn apply_job(alloc: Global, found: &ArgMatches<'_>) -> Result<Job, Lack>
+    ensures { IsReadJob CommandName.Apply (rows_in found.now) result }
+{
+    Ok(Job::Apply {
+        shape: text_of(alloc, found, "SHAPE")?,
+        batch: text_of(alloc, found, "BATCH")?,
+        image: text_of(alloc, found, "IMAGE")?,
+        workers: workers_of(found)?,
+    })
+}
+
+/// The job of `run`.
+fn run_job(alloc: Global, found: &ArgMatches<'_>) -> Result<Job, Lack>
+    ensures { IsReadJob CommandName.Run (rows_in found.now) result }
+{
+    Ok(Job::Run {
+        shape: text_of(alloc, found, "SHAPE")?,
+        batch: text_of(alloc, found, "BATCH")?,
+        image: option_of(alloc, found, "image")?,
+        workers: workers_of(found)?,
+    })
+}
+
+/// The job of `serve`.
+fn serve_job(alloc: Global, found: &ArgMatches<'_>) -> Result<Job, Lack>
+    ensures { IsReadJob CommandName.Serve (rows_in found.now) result }
+{
+    Ok(Job::Serve {
+        shape: text_of(alloc, found, "SHAPE")?,
+        scripts: served_of(alloc, found, "SCRIPT")?,
+        image: option_of(alloc, found, "image")?,
+        workers: workers_of(found)?,
+    })
+}
+
+/// The job of `host`.
+fn host_job(alloc: Global, found: &ArgMatches<'_>) -> Result<Job, Lack>
+    ensures { IsReadJob CommandName.Host (rows_in found.now) result }
+{
+    Ok(Job::Host {
+        shape: text_of(alloc, found, "SHAPE")?,
+        clients: served_of(alloc, found, "CLIENT")?,
+        image: option_of(alloc, found, "image")?,
+        workers: workers_of(found)?,
+    })
+}
+
+/// The job of `talk`.
+fn talk_job(alloc: Global, found: &ArgMatches<'_>) -> Result<Job, Lack>
+    ensures { IsReadJob CommandName.Talk (rows_in found.now) result }
+{
+    Ok(Job::Talk {
+        shape: text_of(alloc, found, "SHAPE")?,
+        image: option_of(alloc, found, "image")?,
+    })
+}
+
+/// The job of a command by its matches.
+fn job_of(alloc: Global, name: CommandName, found: &ArgMatches<'_>) -> Result<Job, Lack>
+    ensures { IsReadJob name (rows_in found.now) result }
+{
+    match name {
+        CommandName::Plan => plan_job(alloc, found),
+        CommandName::Check => check_job(alloc, found),
+        CommandName::Draw => draw_job(alloc, found),
+        CommandName::Switch => switch_job(alloc, found),
+        CommandName::Direct => direct_job(alloc, found),
+        CommandName::Apply => apply_job(alloc, found),
+        CommandName::Run => run_job(alloc, found),
+        CommandName::Serve => serve_job(alloc, found),
+        CommandName::Host => host_job(alloc, found),
+        CommandName::Talk => talk_job(alloc, found),
+    }
+}
+
+/// The job of the command that this word calls, by its matches, and whether it is quiet.
+fn request_of(alloc: Global, word: &str, found: &ArgMatches<'_>) -> Result<Request, Lack>
+    ensures request { IfOk result (IsRequest word.now (rows_in found.now)) }
+    ensures lack { IfErr result (λ lack. (request : Request) →
+        IsRequest word.now (rows_in found.now) request → lack ≡ Memory) }
+{
+    let Some(name) = CommandName::of(word) else {
+        return Err(Lack::Word);
+    };
+    Ok(Request {
+        job: job_of(alloc, name, found)?,
+        is_quiet: has_flag(found, "quiet"),
+    })
+}
+
+/// What the words ask for, whatever files it names.
+fn request_named(alloc: Global, words: &[String]) -> Result<Request, WordsFault>
+    ensures taken { OnOk result (IsTaken (texts_of words.now)) }
+    ensures request { IfOk result (Holds (texts_of words.now)) }
+    ensures fault { IfErr result (IsFaultIn (texts_of words.now)) }
+{
+    let matches = matches_of(alloc, words)?;
+    match matches.subcommand() {
+        Some((word, found)) => match request_of(alloc, word, found) {
+            Ok(request) => Ok(request),
+            Err(lack) => Err(fault_of(alloc, lack)),
+        },
+        None => Err(missing(alloc)),
+    }
+}
+
+/// Whether a job may be done: its fault, where several of its files are standard input, or its clients
+/// can't be told apart.
+fn judged(alloc: Global, job: &Job) -> Result<(), WordsFault>
+    ensures done { OnOk result (MayBeDone job.now) }
+    ensures refused { OnErr result (MayBeDone job.now → ⊥) }
+    ensures mistake { IfErr result IsMistake }
+{
+    if !reads_input_once(job) {
+        return Err(named_twice(alloc));
+    }
+    if !names_clients(job) {
+        return Err(misnamed(alloc));
+    }
+    Ok(())
+}
+
+/// Reads the program's words, the first of which is its own name.
+///
+/// Gives what clap finds in words that fit the program's grammar: the command's job, with its texts and its number
+/// of workers, and whether it is quiet. Other words are clap's error of what is at fault in them, which holds the
+/// text to print; a demand for help or for the program's version is one. So are words that fit, but name a job of
+/// which several files are `-`, standard input, or clients whose names are no names. Where there was no memory,
+/// nothing is said about the words: clap's error of that kind is [`WordsFault::NoMemory`], too.
+pub fn read_words(alloc: Global, words: &[String]) -> Result<Request, WordsFault>
+    ensures request { IfOk result (AskFor (texts_of words.now)) }
+    ensures limits { IfOk result (λ request. IsWithinLimits request.job) }
+    ensures fault { IfErr result (IsFaultIn (texts_of words.now)) }
+{
+    let request = request_named(alloc, words)?;
+    // A `?` would take a refused request apart here, which makes the proof long; `drop` does it elsewhere.
+    match judged(alloc, &request.job) {
+        Ok(()) => Ok(request),
+        Err(fault) => {
+            drop(request);
+            Err(fault)
+        }
+    }
+}
