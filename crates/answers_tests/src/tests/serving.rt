@@ -1,7 +1,7 @@
 //! How the end of a session is framed.
 
-use session_answers::push_end;
 use client_session::ServeFault;
+use session_answers::push_end;
 use std::alloc::Global;
 
 /// Whether this is put behind what a session was told, where the fault ended it.
