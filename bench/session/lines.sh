@@ -7,8 +7,8 @@
 #
 # Needs valgrind and python3. Build the program first: ./exchange prove
 set -eu
-LINE=4700
-CALL=1550
+LINE=2950
+CALL=720
 here=$(cd "$(dirname "${BASH_SOURCE[0]}")" && pwd)
 . "$here/../copy.sh"
 program=$here/../../crates/exchange/out/exchange
