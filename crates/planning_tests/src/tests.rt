@@ -11,4 +11,5 @@ mod planning;
 mod prints;
 mod schedule_certificate_rows;
 mod schedule_picture_rows;
+mod steady_schedule_rows;
 mod texts;

@@ -1,5 +1,5 @@
 -- As many settings as the busiest link has transfers are the fewest, and each schedule with a certificate has just so many.
-use Rattle.std.proofs.Common.{◌≡◌, ℕ, ◌<◌, ◌≤◌, List, [], ◌∷◌, length, All, Option, Some, None, refl, sym, ap, arith, inl, inr}
+use Rattle.std.proofs.Common.{◌≡◌, ℕ, ◌≤◌, List, [], ◌∷◌, length, All, Option, Some, None, sym, arith, inl, inr}
 use Rattle.std.specs.Prelude.{sum_by, Contains}
 use Rattle.std.specs.List.{AllByRecursion}
 use Rattle.std.proofs.lemmas.Bool.{cases_lt}
@@ -9,9 +9,9 @@ use Rattle.batch.proofs.Lists.{at_cons}
 use Rattle.batch.specs.declared.transfer.Transfer.{Transfer}
 use Rattle.link_graph.specs.declared.link.Link.{Link}
 use Rattle.link_graph.specs.Uses.{Uses}
-use Rattle.link_graph.specs.Counts.{uses, AreUsers, IsBusiest}
+use Rattle.link_graph.specs.Counts.{uses, AreUsers}
 use Rattle.link_graph.specs.Schedules.{IsScheduleOf}
-use Rattle.link_graph.specs.Certificates.{AreDistinct, Naming, CertifiesBy, IsCertified}
+use Rattle.link_graph.specs.Certificates.{AreDistinct, CertifiesBy}
 use Rattle.link_graph.proofs.Koenig.{at_least}
 use Rattle.link_graph.proofs.Once.{standings, once_from_distinct, stands_from_count}
 use Rattle.link_graph.proofs.Sums.{hit, hit_same, swap, sum_at_most}

@@ -1,5 +1,5 @@
 -- A schedule with its certificate has one verdict.
-use Rattle.std.proofs.Common.{◌≡◌, ℕ, ◌<◌, List, Option, Some, None, refl, sym, ap, ◌∙◌, arith, inl, inr, ◌⊎◌}
+use Rattle.std.proofs.Common.{◌≡◌, ℕ, List, Option, Some, None, refl, sym, ap, ◌∙◌, arith, inl, inr, ◌⊎◌}
 use Rattle.std.proofs.lemmas.Bool.{cases_lt}
 use Rattle.batch.specs.declared.transfer.Transfer.{Transfer}
 use Rattle.link_graph.specs.declared.link.End.{End}
@@ -12,7 +12,7 @@ use Rattle.link_graph.proofs.Users.{made}
 use Rattle.schedule_picture.specs.declared.verdict.Standing.{Standing}
 use Rattle.schedule_picture.specs.declared.verdict.Standing.TheVariants.{Certified, Wrong, Missing}
 use Rattle.schedule_picture.specs.declared.verdict.Verdict.{Verdict}
-use Rattle.schedule_picture.specs.Verdicts.{IsBusiestOf, uses_of, IsStanding, link_named, IsVerdict}
+use Rattle.schedule_picture.specs.Verdicts.{IsBusiestOf, uses_of, IsStanding, link_named, AreMostPartners, IsVerdict}
 use Rattle.schedule_picture.proofs.Fewest.{unused}
 
 -- of two links one stands before the other, or they are one
@@ -53,6 +53,9 @@ same_standing batch settings (Some named) Wrong Wrong p q = refl
 same_standing batch settings (Some named) Wrong Missing p q = absurd q
 same_standing batch settings (Some named) Missing t p q = absurd p
 
+same_most : (batch : List Transfer) (m n : ℕ) → AreMostPartners batch m → AreMostPartners batch n → m ≡ n
+same_most batch m n p q = omega (arith, p.has, q.has, p.most q.link, q.most p.link)
+
 pub one_verdict : (batch : List Transfer) (settings : List (List ℕ)) (certificate : Option Naming) (v w : Verdict) → IsVerdict batch settings certificate v → IsVerdict batch settings certificate w → v ≡ w
 one_verdict batch settings certificate v w p q =
     let link : p.link ≡ q.link = same_link batch p.link q.link p.most q.most in
@@ -60,5 +63,11 @@ one_verdict batch settings certificate v w p q =
     let fewest : v.fewest ≡ w.fewest = p.fewest ∙ ap (uses_of batch) link ∙ sym q.fewest in
     let busiest : v.busiest ≡ w.busiest =
     p.busiest ∙ ap (λ (l : Option Link). link_named l v.standing certificate) link ∙ ap (λ (s : Standing). link_named q.link s certificate) standing ∙ sym q.busiest in
-    let all : ℕ → Option Link → Standing → Verdict = λ f l s. record { fewest = f; busiest = l; standing = s } in
-    ap (λ (f : ℕ). all f v.busiest v.standing) fewest ∙ ap (λ (l : Option Link). all w.fewest l v.standing) busiest ∙ ap (all w.fewest w.busiest) standing
+    let changes : v.changes ≡ w.changes = p.counted ∙ sym q.counted in
+    let partners : v.partners ≡ w.partners = same_most batch v.partners w.partners p.needed q.needed in
+    let all : ℕ → Option Link → Standing → ℕ → ℕ → Verdict = λ f l s c n. record { fewest = f; busiest = l; standing = s; changes = c; partners = n } in
+    ap (λ (f : ℕ). all f v.busiest v.standing v.changes v.partners) fewest
+    ∙ ap (λ (l : Option Link). all w.fewest l v.standing v.changes v.partners) busiest
+    ∙ ap (λ (s : Standing). all w.fewest w.busiest s v.changes v.partners) standing
+    ∙ ap (λ (c : ℕ). all w.fewest w.busiest w.standing c v.partners) changes
+    ∙ ap (all w.fewest w.busiest w.standing w.changes) partners

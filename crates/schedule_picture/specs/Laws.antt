@@ -1,11 +1,13 @@
 -- No cell of a picture hides another, and each stands where it can be seen. The number of settings
--- that it tells as enough is that of each schedule with a certificate.
+-- that it tells as enough is that of each schedule with a certificate. No schedule has fewer
+-- changes of the switch than it tells as the fewest.
 use Rattle.std.specs.Prelude.{ℕ, ◌≡◌, ◌<◌, ◌≤◌, ◌+◌, ◌/◌, List, Option, Some, length, slice_get}
 use Rattle.batch.specs.declared.transfer.Transfer.{Transfer}
 use Rattle.batch.specs.Batches.{IsBatch}
 use Rattle.link_graph.specs.declared.link.End.{End}
 use Rattle.link_graph.specs.Schedules.{IsScheduleOf}
 use Rattle.link_graph.specs.Certificates.{Naming, IsCertified}
+use Rattle.steady_schedule.specs.Changes.{changes}
 use Rattle.schedule_picture.specs.declared.layout.TheConstants.{TOP, PANEL, LABELS, COLUMN, HALF, CELL_WIDTH, CELL_HEIGHT}
 use Rattle.schedule_picture.specs.declared.shown.Shown.{Shown}
 use Rattle.schedule_picture.specs.declared.verdict.Verdict.{Verdict}
@@ -75,3 +77,10 @@ TellsFewest =
     (batch : List Transfer) (settings : List (List ℕ)) (certificate : Option Naming)
     (verdict : Verdict) → IsVerdict batch settings certificate verdict
     → AreFewest batch verdict.fewest
+
+-- each schedule of the batch changes the switch at least as often as a verdict tells partners
+abbrev pub TellsNeededChanges : Type 0
+TellsNeededChanges =
+    (batch : List Transfer) (settings other : List (List ℕ)) (certificate : Option Naming)
+    (verdict : Verdict) → IsVerdict batch settings certificate verdict
+    → IsScheduleOf batch other → verdict.partners ≤ changes batch other

@@ -27,6 +27,12 @@ heading_text transfers settings fewest =
     codes "transfers " ++ decimal transfers ++ codes ", settings " ++ decimal settings
     ++ length_words settings fewest
 
+-- `changes N`, and `, the fewest` where a link has as many partners
+unfoldable pub changes_words : ℕ → ℕ → List ℕ
+changes_words changes partners =
+    codes "changes " ++ decimal changes
+    ++ (if changes == partners then codes ", the fewest" else [])
+
 -- `busiest link E module M`, or `busiest none` where no link is named
 abbrev pub busiest_words : Option Link → List ℕ
 busiest_words None = codes "busiest none"
@@ -46,10 +52,12 @@ shown_words settings shown =
     else codes ", shown " ++ decimal shown.first ++ codes " to "
     ++ decimal (shown.first + shown.count - 1)
 
--- what stands below the heading
+-- what stands below the heading: how often the switch changes, the busiest link, how the
+-- certificate stands, and which settings are shown
 unfoldable pub note_text : ℕ → Verdict → Shown → List ℕ
 note_text settings verdict shown =
-    busiest_words verdict.busiest ++ standing_words verdict.standing ++ shown_words settings shown
+    changes_words verdict.changes verdict.partners ++ codes ", " ++ busiest_words verdict.busiest
+    ++ standing_words verdict.standing ++ shown_words settings shown
 
 -- the looks of everything
 unfoldable pub style_text : List ℕ

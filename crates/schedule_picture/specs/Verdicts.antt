@@ -1,10 +1,13 @@
 -- What is known of how many settings a schedule has: how many the busiest link wants, and whether a
--- certificate shows that no schedule is shorter.
-use Rattle.std.specs.Prelude.{◌≡◌, ℕ, List, [], Option, Some, None}
+-- certificate shows that no schedule is shorter. And of how often it changes the switch: how often
+-- that is, and how often any schedule of the batch has to.
+use Rattle.std.specs.Prelude.{◌≡◌, ℕ, ◌≤◌, List, [], Option, Some, None}
 use Rattle.batch.specs.declared.transfer.Transfer.{Transfer}
 use Rattle.link_graph.specs.declared.link.Link.{Link}
 use Rattle.link_graph.specs.Counts.{uses, IsBusiest}
 use Rattle.link_graph.specs.Certificates.{Naming, IsCertificate}
+use Rattle.steady_schedule.specs.Changes.{changes}
+use Rattle.steady_schedule.specs.Partners.{partners}
 use Rattle.schedule_picture.specs.declared.verdict.Standing.{Standing}
 use Rattle.schedule_picture.specs.declared.verdict.Standing.TheVariants.{Certified, Wrong, Missing}
 use Rattle.schedule_picture.specs.declared.verdict.Verdict.{Verdict}
@@ -37,6 +40,12 @@ link_named busiest Certified None = busiest
 link_named busiest Wrong certificate = busiest
 link_named busiest Missing certificate = busiest
 
+-- Some link has so many partners, and none has more. Where there is no transfer, these are 0.
+pub record AreMostPartners (batch : List Transfer) (count : ℕ) : Type 0 where
+  pub link : Link
+  pub has : partners batch link ≡ count
+  pub most : (other : Link) → partners batch other ≤ count
+
 -- what is known of a schedule of the batch, with the certificate that it has
 pub record IsVerdict (batch : List Transfer) (settings : List (List ℕ))
     (certificate : Option Naming) (verdict : Verdict) : Type 0 where
@@ -45,3 +54,5 @@ pub record IsVerdict (batch : List Transfer) (settings : List (List ℕ))
   pub fewest : verdict.fewest ≡ uses_of batch link
   pub standing : IsStanding batch settings certificate verdict.standing
   pub busiest : verdict.busiest ≡ link_named link verdict.standing certificate
+  pub counted : verdict.changes ≡ changes batch settings
+  pub needed : AreMostPartners batch verdict.partners

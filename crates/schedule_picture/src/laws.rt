@@ -1,6 +1,6 @@
 //! Laws of pictures. They do nothing.
 
-ghost use Rattle.schedule_picture.specs.Laws.{NothingOverlaps, AllIsInView, TellsFewest};
+ghost use Rattle.schedule_picture.specs.Laws.{NothingOverlaps, AllIsInView, TellsFewest, TellsNeededChanges};
 
 /// In the picture of a schedule no cell lies over another, not even in part.
 pub fn nothing_overlaps()
@@ -17,4 +17,10 @@ pub fn all_is_in_view()
 /// has a certificate, as a plan has, has just so many.
 pub fn tells_fewest()
     ensures { TellsFewest }
+{}
+
+/// As many changes as a verdict tells partners are the fewest: no schedule of the batch, of
+/// whatever length, changes the switch less often.
+pub fn tells_needed_changes()
+    ensures { TellsNeededChanges }
 {}

@@ -4,7 +4,7 @@ ghost use Rattle.std.specs.Prelude.{◌≡◌, ◌<◌, ◌≤◌, ◌+◌, All,
 ghost use Rattle.batch.specs.Text.{IsNumber};
 ghost use Rattle.link_graph.specs.Schedules.{IsScheduleOf};
 ghost use Rattle.schedule_picture.specs.Elements.{Adds};
-ghost use Rattle.schedule_picture.specs.Picture.{busiest_words, length_words, heading_text, standing_words, shown_words, note_text, size_text, ground_text, title_part, caption_part, opening_text, rows_text, columns_text, closing_text, picture_of};
+ghost use Rattle.schedule_picture.specs.Picture.{changes_words, busiest_words, length_words, heading_text, standing_words, shown_words, note_text, size_text, ground_text, title_part, caption_part, opening_text, rows_text, columns_text, closing_text, picture_of};
 
 use crate::cells::push_column;
 use crate::elements::push_link;
@@ -45,6 +45,17 @@ fn push_heading(
     push_length(text, settings, fewest)
 }
 
+/// Puts at the end of the text how often the schedule changes the switch, and whether that is the
+/// fewest times, since a link has as many partners.
+fn push_changes(text: &mut String, changes: usize, partners: usize) -> Result<(), AllocError>
+    ensures { OnOk result (Adds text.old text.new (changes_words changes partners)) }
+{
+    if changes == partners {
+        return write!(text, "changes {changes}, the fewest");
+    }
+    write!(text, "changes {changes}")
+}
+
 /// Puts the name of the busiest link at the end of the text.
 fn push_busiest(text: &mut String, busiest: Option<Link>) -> Result<(), AllocError>
     ensures { OnOk result (Adds text.old text.new (busiest_words busiest)) }
@@ -83,8 +94,8 @@ fn push_shown(text: &mut String, settings: usize, shown: Shown) -> Result<(), Al
     write!(text, ", shown {first} to {last}")
 }
 
-/// Puts at the end of the text what stands below the heading: the busiest link, how the certificate
-/// stands, and which settings are shown.
+/// Puts at the end of the text what stands below the heading: how often the switch changes, the
+/// busiest link, how the certificate stands, and which settings are shown.
 fn push_note(
     text: &mut String,
     settings: usize,
@@ -94,6 +105,8 @@ fn push_note(
     requires { IsNumber (shown.first + shown.count) }
     ensures { OnOk result (Adds text.old text.new (note_text settings verdict shown)) }
 {
+    push_changes(text, verdict.changes, verdict.partners)?;
+    text.push_str(", ")?;
     push_busiest(text, verdict.busiest)?;
     text.push_str(standing_word(verdict.standing))?;
     push_shown(text, settings, shown)

@@ -33,7 +33,7 @@ svg{background:#111}\n\
 </style>\n\
 ";
 
-/// What the picture's signs mean.
+/// What the picture's signs and words mean.
 pub const EXPLAINED: &str = "\
 <g class='lane'><rect y='8' width='32' height='20'/></g><rect class='m1' x='2' y='10' \
 width='28' height='16'/>\n\
@@ -46,4 +46,6 @@ width='28' height='16'/>\n\
 link. No two of its transfers share a setting, so it wants a setting for each.</text>\n\
 <text class='note' y='78'>Columns are settings of the switch. In a module's row, link 0 \
 above starts transfers, and link 3 below answers them.</text>\n\
+<text class='note' y='96'>Changes: settings that join other pairs of links than the one \
+before. A link needs one for each of its partners.</text>\n\
 ";

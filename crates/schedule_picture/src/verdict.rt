@@ -1,15 +1,16 @@
-//! What is known of how many settings a schedule has.
+//! What is known of how many settings a schedule has, and of how often it changes the switch.
 
 ghost use Rattle.std.specs.Prelude.{◌≡◌, ◌≢◌, IfOk, IfErr, OnOk};
 ghost use Rattle.std.specs.Option.{option_copied};
 ghost use Rattle.link_graph.specs.declared.check_fault.CheckFault.TheVariants.{NoMemory};
 ghost use Rattle.link_graph.specs.Schedules.{IsScheduleOf};
 ghost use Rattle.link_graph.specs.Checks.{IsSettingsFault};
-ghost use Rattle.schedule_picture.specs.Verdicts.{uses_of, link_named, IsProofOf, IsVerdict};
+ghost use Rattle.schedule_picture.specs.Verdicts.{uses_of, link_named, IsProofOf, IsStanding, AreMostPartners, IsVerdict};
 
 use batch::Batch;
 use link_graph::{Certificate, CheckFault, Link, LinkGraph, Schedule, check_schedule};
 use std::alloc::Global;
+use steady_schedule::{count_changes, most_partners};
 
 /// Whether a schedule has a certificate, and whether that shows that no schedule is shorter.
 #[derive(Clone, Copy, Debug, PartialEq, Eq)]
@@ -22,7 +23,7 @@ pub enum Standing {
     Missing,
 }
 
-/// What is known of how many settings a schedule has.
+/// What is known of how many settings a schedule has, and of how often it changes the switch.
 #[derive(Clone, Copy, Debug, PartialEq, Eq)]
 pub struct Verdict {
     /// How many transfers the busiest link has. No schedule of the batch has fewer settings.
@@ -31,10 +32,16 @@ pub struct Verdict {
     pub busiest: Option<Link>,
     /// How the certificate stands.
     pub standing: Standing,
+    /// How often the schedule changes the switch: for its first setting, and for each that doesn't
+    /// join the same pairs of modules as the one before.
+    pub changes: usize,
+    /// How many partners a link has at most: links with which it shares transfers. No schedule of
+    /// the batch changes the switch less often. 0 where there is no transfer.
+    pub partners: usize,
 }
 
-/// Whether the certificate of a schedule of the batch shows that none is shorter.
-fn standing_of(
+/// Whether a certificate shows that no schedule of the batch is shorter than this one.
+fn standing_by(
     alloc: Global,
     batch: &Batch,
     schedule: &Schedule,
@@ -53,6 +60,29 @@ fn standing_of(
             | CheckFault::NotTight(_, _),
         ) => Ok(Standing::Wrong),
         Err(fault) => Err(fault),
+    }
+}
+
+/// How the certificate of a schedule of the batch stands, where it has one, or what is first wrong
+/// with its settings.
+fn standing_of(
+    alloc: Global,
+    batch: &Batch,
+    schedule: &Schedule,
+    certificate: Option<&Certificate>,
+) -> Result<Standing, CheckFault>
+    ensures schedule { OnOk result (IsScheduleOf batch.now schedule.now) }
+    ensures standing { IfOk result
+        (IsStanding batch.now schedule.now (option_copied certificate.entry)) }
+    ensures fault { IfErr result (λ fault. fault ≢ NoMemory
+        → IsSettingsFault batch.now schedule.now fault) }
+{
+    match certificate {
+        Some(certificate) => standing_by(alloc, batch, schedule, certificate),
+        None => {
+            standing_by(alloc, batch, schedule, &Certificate::none())?;
+            Ok(Standing::Missing)
+        }
     }
 }
 
@@ -80,6 +110,16 @@ fn named_or(
     }
 }
 
+/// How many partners a link has at most.
+fn partners(graph: &LinkGraph) -> usize
+    ensures { AreMostPartners graph.now result }
+{
+    match most_partners(graph) {
+        None => 0,
+        Some((_, partners)) => partners,
+    }
+}
+
 /// The verdict on a schedule of the batch, with the certificate that it has, or what is first wrong with
 /// its settings.
 ///
@@ -98,18 +138,14 @@ pub fn verdict_on(
     ensures fault { IfErr result (λ fault. fault ≢ NoMemory
         → IsSettingsFault batch.now schedule.now fault) }
 {
-    let standing = match certificate {
-        Some(certificate) => standing_of(alloc, batch, schedule, certificate)?,
-        None => {
-            standing_of(alloc, batch, schedule, &Certificate::none())?;
-            Standing::Missing
-        }
-    };
+    let standing = standing_of(alloc, batch, schedule, certificate)?;
     let graph = LinkGraph::of(batch)?;
     let busiest = graph.busiest();
     Ok(Verdict {
         fewest: uses(&graph, busiest),
         busiest: named_or(busiest, standing, certificate),
         standing,
+        changes: count_changes(&graph, schedule),
+        partners: partners(&graph),
     })
 }

@@ -14,4 +14,5 @@ pub mod Steps
 pub mod Slots
 pub mod Potential
 pub mod Heads
+pub mod Needs
 pub mod Plans

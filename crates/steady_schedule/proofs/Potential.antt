@@ -38,7 +38,7 @@ low_most m n k l w h = elim (cases_lt m k) [
 
 module _ (totals old new : List ℕ) (zeros threes : List (Option ℕ)) (m : AreMatched zeros threes) (most k : ℕ) (taken : AreTaken zeros k MAX_MODULES old new) (h : HaveMost old most) (can : CanHold old zeros threes most k) where
   -- a link that is full is joined
-  full_joined : (end : End) (x : ℕ) → x < MAX_MODULES → waiting old end x ≡ most → waiting new end x + k ≡ waiting old end x
+  pub full_joined : (end : End) (x : ℕ) → x < MAX_MODULES → waiting old end x ≡ most → waiting new end x + k ≡ waiting old end x
   full_joined end x x_in full = elim (waits_now zeros threes m k old new taken most h can end x x_in) [
     | inl less ↦ less
     | inr same ↦ absurd (omega (arith, same.1, full, can.some))

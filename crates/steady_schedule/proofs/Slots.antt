@@ -403,13 +403,13 @@ module _ (batch : List Transfer) (totals left slots numbers : List ℕ) (setting
   }
 
   -- just the pairs that have a number of slots have one of transfers
-  joins_from : (d u v : ℕ) → JoinsAs batch numbers d u v → HasNumber totals left slots d u v
+  pub joins_from : (d u v : ℕ) → JoinsAs batch numbers d u v → HasNumber totals left slots d u v
   joins_from d u v j =
       let is = own_written j.t j.x j.here in
       let at = read.at j.t j.x (slice_get_within batch j.t j.x j.here) j.here in
       subst (λ (a : ℕ). HasNumber totals left slots d a v) j.zero_is (subst (λ (b : ℕ). HasNumber totals left slots d j.x.initiator b) j.three_is (behind j.t j.x.initiator j.x.responder, is, sym at ∙ j.number))
 
-  joins_to_number : (d u v : ℕ) → HasNumber totals left slots d u v → JoinsAs batch numbers d u v
+  pub joins_to_number : (d u v : ℕ) → HasNumber totals left slots d u v → JoinsAs batch numbers d u v
   joins_to_number d u v has =
       let is = has.1 in
       let f = find_behind batch u v has.0 (omega (arith, is.there, counted.at u v is.zero_in is.three_in)) in

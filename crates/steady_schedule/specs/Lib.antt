@@ -1,5 +1,6 @@
 pub mod Changes
 pub mod Masks
+pub mod Needs
 pub mod Partners
 pub mod Plans
 pub mod Joined

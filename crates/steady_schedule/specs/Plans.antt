@@ -1,12 +1,14 @@
 -- Steady plans: a shortest schedule of a batch, how often it changes the switch, and how often any
 -- schedule has to.
-use Rattle.std.specs.Prelude.{◌≡◌, ◌<◌, ℕ, List, [], length, All, AllPairs, Option, Some, None}
+use Rattle.std.specs.Prelude.{◌≡◌, ◌<◌, ◌≤◌, ℕ, List, [], length, All, AllPairs, Option, Some, None}
 use Rattle.batch.specs.declared.transfer.Transfer.{Transfer}
 use Rattle.link_graph.specs.declared.link.Link.{Link}
 use Rattle.link_graph.specs.Counts.{uses, AreUsers, IsBusiest}
 use Rattle.link_graph.specs.Schedules.{IsScheduleOf}
 use Rattle.link_graph.specs.Certificates.{Naming, IsCertificate}
+use Rattle.steady_schedule.specs.Bounds.{most_changes}
 use Rattle.steady_schedule.specs.Changes.{changes}
+use Rattle.steady_schedule.specs.Needs.{ChangesAtNeed}
 use Rattle.steady_schedule.specs.Partners.{partners, HasMostPartners}
 
 -- a batch, the settings of a schedule, what its certificate names, how often it changes the switch,
@@ -41,12 +43,16 @@ IsDemanding batch None = batch ≡ []
 IsDemanding batch (Some (link, count)) =
     HasMostPartners batch link × (count ≡ partners batch link)
 
--- A schedule of the batch, whose certificate shows that it is shortest. No setting is empty, numbers
--- ascend in each, the changes are counted, and the link has the most partners.
+-- A schedule of the batch, whose certificate shows that it is shortest, by the busiest link. No
+-- setting is empty, and numbers ascend in each. The changes are counted, few, and behind the first
+-- setting only where something is over. The link has the most partners.
 pub record IsSteady (plan : SteadyPlan) : Type 0 where
   pub schedule : IsScheduleOf plan.batch plan.settings
   pub certificate : IsCertificate plan.batch plan.settings plan.named
+  pub busiest : NamesBusiest plan.batch plan.named.link plan.named.transfers
   pub none_empty : All (λ setting. 0 < length setting) plan.settings
   pub ascending : All (AllPairs (λ t u. t < u)) plan.settings
   pub counted : plan.changes ≡ changes plan.batch plan.settings
+  pub few : plan.changes ≤ most_changes plan.batch
+  pub at_need : ChangesAtNeed plan.batch plan.settings
   pub demands : IsDemanding plan.batch plan.demanding

@@ -3,9 +3,12 @@
 use Rattle.std.specs.Prelude.{◌≡◌, ◌≢◌, ◌↔◌, Contains, ℕ, ◌+◌, ◌-◌, ◌*◌, ◌<◌, ◌≤◌, ◌⊎◌, List, length, Option, Some, slice_get, slice_index, set, drop}
 use Rattle.batch.specs.declared.limits.TheConstants.{MAX_MODULES, MAX_TRANSFERS}
 use Rattle.batch.specs.declared.transfer.Transfer.{Transfer}
-use Rattle.link_graph.specs.Uses.{AreApart}
+use Rattle.link_graph.specs.declared.link.End.{End}
+use Rattle.link_graph.specs.declared.link.End.TheVariants.{Zero, Three}
+use Rattle.link_graph.specs.declared.link.Link.{Link}
+use Rattle.link_graph.specs.Uses.{Uses, AreApart}
 use Rattle.steady_schedule.specs.Matchings.{partner}
-use Rattle.steady_schedule.specs.Waiting.{sum_below, pair_count, place_of, count_at}
+use Rattle.steady_schedule.specs.Waiting.{sum_below, pair_count, place_of, count_at, waiting}
 
 -- where the slots of each place begin, and how many slots there are
 pub record AreStarts (totals starts : List ℕ) (room : ℕ) : Type 0 where
@@ -80,6 +83,30 @@ pub record AreFewSteps (totals left slots : List ℕ) (next spare most : ℕ) : 
   pub few : length heads + spare ≤ most
   pub steps : AreSteps totals left slots next heads
 
+-- some pair of the link has the number d
+abbrev pub LinkHas : List ℕ → List ℕ → List ℕ → ℕ → End → ℕ → Type 0
+LinkHas totals left slots d Zero m = (v : ℕ) × HasNumber totals left slots d m v
+LinkHas totals left slots d Three m = (u : ℕ) × HasNumber totals left slots d u m
+
+-- Something is over with the number d: a pair that has it has no later one, and nothing of it
+-- waits; or a link that hasn't it has each later one, and as many transfers wait as settings are
+-- left.
+pub data IsOverAt (totals left slots : List ℕ) (settings next d : ℕ) : Type 0 where
+  pair_done : (u v : ℕ) → HasNumber totals left slots d u v
+      → ((e : ℕ) → d < e → HasNumber totals left slots e u v → ⊥) → count_at left u v ≡ 0
+      → IsOverAt totals left slots settings next d
+  link_needed : (end : End) (m : ℕ) → m < MAX_MODULES → (LinkHas totals left slots d end m → ⊥)
+      → ((e : ℕ) → d < e → e < next → LinkHas totals left slots e end m)
+      → waiting left end m + next ≡ settings → IsOverAt totals left slots settings next d
+
+-- behind each number but the last of all there is one that the same pairs have, or something is
+-- over
+abbrev pub AreAtNeed : List ℕ → List ℕ → List ℕ → ℕ → ℕ → Type 0
+AreAtNeed totals left slots settings next =
+    (d : ℕ) → d < next → d + 1 < settings
+    → ((d + 1 < next) × HaveSame totals left slots d (d + 1))
+    ⊎ IsOverAt totals left slots settings next d
+
 -- the numbers from `first` on are written into k slots, the first of them last
 pub record AreWritten (at first k : ℕ) (old new : List ℕ) : Type 0 where
   pub sized : length new ≡ length old
@@ -137,3 +164,26 @@ pub record HaveHeads (batch : List Transfer) (settings most : ℕ) (numbers : Li
   pub few : length heads ≤ most
   pub same : (d : ℕ) → d < settings → Contains heads d
       ⊎ ((0 < d) × ((u v : ℕ) → JoinsAs batch numbers (d - 1) u v ↔ JoinsAs batch numbers d u v))
+
+-- a transfer that uses the link has the number d
+pub record UsesAs (batch : List Transfer) (numbers : List ℕ) (d : ℕ) (link : Link) : Type 0 where
+  pub t : ℕ
+  pub used : Uses batch t link
+  pub number : slice_index numbers t ≡ d
+
+-- Something is over with the number d: a pair that has it has no later one, or a link that hasn't
+-- it has each later one.
+pub data IsOverAs (batch : List Transfer) (settings : ℕ) (numbers : List ℕ) (d : ℕ) : Type 0 where
+  pair_done : (u v : ℕ) → JoinsAs batch numbers d u v
+      → ((e : ℕ) → d < e → JoinsAs batch numbers e u v → ⊥)
+      → IsOverAs batch settings numbers d
+  link_needed : (link : Link) → (UsesAs batch numbers d link → ⊥)
+      → ((e : ℕ) → d < e → e < settings → UsesAs batch numbers e link)
+      → IsOverAs batch settings numbers d
+
+-- each number has the pairs of the one behind it, or something is over with it
+abbrev pub HaveNeeds : List Transfer → ℕ → List ℕ → Type 0
+HaveNeeds batch settings numbers =
+    (d : ℕ) → d + 1 < settings
+    → ((u v : ℕ) → JoinsAs batch numbers d u v ↔ JoinsAs batch numbers (d + 1) u v)
+    ⊎ IsOverAs batch settings numbers d

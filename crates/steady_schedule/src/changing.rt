@@ -29,9 +29,10 @@ fn joined_in(graph: &LinkGraph, setting: &[usize]) -> Joined
     joined
 }
 
-/// How often the schedule changes the switch. Takes time that grows with the numbers of transfers and
-/// of settings.
-pub(crate) fn count_changes(graph: &LinkGraph, schedule: &Schedule) -> usize
+/// How often a schedule of the batch changes the switch: for its first setting, and for each that
+/// doesn't join the same pairs of modules as the one before. So at most once for each setting.
+/// Takes time that grows with the numbers of transfers and of settings.
+pub fn count_changes(graph: &LinkGraph, schedule: &Schedule) -> usize
     requires { IsScheduleOf graph.now schedule.now }
     ensures { result ≡ changes graph.now schedule.now }
 {

@@ -8,7 +8,7 @@ ghost use Rattle.link_graph.specs.Counts.{uses};
 ghost use Rattle.steady_schedule.specs.Matchings.{partner};
 ghost use Rattle.steady_schedule.specs.Bounds.{most_changes, IsReachedBy};
 ghost use Rattle.steady_schedule.specs.Potentials.{potential, IsReached};
-ghost use Rattle.steady_schedule.specs.Slots.{slot, AreStarts, AreWithin, IsHeld, IsHeldAs, AreNumbered, AreNumberedFrom, KeepNumbers, AreFewSteps, AreWritten, AreReadTo, AreProper, HaveHeads};
+ghost use Rattle.steady_schedule.specs.Slots.{slot, AreStarts, AreWithin, IsHeld, IsHeldAs, AreNumbered, AreNumberedFrom, KeepNumbers, AreFewSteps, AreWritten, AreReadTo, AreProper, HaveHeads, AreAtNeed, HaveNeeds};
 ghost use Rattle.steady_schedule.specs.Steps.{AreTaken};
 ghost use Rattle.steady_schedule.specs.Waiting.{sum_below, place_of, count_at, AreCounted, HaveMost};
 
@@ -137,6 +137,7 @@ fn fill(left: &mut Left, places: &Places, slots: &mut [usize], settings: usize)
     ensures numbered { AreNumbered places.now.totals left.new.counts slots.new settings }
     ensures steps { AreFewSteps places.now.totals left.new.counts slots.new settings 0
         (potential places.now.totals left.old.counts settings) }
+    ensures needs { AreAtNeed places.now.totals left.new.counts slots.new settings settings }
 {
     let mut matching = Matching::none();
     let mut first = 0;
@@ -214,6 +215,7 @@ fn number_by(
     ensures proper { IfOk result (λ numbers. AreProper graph.now settings numbers.items) }
     ensures heads { IfOk result (λ numbers.
         HaveHeads graph.now settings (most_changes graph.now) numbers.items) }
+    ensures needs { IfOk result (λ numbers. HaveNeeds graph.now settings numbers.items) }
 {
     fill(left, places, slots, settings);
     read_all(alloc, graph, places, slots)
@@ -233,6 +235,7 @@ pub(crate) fn number_all(
     ensures proper { IfOk result (λ numbers. AreProper graph.now settings numbers.items) }
     ensures heads { IfOk result (λ numbers.
         HaveHeads graph.now settings (most_changes graph.now) numbers.items) }
+    ensures needs { IfOk result (λ numbers. HaveNeeds graph.now settings numbers.items) }
 {
     let mut left = Left::of(graph);
     let places = Places::of(&left.counts);

@@ -70,9 +70,12 @@ fn link_at(index: usize) -> Link
     }
 }
 
-/// The link that has the most partners, and how many it has. Takes time that grows with the number of
-/// transfers.
-pub(crate) fn most_partners(graph: &LinkGraph) -> Option<(Link, usize)>
+/// The first of the links that have the most partners, and how many these are. Partners of a link
+/// are the links with which it shares transfers, at most one of each module. Any schedule of the
+/// batch changes the switch at least so often, by
+/// [`partners_need_changes`](crate::laws::partners_need_changes). An empty batch has none. Takes
+/// time that grows with the number of transfers.
+pub fn most_partners(graph: &LinkGraph) -> Option<(Link, usize)>
     ensures { IsDemanding graph.now result }
 {
     prove!(graph.len() <= MAX_TRANSFERS);

@@ -4,10 +4,13 @@ ghost use Rattle.steady_schedule.specs.Plans.{steady_plan, IsSteady};
 use link_graph::{Certificate, Link, LinkGraph, Schedule};
 use std::marker::Model;
 
-/// A shortest schedule of a batch that changes the switch seldom, with its certificate, and a link that
-/// shows how many changes any schedule needs.
+/// A shortest schedule of a batch with its certificate, how often it changes the switch, and a link
+/// that shows how many changes any schedule needs.
 ///
-/// No setting is empty, and numbers ascend in each.
+/// It changes the switch behind a setting only where that joined a pair of links for the last time,
+/// or where a link that it left free is used in each later setting. With the first setting it does
+/// so at most once for each pair of links that share transfers, and once for each link in use. The
+/// certificate names the busiest link. No setting is empty, and numbers ascend in each.
 pub struct Steady {
     graph: LinkGraph,
     schedule: Schedule,
@@ -68,7 +71,7 @@ impl Steady {
         &self.schedule
     }
 
-    /// The certificate.
+    /// The certificate, of the busiest link and all transfers that use it.
     pub fn certificate(&self) -> &Certificate
         ensures certificate { result.now ≡ self.now.named }
         ensures steady { IsSteady self.now }
@@ -76,7 +79,8 @@ impl Steady {
         &self.certificate
     }
 
-    /// How often the schedule changes the switch: at most once for each setting.
+    /// How often the schedule changes the switch: at most once for each setting. Also at most once
+    /// for each pair of links that share transfers, and once for each link in use.
     pub fn changes(&self) -> usize
         ensures changes { result ≡ self.now.changes }
         ensures few { result ≤ length self.now.settings }

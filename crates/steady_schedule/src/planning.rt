@@ -9,6 +9,7 @@ ghost use Rattle.link_graph.specs.Counts.{uses};
 ghost use Rattle.link_graph.specs.Schedules.{IsScheduleOf};
 ghost use Rattle.steady_schedule.specs.Bounds.{most_changes, IsReachedBy};
 ghost use Rattle.steady_schedule.specs.Changes.{changes};
+ghost use Rattle.steady_schedule.specs.Needs.{ChangesAtNeed};
 ghost use Rattle.steady_schedule.specs.Plans.{NamesBusiest, IsSteady};
 
 use crate::changing::count_changes;
@@ -42,6 +43,7 @@ fn schedule_of(alloc: Global, graph: &LinkGraph, settings: usize) -> Result<Sche
     ensures count { IfOk result (λ schedule. length schedule ≡ settings) }
     ensures changes { IfOk result (λ schedule.
         changes graph.now schedule ≤ most_changes graph.now) }
+    ensures needs { IfOk result (ChangesAtNeed graph.now) }
 {
     let numbers = number_all(alloc, graph, settings)?;
     let lists = gather(alloc, settings, &numbers)?;
@@ -52,7 +54,10 @@ fn schedule_of(alloc: Global, graph: &LinkGraph, settings: usize) -> Result<Sche
 fn plan_of(graph: LinkGraph, schedule: Schedule, certificate: Certificate) -> Steady
     requires schedule { IsScheduleOf graph schedule }
     requires certificate { IsCertificate graph schedule certificate }
+    requires busiest { NamesBusiest graph certificate.link certificate.transfers }
     requires ascending { All (AllPairs (λ t u. t < u)) schedule }
+    requires few { changes graph schedule ≤ most_changes graph }
+    requires needs { ChangesAtNeed graph schedule }
     ensures batch { result.batch ≡ graph }
     ensures steady { IsSteady result }
     ensures changes { result.changes ≡ changes graph schedule }
@@ -62,10 +67,12 @@ fn plan_of(graph: LinkGraph, schedule: Schedule, certificate: Certificate) -> St
     Steady::of(graph, schedule, certificate, changes, demanding)
 }
 
-/// Plans a batch: a schedule with as few settings as any, and a switch that changes seldom.
+/// Plans a batch: a schedule with as few settings as any, that changes the switch only at need.
 ///
-/// It changes at most once for each pair of links in use together, and once for each link in use. Takes
-/// time that grows with the number of transfers.
+/// It changes behind a setting only where that joined a pair of links for the last time, or where a
+/// link that it left free is used in each later setting. With the first setting it does so at most
+/// once for each pair of links in use together, and once for each link in use. Takes time that
+/// grows with the number of transfers.
 pub fn steady(alloc: Global, batch: &Batch) -> Result<Steady, AllocError>
     ensures batch { IfOk result (λ steady. steady.batch ≡ batch.now) }
     ensures steady { IfOk result IsSteady }

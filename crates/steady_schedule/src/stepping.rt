@@ -115,7 +115,8 @@ fn cover(side: &Side, most: usize, of: &mut Partners, back: &mut Partners)
     }
 }
 
-/// The free link that has the most transfers with this one.
+/// A free link that has transfers with this one. It finds one that has the most; no contract says
+/// so.
 fn best_free(left: &Left, zero: usize, back: &Partners) -> Option<usize>
     requires { zero < MAX_MODULES }
     ensures free { IfSome result (λ three. partner back.now three ≡ None) }
@@ -134,7 +135,7 @@ fn best_free(left: &Left, zero: usize, back: &Partners) -> Option<usize>
     best
 }
 
-/// Joins a link that is free to one that is free, where they have transfers with each other.
+/// Joins a link that is free to one that is free, where it finds one that it has transfers with.
 fn join_one(left: &Left, matching: &mut Matching, zero: usize)
     requires { zero < MAX_MODULES }
     ensures near { AreNear left.now.zero.near matching.old.zero
@@ -151,7 +152,8 @@ fn join_one(left: &Left, matching: &mut Matching, zero: usize)
     join(&mut matching.zero, &mut matching.three, zero, three);
 }
 
-/// Joins links that are free and have transfers with each other.
+/// Joins links that are free and have transfers with each other, as far as it finds them: no
+/// contract says that it joins any. Those that have partners still have some.
 fn join_free(left: &Left, matching: &mut Matching)
     requires { AreNear left.now.zero.near matching.old.zero }
     ensures near { AreNear left.now.zero.near matching.new.zero }
@@ -217,8 +219,9 @@ fn longest(left: &Left, matching: &Matching, most: usize) -> usize
     settings
 }
 
-/// Makes the next matching, and says for how many of the settings that are left it is held. It begins with
-/// the one before, as far as its pairs have transfers.
+/// Makes the next matching, and says for how many of the settings that are left it can be held, and
+/// no longer. It begins with the one before, as far as its pairs have transfers; no contract says
+/// so.
 pub(crate) fn next_step(left: &Left, matching: &mut Matching, most: usize) -> usize
     requires some { 0 < most }
     requires most { HaveMost left.now.counts most }

@@ -2,6 +2,7 @@ use Rattle.std.proofs.Common.{◌≡◌, ◌-◌, ◌+◌, ◌<◌, ◌∷◌, [
 use Rattle.steady_schedule.specs.Potentials.{potential, IsReached}
 use Rattle.steady_schedule.specs.Waiting.{HaveMost}
 use Rattle.steady_schedule.proofs.Matchings.{has_low}
+use Rattle.steady_schedule.proofs.Needs.{none_over, still_needed}
 use Rattle.steady_schedule.proofs.Potential.{falls, reached_now}
 use Rattle.steady_schedule.proofs.Slots.{all_taken, no_steps, one_step}
 use Rattle.steady_schedule.proofs.Steps.{less_waits}
@@ -22,6 +23,7 @@ steps-init c =
       reached = subst (IsReached counts) (sym whole) c.requires.reached;
       numbered = c.requires.numbered;
       steps = record { heads = []; few = omega (arith, ap (λ (n : ℕ). potential totals counts n) whole); steps = no_steps totals counts c.args.slots.now };
+      needs = none_over totals counts c.args.slots.now c.args.settings;
     }
 
 pub steps-preserved : goal.steps-preserved
@@ -45,6 +47,7 @@ steps-preserved c =
         few = omega (arith, c.steps.invariant.steps.few, less_rest);
         steps = one_step totals c.steps.left.counts c.steps.slots after c.hold.new.slots m.zero c.steps.first k c.steps.invariant.steps.heads c.steps.invariant.steps.steps c.hold.ensures.kept c.hold.ensures.numbered;
       };
+      needs = still_needed totals c.steps.left.counts c.steps.slots after c.hold.new.slots m.zero m.three m.matched c.args.settings c.steps.first k c.steps.invariant.few c.hold.ensures.taken c.steps.invariant.most can c.hold.ensures.kept c.hold.ensures.numbered c.steps.invariant.needs;
     }
 
 pub returns : goal.returns
@@ -55,4 +58,5 @@ returns c =
       done = all_taken c.steps.left.counts (subst (HaveMost c.steps.left.counts) none c.steps.invariant.most);
       numbered = rw all at c.steps.invariant.numbered;
       steps = record { heads = c.steps.invariant.steps.heads; few = omega (arith, c.steps.invariant.steps.few); steps = rw all at c.steps.invariant.steps.steps };
+      needs = rw all at c.steps.invariant.needs;
     }

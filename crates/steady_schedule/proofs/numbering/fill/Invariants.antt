@@ -1,6 +1,6 @@
 use Rattle.std.proofs.Common.{◌-◌, ◌≤◌}
 use Rattle.steady_schedule.specs.Potentials.{potential, IsReached}
-use Rattle.steady_schedule.specs.Slots.{AreNumbered, AreFewSteps}
+use Rattle.steady_schedule.specs.Slots.{AreNumbered, AreFewSteps, AreAtNeed}
 use Rattle.steady_schedule.specs.Waiting.{HaveMost}
 use Rattle.steady_schedule.proofs.numbering.fill.Given as goal
 
@@ -11,6 +11,7 @@ invariant-steps l = record {
   reached : IsReached l.left.counts (l.settings - l.first);
   numbered : AreNumbered l.places.totals l.left.counts l.slots l.first;
   steps : AreFewSteps l.places.totals l.left.counts l.slots l.first (potential l.places.totals l.left.counts (l.settings - l.first)) (potential l.places.totals l.initial.left.counts l.settings);
+  needs : AreAtNeed l.places.totals l.left.counts l.slots l.settings l.first;
 }
 
 abbrev pub decreases-steps : goal.decreases-steps

@@ -5,8 +5,11 @@ pub of-requires : goal.of-requires
 of-requires c = record {
   schedule = c.requires.schedule;
   certificate = c.requires.certificate;
+  busiest = c.requires.busiest;
   none_empty = certified_none_empty _ _ _ c.requires.schedule c.requires.certificate;
   ascending = c.requires.ascending;
   counted = c.count_changes-changes.ensures;
+  few = rw c.count_changes-changes.ensures c.requires.few;
+  at_need = c.requires.needs;
   demands = c.most_partners-demanding.ensures;
 }
