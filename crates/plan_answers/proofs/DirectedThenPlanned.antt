@@ -23,6 +23,6 @@ told moves given printed says (answered.planned plan denotes is few tells done) 
 told moves given printed says (answered.refused fault first line) = absurd (batch_reading.apart widest widest_fits given.text says.batch fault says.says first)
 
 pub directed_then_planned : DirectedThenPlanned
-directed_then_planned text moves given printed denotes (directing.directed list reads says done) planned =
-    told moves given printed (subst (λ (them : List Move). directing.SaysDirections them given.text) (moves_reading.one_list text list moves reads denotes) says) planned
-directed_then_planned text moves given printed denotes (directing.refused fault first line) planned = absurd (moves_reading.apart text moves fault denotes first)
+directed_then_planned text moves given printed denotes (directing.directed list reads says done) answers =
+    told moves given printed (subst (λ (them : List Move). directing.SaysDirections them given.text) (moves_reading.one_list text list moves reads denotes) says) answers
+directed_then_planned text moves given printed denotes (directing.refused fault first line) answers = absurd (moves_reading.apart text moves fault denotes first)

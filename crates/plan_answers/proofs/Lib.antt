@@ -7,3 +7,4 @@ pub mod WrongCertificates
 pub mod Ranges
 pub mod OneDrawing
 pub mod DirectedThenPlanned
+pub mod PlannedThenChecked

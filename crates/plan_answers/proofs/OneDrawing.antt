@@ -20,7 +20,7 @@ use Rattle.schedule_picture.specs.Verdicts.{IsVerdict}
 use Rattle.schedule_picture.proofs.OneVerdict.{one_verdict}
 use Rattle.plan_answers.specs.declared.setting_range.SettingRange.{SettingRange}
 use Rattle.plan_answers.specs.Refusals.{Printed, IsRefused}
-use Rattle.plan_answers.specs.Validities.{IsValid, IsUnscheduled, IsInvalid, unread, unscheduled}
+use Rattle.plan_answers.specs.Validities.{IsScheduleRead, IsValid, IsUnscheduled, IsInvalid, unread, unscheduled}
 use Rattle.plan_answers.specs.Drawings.{IsInOrder, AreWanted, IsBadWish, AreShown, IsOutside, IsDrawing, IsFirstUndrawn, no_range, invalid, no_setting, IsDrawn, drawn, undrawn}
 use Rattle.plan_answers.proofs.OneReading.{same_texts, texts_right, one_text_wrong}
 use Rattle.plan_answers.proofs.Printing.{printed_same, refused_same}
@@ -73,10 +73,10 @@ no_fault batch settings fault s bad =
     same_fault batch settings (naming None (t ∷ [])) fault (WrongLink t) (bad.1 (naming None (t ∷ []))) (s, record { before = []; after = []; parts = refl; good = λ k d lt. absurd (omega (arith, lt)); bad = λ used. used }) in
     omega (arith, wrong_same 0 1 (sym (is 0) ∙ is 1))
 
--- a valid schedule has nothing wrong
-valid_right : (shape : Extent) → IsShape shape → (batch schedule : List ℕ) (ts : List Transfer) (xs : List (List ℕ)) (v : Verdict) (refusal : Refusal) → IsValid shape batch schedule ts xs v → IsInvalid shape batch schedule refusal → ⊥
-valid_right shape valid batch schedule ts xs v refusal a (unread wrong) = texts_right shape valid batch schedule ts xs a.certificate refusal a.texts wrong
-valid_right shape valid batch schedule ts xs v refusal a (unscheduled us ys m texts wrong) =
+-- a schedule that is read has nothing wrong
+pub read_right : (shape : Extent) → IsShape shape → (batch schedule : List ℕ) (ts : List Transfer) (xs : List (List ℕ)) (refusal : Refusal) → IsScheduleRead shape batch schedule ts xs → IsInvalid shape batch schedule refusal → ⊥
+read_right shape valid batch schedule ts xs refusal a (unread wrong) = texts_right shape valid batch schedule ts xs a.certificate refusal a.texts wrong
+read_right shape valid batch schedule ts xs refusal a (unscheduled us ys m texts wrong) =
     no_fault ts xs wrong.0 a.valid (same_texts (λ t x n. IsSettingsFault t x wrong.0) shape valid batch schedule ts us xs ys a.certificate m a.texts texts wrong.1)
 
 one_unscheduled : (ts : List Transfer) (xs : List (List ℕ)) (q r : Refusal) → IsUnscheduled ts xs q → IsUnscheduled ts xs r → q ≡ r
@@ -84,7 +84,7 @@ one_unscheduled ts xs q r a b =
     let nothing : Naming = naming None [] in
     a.2 ∙ ap of_check (same_fault ts xs nothing a.0 b.0 (a.1.1 nothing) (b.1.1 nothing)) ∙ sym b.2
 
-one_invalid : (shape : Extent) → IsShape shape → (batch schedule : List ℕ) (q r : Refusal) → IsInvalid shape batch schedule q → IsInvalid shape batch schedule r → q ≡ r
+pub one_invalid : (shape : Extent) → IsShape shape → (batch schedule : List ℕ) (q r : Refusal) → IsInvalid shape batch schedule q → IsInvalid shape batch schedule r → q ≡ r
 one_invalid shape valid batch schedule q r (unread a) (unread b) = one_text_wrong shape valid batch schedule q r a b
 one_invalid shape valid batch schedule q r (unread a) (unscheduled ts xs m texts b) = absurd (texts_right shape valid batch schedule ts xs m q texts a)
 one_invalid shape valid batch schedule q r (unscheduled ts xs m texts a) (unread b) = absurd (texts_right shape valid batch schedule ts xs m r texts b)
@@ -103,8 +103,8 @@ same_picture text other range ts xs v p q = p.2 ∙ ap (picture_of ts xs v) (sam
 same_reading : (P : List Transfer → List (List ℕ) → Verdict → Type 0) (shape : Extent) → IsShape shape → (batch schedule : List ℕ) (ts us : List Transfer) (xs ys : List (List ℕ)) (v w : Verdict)
     → IsValid shape batch schedule ts xs v → IsValid shape batch schedule us ys w → P us ys w → P ts xs v
 same_reading P shape valid batch schedule ts us xs ys v w a b p =
-    let moved = same_texts (λ t x n. (u : Verdict) × IsVerdict t x n u × P t x u) shape valid batch schedule ts us xs ys a.certificate b.certificate a.texts b.texts (w, b.known, p) in
-    subst (P ts xs) (one_verdict ts xs a.certificate moved.0 v moved.1 a.known) moved.2
+    let moved = same_texts (λ t x n. (u : Verdict) × IsVerdict t x n u × P t x u) shape valid batch schedule ts us xs ys a.read.certificate b.read.certificate a.read.texts b.read.texts (w, b.known, p) in
+    subst (P ts xs) (one_verdict ts xs a.read.certificate moved.0 v moved.1 a.known) moved.2
 
 one_text : (shape : Extent) → IsShape shape → (batch schedule : List ℕ) (wish : Option (List ℕ)) (t u : List ℕ) → IsDrawing shape batch schedule wish t → IsDrawing shape batch schedule wish u → t ≡ u
 one_text shape valid batch schedule wish t u a b =
@@ -122,7 +122,7 @@ same_missing shape valid batch schedule wish f g ts us xs ys v w k wanted want a
 -- what is drawn has nothing wrong
 drawn_right : (shape : Extent) → IsShape shape → (batch schedule : List ℕ) (wish : Option (List ℕ)) (text : List ℕ) (refusal : Refusal) → IsDrawing shape batch schedule wish text → IsFirstUndrawn shape batch schedule wish refusal → ⊥
 drawn_right shape valid batch schedule wish text refusal a (no_range bad is) = good_wish wish a.range a.wanted bad
-drawn_right shape valid batch schedule wish text refusal a (invalid range wanted wrong) = valid_right shape valid batch schedule a.transfers a.settings a.verdict refusal a.valid wrong
+drawn_right shape valid batch schedule wish text refusal a (invalid range wanted wrong) = read_right shape valid batch schedule a.transfers a.settings refusal a.valid.read wrong
 drawn_right shape valid batch schedule wish text refusal a (no_setting range ts xs v k wanted is outside _) =
     not_outside a.range (length a.settings) k a.shown a.are_shown
     (same_missing shape valid batch schedule wish a.range range a.transfers ts a.settings xs a.verdict v k a.wanted wanted a.valid is outside)
@@ -133,9 +133,9 @@ one_undrawn shape valid batch schedule wish q r (no_range a is) (invalid range w
 one_undrawn shape valid batch schedule wish q r (no_range a is) (no_setting range us ys w l wanted b out are) = absurd (good_wish wish range wanted a)
 one_undrawn shape valid batch schedule wish q r (invalid range wanted a) (no_range b are) = absurd (good_wish wish range wanted b)
 one_undrawn shape valid batch schedule wish q r (invalid range wanted a) (invalid other want b) = one_invalid shape valid batch schedule q r a b
-one_undrawn shape valid batch schedule wish q r (invalid range wanted a) (no_setting other us ys w l want b out are) = absurd (valid_right shape valid batch schedule us ys w q b a)
+one_undrawn shape valid batch schedule wish q r (invalid range wanted a) (no_setting other us ys w l want b out are) = absurd (read_right shape valid batch schedule us ys q b.read a)
 one_undrawn shape valid batch schedule wish q r (no_setting range ts xs v k wanted a outside is) (no_range b are) = absurd (good_wish wish range wanted b)
-one_undrawn shape valid batch schedule wish q r (no_setting range ts xs v k wanted a outside is) (invalid other want b) = absurd (valid_right shape valid batch schedule ts xs v r a b)
+one_undrawn shape valid batch schedule wish q r (no_setting range ts xs v k wanted a outside is) (invalid other want b) = absurd (read_right shape valid batch schedule ts xs r a.read b)
 one_undrawn shape valid batch schedule wish q r (no_setting range ts xs v k wanted a outside is) (no_setting other us ys w l want b out are) =
     is ∙ ap NoSetting (same_outside range (length xs) k l outside (same_missing shape valid batch schedule wish range other ts us xs ys v w l wanted want a b out)) ∙ sym are
 

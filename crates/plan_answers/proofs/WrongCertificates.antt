@@ -9,16 +9,13 @@ use Rattle.link_graph.specs.declared.link.Link.{Link}
 use Rattle.link_graph.specs.Certificates.{Naming}
 use Rattle.link_graph.specs.Checks.{IsFirstCheckFault}
 use Rattle.link_graph.specs.Schedules.{IsScheduleOf}
-use Rattle.link_graph.proofs.OneFault.{none_wrong}
 use Rattle.refusals.specs.declared.refusal.Refusal.{Refusal}
 use Rattle.refusals.specs.declared.refusal.Refusal.TheVariants.{CheckWrongLink, CheckCertificateRepeats, CheckNotTight}
 use Rattle.refusals.specs.Sources.{of_check}
-use Rattle.schedule_picture.specs.declared.verdict.Standing.TheVariants.{Wrong}
-use Rattle.schedule_picture.specs.declared.verdict.Verdict.{Verdict}
-use Rattle.schedule_picture.specs.Verdicts.{IsBusiestOf, uses_of, IsStanding, IsVerdict}
+use Rattle.schedule_picture.specs.Verdicts.{IsBusiestOf, uses_of}
 use Rattle.plan_answers.specs.Answers.{IsUnshown}
 use Rattle.plan_answers.specs.Texts.{AreTexts}
-use Rattle.plan_answers.specs.Validities.{IsValid, AreEnough}
+use Rattle.plan_answers.specs.Validities.{AreEnough}
 
 -- a refusal of the certificate
 abbrev IsOfCertificate : Refusal → Type 0
@@ -48,17 +45,9 @@ scheduled ts xs named (check_fault.CertificateRepeats t) first of = first.0
 scheduled ts xs named (check_fault.NotTight s u) first of = first.0
 scheduled ts xs named check_fault.NoMemory first of = absurd first
 
-stands_wrong : (ts : List Transfer) (xs : List (List ℕ)) (m : Option Naming) (refusal : Refusal) → IsUnshown ts xs m refusal → IsOfCertificate refusal → IsScheduleOf ts xs × IsStanding ts xs m Wrong
-stands_wrong ts xs None refusal is of = absurd (subst IsOfCertificate is of)
-stands_wrong ts xs (Some named) refusal is of =
-    let schedule = scheduled ts xs named is.0 is.1 (subst IsOfCertificate is.2 of) in
-    (schedule, λ certificate. none_wrong ts xs named is.0 schedule certificate is.1)
-
 -- as many settings are enough as the busiest link has transfers
 pub enough : (shape : Extent) (batch schedule : List ℕ) (ts : List Transfer) (xs : List (List ℕ)) (m : Option Naming) (refusal : Refusal) (link : Option Link) → AreTexts shape batch schedule ts xs m → IsUnshown ts xs m refusal → IsOneOfThem refusal → IsBusiestOf ts link → AreEnough shape batch schedule (uses_of ts link)
-enough shape batch schedule ts xs m refusal link texts is one most =
-    let found = stands_wrong ts xs m refusal is (of_certificate refusal one) in
-    let verdict : Verdict = record { fewest = uses_of ts link; busiest = link; standing = Wrong } in
-    let known : IsVerdict ts xs m verdict = record { link = link; most = most; fewest = refl; standing = found.1; busiest = refl } in
-    let valid : IsValid shape batch schedule ts xs verdict = record { certificate = m; texts = texts; valid = found.0; known = known } in
-    (ts, xs, verdict, valid, refl)
+enough shape batch schedule ts xs None refusal link texts is one most = absurd (subst IsOfCertificate is (of_certificate refusal one))
+enough shape batch schedule ts xs (Some named) refusal link texts is one most =
+    let valid = scheduled ts xs named is.0 is.1 (subst IsOfCertificate is.2 (of_certificate refusal one)) in
+    record { transfers = ts; settings = xs; link = link; read = record { certificate = Some named; texts = texts; valid = valid }; busiest = most; uses = refl }

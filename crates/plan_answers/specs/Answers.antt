@@ -1,5 +1,5 @@
 -- What `plan` and `check` answer.
-use Rattle.std.specs.Prelude.{◌≡◌, ℕ, List, ◌++◌, length, Option, Some, None, codes}
+use Rattle.std.specs.Prelude.{◌≡◌, ◌≤◌, ℕ, List, ◌++◌, length, Option, Some, None, codes}
 use Rattle.std.specs.Fmt.{decimal}
 use Rattle.batch.specs.declared.fault.BatchFault.{BatchFault}
 use Rattle.batch.specs.declared.transfer.Transfer.{Transfer}
@@ -15,6 +15,8 @@ use Rattle.refusals.specs.declared.refusal.Refusal.TheVariants.{NoCertificate}
 use Rattle.refusals.specs.Refusals.{refusal_words}
 use Rattle.refusals.specs.Sources.{of_batch, of_check}
 use Rattle.schedule_certificate.specs.Plans.{Plan, IsPlan, HasFewReinsertions}
+use Rattle.steady_schedule.specs.Bounds.{most_changes}
+use Rattle.steady_schedule.specs.Plans.{SteadyPlan, IsSteady}
 use Rattle.plan_answers.specs.declared.limits.TheConstants.{DONE}
 use Rattle.plan_answers.specs.Refusals.{Printed, IsRefused}
 use Rattle.plan_answers.specs.Texts.{AreTexts, IsTextWrong}
@@ -25,21 +27,33 @@ IsOnly IsAnswer answer = (other : Printed) → IsAnswer other → other ≡ answ
 
 -- ---- `plan`
 
--- the text says the plan's schedule and certificate
-abbrev pub SaysPlan : List ℕ → Plan → Type 0
-SaysPlan text plan = Says text (said plan.settings (Some plan.named))
+-- the text says a schedule with its certificate
+abbrev pub SaysCertified : List (List ℕ) → Naming → List ℕ → Type 0
+SaysCertified settings named text = Says text (said settings (Some named))
 
--- the text of the plan, under its status
-abbrev pub TellsPlan : Plan → Printed → Type 0
-TellsPlan plan printed = SaysPlan printed.text plan × (printed.status ≡ DONE)
+-- that text, under its status
+abbrev pub TellsCertified : List (List ℕ) → Naming → Printed → Type 0
+TellsCertified settings named printed =
+    SaysCertified settings named printed.text × (printed.status ≡ DONE)
 
 -- a text that says a plan of the batch that the batch text denotes, or the refusal of that text's
 -- first fault, each under its status
 pub data IsPlanned (shape : Extent) (batch : List ℕ) (printed : Printed) : Type 0 where
   planned : (plan : Plan) → Denotes shape batch plan.batch → IsPlan plan → HasFewReinsertions plan
-      → SaysPlan printed.text plan → printed.status ≡ DONE → IsPlanned shape batch printed
+      → SaysCertified plan.settings plan.named printed.text → printed.status ≡ DONE
+      → IsPlanned shape batch printed
   refused : (fault : BatchFault) → IsFirstFault shape batch fault
       → IsRefused (refusal_words (of_batch fault)) printed → IsPlanned shape batch printed
+
+-- the same of a steady plan, which changes the switch at most once for each pair of links in use
+-- together, and once for each link in use
+pub data IsSteadilyPlanned (shape : Extent) (batch : List ℕ) (printed : Printed) : Type 0 where
+  planned : (plan : SteadyPlan) → Denotes shape batch plan.batch → IsSteady plan
+      → plan.changes ≤ most_changes plan.batch
+      → SaysCertified plan.settings plan.named printed.text → printed.status ≡ DONE
+      → IsSteadilyPlanned shape batch printed
+  refused : (fault : BatchFault) → IsFirstFault shape batch fault
+      → IsRefused (refusal_words (of_batch fault)) printed → IsSteadilyPlanned shape batch printed
 
 -- ---- `check`
 

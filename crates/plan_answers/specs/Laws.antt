@@ -1,11 +1,14 @@
 -- What the answers of two commands say together. Proofs use it; no contract of a call cites it.
-use Rattle.std.specs.Prelude.{ℕ, List, length}
+use Rattle.std.specs.Prelude.{◌≡◌, ◌⊎◌, ℕ, List, length}
+use Rattle.batch.specs.declared.transfer.Transfer.{Transfer}
 use Rattle.batch.specs.Extent.{widest}
+use Rattle.batch.specs.Text as batch_text
 use Rattle.move_directions.specs.declared.moves.Move.{Move}
 use Rattle.move_directions.specs.Directions.{IsGreatestHalf, NoneIsShorter}
 use Rattle.move_directions.specs.Text.{Denotes}
 use Rattle.schedule_certificate.specs.Plans.{Plan}
-use Rattle.plan_answers.specs.Answers.{IsPlanned, TellsPlan}
+use Rattle.plan_answers.specs.declared.limits.TheConstants.{DONE}
+use Rattle.plan_answers.specs.Answers.{TellsCertified, IsPlanned, IsSteadilyPlanned, IsChecked, shortest_line}
 use Rattle.plan_answers.specs.Directing.{IsDirected}
 use Rattle.plan_answers.specs.Refusals.{Printed}
 
@@ -13,7 +16,7 @@ use Rattle.plan_answers.specs.Refusals.{Printed}
 -- No schedule of the moves has fewer, whatever their directions.
 pub record TellsFewest (moves : List Move) (planned : Printed) : Type 0 where
   pub plan : Plan
-  pub tells : TellsPlan plan planned
+  pub tells : TellsCertified plan.settings plan.named planned
   pub count : IsGreatestHalf moves (length plan.settings)
   pub fewest : NoneIsShorter moves (length plan.settings)
 
@@ -22,3 +25,17 @@ abbrev pub DirectedThenPlanned : Type 0
 DirectedThenPlanned =
     (text : List ℕ) (moves : List Move) (directed planned : Printed) → Denotes text moves
     → IsDirected text directed → IsPlanned widest directed.text planned → TellsFewest moves planned
+
+-- `shortest S`, for some S, under its status
+pub record TellsShortest (checked : Printed) : Type 0 where
+  pub count : ℕ
+  pub line : checked.text ≡ shortest_line count
+  pub status : checked.status ≡ DONE
+
+-- what `check` answers to the text of a batch and to what `plan` or `plan --steady` answers to that
+abbrev pub PlannedThenChecked : Type 0
+PlannedThenChecked =
+    (batch : List ℕ) (transfers : List Transfer) (planned checked : Printed)
+    → batch_text.Denotes widest batch transfers
+    → IsPlanned widest batch planned ⊎ IsSteadilyPlanned widest batch planned
+    → IsChecked widest batch planned.text checked → TellsShortest checked

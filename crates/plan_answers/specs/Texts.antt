@@ -1,4 +1,4 @@
--- The texts of a batch and of a schedule of it, which `check` and `draw` read.
+-- The texts of a batch and of a schedule, which `check`, `draw` and `switch` read.
 use Rattle.std.specs.Prelude.{◌≡◌, ℕ, List, Option}
 use Rattle.batch.specs.declared.fault.BatchFault.{BatchFault}
 use Rattle.batch.specs.declared.transfer.Transfer.{Transfer}

@@ -4,6 +4,7 @@ use Rattle.std.specs.Prelude.{◌≡◌, ℕ, List, Option, ⊤}
 use Rattle.batch.specs.declared.transfer.Transfer.{Transfer}
 use Rattle.batch.specs.Extent.{Extent, widest}
 use Rattle.link_graph.specs.declared.check_fault.CheckFault.{CheckFault}
+use Rattle.link_graph.specs.declared.link.Link.{Link}
 use Rattle.link_graph.specs.Certificates.{Naming}
 use Rattle.link_graph.specs.Checks.{IsSettingsFault}
 use Rattle.link_graph.specs.Schedules.{IsScheduleOf}
@@ -12,16 +13,27 @@ use Rattle.refusals.specs.declared.validity.Validity.{Validity}
 use Rattle.refusals.specs.declared.validity.Validity.TheVariants.{Unknown, Invalid, Valid}
 use Rattle.refusals.specs.Sources.{of_check}
 use Rattle.schedule_picture.specs.declared.verdict.Verdict.{Verdict}
-use Rattle.schedule_picture.specs.Verdicts.{IsVerdict}
+use Rattle.schedule_picture.specs.Verdicts.{IsBusiestOf, uses_of, IsVerdict}
 use Rattle.plan_answers.specs.Texts.{AreTexts, IsTextWrong}
 
--- the texts are those of this batch and of this schedule of it, of which this is known
-pub record IsValid (shape : Extent) (batch schedule : List ℕ) (transfers : List Transfer)
-    (settings : List (List ℕ)) (verdict : Verdict) : Type 0 where
+-- the texts are those of this batch and of this schedule of it, with some certificate or with none
+pub record IsScheduleRead (shape : Extent) (batch schedule : List ℕ) (transfers : List Transfer)
+    (settings : List (List ℕ)) : Type 0 where
   pub certificate : Option Naming
   pub texts : AreTexts shape batch schedule transfers settings certificate
   pub valid : IsScheduleOf transfers settings
-  pub known : IsVerdict transfers settings certificate verdict
+
+-- so it is, and this is known of the schedule
+pub record IsValid (shape : Extent) (batch schedule : List ℕ) (transfers : List Transfer)
+    (settings : List (List ℕ)) (verdict : Verdict) : Type 0 where
+  pub read : IsScheduleRead shape batch schedule transfers settings
+  pub known : IsVerdict transfers settings read.certificate verdict
+
+-- a batch, the settings of a schedule of it, and what is known of that
+pub record Judged : Type 0 where
+  pub batch : List Transfer
+  pub settings : List (List ℕ)
+  pub verdict : Verdict
 
 -- what is first wrong with settings that are no schedule of the batch
 abbrev pub IsUnscheduled : List Transfer → List (List ℕ) → Refusal → Type 0
@@ -39,10 +51,13 @@ pub data IsInvalid (shape : Extent) (batch schedule : List ℕ) (refusal : Refus
 
 -- the texts are those of a batch and of a schedule of it, and so many settings are enough: as many as
 -- the busiest link has transfers
-abbrev pub AreEnough : Extent → List ℕ → List ℕ → ℕ → Type 0
-AreEnough shape batch schedule enough =
-    (transfers : List Transfer) × (settings : List (List ℕ)) × (verdict : Verdict)
-    × IsValid shape batch schedule transfers settings verdict × (enough ≡ verdict.fewest)
+pub record AreEnough (shape : Extent) (batch schedule : List ℕ) (enough : ℕ) : Type 0 where
+  pub transfers : List Transfer
+  pub settings : List (List ℕ)
+  pub link : Option Link
+  pub read : IsScheduleRead shape batch schedule transfers settings
+  pub busiest : IsBusiestOf transfers link
+  pub uses : enough ≡ uses_of transfers link
 
 -- the texts aren't those of a batch and of a schedule of it
 abbrev pub IsNoSchedule : Extent → List ℕ → List ℕ → Type 0

@@ -46,14 +46,15 @@ impl Answer {
         self.code
     }
 
-    /// The refusal whose line is printed, where it is one.
+    /// The refusal whose line is printed, where the answer keeps one. By the contract it may always
+    /// keep none.
     pub fn refusal(&self) -> Option<Refusal>
         ensures { IfSome result (λ refusal. Refuses refusal self.now) }
     {
         self.cause
     }
 
-    /// What is known of a schedule that is refused.
+    /// What the answer keeps of a schedule that is refused. No contract says what that is.
     pub fn validity(&self) -> Validity {
         self.known
     }
@@ -71,7 +72,7 @@ impl Answer {
         }
     }
 
-    /// A text that is no refusal's line, under the status [`REFUSED`].
+    /// A text under the status [`REFUSED`].
     pub fn failed(text: Vec<u8>) -> Answer
         ensures text { result.text ≡ text.items }
         ensures status { result.status ≡ REFUSED }

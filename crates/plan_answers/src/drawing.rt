@@ -3,7 +3,6 @@
 ghost use Rattle.std.specs.Prelude.{◌≡◌, ◌≢◌, ℕ, ◌+◌, IfOk, IfErr, IfSome, length, string_bytes};
 ghost use Rattle.batch.specs.Extent.{widest};
 ghost use Rattle.batch.specs.Text.{IsNumber};
-ghost use Rattle.link_graph.specs.Schedules.{IsScheduleOf};
 ghost use Rattle.schedule_picture.specs.declared.shown.Shown.{Shown};
 ghost use Rattle.schedule_picture.specs.Picture.{picture_of};
 ghost use Rattle.refusals.specs.declared.refusal.Refusal.TheVariants.{Settings, NoSetting, NoMemory};
@@ -12,11 +11,10 @@ ghost use Rattle.plan_answers.specs.Drawings.{IsInOrder, AreWanted, IsBadWish, A
 ghost use Rattle.plan_answers.specs.Lent.{bytes_of};
 
 use crate::answer::Answer;
+use crate::schedule_texts::ScheduleTexts;
 use crate::setting_range::SettingRange;
-use crate::texts::ReadTexts;
-use crate::validity::verdict_of;
 use refusals::Refusal;
-use schedule_picture::{Shown, Verdict, draw};
+use schedule_picture::{Shown, draw};
 use std::alloc::{AllocError, Global};
 
 /// The range of a text, where there is one.
@@ -57,24 +55,24 @@ fn shown_of(range: Option<SettingRange>, settings: usize) -> Result<Shown, Refus
     }
 }
 
-/// The picture of the settings of the range, or of all, of a schedule of which this is known.
+/// The picture of the settings of the range, or of all.
 fn draw_range(
     alloc: Global,
-    texts: &ReadTexts,
-    verdict: Verdict,
+    texts: &ScheduleTexts,
     range: Option<SettingRange>,
 ) -> Result<String, Refusal>
-    requires schedule { IsScheduleOf texts.now.batch texts.now.schedule }
-    requires settings { IsNumber (length texts.now.schedule) }
+    requires settings { IsNumber (length texts.now.settings) }
     requires range { IfSome range IsInOrder }
     ensures drawn { IfOk result (λ text. (shown : Shown)
-        × AreShown range (length texts.now.schedule) shown
-        × (string_bytes text ≡ picture_of texts.now.batch texts.now.schedule verdict shown)) }
+        × AreShown range (length texts.now.settings) shown
+        × (string_bytes text
+        ≡ picture_of texts.now.batch texts.now.settings texts.now.verdict shown)) }
     ensures outside { IfErr result (λ refusal. refusal ≢ NoMemory → (k : ℕ)
-        × (refusal ≡ NoSetting k) × IsOutside range (length texts.now.schedule) k) }
+        × (refusal ≡ NoSetting k) × IsOutside range (length texts.now.settings) k) }
 {
-    let shown = shown_of(range, texts.schedule.settings())?;
-    Ok(draw(alloc, &texts.batch, &texts.schedule, verdict, shown)?)
+    let schedule = texts.schedule();
+    let shown = shown_of(range, schedule.settings())?;
+    Ok(draw(alloc, texts.batch(), schedule, texts.verdict, shown)?)
 }
 
 /// The picture that is asked for, or what is first wrong.
@@ -90,9 +88,8 @@ fn picture(
         → IsFirstUndrawn widest batch.now schedule.now (bytes_of settings.entry) refusal) }
 {
     let range = read_range(settings)?;
-    let texts = ReadTexts::read(alloc, batch, schedule)?;
-    let verdict = verdict_of(alloc, &texts)?;
-    draw_range(alloc, &texts, verdict, range)
+    let texts = ScheduleTexts::read(alloc, batch, schedule)?;
+    draw_range(alloc, &texts, range)
 }
 
 /// The answer of `exchange draw`: the picture of the schedule that the schedule text says, of the batch

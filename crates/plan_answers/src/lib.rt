@@ -3,7 +3,8 @@
 //!
 //! Each `answer_` function reads its texts, does what the command asks for, and gives an [`Answer`]:
 //! what was asked for, or the line of the refusal of what is first wrong. It reads no file and prints
-//! nothing. [`answer_plan_alone`] is for those who start no thread.
+//! nothing. Only [`answer_plan`] starts threads. [`ScheduleTexts`] are for answers that are made
+//! elsewhere.
 #![tactic(auto)]
 
 mod answer;
@@ -13,6 +14,7 @@ mod drawing;
 pub mod laws;
 mod limits;
 mod planning;
+mod schedule_texts;
 mod setting_range;
 mod texts;
 mod validity;
@@ -22,4 +24,5 @@ pub use checking::answer_check;
 pub use directing::answer_direct;
 pub use drawing::answer_draw;
 pub use limits::{DONE, REFUSED};
-pub use planning::{answer_plan, answer_plan_alone};
+pub use planning::{answer_plan, answer_plan_alone, answer_plan_steady};
+pub use schedule_texts::ScheduleTexts;

@@ -2,8 +2,7 @@
 
 ghost use Rattle.std.specs.Prelude.{IfOk};
 ghost use Rattle.batch.specs.Extent.{widest};
-ghost use Rattle.schedule_certificate.specs.Plans.{IsPlan};
-ghost use Rattle.plan_answers.specs.Answers.{TellsPlan, IsPlanned};
+ghost use Rattle.plan_answers.specs.Answers.{TellsCertified, IsPlanned, IsSteadilyPlanned};
 
 use crate::answer::Answer;
 use batch::{Batch, Shape};
@@ -11,11 +10,11 @@ use exchange_limits::WorkerCount;
 use schedule_certificate::{OpenGate, Planned, schedule, schedule_alone};
 use std::alloc::{AllocError, Global};
 use std::thread::Threads;
+use steady_schedule::steady;
 
 /// The answer that says a plan.
 fn tell(planned: &Planned) -> Result<Answer, AllocError>
-    requires { IsPlan planned.now }
-    ensures { IfOk result (TellsPlan planned.now) }
+    ensures { IfOk result (TellsCertified planned.now.settings planned.now.named) }
 {
     let text = planned.schedule().write(Some(planned.certificate()))?;
     Ok(Answer::done(text))
@@ -35,10 +34,7 @@ pub fn answer_plan<R: Threads + Sync>(
     ensures { IfOk result (λ answer. IsPlanned widest batch.now answer) }
 {
     match Batch::read(alloc, batch, Shape::WIDEST) {
-        Ok(batch) => {
-            let planned = schedule(rt, alloc, batch, workers, &OpenGate)?;
-            tell(&planned)
-        }
+        Ok(batch) => tell(&schedule(rt, alloc, batch, workers, &OpenGate)?),
         Err(fault) => Answer::refused(alloc, fault.into()),
     }
 }
@@ -48,9 +44,23 @@ pub fn answer_plan_alone(alloc: Global, batch: &[u8]) -> Result<Answer, AllocErr
     ensures { IfOk result (λ answer. IsPlanned widest batch.now answer) }
 {
     match Batch::read(alloc, batch, Shape::WIDEST) {
+        Ok(batch) => tell(&schedule_alone(alloc, batch)?),
+        Err(fault) => Answer::refused(alloc, fault.into()),
+    }
+}
+
+/// The answer of `exchange plan --steady`: the text of a shortest schedule that seldom changes the
+/// switch, with its certificate; or the refusal of the batch text's first fault.
+///
+/// The batch is read against the widest shape. Takes time that grows with the length of its text.
+pub fn answer_plan_steady(alloc: Global, batch: &[u8]) -> Result<Answer, AllocError>
+    ensures { IfOk result (λ answer. IsSteadilyPlanned widest batch.now answer) }
+{
+    match Batch::read(alloc, batch, Shape::WIDEST) {
         Ok(batch) => {
-            let planned = schedule_alone(alloc, batch)?;
-            tell(&planned)
+            let plan = steady(alloc, &batch)?;
+            let text = plan.schedule().write(Some(plan.certificate()))?;
+            Ok(Answer::done(text))
         }
         Err(fault) => Answer::refused(alloc, fault.into()),
     }

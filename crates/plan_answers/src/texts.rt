@@ -1,4 +1,4 @@
-//! The texts of a batch and of a schedule of it, which `check` and `draw` read.
+//! The texts of a batch and of a schedule, which `check`, `draw` and `switch` read.
 
 ghost use Rattle.std.specs.Prelude.{◌≢◌, IfOk, IfErr};
 ghost use Rattle.batch.specs.Extent.{widest};

@@ -45,7 +45,8 @@ fn most_uses(batch: &Batch) -> Result<usize, AllocError>
 /// What is known of a schedule that `check` refuses so: whether it is one of the batch, and how many
 /// settings are enough then.
 ///
-/// Nothing is known where there is no memory, or where the settings themselves are refused.
+/// It is [`Validity::Unknown`] where the settings themselves are refused, which tells that they are
+/// no schedule of the batch, and where there is no memory. By the contract it may always be that.
 pub(crate) fn validity_of(alloc: Global, texts: &ReadTexts, refusal: Refusal) -> Validity
     requires { IsUnshown texts.now.batch texts.now.schedule texts.now.certificate refusal }
     ensures { (batch schedule : List ℕ)

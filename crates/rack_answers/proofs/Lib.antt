@@ -2,4 +2,5 @@ pub mod OneRun
 pub mod Reporting
 pub mod Fewest
 pub mod Switches
+pub mod OneSwitching
 pub mod Openings

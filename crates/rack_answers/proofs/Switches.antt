@@ -1,9 +1,10 @@
 -- The lines of `switch`, one more at a time, and the rack that has the modules of a batch.
-use Rattle.std.proofs.Common.{◌≡◌, ℕ, ◌<◌, ◌+◌, Bool, true, false, List, [], ◌++◌, length, get_or, Option, refl, sym, ap, ap₂, ◌∙◌, take, codes, ◌||◌, nat_le, arith}
+use Rattle.std.proofs.Common.{◌≡◌, ℕ, zero, suc, ◌<◌, ◌+◌, Bool, true, false, List, [], ◌∷◌, ◌++◌, length, get_or, slice_get, slice_index_or, Option, Some, All, refl, sym, ap, ap₂, ◌∙◌, subst, take, codes, ◌||◌, nat_le, arith}
 use Rattle.std.specs.List.{flat_map, range_with_len}
 use Rattle.std.proofs.lemmas.List.{take_more, flat_map_more}
 use Rattle.std.proofs.lemmas.List.Folds.{list_any_at}
 use Rattle.std.proofs.lemmas.Bool.Decides.{nat_tests}
+use Rattle.std.proofs.lemmas.Option.{get_or_from_slice_get, slice_get_within}
 use Rattle.batch.specs.declared.limits.TheConstants.{MAX_BLOCKS, MAX_WORDS}
 use Rattle.batch.specs.declared.transfer.Transfer.{Transfer}
 use Rattle.batch.specs.Batches.{IsBatch}
@@ -12,12 +13,13 @@ use Rattle.batch.specs.Overlap.{no_transfer, transfer_at}
 use Rattle.batch.proofs.Places.{places_within}
 use Rattle.crossbar.specs.declared.pair.Pair.{Pair}
 use Rattle.crossbar.specs.declared.switch.TheConstants.{JOINED_MODULES}
+use Rattle.link_graph.specs.Schedules.{IsScheduleOf}
+use Rattle.link_graph.specs.Uses.{IsMatching}
 use Rattle.module_memory.specs.Core.{FitsIn}
 use Rattle.schedule_certificate.specs.Plans.{Plan}
-use Rattle.setting_runner.specs.Runs.{numbers_of, setting_pairs}
-use Rattle.setting_runner.specs.Sending.{in_order, pairs_at, standing_before, turning}
+use Rattle.setting_runner.specs.Sending.{pairs_at, standing_before, turning}
 use Rattle.line_words.specs.HexWords.{hex2}
-use Rattle.rack_answers.specs.Switching.{is_far, is_wide, joined_by, bytes_text, lines_for, setting_lines}
+use Rattle.rack_answers.specs.Switching.{is_far, is_wide, joined_by, bytes_text, lines_for, pairs_in, pairs_before, turning_lines, schedule_text, setting_lines, switch_text}
 use Rattle.batch.proofs.Lists.{more_parts}
 
 -- one more byte of a line
@@ -47,13 +49,40 @@ fits_rack ts false b e i below =
 
 -- ---- the settings
 
--- the pairs of a setting
-pub pairs_is : (plan : Plan) (k : ℕ) (batch : List Transfer) (numbers : List ℕ) (pairs : List Pair) → batch ≡ plan.batch → numbers ≡ numbers_of plan k → pairs ≡ in_order (setting_pairs batch numbers) → pairs ≡ pairs_at plan k
-pairs_is plan k batch numbers pairs b n is = is ∙ ap₂ (λ (ts : List Transfer) (xs : List ℕ). in_order (setting_pairs ts xs)) b n
+-- numbers of a setting of a schedule
+pub record Numbers (batch : List Transfer) (settings : List (List ℕ)) (k : ℕ) (numbers : List ℕ) : Type 0 where
+  pub here : slice_index_or settings k [] ≡ numbers
+  pub known : All (λ t. t < length batch) numbers
+  pub matching : IsMatching batch numbers
+
+pub numbers_at : (batch : List Transfer) (settings : List (List ℕ)) (k : ℕ) (numbers : List ℕ) → IsScheduleOf batch settings → slice_get settings k ≡ Some numbers → Numbers batch settings k numbers
+numbers_at batch settings k numbers is got =
+    let here : slice_index_or settings k [] ≡ numbers = get_or_from_slice_get settings k numbers [] got in
+    let below : k < length settings = slice_get_within settings k numbers got in
+    record {
+      here = here;
+      known = subst (All (λ t. t < length batch)) here (is.no_other k [] below);
+      matching = subst (IsMatching batch) here (is.matchings k [] below);
+    }
 
 -- one more setting
-pub more_lines : (plan : Plan) (n : ℕ) (wide : Bool) (known : Option (List Pair)) (pairs : List Pair) (before after : List ℕ) → wide ≡ is_wide plan.batch → known ≡ standing_before plan n → pairs ≡ pairs_at plan n
-    → before ≡ flat_map (setting_lines plan) (range_with_len 0 n) → after ≡ before ++ lines_for wide n (λ wiring. turning wiring known pairs) → after ≡ flat_map (setting_lines plan) (range_with_len 0 (n + 1))
-more_lines plan n wide known pairs before after w s p so_far more =
-    let lines : lines_for wide n (λ wiring. turning wiring known pairs) ≡ setting_lines plan n = rw (w, s, p) refl in
-    more ∙ ap₂ (λ (x y : List ℕ). x ++ y) so_far lines ∙ more_parts (setting_lines plan) [] n
+pub more_lines : (batch : List Transfer) (settings : List (List ℕ)) (n : ℕ) (wide : Bool) (known : Option (List Pair)) (pairs : List Pair) (before after : List ℕ) → wide ≡ is_wide batch → known ≡ pairs_before batch settings n → pairs ≡ pairs_in batch settings n
+    → before ≡ flat_map (turning_lines batch settings) (range_with_len 0 n) → after ≡ before ++ lines_for wide n (λ wiring. turning wiring known pairs) → after ≡ flat_map (turning_lines batch settings) (range_with_len 0 (n + 1))
+more_lines batch settings n wide known pairs before after w s p so_far more =
+    let lines : lines_for wide n (λ wiring. turning wiring known pairs) ≡ turning_lines batch settings n = rw (w, s, p) refl in
+    more ∙ ap₂ (λ (x y : List ℕ). x ++ y) so_far lines ∙ more_parts (turning_lines batch settings) [] n
+
+-- ---- plans
+
+standing_same : (plan : Plan) (k : ℕ) → pairs_before plan.batch plan.settings k ≡ standing_before plan k
+standing_same plan zero = refl
+standing_same plan (suc k) = refl
+
+lines_same : (plan : Plan) (ks : List ℕ) → flat_map (turning_lines plan.batch plan.settings) ks ≡ flat_map (setting_lines plan) ks
+lines_same plan [] = refl
+lines_same plan (k ∷ ks) =
+    ap₂ (λ (old : Option (List Pair)) (rest : List ℕ). lines_for (is_wide plan.batch) k (λ wiring. turning wiring old (pairs_at plan k)) ++ rest) (standing_same plan k) (lines_same plan ks)
+
+-- what a run of a plan sends is what is sent for its settings
+pub plan_text : (plan : Plan) → schedule_text plan.batch plan.settings ≡ switch_text plan
+plan_text plan = lines_same plan (range_with_len 0 (length plan.settings))

@@ -1,6 +1,6 @@
--- What `switch` answers: what a run sends the switches of a rack, setting by setting. The texts are
--- this project's choice.
-use Rattle.std.specs.Prelude.{◌≡◌, ℕ, ◌++◌, ◌||◌, Bool, List, [], if◌then◌else◌, codes, length, nat_le}
+-- What `switch` answers: what the switches of a rack are sent for a schedule, setting by setting.
+-- The texts are this project's choice.
+use Rattle.std.specs.Prelude.{◌≡◌, ◌≤◌, ℕ, zero, suc, ◌++◌, ◌||◌, Bool, List, [], Option, Some, None, if◌then◌else◌, codes, length, nat_le, slice_index_or}
 use Rattle.std.specs.Fmt.{decimal}
 use Rattle.std.specs.List.{flat_map, list_any, range_with_len}
 use Rattle.batch.specs.declared.fault.BatchFault.{BatchFault}
@@ -13,14 +13,20 @@ use Rattle.c004_commands.specs.declared.command.Command.{Command}
 use Rattle.c004_commands.specs.declared.port.TheConstants.{PORTS}
 use Rattle.crossbar.specs.declared.chip.Wiring.{Wiring}
 use Rattle.crossbar.specs.declared.chip.Wiring.TheVariants.{Both, Forth, Back}
+use Rattle.crossbar.specs.declared.pair.Pair.{Pair}
 use Rattle.crossbar.specs.declared.switch.TheConstants.{JOINED_MODULES}
+use Rattle.refusals.specs.declared.refusal.Refusal.{Refusal}
 use Rattle.refusals.specs.Refusals.{refusal_words}
 use Rattle.refusals.specs.Sources.{of_batch}
 use Rattle.schedule_certificate.specs.Plans.{Plan, IsPlan, HasFewReinsertions}
-use Rattle.setting_runner.specs.Sending.{sent_for}
+use Rattle.setting_runner.specs.Runs.{setting_pairs}
+use Rattle.setting_runner.specs.Sending.{in_order, turning, sent_for}
+use Rattle.steady_schedule.specs.Bounds.{most_changes}
+use Rattle.steady_schedule.specs.Plans.{SteadyPlan, IsSteady}
 use Rattle.line_words.specs.HexWords.{hex2}
 use Rattle.plan_answers.specs.declared.limits.TheConstants.{DONE}
 use Rattle.plan_answers.specs.Refusals.{Printed, IsRefused}
+use Rattle.plan_answers.specs.Validities.{IsScheduleRead, IsInvalid}
 
 -- the transfer names a module that one switch doesn't join
 abbrev pub is_far : Transfer → Bool
@@ -58,6 +64,53 @@ lines_for wide setting sent =
     ++ switch_line setting (codes " b") (sent Back)
     else switch_line setting [] (sent Both)
 
+-- ---- any schedule
+
+-- the pairs of a setting, in the order of their initiators
+abbrev pub pairs_in : List Transfer → List (List ℕ) → ℕ → List Pair
+pairs_in batch settings k = in_order (setting_pairs batch (slice_index_or settings k []))
+
+-- the pairs that stand before it: before the first none are known
+abbrev pub pairs_before : List Transfer → List (List ℕ) → ℕ → Option (List Pair)
+pairs_before batch settings zero = None
+pairs_before batch settings (suc k) = Some (pairs_in batch settings k)
+
+-- the lines of a setting: what turns the switches to its pairs
+abbrev pub turning_lines : List Transfer → List (List ℕ) → ℕ → List ℕ
+turning_lines batch settings k =
+    lines_for (is_wide batch) k
+    (λ wiring. turning wiring (pairs_before batch settings k) (pairs_in batch settings k))
+
+-- the lines of all settings, in their order
+abbrev pub schedule_text : List Transfer → List (List ℕ) → List ℕ
+schedule_text batch settings =
+    flat_map (turning_lines batch settings) (range_with_len 0 (length settings))
+
+-- those lines, under their status
+abbrev pub TellsSwitch : List Transfer → List (List ℕ) → Printed → Type 0
+TellsSwitch batch settings printed =
+    (printed.text ≡ schedule_text batch settings) × (printed.status ≡ DONE)
+
+-- those of the schedule that the texts say, or the refusal of what is first wrong, each under its
+-- status
+pub data IsSwitchedAs (shape : Extent) (batch schedule : List ℕ) (printed : Printed) : Type 0 where
+  switched : (transfers : List Transfer) (settings : List (List ℕ))
+      → IsScheduleRead shape batch schedule transfers settings
+      → TellsSwitch transfers settings printed → IsSwitchedAs shape batch schedule printed
+  invalid : (refusal : Refusal) → IsInvalid shape batch schedule refusal
+      → IsRefused (refusal_words refusal) printed → IsSwitchedAs shape batch schedule printed
+
+-- ---- plans
+
+-- those of a steady plan of the batch that the batch text denotes, or the refusal of that text's
+-- first fault, each under its status
+pub data IsSwitchedSteadily (shape : Extent) (batch : List ℕ) (printed : Printed) : Type 0 where
+  switched : (plan : SteadyPlan) → Denotes shape batch plan.batch → IsSteady plan
+      → plan.changes ≤ most_changes plan.batch → TellsSwitch plan.batch plan.settings printed
+      → IsSwitchedSteadily shape batch printed
+  unplanned : (fault : BatchFault) → IsFirstFault shape batch fault
+      → IsRefused (refusal_words (of_batch fault)) printed → IsSwitchedSteadily shape batch printed
+
 -- the lines of a plan's setting: what a run sends for it
 abbrev pub setting_lines : Plan → ℕ → List ℕ
 setting_lines plan k = lines_for (is_wide plan.batch) k (λ wiring. sent_for wiring plan k)
@@ -66,12 +119,7 @@ setting_lines plan k = lines_for (is_wide plan.batch) k (λ wiring. sent_for wir
 abbrev pub switch_text : Plan → List ℕ
 switch_text plan = flat_map (setting_lines plan) (range_with_len 0 (length plan.settings))
 
--- those lines, under their status
-abbrev pub TellsSwitch : Plan → Printed → Type 0
-TellsSwitch plan printed = (printed.text ≡ switch_text plan) × (printed.status ≡ DONE)
-
--- what a run of a plan of the batch that the batch text denotes sends, or the refusal of that
--- text's first fault, each under its status
+-- what a run of a plan of that batch sends, or that refusal
 pub data IsSwitched (shape : Extent) (batch : List ℕ) (printed : Printed) : Type 0 where
   switched : (plan : Plan) → Denotes shape batch plan.batch → IsPlan plan → HasFewReinsertions plan
       → printed.text ≡ switch_text plan → printed.status ≡ DONE → IsSwitched shape batch printed

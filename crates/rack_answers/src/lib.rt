@@ -3,7 +3,7 @@
 //!
 //! Each `answer_` function reads its texts, does what the command asks for, and gives an [`Answer`](plan_answers::Answer):
 //! what was asked for, or the line of the refusal of what is first wrong. It reads no file and prints
-//! nothing. Those whose names end in `_alone` start no thread, and need no handle.
+//! nothing. Only those that are given workers start threads, and need a handle.
 #![tactic(auto)]
 
 mod applying;
@@ -16,4 +16,6 @@ mod switching;
 pub use applying::answer_apply_alone;
 pub use opening::opening_rack;
 pub use running::{answer_apply, answer_run};
-pub use switching::{answer_switch, answer_switch_alone};
+pub use switching::{
+    answer_switch, answer_switch_alone, answer_switch_schedule, answer_switch_steady,
+};

@@ -3,20 +3,24 @@
 ghost use Rattle.std.specs.Prelude.{◌≡◌, IfOk, IfSome, OnOk};
 ghost use Rattle.batch.specs.Extent.{widest};
 ghost use Rattle.crossbar.specs.Pairs.{ArePairs, room_of};
+ghost use Rattle.link_graph.specs.Schedules.{IsScheduleOf};
+ghost use Rattle.plan_answers.specs.Answers.{IsOnly};
 ghost use Rattle.setting_runner.specs.Sending.{turning};
 ghost use Rattle.rack_answers.specs.Reports.{Adds};
-ghost use Rattle.rack_answers.specs.Switching.{is_wide as needs_two, joined_by, bytes_text, setting_head as head_of, switch_line, lines_for, switch_text, TellsSwitch, IsSwitched};
+ghost use Rattle.rack_answers.specs.Switching.{is_wide as needs_two, joined_by, bytes_text, setting_head as head_of, switch_line, lines_for, TellsSwitch, IsSwitched, IsSwitchedSteadily, IsSwitchedAs};
 
 use crate::spaced::push_spaced;
-use batch::{Batch, Shape};
+use batch::{Batch, Shape, Transfer};
 use crossbar::{JOINED_MODULES, Pair, Wiring};
 use exchange_limits::WorkerCount;
 use line_words::{Line, hex2_of};
-use plan_answers::Answer;
-use schedule_certificate::{OpenGate, Planned, schedule, schedule_alone};
-use setting_runner::{PairList, WIDE_CHANGE_BYTES, bytes_for, setting_numbers};
+use link_graph::Schedule;
+use plan_answers::{Answer, ScheduleTexts};
+use schedule_certificate::{OpenGate, schedule, schedule_alone};
+use setting_runner::{PairList, WIDE_CHANGE_BYTES, bytes_for};
 use std::alloc::{AllocError, Global};
 use std::thread::Threads;
+use steady_schedule::steady;
 
 /// The most modules that one switch joins.
 const JOINED: usize = JOINED_MODULES as usize;
@@ -85,40 +89,28 @@ fn push_setting(
     }
 }
 
-/// Whether a rack that has the batch's modules has two switches.
-fn is_wide(batch: &Batch) -> bool
-    ensures { result ≡ needs_two batch.now }
+/// Whether a rack that has the modules of these transfers has two switches.
+fn is_wide(transfers: &[Transfer]) -> bool
+    ensures { result ≡ needs_two transfers.now }
 {
-    let transfers = batch.as_slice();
-    for transfer in transfers {
-        if transfer.initiator >= JOINED || transfer.responder >= JOINED {
-            return true;
-        }
-    }
-    false
+    transfers
+        .iter()
+        .any(|t| JOINED <= t.initiator || JOINED <= t.responder)
 }
 
-/// What a run of the plan sends the switches, setting by setting.
-fn switch_lines(alloc: Global, planned: &Planned) -> Result<Vec<u8>, AllocError>
-    ensures { IfOk result (λ text. text.items ≡ switch_text planned.now) }
+/// The answer that tells what the switches are sent for a schedule of the batch.
+fn tell(alloc: Global, batch: &Batch, schedule: &Schedule) -> Result<Answer, AllocError>
+    requires { IsScheduleOf batch.now schedule.now }
+    ensures { IfOk result (TellsSwitch batch.now schedule.now) }
 {
-    let batch = planned.batch();
-    let wide = is_wide(batch);
+    let wide = is_wide(batch.as_slice());
     let mut text = Vec::new(alloc);
     let mut standing = None;
-    for number in 0..planned.schedule().settings() {
-        let pairs = PairList::of_setting(batch, setting_numbers(planned, number));
+    for number in 0..schedule.settings() {
+        let pairs = PairList::of_setting(batch, schedule.setting(number).unwrap());
         push_setting(&mut text, wide, number, &standing, pairs.as_slice())?;
         standing = Some(pairs);
     }
-    Ok(text)
-}
-
-/// The answer that tells what a run of the plan sends the switches.
-fn tell(alloc: Global, planned: &Planned) -> Result<Answer, AllocError>
-    ensures { IfOk result (TellsSwitch planned.now) }
-{
-    let text = switch_lines(alloc, planned)?;
     Ok(Answer::done(text))
 }
 
@@ -139,8 +131,8 @@ pub fn answer_switch<R: Threads + Sync>(
 {
     match Batch::read(alloc, batch, Shape::WIDEST) {
         Ok(batch) => {
-            let planned = schedule(rt, alloc, batch, workers, &OpenGate)?;
-            tell(alloc, &planned)
+            let plan = schedule(rt, alloc, batch, workers, &OpenGate)?;
+            tell(alloc, plan.batch(), plan.schedule())
         }
         Err(fault) => Answer::refused(alloc, fault.into()),
     }
@@ -152,9 +144,42 @@ pub fn answer_switch_alone(alloc: Global, batch: &[u8]) -> Result<Answer, AllocE
 {
     match Batch::read(alloc, batch, Shape::WIDEST) {
         Ok(batch) => {
-            let planned = schedule_alone(alloc, batch)?;
-            tell(alloc, &planned)
+            let plan = schedule_alone(alloc, batch)?;
+            tell(alloc, plan.batch(), plan.schedule())
         }
         Err(fault) => Answer::refused(alloc, fault.into()),
+    }
+}
+
+/// The answer of `exchange switch --steady`: such lines for a steady plan of the batch that the text
+/// denotes; or the refusal of the text's first fault. Takes time that grows with the length of the
+/// text.
+pub fn answer_switch_steady(alloc: Global, batch: &[u8]) -> Result<Answer, AllocError>
+    ensures { IfOk result (λ answer. IsSwitchedSteadily widest batch.now answer) }
+{
+    match Batch::read(alloc, batch, Shape::WIDEST) {
+        Ok(batch) => {
+            let plan = steady(alloc, &batch)?;
+            tell(alloc, &batch, plan.schedule())
+        }
+        Err(fault) => Answer::refused(alloc, fault.into()),
+    }
+}
+
+/// The answer of `exchange switch --schedule`: such lines for the schedule that the schedule text
+/// says, of the batch that the batch text denotes; or the refusal of what is first wrong, as
+/// [`ScheduleTexts::read`](plan_answers::ScheduleTexts::read) looks at it. Takes time that grows with
+/// the lengths of the texts.
+pub fn answer_switch_schedule(
+    alloc: Global,
+    batch: &[u8],
+    schedule: &[u8],
+) -> Result<Answer, AllocError>
+    ensures switched { IfOk result (IsSwitchedAs widest batch.now schedule.now) }
+    ensures one { IfOk result (IsOnly (IsSwitchedAs widest batch.now schedule.now)) }
+{
+    match ScheduleTexts::read(alloc, batch, schedule) {
+        Ok(texts) => tell(alloc, texts.batch(), texts.schedule()),
+        Err(refusal) => Answer::refused(alloc, refusal),
     }
 }

@@ -2,15 +2,15 @@ use Rattle.std.proofs.Common.{ap}
 use Rattle.std.proofs.lemmas.Result.{IfOk-weaker}
 use Rattle.batch.specs.Extent.{widest}
 use Rattle.refusals.specs.Sources.{of_batch}
-use Rattle.plan_answers.specs.Answers.{TellsPlan, IsPlanned, planned, refused}
+use Rattle.plan_answers.specs.Answers.{TellsCertified, IsPlanned, planned, refused}
 use Rattle.plan_answers.specs.Refusals.{Refuses}
 use Rattle.plan_answers.proofs.planning.answer_plan.Goals as goal
 
-pub returns-in_ok-planned-in-Ok : goal.returns-in_ok-planned-in-Ok
-returns-in_ok-planned-in-Ok g c =
-    let plan = c.in_ok-planned-in-Ok.planned in
-    let its = c.in_ok-planned-in-Ok.ensures in
-    IfOk-weaker c.tell.result (TellsPlan plan) (IsPlanned widest c.args.batch.now)
+pub returns-in_ok-schedule-in-Ok : goal.returns-in_ok-schedule-in-Ok
+returns-in_ok-schedule-in-Ok g c =
+    let plan = c.in_ok-schedule-in-Ok.field-0 in
+    let its = c.in_ok-schedule-in-Ok.ensures in
+    IfOk-weaker c.tell.result (TellsCertified plan.settings plan.named) (IsPlanned widest c.args.batch.now)
     (λ p tells. planned plan (rw its.batch c.in-Ok.ensures.batch) its.plan its.reinserted tells.0 tells.1) c.tell.ensures
 
 pub returns-in-Err : goal.returns-in-Err
