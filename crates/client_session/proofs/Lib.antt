@@ -3,6 +3,7 @@ pub mod Parts
 pub mod Known
 pub mod Asking
 pub mod Lists
+pub mod Listening
 pub mod Taken
 pub mod Doing
 pub mod Turning

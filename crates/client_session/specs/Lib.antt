@@ -1,5 +1,6 @@
 pub mod Bytes
 pub mod Asking
+pub mod Listening
 pub mod Faults
 pub mod Commands
 pub mod Sources

@@ -2,7 +2,8 @@
 //!
 //! [`serve`] reads the commands of one client and answers them from one seat of an exchange. Contracts see a
 //! session as a relation between the bytes that were read, the entries that are new in the seat's list, the
-//! progress that the seat has seen, and the bytes that were written. A [`Listener`] is told beside them what is refused.
+//! progress that the seat has seen, and the bytes that were written. A [`Listener`] hears beside them what was said, and
+//! what of it is refused; contracts see what it tells.
 #![tactic(auto)]
 
 mod answering;

@@ -1,19 +1,39 @@
+ghost use Rattle.std.specs.Prelude.{◌≡◌, ℕ, List, [], Some, None};
+ghost use Rattle.refusals.specs.declared.refusal.Refusal.{Refusal};
+ghost use Rattle.client_session.specs.Listening.{Told, Tells};
+
 use refusals::Refusal;
 
-/// Who is told beside a session's replies which commands are refused, and why. Contracts say nothing of what it does.
+/// Who hears beside a session's replies what was said, and what of it is refused, and why.
+///
+/// Contracts see what it has told, as the contents of a writer, and what may be told of a refusal.
 pub trait Listener {
-    /// A command was read, and isn't done yet: these are its lines, each with its line feed.
-    fn heard(&mut self, text: &[u8]);
+    // What it has told.
+    ghost told: { Self → Told };
 
-    /// The command that was heard last is refused, and the reply line that says so is written.
-    fn refused(&mut self, refusal: Refusal);
+    // That these bytes may be told of a refusal.
+    ghost may_tell: { Refusal → List ℕ → Type 0 };
+
+    /// Lines were read that are answered next, each with its line feed: a command with the lines that belong to it, or a
+    /// line that is no command. Nothing is told of them yet.
+    fn heard(&mut self, text: &[u8])
+        ensures { told self.new ≡ told self.old };
+
+    /// What was heard last is refused, and the reply line that says so is written. Of this refusal, and of nothing else,
+    /// something may be told now.
+    fn refused(&mut self, refusal: Refusal)
+        ensures { Tells may_tell refusal (told self.old) (told self.new) };
 }
 
-/// A listener that does nothing.
+/// A listener that tells nothing.
 #[derive(Clone, Copy, Debug)]
 pub struct Unheard;
 
 impl Listener for Unheard {
+    ghost told = { λ _. record { bytes = Some []; loan = None } };
+
+    ghost may_tell = { λ _ bytes. bytes ≡ [] };
+
     fn heard(&mut self, _text: &[u8]) {}
 
     fn refused(&mut self, _refusal: Refusal) {}

@@ -4,6 +4,7 @@ ghost use Rattle.std.specs.Prelude.{◌≡◌, Some, OnOk, IfErr};
 ghost use Rattle.std.specs.Io.KnownBytes.{Appends};
 ghost use Rattle.batch_book.specs.Seats.{IsSameSeat};
 ghost use Rattle.client_session.specs.Asking.{AsksWithinLimit};
+ghost use Rattle.client_session.specs.Listening.{TellsOfRefusals};
 ghost use Rattle.client_session.specs.Sessions.{HasEnded, Passes, IsServed, fault_in, seat_back, fault_back};
 ghost use Rattle.client_session.specs.Steps.{IsCutLine};
 
@@ -46,7 +47,9 @@ fn send<O: Write>(writer: &mut O, line: &[u8]) -> Result<(), ServeFault>
 }
 
 /// Tells of the refusal that a line says, where it says one.
-fn tell_refusal<H: Listener>(listener: &mut H, line: &ReplyLine) {
+fn tell_refusal<H: Listener>(listener: &mut H, line: &ReplyLine)
+    ensures { TellsOfRefusals H.may_tell (H.told listener.old) (H.told listener.new) }
+{
     if let Some(refusal) = line.refusal() {
         listener.refused(refusal);
     }
@@ -75,6 +78,7 @@ fn serve_seat<
         (O.contents writer.old) (O.contents writer.new) seat.old seat.new
         (HasEnded (fault_in result) (I.remaining reader.new) seat.old seat.new) }
     ensures asks { AsksWithinLimit (I.asked reader.old) (I.asked reader.new) (fault_in result) }
+    ensures beside { TellsOfRefusals H.may_tell (H.told listener.old) (H.told listener.new) }
 {
     let mut input = Input::new();
     while let Some(n) = input.next_line(reader)? {
@@ -99,7 +103,8 @@ fn serve_seat<
 /// memory, so none is lost whose call was made; want of memory is a reply, but for the text of a batch, where it
 /// ends the session.
 ///
-/// The listener is told of each command before it is done, and of a refusal behind its reply line.
+/// The listener hears each command, and each line that is none, before it is done, and each refusal behind its reply line.
+/// What it tells stands behind what it had told, and is told of such refusals alone.
 ///
 /// The reader is asked at most [`MAX_READS`](crate::MAX_READS) times. Where it has been, and would have to be asked
 /// once more, the session ends with `Turns`.
@@ -130,6 +135,7 @@ pub fn serve<
         (I.remaining reader.old) (I.remaining reader.new)
         (O.contents writer.old) (O.contents writer.new) }
     ensures asks { AsksWithinLimit (I.asked reader.old) (I.asked reader.new) (fault_back result) }
+    ensures beside { TellsOfRefusals H.may_tell (H.told listener.old) (H.told listener.new) }
 {
     let mut exchange_seat = ExchangeSeat::new(shared, seat);
     let ended = serve_seat(

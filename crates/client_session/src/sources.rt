@@ -22,7 +22,7 @@ pub(crate) fn of_book(refusal: batch_book::Refusal) -> Refusal
     }
 }
 
-/// That of a run which was refused.
+/// That of a run which was refused. [`Refusal::Shape`] is that of a plan with a module or a block that the rack hasn't.
 pub(crate) fn of_run(refusal: RunRefusal) -> Refusal
     ensures { result ≡ of_run refusal }
 {

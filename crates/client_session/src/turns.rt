@@ -83,6 +83,7 @@ fn batch<
         input.old seat.old seat.new) }
     ensures asks { GivesOrStops (I.asked reader.old) (I.asked reader.new)
         input.old.reads input.new.reads result }
+    ensures beside { H.told listener.new ≡ H.told listener.old }
     ensures fuel { OnOk result (fuel input.new < fuel input.old) }
 {
     let mut text = Vec::from_slice(alloc, &input.pending()[..n + 1])?;
@@ -146,6 +147,7 @@ pub(crate) fn turn<
         input.old seat.old seat.new) }
     ensures asks { GivesOrStops (I.asked reader.old) (I.asked reader.new)
         input.old.reads input.new.reads result }
+    ensures beside { H.told listener.new ≡ H.told listener.old }
     ensures fuel { OnOk result (fuel input.new < fuel input.old) }
 {
     let command = Command::read(&input.pending()[..n]);

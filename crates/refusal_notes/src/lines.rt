@@ -18,10 +18,7 @@ pub(crate) fn piece(bytes: &[u8], end: u8, n: usize) -> Option<&[u8]>
 pub(crate) fn line_at(text: &[u8], number: usize) -> &[u8]
     ensures { result.now ≡ the_line text.now number }
 {
-    match piece(text, b'\n', number.saturating_sub(1)) {
-        Some(line) => line,
-        None => &[],
-    }
+    piece(text, b'\n', number.saturating_sub(1)).unwrap_or(&[])
 }
 
 /// Whether a line feed ends the line of this number.
@@ -36,8 +33,7 @@ pub(crate) fn number_at(line: &[u8], place: usize) -> Option<usize>
     ensures some { IfSome result (λ n. HasNumber line.now place n) }
     ensures none { IfNone result ((n : ℕ) → HasNumber line.now place n → ⊥) }
 {
-    let n = number_from_digits(piece(line, b' ', place)?)?;
-    Some(n)
+    number_from_digits(piece(line, b' ', place)?)
 }
 
 /// How many entries the text's first line says that there are.

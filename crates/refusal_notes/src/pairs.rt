@@ -85,11 +85,9 @@ fn times_in(line: &[u8], t: usize) -> usize {
 
 /// How often the settings of a schedule hold this transfer.
 pub(crate) fn times_held(schedule: &[u8], t: usize) -> usize {
-    let mut times: usize = 0;
-    for line in schedule.split(|b| *b == b'\n') {
-        times = times.saturating_add(times_in(line, t));
-    }
-    times
+    schedule
+        .split(|b| *b == b'\n')
+        .fold(0, |times, line| times.saturating_add(times_in(line, t)))
 }
 
 /// The number of the line, counted from 1, in which a setting holds this transfer once more than so many times.

@@ -32,7 +32,9 @@ pub fn session_line<'a>(
     shape: &'a str,
     sent: &'a [u8],
 ) -> Option<String>
-    ensures { IfSome result (λ text. (words : List ℕ) × (string_bytes text ≡ line_told words)) }
+    ensures text { IfSome result (λ text.
+        (words : List ℕ) × (string_bytes text ≡ line_told words)) }
+    ensures refusal { IfSome result (λ _. refusal ≢ Refusal.NoMemory) }
 {
     let list = Named {
         name: "",

@@ -1,9 +1,8 @@
 -- The sessions of scripts, the seats of their exchange, and its history.
-use Rattle.std.proofs.Common.{◌≡◌, ℕ, ◌+◌, ◌<◌, ◌≤◌, suc, Bool, true, false, ◌||◌, is_some, List, [], ◌∷◌, ◌++◌, length, get_or, map, option_map, All, Option, Some, Result, Ok, Err, IfOk, OnOk, is_ok, if◌then◌else◌, refl, sym, ap, ap₂, ◌∙◌, subst, slice_get, take, arith}
-use Rattle.std.specs.List.{range_with_len, sum, sum_by}
+use Rattle.std.proofs.Common.{◌≡◌, ℕ, ◌+◌, ◌<◌, ◌≤◌, suc, Bool, ◌||◌, List, [], ◌∷◌, ◌++◌, length, get_or, map, option_map, All, Option, Some, Result, Ok, Err, IfOk, OnOk, is_ok, if◌then◌else◌, refl, sym, ap, ap₂, ◌∙◌, subst, slice_get, take, arith}
+use Rattle.std.specs.List.{range_with_len, sum, sum_by, list_any}
 use Rattle.std.proofs.lemmas.List.{take_more, take-map, flat_map_more, get_or-map, length-map, map-id}
 use Rattle.std.proofs.lemmas.List.Elements.{All-map}
-use Rattle.std.proofs.lemmas.List.Folds.{list_any_at, list_any_more}
 use Rattle.std.proofs.lemmas.List.FromFn.{get_or-range_with_len, length-range_with_len}
 use Rattle.std.proofs.lemmas.Option.{slice_get-map, slice_get_read}
 use Rattle.std.proofs.lemmas.List.Sums.{sum-map}
@@ -22,7 +21,7 @@ use Rattle.client_session.specs.declared.fault.ServeFault.{ServeFault}
 use Rattle.client_session.specs.Seats.{SeatView, seat_view}
 use Rattle.client_session.specs.Sessions.{Passes, HasEnded}
 use Rattle.session_answers.specs.declared.session.Session.{Session}
-use Rattle.session_answers.specs.Frames.{Transcript, session_text, sessions_text, has_fault}
+use Rattle.session_answers.specs.Frames.{Transcript, session_text, sessions_text}
 use Rattle.session_answers.specs.Histories.{Part, part_of, IsHistoryOf, HaveOneHistory, HaveAnotherHistory}
 use Rattle.session_answers.specs.Serving.{HasItsScript}
 use Rattle.session_answers.specs.Sessions.{IsAttended}
@@ -52,6 +51,11 @@ one_more {A} {B} f xs i x lt is =
     let last : f x ≡ get_or (map f xs) i (f x) = ap f is ∙ sym (get_or-map f xs i x (f x) lt) in
     ap₂ (λ (ys : List B) (y : B). ys ++ y ∷ []) (sym (take-map f i xs)) last ∙ sym (take_more (map f xs) i (f x) below) ∙ take-map f (i + 1) xs
 
+-- what one of the values has one of their images has
+pub any_mapped : {X Y : Type 0} (p : Y → Bool) (f : X → Y) (xs : List X) → list_any (λ x. p (f x)) xs ≡ list_any p (map f xs)
+any_mapped p f [] = refl
+any_mapped p f (x ∷ xs) = ap (λ (b : Bool). p (f x) || b) (any_mapped p f xs)
+
 -- two facts of what was had
 pub both : {X E : Type 0} (r : Result X E) {P Q S : X → Type 0} → IfOk r P → IfOk r Q → ((x : X) → P x → Q x → S x) → IfOk r S
 both (Ok x) p q f = f x p q
@@ -69,23 +73,6 @@ pub one_more_text : {L : Type 0} (ss : List (Session L)) (i : ℕ) (s : Session 
     → before ≡ sessions_text (map transcript (take i ss)) → after ≡ before ++ session_text (transcript s) → after ≡ sessions_text (map transcript (take (i + 1) ss))
 one_more_text ss i s before after lt is framed more =
     more ∙ ap (λ (x : List ℕ). x ++ session_text (transcript s)) framed ∙ flat_map_more session_text [] (map transcript (take i ss)) (transcript s) ∙ ap sessions_text (one_more transcript ss i s lt is)
-
--- ---- faults
-
--- what stands at a place among the transcripts
-there : {L : Type 0} (ss : List (Session L)) (i : ℕ) (s : Session L) → i < length ss → s ≡ get_or ss i s → get_or (map transcript ss) i (transcript s) ≡ transcript s
-there ss i s lt is = get_or-map transcript ss i s (transcript s) lt ∙ ap transcript (sym is)
-
-pub fault_here : {L : Type 0} (ss : List (Session L)) (i : ℕ) (s : Session L) → i < length ss → s ≡ get_or ss i s → is_some s.fault ≡ true → has_fault (map transcript ss) ≡ true
-fault_here ss i s lt is some =
-    let HasFault : Transcript → Bool = λ t. is_some t.fault in
-    list_any_at HasFault (map transcript ss) i (transcript s) (omega (arith, length-map ss transcript)) (ap HasFault (there ss i s lt is) ∙ some)
-
-pub no_fault_yet : {L : Type 0} (ss : List (Session L)) (i : ℕ) (s : Session L) → i < length ss → s ≡ get_or ss i s → has_fault (take i (map transcript ss)) ≡ false → is_some s.fault ≡ false
-    → has_fault (take (i + 1) (map transcript ss)) ≡ false
-no_fault_yet ss i s lt is before none =
-    let HasFault : Transcript → Bool = λ t. is_some t.fault in
-    list_any_more HasFault (map transcript ss) i (transcript s) (omega (arith, length-map ss transcript)) ∙ ap₂ ◌||◌ before (ap HasFault (there ss i s lt is) ∙ none)
 
 -- ---- a session
 

@@ -7,12 +7,12 @@ use Rattle.module_memory.specs.Store.{Store}
 use Rattle.batch_book.specs.Exchanges.{Exchange, AreNew, new_seat, parts_at}
 use Rattle.batch_book.specs.Seats.{SeatState, IsSameSeat, parts_of}
 use Rattle.client_session.specs.declared.fault.ServeFault.{ServeFault}
-use Rattle.session_answers.specs.Frames.{Transcript}
+use Rattle.session_answers.specs.Frames.{Transcript, end_line}
 use Rattle.session_answers.specs.Histories.{part_of, IsClosing}
 use Rattle.session_answers.specs.Hosting.{IsFresh, AreAllSeats}
 use Rattle.plan_answers.specs.Refusals.{Printed}
 use Rattle.session_answers.specs.Sessions.{IsAttended}
-use Rattle.session_answers.specs.Talking.{HasTalked, end_line}
+use Rattle.session_answers.specs.Talking.{HasTalked}
 
 empty_front : (xs : List SeatState) (x : SeatState) → length (xs ++ x ∷ []) ≡ 1 → xs ≡ []
 empty_front [] x len = refl

@@ -1,9 +1,8 @@
 -- The sessions of a host's clients, and the seats of their exchange.
-use Rattle.std.proofs.Common.{◌≡◌, ℕ, ◌+◌, ◌<◌, Bool, true, false, ◌||◌, List, [], ◌∷◌, ◌++◌, length, get_or, map, All, Option, Some, None, Result, Ok, IfOk, IfSome, refl, sym, ap, ap₂, ◌∙◌, subst, take, arith}
+use Rattle.std.proofs.Common.{◌≡◌, ℕ, ◌+◌, ◌<◌, Bool, ◌||◌, List, [], ◌∷◌, ◌++◌, length, get_or, map, All, Option, Some, None, Result, Ok, IfOk, IfSome, refl, sym, ap, ap₂, ◌∙◌, subst, take, arith}
 use Rattle.std.specs.List.{range_with_len, sum, list_any, flat_map}
 use Rattle.std.proofs.lemmas.List.{flat_map_more, get_or-map, length-map, map-id, append_assoc, map-append}
 use Rattle.std.proofs.lemmas.List.Elements.{All-map, All-push}
-use Rattle.std.proofs.lemmas.List.Folds.{list_any_at, list_any_more}
 use Rattle.std.proofs.lemmas.List.FromFn.{get_or-range_with_len, length-range_with_len}
 use Rattle.std.proofs.lemmas.List.Sums.{sum-map}
 use Rattle.std.proofs.lemmas.Simd.{map-map}
@@ -16,7 +15,6 @@ use Rattle.session_answers.specs.declared.attended.Attended.{Attended}
 use Rattle.session_answers.specs.declared.attended.Ending.{Ending}
 use Rattle.session_answers.specs.declared.attended.Ending.TheVariants.{Unopened, Served}
 use Rattle.session_answers.specs.Histories.{part_of, IsClosing}
-use Rattle.session_answers.specs.Hosting.{IsFresh}
 use Rattle.session_answers.specs.Hosts.{Guests, Visit, AreHosted, IsVisit, end_of, ending_line, has_failed, visit_heading, visit_text}
 use Rattle.plan_answers.specs.Refusals.{Printed}
 use Rattle.session_answers.specs.Sessions.{IsAttended}
@@ -93,21 +91,6 @@ one_more_end g received ss i s before headed after lt is printed head end =
     whole ∙ ap (λ (xs : List ℕ). xs ++ visit_text g (visit received s)) printed
     ∙ flat_map_more (visit_text g) [] (map (visit received) (take i ss)) (visit received s) ∙ ap (flat_map (visit_text g)) (one_more (visit received) ss i s lt is)
 
--- one that failed
-pub fails_here : {L C : Type 0} (ss : List (Attended L C)) (i : ℕ) (s : Attended L C) → i < length ss → s ≡ get_or ss i s → has_failed s.ending ≡ true
-    → list_any has_failed (map (λ s. s.ending) ss) ≡ true
-fails_here {L} {C} ss i s lt is failed =
-    let End : Attended L C → Ending C = λ s. s.ending in
-    let there : get_or (map End ss) i (End s) ≡ End s = get_or-map End ss i s (End s) lt ∙ ap End (sym is) in
-    list_any_at has_failed (map End ss) i (End s) (omega (arith, lt, length-map ss End)) (ap has_failed there ∙ failed)
-
-pub none_failed_yet : {L C : Type 0} (ss : List (Attended L C)) (i : ℕ) (s : Attended L C) → i < length ss → s ≡ get_or ss i s
-    → list_any has_failed (take i (map (λ s. s.ending) ss)) ≡ false → has_failed s.ending ≡ false → list_any has_failed (take (i + 1) (map (λ s. s.ending) ss)) ≡ false
-none_failed_yet {L} {C} ss i s lt is before none =
-    let End : Attended L C → Ending C = λ s. s.ending in
-    let there : get_or (map End ss) i (End s) ≡ End s = get_or-map End ss i s (End s) lt ∙ ap End (sym is) in
-    list_any_more has_failed (map End ss) i (End s) (omega (arith, lt, length-map ss End)) ∙ ap₂ ◌||◌ before (ap has_failed there ∙ none)
-
 -- those that failed
 pub same_failures : {C : Type 0} (received : C → Option (List ℕ)) (es : List (Ending C)) → list_any has_failed (map (end_of received) es) ≡ list_any has_failed es
 same_failures received [] = refl
@@ -119,13 +102,7 @@ same_failures received (e ∷ es) = ap₂ ◌||◌ (same_failure received e) (sa
 pub moved : {A : Type 0} (all xs more ys rest : List A) (y : A) → more ≡ xs ++ y ∷ [] → ys ≡ y ∷ rest → xs ++ ys ≡ all → more ++ rest ≡ all
 moved all xs more ys rest y pushed first was = ap (λ zs. zs ++ rest) pushed ∙ append_assoc xs (y ∷ []) rest ∙ ap (λ zs. xs ++ zs) (sym first) ∙ was
 
--- each seat of a new exchange has done nothing
-pub all_fresh : (x : Exchange) (n : ℕ) (seats : List SeatState) → AreNew x.word n seats → All (IsFresh x) seats
-all_fresh x n seats new k d lt =
-    let is : get_or seats k d ≡ new_seat x.word k (parts_at n k) = new.each k d (omega (arith, lt, new.count)) in
-    record { exchange = ap (λ (t : SeatState). t.exchange) is; log = ap (λ (t : SeatState). t.log) is; seen = ap (λ (t : SeatState). t.seen) is }
-
--- they are those of so many clients
+-- the seats of a new exchange are those of so many clients
 pub new_for : (x : Exchange) (n clients : ℕ) (seats : List SeatState) → AreNew x.word n seats → n ≡ clients → AreNew x.word clients seats
 new_for x n clients seats new is = subst (λ (k : ℕ). AreNew x.word k seats) is new
 

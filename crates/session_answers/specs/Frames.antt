@@ -22,6 +22,11 @@ ended_line Cut = codes "ended cut\n"
 ended_line Turns = codes "ended turns\n"
 ended_line NoMemory = codes "ended no memory\n"
 
+-- the line that tells which fault ended a session, where one did
+abbrev pub end_line : Option ServeFault → List ℕ
+end_line None = []
+end_line (Some fault) = ended_line fault
+
 -- the line feed that is missing behind a last byte
 abbrev pub missing_feed : Option ℕ → List ℕ
 missing_feed None = []

@@ -4,19 +4,17 @@ use Rattle.std.specs.Fmt.{decimal}
 use Rattle.std.specs.Io.KnownBytes.{Appends}
 use Rattle.std.specs.List.{list_any, range_with_len}
 use Rattle.batch.specs.Extent.{Extent}
-use Rattle.batch.specs.ShapeText.{DenotesShape, IsBadShape}
-use Rattle.module_memory.specs.declared.fault.ImageFault.{ImageFault}
 use Rattle.module_memory.specs.Store.{Store}
 use Rattle.client_session.specs.declared.fault.ServeFault.{ServeFault}
 use Rattle.session_answers.specs.declared.attended.Ending.{Ending}
 use Rattle.session_answers.specs.declared.attended.Ending.TheVariants.{Unopened, Served}
-use Rattle.rack_answers.specs.Openings.{IsOfImageOrZeros, IsWrongImage}
 use Rattle.plan_answers.specs.Refusals.{Printed, Refuses}
-use Rattle.refusals.specs.declared.refusal.Refusal.TheVariants.{Shape, Threads}
-use Rattle.refusals.specs.Sources.{of_image}
+use Rattle.refusals.specs.declared.refusal.Refusal.{Refusal}
+use Rattle.refusals.specs.declared.refusal.Refusal.TheVariants.{Threads}
+use Rattle.session_answers.specs.Frames.{end_line}
 use Rattle.session_answers.specs.Histories.{Part, IsClosing}
+use Rattle.session_answers.specs.Racks.{IsRackOf, IsWrongRack}
 use Rattle.session_answers.specs.Sessions.{IsAttended}
-use Rattle.session_answers.specs.Talking.{end_line}
 
 -- what is known of the clients of a host: how many they are, what each says, what its writer holds
 -- at first, its name, and whether its files may be such that they can't be opened
@@ -101,16 +99,11 @@ pub data IsHosting (opening : Store) (g : Guests) (ends : List End) (printed : P
   threads_refused : Refuses Threads printed → ends ≡ []
       → IsHosting opening g ends printed
 
--- the sessions of the clients on a rack of the shape that the text denotes, whose words are first
--- those of the image or, where there is none, 0; or the refusal where it denotes none, or else of
--- the image, and no session
+-- the sessions of the clients on the rack of the shape and the image; or the refusal where there is
+-- none, and no session
 pub data IsHostAnswer (shape : List ℕ) (image : Option (List ℕ)) (g : Guests) (ends : List End)
     (printed : Printed) : Type 0 where
-  opened : (extent : Extent) (opening : Store) → DenotesShape shape extent
-      → IsOfImageOrZeros extent image opening → IsHosting opening g ends printed
+  opened : (opening : Store) → IsRackOf shape image opening → IsHosting opening g ends printed
       → IsHostAnswer shape image g ends printed
-  shape_refused : IsBadShape shape → Refuses Shape printed → ends ≡ []
-      → IsHostAnswer shape image g ends printed
-  image_refused : (extent : Extent) (fault : ImageFault) → DenotesShape shape extent
-      → IsWrongImage extent image fault → Refuses (of_image fault) printed → ends ≡ []
-      → IsHostAnswer shape image g ends printed
+  refused : (refusal : Refusal) → IsWrongRack shape image refusal → Refuses refusal printed
+      → ends ≡ [] → IsHostAnswer shape image g ends printed

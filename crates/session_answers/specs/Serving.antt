@@ -2,15 +2,12 @@
 use Rattle.std.specs.Prelude.{◌≡◌, ℕ, List, length, map, All, slice_get, Option, Some}
 use Rattle.std.specs.List.{range_with_len}
 use Rattle.batch.specs.Extent.{Extent}
-use Rattle.batch.specs.ShapeText.{DenotesShape, IsBadShape}
-use Rattle.module_memory.specs.declared.fault.ImageFault.{ImageFault}
 use Rattle.module_memory.specs.Store.{Store}
-use Rattle.rack_answers.specs.Openings.{IsOfImageOrZeros, IsWrongImage}
 use Rattle.plan_answers.specs.Refusals.{Printed, Refuses}
-use Rattle.refusals.specs.declared.refusal.Refusal.TheVariants.{Shape}
-use Rattle.refusals.specs.Sources.{of_image}
+use Rattle.refusals.specs.declared.refusal.Refusal.{Refusal}
 use Rattle.session_answers.specs.Frames.{Transcript, sessions_text, has_fault}
 use Rattle.session_answers.specs.Histories.{IsClosing}
+use Rattle.session_answers.specs.Racks.{IsRackOf, IsWrongRack}
 use Rattle.session_answers.specs.Sessions.{IsAttended}
 
 -- a session that read a front of the script at its number's place
@@ -32,16 +29,11 @@ AreServed opening scripts printed =
     × IsClosing opening (map (λ t. t.part) sessions) (sessions_text sessions) (has_fault sessions)
     printed
 
--- the sessions of the scripts on a rack of the shape that the text denotes, whose words are first
--- those of the image or, where there is none, 0; or the refusal where it denotes none, or else of
--- the image
+-- the sessions of the scripts on the rack of the shape and the image, or the refusal where there is
+-- none
 pub data IsServeAnswer (shape : List ℕ) (image : Option (List ℕ)) (scripts : List (List ℕ))
     (printed : Printed) : Type 0 where
-  served : (extent : Extent) (opening : Store) → DenotesShape shape extent
-      → IsOfImageOrZeros extent image opening → AreServed opening scripts printed
+  served : (opening : Store) → IsRackOf shape image opening → AreServed opening scripts printed
       → IsServeAnswer shape image scripts printed
-  shape_refused : IsBadShape shape → Refuses Shape printed
-      → IsServeAnswer shape image scripts printed
-  image_refused : (extent : Extent) (fault : ImageFault) → DenotesShape shape extent
-      → IsWrongImage extent image fault → Refuses (of_image fault) printed
+  refused : (refusal : Refusal) → IsWrongRack shape image refusal → Refuses refusal printed
       → IsServeAnswer shape image scripts printed

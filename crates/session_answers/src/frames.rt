@@ -1,7 +1,7 @@
 //! How sessions are printed.
 
 ghost use Rattle.std.specs.Prelude.{◌≡◌, ◌++◌, IfOk, OnOk, map};
-ghost use Rattle.session_answers.specs.Frames.{ended_line, end_text, heading, sessions_text, has_fault};
+ghost use Rattle.session_answers.specs.Frames.{ended_line, end_line, end_text, sessions_text, has_fault};
 ghost use Rattle.session_answers.specs.Hosting.{transcript, text_of};
 
 use crate::session::Session;
@@ -10,7 +10,7 @@ use std::alloc::{AllocError, Global};
 use std::sync::ledger::Ledger;
 
 /// The line that tells of a fault which ended a session.
-pub fn ended_line(fault: ServeFault) -> &'static [u8]
+fn ended_line(fault: ServeFault) -> &'static [u8]
     ensures { result.now ≡ ended_line fault }
 {
     match fault {
@@ -23,12 +23,14 @@ pub fn ended_line(fault: ServeFault) -> &'static [u8]
     }
 }
 
-/// Puts the line of a session's number at the end of the text.
-fn push_heading(alloc: Global, text: &mut Vec<u8>, session: usize) -> Result<(), AllocError>
-    ensures { OnOk result (text.new.items ≡ text.old.items ++ heading session) }
+/// The line that tells which fault ended a session; nothing where none did.
+pub fn end_line(fault: Option<ServeFault>) -> &'static [u8]
+    ensures { result.now ≡ end_line fault }
 {
-    let line = format!(in alloc; "session {session}\n")?;
-    text.extend_from_slice(line.as_str().as_bytes())
+    match fault {
+        Some(fault) => ended_line(fault),
+        None => b"",
+    }
 }
 
 /// Puts what is said of a session's end at the end of the text, behind what the session was told.
@@ -57,7 +59,9 @@ fn push_session<L: Ledger>(
 ) -> Result<(), AllocError>
     ensures { OnOk result (text.new.items ≡ text.old.items ++ text_of session.now) }
 {
-    push_heading(alloc, text, session.seat.session())?;
+    let number = session.seat.session();
+    let heading = format!(in alloc; "session {number}\n")?;
+    text.extend_from_slice(heading.as_str().as_bytes())?;
     text.extend_from_slice(session.told.as_slice())?;
     push_end(text, session.told.as_slice(), session.fault)
 }
@@ -78,10 +82,5 @@ pub fn frame<L: Ledger>(alloc: Global, sessions: &[Session<L>]) -> Result<Vec<u8
 pub fn has_fault<L: Ledger>(sessions: &[Session<L>]) -> bool
     ensures { result ≡ has_fault (map transcript sessions.now) }
 {
-    for session in sessions {
-        if session.fault.is_some() {
-            return true;
-        }
-    }
-    false
+    sessions.iter().any(|session| session.fault.is_some())
 }

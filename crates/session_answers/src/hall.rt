@@ -6,6 +6,7 @@ ghost use Rattle.std.specs.Io.KnownBytes.{Appends};
 ghost use Rattle.progress_word.specs.declared.limits.TheConstants.{ALL_PARTS};
 ghost use Rattle.batch_book.specs.Exchanges.{AreNew};
 ghost use Rattle.batch_book.specs.Seats.{IsSameSeat};
+ghost use Rattle.client_session.specs.Listening.{TellsOfRefusals};
 ghost use Rattle.session_answers.specs.Histories.{part_of, HaveOneHistory, HaveAnotherHistory, IsClosing};
 ghost use Rattle.session_answers.specs.Hosting.{AreAllSeats, IsFresh};
 ghost use Rattle.session_answers.specs.Sessions.{IsAttended};
@@ -57,7 +58,7 @@ pub fn open_exchange<L: Ledger>(
 }
 
 /// Serves a client from a seat that has done nothing yet, to the session's end: gives the seat back, and the fault that
-/// ended the session, where one did. The listener is told of what is refused.
+/// ended the session, where one did. The listener hears each command, and each refusal.
 pub fn attend<L: Ledger, R: Threads + Wait + Sync, I: Read, O: Write, H: Listener>(
     rt: &R,
     alloc: Global,
@@ -74,6 +75,7 @@ pub fn attend<L: Ledger, R: Threads + Wait + Sync, I: Read, O: Write, H: Listene
         × Appends (O.contents writer.old) (O.contents writer.new) told
         × IsAttended exchange.now.shape (I.remaining reader.old) (I.remaining reader.new)
         (record { part = part_of result.0; told = told; fault = result.1 }) }
+    ensures beside { TellsOfRefusals H.may_tell (H.told listener.old) (H.told listener.new) }
 {
     match serve(rt, alloc, exchange, seat, reader, writer, listener, workers) {
         Ok(seat) => (seat, None),

@@ -1,7 +1,6 @@
 //! The command `host`.
 
-ghost use Rattle.std.specs.Prelude.{◌≡◌, ◌≤◌, ◌++◌, [], All, IfOk, IfSome, OnOk, Some, codes, length, map, flat_map};
-ghost use Rattle.std.specs.Fmt.{decimal};
+ghost use Rattle.std.specs.Prelude.{◌≡◌, ◌≤◌, ◌++◌, [], All, IfOk, IfSome, OnOk, Some, length, map, flat_map};
 ghost use Rattle.std.specs.List.{list_any};
 ghost use Rattle.progress_word.specs.declared.limits.TheConstants.{ALL_PARTS};
 ghost use Rattle.batch_book.specs.Exchanges.{AreNew};
@@ -14,23 +13,21 @@ ghost use Rattle.session_answers.specs.Visits.{visit, IsOfSeat, AreVisitsAt};
 use crate::all_there::AllThere;
 use crate::attended::{Attended, Ending};
 use crate::doors::Doors;
-use crate::frames::ended_line;
+use crate::frames::end_line;
 use crate::hall::{PlainExchange, attend, finish, open_exchange};
-use crate::latch::Latch;
-use batch::Shape;
+use crate::racks::read_rack;
 use batch_book::Seat;
 use client_session::Unheard;
 use exchange_limits::{MAX_SESSIONS, WorkerCount};
 use module_memory::Rack;
 use plan_answers::Answer;
 use progress_word::ALL_PARTS;
-use rack_answers::opening_rack;
 use refusals::Refusal;
 use std::alloc::{AllocError, Global};
 use std::marker::Brand;
 use std::snapshot::Snapshot;
-use std::sync::Wait;
 use std::sync::ledger::{Blank, Ledger};
+use std::sync::{OnceLock, Wait};
 use std::thread;
 use std::thread::{Promise, PromisedHandle, Scope, Threads};
 
@@ -52,7 +49,8 @@ struct Floor<'a, L: Ledger, R, D> {
     exchange: &'a PlainExchange<L>,
     doors: &'a D,
     workers: WorkerCount,
-    latch: &'a Latch,
+    // Decided once: what shows that all threads are there, or that one couldn't be had.
+    latch: &'a OnceLock<Option<AllThere>>,
 }
 
 /// That a thread gives back a session of this seat.
@@ -116,7 +114,7 @@ fn wait_and_host<L: Ledger, R: Threads + Wait + Sync, D: Doors>(
     ensures { IfSome result (IsOfSeat floor.now.exchange.now (D.guests floor.now.doors.now)
         D.received seat) }
 {
-    match floor.latch.wait(floor.rt) {
+    match *floor.latch.wait(floor.rt) {
         Some(there) if there.threads() == floor.doors.clients() => {
             Some(host_client(floor, there, seat))
         }
@@ -190,7 +188,7 @@ fn host_all<'s, E, L: Ledger + Send + Sync, R: Threads + Wait + Sync, D: Doors>(
         sessions.items)) }
 {
     let started = start_all(scope, floor, seats);
-    floor.latch.decide(floor.rt, all_there(&started));
+    let _ = floor.latch.set(floor.rt, all_there(&started));
     let Some(threads) = started? else {
         return Ok(None);
     };
@@ -213,7 +211,7 @@ fn host_seats<'a, L: Ledger + Send + Sync, R: Threads + Wait + Sync, D: Doors>(
     ensures { IfOk result (λ hosted. IfSome hosted (λ sessions.
         AreVisitsAt exchange.now (D.guests doors.now) D.received sessions.items)) }
 {
-    let latch = Latch::new();
+    let latch = OnceLock::new();
     let all = Floor {
         rt,
         alloc,
@@ -236,31 +234,13 @@ fn host_seats<'a, L: Ledger + Send + Sync, R: Threads + Wait + Sync, D: Doors>(
     )
 }
 
-/// Puts the line of a session's number and its client's name at the end of the text.
-fn push_heading(
-    alloc: Global,
-    text: &mut Vec<u8>,
-    session: usize,
-    name: &str,
-) -> Result<(), AllocError>
-    ensures { OnOk result (text.new.items ≡ text.old.items
-        ++ (codes "session " ++ decimal session ++ codes " " ++ name.now ++ codes "\n")) }
-{
-    let line = format!(in alloc; "session {session} {name}\n")?;
-    text.extend_from_slice(line.as_str().as_bytes())
-}
-
-/// Puts the line of a session's end at the end of the text, unless the session ended by itself.
-fn push_ending<C>(text: &mut Vec<u8>, ending: &Ending<C>) -> Result<(), AllocError>
-    ensures { OnOk result (text.new.items ≡ text.old.items ++ ending_line ending.now) }
+/// The line that tells how a session ended; nothing where it ended by itself.
+fn ending_line<C>(ending: &Ending<C>) -> &'static [u8]
+    ensures { result.now ≡ ending_line ending.now }
 {
     match ending {
-        Ending::Unopened => text.extend_from_slice(b"ended open\n"),
-        Ending::Served {
-            fault: Some(fault),
-            ..
-        } => text.extend_from_slice(ended_line(*fault)),
-        Ending::Served { fault: None, .. } => Ok(()),
+        Ending::Unopened => b"ended open\n",
+        Ending::Served { fault, .. } => end_line(*fault),
     }
 }
 
@@ -276,8 +256,10 @@ fn push_visit<L: Ledger, D: Doors>(
         ++ ending_line session.now.ending) }
 {
     let number = session.seat.session();
-    push_heading(alloc, text, number, doors.name(number))?;
-    push_ending(text, &session.ending)
+    let name = doors.name(number);
+    let heading = format!(in alloc; "session {number} {name}\n")?;
+    text.extend_from_slice(heading.as_str().as_bytes())?;
+    text.extend_from_slice(ending_line(&session.ending))
 }
 
 /// What is printed of the sessions, one after another.
@@ -310,12 +292,7 @@ fn has_failed<C>(ending: &Ending<C>) -> bool
 fn any_failed<L: Ledger, C>(sessions: &[Attended<L, C>]) -> bool
     ensures { result ≡ list_any has_failed (map (λ s. s.ending) sessions.now) }
 {
-    for session in sessions {
-        if has_failed(&session.ending) {
-            return true;
-        }
-    }
-    false
+    sessions.iter().any(|session| has_failed(&session.ending))
 }
 
 /// The seats of sessions, and how these ended.
@@ -402,14 +379,11 @@ pub fn answer_host<R: Threads + Wait + Sync, D: Doors>(
     ensures { IfOk result (λ hosted. IsHostAnswer shape.now (bytes_of image.entry)
         (D.guests doors.now) (map (end_of D.received) hosted.endings.items) hosted.answer) }
 {
-    let Ok(shape) = Shape::read(shape) else {
-        return refused(alloc, Refusal::Shape);
-    };
-    match opening_rack(alloc, shape, image) {
+    match read_rack(alloc, shape, image) {
         Ok(rack) => {
             let blank = Blank::new(ALL_PARTS as u64);
             host::<Brand, R, D>(rt, alloc, blank, rack, workers, doors)
         }
-        Err(fault) => refused(alloc, Refusal::from(fault)),
+        Err(refusal) => refused(alloc, refusal),
     }
 }

@@ -12,7 +12,7 @@ mod doors;
 mod frames;
 mod hall;
 mod hosting;
-mod latch;
+mod racks;
 mod serving;
 mod session;
 mod talking;

@@ -10,16 +10,14 @@ ghost use Rattle.session_answers.specs.Serving.{HasItsScript, AreServed, IsServe
 
 use crate::frames::{frame, has_fault};
 use crate::hall::{PlainExchange, attend, finish, open_exchange};
+use crate::racks::read_rack;
 use crate::session::Session;
-use batch::Shape;
 use batch_book::Seat;
 use client_session::Unheard;
 use exchange_limits::{MAX_SESSIONS, WorkerCount};
 use module_memory::Rack;
 use plan_answers::Answer;
 use progress_word::ALL_PARTS;
-use rack_answers::opening_rack;
-use refusals::Refusal;
 use std::alloc::{AllocError, Global};
 use std::marker::Brand;
 use std::sync::Wait;
@@ -137,14 +135,11 @@ pub fn answer_serve<R: Threads + Wait + Sync>(
     ensures { IfOk result (IsServeAnswer shape.now (bytes_of image.entry)
         (map (λ s. s.items) scripts.now)) }
 {
-    let Ok(shape) = Shape::read(shape) else {
-        return Answer::refused(alloc, Refusal::Shape);
-    };
-    match opening_rack(alloc, shape, image) {
+    match read_rack(alloc, shape, image) {
         Ok(rack) => {
             let blank = Blank::new(ALL_PARTS as u64);
             host::<Brand, R>(rt, alloc, blank, rack, workers, scripts)
         }
-        Err(fault) => Answer::refused(alloc, Refusal::from(fault)),
+        Err(refusal) => Answer::refused(alloc, refusal),
     }
 }

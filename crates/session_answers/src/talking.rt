@@ -3,36 +3,26 @@
 ghost use Rattle.std.specs.Prelude.{◌≡◌, ◌≤◌, List, ℕ, IfOk};
 ghost use Rattle.std.specs.Io.KnownBytes.{Appends};
 ghost use Rattle.progress_word.specs.declared.limits.TheConstants.{ALL_PARTS};
+ghost use Rattle.client_session.specs.Listening.{TellsOfRefusals};
 ghost use Rattle.plan_answers.specs.Lent.{bytes_of};
-ghost use Rattle.session_answers.specs.Talking.{end_line, HasTalked, IsTalkAnswer};
+ghost use Rattle.refusals.specs.declared.refusal.Refusal.{Refusal};
+ghost use Rattle.session_answers.specs.Racks.{IsWrongRack};
+ghost use Rattle.session_answers.specs.Talking.{HasTalked, IsTalkAnswer};
 
-use crate::frames::ended_line;
+use crate::frames::end_line;
 use crate::hall::{attend, finish, open_exchange};
-use batch::Shape;
-use client_session::{Listener, ServeFault};
+use crate::racks::read_rack;
+use client_session::Listener;
 use exchange_limits::WorkerCount;
 use module_memory::Rack;
 use plan_answers::Answer;
 use progress_word::ALL_PARTS;
-use rack_answers::opening_rack;
-use refusals::Refusal;
 use std::alloc::{AllocError, Global};
 use std::io::{Read, Write};
 use std::marker::Brand;
 use std::sync::Wait;
 use std::sync::ledger::{Blank, Ledger};
 use std::thread::Threads;
-
-/// The line that tells which fault ended a session, where one did.
-fn end_line(alloc: Global, fault: Option<ServeFault>) -> Result<Vec<u8>, AllocError>
-    ensures { IfOk result (λ line. line.items ≡ end_line fault) }
-{
-    let mut line = Vec::new(alloc);
-    if let Some(fault) = fault {
-        line.extend_from_slice(ended_line(fault))?;
-    }
-    Ok(line)
-}
 
 /// The answer of the session of this reader and this writer, on an exchange with this rack.
 fn talk<L: Ledger, R: Threads + Wait + Sync, I: Read, O: Write, H: Listener>(
@@ -46,8 +36,10 @@ fn talk<L: Ledger, R: Threads + Wait + Sync, I: Read, O: Write, H: Listener>(
 ) -> Result<Answer, AllocError>
     requires name { blank.name ≡ L.name }
     requires parts { (blank.parts ≡ L.parts) × (blank.parts ≡ ALL_PARTS) }
-    ensures { (told : List ℕ) × Appends (O.contents writer.old) (O.contents writer.new) told
+    ensures session { (told : List ℕ)
+        × Appends (O.contents writer.old) (O.contents writer.new) told
         × IfOk result (HasTalked rack (I.remaining reader.old) (I.remaining reader.new) told) }
+    ensures beside { TellsOfRefusals H.may_tell (H.told listener.old) (H.told listener.new) }
 {
     let opening = rack.copy()?;
     let (exchange, mut seats) = open_exchange::<L>(alloc, blank, rack, WorkerCount::ONE, 1)?;
@@ -57,7 +49,7 @@ fn talk<L: Ledger, R: Threads + Wait + Sync, I: Read, O: Write, H: Listener>(
     let one = WorkerCount::ONE;
     let (seat, fault) = attend(rt, alloc, &exchange, seat, reader, writer, listener, one);
     seats.push(seat)?;
-    let line = end_line(alloc, fault)?;
+    let line = Vec::from_slice(alloc, end_line(fault))?;
     finish(exchange, seats, &opening, line, fault.is_some())
 }
 
@@ -65,11 +57,11 @@ fn talk<L: Ledger, R: Threads + Wait + Sync, I: Read, O: Write, H: Listener>(
 /// the shape which the shape text denotes, whose words are first those of the image or, where there is none, 0; or the
 /// refusal of the shape, or else of the image, before anything is read.
 ///
-/// Each reply line is written, and the writer flushed, before the next command is read. The listener is told of what is
-/// refused. Behind a session that ended by itself
-/// there is nothing more to print; where a fault ended it a line `ended ..` says so, under the status
-/// [`REFUSED`](plan_answers::REFUSED). A line `logs disagree` would say that its list isn't that of the exchange's
-/// history, or that this began on another rack.
+/// Each reply line is written, and the writer flushed, before the next command is read. The listener
+/// hears each command, and each refusal of the session; where no session begins it hears nothing.
+/// Behind a session that ended by itself there is nothing more to print; where a fault ended it a line
+/// `ended ..` says so, under the status [`REFUSED`](plan_answers::REFUSED). A line `logs disagree` would
+/// say that its list isn't that of the exchange's history, or that this began on another rack.
 pub fn answer_talk<R: Threads + Wait + Sync, I: Read, O: Write, H: Listener>(
     rt: &R,
     alloc: Global,
@@ -79,18 +71,19 @@ pub fn answer_talk<R: Threads + Wait + Sync, I: Read, O: Write, H: Listener>(
     writer: &mut O,
     listener: &mut H,
 ) -> Result<Answer, AllocError>
-    ensures { (told : List ℕ) × Appends (O.contents writer.old) (O.contents writer.new) told
+    ensures answer { (told : List ℕ)
+        × Appends (O.contents writer.old) (O.contents writer.new) told
         × IfOk result (IsTalkAnswer shape.now (bytes_of image.entry)
         (I.remaining reader.old) (I.remaining reader.new) told) }
+    ensures beside { TellsOfRefusals H.may_tell (H.told listener.old) (H.told listener.new) }
+    ensures no_session { (refusal : Refusal) → IsWrongRack shape.now (bytes_of image.entry) refusal
+        → H.told listener.new ≡ H.told listener.old }
 {
-    let Ok(shape) = Shape::read(shape) else {
-        return Answer::refused(alloc, Refusal::Shape);
-    };
-    match opening_rack(alloc, shape, image) {
+    match read_rack(alloc, shape, image) {
         Ok(rack) => {
             let blank = Blank::new(ALL_PARTS as u64);
             talk::<Brand, R, I, O, H>(rt, alloc, blank, rack, reader, writer, listener)
         }
-        Err(fault) => Answer::refused(alloc, Refusal::from(fault)),
+        Err(refusal) => Answer::refused(alloc, refusal),
     }
 }

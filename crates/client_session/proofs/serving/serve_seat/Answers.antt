@@ -2,13 +2,14 @@ use Rattle.std.proofs.Common.{Some, None, ap, arith}
 use Rattle.std.proofs.lemmas.Result.{err_from_is_err_and}
 use Rattle.client_session.specs.declared.fault.ServeFault.TheVariants.{Write}
 use Rattle.client_session.proofs.Asking.{gives_none, gives_more, stops_after, stops_here, asks_all}
+use Rattle.client_session.proofs.Listening.{tells_nothing, tells_more, tells_still}
 use Rattle.client_session.proofs.Served.{Serving-none, Serving-read, Serving-turn, ended_at_end, ended_by_bye, stopped_reading, stopped_turn, stopped_writing, none_of}
 use Rattle.client_session.proofs.serving.serve_seat.Goals as goal
 
 pub loop-n-init : goal.loop-n-init
 loop-n-init g c =
     let none = ap (λ h. h.reads) c.new-input.ensures in
-    (Serving-none _ _ _ c.new-input.result (ap (λ h. h.pending) c.new-input.ensures) none, gives_none none (omega arith))
+    (Serving-none _ _ _ c.new-input.result (ap (λ h. h.pending) c.new-input.ensures) none, gives_none none (omega arith), tells_nothing _)
 
 pub returns-in_err-n-clause-session : goal.returns-in_err-n-clause-session
 returns-in_err-n-clause-session g c =
@@ -48,6 +49,7 @@ loop-n-preserved g c =
     let sent = rw c.as_bytes.ensures at c.in_ok-send.ensures.ok in (
       Serving-turn _ _ _ _ _ _ _ _ _ mid c.turn.new.input _ s t sent,
       gives_more (gives_more c.loop-n.invariant.1 (rw c.in-Some.is at c.in_ok-n.ensures.asks)) c.in_ok-ends.ensures.asks,
+      tells_more (tells_still c.loop-n.invariant.2 c.in_ok-ends.ensures.beside) c.tell_refusal.ensures,
     )
 
 pub returns-clause-session : goal.returns-clause-session
@@ -85,3 +87,6 @@ pub returns-clause-asks : goal.returns-clause-asks
 returns-clause-asks g c =
     let end = rw (none_of _ c.in_default.not-Some) at c.in_ok-n.ensures.asks in
     asks_all (stops_after c.loop-n.invariant.1 end)
+
+pub returns-then-ends-clause-beside : goal.returns-then-ends-clause-beside
+returns-then-ends-clause-beside g c = tells_more (tells_still c.loop-n.invariant.2 c.in_ok-ends.ensures.beside) c.tell_refusal.ensures

@@ -1,5 +1,6 @@
 use Rattle.client_session.specs.Asking.{GivesEachTime}
 use Rattle.client_session.specs.Bytes.{fuel}
+use Rattle.client_session.specs.Listening.{TellsOfRefusals}
 use Rattle.client_session.proofs.Served.{Serving}
 use Rattle.client_session.proofs.serving.serve_seat.Given as goal
 
@@ -7,6 +8,7 @@ abbrev pub invariant-loop-n : goal.invariant-loop-n
 invariant-loop-n g l =
     Serving (g.I.AskedReader.remaining l.initial.reader) (g.I.AskedReader.remaining l.reader) (g.O.Write.contents l.initial.writer) (g.O.Write.contents l.writer) l.initial.seat l.seat l.input
     × GivesEachTime (g.I.AskedReader.asked l.initial.reader) (g.I.AskedReader.asked l.reader) 0 l.input.reads
+    × TellsOfRefusals g.H.Listener.may_tell (g.H.Listener.told l.initial.listener) (g.H.Listener.told l.listener)
 
 abbrev pub decreases-loop-n : goal.decreases-loop-n
 decreases-loop-n g l = fuel l.input

@@ -73,7 +73,7 @@ fn play<L: Ledger, R: AllocGlobal + Threads + Wait + Sync>(
     let added = seat.log().len().saturating_sub(before);
     let is_right = speaker.is_right()
         && is_heard(&listener, script, fault)
-        && beside.is_right(script, fault);
+        && beside.is_right(fault);
     (seat, is_right && added == script.entries)
 }
 

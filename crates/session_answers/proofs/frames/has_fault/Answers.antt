@@ -1,15 +1,13 @@
-use Rattle.std.proofs.Common.{◌≡◌, true, false, is_some, sym, rules, arith}
-use Rattle.session_answers.proofs.Sessions.{fault_here, no_fault_yet}
+use Rattle.std.proofs.Common.{is_some, rules, tests, ◌∙◌}
+use Rattle.std.proofs.lemmas.Iterator.{YieldsList-from_slice}
+use Rattle.std.proofs.lemmas.Iterator.Search.{any_from_yields_List}
+use Rattle.session_answers.specs.declared.session.Session.{Session}
+use Rattle.session_answers.specs.Frames.{Transcript}
+use Rattle.session_answers.specs.Hosting.{transcript}
+use Rattle.session_answers.proofs.Sessions.{any_mapped}
 use Rattle.session_answers.proofs.frames.has_fault.Goals as goal
 
-pub returns-then-is_some : goal.returns-then-is_some
-returns-then-is_some g c =
-    let s = c.session-item.result in
-    let some : is_some s.fault ≡ true = search rules in
-    sym (fault_here c.args.sessions.now c.loop-session.session-index s (omega arith) c.session-item.is some)
-
-pub loop-session-preserved : goal.loop-session-preserved
-loop-session-preserved g c =
-    let s = c.session-item.result in
-    let none : is_some s.fault ≡ false = search rules in
-    no_fault_yet c.args.sessions.now c.loop-session.session-index s (omega arith) c.session-item.is c.loop-session.invariant none
+pub returns : goal.returns
+returns g c =
+    any_from_yields_List (λ (s : Session g.row.L.Denot). is_some s.fault) _ _ _ c.any.ensures.ran (YieldsList-from_slice c.args.sessions.now cc) (λ x b q k. search (rules, tests))
+    ∙ any_mapped (λ (t : Transcript). is_some t.fault) transcript c.args.sessions.now

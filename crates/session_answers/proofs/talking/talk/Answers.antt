@@ -1,4 +1,4 @@
-use Rattle.std.proofs.Common.{◌≡◌, ◌++◌, ◌∷◌, [], is_some, map, sym, subst, rules}
+use Rattle.std.proofs.Common.{◌≡◌, ◌∙◌, ◌++◌, ◌∷◌, [], is_some, map, sym, subst, rules}
 use Rattle.std.proofs.KnownBytes.{Appends-nil}
 use Rattle.std.proofs.lemmas.Result.{IfOk-weaker}
 use Rattle.session_answers.specs.Histories.{part_of, IsClosing}
@@ -16,8 +16,8 @@ finish-requires-clause-seats g c =
     let pushed : c.push.new.self.items ≡ rest ++ back ∷ [] = search rules in
     subst (AreAllSeats x) (sym pushed) (all_there x rest c.in-Some.seat back one c.attend-seat.ensures.same)
 
-pub returns : goal.returns
-returns g c =
+pub returns-clause-session : goal.returns-clause-session
+returns-clause-session g c =
     let x = c.in_ok-exchange.exchange in
     let opening = c.in_ok-opening.opening in
     let rest = c.pop.new.self.items in
@@ -34,17 +34,17 @@ returns g c =
       IfOk-weaker c.finish.result (IsClosing opening (map part_of c.push.new.self.items) line failed)
           (HasTalked c.args.rack (g.I.Read.remaining c.args.reader.now) (g.I.Read.remaining c.attend-seat.new.reader) s.0)
           (λ printed closed.
-          has_talked opening c.args.rack x rest c.in-Some.seat back _ _ line s.0 fault failed one c.attend-seat.ensures.same c.in_ok-exchange.ensures.shape c.in_ok-opening.ensures c.in_ok-line.ensures fails s.2 printed (rw pushed at closed)) c.finish.ensures,
+          has_talked opening c.args.rack x rest c.in-Some.seat back _ _ line s.0 fault failed one c.attend-seat.ensures.same c.in_ok-exchange.ensures.shape c.in_ok-opening.ensures (c.in_ok-line.ensures.items ∙ c.end_line.ensures) fails s.2 printed (rw pushed at closed)) c.finish.ensures,
     )
 
-pub returns-in_err-opening : goal.returns-in_err-opening
-returns-in_err-opening g c = ([], Appends-nil _, search rules)
+pub returns-in_err-opening-clause-session : goal.returns-in_err-opening-clause-session
+returns-in_err-opening-clause-session g c = ([], Appends-nil _, search rules)
 
-pub returns-in_err-exchange : goal.returns-in_err-exchange
-returns-in_err-exchange g c = ([], Appends-nil _, search rules)
+pub returns-in_err-exchange-clause-session : goal.returns-in_err-exchange-clause-session
+returns-in_err-exchange-clause-session g c = ([], Appends-nil _, search rules)
 
-pub returns-in_err-push : goal.returns-in_err-push
-returns-in_err-push g c = let s = c.attend-seat.ensures.session in (s.0, s.1, search rules)
+pub returns-in_err-push-clause-session : goal.returns-in_err-push-clause-session
+returns-in_err-push-clause-session g c = let s = c.attend-seat.ensures.session in (s.0, s.1, search rules)
 
-pub returns-in_err-line : goal.returns-in_err-line
-returns-in_err-line g c = let s = c.attend-seat.ensures.session in (s.0, s.1, search rules)
+pub returns-in_err-line-clause-session : goal.returns-in_err-line-clause-session
+returns-in_err-line-clause-session g c = let s = c.attend-seat.ensures.session in (s.0, s.1, search rules)

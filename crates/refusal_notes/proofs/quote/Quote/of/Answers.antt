@@ -1,4 +1,4 @@
-use Rattle.std.proofs.Common.{refl, ◌∙◌, ap, rules}
+use Rattle.std.proofs.Common.{refl, ◌∙◌, ap}
 use Rattle.std.proofs.lemmas.List.{take_min}
 use Rattle.refusal_notes.specs.declared.quote.TheConstants.{MAX_QUOTED}
 use Rattle.std.specs.Prelude.{take}

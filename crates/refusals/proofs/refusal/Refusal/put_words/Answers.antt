@@ -1,4 +1,4 @@
-use Rattle.std.proofs.Common.{◌≡◌, ◌≤◌, ◌+◌, ◌++◌, ◌∙◌, ap, sym, arith}
+use Rattle.std.proofs.Common.{◌++◌, ◌∙◌, ap, sym, arith}
 use Rattle.refusals.specs.Refusals.{refusal_words}
 use Rattle.refusals.proofs.refusal.Refusal.put_words.Goals as goal
 
