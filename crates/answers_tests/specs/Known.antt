@@ -1,5 +1,5 @@
 -- Clients of a host of whom all bytes are known.
-use Rattle.std.specs.Prelude.{ℕ, List, [], Option, Some, length, codes, option_map, is_none, slice_get}
+use Rattle.std.specs.Prelude.{ℕ, List, [], Some, length, codes, option_map, is_none, slice_get}
 use Rattle.std.specs.Borrow.{Bor}
 use Rattle.session_answers.specs.Hosts.{Guests}
 

@@ -1,5 +1,6 @@
-//! The tests of `session_answers` and of `command_words` that rows can't take over: numbers of workers, how the end of a session is framed, and a host
-//! whose clients' bytes are known.
+//! The tests of `session_answers` and of `command_words` that rows can't take over: what words say
+//! of workers and of schedules, how the end of a session is framed, and a host whose clients' bytes
+//! are known.
 #![tactic(auto)]
 
 #[cfg(test)]

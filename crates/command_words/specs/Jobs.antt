@@ -1,8 +1,10 @@
 -- The job that the words of the command line name.
-use Rattle.std.specs.Prelude.{◌≡◌, ◌≢◌, ◌⊎◌, ℕ, ◌≤◌, List, [], ◌∷◌, ◌++◌, Some, None, String, codes, length, map, string_bytes, Option, Bool, true, false, All, AllPairs, option_to_list, MatchOption, Result, Ok, Err, ⊤}
+use Rattle.std.specs.Prelude.{◌≡◌, ◌≢◌, ◌⊎◌, ◌↔◌, ℕ, ◌≤◌, List, [], ◌∷◌, ◌++◌, Some, None, String, codes, length, map, find, string_bytes, Option, All, AllPairs, IsTrue, option_and_then, option_to_list, MatchOption, Result, Ok, Err, ⊤}
+use Rattle.std.specs.Str.{bytes_eq}
 use Rattle.std.specs.Str.Parse.{IsNumeral, digits_value, without_leading_plus}
 use Rattle.clap.specs.Words.{Row, Text, Kinds, IsAmong, all_of, fault_of, first_of, found_of, one_of, rows_of, subcommand_of, subcommand_rows_of}
 use Rattle.clap.specs.declared.parser.matches.ArgMatches.{ArgMatches}
+use Rattle.clap.specs.declared.parser.matches.ValueSource.TheVariants.{CommandLine}
 use Rattle.clap.specs.Values.{kind_of}
 use Rattle.clap.specs.declared.error.Error.{Error}
 use Rattle.clap.specs.declared.error.kind.ErrorKind.TheVariants.{DisplayHelp, DisplayVersion, OutOfMemory}
@@ -10,7 +12,11 @@ use Rattle.exchange_limits.specs.declared.limits.TheConstants.{MAX_WORKERS}
 use Rattle.command_words.specs.declared.limits.TheConstants.{MAX_CLIENTS}
 use Rattle.command_words.specs.declared.jobs.Job.{Job}
 use Rattle.command_words.specs.declared.jobs.Job.TheVariants.{Plan, Check, Draw, Switch, Direct, Apply, Run, Serve, Host, Talk}
+use Rattle.command_words.specs.declared.jobs.Planning.{Planning}
+use Rattle.command_words.specs.declared.jobs.Planning.TheVariants as planning
 use Rattle.command_words.specs.declared.jobs.Request.{Request}
+use Rattle.command_words.specs.declared.jobs.ScheduleSource.{ScheduleSource}
+use Rattle.command_words.specs.declared.jobs.ScheduleSource.TheVariants as source
 use Rattle.command_words.specs.declared.jobs.WordsFault.{WordsFault}
 use Rattle.command_words.specs.declared.jobs.WordsFault.TheVariants.{Clap, NoMemory}
 use Rattle.command_words.specs.declared.reading.Lack.{Lack}
@@ -22,6 +28,11 @@ use Rattle.command_words.specs.Program.{program, word_of}
 -- what clap has found for the words and options of a command
 abbrev pub rows_in : ArgMatches → List Row
 rows_in matches = rows_of (found_of matches)
+
+-- the words themselves give the option, and no default does
+abbrev pub IsGiven : Text → List Row → Type 0
+IsGiven id rows =
+    option_and_then (λ row. row.source) (find (λ row. bytes_eq row.id id) rows) ≡ Some CommandLine
 
 -- the number that the text of `--workers` reads as
 abbrev pub HasWorkers : List Row → ℕ → Type 0
@@ -46,39 +57,64 @@ CanBeServed served = (1 ≤ length served) × (length served ≤ MAX_CLIENTS)
 abbrev pub HasServed : Text → List Row → List Text → Type 0
 HasServed id rows served = (all_of id rows ≡ Some served) × CanBeServed served
 
--- the command that this word calls, with its texts and its number of workers where it takes one
+-- how a batch is to be planned: `--steady` and `--workers` exclude each other
+abbrev pub HasPlanning : List Row → Planning → Type 0
+HasPlanning rows (planning.Workers workers) =
+    (IsGiven (codes "steady") rows → ⊥) × HasWorkers rows workers
+HasPlanning rows planning.Steady =
+    IsGiven (codes "steady") rows × (IsGiven (codes "workers") rows → ⊥)
+
+-- where a schedule is to come from: `--schedule` excludes both
+abbrev pub HasSource : List Row → ScheduleSource → Type 0
+HasSource rows (source.Plan workers) =
+    HasOption (codes "schedule") rows None × HasPlanning rows (planning.Workers workers)
+HasSource rows source.Steady =
+    HasOption (codes "schedule") rows None × HasPlanning rows planning.Steady
+HasSource rows (source.File file) =
+    HasOption (codes "schedule") rows (Some file) × (IsGiven (codes "steady") rows → ⊥)
+    × (IsGiven (codes "workers") rows → ⊥)
+
+-- the command of a job
+abbrev pub name_of : Job → CommandName
+name_of (Plan file planning) = name.Plan
+name_of (Check batch schedule) = name.Check
+name_of (Draw batch schedule settings) = name.Draw
+name_of (Switch batch source) = name.Switch
+name_of (Direct moves) = name.Direct
+name_of (Apply shape batch image workers) = name.Apply
+name_of (Run shape batch image workers) = name.Run
+name_of (Serve shape scripts image workers) = name.Serve
+name_of (Host shape clients image workers) = name.Host
+name_of (Talk shape image) = name.Talk
+
+-- what the words and options of its command say of a job
+abbrev pub HasJob : List Row → Job → Type 0
+HasJob rows (Plan file planning) = HasText (codes "FILE") rows file × HasPlanning rows planning
+HasJob rows (Check batch schedule) =
+    HasText (codes "BATCH") rows batch × HasText (codes "SCHEDULE") rows schedule
+HasJob rows (Draw batch schedule settings) =
+    HasText (codes "BATCH") rows batch × HasText (codes "SCHEDULE") rows schedule
+    × HasOption (codes "settings") rows settings
+HasJob rows (Switch batch source) = HasText (codes "BATCH") rows batch × HasSource rows source
+HasJob rows (Direct moves) = HasText (codes "MOVES") rows moves
+HasJob rows (Apply shape batch image workers) =
+    HasText (codes "SHAPE") rows shape × HasText (codes "BATCH") rows batch
+    × HasText (codes "IMAGE") rows image × HasWorkers rows workers
+HasJob rows (Run shape batch image workers) =
+    HasText (codes "SHAPE") rows shape × HasText (codes "BATCH") rows batch
+    × HasOption (codes "image") rows image × HasWorkers rows workers
+HasJob rows (Serve shape scripts image workers) =
+    HasText (codes "SHAPE") rows shape × HasServed (codes "SCRIPT") rows scripts
+    × HasOption (codes "image") rows image × HasWorkers rows workers
+HasJob rows (Host shape clients image workers) =
+    HasText (codes "SHAPE") rows shape × HasServed (codes "CLIENT") rows clients
+    × HasOption (codes "image") rows image × HasWorkers rows workers
+HasJob rows (Talk shape image) =
+    HasText (codes "SHAPE") rows shape × HasOption (codes "image") rows image
+
+-- the job of the command that this word calls
 abbrev pub IsJob : Text → List Row → Job → Type 0
-IsJob word rows (Plan file workers) =
-    (word ≡ word_of name.Plan) × HasText (codes "FILE") rows file × HasWorkers rows workers
-IsJob word rows (Check batch schedule) =
-    (word ≡ word_of name.Check) × HasText (codes "BATCH") rows batch
-    × HasText (codes "SCHEDULE") rows schedule
-IsJob word rows (Draw batch schedule settings) =
-    (word ≡ word_of name.Draw) × HasText (codes "BATCH") rows batch
-    × HasText (codes "SCHEDULE") rows schedule × HasOption (codes "settings") rows settings
-IsJob word rows (Switch batch workers) =
-    (word ≡ word_of name.Switch) × HasText (codes "BATCH") rows batch × HasWorkers rows workers
-IsJob word rows (Direct moves) =
-    (word ≡ word_of name.Direct) × HasText (codes "MOVES") rows moves
-IsJob word rows (Apply shape batch image workers) =
-    (word ≡ word_of name.Apply) × HasText (codes "SHAPE") rows shape
-    × HasText (codes "BATCH") rows batch × HasText (codes "IMAGE") rows image
-    × HasWorkers rows workers
-IsJob word rows (Run shape batch image workers) =
-    (word ≡ word_of name.Run) × HasText (codes "SHAPE") rows shape
-    × HasText (codes "BATCH") rows batch × HasOption (codes "image") rows image
-    × HasWorkers rows workers
-IsJob word rows (Serve shape scripts image workers) =
-    (word ≡ word_of name.Serve) × HasText (codes "SHAPE") rows shape
-    × HasServed (codes "SCRIPT") rows scripts × HasOption (codes "image") rows image
-    × HasWorkers rows workers
-IsJob word rows (Host shape clients image workers) =
-    (word ≡ word_of name.Host) × HasText (codes "SHAPE") rows shape
-    × HasServed (codes "CLIENT") rows clients × HasOption (codes "image") rows image
-    × HasWorkers rows workers
-IsJob word rows (Talk shape image) =
-    (word ≡ word_of name.Talk) × HasText (codes "SHAPE") rows shape
-    × HasOption (codes "image") rows image
+IsJob word rows job = (word ≡ word_of (name_of job)) × HasJob rows job
 
 -- the words as lists of their bytes
 abbrev pub texts_of : {Z : Type 0} → List (String Z) → List Text
@@ -88,15 +124,10 @@ texts_of words = map (λ word. string_bytes word) words
 abbrev pub AreMatchesOf : List Text → ArgMatches → Type 0
 AreMatchesOf words found = subcommand_rows_of found ≡ subcommand_of program words
 
--- whether an option that has no value is there
-pub record IsFlag (id : Text) (rows : List Row) (there : Bool) : Type 0 where
-  pub none : one_of id rows ≡ None → there ≡ false
-  pub given : one_of id rows ≡ Some (codes "true") → there ≡ true
-  pub left_out : one_of id rows ≡ Some (codes "false") → there ≡ false
-
 -- a command's job, and whether nothing is to be told beside its answer
-abbrev pub IsRequest : Text → List Row → Request → Type 0
-IsRequest word rows request = IsJob word rows request.job × IsFlag (codes "quiet") rows request.is_quiet
+pub record IsRequest (word : Text) (rows : List Row) (request : Request) : Type 0 where
+  pub job : IsJob word rows request.job
+  pub quiet : IsTrue request.is_quiet ↔ IsGiven (codes "quiet") rows
 
 -- what clap finds in these words
 abbrev pub Holds : List Text → Request → Type 0
@@ -124,10 +155,11 @@ input_name = codes "-"
 -- the names of the files that a job reads itself, in this order; the client of `talk` is standard
 -- input
 abbrev pub files_of : Job → List Text
-files_of (Plan file workers) = file ∷ []
+files_of (Plan file planning) = file ∷ []
 files_of (Check batch schedule) = batch ∷ schedule ∷ []
 files_of (Draw batch schedule settings) = batch ∷ schedule ∷ []
-files_of (Switch batch workers) = batch ∷ []
+files_of (Switch batch (source.File schedule)) = batch ∷ schedule ∷ []
+files_of (Switch batch source) = batch ∷ []
 files_of (Direct moves) = moves ∷ []
 files_of (Apply shape batch image workers) = batch ∷ image ∷ []
 files_of (Run shape batch image workers) = option_to_list image ++ batch ∷ []
@@ -199,42 +231,40 @@ abbrev pub IsFaultBy : Error → WordsFault → Type 0
 IsFaultBy error NoMemory = kind_of error ≡ OutOfMemory
 IsFaultBy error (Clap told) = IsOfWords error × (told ≡ error)
 
--- there is a text of this word
-abbrev pub HasWord : Text → List Row → Type 0
-HasWord id rows = (text : Text) × HasText id rows text
-
--- there are as many clients, or scripts, as may be served
-abbrev pub HasSomeServed : Text → List Row → Type 0
-HasSomeServed id rows = (served : List Text) × HasServed id rows served
-
--- there is a number of workers
-abbrev pub HasSomeWorkers : List Row → Type 0
-HasSomeWorkers rows = (n : ℕ) × HasWorkers rows n
+-- there is something of which this is so
+abbrev pub HasSome : {X : Type 0} → (X → Type 0) → Type 0
+HasSome {X} is = (x : X) × is x
 
 -- there is what a command wants
 abbrev pub HasWanted : CommandName → List Row → Type 0
-HasWanted name.Plan rows = HasWord (codes "FILE") rows × HasSomeWorkers rows
-HasWanted name.Check rows = HasWord (codes "BATCH") rows × HasWord (codes "SCHEDULE") rows
-HasWanted name.Draw rows = HasWord (codes "BATCH") rows × HasWord (codes "SCHEDULE") rows
-HasWanted name.Switch rows = HasWord (codes "BATCH") rows × HasSomeWorkers rows
-HasWanted name.Direct rows = HasWord (codes "MOVES") rows
+HasWanted name.Plan rows = HasSome (HasText (codes "FILE") rows) × HasSome (HasPlanning rows)
+HasWanted name.Check rows =
+    HasSome (HasText (codes "BATCH") rows) × HasSome (HasText (codes "SCHEDULE") rows)
+HasWanted name.Draw rows =
+    HasSome (HasText (codes "BATCH") rows) × HasSome (HasText (codes "SCHEDULE") rows)
+HasWanted name.Switch rows = HasSome (HasText (codes "BATCH") rows) × HasSome (HasSource rows)
+HasWanted name.Direct rows = HasSome (HasText (codes "MOVES") rows)
 HasWanted name.Apply rows =
-    HasWord (codes "SHAPE") rows × HasWord (codes "BATCH") rows × HasWord (codes "IMAGE") rows
-    × HasSomeWorkers rows
+    HasSome (HasText (codes "SHAPE") rows) × HasSome (HasText (codes "BATCH") rows)
+    × HasSome (HasText (codes "IMAGE") rows) × HasSome (HasWorkers rows)
 HasWanted name.Run rows =
-    HasWord (codes "SHAPE") rows × HasWord (codes "BATCH") rows × HasSomeWorkers rows
+    HasSome (HasText (codes "SHAPE") rows) × HasSome (HasText (codes "BATCH") rows)
+    × HasSome (HasWorkers rows)
 HasWanted name.Serve rows =
-    HasWord (codes "SHAPE") rows × HasSomeServed (codes "SCRIPT") rows × HasSomeWorkers rows
+    HasSome (HasText (codes "SHAPE") rows) × HasSome (HasServed (codes "SCRIPT") rows)
+    × HasSome (HasWorkers rows)
 HasWanted name.Host rows =
-    HasWord (codes "SHAPE") rows × HasSomeServed (codes "CLIENT") rows × HasSomeWorkers rows
-HasWanted name.Talk rows = HasWord (codes "SHAPE") rows
+    HasSome (HasText (codes "SHAPE") rows) × HasSome (HasServed (codes "CLIENT") rows)
+    × HasSome (HasWorkers rows)
+HasWanted name.Talk rows = HasSome (HasText (codes "SHAPE") rows)
 
 -- what is read of the rows: something of which this is so; or what is lacking, which is memory where
 -- there is something to read
-abbrev pub IsRead : {X : Type 0} → (X → Type 0) → Type 0 → Result X Lack → Type 0
-IsRead is there (Ok x) = is x
-IsRead is there (Err lack) = there → lack ≡ Memory
+abbrev pub IsRead : {X : Type 0} → (X → Type 0) → Result X Lack → Type 0
+IsRead is (Ok x) = is x
+IsRead is (Err lack) = HasSome is → lack ≡ Memory
 
 -- what is read of them for a command: its job, where there is what the command wants
 abbrev pub IsReadJob : CommandName → List Row → Result Job Lack → Type 0
-IsReadJob name rows = IsRead (IsJob (word_of name) rows) (HasWanted name rows)
+IsReadJob name rows (Ok job) = IsJob (word_of name) rows job
+IsReadJob name rows (Err lack) = HasWanted name rows → lack ≡ Memory

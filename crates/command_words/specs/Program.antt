@@ -9,7 +9,7 @@ use Rattle.clap.specs.declared.builder.action.ArgAction.TheVariants.{SetTrue}
 use Rattle.clap.specs.declared.builder.value_parser.ValueParser.TheVariants as parser
 use Rattle.exchange_limits.specs.declared.limits.TheConstants.{MAX_WORKERS}
 use Rattle.command_words.specs.declared.commands.Argument.{Argument}
-use Rattle.command_words.specs.declared.commands.Argument.TheVariants as takes
+use Rattle.command_words.specs.declared.commands.Argument.TheVariants.{Shape, File, Batch, Schedule, Moves, Image, Scripts, Clients, ImageOption, Settings, ScheduleOption, Steady, Workers, Quiet}
 use Rattle.command_words.specs.declared.commands.CommandName.{CommandName}
 use Rattle.command_words.specs.declared.commands.CommandName.TheVariants.{Plan, Check, Draw, Switch, Direct, Apply, Run, Serve, Host, Talk}
 use Rattle.command_words.specs.declared.limits.TheConstants.{MAX_CLIENTS}
@@ -44,18 +44,20 @@ flag id = record (new_rule id) { long = Some id; action = Some SetTrue }
 
 -- what clap reads of an argument
 abbrev pub rule_for : Argument → Rule
-rule_for takes.Shape = word (codes "SHAPE")
-rule_for takes.File = word (codes "FILE")
-rule_for takes.Batch = word (codes "BATCH")
-rule_for takes.Schedule = word (codes "SCHEDULE")
-rule_for takes.Moves = word (codes "MOVES")
-rule_for takes.Image = word (codes "IMAGE")
-rule_for takes.Scripts = words (codes "SCRIPT")
-rule_for takes.Clients = words (codes "CLIENT")
-rule_for takes.ImageOption = option (codes "image")
-rule_for takes.Settings = option (codes "settings")
-rule_for takes.Workers = workers
-rule_for takes.Quiet = flag (codes "quiet")
+rule_for Shape = word (codes "SHAPE")
+rule_for File = word (codes "FILE")
+rule_for Batch = word (codes "BATCH")
+rule_for Schedule = word (codes "SCHEDULE")
+rule_for Moves = word (codes "MOVES")
+rule_for Image = word (codes "IMAGE")
+rule_for Scripts = words (codes "SCRIPT")
+rule_for Clients = words (codes "CLIENT")
+rule_for ImageOption = option (codes "image")
+rule_for Settings = option (codes "settings")
+rule_for ScheduleOption = option (codes "schedule")
+rule_for Steady = flag (codes "steady")
+rule_for Workers = workers
+rule_for Quiet = flag (codes "quiet")
 
 -- ---- the commands
 
@@ -64,34 +66,24 @@ abbrev pub commands : List CommandName
 commands =
     Plan ∷ Check ∷ Draw ∷ Switch ∷ Direct ∷ Apply ∷ Run ∷ Serve ∷ Host ∷ Talk ∷ []
 
--- the word that calls a command
-abbrev pub word_of : CommandName → List ℕ
-word_of Plan = codes "plan"
-word_of Check = codes "check"
-word_of Draw = codes "draw"
-word_of Switch = codes "switch"
-word_of Direct = codes "direct"
-word_of Apply = codes "apply"
-word_of Run = codes "run"
-word_of Serve = codes "serve"
-word_of Host = codes "host"
-word_of Talk = codes "talk"
+-- the word that calls a command, and what it takes, in this order
+abbrev pub sheet_of : CommandName → List ℕ × List Argument
+sheet_of Plan = (codes "plan", File ∷ Steady ∷ Workers ∷ Quiet ∷ [])
+sheet_of Check = (codes "check", Batch ∷ Schedule ∷ Quiet ∷ [])
+sheet_of Draw = (codes "draw", Batch ∷ Schedule ∷ Settings ∷ Quiet ∷ [])
+sheet_of Switch = (codes "switch", Batch ∷ ScheduleOption ∷ Steady ∷ Workers ∷ Quiet ∷ [])
+sheet_of Direct = (codes "direct", Moves ∷ Quiet ∷ [])
+sheet_of Apply = (codes "apply", Shape ∷ Batch ∷ Image ∷ Workers ∷ Quiet ∷ [])
+sheet_of Run = (codes "run", Shape ∷ Batch ∷ ImageOption ∷ Workers ∷ Quiet ∷ [])
+sheet_of Serve = (codes "serve", Shape ∷ Scripts ∷ ImageOption ∷ Workers ∷ Quiet ∷ [])
+sheet_of Host = (codes "host", Shape ∷ Clients ∷ ImageOption ∷ Workers ∷ Quiet ∷ [])
+sheet_of Talk = (codes "talk", Shape ∷ ImageOption ∷ Quiet ∷ [])
 
--- what a command takes, in this order
+abbrev pub word_of : CommandName → List ℕ
+word_of name = (sheet_of name).0
+
 abbrev pub arguments_of : CommandName → List Argument
-arguments_of Plan = takes.File ∷ takes.Workers ∷ takes.Quiet ∷ []
-arguments_of Check = takes.Batch ∷ takes.Schedule ∷ takes.Quiet ∷ []
-arguments_of Draw = takes.Batch ∷ takes.Schedule ∷ takes.Settings ∷ takes.Quiet ∷ []
-arguments_of Switch = takes.Batch ∷ takes.Workers ∷ takes.Quiet ∷ []
-arguments_of Direct = takes.Moves ∷ takes.Quiet ∷ []
-arguments_of Apply =
-    takes.Shape ∷ takes.Batch ∷ takes.Image ∷ takes.Workers ∷ takes.Quiet ∷ []
-arguments_of Run = takes.Shape ∷ takes.Batch ∷ takes.ImageOption ∷ takes.Workers ∷ takes.Quiet ∷ []
-arguments_of Serve =
-    takes.Shape ∷ takes.Scripts ∷ takes.ImageOption ∷ takes.Workers ∷ takes.Quiet ∷ []
-arguments_of Host =
-    takes.Shape ∷ takes.Clients ∷ takes.ImageOption ∷ takes.Workers ∷ takes.Quiet ∷ []
-arguments_of Talk = takes.Shape ∷ takes.ImageOption ∷ takes.Quiet ∷ []
+arguments_of name = (sheet_of name).1
 
 -- a command with these arguments more
 abbrev pub with_arguments : App → List Argument → App

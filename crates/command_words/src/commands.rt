@@ -42,6 +42,10 @@ pub(crate) enum Argument {
     ImageOption,
     /// `--settings A..B`.
     Settings,
+    /// `--schedule FILE`.
+    ScheduleOption,
+    /// `--steady`.
+    Steady,
     /// `--workers N`.
     Workers,
     /// `--quiet`.
@@ -69,50 +73,33 @@ impl CommandName {
         ensures none { IfNone result ((name : CommandName) → word_of name ≢ word.now) }
     {
         for name in &CommandName::ALL {
-            if name.word() == word {
+            if name.sheet().0 == word {
                 return Some(*name);
             }
         }
         None
     }
 
-    /// The word that calls it.
-    pub(crate) fn word(self) -> &'static str
-        ensures { result.now ≡ word_of self }
-    {
-        match self {
-            CommandName::Plan => "plan",
-            CommandName::Check => "check",
-            CommandName::Draw => "draw",
-            CommandName::Switch => "switch",
-            CommandName::Direct => "direct",
-            CommandName::Apply => "apply",
-            CommandName::Run => "run",
-            CommandName::Serve => "serve",
-            CommandName::Host => "host",
-            CommandName::Talk => "talk",
-        }
-    }
-
-    /// What it takes, in this order.
-    pub(crate) fn arguments(self) -> &'static [Argument]
-        ensures { result.now ≡ arguments_of self }
+    /// The word that calls it, and what it takes, in this order.
+    pub(crate) fn sheet(self) -> (&'static str, &'static [Argument])
+        ensures word { result.0.now ≡ word_of self }
+        ensures arguments { result.1.now ≡ arguments_of self }
     {
         use Argument::{
-            Batch, Clients, File, Image, ImageOption, Moves, Quiet, Schedule, Scripts, Settings,
-            Shape, Workers,
+            Batch, Clients, File, Image, ImageOption, Moves, Quiet, Schedule, ScheduleOption,
+            Scripts, Settings, Shape, Steady, Workers,
         };
         match self {
-            CommandName::Plan => &[File, Workers, Quiet],
-            CommandName::Check => &[Batch, Schedule, Quiet],
-            CommandName::Draw => &[Batch, Schedule, Settings, Quiet],
-            CommandName::Switch => &[Batch, Workers, Quiet],
-            CommandName::Direct => &[Moves, Quiet],
-            CommandName::Apply => &[Shape, Batch, Image, Workers, Quiet],
-            CommandName::Run => &[Shape, Batch, ImageOption, Workers, Quiet],
-            CommandName::Serve => &[Shape, Scripts, ImageOption, Workers, Quiet],
-            CommandName::Host => &[Shape, Clients, ImageOption, Workers, Quiet],
-            CommandName::Talk => &[Shape, ImageOption, Quiet],
+            CommandName::Plan => ("plan", &[File, Steady, Workers, Quiet]),
+            CommandName::Check => ("check", &[Batch, Schedule, Quiet]),
+            CommandName::Draw => ("draw", &[Batch, Schedule, Settings, Quiet]),
+            CommandName::Switch => ("switch", &[Batch, ScheduleOption, Steady, Workers, Quiet]),
+            CommandName::Direct => ("direct", &[Moves, Quiet]),
+            CommandName::Apply => ("apply", &[Shape, Batch, Image, Workers, Quiet]),
+            CommandName::Run => ("run", &[Shape, Batch, ImageOption, Workers, Quiet]),
+            CommandName::Serve => ("serve", &[Shape, Scripts, ImageOption, Workers, Quiet]),
+            CommandName::Host => ("host", &[Shape, Clients, ImageOption, Workers, Quiet]),
+            CommandName::Talk => ("talk", &[Shape, ImageOption, Quiet]),
         }
     }
 }

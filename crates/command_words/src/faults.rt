@@ -38,6 +38,14 @@ pub(crate) fn missing(alloc: Global) -> WordsFault
     )
 }
 
+/// The fault of options that exclude each other.
+pub(crate) fn excluded(alloc: Global) -> WordsFault
+    ensures { IsMistake result }
+{
+    let message = "`--workers`, `--steady` and `--schedule` exclude each other";
+    misused(alloc, ErrorKind::ArgumentConflict, message)
+}
+
 /// The fault of words of which several name standard input.
 pub(crate) fn named_twice(alloc: Global) -> WordsFault
     ensures { IsMistake result }

@@ -8,7 +8,8 @@ ghost use Rattle.command_words.specs.Program.{IsArgument, IsCommand, IsLocal, co
 use crate::commands::{Argument, CommandName};
 use crate::help::{
     BATCH_HELP, CLIENT_HELP, CommandHelp, IMAGE_HELP, IMAGE_OPTION_HELP, MOVES_HELP, PROGRAM,
-    QUIET_HELP, SCHEDULE_HELP, SCRIPT_HELP, SETTINGS_HELP, SHAPE_HELP, WORKERS_HELP, help_of,
+    QUIET_HELP, SCHEDULE_HELP, SCHEDULE_OPTION_HELP, SCRIPT_HELP, SETTINGS_HELP, SHAPE_HELP,
+    STEADY_HELP, WORKERS_HELP, help_of,
 };
 use crate::jobs::WordsFault;
 use crate::limits::{MAX_CLIENTS, VERSION};
@@ -71,6 +72,8 @@ fn arg_of<'a>(alloc: Global, argument: Argument) -> Arg<'a>
         Argument::Clients => words(alloc, "CLIENT", CLIENT_HELP),
         Argument::ImageOption => option(alloc, "image", "FILE", IMAGE_OPTION_HELP),
         Argument::Settings => option(alloc, "settings", "A..B", SETTINGS_HELP),
+        Argument::ScheduleOption => option(alloc, "schedule", "FILE", SCHEDULE_OPTION_HELP),
+        Argument::Steady => flag(alloc, "steady", STEADY_HELP),
         Argument::Workers => workers(alloc),
         Argument::Quiet => flag(alloc, "quiet", QUIET_HELP),
     }
@@ -106,9 +109,9 @@ fn with_arguments<'a>(
 fn command_of<'a>(alloc: Global, name: CommandName) -> Result<Command<'a>, AllocError>
     ensures { IfOk result (IsCommand (command_app name)) }
 {
-    let word: &'a str = name.word();
+    let (word, arguments): (&'a str, &[Argument]) = name.sheet();
     let command = command(alloc, word, help_of(name));
-    with_arguments(alloc, command, name.arguments())
+    with_arguments(alloc, command, arguments)
 }
 
 /// The program with one command more.

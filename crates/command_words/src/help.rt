@@ -50,6 +50,13 @@ has fewer settings, as the two last lines show:
   named t t ..              all transfers that use it, one in each setting
 or the line `busiest none` where there is no transfer.
 
+Use --steady where changing the switch takes time. The schedule has as few
+settings, and few changes: at most one for each pair of links that share
+transfers, and one for each link in use. A change is a setting that joins other
+pairs of links than the one before; the first setting is one. `exchange draw`
+tells how many changes a schedule has, and whether a link shows that no schedule
+has fewer. --steady and --workers exclude each other.
+
 A file that can't be read is `refused file`. Where FILE is no batch text, the
 answer is what is first wrong, line by line:
   refused batch line N   line N, from 1, has another form or no line feed
@@ -119,8 +126,10 @@ where they come from there. Point at a cell, and the browser shows its transfer.
 The half of the busiest link is framed.
 
 Any schedule of BATCH is drawn. The picture's title says whether it has `the
-fewest` settings or `where F are enough`, and `certified`, `not certified`
-or `no certificate`. With --settings it has the columns of settings A to B
+fewest` settings or `where F are enough`; then how often it changes the switch,
+as `changes C`, and `the fewest` where a link shares transfers with C others, so
+that no schedule has fewer changes; then `certified`, `not certified` or `no
+certificate`. With --settings it has the columns of settings A to B
 alone, counted from 0, both of them:
   ./exchange draw BATCH SCHEDULE --settings 0..31 > first.svg
 
@@ -143,10 +152,14 @@ const SWITCH: CommandHelp = CommandHelp {
 Example:
   ./exchange switch examples/two-pushes.txt",
     notes: "\
-BATCH is a batch text, in the form that `exchange plan --help` shows.
+BATCH is a batch text, in the form that `exchange plan --help` shows. Its
+schedule is the plan that a run makes, or that of `exchange plan --steady` with
+--steady. With --schedule it is that of FILE, any schedule text of BATCH, with
+the certificate part or without it. --workers, --steady and --schedule exclude
+each other.
 
-The answer tells which bytes a run of BATCH sends over the configuration link
-of an INMOS C004, setting by setting, as pairs of hexadecimal digits:
+The answer tells which bytes a run of the schedule sends over the configuration
+link of an INMOS C004, setting by setting, as pairs of hexadecimal digits:
   setting S 04 ..   the first setting's set a switch, whatever it was, and each
                     later one's change the switch of the setting before
 Link 0 of module m is on link m of the switch, and link 3 on link 16+m. Where
@@ -158,12 +171,14 @@ A run has two switches where its rack has more than 16 modules, whatever BATCH
 names. Behind each setting it also enquires all outputs, which isn't told here.
 Whether two transfers write one block, which a run refuses, isn't looked at.
 
-Else it is the first of these that is wrong:
-  refused file   BATCH can't be read
-  refused ..     BATCH, as `exchange plan --help` shows
+Else it is the first of these that is wrong. The files are read first:
+  refused file            a file can't be read
+  refused ..              BATCH, as `exchange plan --help` shows
+  refused schedule line N line N of FILE, as `exchange check --help` shows
+  refused check ..        the same, where FILE has no schedule of BATCH
 
-Status: 0 the bytes were printed, 1 the batch was refused or there was no
-memory, 2 the words fit no command, 3 the answer couldn't be written.",
+Status: 0 the bytes were printed, 1 they were refused or there was no memory,
+2 the words fit no command, 3 the answer couldn't be written.",
 };
 
 /// What help says of `direct`.
@@ -337,8 +352,9 @@ In a second shell be amy:
   exec 3> amy.in 4< amy.out
   echo 'poke 0 80000800 000000ff' >&3; read reply <&4; echo $reply
   exec 3>&- 4<&-
-which prints `poked`. The last line closes amy's pipes, and her session ends. The
-host waits for bob: be him too, by the same lines with his name, or it waits on.",
+which prints `poked`. The last line closes amy's pipes, and her session ends.
+The host waits for bob: be him too, by the same lines with his name, or it waits
+on.",
     notes: "\
 SHAPE is MxKxW, in the form that `exchange run --help` shows. 1 to 16 clients
 are served at once, each in a thread of its own, on one exchange: one rack,
@@ -385,9 +401,9 @@ Example:
 which prints `poked` and `word 000000ff`.",
     notes: "\
 SHAPE is MxKxW, in the form that `exchange run --help` shows. The words of the
-rack are at first 0, or those of the image where there is one. The session's lines
-are read from standard input, and each is answered on standard output before the
-next is read. So the image can't be `-`. The lines are
+rack are at first 0, or those of the image where there is one. The session's
+lines are read from standard input, and each is answered on standard output
+before the next is read. So the image can't be `-`. The lines are
   batch N, plan ID, run ID, show ID, drop ID, peek M A, poke M A D, progress, bye
 `exchange serve --help` says what each does, and what it is answered by.
 
@@ -440,6 +456,12 @@ pub(crate) const SCHEDULE_HELP: &str = "The file of the schedule, or - for stand
 
 /// What is said of `--settings`.
 pub(crate) const SETTINGS_HELP: &str = "The settings to draw, A to B, counted from 0";
+
+/// What is said of `--schedule`.
+pub(crate) const SCHEDULE_OPTION_HELP: &str = "The file of its schedule, or - for standard input";
+
+/// What is said of `--steady`.
+pub(crate) const STEADY_HELP: &str = "Plan so that the switch changes seldom";
 
 /// What is said of an image's file.
 pub(crate) const IMAGE_HELP: &str = "The file of the words before, or - for standard input";

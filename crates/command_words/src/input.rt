@@ -3,7 +3,7 @@
 ghost use Rattle.std.specs.Prelude.{◌≡◌, ◌≢◌, ◌↔◌, ◌++◌, All, IsTrue, Some, option_to_list};
 ghost use Rattle.command_words.specs.Jobs.{NameInputOnce, files_of, input_name};
 
-use crate::jobs::Job;
+use crate::jobs::{Job, ScheduleSource};
 use crate::text::Text;
 
 /// Whether at most one of these names stands for standard input.
@@ -59,19 +59,24 @@ pub(crate) fn reads_input_once(job: &Job) -> bool
     ensures { IsTrue result ↔ NameInputOnce (files_of job.now) }
 {
     match job {
-        Job::Plan { .. } => true,
-        Job::Check { batch, schedule } => !(batch.is_input() && schedule.is_input()),
-        Job::Draw {
+        Job::Check { batch, schedule }
+        | Job::Draw {
             batch,
             schedule,
             ..
+        }
+        | Job::Switch {
+            batch,
+            source: ScheduleSource::File(schedule),
+        }
+        | Job::Apply {
+            batch,
+            image: schedule,
+            ..
         } => !(batch.is_input() && schedule.is_input()),
-        Job::Switch { .. } => true,
-        Job::Direct { .. } => true,
-        Job::Apply { batch, image, .. } => !(batch.is_input() && image.is_input()),
         Job::Run { batch, image, .. } => !(is_input(image) && batch.is_input()),
         Job::Serve { scripts, image, .. } => name_input_once_behind(image, scripts.as_slice()),
-        Job::Host { .. } => true,
         Job::Talk { image, .. } => !is_input(image),
+        Job::Plan { .. } | Job::Switch { .. } | Job::Direct { .. } | Job::Host { .. } => true,
     }
 }

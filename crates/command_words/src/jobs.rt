@@ -14,10 +14,10 @@ use thiserror::Error;
 /// What the program is to do.
 #[derive(Drop)]
 pub enum Job {
-    /// Plan the batch of a file, with so many workers.
+    /// Plan the batch of a file.
     Plan {
         file: Text,
-        workers: WorkerCount,
+        planning: Planning,
     },
     /// Judge the schedule of a file against the batch of another.
     Check {
@@ -31,10 +31,10 @@ pub enum Job {
         schedule: Text,
         settings: Option<Text>,
     },
-    /// Tell what a run of the batch of a file sends the switches, with so many workers.
+    /// Tell what a run of a schedule of the batch of a file sends the switches.
     Switch {
         batch: Text,
-        workers: WorkerCount,
+        source: ScheduleSource,
     },
     /// Give the moves of a file directions that need the fewest settings.
     Direct {
@@ -79,6 +79,26 @@ pub enum Job {
         shape: Text,
         image: Option<Text>,
     },
+}
+
+/// How a batch is planned: either way no schedule has fewer settings.
+#[derive(Clone, Copy)]
+pub enum Planning {
+    /// With so many workers.
+    Workers(WorkerCount),
+    /// So that the schedule seldom changes the switch.
+    Steady,
+}
+
+/// Where a schedule of a batch comes from.
+#[derive(Drop)]
+pub enum ScheduleSource {
+    /// The batch is planned with so many workers.
+    Plan(WorkerCount),
+    /// The batch is planned so that the schedule seldom changes the switch.
+    Steady,
+    /// A file has it.
+    File(Text),
 }
 
 /// What the words of the command line ask for.

@@ -13,7 +13,7 @@ mod reading;
 mod text;
 mod text_list;
 
-pub use jobs::{Job, Request, WordsFault};
+pub use jobs::{Job, Planning, Request, ScheduleSource, WordsFault};
 pub use limits::MAX_CLIENTS;
 pub use reading::read_words;
 pub use text::Text;

@@ -1,22 +1,23 @@
 //! From the words to what they ask for, by what clap finds in them.
 
-ghost use Rattle.std.specs.Prelude.{◌≡◌, IfErr, IfOk, OnErr, OnOk};
+ghost use Rattle.std.specs.Prelude.{◌≡◌, ◌↔◌, IfErr, IfOk, IsTrue, OnErr, OnOk};
 ghost use Rattle.command_words.specs.declared.jobs.Job.{Job};
 ghost use Rattle.command_words.specs.declared.jobs.Request.{Request};
 ghost use Rattle.command_words.specs.declared.jobs.WordsFault.TheVariants.{NoMemory};
 ghost use Rattle.command_words.specs.declared.reading.Lack.TheVariants.{Memory};
-ghost use Rattle.command_words.specs.Jobs.{AskFor, HasOption, HasServed, HasSomeServed, HasSomeWorkers, HasText, HasWord, HasWorkers, Holds, IsFaultIn, IsFlag, IsMistake, IsRead, IsReadJob, IsRequest, IsTaken, IsWithinLimits, MayBeDone, rows_in, texts_of};
+ghost use Rattle.command_words.specs.Jobs.{AskFor, HasOption, HasPlanning, HasServed, HasSource, HasText, HasWorkers, Holds, IsFaultIn, IsGiven, IsMistake, IsRead, IsReadJob, IsRequest, IsTaken, IsWithinLimits, MayBeDone, rows_in, texts_of};
 
 use crate::clients::names_clients;
 use crate::commands::CommandName;
-use crate::faults::{misnamed, missing, named_twice};
+use crate::faults::{excluded, misnamed, missing, named_twice};
 use crate::grammar::matches_of;
 use crate::input::reads_input_once;
-use crate::jobs::{Job, Request, WordsFault};
+use crate::jobs::{Job, Planning, Request, ScheduleSource, WordsFault};
 use crate::limits::MAX_CLIENTS;
 use crate::text::Text;
 use crate::text_list::TextList;
 use clap::ArgMatches;
+use clap::parser::ValueSource;
 use exchange_limits::WorkerCount;
 use std::alloc::{AllocError, Global};
 
@@ -25,6 +26,8 @@ use std::alloc::{AllocError, Global};
 enum Lack {
     /// A word that has to be there. Clap has refused such words before.
     Word,
+    /// A choice between options that exclude each other.
+    Choice,
     /// Memory.
     Memory,
 }
@@ -44,13 +47,14 @@ fn fault_of(alloc: Global, lack: Lack) -> WordsFault
 {
     match lack {
         Lack::Word => missing(alloc),
+        Lack::Choice => excluded(alloc),
         Lack::Memory => WordsFault::NoMemory,
     }
 }
 
 /// The text of a word that has to be there.
 fn text_of(alloc: Global, matches: &ArgMatches<'_>, id: &str) -> Result<Text, Lack>
-    ensures { IsRead (HasText id.now (rows_in matches.now)) (HasWord id.now (rows_in matches.now)) result }
+    ensures { IsRead (HasText id.now (rows_in matches.now)) result }
 {
     match matches.get_str(id) {
         Some(text) => Ok(Text::of(alloc, text)?),
@@ -70,8 +74,7 @@ fn option_of(alloc: Global, matches: &ArgMatches<'_>, id: &str) -> Result<Option
 
 /// The texts of from 1 to [`MAX_CLIENTS`] words.
 fn served_of(alloc: Global, matches: &ArgMatches<'_>, id: &str) -> Result<TextList, Lack>
-    ensures { IsRead (HasServed id.now (rows_in matches.now))
-        (HasSomeServed id.now (rows_in matches.now)) result }
+    ensures { IsRead (HasServed id.now (rows_in matches.now)) result }
 {
     match matches.get_strs(id) {
         Some(texts) if texts.len() >= 1 && texts.len() <= MAX_CLIENTS => Ok(TextList::of(
@@ -83,7 +86,7 @@ fn served_of(alloc: Global, matches: &ArgMatches<'_>, id: &str) -> Result<TextLi
 
 /// The number of `--workers`.
 fn workers_of(matches: &ArgMatches<'_>) -> Result<WorkerCount, Lack>
-    ensures { IsRead (HasWorkers (rows_in matches.now)) (HasSomeWorkers (rows_in matches.now)) result }
+    ensures { IsRead (HasWorkers (rows_in matches.now)) result }
 {
     let Some(number) = matches.get_one::<usize>("workers") else {
         return Err(Lack::Word);
@@ -91,11 +94,40 @@ fn workers_of(matches: &ArgMatches<'_>) -> Result<WorkerCount, Lack>
     WorkerCount::new(number).ok_or(Lack::Word)
 }
 
-/// Whether an option that has no value is there.
-fn has_flag(matches: &ArgMatches<'_>, id: &str) -> bool
-    ensures { IsFlag id.now (rows_in matches.now) result }
+/// Whether the words themselves give an option.
+fn is_given(matches: &ArgMatches<'_>, id: &str) -> bool
+    ensures { IsTrue result ↔ IsGiven id.now (rows_in matches.now) }
 {
-    matches.get_flag(id)
+    matches!(matches.value_source(id), Some(ValueSource::CommandLine))
+}
+
+/// How a batch is to be planned.
+fn planning_of(matches: &ArgMatches<'_>) -> Result<Planning, Lack>
+    ensures { IsRead (HasPlanning (rows_in matches.now)) result }
+{
+    if !is_given(matches, "steady") {
+        return Ok(Planning::Workers(workers_of(matches)?));
+    }
+    if is_given(matches, "workers") {
+        return Err(Lack::Choice);
+    }
+    Ok(Planning::Steady)
+}
+
+/// Where a schedule is to come from.
+fn source_of(alloc: Global, matches: &ArgMatches<'_>) -> Result<ScheduleSource, Lack>
+    ensures { IsRead (HasSource (rows_in matches.now)) result }
+{
+    let Some(file) = option_of(alloc, matches, "schedule")? else {
+        return match planning_of(matches)? {
+            Planning::Workers(workers) => Ok(ScheduleSource::Plan(workers)),
+            Planning::Steady => Ok(ScheduleSource::Steady),
+        };
+    };
+    if is_given(matches, "steady") || is_given(matches, "workers") {
+        return Err(Lack::Choice);
+    }
+    Ok(ScheduleSource::File(file))
 }
 
 /// The job of `plan`.
@@ -104,7 +136,7 @@ fn plan_job(alloc: Global, found: &ArgMatches<'_>) -> Result<Job, Lack>
 {
     Ok(Job::Plan {
         file: text_of(alloc, found, "FILE")?,
-        workers: workers_of(found)?,
+        planning: planning_of(found)?,
     })
 }
 
@@ -135,7 +167,7 @@ fn switch_job(alloc: Global, found: &ArgMatches<'_>) -> Result<Job, Lack>
 {
     Ok(Job::Switch {
         batch: text_of(alloc, found, "BATCH")?,
-        workers: workers_of(found)?,
+        source: source_of(alloc, found)?,
     })
 }
 
@@ -235,7 +267,7 @@ fn request_of(alloc: Global, word: &str, found: &ArgMatches<'_>) -> Result<Reque
     };
     Ok(Request {
         job: job_of(alloc, name, found)?,
-        is_quiet: has_flag(found, "quiet"),
+        is_quiet: is_given(found, "quiet"),
     })
 }
 
@@ -273,11 +305,13 @@ fn judged(alloc: Global, job: &Job) -> Result<(), WordsFault>
 
 /// Reads the program's words, the first of which is its own name.
 ///
-/// Gives what clap finds in words that fit the program's grammar: the command's job, with its texts and its number
-/// of workers, and whether it is quiet. Other words are clap's error of what is at fault in them, which holds the
-/// text to print; a demand for help or for the program's version is one. So are words that fit, but name a job of
-/// which several files are `-`, standard input, or clients whose names are no names. Where there was no memory,
-/// nothing is said about the words: clap's error of that kind is [`WordsFault::NoMemory`], too.
+/// Gives what clap finds in words that fit the program's grammar: the command's job, with its texts
+/// and its number of workers, and whether it is quiet. Other words are clap's error of what is at
+/// fault in them, which holds the text to print; a demand for help or for the program's version is
+/// one. So are words that fit, but give two of `--workers`, `--steady` and `--schedule`, or name a
+/// job of which several files are `-`, standard input, or clients whose names are no names. Where
+/// there was no memory, nothing is said about the words: clap's error of that kind is
+/// [`WordsFault::NoMemory`], too.
 pub fn read_words(alloc: Global, words: &[String]) -> Result<Request, WordsFault>
     ensures request { IfOk result (AskFor (texts_of words.now)) }
     ensures limits { IfOk result (λ request. IsWithinLimits request.job) }

@@ -1,5 +1,5 @@
 -- What is printed behind what a session was told, and what is told beside it.
-use Rattle.std.proofs.Common.{ℕ, List, Option, Some, None, Result, Ok, Err, IfOk, OnErr, IfSome, ◌⊎◌, inl, inr, refl, subst, sym, ◌≡◌, []}
+use Rattle.std.proofs.Common.{ℕ, List, Option, Some, None, Result, Ok, Err, IfOk, OnErr, IfSome, ◌⊎◌, inl, inr, refl, subst, sym, ◌≡◌, ◌∙◌, []}
 use Rattle.std.specs.Prelude.{String, option_map, string_bytes}
 use Rattle.std.specs.Global.{Global}
 use Rattle.std.specs.Io.KnownBytes.{Appends}
@@ -79,6 +79,10 @@ not_answered (Ok status) input request told missed held holds has eb em ea first
   noted request told (unanswered missed.why) (bytes_of_line missed.note) eb em ea by note beside said,
 )
 not_answered (Err e) input request told missed held holds has eb em ea first by note beside then said = tt
+
+-- what holds of the answer that was chosen
+pub chosen : {E : Type 0} (P : Printed → Type 0) (one taken : Result Printed E) (answer : Printed) → taken ≡ one → taken ≡ Ok answer → IfOk one P → P answer
+chosen P one taken answer same was is = subst (λ r. IfOk r P) (sym same ∙ was) is
 
 -- what holds of an answer holds of it beside a note
 pub same_answer : (P : Printed → Type 0) (beside answer : Printed) → beside ≡ answer → P answer → P beside

@@ -1,6 +1,7 @@
 -- What is told on standard error beside what is printed.
-use Rattle.std.specs.Prelude.{◌≡◌, ◌≢◌, ◌⊎◌, ◌++◌, ℕ, Bool, false, List, [], Option, Some, IfSome}
+use Rattle.std.specs.Prelude.{◌≡◌, ◌≢◌, ◌⊎◌, ◌++◌, ℕ, Bool, false, List, [], Option, Some, None, IfSome}
 use Rattle.std.specs.Io.KnownBytes.{Appends}
+use Rattle.client_session.specs.Listening.{Told, TellsOfRefusals}
 use Rattle.plan_answers.specs.Refusals.{Printed}
 use Rattle.plan_answers.specs.declared.limits.TheConstants.{REFUSED}
 use Rattle.command_words.specs.declared.jobs.Job.{Job}
@@ -50,11 +51,23 @@ IsNoteFor job printed line =
     (told : List ℕ) × (end : Printed) × IsToldBy job told × (printed.text ≡ told ++ end.text)
     × (printed.status ≡ end.status) × Tells end line
 
+-- what may be told beside a session of a reply that is a refusal: nothing, or as much of a whole
+-- line as could be written, and of want of memory nothing
+abbrev pub MayTell : Refusal → List ℕ → Type 0
+MayTell refusal told =
+    (told ≡ []) ⊎ ((refusal ≢ NoMemory) × (rest : List ℕ) × IsWholeLine (told ++ rest))
+
+-- what stands on standard error, seen as what a listener has told
+abbrev pub told_there : Option (List ℕ) → Told
+told_there bytes = record { bytes = bytes; loan = None }
+
 -- what was told beside the replies of a session: nothing, but for `talk`, where the words don't ask
--- for silence; what is told there nobody says
+-- for silence: there what may be told of some refusals, one after another, behind what stood there
 abbrev pub IsBeside : Request → Option (List ℕ) → Option (List ℕ) → Type 0
 IsBeside request before after =
-    (after ≡ before) ⊎ ((request.is_quiet ≡ false) × IsTalk request.job)
+    (after ≡ before)
+    ⊎ ((request.is_quiet ≡ false) × IsTalk request.job
+    × TellsOfRefusals MayTell (told_there before) (told_there after))
 
 -- what was told on standard error of what is printed, behind what was told beside a session: nothing,
 -- or one text of a refusal, and nothing where the words ask for that

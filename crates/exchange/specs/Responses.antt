@@ -1,7 +1,7 @@
 -- What the program prints for a job.
 use Rattle.std.specs.Prelude.{◌≡◌, ◌⊎◌, ◌<◌, ℕ, List, [], ◌++◌, Option, Some, None, IfSome, ⊤, true, length, slice_index_or}
 use Rattle.batch.specs.Extent.{widest}
-use Rattle.plan_answers.specs.Answers.{IsPlanned, IsChecked}
+use Rattle.plan_answers.specs.Answers.{IsPlanned, IsSteadilyPlanned, IsChecked}
 use Rattle.rack_answers.specs.Answers.{IsRunAnswer, image_alone}
 use Rattle.plan_answers.specs.Drawings.{IsDrawn}
 use Rattle.plan_answers.specs.Directing.{IsDirected}
@@ -9,11 +9,13 @@ use Rattle.session_answers.specs.Hosts.{Guests, End, IsHostAnswer}
 use Rattle.plan_answers.specs.Refusals.{Printed}
 use Rattle.rack_answers.specs.Reports.{report_of}
 use Rattle.session_answers.specs.Serving.{IsServeAnswer}
-use Rattle.rack_answers.specs.Switching.{IsSwitched}
+use Rattle.rack_answers.specs.Switching.{IsSwitched, IsSwitchedSteadily, IsSwitchedAs}
 use Rattle.session_answers.specs.Talking.{IsTalkAnswer}
 use Rattle.plan_answers.specs.declared.limits.TheConstants.{REFUSED}
 use Rattle.command_words.specs.declared.jobs.Job.{Job}
 use Rattle.command_words.specs.declared.jobs.Job.TheVariants.{Plan, Check, Draw, Switch, Direct, Apply, Run, Serve, Host, Talk}
+use Rattle.command_words.specs.declared.jobs.Planning.TheVariants as planning
+use Rattle.command_words.specs.declared.jobs.ScheduleSource.TheVariants as source
 use Rattle.command_words.specs.Jobs.{input_name}
 use Rattle.refusals.specs.declared.refusal.Refusal.{Refusal}
 use Rattle.refusals.specs.declared.refusal.Refusal.TheVariants as refusal
@@ -44,6 +46,11 @@ abbrev pub IsSomePlan : Option (List ℕ) → List ℕ → Printed → Type 0
 IsSomePlan input file answer =
     (batch : List ℕ) × IsHeld input file batch × IsPlanned widest batch answer
 
+-- an answer of `plan --steady` to it
+abbrev pub IsSomeSteadyPlan : Option (List ℕ) → List ℕ → Printed → Type 0
+IsSomeSteadyPlan input file answer =
+    (batch : List ℕ) × IsHeld input file batch × IsSteadilyPlanned widest batch answer
+
 -- an answer of `check` to what these files hold
 abbrev pub IsSomeCheck : Option (List ℕ) → List ℕ → List ℕ → Printed → Type 0
 IsSomeCheck input batch_file schedule_file answer =
@@ -60,6 +67,17 @@ IsSomeDraw input batch_file schedule_file settings answer =
 abbrev pub IsSomeSwitch : Option (List ℕ) → List ℕ → Printed → Type 0
 IsSomeSwitch input file answer =
     (batch : List ℕ) × IsHeld input file batch × IsSwitched widest batch answer
+
+-- an answer of `switch --steady` to it
+abbrev pub IsSomeSteadySwitch : Option (List ℕ) → List ℕ → Printed → Type 0
+IsSomeSteadySwitch input file answer =
+    (batch : List ℕ) × IsHeld input file batch × IsSwitchedSteadily widest batch answer
+
+-- an answer of `switch` to what these files hold, a batch and a schedule of it
+abbrev pub IsSomeScheduleSwitch : Option (List ℕ) → List ℕ → List ℕ → Printed → Type 0
+IsSomeScheduleSwitch input batch_file schedule_file answer =
+    (batch schedule : List ℕ) × IsHeld input batch_file batch × IsHeld input schedule_file schedule
+    × IsSwitchedAs widest batch schedule answer
 
 -- an answer of `direct` to what this file holds
 abbrev pub IsSomeDirect : Option (List ℕ) → List ℕ → Printed → Type 0
@@ -116,11 +134,15 @@ behind_told told printed = record { text = told ++ printed.text; status = printe
 
 -- the answer to a job, whatever bytes its files hold, but for those of standard input
 abbrev pub IsAnswerTo : Option (List ℕ) → Job → Printed → Type 0
-IsAnswerTo input (Plan file workers) answer = IsSomePlan input file answer
+IsAnswerTo input (Plan file (planning.Workers workers)) answer = IsSomePlan input file answer
+IsAnswerTo input (Plan file planning.Steady) answer = IsSomeSteadyPlan input file answer
 IsAnswerTo input (Check batch schedule) answer = IsSomeCheck input batch schedule answer
 IsAnswerTo input (Draw batch schedule settings) answer =
     IsSomeDraw input batch schedule settings answer
-IsAnswerTo input (Switch batch workers) answer = IsSomeSwitch input batch answer
+IsAnswerTo input (Switch batch (source.Plan workers)) answer = IsSomeSwitch input batch answer
+IsAnswerTo input (Switch batch source.Steady) answer = IsSomeSteadySwitch input batch answer
+IsAnswerTo input (Switch batch (source.File schedule)) answer =
+    IsSomeScheduleSwitch input batch schedule answer
 IsAnswerTo input (Direct moves) answer = IsSomeDirect input moves answer
 IsAnswerTo input (Apply shape batch image workers) answer = IsSomeApply input shape batch image answer
 IsAnswerTo input (Run shape batch image workers) answer = IsSomeRun input shape batch image answer

@@ -1,5 +1,7 @@
 //! What is told on standard error beside the replies of `talk`.
 
+ghost use Rattle.std.specs.Prelude.{◌≡◌};
+
 use crate::notes::tell;
 use client_session::Listener;
 use refusal_notes::session_line;
@@ -7,7 +9,8 @@ use refusals::Refusal;
 use std::alloc::Global;
 use std::io::Write;
 
-/// Tells a line beside each reply that is a refusal: what was said, and what is wanted. No contract says which line.
+/// Tells a line beside each reply that is a refusal, but for lack of memory: what was said, and what
+/// is wanted. No contract says which line.
 #[derive(Drop)]
 pub(crate) struct Beside<'a, E> {
     alloc: Global,
@@ -19,7 +22,9 @@ pub(crate) struct Beside<'a, E> {
 
 impl<'a, E: Write> Beside<'a, E> {
     /// Tells them on this stream, of a rack of the shape that this word says.
-    pub(crate) fn new(alloc: Global, shape: &'a str, err: &'a mut E) -> Beside<'a, E> {
+    pub(crate) fn new(alloc: Global, shape: &'a str, err: &'a mut E) -> Beside<'a, E>
+        ensures { (result.err.ghost_name ≡ err.entry.ghost_name) × (result.err.now ≡ err.old) }
+    {
         Beside {
             alloc,
             shape,
@@ -27,9 +32,24 @@ impl<'a, E: Write> Beside<'a, E> {
             heard: None,
         }
     }
+
+    /// Gives the stream back.
+    pub(crate) fn into_stream(self) -> &'a mut E
+        ensures { (result.ghost_name ≡ self.entry.err.ghost_name)
+            × (result.now ≡ self.entry.err.now) }
+    {
+        self.err
+    }
 }
 
 impl<'a, E: Write> Listener for Beside<'a, E> {
+    ghost use Rattle.std.specs.Prelude.{Some};
+    ghost use Rattle.exchange.specs.Notes.{MayTell};
+
+    ghost told = { λ b. record { bytes = E.contents b.err.now; loan = Some b.err.ghost_name } };
+
+    ghost may_tell = { MayTell };
+
     fn heard(&mut self, text: &[u8]) {
         self.heard = Vec::from_slice(self.alloc, text).ok();
     }

@@ -2,9 +2,11 @@
 
 ghost use Rattle.std.specs.Prelude.{◌≡◌, ◌∷◌, ◌++◌, [], List, ℕ, IfOk, option_to_list};
 ghost use Rattle.std.specs.Io.KnownBytes.{Appends};
+ghost use Rattle.client_session.specs.Listening.{TellsOfRefusals};
 ghost use Rattle.plan_answers.specs.Lent.{bytes_of};
 ghost use Rattle.command_words.specs.Jobs.{CanBeServed, IsWithinLimits, NameInputOnce, files_of, input_name};
-ghost use Rattle.exchange.specs.Responses.{IsSomePlan, IsSomeCheck, IsSomeDraw, IsSomeSwitch, IsSomeDirect, IsSomeApply, IsSomeRun, IsSomeServe, IsSomeHost, IsSomeTalk};
+ghost use Rattle.command_words.specs.declared.jobs.Job.TheVariants.{Plan, Switch};
+ghost use Rattle.exchange.specs.Responses.{IsSomeCheck, IsSomeDraw, IsSomeDirect, IsSomeApply, IsSomeRun, IsSomeServe, IsSomeHost, IsSomeTalk};
 ghost use Rattle.exchange.specs.Responses.{IsAnswerTo, IsToldBy, behind_told};
 ghost use Rattle.exchange.specs.Notes.{IsBeside};
 ghost use Rattle.exchange.specs.Outcomes.{HasNote};
@@ -16,10 +18,12 @@ use crate::notes::{
     Answered, Missed, named, named_image, of_list, of_rack, of_schedule, with_note, with_rack_note,
 };
 use client_session::{Listener, Unheard};
-use command_words::{Job, Request, Text, TextList};
+use command_words::{Job, Planning, Request, ScheduleSource, Text, TextList};
 use exchange_limits::WorkerCount;
-use plan_answers::{answer_check, answer_direct, answer_draw, answer_plan};
-use rack_answers::{answer_apply, answer_run, answer_switch};
+use plan_answers::{answer_check, answer_direct, answer_draw, answer_plan, answer_plan_steady};
+use rack_answers::{
+    answer_apply, answer_run, answer_switch, answer_switch_schedule, answer_switch_steady,
+};
 use refusal_notes::Listing;
 use session_answers::{answer_host, answer_serve, answer_talk};
 use std::io::{Read, Write};
@@ -27,8 +31,9 @@ use std::rt::Files;
 use std::sync::Wait;
 use std::thread::Threads;
 
-/// The answer to a job, or why it has none, with what is told beside it. A session of `talk` is told its replies on
-/// `out` before, and a line on `err` beside each that is a refusal.
+/// The answer to a job, or why it has none, with what is told beside it. A session of `talk` is
+/// told its replies on `out` before, and a line on `err` beside each that is a refusal, but for lack
+/// of memory.
 pub(crate) fn answer_to<
     R: AllocGlobal + Files + Threads + Wait + ClientFiles + Sync,
     I: Read,
@@ -46,14 +51,14 @@ pub(crate) fn answer_to<
 {
     let Request { job, is_quiet } = request;
     match job {
-        Job::Plan { file, workers } => plan(rt, &file, workers, input),
+        Job::Plan { file, planning } => plan(rt, &file, planning, input),
         Job::Check { batch, schedule } => check(rt, &batch, &schedule, input),
         Job::Draw {
             batch,
             schedule,
             settings,
         } => draw(rt, &batch, &schedule, &settings, input),
-        Job::Switch { batch, workers } => switch(rt, &batch, workers, input),
+        Job::Switch { batch, source } => switch(rt, &batch, &source, input),
         Job::Direct { moves } => direct(rt, &moves, input),
         Job::Apply {
             shape,
@@ -84,25 +89,31 @@ pub(crate) fn answer_to<
         }
         Job::Talk { shape, image } => {
             let mut beside = Beside::new(rt.alloc(), shape.as_str(), err);
-            talk(rt, &shape, &image, input, out, &mut beside)
+            let end = talk(rt, &shape, &image, input, out, &mut beside);
+            // It does nothing when the program runs: the proof reads from it what `err` holds.
+            beside.into_stream();
+            end
         }
     }
 }
 
-/// The answer of `exchange plan FILE`.
+/// The answer of `exchange plan FILE`, by some workers or steady.
 fn plan<R: AllocGlobal + Files + Threads + Sync, I: Read>(
     rt: &R,
     file: &Text,
-    workers: WorkerCount,
+    planning: Planning,
     input: &mut I,
 ) -> Result<Answered, Missed>
     ensures answer { IfOk result (λ done.
-        IsSomePlan (I.remaining input.old) file.now done.answer) }
+        IsAnswerTo (I.remaining input.old) (Plan file.now planning) done.answer) }
     ensures note { HasNote result }
 {
     let held = read_file(rt, file, input)?;
     let text = held.as_slice();
-    let answer = answer_plan(rt, rt.alloc(), text, workers)?;
+    let answer = match planning {
+        Planning::Workers(workers) => answer_plan(rt, rt.alloc(), text, workers),
+        Planning::Steady => answer_plan_steady(rt.alloc(), text),
+    }?;
     let texts = of_list(named(file, text), Listing::Transfers);
     Ok(with_note(rt.alloc(), answer, texts))
 }
@@ -166,22 +177,41 @@ fn word_in(text: &Option<Text>) -> &str {
     }
 }
 
-/// The answer of `exchange switch BATCH`.
+/// The answer of `exchange switch BATCH`, for its plan, its steady plan or the schedule of a file.
+/// The files are read before any is looked at, the batch's first.
 fn switch<R: AllocGlobal + Files + Threads + Sync, I: Read>(
     rt: &R,
     batch: &Text,
-    workers: WorkerCount,
+    source: &ScheduleSource,
     input: &mut I,
 ) -> Result<Answered, Missed>
+    requires { NameInputOnce (files_of (Switch batch.now source.now)) }
     ensures answer { IfOk result (λ done.
-        IsSomeSwitch (I.remaining input.old) batch.now done.answer) }
+        IsAnswerTo (I.remaining input.old) (Switch batch.now source.now) done.answer) }
     ensures note { HasNote result }
 {
+    let alloc = rt.alloc();
     let held = read_file(rt, batch, input)?;
     let text = held.as_slice();
-    let answer = answer_switch(rt, rt.alloc(), text, workers)?;
-    let texts = of_list(named(batch, text), Listing::Transfers);
-    Ok(with_note(rt.alloc(), answer, texts))
+    let list = of_list(named(batch, text), Listing::Transfers);
+    match source {
+        ScheduleSource::Plan(workers) => {
+            let answer = answer_switch(rt, alloc, text, *workers)?;
+            Ok(with_note(alloc, answer, list))
+        }
+        ScheduleSource::Steady => {
+            let answer = answer_switch_steady(alloc, text)?;
+            Ok(with_note(alloc, answer, list))
+        }
+        ScheduleSource::File(file) => {
+            let other = read_file(rt, file, input)?;
+            let schedule = other.as_slice();
+            let answer = answer_switch_schedule(alloc, text, schedule)?;
+            let (batch, schedule) = (named(batch, text), named(file, schedule));
+            let texts = of_schedule(batch, schedule, "", answer.validity());
+            Ok(with_note(alloc, answer, texts))
+        }
+    }
 }
 
 /// The answer of `exchange direct MOVES`.
@@ -311,6 +341,7 @@ fn talk<R: AllocGlobal + Files + Threads + Wait + Sync, I: Read, O: Write, H: Li
         × IfOk result (λ done.
         IsSomeTalk (I.remaining input.old) shape.now image.now told done.answer) }
     ensures note { HasNote result }
+    ensures beside { TellsOfRefusals H.may_tell (H.told listener.old) (H.told listener.new) }
 {
     let words = read_image(rt, image, input)?;
     let shape_text = shape.as_str().as_bytes();

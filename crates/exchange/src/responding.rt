@@ -15,6 +15,7 @@ use crate::unanswered::Unanswered;
 use command_words::{WordsFault, read_words};
 use plan_answers::{Answer, DONE, REFUSED};
 use refusals::Refusal;
+use std::alloc::{AllocError, Global};
 use std::io;
 use std::io::{ErrorKind, Read, Write};
 use std::process::ExitCode;
@@ -100,11 +101,34 @@ fn print_response<
             write!(err, "{error}")?;
             Ok(MISUSED)
         }
-        Err(WordsFault::Clap(error)) => {
-            write!(out, "{error}")?;
+        Err(WordsFault::Clap(help)) => {
+            write_help(rt.alloc(), words, &help, out)?;
             Ok(DONE)
         }
     }
+}
+
+/// Writes a text of help. Where the program's own name, the first word, has no `/`, the text says
+/// `exchange` in the place of `./exchange`, as far as there is memory for that.
+fn write_help<O: Write>(
+    alloc: Global,
+    words: &[String],
+    help: &clap::Error,
+    out: &mut O,
+) -> io::Result<()> {
+    if let Some(name) = words.first()
+        && !name.as_str().contains('/')
+        && let Ok(text) = installed_help(alloc, help)
+    {
+        return out.write_all(text.as_str().as_bytes());
+    }
+    write!(out, "{help}")
+}
+
+/// A text of help, with `exchange` in the place of `./exchange`.
+fn installed_help(alloc: Global, help: &clap::Error) -> Result<String, AllocError> {
+    let text = help.to_string(alloc)?;
+    text.as_str().replace(alloc, "./exchange", "exchange")
 }
 
 /// Prints an answer, then tells what there is to tell beside it, and gives the answer's status.

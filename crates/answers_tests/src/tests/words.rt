@@ -1,7 +1,18 @@
-//! The numbers of workers that the words of the command line name, which no row can show.
+//! What the words of the command line say of workers and of schedules, which no row can show.
 
-use command_words::{Job, read_words};
+use clap::error::ErrorKind;
+use command_words::{Job, Planning, ScheduleSource, WordsFault, read_words};
 use std::alloc::{AllocError, Global};
+
+/// What words say of how their schedule is made, or why they are refused.
+#[derive(Clone, Copy, PartialEq)]
+enum Said<'a> {
+    Workers(usize),
+    Steady,
+    File(&'a str),
+    Nothing,
+    Refused(ErrorKind),
+}
 
 /// Puts the words of a line, which one space parts.
 fn push_words(alloc: Global, words: &mut Vec<String>, line: &str) -> Result<(), AllocError> {
@@ -11,38 +22,58 @@ fn push_words(alloc: Global, words: &mut Vec<String>, line: &str) -> Result<(), 
     Ok(())
 }
 
-/// The number of workers of a job, which no judging has.
-fn workers_of(job: &Job) -> Option<usize> {
+/// What a job says of how its schedule is made.
+fn said_by(job: &Job) -> Said<'_> {
     match job {
-        Job::Plan { workers, .. }
-        | Job::Switch { workers, .. }
+        Job::Plan {
+            planning: Planning::Workers(workers),
+            ..
+        }
+        | Job::Switch {
+            source: ScheduleSource::Plan(workers),
+            ..
+        }
         | Job::Apply { workers, .. }
         | Job::Run { workers, .. }
         | Job::Serve { workers, .. }
-        | Job::Host { workers, .. } => Some(workers.get()),
-        Job::Check { .. } | Job::Draw { .. } | Job::Direct { .. } | Job::Talk { .. } => None,
+        | Job::Host { workers, .. } => Said::Workers(workers.get()),
+        Job::Plan {
+            planning: Planning::Steady,
+            ..
+        }
+        | Job::Switch {
+            source: ScheduleSource::Steady,
+            ..
+        } => Said::Steady,
+        Job::Switch {
+            source: ScheduleSource::File(file),
+            ..
+        } => Said::File(file.as_str()),
+        Job::Check { .. } | Job::Draw { .. } | Job::Direct { .. } | Job::Talk { .. } => {
+            Said::Nothing
+        }
     }
 }
 
-/// The number of workers of the job that words name.
-fn named_workers(alloc: Global, words: &[String]) -> Option<usize> {
+/// Whether words say this.
+fn are_read_as(alloc: Global, words: &[String], said: &Said<'_>) -> bool {
     match read_words(alloc, words) {
-        Ok(request) => workers_of(&request.job),
-        Err(_fault) => None,
+        Ok(request) => said_by(&request.job) == *said,
+        Err(WordsFault::Clap(error)) => Said::Refused(error.kind()) == *said,
+        Err(WordsFault::NoMemory) => false,
     }
 }
 
-/// Whether the words of a line name a job with so many workers.
-fn name_workers(alloc: Global, line: &str, workers: usize) -> bool {
+/// Whether the words of a line say this.
+fn is_read_as(alloc: Global, line: &str, said: &Said<'_>) -> bool {
     let mut words = Vec::new(alloc);
-    push_words(alloc, &mut words, line).is_ok()
-        && named_workers(alloc, words.as_slice()) == Some(workers)
+    push_words(alloc, &mut words, line).is_ok() && are_read_as(alloc, words.as_slice(), said)
 }
 
-/// Whether each line names a job with as many workers as stand beside it.
-fn all_name_workers(alloc: Global, rows: &[(&str, usize)]) -> bool {
-    for (line, workers) in rows {
-        if !name_workers(alloc, line, *workers) {
+/// Whether each line says what stands beside it.
+fn are_all_read_as(alloc: Global, rows: &[(&str, Said<'_>)]) -> bool {
+    for (line, said) in rows {
+        if !is_read_as(alloc, line, said) {
             return false;
         }
     }
@@ -52,18 +83,60 @@ fn all_name_workers(alloc: Global, rows: &[(&str, usize)]) -> bool {
 #[test]
 fn words_name_workers(rt: HostRuntime) {
     let rows = [
-        ("exchange plan F", 1),
-        ("exchange plan F --workers 64", 64),
-        ("exchange plan F --workers +5", 5),
-        ("exchange plan F --workers 007", 7),
-        ("exchange switch B --workers 3", 3),
-        ("exchange apply S B I --workers 9", 9),
-        ("exchange run S B", 1),
-        ("exchange run --workers 3 S B", 3),
-        ("exchange serve S A", 1),
-        ("exchange serve S A B --workers 64", 64),
-        ("exchange serve --workers 2 S A B", 2),
-        ("exchange host S A B --workers 5", 5),
+        ("exchange plan F", Said::Workers(1)),
+        ("exchange plan F --workers 64", Said::Workers(64)),
+        ("exchange plan F --workers +5", Said::Workers(5)),
+        ("exchange plan F --workers 007", Said::Workers(7)),
+        ("exchange switch B", Said::Workers(1)),
+        ("exchange switch B --workers 3", Said::Workers(3)),
+        ("exchange apply S B I --workers 9", Said::Workers(9)),
+        ("exchange run S B", Said::Workers(1)),
+        ("exchange run --workers 3 S B", Said::Workers(3)),
+        ("exchange serve S A", Said::Workers(1)),
+        ("exchange serve S A B --workers 64", Said::Workers(64)),
+        ("exchange serve --workers 2 S A B", Said::Workers(2)),
+        ("exchange host S A B --workers 5", Said::Workers(5)),
+        ("exchange check B S", Said::Nothing),
     ];
-    assert!(rt; all_name_workers(rt.alloc(), &rows));
+    assert!(rt; are_all_read_as(rt.alloc(), &rows));
+}
+
+#[test]
+fn words_name_schedules(rt: HostRuntime) {
+    let rows = [
+        ("exchange plan F --steady", Said::Steady),
+        ("exchange switch --steady B", Said::Steady),
+        ("exchange switch B --schedule S", Said::File("S")),
+        ("exchange switch --schedule=S -", Said::File("S")),
+        ("exchange switch B --schedule -", Said::File("-")),
+    ];
+    assert!(rt; are_all_read_as(rt.alloc(), &rows));
+}
+
+/// Options conflict where they are given, with the value of their default too.
+#[test]
+fn options_exclude_each_other(rt: HostRuntime) {
+    for line in [
+        "exchange plan F --steady --workers 2",
+        "exchange plan F --workers 1 --steady",
+        "exchange switch B --steady --workers 1",
+        "exchange switch B --workers 1 --schedule S",
+        "exchange switch B --schedule S --steady",
+        "exchange switch - --schedule -",
+    ] {
+        let said = Said::Refused(ErrorKind::ArgumentConflict);
+        assert!(rt; is_read_as(rt.alloc(), line, &said));
+    }
+}
+
+#[test]
+fn other_commands_have_neither_option(rt: HostRuntime) {
+    for line in [
+        "exchange plan F --schedule S",
+        "exchange run S B --steady",
+        "exchange check B S --steady",
+    ] {
+        let said = Said::Refused(ErrorKind::UnknownArgument);
+        assert!(rt; is_read_as(rt.alloc(), line, &said));
+    }
 }

@@ -4,14 +4,14 @@ use Rattle.std.proofs.lemmas.List.{length-map}
 use Rattle.clap.specs.Words.{Text, found_of, rows_of, raw_values, matched_of}
 use Rattle.clap.specs.declared.parser.matches.Found.{Found}
 use Rattle.clap.proofs.WalkLemmas.{raw_values-rows}
-use Rattle.command_words.specs.Jobs.{HasSomeServed}
+use Rattle.command_words.specs.Jobs.{HasServed, HasSome}
 use Rattle.command_words.proofs.reading.served_of.Goals as goal
 use Rattle.command_words.proofs.reading.served_of.Goals.{in_default-via-in-Some+then-texts-ge1+else-texts-le-MAX_CLIENTS, in_default-via-in-Some+else-texts-ge1, in_default-via-in_default}
 
 -- the clients that are there are as many as were given
 as_many : (found : Found) (id : Text) (r : Option (Bor (List (Bor Text)))) (texts : Bor (List (Bor Text))) → r ≡ Some texts
     → option_map (λ s. map (λ v. v.now) s.now) r ≡ option_map raw_values (matched_of found id)
-    → (has : HasSomeServed id (rows_of found)) → length texts.now ≡ length has.0
+    → (has : HasSome (HasServed id (rows_of found))) → length texts.now ≡ length has.0
 as_many found id r texts is given has =
     let got = rw is at given in
     let same : Some (map (λ v. v.now) texts.now) ≡ Some has.0 = got ∙ raw_values-rows found id ∙ has.1.0 in

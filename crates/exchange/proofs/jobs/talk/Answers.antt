@@ -1,6 +1,7 @@
 use Rattle.std.proofs.Common.{◌≡◌, ℕ, List, Option, Some, [], ◌∷◌, refl, subst, rules, arith}
 use Rattle.std.specs.Prelude.{◌≢◌, option_map}
 use Rattle.std.proofs.KnownBytes.{Appends-nil}
+use Rattle.client_session.proofs.Listening.{tells_nothing}
 use Rattle.session_answers.specs.Talking.{IsTalkAnswer}
 use Rattle.command_words.specs.Jobs.{input_name}
 use Rattle.exchange.specs.Responses.{IsSomeTalk}
@@ -11,13 +12,16 @@ use Rattle.exchange.proofs.jobs.talk.Goals as goal
 pub returns-in_err-words-clause-answer : goal.returns-in_err-words-clause-answer
 returns-in_err-words-clause-answer g c = ([], Appends-nil _, search rules)
 
+pub returns-in_err-words-clause-beside : goal.returns-in_err-words-clause-beside
+returns-in_err-words-clause-beside g c = tells_nothing _
+
 pub returns-clause-answer : goal.returns-clause-answer
 returns-clause-answer g c =
     let old = g.I.Read.remaining c.args.input.now in
     let now = g.I.Read.remaining c.read_image.new.input in
     let after = g.I.Read.remaining c.answer_talk.new.reader in
     let image = option_map (λ file. file.items) c.in_ok-words.words in
-    let t = c.in_ok-answer.ensures in
+    let t = c.in_ok-answer.ensures.answer in
     let other : c.args.image.now ≢ Some input_name = image_is_other c.args.image.now (input_name ∷ []) 0 c.requires.input (omega arith) refl in
     let unread : now ≡ old = c.read_image.ensures.unread other in (
       t.0,

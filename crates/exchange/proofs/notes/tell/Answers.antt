@@ -1,6 +1,6 @@
 use Rattle.std.proofs.Common.{◌++◌, take}
 use Rattle.std.proofs.KnownBytes.{Appends-trans}
-use Rattle.exchange.proofs.Begun.{cut}
+use Rattle.client_session.proofs.Taken.{cut}
 use Rattle.exchange.proofs.notes.tell.Goals as goal
 
 pub loop-rest-preserved : goal.loop-rest-preserved

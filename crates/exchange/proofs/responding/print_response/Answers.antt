@@ -28,8 +28,8 @@ returns-in_ok-write-in-Err-Clap g c =
       ((λ help. elim help [ inl is ↦ absurd (fault.0 is) | inr is ↦ absurd (fault.1 is) ]), (λ other. (refl, refl))),
     )
 
-pub returns-in_ok-write-in-Err-Clap-2 : goal.returns-in_ok-write-in-Err-Clap-2
-returns-in_ok-write-in-Err-Clap-2 g c = (
+pub returns-in_ok-write_help-in-Err-Clap-2 : goal.returns-in_ok-write_help-in-Err-Clap-2
+returns-in_ok-write_help-in-Err-Clap-2 g c = (
   Err (words_fault.Clap c.in-Err-Clap.error),
   tt,
   rw (c.in-Err-Clap.is, c.in-Err-Clap.field-0-is) at c.read_words.ensures.fault,
