@@ -51,17 +51,28 @@ extern "C" {
  * that grows with their number times the uses. */
 uint8_t exchange_plan(const uint8_t *batch, size_t batch_bytes, uint8_t *out, size_t room, size_t *count);
 
+/* `exchange plan --steady`: a schedule of the batch with as few settings as possible that changes the switch seldom,
+ * and its certificate.
+ *
+ * It changes the switch at most once for each pair of links that share transfers, and once for each link in use.
+ * Takes time that grows with the number of transfers. */
+uint8_t exchange_plan_steady(const uint8_t *batch, size_t batch_bytes, uint8_t *out, size_t room,
+                             size_t *count);
+
 /* `exchange check`: whether the schedule is right, and its certificate shows that none is shorter.
  *
  * Takes time that grows with the lengths of the texts. */
 uint8_t exchange_check(const uint8_t *batch, size_t batch_bytes, const uint8_t *schedule,
                        size_t schedule_bytes, uint8_t *out, size_t room, size_t *count);
 
-/* `exchange switch`: the bytes that set a C004, or both of a rack with more than 16 modules, for each setting
- * of a plan of the batch.
+/* `exchange switch`: the bytes that set a C004, or both of a rack with more than 16 modules, for each setting of a
+ * schedule of the batch, with a certificate or without.
  *
- * Takes the time of a plan, and time that grows with the number of transfers. */
-uint8_t exchange_switch(const uint8_t *batch, size_t batch_bytes, uint8_t *out, size_t room, size_t *count);
+ * With a `schedule_bytes` of 0 no schedule is given, and the bytes are those for the plan of `exchange_plan`. Then
+ * `schedule` isn't null either: `batch` will do. So an empty text isn't refused here, as the program refuses an empty
+ * file. Takes time that grows with the lengths of the texts, and the time of a plan where it makes one. */
+uint8_t exchange_switch(const uint8_t *batch, size_t batch_bytes, const uint8_t *schedule,
+                        size_t schedule_bytes, uint8_t *out, size_t room, size_t *count);
 
 /* `exchange apply`: the image that a run of the batch leaves of an image, on a rack of the shape `MxKxW`.
  *

@@ -10,7 +10,7 @@ nothing. Threads may call side by side, and do run at once. Don't call in a proc
 
 import ctypes
 import os
-from typing import Iterable, List, NamedTuple, Tuple, Union
+from typing import Iterable, List, NamedTuple, Optional, Tuple, Union
 
 Text = Union[str, bytes, bytearray, memoryview]
 
@@ -84,13 +84,16 @@ def settings(schedule: str) -> List[List[int]]:
     return [[int(number) for number in numbers] for word, *numbers in lines if word == "setting"]
 
 
-def plan(batch: Text) -> str:
-    r"""A schedule of a batch with the fewest settings, and its certificate.
+def plan(batch: Text, steady: bool = False) -> str:
+    r"""A schedule of a batch with the fewest settings, and its certificate. A steady one also changes the switch seldom.
 
+    >>> batch = "batch 4\npush 0 0 1 0\npush 0 0 2 0\npush 0 1 1 1\npush 0 1 2 1\n"
+    >>> settings(plan(batch)), settings(plan(batch, steady=True))
+    ([[0], [1], [2], [3]], [[0], [2], [1], [3]])
     >>> plan("batch 1\npush 0 0 1 0\n")
     'settings 1\nsetting 0\nbusiest link 0 module 0\nnamed 0\n'
     """
-    return _ask("plan", batch).decode()
+    return _ask("plan_steady" if steady else "plan", batch).decode()
 
 
 def check(batch: Text, schedule: Text) -> int:
@@ -102,15 +105,22 @@ def check(batch: Text, schedule: Text) -> int:
     return int(_ask("check", batch, schedule).split()[1])
 
 
-def switch_bytes(batch: Text) -> List[Tuple[bytes, ...]]:
-    r"""The bytes that a run of a batch sends the switch for each setting in turn. Where the batch names a module above 15, there are two
-    switches, a and b, and the bytes for each.
+def switch_bytes(batch: Text, schedule: Optional[Text] = None) -> List[Tuple[bytes, ...]]:
+    r"""The bytes that set a switch for each setting in turn of a schedule of a batch, with a certificate or without. Where no schedule is given,
+    it is that of `plan`. Where the batch names a module above 15, there are two switches, a and b, and the bytes for each.
+
+    Where a setting leaves the switch as it is, its bytes are `03` alone.
 
     >>> [sent.hex(" ") for (sent,) in switch_bytes("batch 1\npush 0 0 1 0\n")]
     ['04 01 00 11 03']
+    >>> batch = "batch 2\npush 0 0 1 0\npush 0 1 1 1\n"
+    >>> [sent.hex(" ") for (sent,) in switch_bytes(batch, plan(batch, steady=True))]
+    ['04 01 00 11 03', '03']
     """
+    # To the call an empty text is no schedule. An empty line is refused as an empty text is.
+    given = b"" if schedule is None else _bytes_of(schedule) or b"\n"
     found: List[Tuple[bytes, ...]] = []
-    for line in _ask("switch", batch).decode().splitlines():
+    for line in _ask("switch", batch, given).decode().splitlines():
         _, setting, *pairs = line.split()
         sent = bytes.fromhex("".join(pair for pair in pairs if len(pair) == 2))
         if int(setting) == len(found):
@@ -151,7 +161,7 @@ def _load() -> ctypes.CDLL:
     """The library that was installed with this file, or else the one that the system's loader finds."""
     beside = os.path.join(os.path.dirname(os.path.realpath(__file__)), "..", "..", "libexchange.so")
     library = ctypes.CDLL(beside if os.path.exists(beside) else "libexchange.so")
-    for name, texts in {"plan": 1, "check": 2, "switch": 1, "apply": 3, "draw": 2, "direct": 1}.items():
+    for name, texts in {"plan": 1, "plan_steady": 1, "check": 2, "switch": 2, "apply": 3, "draw": 2, "direct": 1}.items():
         call = getattr(library, f"exchange_{name}")
         call.argtypes = [ctypes.c_char_p, ctypes.c_size_t] * (texts + 1) + [ctypes.POINTER(ctypes.c_size_t)]
         call.restype = ctypes.c_uint8

@@ -1,77 +1,123 @@
-/* An emulator of two modules, whose memories are two arrays. It plans a batch and moves the blocks setting by setting, and
- * compares its memories with those that `exchange apply` leaves. docs/EMULATORS.md says how to build it. */
+/* An emulator of three modules, whose memories are an array, and of the switch that joins their links. It plans a batch, sets the
+ * switch by the bytes for each setting and moves the blocks, and compares the memories with those that `exchange apply` leaves.
+ * docs/EMULATORS.md says how to build it. */
 #include "exchange.h"
 #include <stdio.h>
 #include <stdlib.h>
 #include <string.h>
 
 /* Blocks of two words, as the shape says. */
-enum { MODULES = 2, BLOCKS = 2, BYTES = 8, MOST = 16 };
-static const char shape[] = "2x2x2";
-static const char batch[] = "batch 3\npush 0 0 1 0\npush 1 0 0 1\npull 0 0 1 1\n";
+enum { MODULES = 3, BLOCKS = 2, BYTES = 8, LINKS = 32, NONE = -1 };
+static const char shape[] = "3x2x2";
 
 static uint8_t memory[MODULES][BLOCKS][BYTES], before[MODULES][BLOCKS][BYTES], applied[MODULES][BLOCKS][BYTES];
 
-/* One transfer of the batch: the initiator with its block, and the responder with its own. */
-struct transfer {
-    int pushes, initiator, near, responder, far;
-};
+/* What each link of the switch is joined to. Link 0 of module m is on link m of the switch, and link 3 on link 16 + m. */
+static int joined[LINKS];
 
-static int read_batch(struct transfer *transfers)
+/* Each transfer: the initiator with its block, and the responder with its own. */
+static const struct transfer {
+    const char *kind;
+    int initiator, near, responder, far;
+} transfers[] = {{"push", 0, 0, 1, 0}, {"push", 0, 1, 2, 0}, {"pull", 0, 0, 1, 1}, {"pull", 0, 1, 2, 1}};
+enum { TRANSFERS = sizeof transfers / sizeof *transfers };
+
+static char batch[100];
+
+static void write_batch(void)
 {
-    int count = 0, taken = 0;
-    const char *at = strchr(batch, '\n') + 1;
-    char kind[5];
-    for (; count < MOST; count++, at += taken) {
-        struct transfer *t = &transfers[count];
-        if (sscanf(at, "%4s %d %d %d %d\n%n", kind, &t->initiator, &t->near, &t->responder, &t->far, &taken) != 5)
-            break;
-        t->pushes = strcmp(kind, "push") == 0;
-    }
-    return count;
+    char *at = batch + sprintf(batch, "batch %d\n", TRANSFERS);
+    for (const struct transfer *t = transfers; t < transfers + TRANSFERS; t++)
+        at += sprintf(at, "%s %d %d %d %d\n", t->kind, t->initiator, t->near, t->responder, t->far);
 }
 
-/* Moves one block, as it was before the run. */
+static void end(const char *why)
+{
+    puts(why);
+    exit(EXIT_FAILURE);
+}
+
+/* A plan of the batch, or where there is one the bytes for its settings, as a text with a zero behind it. A call that finds too little room
+ * says how much it wants. */
+static char *ask(const char *plan)
+{
+    const uint8_t *text = (const uint8_t *)batch, *schedule = (const uint8_t *)plan;
+    for (size_t room = 64, count;; room = count) {
+        uint8_t *out = calloc(room + 1, 1);
+        if (out == NULL)
+            end("no memory");
+        uint8_t status = plan == NULL ? exchange_plan_steady(text, strlen(batch), out, room, &count)
+                                      : exchange_switch(text, strlen(batch), schedule, strlen(plan), out, room, &count);
+        if (status == EXCHANGE_DONE)
+            return (char *)out;
+        if (status != EXCHANGE_NO_ROOM)
+            end((char *)out);
+        free(out);
+    }
+}
+
+/* Does what bytes command, as a C004 does: 4 is a reset, 1 joins two links, 6 parts them, and 3 is the end. Says whether there was more. */
+static int set_switch(char *at)
+{
+    int changes = 0;
+    while (*at == ' ') {
+        long command = strtol(at, &at, 16);
+        changes |= command != 3;
+        for (int link = 0; command == 4 && link < LINKS; link++)
+            joined[link] = NONE;
+        if (command == 1 || command == 6) {
+            long one = strtol(at, &at, 16), other = strtol(at, &at, 16);
+            joined[one] = command == 1 ? other : NONE;
+            joined[other] = command == 1 ? one : NONE;
+        }
+    }
+    return changes;
+}
+
+/* Moves one block, as it was before the first setting, where the switch joins the links. */
 static void move(const struct transfer *t)
 {
-    if (t->pushes)
+    if (joined[t->initiator] != 16 + t->responder)
+        end("WRONG: the links aren't joined");
+    if (strcmp(t->kind, "push") == 0)
         memcpy(memory[t->responder][t->far], before[t->initiator][t->near], BYTES);
     else
         memcpy(memory[t->initiator][t->near], before[t->responder][t->far], BYTES);
 }
 
+static char *next_line(char *line)
+{
+    return strchr(line, '\n') + 1;
+}
+
 int main(void)
 {
-    struct transfer transfers[MOST];
-    int known = read_batch(transfers);
-    const uint8_t *text = (const uint8_t *)batch;
-    size_t count = 0;
+    int settings = 0, changes = 0;
+    size_t count;
 
     for (int m = 0; m < MODULES; m++)
         for (int b = 0; b < BLOCKS; b++)
-            memset(memory[m][b], "ABCD"[BLOCKS * m + b], BYTES);
+            memset(memory[m][b], "ABCDEF"[BLOCKS * m + b], BYTES);
     memcpy(before, memory, sizeof memory);
 
-    /* The first call asks how long the plan is, the second writes it. */
-    exchange_plan(text, sizeof batch - 1, applied[0][0], 0, &count);
-    char *plan = calloc(count + 1, 1);
-    if (plan == NULL || exchange_plan(text, sizeof batch - 1, (uint8_t *)plan, count, &count) != EXCHANGE_DONE)
-        return EXIT_FAILURE;
-    printf("%.*s\n", (int)strcspn(plan, "\n"), plan);
-
-    for (char *line = strtok(plan, "\n"); line != NULL; line = strtok(NULL, "\n")) {
-        if (strncmp(line, "setting ", 8) != 0)
-            continue;
-        /* Here an emulator sets its switch. All moves of a line may go at once. */
-        char *at = line + 8, *end;
-        for (long t = strtol(at, &end, 10); end != at && t < known; at = end, t = strtol(at, &end, 10))
-            move(&transfers[t]);
+    /* Behind its first line the plan has a line `setting T ..` for each setting, and the bytes stand in lines `setting S ..`. */
+    write_batch();
+    char *plan = ask(NULL), *bytes = ask(plan), *sent = bytes;
+    for (char *line = next_line(plan); strncmp(line, "setting", 7) == 0; line = next_line(line), sent = next_line(sent)) {
+        char *at;
+        strtol(sent + 7, &at, 10);
+        changes += set_switch(at);
+        for (at = line + 7; *at == ' ';)
+            move(&transfers[strtol(at, &at, 10)]);
+        settings++;
     }
     free(plan);
+    free(bytes);
 
+    printf("settings %d, changes of the switch %d\n", settings, changes);
     for (int m = 0; m < MODULES; m++)
         printf("module %d: %.8s %.8s\n", m, (char *)memory[m][0], (char *)memory[m][1]);
-    uint8_t status = exchange_apply((const uint8_t *)shape, sizeof shape - 1, text, sizeof batch - 1, before[0][0],
+    uint8_t status = exchange_apply((const uint8_t *)shape, strlen(shape), (const uint8_t *)batch, strlen(batch), before[0][0],
                                     sizeof before, applied[0][0], sizeof applied, &count);
     int same = status == EXCHANGE_DONE && count == sizeof memory && memcmp(applied, memory, sizeof memory) == 0;
     puts(same ? "as exchange apply" : "WRONG");

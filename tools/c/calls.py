@@ -20,15 +20,27 @@ import spoil
 import texts
 from program import ask
 
-# The calls, and the files that the command of that name wants. The first text of `apply` is a word of the command instead.
+# The calls, and the names of the texts that each wants.
 CALLS = {
     "plan": ["batch"],
-    "switch": ["batch"],
+    "plan_steady": ["batch"],
+    "switch": ["batch", "schedule"],
     "direct": ["moves"],
     "check": ["batch", "schedule"],
     "draw": ["batch", "schedule"],
     "apply": ["shape", "batch", "image"],
 }
+
+
+def words_of(name, given):
+    """The words of the command that is to answer as a call does. Each text is in a file of its name, but that of a shape, which is a word
+    itself. To the call `switch` an empty text of a schedule is none."""
+    words = [os.fsdecode(text) if file == "shape" else file for file, text in zip(CALLS[name], given)]
+    if name == "plan_steady":
+        return ["plan", *words, "--steady"]
+    if name == "switch":
+        return ["switch", "batch", "--schedule", "schedule"] if given[1] else ["switch", "batch"]
+    return [name, *words]
 
 
 def texts_for(draw, name):
@@ -47,10 +59,11 @@ def texts_for(draw, name):
         ]
     shape = (draw.choice([1, 2, 3, 8, 16, 17, plain.MODULES]), plain.BLOCKS, plain.WORDS)
     most = draw.choice([0, 3, 10, 40])
-    if name in ("check", "draw"):
+    if name in ("check", "draw") or name == "switch" and draw.random() < 0.7:
         return list(texts.spoilt_schedule(draw, shape, most, plain.busiest))
     batch = spoil.batch(draw, shape, most)
-    return [spoil.spoil(draw, batch) if draw.random() < 0.5 else batch]
+    given = [spoil.spoil(draw, batch) if draw.random() < 0.5 else batch]
+    return [*given, b""] if name == "switch" else given
 
 
 class Calls:
@@ -79,8 +92,7 @@ def is_same(calls, name, given):
     for file, text in zip(CALLS[name], given):
         with open(file, "wb") as out:
             out.write(text)
-    words = [os.fsdecode(text) if file == "shape" else file for file, text in zip(CALLS[name], given)]
-    program = ask(name, *words)
+    program = ask(*words_of(name, given))
     return (status, answer) == (program.status, program.out)
 
 
@@ -113,7 +125,8 @@ def try_examples(path):
     batch, schedule = read("three-transfers.txt"), read("three-transfers.plan.txt")
     asked = [(name, [batch, schedule][: len(files)]) for name, files in CALLS.items() if name != "direct"]
     asked[-1] = ("apply", [b"3x2x2", read("two-pushes.txt"), read("before.img")])
-    asked += [("direct", [read("patterns/gather.moves.txt")]), ("plan", [b"batch 1\n"]), ("plan", [read("all-to-all.txt")])]
+    asked += [("direct", [read("patterns/gather.moves.txt")]), ("plan", [b"batch 1\n"]), ("switch", [batch, b""])]
+    asked += [(name, [read("all-to-all.txt")]) for name in ("plan", "plan_steady")]
     with tempfile.TemporaryDirectory() as room:
         os.chdir(room)
         calls = Calls(path, "no-memory")

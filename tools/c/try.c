@@ -54,10 +54,12 @@ static uint8_t call(const char *name, const struct text *t, uint8_t *out, size_t
 {
     if (strcmp(name, "plan") == 0)
         return exchange_plan(t[0].bytes, t[0].count, out, room, count);
+    if (strcmp(name, "plan_steady") == 0)
+        return exchange_plan_steady(t[0].bytes, t[0].count, out, room, count);
     if (strcmp(name, "check") == 0)
         return exchange_check(t[0].bytes, t[0].count, t[1].bytes, t[1].count, out, room, count);
     if (strcmp(name, "switch") == 0)
-        return exchange_switch(t[0].bytes, t[0].count, out, room, count);
+        return exchange_switch(t[0].bytes, t[0].count, t[1].bytes, t[1].count, out, room, count);
     if (strcmp(name, "draw") == 0)
         return exchange_draw(t[0].bytes, t[0].count, t[1].bytes, t[1].count, out, room, count);
     if (strcmp(name, "apply") == 0)

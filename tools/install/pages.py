@@ -14,7 +14,8 @@ ESCAPES = {"\\": r"\(rs", "-": r"\-", "'": r"\(aq", "`": r"\(ga", "^": r"\(ha", 
 
 
 def say(program, *words):
-    return subprocess.run([program, *words], stdout=subprocess.PIPE, check=True).stdout.decode()
+    """What the program says where it is called by its name alone, as one is that the shell finds on the PATH."""
+    return subprocess.run(["exchange", *words], executable=program, stdout=subprocess.PIPE, check=True).stdout.decode()
 
 
 def listed(help_text, heading):

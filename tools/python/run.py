@@ -2,7 +2,7 @@
 """Tries what an install puts into a folder, and the calls for programs in Python: tools/python/run.py [COUNT]
 
     install     puts what its list says, stops where a file is in the way, and what it put is taken away again, and no more
-    pages       what `man` shows has each line of each help, and bash completes commands and options
+    pages       helps call the program by its name, what `man` shows has each line of them, and bash completes commands and options
     C           a program that pkg-config gives the words for, and one that is linked with the shared library
     Python      the examples of the module's own texts, the emulator, and want of memory
     texts       COUNT spoilt texts, 2000 where it isn't said, by the calls from Python and by the built program, byte for byte
@@ -25,8 +25,20 @@ TOP = os.path.dirname(os.path.dirname(os.path.dirname(os.path.abspath(__file__))
 sys.path.insert(0, f"{TOP}/tools/c")
 
 import calls
+from program import ask
 
 EXAMPLES = f"{TOP}/examples"
+
+# What bash makes of words behind `exchange`. Where that is nothing, it goes on with names of files.
+COMPLETED = {
+    "pl": "plan",
+    "plan --w": "--workers",
+    "plan --st": "--steady",
+    "switch --sc": "--schedule",
+    "switch three-transfers.txt --schedule three": "",
+    "help dra": "draw",
+    "plan exam": "",
+}
 
 # How many things were tried, and what was wrong.
 tried, wrong = [], []
@@ -111,20 +123,35 @@ def try_home(room):
     expect("nothing is left at home", os.listdir(home) == [], os.listdir(home))
 
 
+def read_helps(rack):
+    """The lines of all helps, where the program is found on the PATH. They call it by its name then, and say of no folder."""
+    env = {**os.environ, "PATH": f"{rack}/bin:{os.environ['PATH']}"}
+    top = run("exchange", "--help", env=env)[1]
+    listed = top.splitlines()[top.splitlines().index("Commands:") + 1 :]
+    names = [line.split()[0] for line in listed if line.startswith("  ") and "--" not in line]
+    helps = {name: run("exchange", name, "--help", env=env)[1] for name in names if name != "help"}
+    expect("each command's example calls the program by its name", len(helps) > 5 and is_called_by_name(helps), helps)
+    texts = "\n".join([top, *helps.values()])
+    expect("no help says where the program is", "./exchange" not in texts, texts)
+    return texts.splitlines()
+
+
+def is_called_by_name(helps):
+    """Whether what stands before the usage of each command's help, which is an example, calls the program."""
+    return all(f" exchange {name} " in text.split("Usage: ")[0] for name, text in helps.items())
+
+
 def try_pages(rack):
-    """The page for `man`, and what bash completes."""
-    program = f"{rack}/bin/exchange"
+    """The helps, the page for `man`, and what bash completes."""
+    helps = read_helps(rack)
     if shutil.which("man"):
         env = {**os.environ, "MANWIDTH": "200", "LC_ALL": "C.UTF-8"}
         status, shown = run("man", "-l", f"{rack}/share/man/man1/exchange.1", env=env)
         lines = {" ".join(line.split()) for line in shown.splitlines()}
-        helps = run(program, "--help")[1].splitlines()
-        commands = [line.split()[0] for line in helps[helps.index("Commands:") + 1 :] if line.startswith("  ") and "--" not in line]
-        helps += [line for name in commands if name != "help" for line in run(program, name, "--help")[1].splitlines()]
         missing = [line for line in helps if " ".join(line.split()) not in lines]
-        expect("man shows each line of each help", status == 0 and len(commands) > 5 and not missing, "\n".join([*missing, shown]))
+        expect("man shows each line of each help", status == 0 and not missing, "\n".join([*missing, shown]))
     completes = 'source "$1"; COMP_WORDS=("${@:2}"); COMP_CWORD=$(($# - 2)); _exchange exchange "${!#}" "" && echo "${COMPREPLY[@]}"'
-    for words, wanted in ("pl", "plan"), ("plan --w", "--workers"), ("help dra", "draw"), ("plan exam", ""):
+    for words, wanted in COMPLETED.items():
         completions = f"{rack}/share/bash-completion/completions/exchange"
         expect_run(f"bash completes {words}", f"{wanted}\n", "bash", "-c", completes, "bash", completions, "exchange", *words.split())
 
@@ -169,6 +196,21 @@ def try_python(module):
     sys.path.insert(0, os.path.dirname(module))
     picture = FromPython().ask("draw", [calls.read("all-to-all.txt"), calls.read("all-to-all.plan.txt")])
     expect("an answer that needs more room", picture == (0, calls.read("all-to-all.svg")), picture)
+    try_no_schedule()
+
+
+def try_no_schedule():
+    """An empty text of a schedule is refused, as the program refuses an empty file. To the call from C it would be none."""
+    import exchange
+
+    batch = calls.read("three-transfers.txt")
+    for text in ("", b"", memoryview(b"")):
+        try:
+            told = exchange.switch_bytes(batch, text)
+        except exchange.Refused as refused:
+            told = f"{refused}\n".encode()
+        program = ask("switch", f"{EXAMPLES}/three-transfers.txt", "--schedule", os.devnull)
+        expect("an empty text of a schedule is refused", (told, 1) == (program.out, program.status), told)
 
 
 def given_as(text):
@@ -191,15 +233,25 @@ def text_of(name, answer):
     return answer if name == "apply" else answer.encode()
 
 
+def call(name, *texts):
+    """What the call from Python gives that stands for this one from C, to which an empty text of a schedule is none."""
+    import exchange
+
+    if name == "plan_steady":
+        return exchange.plan(*texts, steady=True)
+    if name == "switch":
+        return exchange.switch_bytes(texts[0], texts[1] or None)
+    return getattr(exchange, name)(*texts)
+
+
 class FromPython:
     """The calls from Python, which answer as those from C do in calls.py: by a status, and by the bytes that the program prints."""
 
     def ask(self, name, given):
         import exchange
 
-        call = {"switch": exchange.switch_bytes}.get(name) or getattr(exchange, name)
         try:
-            return 0, text_of(name, call(*map(given_as, given)))
+            return 0, text_of(name, call(name, *map(given_as, given)))
         except exchange.Refused as refused:
             return 1, f"{refused}\n".encode()
 

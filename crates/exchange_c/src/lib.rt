@@ -8,17 +8,19 @@
 
 ghost use Rattle.std.specs.Prelude.{IfOk, OnErr, None, Some};
 ghost use Rattle.batch.specs.Extent.{widest};
-ghost use Rattle.plan_answers.specs.Answers.{IsPlanned, IsChecked};
+ghost use Rattle.plan_answers.specs.Answers.{IsPlanned, IsSteadilyPlanned, IsChecked};
 ghost use Rattle.plan_answers.specs.Directing.{IsDirected};
 ghost use Rattle.plan_answers.specs.Drawings.{IsDrawn};
 ghost use Rattle.rack_answers.specs.Answers.{IsRunAnswer, image_alone};
-ghost use Rattle.rack_answers.specs.Switching.{IsSwitched};
+ghost use Rattle.exchange_c.specs.Switching.{IsSwitchedBy};
 ghost use Rattle.exchange_c.specs.Writing.{Puts, IsOutOfMemory, Leaves, IsTheOne};
 
 mod status;
 
-use plan_answers::{Answer, answer_check, answer_direct, answer_draw, answer_plan_alone};
-use rack_answers::{answer_apply_alone, answer_switch_alone};
+use plan_answers::{
+    Answer, answer_check, answer_direct, answer_draw, answer_plan_alone, answer_plan_steady,
+};
+use rack_answers::{answer_apply_alone, answer_switch_alone, answer_switch_schedule};
 pub use status::{NO_MEMORY, NO_ROOM};
 use std::alloc::{AllocError, Global};
 
@@ -63,6 +65,19 @@ pub extern "C" fn exchange_plan(
     leave(answer_plan_alone(alloc, batch), out, count)
 }
 
+/// What `exchange plan --steady` answers to the text of a batch.
+#[unsafe(no_mangle)]
+pub extern "C" fn exchange_plan_steady(
+    alloc: Global,
+    batch: &[u8],
+    out: &mut [u8],
+    count: &mut usize,
+) -> u8
+    ensures { Leaves (IsSteadilyPlanned widest batch.now) out.old out.new count.new result }
+{
+    leave(answer_plan_steady(alloc, batch), out, count)
+}
+
 /// What `exchange check` answers to the texts of a batch and of a schedule.
 #[unsafe(no_mangle)]
 pub extern "C" fn exchange_check(
@@ -78,17 +93,29 @@ pub extern "C" fn exchange_check(
     leave(answer_check(alloc, batch, schedule), out, count)
 }
 
-/// What `exchange switch` answers to the text of a batch.
+/// The bytes for the schedule of a text, or for a plan where that text is empty.
+fn answer_switch(alloc: Global, batch: &[u8], schedule: &[u8]) -> Result<Answer, AllocError>
+    ensures { IfOk result (IsSwitchedBy batch.now schedule.now) }
+{
+    if schedule.is_empty() {
+        return answer_switch_alone(alloc, batch);
+    }
+    answer_switch_schedule(alloc, batch, schedule)
+}
+
+/// What `exchange switch` answers to the text of a batch, and `exchange switch --schedule` to that and to the
+/// text of a schedule that isn't empty.
 #[unsafe(no_mangle)]
 pub extern "C" fn exchange_switch(
     alloc: Global,
     batch: &[u8],
+    schedule: &[u8],
     out: &mut [u8],
     count: &mut usize,
 ) -> u8
-    ensures { Leaves (IsSwitched widest batch.now) out.old out.new count.new result }
+    ensures { Leaves (IsSwitchedBy batch.now schedule.now) out.old out.new count.new result }
 {
-    leave(answer_switch_alone(alloc, batch), out, count)
+    leave(answer_switch(alloc, batch, schedule), out, count)
 }
 
 /// What `exchange apply` answers to the texts of a shape and of a batch, and to an image.

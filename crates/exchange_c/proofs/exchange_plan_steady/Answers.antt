@@ -1,0 +1,7 @@
+use Rattle.batch.specs.Extent.{widest}
+use Rattle.plan_answers.specs.Answers.{IsSteadilyPlanned}
+use Rattle.exchange_c.proofs.Writing.{left}
+use Rattle.exchange_c.proofs.exchange_plan_steady.Goals as goal
+
+pub returns : goal.returns
+returns c = left _ (IsSteadilyPlanned widest c.args.batch.now) c.args.out.now c.leave.new.out c.leave.new.count c.leave.result c.answer_plan_steady.ensures c.leave.ensures.some c.leave.ensures.none
