@@ -14,11 +14,25 @@
 #   part        2731 transfers from module 0 to module 1
 #   wide        as scrambled, over 32 modules
 #
-# With --check each ratio to plain Rust may be as large as `greatest` says, and what `switch` prints of one link may cost so
-# many times as much as of a quarter of the transfers as `greatest_growth` says; else the status is 1. Where valgrind or rustc
-# is missing, --check says so and counts nothing.
+# For each of them, and for the nine batches of steady_batches.py, it also counts `plan --steady` beside `plan`, and of the
+# steady plan the changes, the pairs that are cut or joined, and the bytes of `switch`, of both switches where there are two:
 #
-# Needs valgrind and rustc. Build the program first: ./exchange prove
+#   all_to_all  each of 16 modules to each other, 17 blocks each, pair by pair
+#   in_rounds   the same, each pair once in each round
+#   halo        each module of a 4x4 grid with its neighbours, 16 blocks each
+#   random_16, random_32, random_256
+#               4096 transfers between 16 modules, 4096 between 32, 256 between 16
+#   sixty_pairs 60 pairs of 16 modules, 1 to 64 blocks each
+#   gather      64 blocks of each of 15 modules into one
+#   butterfly   each of 16 modules with those whose number differs in one bit, 64 blocks each
+#
+# With --check each ratio to plain Rust may be as large as `greatest` says, and what `switch` prints of one link may cost so
+# many times as much as of a quarter of the transfers as `greatest_growth` says. A steady plan may cost no more than a plan of
+# the same batch, and four times the transfers no more than four times as much. Its changes and bytes may be as many as
+# `most_changes` and `most_bytes` say, where these name the batch. Else the status is 1. Where valgrind or rustc is missing,
+# --check says so and counts nothing.
+#
+# Needs valgrind, rustc and python3. Build the program first: ./exchange prove
 set -eu
 check=
 if [ "${1-}" = --check ]; then
@@ -44,6 +58,16 @@ declare -A greatest=(
     [three_by_three]=1.08 [four_by_two]=1.08 [sixteen_by_three]=1.07 [thirty_two_by_two]=1.09
 )
 greatest_growth=5
+greatest_steady_growth=4
+
+# What a prototype in plain Rust reached, which is no part of this repository
+declare -A most_changes=(
+    [all_to_all]=15 [in_rounds]=15 [halo]=4 [random_16]=163 [random_32]=151 [random_256]=27 [sixty_pairs]=48 [gather]=15 [butterfly]=4
+)
+declare -A most_bytes=(
+    [all_to_all]=1648 [in_rounds]=1648 [halo]=329 [random_16]=2688 [random_32]=10554 [random_256]=1024 [sixty_pairs]=638 [gather]=1048
+    [butterfly]=593
+)
 
 # NAME FOUND GREATEST: tells what costs too much
 judge() {
@@ -85,12 +109,53 @@ measure() {
     awk -v name="$1" -v proved="$proved" -v plain="$plain" -v head="$(head -1 "$work/answer")" \
         'BEGIN { printf "%-14s %-13s %9d of %8d instructions, ratio %.2f\n", name, head, proved, plain, proved / plain }'
     judge "the ratio of $1" "$(awk "BEGIN { printf \"%.2f\", $proved / $plain }")" "${greatest[$1]}"
+    measure_steady "$1" "$proved"
+}
+
+# What `switch` prints, on standard input: the changes, the pairs that are cut or joined, and the bytes
+count_changes() {
+    awk '
+        { at = $3 ~ /^[ab]$/ ? 4 : 3; bytes += NF - at + 1 }
+        $3 != "b" {
+            changes += NR == 1 || NF > at
+            for (i = at; i <= NF; i += step) {
+                step = $i ~ /^0[016]$/ ? 3 : $i == "05" ? 2 : 1
+                pairs += step > 1
+            }
+        }
+        END { print changes + 0, pairs + 0, bytes + 0 }'
+}
+
+# NAME PLANNED: counts `plan --steady` for the batch in the file of that name, which `plan` takes so many instructions for
+measure_steady() {
+    local steady changes pairs bytes
+    steady=$(instructions "$program" plan "$work/$1" --steady)
+    "$program" plan "$work/$1" >"$work/planned"
+    "$program" plan "$work/$1" --steady >"$work/steady"
+    [ "$(head -1 "$work/steady")" = "$(head -1 "$work/planned")" ]
+    "$program" check "$work/$1" "$work/steady" | grep -q '^shortest'
+    read -r changes pairs bytes < <("$program" switch "$work/$1" --schedule "$work/steady" | count_changes)
+    steady_counts[$1]=$steady
+    awk -v name="$1" -v steady="$steady" -v planned="$2" -v changes="$changes" -v pairs="$pairs" -v bytes="$bytes" 'BEGIN {
+        printf "%-17s steady: %8d of %8d instructions, ratio %.2f; changes %d, pairs %d, bytes %d\n", \
+            name, steady, planned, steady / planned, changes, pairs, bytes }'
+    judge "a steady plan of $1, in instructions," "$steady" "$2"
+    [ -z "${most_changes[$1]-}" ] || judge "a steady plan of $1, in changes," "$changes" "${most_changes[$1]}"
+    [ -z "${most_bytes[$1]-}" ] || judge "a steady plan of $1, in bytes," "$bytes" "${most_bytes[$1]}"
 }
 
 # NAME: how the counts grow from 1024 transfers to 4096
 growth() {
     echo "$1 ${counts[$1]} ${counts[$1-1024]}" \
         | awk '{ printf "%-14s from 1024 to 4096: times %.2f, of plain Rust times %.2f\n", $1, $2 / $4, $3 / $5 }'
+}
+
+# NAME: how the count of a steady plan grows from 1024 transfers to 4096
+steady_growth() {
+    local times
+    times=$(awk "BEGIN { printf \"%.2f\", ${steady_counts[$1]} / ${steady_counts[$1-1024]} }")
+    printf '%-14s steady from 1024 to 4096: times %s\n' "$1" "$times"
+    judge "a steady plan's growth of $1" "$times" "$greatest_steady_growth"
 }
 
 # NAME: how the count of the bytes of switch grows from 1024 transfers to 4096
@@ -117,12 +182,18 @@ from_to 4088 t%4 t/4%2 0 >"$work/four_by_two"
 from_to 4096 t%16 t/16%3 0 >"$work/sixteen_by_three"
 from_to 4096 t%32 t/32%2 0 >"$work/thirty_two_by_two"
 from_to 2731 0 1 0 >"$work/part"
-declare -A counts
+python3 "$here/steady_batches.py" "$work"
+declare -A counts steady_counts
 for name in scrambled one_link odd star two_by_two three_by_three four_by_two sixteen_by_three thirty_two_by_two \
     part wide scrambled-1024 one_link-1024; do
     measure $name
 done
+for name in all_to_all in_rounds halo random_16 random_32 random_256 sixty_pairs gather butterfly; do
+    measure_steady "$name" "$(instructions "$program" plan "$work/$name" --workers 1)"
+done
 growth scrambled
 growth one_link
+steady_growth scrambled
+steady_growth one_link
 switch_growth one_link
 [ -z "${failed-}" ]

@@ -6,7 +6,7 @@
 Command lines: the Nth growth of a whole run of the program is refused, and then the Nth and all later ones, for N from 1 until a run
 meets no refusal. Each time the program prints what it prints with memory, which the rows hold, or the one line `refused no memory`; a
 session is told `refused no memory`, and all else as if that command weren't. The line on standard error beside a refusal may be left out, or
-what it says of how many settings are enough. Then each start of a thread is refused, which changes no
+what it says of how many settings are enough. A help may say that the program is in this folder, where it is called by its name alone. Then each start of a thread is refused, which changes no
 answer. Of `host` a session may also end for want of memory, and without threads nobody is served, and no file is made. A file is the
 standard input. Beside command lines stands which calls of the libraries they make.
 
@@ -31,6 +31,7 @@ THREE_TRANSFERS = "batch 3\npush 0 0 1 0\npush 0 1 2 0\npush 1 1 2 1\n"
 SCHEDULE = "settings 2\nsetting 0 2\nsetting 1\nbusiest link 0 module 0\nnamed 0 1\n"
 TWO_PUSHES = "batch 2\npush 0 0 1 0\npush 1 1 2 0\n"
 LONG = "settings 3\nsetting 0\nsetting 1\nsetting 2\nbusiest link 0 module 0\nnamed 0 1\n"
+EACH = "settings 2\nsetting 0\nsetting 1\n"
 SWAP = "batch 2\npush 0 0 1 0\npush 1 0 0 0\n"
 WIDE = "batch 2\npush 16 0 0 0\npush 16 1 1 0\n"
 NINE = "batch 9\n" + "".join(f"push {module} 3 {other} {module}\n" for module in range(3) for other in range(3))
@@ -72,7 +73,7 @@ def asked_twice():
 
 
 FILES = {
-    "three": THREE_TRANSFERS, "two": TWO_PUSHES, "nine": NINE, "schedule": SCHEDULE, "long": LONG, "wrong": "batch 01\n",
+    "three": THREE_TRANSFERS, "two": TWO_PUSHES, "nine": NINE, "schedule": SCHEDULE, "long": LONG, "each": EACH, "wrong": "batch 01\n",
     "script": SCRIPT, "other": "show 1\n", "refusals": REFUSALS,
     "pushes": PUSHES, "swap": SWAP, "wide": WIDE, "image": IMAGE, "moves": MOVES, "twice": asked_twice(),
     "caller.in": "batch 1\npush 0 0 1 0\nplan 1\nrun 1\n",
@@ -85,9 +86,13 @@ COMMANDS = [
     # `schedule`, `Schedule::write` and `answer_plan`. Three settings take `Table::take_back` too.
     ["plan", "three"], ["plan", "three", "--workers", "2"], ["plan", "nine"], ["plan", "nine", "--workers", "2"],
     ["plan", "wrong"], ["plan", "missing"], ["plan", "-"],
-    # `answer_switch`.
+    # `steady` and `answer_plan_steady`.
+    ["plan", "three", "--steady"], ["plan", "nine", "--steady"], ["plan", "wrong", "--steady"], ["plan", "-", "--steady"],
+    # `answer_switch`, `answer_switch_steady`, `ScheduleTexts::read` and `answer_switch_schedule`.
     ["switch", "three"], ["switch", "three", "--workers", "2"], ["switch", "wide"], ["switch", "wide", "--workers", "2"],
-    ["switch", "wrong"], ["switch", "-"],
+    ["switch", "wrong"], ["switch", "-"], ["switch", "three", "--steady"], ["switch", "wide", "--steady"], ["switch", "wrong", "--steady"],
+    ["switch", "three", "--schedule", "schedule"], ["switch", "three", "--schedule", "long"], ["switch", "three", "--schedule", "three"],
+    ["switch", "wide", "--schedule", "each"], ["switch", "-", "--schedule", "schedule"], ["switch", "two", "--schedule", "-"],
     # `Schedule::read`, `check_schedule` and `answer_check`.
     # What `answer_check` finds out of a schedule that it refuses, and `second_line`.
     ["check", "three", "schedule"], ["check", "three", "three"], ["check", "three", "long"], ["check", "-", "schedule"], ["check", "-", "-"],
@@ -116,28 +121,28 @@ COMMANDS = [
 Swept = namedtuple("Swept", "name found growths unstarted")
 
 
-def run(which, program, words, between):
+def run(which, program, words, between, called=None):
     """Runs a program while growths are refused: how it ended, and how many growths were met, growths refused, and starts of threads
     refused. The log is kept in the folder that it is run in."""
     log = f"growths.{os.getpid()}"
     env = {"LD_PRELOAD": LIBRARY, "REFUSE": which, "REFUSE_LOG": log}
     if between:
         env["REFUSE_BETWEEN"] = "1"
-    ended = ask(*words, program=program, env=env, given=INPUT)
+    ended = ask(*words, program=program, env=env, given=INPUT, called=called)
     with open(log) as file:
         return ended, *(int(n) for n in file.read().split())
 
 
-def sweep(name, program, words, between, judge):
+def sweep(name, program, words, between, judge, called=None):
     """Refuses each growth, alone and with all later ones, and each start of a thread, and counts what judge says of each run."""
     found = Counter()
     for later in ("", "+"):
         n, refused = 0, 1
         while refused:
             n += 1
-            ended, growths, refused, _ = run(f"{n}{later}", program, words, between)
+            ended, growths, refused, _ = run(f"{n}{later}", program, words, between, called)
             found[judge(ended, refused)] += 1
-    ended, _, _, unstarted = run("T", program, words, between)
+    ended, _, _, unstarted = run("T", program, words, between, called)
     found[judge(ended, 0)] += 1
     return Swept(name, found, growths, unstarted)
 
@@ -219,6 +224,20 @@ def sweep_command(words):
     return swept
 
 
+def sweep_help_by_name():
+    """The same for a help where the program is called by its name alone: the help calls it so too, as far as there is memory for that."""
+    wanted, by_path = ask("--help", called="exchange"), ask("--help")
+    judge_help = judge_of_command(["--help"], wanted)
+
+    def judge(ended, refused):
+        return "told as by a path" if refused and ended == by_path else judge_help(ended, refused)
+
+    swept = sweep("exchange --help, by its name", EXCHANGE, ["--help"], False, judge, "exchange")
+    if not swept.found["no memory"] or not swept.found["told as by a path"] or wanted.out != by_path.out.replace(b"./exchange", b"exchange"):
+        swept.found["WRONG: nothing was refused, or told otherwise with memory"] += 1
+    return swept
+
+
 def sweep_host():
     """The same for a live client, over plain files. The first run starts no thread, so that no file is made."""
     words = ["host", "2x1x1", "caller"]
@@ -261,10 +280,10 @@ def main():
             told = [tell(it) for it in pool.imap(sweep_call, names)]
             told.append(tell(sweep_closing(["clients", "2x2x2", "script"])))
             told += [tell(it) for it in pool.imap(sweep_command, COMMANDS)]
-        told.append(tell(sweep_host()))
+        told += [tell(sweep_help_by_name()), tell(sweep_host())]
         os.chdir("/")
     wrong = sum(it[1] for it in told)
-    print(f"growths: {len(names) + 1} calls, {len(COMMANDS) + 1} command lines, {sum(it[0] for it in told)} runs, {wrong} wrong")
+    print(f"growths: {len(names) + 1} calls, {len(COMMANDS) + 2} command lines, {sum(it[0] for it in told)} runs, {wrong} wrong")
     return 1 if wrong or not names else 0
 
 

@@ -4,6 +4,7 @@ of the product's contracts and of docs/ROWS.md. Only the looks and the legend, w
 import re
 
 import plain
+import steady
 from plain import Refused
 from program import TOP
 
@@ -38,6 +39,7 @@ class Picture:
         self.transfers, self.settings, self.shown = transfers, settings, shown
         busiest, named = plain.busiest(transfers)
         self.fewest = len(named)
+        self.changes, self.partners = steady.changes(transfers, settings), steady.most_partners(transfers)
         self.standing = standing_of(transfers, settings, certificate)
         self.link = certificate[0] if self.standing == "certified" else busiest if transfers else None
         self.modules = sorted({transfer[side] for transfer in transfers for side in (1, 3)})
@@ -58,9 +60,11 @@ class Picture:
         return f"transfers {len(self.transfers)}, settings {count}, {length}"
 
     def note(self):
-        """Which link is framed, how the certificate stands, and which settings are shown, unless that are all."""
+        """How often the switch changes, and whether a link shows that it can't change less often; which link is framed, how the certificate
+        stands, and which settings are shown, unless that are all."""
+        changes = f"changes {self.changes}" + ", the fewest" * (self.changes == self.partners)
         busiest = "link {} module {}".format(*self.link) if self.link else "none"
-        return f"busiest {busiest}, {self.standing}{self.range_shown()}"
+        return f"{changes}, busiest {busiest}, {self.standing}{self.range_shown()}"
 
     def range_shown(self):
         """Which settings are shown, unless that are all."""
@@ -124,15 +128,6 @@ def standing_of(transfers, settings, certificate):
         return "not certified"
 
 
-def check_settings(transfers, settings):
-    """Refuses what is no schedule of the transfers, as `check` does: no certificate is looked at before that is."""
-    try:
-        plain.check(transfers, settings, (None, []))
-    except Refused as why:
-        if not str(why).startswith("check not tight "):
-            raise
-
-
 def number_above(middle, words):
     """What stands above a column, or before the first of a panel."""
     return f"<text class='number' x='{middle}' y='{ABOVE - 10}'>{words}</text>\n"
@@ -162,7 +157,7 @@ def answer_draw(batch, schedule, settings=None):
         wanted = None if settings is None else read_range(settings)
         transfers = plain.read_batch(batch, plain.WIDEST)
         lists, certificate = plain.read_schedule(schedule)
-        check_settings(transfers, lists)
+        plain.check_settings(transfers, lists)
         first, last = wanted or (0, len(lists) - 1)
         if last >= len(lists):
             raise Refused(f"no setting {max(first, len(lists))}")

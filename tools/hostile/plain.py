@@ -5,6 +5,7 @@ them, for clearness alone: nothing here is quick, and nothing is clever.
 """
 
 import re
+from collections import Counter
 
 MODULES, BLOCKS, WORDS, TRANSFERS = 32, 64, 256, 4096
 WIDEST = (MODULES, BLOCKS, WORDS)
@@ -128,16 +129,22 @@ def users(transfers, link):
     return [t for t, transfer in enumerate(transfers) if link in links_of(transfer)]
 
 
+def most_used(transfers):
+    """The links that have most uses."""
+    uses = Counter(link for transfer in transfers for link in links_of(transfer))
+    most = max(uses.values(), default=0)
+    return [link for link in all_links() if uses[link] == most]
+
+
 def busiest_links(transfers):
-    """The links that have most uses, each with all its transfers."""
-    uses = [(link, users(transfers, link)) for link in all_links()]
-    most = max(len(named) for _, named in uses)
-    return [it for it in uses if len(it[1]) == most]
+    """These links, each with all its transfers."""
+    return [(link, users(transfers, link)) for link in most_used(transfers)]
 
 
 def busiest(transfers):
     """The first of them."""
-    return busiest_links(transfers)[0]
+    link = most_used(transfers)[0]
+    return link, users(transfers, link)
 
 
 def first_repeated(found):
@@ -150,9 +157,8 @@ def first_repeated(found):
     return None
 
 
-def check(transfers, settings, certificate):
-    """How many settings a shortest schedule has, or the first thing that is wrong with this one."""
-    link, named = certificate
+def check_settings(transfers, settings):
+    """Refuses what is no schedule of the transfers, by the first thing that is wrong with it."""
     all_numbers = [t for setting in settings for t in setting]
     for t in all_numbers:
         if t >= len(transfers):
@@ -162,10 +168,16 @@ def check(transfers, settings, certificate):
     for t in sorted(set(range(len(transfers))) - set(all_numbers)):
         raise Refused(f"check missing {t}")
     for number, setting in enumerate(settings):
-        used = [it for t in setting for it in links_of(transfers[t])]
-        for end, module in all_links():
-            if used.count((end, module)) > 1:
+        uses = Counter(link for t in setting for link in links_of(transfers[t]))
+        for end, module in sorted(uses):
+            if uses[end, module] > 1:
                 raise Refused(f"check clash {number} link {end} module {module}")
+
+
+def check(transfers, settings, certificate):
+    """How many settings a shortest schedule has, or the first thing that is wrong with this one."""
+    check_settings(transfers, settings)
+    link, named = certificate
     for t in named:
         if t >= len(transfers) or link not in links_of(transfers[t]):
             raise Refused(f"check wrong link {t}")

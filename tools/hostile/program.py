@@ -13,14 +13,15 @@ EXCHANGE = f"{TOP}/crates/exchange/out/exchange"
 Ended = namedtuple("Ended", "out err status")
 
 
-def start(words, env=None, out=None, given=os.devnull):
-    """Starts a program with these words, and with the file `given` on standard input: its process, and the ends of its standard output,
-    which is None where `out` names a descriptor for it, and of its standard error."""
+def start(words, env=None, out=None, given=os.devnull, called=None):
+    """Starts a program with these words, the first of which is also what it is called where no name is given, and with the file `given` on
+    standard input: its process, and the ends of its standard output, which is None where `out` names a descriptor for it, and of its standard
+    error."""
     read = os.open(given, os.O_RDONLY)
     err_end, err = os.pipe()
     out_end, ours = (None, out) if out is not None else os.pipe()
     moves = [(os.POSIX_SPAWN_DUP2, read, 0), (os.POSIX_SPAWN_DUP2, ours, 1), (os.POSIX_SPAWN_DUP2, err, 2)]
-    process = os.posix_spawn(words[0], words, env or {}, file_actions=moves, setsigdef=[signal.SIGPIPE])
+    process = os.posix_spawn(words[0], [called or words[0], *words[1:]], env or {}, file_actions=moves, setsigdef=[signal.SIGPIPE])
     for it in [read, err] + ([ours] if out is None else []):
         os.close(it)
     return process, out_end, err_end
@@ -58,6 +59,6 @@ def end(process, out_end, err_end, seconds=30):
     return Ended(*texts, -os.WTERMSIG(status) if os.WIFSIGNALED(status) else os.WEXITSTATUS(status))
 
 
-def ask(*words, program=EXCHANGE, env=None, seconds=30, given=os.devnull):
+def ask(*words, program=EXCHANGE, env=None, seconds=30, given=os.devnull, called=None):
     """Runs the program to its end, with the file `given` on standard input."""
-    return end(*start([program, *words], env, given=given), seconds)
+    return end(*start([program, *words], env, given=given, called=called), seconds)

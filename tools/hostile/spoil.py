@@ -3,9 +3,10 @@
 All is drawn from a random.Random that is handed in, so that a seed gives the same texts each time.
 """
 
+import itertools
 import re
 
-from plain import MODULES
+from plain import MODULES, TRANSFERS
 
 EDGES = [0, 1, 2, 3, 9, 10, 15, 16, 17, 31, 32, 33, 63, 64, 65, 255, 256, 257, 4095, 4096, 4097, 999999999, 1000000000, 2**32, 2**64]
 ODD = [b"", b"01", b"00", b"+1", b"-1", b"1.0", b"0x1", b"x", b" ", b"9" * 40]
@@ -44,6 +45,59 @@ def pattern(draw):
         lines += [line] * (draw.randint(1, 3) << draw.randint(0, 3))
     draw.shuffle(lines)
     return f"batch {len(lines)}\n".encode() + "".join(lines).encode()
+
+
+def both_ways(pairs):
+    return [*pairs, *((n, m) for m, n in pairs)]
+
+
+def ring(modules):
+    return list(zip(modules, modules[1:] + modules[:1]))
+
+
+def halo(modules, width):
+    """Each module of a grid, in rows of this width, with those beside it, above and below it."""
+    across = [(m, n) for k, (m, n) in enumerate(zip(modules, modules[1:]), 1) if k % width]
+    return both_ways([*across, *zip(modules, modules[width:])])
+
+
+def butterfly(modules):
+    """Each module with those whose place differs in one bit."""
+    places = range(len(modules))
+    return [(modules[k], modules[k ^ 1 << bit]) for bit in range(5) for k in places if k ^ 1 << bit in places]
+
+
+# The pairs of modules that share transfers, each an initiator and a responder, by patterns over some modules.
+PATTERNS = {
+    "all to all": lambda draw, modules: list(itertools.permutations(modules, 2)),
+    "a gather": lambda draw, modules: [(m, modules[0]) for m in modules[1:]],
+    "a scatter": lambda draw, modules: [(modules[0], m) for m in modules[1:]],
+    "a ring": lambda draw, modules: ring(modules),
+    "an odd cycle": lambda draw, modules: both_ways(ring(modules[(len(modules) + 1) % 2 :])),
+    "a halo": lambda draw, modules: halo(modules, draw.randint(1, len(modules))),
+    "a butterfly": lambda draw, modules: butterfly(modules),
+    "one pair": lambda draw, modules: [(draw.choice(modules), draw.choice(modules))],
+    "random pairs": lambda draw, modules: [(draw.choice(modules), draw.choice(modules)) for _ in range(draw.randint(0, 2 * len(modules)))],
+}
+
+
+def patterned(draw):
+    """The name of a pattern, and a batch text of it, which has as many transfers for each pair, or unequally many. Most batches are small."""
+    name, most, top = draw.choice(list(PATTERNS)), draw.choices([40, 400, TRANSFERS], [90, 9, 1])[0], draw.choice([16, MODULES])
+    modules = draw.sample(range(top), draw.randint(1, top))
+    pairs = PATTERNS[name](draw, modules)
+    while len(pairs) > most:
+        modules = modules[1::2]
+        pairs = PATTERNS[name](draw, modules)
+    share = most // max(1, len(pairs))
+    same, is_equal = draw.choice([share, draw.randint(0, share)]), draw.random() < 0.5
+    counts = [same if is_equal else draw.randint(0, share) for _ in pairs]
+    found = [pair for pair, count in zip(pairs, counts) for _ in range(count)]
+    if draw.random() < 0.5:
+        draw.shuffle(found)
+    kinds, own, far = (draw.choices(them, k=len(found)) for them in (["push", "pull"], range(64), range(64)))
+    lines = [f"{kind} {m} {b} {n} {c}\n" for kind, (m, n), b, c in zip(kinds, found, own, far)]
+    return name, f"batch {len(lines)}\n{''.join(lines)}".encode()
 
 
 def moves(draw, modules, most):

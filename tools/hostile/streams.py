@@ -14,6 +14,7 @@ import notes
 import picture
 import plain
 import spoil
+import steady
 import switching
 from program import EXCHANGE, Ended, ask, end, start
 
@@ -89,7 +90,12 @@ def files(room):
 
 def unreadable_files(room):
     for what, name in files(room):
-        for words in [("plan", name), ("switch", name), ("check", name, "plan"), ("check", "three", name), ("draw", name, "plan"), ("draw", "three", name), ("run", "3x2x2", name), ("run", "0", name), ("serve", "2x2x2", "script", name), ("serve", "0", name), ("apply", "2x1x1", name, "image"), ("apply", "0", "three", name), ("run", "0", "three", "--image", name), ("serve", "0", "script", "--image", name), ("direct", name)]:
+        for words in [
+            ("plan", name), ("plan", name, "--steady"), ("switch", name), ("switch", name, "--steady"), ("switch", name, "--schedule", "plan"),
+            ("switch", "three", "--schedule", name), ("check", name, "plan"), ("check", "three", name), ("draw", name, "plan"), ("draw", "three", name),
+            ("run", "3x2x2", name), ("run", "0", name), ("serve", "2x2x2", "script", name), ("serve", "0", name), ("apply", "2x1x1", name, "image"),
+            ("apply", "0", "three", name), ("run", "0", "three", "--image", name), ("serve", "0", "script", "--image", name), ("direct", name),
+        ]:  # fmt: skip
             expect(f"{what}: {words[0]}", ask(*words, seconds=LIMIT), refused_file(name, reason_of(name)))
 
 
@@ -109,7 +115,12 @@ def forbidden_file(room):
 def endless_files():
     """What never ends wants more memory than there is."""
     limit = "ulimit -v 400000;"
-    for words in [("plan", "/dev/zero"), ("switch", "/dev/zero"), ("check", "/dev/zero", "plan"), ("check", "three", "/dev/zero"), ("draw", "/dev/zero", "plan"), ("draw", "three", "/dev/zero"), ("run", "3x2x2", "/dev/zero"), ("serve", "2x2x2", "script", "/dev/zero"), ("apply", "2x1x1", "swap", "/dev/zero"), ("run", "2x1x1", "swap", "--image", "/dev/zero"), ("direct", "/dev/zero")]:
+    for words in [
+        ("plan", "/dev/zero"), ("switch", "/dev/zero"), ("switch", "three", "--schedule", "/dev/zero"), ("check", "/dev/zero", "plan"),
+        ("check", "three", "/dev/zero"), ("draw", "/dev/zero", "plan"), ("draw", "three", "/dev/zero"), ("run", "3x2x2", "/dev/zero"),
+        ("serve", "2x2x2", "script", "/dev/zero"), ("apply", "2x1x1", "swap", "/dev/zero"), ("run", "2x1x1", "swap", "--image", "/dev/zero"),
+        ("direct", "/dev/zero"),
+    ]:  # fmt: skip
         expect(f"an endless file: {words[0]}", under(limit, *words), NO_MEMORY)
     with open("large", "wb") as file:
         file.truncate(1 << 30)
@@ -150,10 +161,25 @@ def directed(moves):
     return answer
 
 
+def steadily_planned(batch):
+    """What `plan --steady` answers to this batch, which is judged. It may answer any steady plan."""
+    with tempfile.TemporaryDirectory() as room:
+        with open(f"{room}/batch", "wb") as file:
+            file.write(batch)
+        answer = ask("plan", f"{room}/batch", "--steady", seconds=LIMIT).out
+    expect("plan --steady: a steady plan", steady.is_steady(batch, answer), True)
+    return answer
+
+
 # The words of each command with standard input for each of its files in turn, and the answers where that is the right file.
+STEADY_PLAN = steadily_planned(THREE_TRANSFERS)
 INPUTS = [
     (("plan", "-"), "three", PLAN),
+    (("plan", "-", "--steady"), "three", STEADY_PLAN),
     (("switch", "-"), "three", SWITCHED),
+    (("switch", "-", "--steady"), "three", switching.answer_switch(THREE_TRANSFERS, STEADY_PLAN)),
+    (("switch", "-", "--schedule", "plan"), "three", SWITCHED),
+    (("switch", "three", "--schedule", "-"), "plan", SWITCHED),
     (("check", "-", "plan"), "three", b"shortest 2\n"),
     (("check", "three", "-"), "plan", b"shortest 2\n"),
     (("draw", "-", "plan"), "three", picture.answer_draw(THREE_TRANSFERS, PLAN)),
@@ -216,7 +242,11 @@ def is_misused(ended):
 
 def inputs_named_twice():
     """Standard input can be one file only, and where it is two it isn't read."""
-    for words in [("check", "-", "-"), ("draw", "-", "-"), ("serve", "2x2x2", "-", "-"), ("serve", "0", "-", "script", "-", "missing"), ("apply", "2x1x1", "-", "-"), ("run", "2x1x1", "-", "--image", "-"), ("serve", "2x1x1", "-", "--image", "-")]:
+    for words in [
+        ("check", "-", "-"), ("draw", "-", "-"), ("switch", "-", "--schedule", "-"), ("serve", "2x2x2", "-", "-"),
+        ("serve", "0", "-", "script", "-", "missing"), ("apply", "2x1x1", "-", "-"), ("run", "2x1x1", "-", "--image", "-"),
+        ("serve", "2x1x1", "-", "--image", "-"),
+    ]:  # fmt: skip
         line = " ".join(words)
         expect(f"{line}: twice", ask(*words, given="three", seconds=LIMIT), is_misused)
         expect(f"{line}: twice, closed", under("exec <&-;", *words), is_misused)
@@ -238,9 +268,13 @@ def long_answers():
     """A picture of 3 MB is written whole, and so are the bytes of as many settings."""
     ended = ask("draw", "settings", "settings.plan", seconds=LIMIT)
     expect("a long picture", ended == Ended(picture.answer_draw(*many_settings()), b"", 0), True)
-    ended, plan = ask("switch", "settings", seconds=LIMIT), ask("plan", "settings", seconds=LIMIT)
-    well = ended.status == 0 and ended.err == b"" and switching.is_switched(many_settings()[0], plan.out, ended.out)
-    expect("a long list of bytes", well, True)
+    batch, schedule = many_settings()
+    for options, judge in [([], plain.is_plan), (["--steady"], steady.is_steady)]:
+        ended, plan = (ask(command, "settings", *options, seconds=LIMIT) for command in ("switch", "plan"))
+        well = (ended.err, ended.status) == (b"", 0) and judge(batch, plan.out) and switching.is_switched(batch, plan.out, ended.out)
+        expect(f"a long list of bytes {options}", well, True)
+    ended = ask("switch", "settings", "--schedule", "settings.plan", seconds=LIMIT)
+    expect("a long list of bytes of a schedule", ended, Ended(switching.answer_switch(batch, schedule), b"", 0))
 
 
 COMMANDS = {
@@ -251,8 +285,12 @@ COMMANDS = {
     "a long image": ("apply", "16x64x256", "many", "zeros"),
     "a batch": ("direct", "moves"),
     "a long picture": ("draw", "settings", "settings.plan"),
+    "a steady plan": ("plan", "three", "--steady"),
+    "a long steady plan": ("plan", "settings", "--steady"),
     "a switch's bytes": ("switch", "three"),
-    "a long list of bytes": ("switch", "settings"),
+    "a steady plan's bytes": ("switch", "three", "--steady"),
+    "a schedule's bytes": ("switch", "three", "--schedule", "plan"),
+    "a long list of bytes": ("switch", "settings", "--schedule", "settings.plan"),
     "a help": ("--help",),
     "a session": ("serve", "2x2x2", "script"),
 }

@@ -44,10 +44,10 @@ def sent(switch, before, pairs):
 
 def told(transfers, settings):
     """What is told of a batch's settings, in order: of each its number, its pairs, and the name and the bytes of each switch."""
-    before = None
+    switches, before = switches_for(transfers), None
     for number, setting in enumerate(settings):
         pairs = pairs_of(transfers, setting)
-        yield number, pairs, [(switch, sent(switch, before, pairs)) for switch in switches_for(transfers)]
+        yield number, pairs, [(switch, sent(switch, before, pairs)) for switch in switches]
         before = pairs
 
 
@@ -107,9 +107,17 @@ def are_set(transfers, settings):
     return True
 
 
-def is_switched(batch, plan, answer):
-    """Whether `switch` has to answer so to a batch text to which `plan` gives this answer."""
-    if not plain.is_plan(batch, plan):
-        return False
-    transfers, (settings, _) = plain.read_batch(batch, plain.WIDEST), plain.read_schedule(plan)
-    return answer == switch_text(transfers, settings) and are_set(transfers, settings)
+def answer_switch(batch, schedule):
+    """What `switch` answers to the texts of a batch and of a schedule. A certificate isn't looked at."""
+    try:
+        transfers, (settings, _) = plain.read_batch(batch, plain.WIDEST), plain.read_schedule(schedule)
+        plain.check_settings(transfers, settings)
+        return switch_text(transfers, settings)
+    except plain.Refused as why:
+        return f"refused {why}\n".encode()
+
+
+def is_switched(batch, schedule, answer):
+    """Whether `switch` has to answer so, by a schedule of a batch, and these bytes set the switches."""
+    transfers, (settings, _) = plain.read_batch(batch, plain.WIDEST), plain.read_schedule(schedule)
+    return answer == answer_switch(batch, schedule) and are_set(transfers, settings)

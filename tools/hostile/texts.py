@@ -1,12 +1,12 @@
 #!/usr/bin/env python3
 """Spoilt texts: what the program answers to them, and what the plain implementation does.
 
-    texts.py [COUNT]        COUNT texts of each kind, 10000 where it isn't said; of patterns and of scripts for `talk` a quarter, of scripts side by
-                            side a twentieth
+    texts.py [COUNT]        COUNT texts of each kind, 10000 where it isn't said; of patterns for several workers, of schedules for `switch` and of
+                            scripts for `talk` a quarter, of scripts side by side a twentieth
 
-Text number n of a kind is the same each time. A plan isn't the only one of its batch, so `plan` is judged by what a plan is, and `switch`
-by the plan that `plan` gives; all other answers are compared byte by byte. Of a pattern several workers have to give the plan of one, byte by
-byte. In a quarter of the runs one of the files is standard input, and a tenth of the files have odd names.
+Text number n of a kind is the same each time. A plan isn't the only one of its batch, so `plan` is judged by what a plan is, or a steady one,
+and `switch` by the plan that `plan` gives; all other answers are compared byte by byte. Of a pattern several workers have to give the plan of
+one, byte by byte. In a quarter of the runs one of the files is standard input, and a tenth of the files have odd names.
 The line on standard error beside a refusal is compared byte by byte too, with what notes.py tells. What it says is wanted in a line is then
 put there: the texts have to be refused otherwise, or told of otherwise. In a tenth of the runs `--quiet` leaves that line out.
 """
@@ -19,15 +19,20 @@ import sys
 import tempfile
 from collections import Counter, namedtuple
 
+import mend
 import notes
 import picture
 import plain
 import sessions
 import spoil
+import steady
 import switching
 from program import ask
 
 SCRIPTS = 16
+
+# Options that stand before a file.
+OPTIONS = ("--image", "--schedule")
 
 # The most bytes that a word of the command line has here. The system has another limit, a little above.
 MOST_OF_A_WORD = 130000
@@ -47,10 +52,11 @@ Answer = namedtuple("Answer", "out err status given is_quiet names")
 def ask_of(draw, words, files):
     """Runs the program with these words and then these files, one of which may be standard input, and some of which have an odd name; and
     with some number of workers, if it is a command that has them."""
-    workers = [] if words[0] in ("check", "draw", "direct") else workers_of(draw)
-    given = draw.choice([it for it in files if it != "--image"]) if draw.random() < 0.25 else os.devnull
+    is_alone = words[0] in ("check", "draw", "direct") or "--steady" in words or "--schedule" in files
+    workers = [] if is_alone else workers_of(draw)
+    given = draw.choice([it for it in files if it not in OPTIONS]) if draw.random() < 0.25 else os.devnull
     quiet = ["--quiet"] if draw.random() < 0.1 else []
-    names = {file: odd_name(draw, file) if draw.random() < 0.1 else file for file in files if file != "--image"}
+    names = {file: odd_name(draw, file) if draw.random() < 0.1 else file for file in files if file not in OPTIONS}
     ended = ask(*words, *("-" if file == given else names.get(file, file) for file in files), *workers, *quiet, given=given)
     return Answer(*ended, given, bool(quiet), names)
 
@@ -75,7 +81,7 @@ def is_well_told(answer, asked, line, answer_to):
     wanted = notes.told(asked, line) if line.startswith(b"refused ") else b""
     if answer.err != (b"" if answer.is_quiet else wanted):
         return False
-    again = notes.mended(asked, line) if wanted else None
+    again = mend.mended(asked, line) if wanted else None
     return again is None or answer_to(again) != line or notes.told(again, line) != wanted
 
 
@@ -100,6 +106,15 @@ def workers_of(draw):
     return draw.choice([[], [], ["--workers", "2"], ["--workers", "3"], ["--workers", "64"]])
 
 
+def steadiness_of(draw):
+    return ["--steady"] if draw.random() < 0.3 else []
+
+
+def is_planned(options, text, answer):
+    """Whether `plan` may answer so with these options."""
+    return (steady.is_steady if options else plain.is_plan)(text, answer)
+
+
 def is_batch_told(answer, text, refusal):
     asked = notes.Asked("batch", named(answer, "batch", text))
     return is_well_told(answer, asked, refusal, lambda it: plain.answer_plan(it.list[1]))
@@ -107,13 +122,29 @@ def is_batch_told(answer, text, refusal):
 
 def try_plan(draw):
     """A spoilt batch text, put to `plan`."""
-    text = spoil.spoil(draw, spoil.batch(draw, plain.WIDEST, draw.choice([3, 10, 40])))
-    answer = ask_of(draw, ["plan"], [keep("batch", text)])
+    text, options = spoil.spoil(draw, spoil.batch(draw, plain.WIDEST, draw.choice([3, 10, 40]))), steadiness_of(draw)
+    answer = ask_of(draw, ["plan", *options], [keep("batch", text)])
     refusal = plain.answer_plan(text)
     if refusal:
         return is_refusal(answer, refusal) and is_batch_told(answer, text, refusal), refusal, [text], answer
-    well = answer.status == 0 and answer.err == b"" and plain.is_plan(text, answer.out)
-    return well, b"a plan", [text], answer
+    well = answer.status == 0 and answer.err == b"" and is_planned(options, text, answer.out)
+    return well, b"a steady plan" if options else b"a plan", [text], answer
+
+
+def try_steady(draw):
+    """A batch of a pattern, planned steadily. In a tenth of the cases the bytes of that plan are wanted as well, by the batch alone and by the
+    plan's text, and in another tenth its picture, which tells how often it changes the switch."""
+    name, text = spoil.patterned(draw)
+    plan, chance = ask_of(draw, ["plan", "--steady"], [keep("batch", text)]), draw.random()
+    well = (plan.err, plan.status) == (b"", 0) and steady.is_steady(text, plan.out)
+    if chance < 0.2:
+        keep("schedule", plan.out)
+    if well and chance < 0.1:
+        answers = [ask("switch", "batch", "--steady"), ask("switch", "batch", "--schedule", "schedule")]
+        well = all(it == (answers[0].out, b"", 0) for it in answers) and switching.is_switched(text, plan.out, answers[0].out)
+    elif well and chance < 0.2:
+        well = ask("draw", "batch", "schedule") == (picture.answer_draw(text, plan.out), b"", 0)
+    return well, f"a steady plan of {name}".encode(), [text, plan.out], plan
 
 
 def try_pattern(draw):
@@ -132,20 +163,21 @@ def try_switch(draw):
     text = spoil.batch(draw, shape, draw.choice([3, 10, 40, 120]))
     if draw.random() < 0.5:
         text = spoil.spoil(draw, text)
-    answer = ask_of(draw, ["switch"], [keep("batch", text)])
+    options = steadiness_of(draw)
+    answer = ask_of(draw, ["switch", *options], [keep("batch", text)])
     refusal = plain.answer_plan(text)
     if refusal:
         return is_refusal(answer, refusal) and is_batch_told(answer, text, refusal), refusal, [text], answer
-    plan = ask_of(draw, ["plan"], ["batch"])
-    well = answer.status == 0 and answer.err == b"" and switching.is_switched(text, plan.out, answer.out)
-    return well, kind_of_bytes(text, plan.out), [text, plan.out], answer
+    plan = ask_of(draw, ["plan", *options], ["batch"]).out
+    well = answer.status == 0 and answer.err == b"" and is_planned(options, text, plan) and switching.is_switched(text, plan, answer.out)
+    return well, kind_of_bytes(answer.out), [text, plan], answer
 
 
-def kind_of_bytes(batch, plan):
-    """How many switches and settings the bytes of a plan are for, in words."""
-    switches = ("one switch", "two switches")[len(switching.switches_for(plain.read_batch(batch, plain.WIDEST))) - 1]
-    settings = ("no setting", "one setting", "several settings")[min(plan.count(b"setting "), 2)]
-    return f"bytes of {switches}, {settings}".encode()
+def kind_of_bytes(answer):
+    """How many switches and settings bytes are for, in words."""
+    settings = len({line.split(b" ")[1] for line in answer.splitlines()})
+    switches = "two switches" if answer.startswith(b"setting 0 a ") else "one switch"
+    return f"bytes of {switches}, {('no setting', 'one setting', 'several settings')[min(settings, 2)]}".encode()
 
 
 def try_run(draw):
@@ -230,7 +262,7 @@ def known_of(batch, schedule):
     except plain.Refused:
         return {}
     try:
-        picture.check_settings(transfers, settings)
+        plain.check_settings(transfers, settings)
     except plain.Refused:
         return {"valid": False}
     return {"valid": True, "enough": len(plain.busiest(transfers)[1])}
@@ -251,6 +283,19 @@ def try_draw(draw):
     asked = notes.Asked("batch", named(answer, "batch", batch), named(answer, "schedule", text), range=settings or b"")
     told = is_well_told(answer, asked, wanted, lambda it: picture.answer_draw(it.list[1], it.other[1], settings))
     return is_answer(answer, wanted) and told, wanted, [batch, text, settings or b""], answer
+
+
+def try_switch_by(draw):
+    """A spoilt schedule text, put to `switch`. Its certificate is no matter."""
+    shape = (draw.choice([1, 2, 3, 8, 16, 17, plain.MODULES]), plain.BLOCKS, plain.WORDS)
+    batch, text = spoilt_schedule(draw, shape, draw.choice([3, 10, 40, 120]), plain.busiest)
+    answer = ask_of(draw, ["switch"], [keep("batch", batch), "--schedule", keep("schedule", text)])
+    wanted = switching.answer_switch(batch, text)
+    asked = notes.Asked("batch", named(answer, "batch", batch), named(answer, "schedule", text))
+    told = is_well_told(answer, asked, wanted, lambda it: switching.answer_switch(it.list[1], it.other[1]))
+    is_told = wanted.startswith(b"refused ")
+    well = is_answer(answer, wanted) and told and (is_told or switching.is_switched(batch, text, wanted))
+    return well, wanted if is_told else kind_of_bytes(wanted), [batch, text], answer
 
 
 def range_text(draw, count):
@@ -352,7 +397,9 @@ def try_scripts(draw):
 KINDS = {
     "batches to plan": try_plan,
     "patterns to plan": try_pattern,
+    "patterns to plan steadily": try_steady,
     "batches to switch": try_switch,
+    "schedules to switch by": try_switch_by,
     "batches to run": try_run,
     "images to apply a batch to": try_apply,
     "moves to direct": try_direct,
@@ -391,7 +438,7 @@ def try_some(share):
 
 def main():
     count = int(sys.argv[1]) if len(sys.argv) > 1 else 10000
-    parts = {try_pattern: 4, try_talk: 4, try_scripts: 20}
+    parts = {try_pattern: 4, try_switch_by: 4, try_talk: 4, try_scripts: 20}
     counts = {kind: count // parts.get(try_it, 1) for kind, try_it in KINDS.items()}
     shares = [(kind, range(at, min(at + 250, most))) for kind, most in counts.items() for at in range(0, most, 250)]
     classes, wrong = {kind: Counter() for kind in KINDS}, []

@@ -12,7 +12,6 @@ import fcntl
 import functools
 import os
 import re
-import shlex
 import signal
 import subprocess
 import sys
@@ -79,6 +78,10 @@ MADE = {
     "thousand": lambda: pushes((t % 16, 0, (7 * t + t // 16) % 16, 0) for t in range(1000)),
     "largest": lambda: equal_transfers(4096),
     "thirty-three": lambda: equal_transfers(33),
+    "sixty-four": lambda: equal_transfers(64),
+    "each-to-each": lambda: pushes((m, b, (m + way) % 4, b) for way in (1, 2, 3) for b in (0, 1) for m in range(4)),
+    "three-into-one": lambda: pushes((m, b, 0, 5 * m + b) for m in (1, 2, 3) for b in range(5)),
+    "two-to-the-next": lambda: pushes((m, b, (m + 1) % 32, b) for b in (0, 1) for m in range(32)),
     "sixteen": lambda: pushes((i, 4, r, i) for i in range(4) for r in range(4)),
     "each-module": lambda: pushes((m, 0, m, 1) for m in range(32)),
     "peeks": lambda: "peek 0 80000800\n" * 4097,
@@ -332,8 +335,11 @@ def try_row(row, programs):
 
 
 def make_program(programs):
-    """Makes `exchange` in a folder, which starts the program."""
-    words = os.environ.get("EXCHANGE") or shlex.quote(PROGRAM)
+    """Makes `exchange` in a folder, which starts the program. A file is called by that name itself, and other words as they are."""
+    words = os.environ.get("EXCHANGE") or PROGRAM
+    if os.path.exists(words):
+        os.symlink(os.path.abspath(words), f"{programs}/exchange")
+        return
     with open(f"{programs}/exchange", "w") as file:
         file.write(f'#!/bin/sh\nexec {words} "$@"\n')
     os.chmod(f"{programs}/exchange", 0o755)

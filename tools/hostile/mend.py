@@ -1,0 +1,40 @@
+"""What a second line says is wanted, put where it says so. The texts must then be refused otherwise, or told of otherwise, or not refused at all.
+
+This is plain Python that shares no code with the product, as plain.py.
+"""
+
+import re
+
+import notes
+
+# A line of each form that a second line may say is wanted, by what it says of the form first. The entries of a text are counted in its line 1.
+RIGHT = {
+    '"batch N"': "batch {}", '"push I b R c"': "push 0 0 0 0", '"moves N"': "moves {}", '"move M b N c"': "move 0 0 0 0",
+    '"settings S"': "settings {}", '"setting T U .."': "setting", '"busiest link E module M"': "busiest link 0 module 0", '"named T U .."': "named 0",
+}  # fmt: skip
+FIRST = {"batch": "batch {}", "moves": "moves {}", "schedule": "settings {}"}
+
+
+def mended_text(kind, text, number, told):
+    """The text with what is told to be wanted in a line, or with the right number of entries, or without what stands behind the last."""
+    lines, entries = text.split(b"\n"), len(re.findall(rb"(?m)^" + notes.KINDS[kind][1], text))
+    if told.endswith("; nothing may follow\n"):
+        return b"".join(line + b"\n" for line in lines[: number - 1])
+    if told.endswith((f", and line 1 says {notes.announced(text)}\n", " has at most 4096\n")):
+        number, right = 1, FIRST[kind]
+    else:
+        wanted = re.split(r" is(?:n't)? (?=\")", told)[-1]
+        right = next(right for form, right in RIGHT.items() if wanted.startswith(form))
+    return b"\n".join([*lines[: number - 1], right.format(entries).encode(), *(lines[number:] or [b""])])
+
+
+def mended(asked, refusal):
+    """What is asked, with its text mended; None where the refusal is of no line's form."""
+    found = re.fullmatch(rb"refused (?:(batch|moves|schedule) line (\d+)|count|too many)\n?", refusal)
+    if not found:
+        return None
+    kind = "schedule" if found[1] == b"schedule" else asked.kind
+    name, text = asked.other if kind == "schedule" else asked.list
+    number = int(found[2]) if found[2] else notes.announced(text) + 2
+    text = mended_text(kind, text, number, notes.told(asked, refusal).decode())
+    return asked._replace(other=(name, text)) if kind == "schedule" else asked._replace(list=(name, text))
