@@ -21,6 +21,19 @@ all_to_all() {
     done
 }
 
+# Each of 4 modules sends three blocks to each other module: to module r its blocks from 3r on, where they fall upon those from
+# 12 + three times its own number on.
+three_blocks() {
+    local i r b
+    for ((i = 0; i < 4; i++)); do
+        for ((r = 0; r < 4; r++)); do
+            for ((b = 0; b < 3; b++)); do
+                [ "$i" -eq "$r" ] || echo "push $i $((3 * r + b)) $r $((12 + 3 * i + b))"
+            done
+        done
+    done
+}
+
 # Block j of module i is the square in row i and column j of a matrix; it changes places with block i of module j.
 transposition() {
     local i j
@@ -117,11 +130,22 @@ pattern() {
     counted batch "$@"
 }
 
-# Makes the plan and the picture of a batch, where the program accepts the plan: draw NAME
+# Makes the picture of a schedule of a batch, where the program accepts it: draw_schedule BATCH SCHEDULE PICTURE
+draw_schedule() {
+    "$exchange" check "$1" "$2" >/dev/null
+    "$exchange" draw "$1" "$2" >"$3"
+}
+
+# Makes the plan of a batch and its picture: draw NAME
 draw() {
     "$exchange" plan "$1.txt" >"$1.plan.txt"
-    "$exchange" check "$1.txt" "$1.plan.txt" >/dev/null
-    "$exchange" draw "$1.txt" "$1.plan.txt" >"$1.svg"
+    draw_schedule "$1.txt" "$1.plan.txt" "$1.svg"
+}
+
+# Makes the steady plan of a batch and its picture: draw_steady NAME
+draw_steady() {
+    "$exchange" plan "$1.txt" --steady >"$1.steady.txt"
+    draw_schedule "$1.txt" "$1.steady.txt" "$1.steady.svg"
 }
 
 # Makes all files, in the folder of the examples or a copy of it.
@@ -132,6 +156,7 @@ make_all() {
     draw all-to-all
     draw three-transfers
     cd patterns
+    pattern three-blocks.txt three_blocks
     pattern transposition.txt transposition
     pattern ring-shift.txt ring_shift
     pattern butterfly.txt butterfly
@@ -146,9 +171,10 @@ make_all() {
         pattern "broadcast-$s.txt" broadcast "$s"
     done
     broadcast_session >broadcast.session.txt
-    for name in transposition ring-shift butterfly halo gather-by-pushes gather scatter broadcast-{1,2,3,4}; do
+    for name in three-blocks transposition ring-shift butterfly halo gather-by-pushes gather scatter broadcast-{1,2,3,4}; do
         draw "$name"
     done
+    draw_steady three-blocks
 }
 
 case ${1-} in
