@@ -26,7 +26,7 @@ import tempfile
 from collections import namedtuple
 
 TOP = os.path.dirname(os.path.dirname(os.path.dirname(os.path.abspath(__file__))))
-PROGRAM = os.path.abspath(os.environ.get("EXCHANGE") or f"{TOP}/crates/exchange/out/exchange")
+PROGRAM = os.path.abspath(os.environ.get("EXCHANGE") or f"{TOP}/exchange")
 
 # Seconds that a command has.
 LIMIT = 60
