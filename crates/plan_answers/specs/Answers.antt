@@ -16,6 +16,7 @@ use Rattle.refusals.specs.Refusals.{refusal_words}
 use Rattle.refusals.specs.Sources.{of_batch, of_check}
 use Rattle.schedule_certificate.specs.Plans.{Plan, IsPlan, HasFewReinsertions}
 use Rattle.steady_schedule.specs.Bounds.{most_changes}
+use Rattle.steady_schedule.specs.Changes.{changes}
 use Rattle.steady_schedule.specs.Plans.{SteadyPlan, IsSteady}
 use Rattle.plan_answers.specs.declared.limits.TheConstants.{DONE}
 use Rattle.plan_answers.specs.Refusals.{Printed, IsRefused}
@@ -49,7 +50,7 @@ pub data IsPlanned (shape : Extent) (batch : List ℕ) (printed : Printed) : Typ
 -- together, and once for each link in use
 pub data IsSteadilyPlanned (shape : Extent) (batch : List ℕ) (printed : Printed) : Type 0 where
   planned : (plan : SteadyPlan) → Denotes shape batch plan.batch → IsSteady plan
-      → plan.changes ≤ most_changes plan.batch
+      → changes plan.batch plan.settings ≤ most_changes plan.batch
       → SaysCertified plan.settings plan.named printed.text → printed.status ≡ DONE
       → IsSteadilyPlanned shape batch printed
   refused : (fault : BatchFault) → IsFirstFault shape batch fault

@@ -22,6 +22,7 @@ use Rattle.schedule_certificate.specs.Plans.{Plan, IsPlan, HasFewReinsertions}
 use Rattle.setting_runner.specs.Runs.{setting_pairs}
 use Rattle.setting_runner.specs.Sending.{in_order, turning, sent_for}
 use Rattle.steady_schedule.specs.Bounds.{most_changes}
+use Rattle.steady_schedule.specs.Changes.{changes}
 use Rattle.steady_schedule.specs.Plans.{SteadyPlan, IsSteady}
 use Rattle.line_words.specs.HexWords.{hex2}
 use Rattle.plan_answers.specs.declared.limits.TheConstants.{DONE}
@@ -106,7 +107,8 @@ pub data IsSwitchedAs (shape : Extent) (batch schedule : List ℕ) (printed : Pr
 -- first fault, each under its status
 pub data IsSwitchedSteadily (shape : Extent) (batch : List ℕ) (printed : Printed) : Type 0 where
   switched : (plan : SteadyPlan) → Denotes shape batch plan.batch → IsSteady plan
-      → plan.changes ≤ most_changes plan.batch → TellsSwitch plan.batch plan.settings printed
+      → changes plan.batch plan.settings ≤ most_changes plan.batch
+      → TellsSwitch plan.batch plan.settings printed
       → IsSwitchedSteadily shape batch printed
   unplanned : (fault : BatchFault) → IsFirstFault shape batch fault
       → IsRefused (refusal_words (of_batch fault)) printed → IsSwitchedSteadily shape batch printed

@@ -1,15 +1,17 @@
 -- The table of what a setting joins, and the count of changes.
-use Rattle.std.proofs.Common.{◌≡◌, ◌≢◌, ◌==◌, ℕ, zero, suc, ◌+◌, ◌-◌, ◌<◌, ◌≤◌, List, [], ◌∷◌, ◌++◌, length, get_or, set, take, drop, replicate, Bool, true, false, not, ◌&&◌, ◌||◌, cond, Option, Some, None, slice_get, refl, sym, ap, ◌∙◌, subst, inl, inr, eq-eqb, get_or-set_same, get_or-set_other, arith}
+use Rattle.std.proofs.Common.{◌≡◌, ◌≢◌, ◌==◌, ℕ, zero, suc, ◌+◌, ◌-◌, ◌<◌, ◌≤◌, List, [], ◌∷◌, ◌++◌, length, get_or, set, take, drop, replicate, Bool, true, false, not, ◌&&◌, ◌||◌, cond, Option, Some, None, All, slice_get, refl, sym, ap, ◌∙◌, subst, inl, inr, eq-eqb, get_or-set_same, get_or-set_other, arith}
 use Rattle.std.proofs.lemmas.Bool.{cases_Bool, and_parts, and_from, eqb-true, false≢true}
-use Rattle.std.proofs.lemmas.Bool.Decides.{nat_tests, eqb_tells}
+use Rattle.std.proofs.lemmas.Bool.Decides.{nat_tests, eqb_tells, same_from_decides}
 use Rattle.std.specs.Bool.{Decides}
-use Rattle.std.specs.Cmp.Lexicographic.{pointwise}
+use Rattle.std.specs.Cmp.{IsEquivalence}
+use Rattle.std.specs.List.{AllByRecursion, IsDistinct, list_any}
 use Rattle.std.specs.Option.{option_eq}
-use Rattle.std.proofs.lemmas.Slice.Eq.{slice_eq-Decides}
-use Rattle.std.proofs.lemmas.List.{length-replicate, length-set, get_or-take, ext_get_or, drop_more}
-use Rattle.std.proofs.lemmas.List.Folds.{list_any_at}
+use Rattle.std.proofs.lemmas.List.{length-replicate, length-set, length_push, length-take-le, get_or-take, drop_more, take_all}
+use Rattle.std.proofs.lemmas.List.Folds.{Any-from_list_any, list_any_at, list_any-from_Any}
 use Rattle.std.proofs.lemmas.List.Sums.{list_all-from_AllPass}
-use Rattle.std.proofs.lemmas.Option.{none-some, same_Some, get_or_from_slice_get}
+use Rattle.std.proofs.lemmas.Map.Keys.{IsDistinct-push}
+use Rattle.std.proofs.lemmas.Map.Made.{length-le_from_is_member}
+use Rattle.std.proofs.lemmas.Option.{none-some, same_Some, get_or_from_slice_get, slice_get_cases}
 use Rattle.batch.specs.declared.limits.TheConstants.{MAX_MODULES}
 use Rattle.batch.specs.declared.transfer.Transfer.{Transfer}
 use Rattle.link_graph.specs.declared.link.End.TheVariants.{Zero}
@@ -20,7 +22,7 @@ use Rattle.link_graph.proofs.Sharing.{some_more, shared_from_count, shared_no_ma
 use Rattle.link_graph.proofs.Users.{made, uses_push, use_yes}
 use Rattle.steady_schedule.specs.Changes.{join, join_within, join_same, changes_after, changes}
 use Rattle.steady_schedule.specs.Joined.{AreJoined}
-use Rattle.steady_schedule.proofs.NeedChanges.{bit, meets, meets_within, partners_few}
+use Rattle.steady_schedule.proofs.NeedChanges.{meets, meets_within, partners_few}
 use Rattle.steady_schedule.proofs.PartnerMasks.{any_push, count_some}
 
 -- ---- one transfer more
@@ -90,39 +92,138 @@ fresh_module batch setting i v x lt here matching =
           absurd (shared_no_matching batch (take (i + 1) setting) (start_link x) (matching-take batch (i + 1) setting matching) (shared_from_count batch (take (i + 1) setting) (start_link x) two))
     ]
 
--- ---- two tables
+-- ---- one transfer less
 
-pub within_from : (xs ys : List Transfer) → ((u v : ℕ) → join xs u v ≡ true → join ys u v ≡ true) → join_within xs ys ≡ true
-within_from xs ys implied =
+pub one_less : (batch : List Transfer) (setting : List ℕ) (place : ℕ) (x : Transfer) → place < length setting → slice_get batch (get_or setting place 0) ≡ Some x → members batch (drop place setting) ≡ x ∷ members batch (drop (place + 1) setting)
+one_less batch setting place x lt here = ap (members batch) (drop_more setting place 0 lt) ∙ (rw here refl)
+
+-- whether two transfers use the same link 0
+abbrev pub same_start : Transfer → Transfer → Bool
+same_start x y = x.initiator == y.initiator
+
+not_joined : (x : Transfer) (v : ℕ) (xs : List Transfer) → AllByRecursion (λ y. same_start x y ≡ false) xs → join xs x.initiator v ≡ false
+not_joined x v [] others = refl
+not_joined x v (y ∷ ys) others = grind (arith, nat_tests, others.0, not_joined x v ys others.1)
+
+module _ (xs : List Transfer) (x : Transfer) (joined : List (Option ℕ)) (a : ℕ) (so_far : AreJoined (x ∷ xs) joined) (start : a ≡ x.initiator) (low : a < MAX_MODULES) (others : AllByRecursion (λ y. same_start x y ≡ false) xs) where
+  abbrev less : List (Option ℕ)
+  less = set joined a None
+
+  taken : get_or less a None ≡ None
+  taken = get_or-set_same joined a None None (omega (arith, so_far.sized))
+
+  gone : (v : ℕ) → join xs a v ≡ false
+  gone v = rw start (not_joined x v xs others)
+
+  kept : (u v : ℕ) → a ≢ u → join (x ∷ xs) u v ≡ join xs u v
+  kept u v ne = grind (arith, nat_tests)
+
+  pub joined_less : AreJoined xs less
+  joined_less = record {
+    sized = length-set joined a None ∙ so_far.sized;
+    just = λ u v. elim (eqb_tells a u) [
+      | inl p ↦ subst (λ (w : ℕ). (get_or less w None ≡ Some v → join xs w v ≡ true) × (join xs w v ≡ true → get_or less w None ≡ Some v)) p.1 (λ e. absurd (none-some v (sym taken ∙ e)), λ t. absurd (false≢true (sym (gone v) ∙ t)))
+      | inr p ↦
+          let other = get_or-set_other joined a u None None (λ e. p.1 (sym e)) in
+          (λ e. sym (kept u v p.1) ∙ (so_far.just u v).0 (sym other ∙ e), λ t. other ∙ (so_far.just u v).1 (kept u v p.1 ∙ t))
+    ];
+  }
+
+-- ---- matchings have no link 0 twice
+
+pub record AreStarts (batch : List Transfer) (setting : List ℕ) : Type 0 where
+  pub apart : IsDistinct same_start (members batch setting)
+  pub many : length (members batch setting) ≡ length setting
+
+same_start_laws : IsEquivalence same_start
+same_start_laws = record {
+  refl = λ x. eq-eqb x.initiator x.initiator refl;
+  symm = λ x y. grind (arith, nat_tests);
+  congr = λ x y z same. ap (λ (n : ℕ). n == z.initiator) (eqb-true x.initiator y.initiator same);
+}
+
+none_apart : IsDistinct same_start []
+unfolding IsDistinct
+none_apart = tt
+
+not_started : (xs : List Transfer) (x : Transfer) → ((v : ℕ) → join xs x.initiator v ≡ false) → list_any (same_start x) xs ≡ false
+not_started [] x fresh = refl
+not_started (y ∷ ys) x fresh = grind (arith, nat_tests, fresh y.responder, not_started ys x (λ v. grind (arith, nat_tests, fresh v)))
+
+starts_to : (batch : List Transfer) (setting : List ℕ) → All (λ t. t < length batch) setting → IsMatching batch setting → (i : ℕ) → i ≤ length setting → AreStarts batch (take i setting)
+starts_to batch setting known matching zero le = record { apart = none_apart; many = refl }
+starts_to batch setting known matching (suc i) le =
+    let before = starts_to batch setting known matching i (omega arith) in
+    elim (slice_get_cases batch (get_or setting i 0)).1 [
+      | inl p ↦
+          let x : Transfer = p.0 in
+          let so_far : List Transfer = members batch (take i setting) in
+          let more : members batch (take (i + 1) setting) ≡ so_far ++ x ∷ [] = some_more batch setting i 0 x (omega arith) p.2 in
+          let next : i + 1 ≡ suc i = omega arith in
+          let fresh = not_started so_far x (λ v. fresh_module batch setting i v x (omega arith) p.2 matching) in
+          let are : AreStarts batch (take (i + 1) setting) = record {
+            apart = subst (IsDistinct same_start) (sym more) (IsDistinct-push same_start_laws so_far x before.apart fresh);
+            many = omega (arith, ap length more, length_push so_far x, before.many, length-take-le i setting (omega arith), length-take-le (i + 1) setting (omega arith));
+          } in
+          subst (λ (n : ℕ). AreStarts batch (take n setting)) next are
+      | inr p ↦ absurd (omega (arith, p.0, known i 0 (omega arith)))
+    ]
+
+pub starts_of : (batch : List Transfer) (setting : List ℕ) → All (λ t. t < length batch) setting → IsMatching batch setting → AreStarts batch setting
+starts_of batch setting known matching = subst (AreStarts batch) (take_all (length setting) setting (omega arith)) (starts_to batch setting known matching (length setting) (omega arith))
+
+-- ---- pairs that stand among others
+
+within_each : (xs ys : List Transfer) → ((x : Transfer) → join xs x.initiator x.responder ≡ true → join ys x.initiator x.responder ≡ true) → join_within xs ys ≡ true
+within_each xs ys implied =
     list_all-from_AllPass (λ x. join ys x.initiator x.responder) xs (λ k d lt.
     let x : Transfer = get_or xs k d in
-    implied x.initiator x.responder (list_any_at (λ (y : Transfer). y.initiator == x.initiator && y.responder == x.responder) xs k d lt (and_from (x.initiator == x.initiator) (x.responder == x.responder) (eq-eqb x.initiator x.initiator refl) (eq-eqb x.responder x.responder refl))))
+    implied x (list_any_at (λ (y : Transfer). y.initiator == x.initiator && y.responder == x.responder) xs k d lt (and_from (x.initiator == x.initiator) (x.responder == x.responder) (eq-eqb x.initiator x.initiator refl) (eq-eqb x.responder x.responder refl))))
 
-within_from_joined : (xs ys : List Transfer) (joined : List (Option ℕ)) → AreJoined xs joined → AreJoined ys joined → join_within xs ys ≡ true
-within_from_joined xs ys joined one other = within_from xs ys (λ u v t. (other.just u v).0 ((one.just u v).1 t))
+pub within_from : (xs ys : List Transfer) → ((u v : ℕ) → join xs u v ≡ true → join ys u v ≡ true) → join_within xs ys ≡ true
+within_from xs ys implied = within_each xs ys (λ x. implied x.initiator x.responder)
 
-pub same_from_joined : (batch : List Transfer) (one other : List ℕ) (joined before : List (Option ℕ)) → joined ≡ before → AreJoined (members batch one) before → AreJoined (members batch other) joined → join_same batch one other ≡ true
-same_from_joined batch one other joined before same one_is other_is =
-    let also : AreJoined (members batch other) before = subst (AreJoined (members batch other)) same other_is in
-    and_from (join_within (members batch one) (members batch other)) (join_within (members batch other) (members batch one)) (within_from_joined (members batch one) (members batch other) before one_is also) (within_from_joined (members batch other) (members batch one) before also one_is)
+join_met : (xs ys : List Transfer) (u v : ℕ) → join_within xs ys ≡ true → join xs u v ≡ true → join ys u v ≡ true
+join_met xs ys u v within some = meets_within (made Zero u) xs ys v within some
 
-slot_same : (o p : Option ℕ) → ((v : ℕ) → o ≡ Some v → p ≡ Some v) → ((v : ℕ) → p ≡ Some v → o ≡ Some v) → o ≡ p
-slot_same (Some v) p f g = sym (f v refl)
-slot_same None (Some v) f g = g v refl
-slot_same None None f g = refl
-
-pub joined_from_same : (batch : List Transfer) (one other : List ℕ) (joined before : List (Option ℕ)) → AreJoined (members batch one) before → AreJoined (members batch other) joined → join_same batch one other ≡ true → joined ≡ before
-joined_from_same batch one other joined before one_is other_is same =
-    let both = and_parts (join_within (members batch one) (members batch other)) (join_within (members batch other) (members batch one)) same in
-    ext_get_or None joined before (other_is.sized ∙ sym one_is.sized) (λ u lt. slot_same (get_or joined u None) (get_or before u None)
-    (λ v e. (one_is.just u v).1 (meets_within (made Zero u) (members batch other) (members batch one) v both.1 ((other_is.just u v).0 e)))
-    (λ v e. (other_is.just u v).1 (meets_within (made Zero u) (members batch one) (members batch other) v both.0 ((one_is.just u v).0 e))))
-
-pub differ_from_joined : (batch : List Transfer) (one other : List ℕ) (joined before : List (Option ℕ)) → (joined ≡ before → ⊥) → AreJoined (members batch one) before → AreJoined (members batch other) joined → join_same batch one other ≡ false
-differ_from_joined batch one other joined before differ one_is other_is = elim (cases_Bool (join_same batch one other)) [
-  | inl same ↦ absurd (differ (joined_from_same batch one other joined before one_is other_is same))
-  | inr none ↦ none
+-- a transfer with its own pair
+joined_start : (q : Transfer) (v : ℕ) (ys : List Transfer) → join ys q.initiator v ≡ true → list_any (same_start q) ys ≡ true
+joined_start q v [] some = some
+joined_start q v (y ∷ ys) some = elim (cases_Bool (same_start q y)) [
+  | inl same ↦ rw same refl
+  | inr other ↦ rw other (joined_start q v ys (grind (arith, nat_tests)))
 ]
+
+started_join : (q : Transfer) (xs : List Transfer) → list_any (same_start q) xs ≡ true → (v : ℕ) × (join xs q.initiator v ≡ true)
+started_join q xs some =
+    let one = Any-from_list_any (same_start q) xs some in
+    let x : Transfer = one.1 in
+    (x.responder, list_any-from_Any (λ (y : Transfer). y.initiator == q.initiator && y.responder == x.responder) xs (one.0, x, one.2, one.3, grind (arith, nat_tests, one.4)))
+
+started_within : (xs ys : List Transfer) (q : Transfer) → join_within xs ys ≡ true → list_any (same_start q) xs ≡ true → list_any (same_start q) ys ≡ true
+started_within xs ys q within some =
+    let v = started_join q xs some in
+    joined_start q v.0 ys (join_met xs ys q.initiator v.0 within v.1)
+
+no_more : (xs ys : List Transfer) → IsDistinct same_start xs → join_within xs ys ≡ true → length xs ≤ length ys
+no_more xs ys apart within = length-le_from_is_member same_start_laws xs ys apart (λ q some. started_within xs ys q within some)
+
+-- as many pairs are all of them
+all_within : (xs ys : List Transfer) (joined : List (Option ℕ)) → AreJoined ys joined → IsDistinct same_start xs → length xs ≡ length ys → join_within xs ys ≡ true → join_within ys xs ≡ true
+all_within xs ys joined are apart as_many within = within_each ys xs (λ y some. elim (cases_Bool (list_any (same_start y) xs)) [
+  | inl met ↦
+      let w = started_join y xs met in
+      let same : w.0 ≡ y.responder = same_Some w.0 y.responder (sym ((are.just y.initiator w.0).1 (join_met xs ys y.initiator w.0 within w.1)) ∙ (are.just y.initiator y.responder).1 some) in
+      subst (λ (n : ℕ). join xs y.initiator n ≡ true) same w.1
+  | inr none ↦
+      let more = length-le_from_is_member same_start_laws (xs ++ y ∷ []) ys (IsDistinct-push same_start_laws xs y apart none) (λ q stands. elim (cases_Bool (list_any (same_start q) xs)) [
+        | inl met ↦ started_within xs ys q within met
+        | inr other ↦
+            let is : same_start q y ≡ true = rw (any_push (same_start q) xs y, other) at stands in
+            joined_start q y.responder ys (subst (λ (n : ℕ). join ys n y.responder ≡ true) (sym (eqb-true q.initiator y.initiator is)) some)
+      ]) in
+      absurd (omega (arith, more, length_push xs y, as_many))
+])
 
 option_decides : (o p : Option ℕ) → Decides (option_eq ◌==◌ o p) (o ≡ p)
 option_decides None None = (λ t. refl, λ e. refl)
@@ -130,30 +231,64 @@ option_decides None (Some y) = (λ t. absurd (false≢true t), λ e. absurd (non
 option_decides (Some x) None = (λ t. absurd (false≢true t), λ e. absurd (none-some x (sym e)))
 option_decides (Some x) (Some y) = (λ t. ap (λ (n : ℕ). Some n) (eqb-true x y t), λ e. eq-eqb x y (same_Some x y e))
 
-pub tables_decide : (joined before : List (Option ℕ)) → Decides (pointwise (option_eq ◌==◌) joined before) (joined ≡ before)
-tables_decide joined before = slice_eq-Decides option_decides joined before (pointwise (option_eq ◌==◌) joined before) refl
+-- ---- settings that join the same pairs
+
+test_is : (others : List Transfer) (joined : List (Option ℕ)) (x : Transfer) (a b : ℕ) → AreJoined others joined → a ≡ x.initiator → b ≡ x.responder → option_eq ◌==◌ (get_or joined a None) (Some b) ≡ join others x.initiator x.responder
+test_is others joined x a b are start answer =
+    rw (start, answer)
+    (same_from_decides (option_eq ◌==◌ (get_or joined x.initiator None) (Some x.responder)) (join others x.initiator x.responder) (option_decides (get_or joined x.initiator None) (Some x.responder)) (λ t. (are.just x.initiator x.responder).1 t, λ e. (are.just x.initiator x.responder).0 e))
+
+not_not : (b : Bool) → not (not b) ≡ b
+not_not true = refl
+not_not false = refl
+
+-- the pair of a transfer stands among others just where the table has it
+pub stands : (others : List Transfer) (joined : List (Option ℕ)) (x : Transfer) (a b : ℕ) (differ : Bool) → AreJoined others joined → a ≡ x.initiator → b ≡ x.responder → differ ≡ not (option_eq ◌==◌ (get_or joined a None) (Some b)) → join others x.initiator x.responder ≡ not differ
+stands others joined x a b differ are start answer test =
+    sym (test_is others joined x a b are start answer) ∙ (sym (not_not (option_eq ◌==◌ (get_or joined a None) (Some b))) ∙ ap not (sym test))
+
+pub within_less : (batch others : List Transfer) (setting : List ℕ) (place : ℕ) (x : Transfer) → place < length setting → slice_get batch (get_or setting place 0) ≡ Some x → join_within (members batch (drop place setting)) others ≡ (join others x.initiator x.responder && join_within (members batch (drop (place + 1) setting)) others)
+within_less batch others setting place x lt here = ap (λ (xs : List Transfer). join_within xs others) (one_less batch setting place x lt here)
+
+pub same_from_within : (batch : List Transfer) (one other : List ℕ) (joined : List (Option ℕ)) (all : Bool) → AreStarts batch one → AreStarts batch other → AreJoined (members batch one) joined → length other ≡ length one → all ≡ join_within (members batch other) (members batch one) → all ≡ join_same batch one other
+same_from_within batch one other joined all one_is other_is are as_many test = elim (cases_Bool all) [
+  | inl same ↦
+      let within : join_within (members batch other) (members batch one) ≡ true = sym test ∙ same in
+      let back = all_within (members batch other) (members batch one) joined are other_is.apart (omega (arith, one_is.many, other_is.many)) within in
+      same ∙ sym (and_from (join_within (members batch one) (members batch other)) (join_within (members batch other) (members batch one)) back within)
+  | inr differ ↦ grind (arith, nat_tests)
+]
+
+pub differ_from_length : (batch : List Transfer) (one other : List ℕ) → AreStarts batch one → AreStarts batch other → length other ≢ length one → join_same batch one other ≡ false
+differ_from_length batch one other one_is other_is differ = elim (cases_Bool (join_same batch one other)) [
+  | inl same ↦
+      let both = and_parts (join_within (members batch one) (members batch other)) (join_within (members batch other) (members batch one)) same in
+      absurd (differ (omega (arith, one_is.many, other_is.many, no_more (members batch one) (members batch other) one_is.apart both.0, no_more (members batch other) (members batch one) other_is.apart both.1)))
+  | inr none ↦ none
+]
+
+-- so the table of one is that of the other
+pub joined_same : (batch : List Transfer) (one other : List ℕ) (joined : List (Option ℕ)) → join_same batch one other ≡ true → AreJoined (members batch one) joined → AreJoined (members batch other) joined
+joined_same batch one other joined same are =
+    let both = and_parts (join_within (members batch one) (members batch other)) (join_within (members batch other) (members batch one)) same in
+    record {
+      sized = are.sized;
+      just = λ u v. (λ e. join_met (members batch one) (members batch other) u v both.0 ((are.just u v).0 e), λ t. (are.just u v).1 (join_met (members batch other) (members batch one) u v both.1 t));
+    }
 
 -- ---- the count
 
 -- whether the switch changes, by whether the pairs are the same
-abbrev change : Bool → ℕ
-change b = cond b 0 1
+abbrev pub change : Bool → ℕ
+change same = cond same 0 1
 
-pub counted_more : (batch : List Transfer) (settings : List (List ℕ)) (k count after : ℕ) (setting : List ℕ) (joined before : List (Option ℕ)) (differ : Bool) → k < length settings → slice_get settings k ≡ Some setting → AreJoined (members batch (get_or settings (k - 1) [])) before → AreJoined (members batch setting) joined → differ ≡ not (pointwise (option_eq ◌==◌) joined before) → after ≡ count + bit differ → count + changes_after batch (get_or settings (k - 1) []) (drop k settings) ≡ changes batch settings → after + changes_after batch setting (drop (k + 1) settings) ≡ changes batch settings
-counted_more batch settings k count after setting joined before differ lt here one_is other_is test counts so_far =
+pub counted_more : (batch : List Transfer) (settings : List (List ℕ)) (k count after : ℕ) (setting : List ℕ) (same : Bool) → k < length settings → slice_get settings k ≡ Some setting → same ≡ join_same batch (get_or settings (k - 1) []) setting → after ≡ count + change same → count + changes_after batch (get_or settings (k - 1) []) (drop k settings) ≡ changes batch settings → after + changes_after batch setting (drop (k + 1) settings) ≡ changes batch settings
+counted_more batch settings k count after setting same lt here test counts so_far =
     let old : List ℕ = get_or settings (k - 1) [] in
     let at : get_or settings k [] ≡ setting = get_or_from_slice_get settings k setting [] here in
     let split : drop k settings ≡ setting ∷ drop (k + 1) settings = drop_more settings k [] lt ∙ ap (λ (s : List ℕ). s ∷ drop (k + 1) settings) at in
     let step : changes_after batch old (drop k settings) ≡ cond (join_same batch old setting) 0 1 + changes_after batch setting (drop (k + 1) settings) = ap (changes_after batch old) split in
-    let decides = tables_decide joined before in
-    elim (cases_Bool (pointwise (option_eq ◌==◌) joined before)) [
-      | inl same ↦
-          let is = same_from_joined batch old setting joined before (decides.0 same) one_is other_is in
-          omega (arith, so_far, step, ap change is, counts, ap bit (test ∙ ap not same))
-      | inr none ↦
-          let is = differ_from_joined batch old setting joined before (λ e. false≢true (sym none ∙ decides.1 e)) one_is other_is in
-          omega (arith, so_far, step, ap change is, counts, ap bit (test ∙ ap not none))
-    ]
+    omega (arith, so_far, step, counts, ap change test)
 
 pub started : (batch : List Transfer) (settings : List (List ℕ)) (first : List ℕ) → slice_get settings 0 ≡ Some first → (1 + changes_after batch (get_or settings 0 []) (drop 1 settings) ≡ changes batch settings) × (get_or settings 0 [] ≡ first)
 started batch [] first here = absurd (none-some first here)

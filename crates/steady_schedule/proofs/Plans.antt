@@ -15,7 +15,7 @@ use Rattle.link_graph.specs.Uses.{IsMatching}
 use Rattle.link_graph.proofs.Koenig.{certified}
 use Rattle.steady_schedule.proofs.Gathered.{any_default}
 use Rattle.steady_schedule.specs.Changes.{join_same, changes_after, changes}
-use Rattle.steady_schedule.specs.Plans.{SteadyPlan, IsSteady, NamesBusiest}
+use Rattle.steady_schedule.specs.Plans.{NamesBusiest}
 use Rattle.batch.specs.Batches.{IsBatch}
 use Rattle.batch.specs.declared.limits.TheConstants.{MAX_MODULES}
 use Rattle.link_graph.specs.declared.link.End.TheVariants.{Zero}
@@ -62,12 +62,9 @@ after_few : (batch : List Transfer) (before : List ℕ) (rest : List (List ℕ))
 after_few batch before [] = omega arith
 after_few batch before (setting ∷ rest) = omega (arith, one_change (join_same batch before setting), after_few batch setting rest)
 
-changes_few : (batch : List Transfer) (settings : List (List ℕ)) → changes batch settings ≤ length settings
+pub changes_few : (batch : List Transfer) (settings : List (List ℕ)) → changes batch settings ≤ length settings
 changes_few batch [] = omega arith
 changes_few batch (setting ∷ rest) = omega (arith, after_few batch setting rest)
-
-pub steady_few : (plan : SteadyPlan) → IsSteady plan → plan.changes ≤ length plan.settings
-steady_few plan s = omega (arith, s.counted, changes_few plan.batch plan.settings)
 
 -- ---- the busiest link
 

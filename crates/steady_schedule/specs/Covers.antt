@@ -1,5 +1,5 @@
 -- The links of one end, with those of the other that they have transfers with, and full links.
-use Rattle.std.specs.Prelude.{◌≡◌, ℕ, ◌<◌, ◌≤◌, List, Option, IsSome, ◌==◌, ◌&&◌, nat_lt, slice_index}
+use Rattle.std.specs.Prelude.{◌≡◌, ℕ, ◌<◌, ◌≤◌, List, Option, None, IsSome, true, ◌==◌, ◌&&◌, nat_lt, slice_index}
 use Rattle.batch.specs.declared.limits.TheConstants.{MAX_MODULES}
 use Rattle.steady_schedule.specs.Masks.{has_bit, has_pair}
 use Rattle.steady_schedule.specs.Matchings.{partner}
@@ -18,6 +18,10 @@ pub record IsSide (near uses : List ℕ) (most : ℕ) : Type 0 where
 abbrev pub IsFullMask : List ℕ → ℕ → ℕ → ℕ → Type 0
 IsFullMask uses most n mask =
     (x : ℕ) → has_bit mask x ≡ (nat_lt x n && slice_index uses x == most)
+
+-- no link in the mask has a partner
+abbrev pub AreFree : List (Option ℕ) → ℕ → Type 0
+AreFree partners mask = (x : ℕ) → has_bit mask x ≡ true → partner partners x ≡ None
 
 -- each of the first n links that has so many transfers has a partner
 abbrev pub AreCovered : List ℕ → ℕ → ℕ → List (Option ℕ) → Type 0

@@ -1,5 +1,5 @@
--- Steady plans: a shortest schedule of a batch, how often it changes the switch, and how often any
--- schedule has to.
+-- Steady plans: a shortest schedule of a batch that changes the switch only at need. And the link
+-- that shows how often any schedule has to change it.
 use Rattle.std.specs.Prelude.{◌≡◌, ◌<◌, ◌≤◌, ℕ, List, [], length, All, AllPairs, Option, Some, None}
 use Rattle.batch.specs.declared.transfer.Transfer.{Transfer}
 use Rattle.link_graph.specs.declared.link.Link.{Link}
@@ -11,24 +11,19 @@ use Rattle.steady_schedule.specs.Changes.{changes}
 use Rattle.steady_schedule.specs.Needs.{ChangesAtNeed}
 use Rattle.steady_schedule.specs.Partners.{partners, HasMostPartners}
 
--- a batch, the settings of a schedule, what its certificate names, how often it changes the switch,
--- and a link with the number of its partners
+-- a batch, the settings of a schedule, and what its certificate names
 pub record SteadyPlan : Type 0 where
   pub batch : List Transfer
   pub settings : List (List ℕ)
   pub named : Naming
-  pub changes : ℕ
-  pub demanding : Option (Link × ℕ)
 
 -- the plan of these
-abbrev pub steady_plan : List Transfer → List (List ℕ) → Naming → ℕ → Option (Link × ℕ) → SteadyPlan
-steady_plan batch settings named changes demanding =
+abbrev pub steady_plan : List Transfer → List (List ℕ) → Naming → SteadyPlan
+steady_plan batch settings named =
     record {
       batch = batch;
       settings = settings;
       named = named;
-      changes = changes;
-      demanding = demanding;
     }
 
 -- the busiest link and all transfers that use it, as many as its uses; of an empty batch neither
@@ -44,15 +39,13 @@ IsDemanding batch (Some (link, count)) =
     HasMostPartners batch link × (count ≡ partners batch link)
 
 -- A schedule of the batch, whose certificate shows that it is shortest, by the busiest link. No
--- setting is empty, and numbers ascend in each. The changes are counted, few, and behind the first
--- setting only where something is over. The link has the most partners.
+-- setting is empty, and numbers ascend in each. The changes are few, and behind the first setting
+-- only where something is over.
 pub record IsSteady (plan : SteadyPlan) : Type 0 where
   pub schedule : IsScheduleOf plan.batch plan.settings
   pub certificate : IsCertificate plan.batch plan.settings plan.named
   pub busiest : NamesBusiest plan.batch plan.named.link plan.named.transfers
   pub none_empty : All (λ setting. 0 < length setting) plan.settings
   pub ascending : All (AllPairs (λ t u. t < u)) plan.settings
-  pub counted : plan.changes ≡ changes plan.batch plan.settings
-  pub few : plan.changes ≤ most_changes plan.batch
+  pub few : changes plan.batch plan.settings ≤ most_changes plan.batch
   pub at_need : ChangesAtNeed plan.batch plan.settings
-  pub demands : IsDemanding plan.batch plan.demanding

@@ -1,11 +1,13 @@
 ghost use Rattle.std.specs.Prelude.{◌≡◌, ◌≤◌, length};
-ghost use Rattle.steady_schedule.specs.Plans.{steady_plan, IsSteady};
+ghost use Rattle.steady_schedule.specs.Changes.{changes};
+ghost use Rattle.steady_schedule.specs.Plans.{steady_plan, IsSteady, IsDemanding};
 
+use crate::changing::count_changes;
+use crate::partners::most_partners;
 use link_graph::{Certificate, Link, LinkGraph, Schedule};
 use std::marker::Model;
 
-/// A shortest schedule of a batch with its certificate, how often it changes the switch, and a link
-/// that shows how many changes any schedule needs.
+/// A shortest schedule of a batch with its certificate, that changes the switch only at need.
 ///
 /// It changes the switch behind a setting only where that joined a pair of links for the last time,
 /// or where a link that it left free is used in each later setting. With the first setting it does
@@ -15,8 +17,6 @@ pub struct Steady {
     graph: LinkGraph,
     schedule: Schedule,
     certificate: Certificate,
-    changes: usize,
-    demanding: Option<(Link, usize)>,
 }
 
 // Said once, so that no function that lets go of one has to say it again.
@@ -26,8 +26,6 @@ impl Drop for Steady {
             graph: _,
             schedule: _,
             certificate: _,
-            changes: _,
-            demanding: _,
         } = self;
     }
 }
@@ -37,29 +35,20 @@ impl Model for Steady {
 
     ghost Value = { SteadyPlan };
 
-    ghost view = { λ s. steady_plan s.graph s.schedule s.certificate s.changes s.demanding };
+    ghost view = { λ s. steady_plan s.graph s.schedule s.certificate };
 
-    ghost invariant = { λ s. IsSteady
-        (steady_plan s.graph s.schedule s.certificate s.changes s.demanding) };
+    ghost invariant = { λ s. IsSteady (steady_plan s.graph s.schedule s.certificate) };
 }
 
 impl Steady {
-    pub(crate) fn of(
-        graph: LinkGraph,
-        schedule: Schedule,
-        certificate: Certificate,
-        changes: usize,
-        demanding: Option<(Link, usize)>,
-    ) -> Steady
-        requires { IsSteady (steady_plan graph schedule certificate changes demanding) }
-        ensures { result ≡ steady_plan graph schedule certificate changes demanding }
+    pub(crate) fn of(graph: LinkGraph, schedule: Schedule, certificate: Certificate) -> Steady
+        requires { IsSteady (steady_plan graph schedule certificate) }
+        ensures { result ≡ steady_plan graph schedule certificate }
     {
         Steady {
             graph,
             schedule,
             certificate,
-            changes,
-            demanding,
         }
     }
 
@@ -80,22 +69,24 @@ impl Steady {
     }
 
     /// How often the schedule changes the switch: at most once for each setting. Also at most once
-    /// for each pair of links that share transfers, and once for each link in use.
+    /// for each pair of links that share transfers, and once for each link in use. Each call counts
+    /// over the schedule, in time that grows with the numbers of transfers and of settings.
     pub fn changes(&self) -> usize
-        ensures changes { result ≡ self.now.changes }
+        ensures changes { result ≡ changes self.now.batch self.now.settings }
         ensures few { result ≤ length self.now.settings }
         ensures steady { IsSteady self.now }
     {
-        self.changes
+        count_changes(&self.graph, &self.schedule)
     }
 
     /// The first of the links that have the most partners, and how many these are. Any schedule of the
     /// batch changes the switch at least so often, by
-    /// [`partners_need_changes`](crate::laws::partners_need_changes). An empty batch has none.
+    /// [`partners_need_changes`](crate::laws::partners_need_changes). An empty batch has none. Each
+    /// call looks for it, in time that grows with the number of transfers.
     pub fn demanding(&self) -> Option<(Link, usize)>
-        ensures demanding { result ≡ self.now.demanding }
+        ensures demanding { IsDemanding self.now.batch result }
         ensures steady { IsSteady self.now }
     {
-        self.demanding
+        most_partners(&self.graph)
     }
 }

@@ -12,10 +12,8 @@ ghost use Rattle.steady_schedule.specs.Changes.{changes};
 ghost use Rattle.steady_schedule.specs.Needs.{ChangesAtNeed};
 ghost use Rattle.steady_schedule.specs.Plans.{NamesBusiest, IsSteady};
 
-use crate::changing::count_changes;
 use crate::gathering::gather;
 use crate::numbering::number_all;
-use crate::partners::most_partners;
 use crate::plan::Steady;
 use batch::{Batch, MAX_TRANSFERS};
 use link_graph::{Certificate, LinkGraph, Schedule};
@@ -60,11 +58,9 @@ fn plan_of(graph: LinkGraph, schedule: Schedule, certificate: Certificate) -> St
     requires needs { ChangesAtNeed graph schedule }
     ensures batch { result.batch ≡ graph }
     ensures steady { IsSteady result }
-    ensures changes { result.changes ≡ changes graph schedule }
+    ensures settings { result.settings ≡ schedule }
 {
-    let changes = count_changes(&graph, &schedule);
-    let demanding = most_partners(&graph);
-    Steady::of(graph, schedule, certificate, changes, demanding)
+    Steady::of(graph, schedule, certificate)
 }
 
 /// Plans a batch: a schedule with as few settings as any, that changes the switch only at need.
@@ -76,7 +72,8 @@ fn plan_of(graph: LinkGraph, schedule: Schedule, certificate: Certificate) -> St
 pub fn steady(alloc: Global, batch: &Batch) -> Result<Steady, AllocError>
     ensures batch { IfOk result (λ steady. steady.batch ≡ batch.now) }
     ensures steady { IfOk result IsSteady }
-    ensures few { IfOk result (λ steady. steady.changes ≤ most_changes batch.now) }
+    ensures few { IfOk result (λ steady.
+        changes batch.now steady.settings ≤ most_changes batch.now) }
 {
     prove!(batch.len() <= MAX_TRANSFERS);
     let graph = LinkGraph::of(batch)?;

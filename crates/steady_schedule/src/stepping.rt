@@ -3,7 +3,7 @@
 ghost use Rattle.std.specs.Prelude.{◌≡◌, ◌≢◌, ℕ, ◌+◌, ◌<◌, ◌≤◌, Some, None, IfSome, IsSome, true};
 ghost use Rattle.link_graph.specs.declared.link.End.TheVariants.{Zero, Three};
 ghost use Rattle.batch.specs.declared.limits.TheConstants.{MAX_MODULES};
-ghost use Rattle.steady_schedule.specs.Covers.{IsSide, IsFullMask, AreCovered, KeepsPartners};
+ghost use Rattle.steady_schedule.specs.Covers.{IsSide, IsFullMask, AreFree, AreCovered, KeepsPartners};
 ghost use Rattle.steady_schedule.specs.Masks.{has_bit, has_pair};
 ghost use Rattle.steady_schedule.specs.Matchings.{partner, AreMatched};
 ghost use Rattle.steady_schedule.specs.Searches.{AreNear};
@@ -11,7 +11,7 @@ ghost use Rattle.steady_schedule.specs.Steps.{CanHold};
 ghost use Rattle.steady_schedule.specs.Waiting.{count_at, waiting, HaveMost};
 
 use crate::left::{Left, Side};
-use crate::masks::{has, with_module};
+use crate::masks::{has, lowest, with_module, without_module};
 use crate::matching::{Partners, augment, join, part};
 use batch::MAX_MODULES;
 
@@ -115,19 +115,35 @@ fn cover(side: &Side, most: usize, of: &mut Partners, back: &mut Partners)
     }
 }
 
-/// A free link that has transfers with this one. It finds one that has the most; no contract says
-/// so.
-fn best_free(left: &Left, zero: usize, back: &Partners) -> Option<usize>
+/// A mask of the links that have no partner.
+fn free(partners: &Partners) -> u32
+    ensures { AreFree partners.now result }
+{
+    let mut mask = 0;
+    for module in 0..MAX_MODULES {
+        if partners[module].is_none() {
+            mask = with_module(mask, module);
+        }
+    }
+    mask
+}
+
+/// One of the free links that has transfers with this one. It finds one that has the most; no
+/// contract says so.
+fn best_free(left: &Left, zero: usize, free: u32) -> Option<usize>
     requires { zero < MAX_MODULES }
-    ensures free { IfSome result (λ three. partner back.now three ≡ None) }
+    ensures free { IfSome result (λ three. has_bit free three ≡ true) }
     ensures low { IfSome result (λ three. three < MAX_MODULES) }
     ensures some { IfSome result (λ three. 0 < count_at left.now.counts zero three) }
 {
     let mut best = None;
     let mut most = 0;
-    for three in 0..MAX_MODULES {
+    let mut rest = left.zero.near[zero] & free;
+    'search: while rest != 0 {
+        let three = lowest(rest);
+        rest = without_module(rest, three);
         let count = left.count(zero, three);
-        if count > most && back[three].is_none() {
+        if count > most {
             best = Some(three);
             most = count;
         }
@@ -135,21 +151,25 @@ fn best_free(left: &Left, zero: usize, back: &Partners) -> Option<usize>
     best
 }
 
-/// Joins a link that is free to one that is free, where it finds one that it has transfers with.
-fn join_one(left: &Left, matching: &mut Matching, zero: usize)
-    requires { zero < MAX_MODULES }
+/// Joins a link that is free to one of these that are free, where it finds one that it has
+/// transfers with.
+fn join_one(left: &Left, matching: &mut Matching, zero: usize, free: &mut u32)
+    requires low { zero < MAX_MODULES }
+    requires free { AreFree matching.old.three free.old }
     ensures near { AreNear left.now.zero.near matching.old.zero
         → AreNear left.now.zero.near matching.new.zero }
     ensures zero { KeepsPartners matching.old.zero matching.new.zero }
     ensures three { KeepsPartners matching.old.three matching.new.three }
+    ensures free { AreFree matching.new.three free.new }
 {
     if matching.zero[zero].is_some() {
         return;
     }
-    let Some(three) = best_free(left, zero, &matching.three) else {
+    let Some(three) = best_free(left, zero, *free) else {
         return;
     };
     join(&mut matching.zero, &mut matching.three, zero, three);
+    *free = without_module(*free, three);
 }
 
 /// Joins links that are free and have transfers with each other, as far as it finds them: no
@@ -160,8 +180,9 @@ fn join_free(left: &Left, matching: &mut Matching)
     ensures zero { KeepsPartners matching.old.zero matching.new.zero }
     ensures three { KeepsPartners matching.old.three matching.new.three }
 {
+    let mut free = free(&matching.three);
     for zero in 0..MAX_MODULES {
-        join_one(left, matching, zero);
+        join_one(left, matching, zero, &mut free);
     }
 }
 

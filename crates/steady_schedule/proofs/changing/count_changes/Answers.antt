@@ -1,10 +1,13 @@
-use Rattle.std.proofs.Common.{◌≡◌, ◌+◌, List, ℕ, slice_get, Some, sym, ap, subst, arith}
+use Rattle.std.proofs.Common.{◌≡◌, ◌+◌, ◌-◌, ◌∙◌, List, [], ℕ, get_or, slice_get, Some, refl, sym, ap, subst, arith}
 use Rattle.link_graph.specs.Marks.{members}
+use Rattle.steady_schedule.specs.Changes.{join_same}
 use Rattle.steady_schedule.specs.Joined.{AreJoined}
-use Rattle.steady_schedule.proofs.NeedChanges.{bit}
-use Rattle.steady_schedule.proofs.Joined.{started, counted_more, at_setting}
+use Rattle.steady_schedule.proofs.Joined.{started, none_joined, change, counted_more, at_setting, joined_same}
 use Rattle.steady_schedule.proofs.changing.count_changes.Goals as goal
-use Rattle.steady_schedule.proofs.changing.count_changes.Goals.{then-ne, else-ne}
+use Rattle.steady_schedule.proofs.changing.count_changes.Goals.{then-not-join_same, else-not-join_same}
+
+pub put_in-requires-clause-none : goal.put_in-requires-clause-none
+put_in-requires-clause-none c = none_joined
 
 pub loop-k-init : goal.loop-k-init
 loop-k-init c =
@@ -13,7 +16,8 @@ loop-k-init c =
     record {
       counted = s.0;
       few = omega arith;
-      joined = subst (λ (x : List ℕ). AreJoined (members c.args.graph.now x) c.joined_in-before.result) (sym s.1) c.joined_in-before.ensures;
+      before = sym s.1;
+      joined = subst (λ (x : List ℕ). AreJoined (members c.args.graph.now x) c.put_in.new.joined) (sym s.1) c.put_in.ensures;
     }
 
 pub loop-k-preserved : goal.loop-k-preserved
@@ -21,15 +25,22 @@ loop-k-preserved c =
     let batch = c.args.graph.now in
     let settings = c.args.schedule.now in
     let k = c.loop-k.k in
-    let here = rw c.unwrap.ensures at c.setting-in-loop-k.ensures in
-    let counts : c.if-ne.count ≡ c.loop-k.count + bit c.ne.result = elim c.if-ne.branch [
-      | then-ne w ↦ omega (arith, w.count-is, ap bit w.if-ne.true)
-      | else-ne w ↦ omega (arith, w.count-is, ap bit w.if-ne.false)
+    let setting = c.unwrap-setting.result.now in
+    let here : slice_get settings k ≡ Some setting = sym (rw c.unwrap-setting.ensures at c.setting-in-loop-k.ensures) in
+    let same : c.join_same.result ≡ join_same batch (get_or settings (k - 1) []) setting = c.join_same.ensures ∙ ap (λ (b : List ℕ). join_same batch b setting) c.loop-k.invariant.before in
+    let counts : c.if-not-join_same.count ≡ c.loop-k.count + change c.join_same.result = elim c.if-not-join_same.branch [
+      | then-not-join_same w ↦ omega (arith, w.count-is, ap change w.if-not-join_same.true)
+      | else-not-join_same w ↦ omega (arith, w.count-is, ap change w.if-not-join_same.false)
     ] in
-    let at = at_setting settings k c.unwrap.result.now (sym here) in
+    let joined : AreJoined (members batch setting) c.if-not-join_same.joined = elim c.if-not-join_same.branch [
+      | then-not-join_same w ↦ rw w.joined-is w.put_in-then-not-join_same.ensures
+      | else-not-join_same w ↦ rw w.joined-is (joined_same batch (get_or settings (k - 1) []) setting c.loop-k.joined (sym same ∙ w.if-not-join_same.false) c.loop-k.invariant.joined)
+    ] in
+    let at = at_setting settings k setting here in
     rw at
     (record {
-      counted = counted_more batch settings k c.loop-k.count c.if-ne.count c.unwrap.result.now c.joined_in-joined.result c.loop-k.before c.ne.result (omega arith) (sym here) c.loop-k.invariant.joined c.joined_in-joined.ensures c.ne.ensures counts c.loop-k.invariant.counted;
-      few = elim c.if-ne.branch [ then-ne w ↦ omega (arith, c.loop-k.invariant.few, w.count-is) | else-ne w ↦ omega (arith, c.loop-k.invariant.few, w.count-is) ];
-      joined = c.joined_in-joined.ensures;
+      counted = counted_more batch settings k c.loop-k.count c.if-not-join_same.count setting c.join_same.result (omega arith) here same counts c.loop-k.invariant.counted;
+      few = elim c.if-not-join_same.branch [ then-not-join_same w ↦ omega (arith, c.loop-k.invariant.few, w.count-is) | else-not-join_same w ↦ omega (arith, c.loop-k.invariant.few, w.count-is) ];
+      before = refl;
+      joined = joined;
     })

@@ -8,5 +8,6 @@ abbrev pub invariant-loop-k : goal.invariant-loop-k
 invariant-loop-k l = record {
   counted : l.count + changes_after l.graph (get_or l.schedule (l.k - 1) []) (drop l.k l.schedule) ≡ changes l.graph l.schedule;
   few : l.count ≤ l.k;
-  joined : AreJoined (members l.graph (get_or l.schedule (l.k - 1) [])) l.before;
+  before : l.before ≡ get_or l.schedule (l.k - 1) [];
+  joined : AreJoined (members l.graph (get_or l.schedule (l.k - 1) [])) l.joined;
 }

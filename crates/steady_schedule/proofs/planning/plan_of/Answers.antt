@@ -8,8 +8,6 @@ of-requires c = record {
   busiest = c.requires.busiest;
   none_empty = certified_none_empty _ _ _ c.requires.schedule c.requires.certificate;
   ascending = c.requires.ascending;
-  counted = c.count_changes-changes.ensures;
-  few = rw c.count_changes-changes.ensures c.requires.few;
+  few = c.requires.few;
   at_need = c.requires.needs;
-  demands = c.most_partners-demanding.ensures;
 }

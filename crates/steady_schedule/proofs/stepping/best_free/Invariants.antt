@@ -1,9 +1,17 @@
-use Rattle.std.proofs.Common.{◌≡◌, ◌<◌, None}
-use Rattle.std.specs.Prelude.{IfSome}
+use Rattle.std.proofs.Common.{◌≡◌, ◌<◌, true}
+use Rattle.std.specs.Prelude.{IfSome, ℕ}
 use Rattle.batch.specs.declared.limits.TheConstants.{MAX_MODULES}
-use Rattle.steady_schedule.specs.Matchings.{partner}
+use Rattle.steady_schedule.specs.Masks.{has_bit}
 use Rattle.steady_schedule.specs.Waiting.{count_at}
 use Rattle.steady_schedule.proofs.stepping.best_free.Given as goal
 
-abbrev pub invariant-loop-three : goal.invariant-loop-three
-invariant-loop-three l = IfSome l.best (λ three. partner l.back three ≡ None) × IfSome l.best (λ three. three < MAX_MODULES) × IfSome l.best (λ three. 0 < count_at l.left.counts l.zero three)
+abbrev pub invariant-search : goal.invariant-search
+invariant-search l = record {
+  within : (m : ℕ) → has_bit l.rest m ≡ true → has_bit l.free m ≡ true;
+  free : IfSome l.best (λ three. has_bit l.free three ≡ true);
+  low : IfSome l.best (λ three. three < MAX_MODULES);
+  some : IfSome l.best (λ three. 0 < count_at l.left.counts l.zero three);
+}
+
+abbrev pub decreases-search : goal.decreases-search
+decreases-search l = l.rest

@@ -1,4 +1,4 @@
-use Rattle.steady_schedule.specs.Covers.{KeepsPartners}
+use Rattle.steady_schedule.specs.Covers.{AreFree, KeepsPartners}
 use Rattle.steady_schedule.specs.Searches.{AreNear}
 use Rattle.steady_schedule.proofs.stepping.join_free.Given as goal
 
@@ -7,4 +7,5 @@ invariant-loop-zero l = record {
   near : AreNear l.left.zero.near l.matching.zero;
   zero : KeepsPartners l.initial.matching.zero l.matching.zero;
   three : KeepsPartners l.initial.matching.three l.matching.three;
+  free : AreFree l.matching.three l.free;
 }

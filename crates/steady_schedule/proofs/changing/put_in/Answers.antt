@@ -3,11 +3,11 @@ use Rattle.std.proofs.lemmas.List.{take_all}
 use Rattle.link_graph.specs.Marks.{members}
 use Rattle.link_graph.proofs.Sharing.{some_more}
 use Rattle.steady_schedule.proofs.Ends.{has_ends}
-use Rattle.steady_schedule.proofs.Joined.{none_joined, joined_more, fresh_module}
-use Rattle.steady_schedule.proofs.changing.joined_in.Goals as goal
+use Rattle.steady_schedule.proofs.Joined.{joined_more, fresh_module}
+use Rattle.steady_schedule.proofs.changing.put_in.Goals as goal
 
 pub loop-place-init : goal.loop-place-init
-loop-place-init c = none_joined
+loop-place-init c = c.requires.none
 
 pub loop-place-preserved : goal.loop-place-preserved
 loop-place-preserved c =
