@@ -1,23 +1,21 @@
-# For the scripts of the benches, which source it. The program of a bench is no crate of the repository: as src/main.rt
-# of one it is proved and built in a copy of the crates that it stands on, which takes some minutes.
+# For the scripts of the benches, which source it. The program of a bench is no crate of the
+# repository: as src/main.rt of one it is proved and built in a copy of the crates that it stands
+# on, which takes some minutes.
 
-# begin_copy LAST: makes a folder to work in, which goes away at the end, with the crates that crates.txt lists, up to
-# this one.
-begin_copy() {
+# enter_program NAME LAST: makes a folder that goes away at the end, with the crates of crates.txt up
+# to LAST, and behind them a crate of the program NAME.rattle, which stands on LAST and on what LAST
+# stands on. FUNCTION.invariants has the invariants of a function. Goes to the program's crate.
+enter_program() {
+    local invariants function crate libraries
     work=$(mktemp -d)
     trap 'rm -rf "$work"' EXIT
     mkdir "$work/crates"
-    sed -n "/^[a-z]/p; /^$1\>/q" "$top/crates.txt" >"$work/crates.txt"
+    sed -n "/^[a-z]/p; /^$2\>/q" "$top/crates.txt" >"$work/crates.txt"
     grep -o "^[a-z_0-9]*" "$work/crates.txt" | while read -r crate; do
         cp -a "$top/crates/$crate" "$work/crates/"
     done
     cp "$top/HANDLES" "$work/"
-}
-
-# enter_program NAME CRATE..: makes a crate of the program NAME.rattle, which stands on these crates, with the
-# invariants of its functions (FUNCTION.invariants), and goes there.
-enter_program() {
-    local invariants function crate=$work/crates/$1
+    crate=$work/crates/$1
     mkdir -p "$crate/src" "$crate/specs" "$crate/proofs"
     cp "$here/$1.rattle" "$crate/src/main.rt"
     touch "$crate/specs/Lib.antt" "$crate/proofs/Lib.antt"
@@ -27,7 +25,8 @@ enter_program() {
         mkdir "$crate/proofs/$function"
         cp "$invariants" "$crate/proofs/$function/Invariants.antt"
     done
-    echo "$1: ${*:2}" >>"$work/crates.txt"
+    libraries=$(sed -n "s/^$2\>[^:]*: *//p" "$work/crates.txt")
+    echo "$1: $libraries $2" >>"$work/crates.txt"
     cd "$crate"
 }
 

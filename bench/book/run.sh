@@ -7,7 +7,5 @@ here=$(cd "$(dirname "${BASH_SOURCE[0]}")" && pwd)
 top=$here/../..
 . "$here/../copy.sh"
 
-begin_copy batch_book
-enter_program book_speed exchange_limits failure_count c004_commands crossbar batch module_memory peek_poke \
-    link_graph schedule_certificate setting_runner batch_book
+enter_program book_speed batch_book
 rt run

@@ -7,7 +7,5 @@ here=$(cd "$(dirname "${BASH_SOURCE[0]}")" && pwd)
 top=$here/../..
 . "$here/../copy.sh"
 
-begin_copy batch_book
-enter_program seats_speed exchange_limits atomic_table progress_word failure_count c004_commands crossbar \
-    batch module_memory peek_poke link_graph schedule_certificate setting_runner batch_book
+enter_program seats_speed batch_book
 rt run

@@ -8,8 +8,7 @@ here=$(cd "$(dirname "${BASH_SOURCE[0]}")" && pwd)
 top=$here/../..
 . "$here/../copy.sh"
 
-begin_copy client_session
-enter_program session_speed $(sed -n 's/^client_session.*: thiserror //p' "$top/crates.txt") client_session
+enter_program session_speed client_session
 rt run
 
 # WORK: the instructions of each of 40,000 more

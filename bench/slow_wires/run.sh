@@ -9,9 +9,7 @@ here=$(cd "$(dirname "${BASH_SOURCE[0]}")" && pwd)
 top=$here/../..
 . "$here/../copy.sh"
 
-begin_copy setting_runner
-enter_program slow_wires exchange_limits passed_bytes batch crossbar module_memory peek_poke link_graph \
-    schedule_certificate setting_runner
+enter_program slow_wires setting_runner
 rt run
 rustc --edition 2021 -O -o "$work/plain_threads" "$here/plain_threads.rs"
 "$work/plain_threads"

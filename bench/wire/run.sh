@@ -6,8 +6,7 @@ here=$(cd "$(dirname "${BASH_SOURCE[0]}")" && pwd)
 top=$here/../..
 . "$here/../copy.sh"
 
-begin_copy peek_poke
-enter_program wire_speed contract_data batch module_memory peek_poke
+enter_program wire_speed peek_poke
 rt run
 if command -v valgrind >/dev/null; then
     valgrind out/wire_speed 2>&1 >/dev/null | sed -n 's/.*total heap usage: *//p'
