@@ -1,18 +1,25 @@
 #!/usr/bin/env bash
-# Writes bench/README.md: runs the benches that count, and fills their figures into page.md (fill.py).
+# Writes bench/README.md: runs the benches that count, and fills their figures into page.md by
+# fill.py.
 #
-# Needs valgrind, rustc and python3, and takes some minutes. Build the program first: ./exchange prove
+# Needs valgrind, rustc and python3. Build the program first: ./exchange prove
 set -eu
 here=$(cd "$(dirname "${BASH_SOURCE[0]}")" && pwd)
 for tool in valgrind rustc python3; do
-    command -v $tool >/dev/null || { echo "all: $tool is missing, so nothing was counted" >&2; exit 1; }
+    if ! command -v $tool >/dev/null; then
+        echo "all: $tool is missing, so nothing was counted" >&2
+        exit 1
+    fi
 done
 work=$(mktemp -d)
 trap 'rm -rf "$work"' EXIT
 
 for bench in planning/run directions/run run/apply run/growth session/lines; do
     echo "$bench.sh .."
-    "$here/$bench.sh" >"$work/printed" || { cat "$work/printed"; exit 1; }
+    if ! "$here/$bench.sh" >"$work/printed"; then
+        cat "$work/printed"
+        exit 1
+    fi
     sed "s|^|${bench%/*} |" "$work/printed" >>"$work/figures"
 done
 "$here/fill.py" "$work/figures" <"$here/page.md" >"$work/README.md"

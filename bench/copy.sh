@@ -2,9 +2,9 @@
 # repository: as src/main.rt of one it is proved and built in a copy of the crates that it stands
 # on, which takes some minutes.
 
-# enter_program NAME LAST: makes a folder that goes away at the end, with the crates of crates.txt up
-# to LAST, and behind them a crate of the program NAME.rattle, which stands on LAST and on what LAST
-# stands on. FUNCTION.invariants has the invariants of a function. Goes to the program's crate.
+# enter_program NAME LAST: makes a folder that goes away at the end, with the crates of crates.txt
+# up to LAST, and behind them a crate of the program NAME.rattle, which stands on LAST and on what
+# LAST stands on. FUNCTION.invariants has the invariants of a function. Goes to that crate.
 enter_program() {
     local invariants function crate libraries
     work=$(mktemp -d)
@@ -30,10 +30,12 @@ enter_program() {
     cd "$crate"
 }
 
-# instructions PROGRAM WORD..: how many instructions the program executes on one processor, by callgrind. A copied or
-# filled range of bytes counts by the instructions that do it, and not by its bytes.
+# instructions PROGRAM WORD..: how many instructions the program executes on one processor, by
+# callgrind. A copied or filled range of bytes counts by the instructions that do it, and not by its
+# bytes.
 instructions() {
-    GLIBC_TUNABLES=glibc.cpu.x86_rep_movsb_threshold=1000000000:glibc.cpu.x86_rep_stosb_threshold=1000000000 \
+    local most=1000000000
+    GLIBC_TUNABLES=glibc.cpu.x86_rep_movsb_threshold=$most:glibc.cpu.x86_rep_stosb_threshold=$most \
         valgrind --tool=callgrind --callgrind-out-file=/dev/null "$@" 2>&1 >/dev/null \
         | sed -n 's/.*Collected : *\([0-9]*\).*/\1/p'
 }

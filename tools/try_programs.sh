@@ -1,12 +1,15 @@
 #!/usr/bin/env bash
-# Tries the built programs: the start script, the rows of each command, what the documents show, live clients, the calls from C and Python, what is
-# installed, the instructions that planning, runs and sessions take, and hostile use. What isn't built yet is proved and built first.
+# Tries the built programs: the start script, the rows of each command, what the documents show, live
+# clients, the calls from C and Python, what is installed, the instructions that planning, runs and
+# sessions take, and hostile use. What isn't built yet is proved and built first. It also looks for
+# names with several meanings.
 set -eu
 cd "$(dirname "$(readlink -f "${BASH_SOURCE[0]}")")/.."
 tools/start/run.sh
 tools/rows/run.py
 tools/c/run.sh
 tools/python/run.py
+tools/texts/names.py
 tools/texts/run.py
 tools/hosts/run.sh
 bench/planning/run.sh --check
