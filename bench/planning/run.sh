@@ -27,9 +27,9 @@
 #   butterfly   each of 16 modules with those whose number differs in one bit, 64 blocks each
 #
 # With --check each ratio to plain Rust may be as large as `greatest` says, and what `switch` prints of one link may cost so
-# many times as much as of a quarter of the transfers as `greatest_growth` says. A steady plan may cost as many times as much
-# as a plan of the same batch as `greatest_steady` says, or no more where that doesn't name the batch, and four times the
-# transfers no more than four times as much. Its changes and bytes may be as many as `most_changes` and `most_bytes` say, where
+# many times as much as of a quarter of the transfers as `greatest_growth` says. A steady plan may cost so many times as much
+# as a plan of the same batch as `greatest_steady` says, which is at most once, and four times the transfers no more than
+# four times as much. Its changes and bytes may be as many as `most_changes` and `most_bytes` say, where
 # these name the batch. Else the status is 1. Where valgrind or rustc is missing, --check says so and counts nothing.
 #
 # Needs valgrind, rustc and python3. Build the program first: ./exchange prove

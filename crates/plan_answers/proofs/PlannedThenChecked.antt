@@ -17,7 +17,7 @@ use Rattle.plan_answers.proofs.Widest.{widest_fits}
 
 -- the one answer to a certified schedule
 told : (batch schedule : List ℕ) (transfers : List Transfer) (settings : List (List ℕ)) (named : Naming) (checked : Printed) → Denotes widest batch transfers → IsScheduleOf transfers settings → IsCertificate transfers settings named
-    → SaysCertified settings named schedule → IsChecked widest batch schedule checked → TellsShortest checked
+    → SaysCertified settings named schedule → IsChecked widest batch schedule checked → TellsShortest schedule checked
 told batch schedule transfers settings named checked denotes is certificate says answers =
     let shown : IsShown widest batch schedule (length settings) = record {
       transfers = transfers;
@@ -30,10 +30,10 @@ told batch schedule transfers settings named checked denotes is certificate says
     } in
     let line : Printed = record { text = shortest_line (length settings); status = DONE } in
     let same : checked ≡ line = one_verdict widest widest_fits batch schedule line checked (answered.shortest (length settings) shown refl refl) answers in
-    record { count = length settings; line = ap (λ (p : Printed). p.text) same; status = ap (λ (p : Printed). p.status) same }
+    record { settings = settings; named = named; says = says; line = ap (λ (p : Printed). p.text) same; status = ap (λ (p : Printed). p.status) same }
 
 pub planned_then_checked : PlannedThenChecked
 planned_then_checked batch ts printed checked denotes (inl (answered.planned plan reads is few says done)) answers = told batch printed.text plan.batch plan.settings plan.named checked reads is.shortest.schedule is.certificate says answers
 planned_then_checked batch ts printed checked denotes (inl (answered.refused fault first line)) answers = absurd (apart widest widest_fits batch ts fault denotes first)
-planned_then_checked batch ts printed checked denotes (inr (answered.planned plan reads is few says done)) answers = told batch printed.text plan.batch plan.settings plan.named checked reads is.schedule is.certificate says answers
+planned_then_checked batch ts printed checked denotes (inr (answered.planned plan reads is says done)) answers = told batch printed.text plan.batch plan.settings plan.named checked reads is.schedule is.certificate says answers
 planned_then_checked batch ts printed checked denotes (inr (answered.refused fault first line)) answers = absurd (apart widest widest_fits batch ts fault denotes first)

@@ -1,5 +1,5 @@
 -- What `plan` and `check` answer.
-use Rattle.std.specs.Prelude.{◌≡◌, ◌≤◌, ℕ, List, ◌++◌, length, Option, Some, None, codes}
+use Rattle.std.specs.Prelude.{◌≡◌, ℕ, List, ◌++◌, length, Option, Some, None, codes}
 use Rattle.std.specs.Fmt.{decimal}
 use Rattle.batch.specs.declared.fault.BatchFault.{BatchFault}
 use Rattle.batch.specs.declared.transfer.Transfer.{Transfer}
@@ -15,8 +15,6 @@ use Rattle.refusals.specs.declared.refusal.Refusal.TheVariants.{NoCertificate}
 use Rattle.refusals.specs.Refusals.{refusal_words}
 use Rattle.refusals.specs.Sources.{of_batch, of_check}
 use Rattle.schedule_certificate.specs.Plans.{Plan, IsPlan, HasFewReinsertions}
-use Rattle.steady_schedule.specs.Bounds.{most_changes}
-use Rattle.steady_schedule.specs.Changes.{changes}
 use Rattle.steady_schedule.specs.Plans.{SteadyPlan, IsSteady}
 use Rattle.plan_answers.specs.declared.limits.TheConstants.{DONE}
 use Rattle.plan_answers.specs.Refusals.{Printed, IsRefused}
@@ -46,11 +44,9 @@ pub data IsPlanned (shape : Extent) (batch : List ℕ) (printed : Printed) : Typ
   refused : (fault : BatchFault) → IsFirstFault shape batch fault
       → IsRefused (refusal_words (of_batch fault)) printed → IsPlanned shape batch printed
 
--- the same of a steady plan, which changes the switch at most once for each pair of links in use
--- together, and once for each link in use
+-- the same of a steady plan
 pub data IsSteadilyPlanned (shape : Extent) (batch : List ℕ) (printed : Printed) : Type 0 where
   planned : (plan : SteadyPlan) → Denotes shape batch plan.batch → IsSteady plan
-      → changes plan.batch plan.settings ≤ most_changes plan.batch
       → SaysCertified plan.settings plan.named printed.text → printed.status ≡ DONE
       → IsSteadilyPlanned shape batch printed
   refused : (fault : BatchFault) → IsFirstFault shape batch fault

@@ -3,12 +3,13 @@ use Rattle.std.specs.Prelude.{◌≡◌, ◌⊎◌, ℕ, List, length}
 use Rattle.batch.specs.declared.transfer.Transfer.{Transfer}
 use Rattle.batch.specs.Extent.{widest}
 use Rattle.batch.specs.Text as batch_text
+use Rattle.link_graph.specs.Certificates.{Naming}
 use Rattle.move_directions.specs.declared.moves.Move.{Move}
 use Rattle.move_directions.specs.Directions.{IsGreatestHalf, NoneIsShorter}
 use Rattle.move_directions.specs.Text.{Denotes}
 use Rattle.schedule_certificate.specs.Plans.{Plan}
 use Rattle.plan_answers.specs.declared.limits.TheConstants.{DONE}
-use Rattle.plan_answers.specs.Answers.{TellsCertified, IsPlanned, IsSteadilyPlanned, IsChecked, shortest_line}
+use Rattle.plan_answers.specs.Answers.{SaysCertified, TellsCertified, IsPlanned, IsSteadilyPlanned, IsChecked, shortest_line}
 use Rattle.plan_answers.specs.Directing.{IsDirected}
 use Rattle.plan_answers.specs.Refusals.{Printed}
 
@@ -26,10 +27,13 @@ DirectedThenPlanned =
     (text : List ℕ) (moves : List Move) (directed planned : Printed) → Denotes text moves
     → IsDirected text directed → IsPlanned widest directed.text planned → TellsFewest moves planned
 
--- `shortest S`, for some S, under its status
-pub record TellsShortest (checked : Printed) : Type 0 where
-  pub count : ℕ
-  pub line : checked.text ≡ shortest_line count
+-- The text says a schedule with its certificate, and the answer is `shortest S`, where S is how many
+-- settings that schedule has, under its status.
+pub record TellsShortest (text : List ℕ) (checked : Printed) : Type 0 where
+  pub settings : List (List ℕ)
+  pub named : Naming
+  pub says : SaysCertified settings named text
+  pub line : checked.text ≡ shortest_line (length settings)
   pub status : checked.status ≡ DONE
 
 -- what `check` answers to the text of a batch and to what `plan` or `plan --steady` answers to that
@@ -38,4 +42,4 @@ PlannedThenChecked =
     (batch : List ℕ) (transfers : List Transfer) (planned checked : Printed)
     → batch_text.Denotes widest batch transfers
     → IsPlanned widest batch planned ⊎ IsSteadilyPlanned widest batch planned
-    → IsChecked widest batch planned.text checked → TellsShortest checked
+    → IsChecked widest batch planned.text checked → TellsShortest planned.text checked

@@ -4,3 +4,4 @@ pub mod Fewest
 pub mod Switches
 pub mod OneSwitching
 pub mod Openings
+pub mod HeldSettings

@@ -3,3 +3,4 @@ pub mod Openings
 pub mod Answers
 pub mod Tellings
 pub mod Switching
+pub mod Laws

@@ -1,6 +1,6 @@
 -- What `switch` answers: what the switches of a rack are sent for a schedule, setting by setting.
 -- The texts are this project's choice.
-use Rattle.std.specs.Prelude.{◌≡◌, ◌≤◌, ℕ, zero, suc, ◌++◌, ◌||◌, Bool, List, [], Option, Some, None, if◌then◌else◌, codes, length, nat_le, slice_index_or}
+use Rattle.std.specs.Prelude.{◌≡◌, ℕ, zero, suc, ◌++◌, ◌||◌, Bool, List, [], Option, Some, None, if◌then◌else◌, codes, length, nat_le, slice_index_or}
 use Rattle.std.specs.Fmt.{decimal}
 use Rattle.std.specs.List.{flat_map, list_any, range_with_len}
 use Rattle.batch.specs.declared.fault.BatchFault.{BatchFault}
@@ -21,8 +21,6 @@ use Rattle.refusals.specs.Sources.{of_batch}
 use Rattle.schedule_certificate.specs.Plans.{Plan, IsPlan, HasFewReinsertions}
 use Rattle.setting_runner.specs.Runs.{setting_pairs}
 use Rattle.setting_runner.specs.Sending.{in_order, turning, sent_for}
-use Rattle.steady_schedule.specs.Bounds.{most_changes}
-use Rattle.steady_schedule.specs.Changes.{changes}
 use Rattle.steady_schedule.specs.Plans.{SteadyPlan, IsSteady}
 use Rattle.line_words.specs.HexWords.{hex2}
 use Rattle.plan_answers.specs.declared.limits.TheConstants.{DONE}
@@ -107,7 +105,6 @@ pub data IsSwitchedAs (shape : Extent) (batch schedule : List ℕ) (printed : Pr
 -- first fault, each under its status
 pub data IsSwitchedSteadily (shape : Extent) (batch : List ℕ) (printed : Printed) : Type 0 where
   switched : (plan : SteadyPlan) → Denotes shape batch plan.batch → IsSteady plan
-      → changes plan.batch plan.settings ≤ most_changes plan.batch
       → TellsSwitch plan.batch plan.settings printed
       → IsSwitchedSteadily shape batch printed
   unplanned : (fault : BatchFault) → IsFirstFault shape batch fault
@@ -121,9 +118,9 @@ setting_lines plan k = lines_for (is_wide plan.batch) k (λ wiring. sent_for wir
 abbrev pub switch_text : Plan → List ℕ
 switch_text plan = flat_map (setting_lines plan) (range_with_len 0 (length plan.settings))
 
--- what a run of a plan of that batch sends, or that refusal
+-- those of a plan of that batch, or that refusal
 pub data IsSwitched (shape : Extent) (batch : List ℕ) (printed : Printed) : Type 0 where
   switched : (plan : Plan) → Denotes shape batch plan.batch → IsPlan plan → HasFewReinsertions plan
-      → printed.text ≡ switch_text plan → printed.status ≡ DONE → IsSwitched shape batch printed
+      → TellsSwitch plan.batch plan.settings printed → IsSwitched shape batch printed
   unplanned : (fault : BatchFault) → IsFirstFault shape batch fault
       → IsRefused (refusal_words (of_batch fault)) printed → IsSwitched shape batch printed

@@ -7,6 +7,7 @@
 #![tactic(auto)]
 
 mod applying;
+pub mod laws;
 mod opening;
 mod report;
 mod running;

@@ -3,14 +3,14 @@ use Rattle.std.proofs.Common.{◌≡◌, ◌≢◌, ◌==◌, ℕ, ◌+◌, ◌-
 use Rattle.std.specs.Prelude.{nat_lt, IsSome}
 use Rattle.std.specs.Option.{is_some as option_is_some}
 use Rattle.std.specs.Int.{bit_at}
-use Rattle.std.proofs.lemmas.Bool.{cases_eq, and_parts, eqb-true, lt-ltb, eq-eqb, and_from, false≢true}
+use Rattle.std.proofs.lemmas.Bool.{cases_eq, cases_lt, and_parts, eqb-true, lt-ltb, eq-eqb, and_from, false≢true}
 use Rattle.std.proofs.lemmas.Bool.Decides.{nat_tests}
 use Rattle.std.proofs.lemmas.Nat.Bits.{bit_at-zero, bit_at_ones}
 use Rattle.batch.specs.declared.limits.TheConstants.{MAX_MODULES}
 use Rattle.steady_schedule.specs.Masks.{has_bit}
 use Rattle.steady_schedule.specs.Matchings.{partner, AreMatched}
 use Rattle.steady_schedule.specs.Searches.{AllSeen, IsInVain}
-use Rattle.steady_schedule.specs.Covers.{IsSide, IsFullMask, AreCovered}
+use Rattle.steady_schedule.specs.Covers.{IsSide, HaveNoUses, IsFullMask, AreCovered}
 use Rattle.steady_schedule.proofs.Halls.{never_in_vain}
 
 -- ---- the mask of full links
@@ -35,6 +35,16 @@ full_is uses most mask full x has = eqb-true (get_or uses x 0) most (and_parts (
 
 pub is_full : (uses : List ℕ) (most mask : ℕ) → IsFullMask uses most MAX_MODULES mask → (x : ℕ) → x < MAX_MODULES → get_or uses x 0 ≡ most → has_bit mask x ≡ true
 is_full uses most mask full x x_in e = full x ∙ and_from (nat_lt x MAX_MODULES) (get_or uses x 0 == most) (lt-ltb x MAX_MODULES x_in) (eq-eqb (get_or uses x 0) most e)
+
+-- links that have no transfers aren't full
+pub whole_mask : (uses : List ℕ) (most n mask : ℕ) → 0 < most → n ≤ MAX_MODULES → HaveNoUses uses n → IsFullMask uses most n mask → IsFullMask uses most MAX_MODULES mask
+whole_mask uses most n mask some within none full x = elim (cases_lt x n) [
+  | inl lt ↦ grind (arith, nat_tests, full x)
+  | inr le ↦ elim (cases_lt x MAX_MODULES) [
+    | inl x_in ↦ grind (arith, nat_tests, full x, none x le x_in)
+    | inr past ↦ grind (arith, nat_tests, full x)
+  ]
+]
 
 -- ---- a full link finds a partner
 

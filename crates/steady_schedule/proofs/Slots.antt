@@ -13,7 +13,7 @@ use Rattle.link_graph.specs.declared.link.End.TheVariants.{Zero, Three}
 use Rattle.link_graph.specs.Counts.{module_at}
 use Rattle.link_graph.specs.Uses.{AreApart}
 use Rattle.link_graph.proofs.Users.{at_used}
-use Rattle.steady_schedule.specs.Matchings.{partner, AreMatched}
+use Rattle.steady_schedule.specs.Matchings.{partner, AreMatched, AreBelow}
 use Rattle.steady_schedule.specs.Waiting.{sum_below, pair_count, place_of, count_at, HaveMost, AreCounted}
 use Rattle.steady_schedule.specs.Slots.{slot, IsWritten, AreOneOrApart, AreNumbered, AreNumberedFrom, AreWritten, AreReadTo, AreProper, HasNumber, KeepNumbers, AreSteps, JoinsAs, HaveHeads, AreFewSteps}
 use Rattle.steady_schedule.proofs.Matchings.{has_low, partner_low}
@@ -77,6 +77,14 @@ not_joined totals left slots zeros first n next none a = record {
     | inl e ↦ absurd (none-some v (sym none ∙ subst (λ (x : ℕ). partner zeros x ≡ Some v) e joined))
     | inr ne ↦ a.each u v d (omega arith) joined
   ];
+}
+
+-- joined pairs of the first n modules are all, where no other has a partner
+pub all_numbered : (totals left slots : List ℕ) (zeros : List (Option ℕ)) (first n next : ℕ) → n ≤ MAX_MODULES → AreBelow zeros n → AreNumberedFrom zeros first n totals left slots next → AreNumberedFrom zeros first MAX_MODULES totals left slots next
+all_numbered totals left slots zeros first n next within low a = record {
+  numbered = a.numbered;
+  recent = λ u v i w le. let r = a.recent u v i w le in (omega (arith, r.0, within), r.1);
+  each = λ u v d u_in joined. a.each u v d (low u v joined) joined;
 }
 
 module _ (totals left slots after : List ℕ) (zero three : List (Option ℕ)) (first k n y : ℕ) (m : AreMatched zero three) (joined : partner zero n ≡ Some y) (so_far : AreNumberedFrom zero first n totals left slots (first + k)) (places : length left ≡ MAX_MODULES * MAX_MODULES) (k_there : k ≤ count_at left n y) (w : AreWritten (sum_below (place_of n y) (slice_index totals) + (count_at left n y - k)) first k slots after) where

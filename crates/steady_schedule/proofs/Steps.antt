@@ -8,14 +8,14 @@ use Rattle.std.proofs.lemmas.Option.{none-some, same_Some}
 use Rattle.batch.specs.declared.limits.TheConstants.{MAX_MODULES}
 use Rattle.link_graph.specs.declared.link.End.TheVariants.{Zero, Three}
 use Rattle.steady_schedule.specs.Masks.{has_pair}
-use Rattle.steady_schedule.specs.Matchings.{partner, AreMatched}
+use Rattle.steady_schedule.specs.Matchings.{partner, AreMatched, AreBelow}
 use Rattle.steady_schedule.specs.Searches.{AreNear}
 use Rattle.steady_schedule.specs.Covers.{IsSide}
-use Rattle.steady_schedule.specs.Waiting.{place_of, count_at, waiting, AreTold, HaveMost}
+use Rattle.steady_schedule.specs.Waiting.{place_of, count_at, waiting, AreTold, HaveMost, NoneWait}
 use Rattle.steady_schedule.specs.Steps.{CanHoldAt, CanHold, is_partner, AreTaken, IsTight}
 use Rattle.steady_schedule.specs.Steps.IsTight.{all, by_pair, by_zero, by_three}
 use Rattle.steady_schedule.proofs.Matchings.{has_low, partner_low}
-use Rattle.steady_schedule.proofs.Sums.{sum_same, sum_changed, partner_cases}
+use Rattle.steady_schedule.proofs.Sums.{sum_same, sum_changed, at_most_sum, partner_cases}
 use Rattle.steady_schedule.proofs.Waiting.{count_here, count_other}
 use Rattle.link_graph.specs.declared.link.End.{End}
 
@@ -34,6 +34,21 @@ module _ (counts zn zu tn tu : List ℕ) (t : AreTold counts zn zu tn tu) where
 
     pub near_from_counts : (x y : ℕ) → partner zero x ≡ Some y → 0 < count_at counts x y → has_pair zn x y ≡ true
     near_from_counts x y joined some = t.near_zero x y (has_low zero x y m.sized joined) (partner_low zero three x y m joined) ∙ lt-ltb 0 (count_at counts x y) some
+
+    -- where no transfer waits from some module on, the others have no partners
+    module _ (n : ℕ) (none : NoneWait counts n) (near : AreNear zn zero) where
+      pub joined_below : AreBelow zero n
+      joined_below x y joined = elim (cases_lt x n) [
+        | inl lt ↦ lt
+        | inr le ↦ absurd (omega (arith, near_counts x y near joined, at_most_sum MAX_MODULES y (λ v. count_at counts x v) (partner_low zero three x y m joined), none Zero x le (has_low zero x y m.sized joined)))
+      ]
+
+      pub none_held : (most k x : ℕ) → k ≤ most → n ≤ x → x < MAX_MODULES → CanHoldAt counts zero three most k x
+      none_held most k x few le x_in = record {
+        pair = λ y joined. absurd (omega (arith, joined_below x y joined, le));
+        zero_out = λ free. omega (arith, none Zero x le x_in, few);
+        three_out = λ free. omega (arith, none Three x le x_in, few);
+      }
 
     pub near_turned : AreNear zn zero → AreNear tn three
     near_turned near y x joined =
@@ -115,6 +130,12 @@ module _ (zero three : List (Option ℕ)) (m : AreMatched zero three) (k : ℕ) 
         let joined = (m.each_other x y).1 back in
         inl (three_joined x y joined ((can.each x (has_low zero x y m.sized joined)).pair y joined)))
 
+    pub none_wait : (n : ℕ) → NoneWait old n → NoneWait new n
+    none_wait n none end x le x_in = elim (waits_now end x x_in) [
+      | inl less ↦ omega (arith, less, none end x le x_in)
+      | inr same ↦ omega (arith, same.0, none end x le x_in)
+    ]
+
     pub less_waits : HaveMost new (most - k)
     less_waits end x x_in = elim (waits_now end x x_in) [
       | inl less ↦ omega (arith, less, h end x x_in)
@@ -158,6 +179,28 @@ module _ (zero : List (Option ℕ)) (k n : ℕ) (old now : List ℕ) (so_far : A
           | inr ne ↦ count_other now n y (count_at now n y - k) so_far.places n_in y_in u v v_in (λ g _. ne (sym g)) ∙ still u v u_in v_in ne
         ];
       }
+
+-- those of the first n modules are all, where no other has a partner
+pub all_taken : (zero : List (Option ℕ)) (k n : ℕ) (old new : List ℕ) → n ≤ MAX_MODULES → AreBelow zero n → AreTaken zero k n old new → AreTaken zero k MAX_MODULES old new
+all_taken zero k n old new within low taken = record {
+  places = taken.places;
+  at = λ u v u_in v_in. elim (cases_lt u n) [
+    | inl lt ↦ taken.at u v u_in v_in ∙ rw (lt-ltb u n lt, lt-ltb u MAX_MODULES u_in) refl
+    | inr le ↦
+        taken.at u v u_in v_in
+        ∙ (not_taken (partner zero u) v (count_at old u v) k (nat_lt u n) (λ joined. omega (arith, low u v joined, le))
+        ∙ sym (not_taken (partner zero u) v (count_at old u v) k (nat_lt u MAX_MODULES) (λ joined. omega (arith, low u v joined, le))))
+  ];
+}
+
+-- where one module's pair is parted if none of it waits, and the others stay
+pub behind_now : (zero zero_now : List (Option ℕ)) (counts now : List ℕ) (n : ℕ) → ((x y : ℕ) → x < n → partner zero x ≡ Some y → 0 < count_at counts x y) → ((x : ℕ) → x ≢ n → partner zero_now x ≡ partner zero x) → ((y : ℕ) → partner zero_now n ≡ Some y → 0 < count_at now n y) → ((x y : ℕ) → x ≢ n → partner zero x ≡ Some y → count_at now x y ≡ count_at counts x y) → (x y : ℕ) → x < n + 1 → partner zero_now x ≡ Some y → 0 < count_at now x y
+behind_now zero zero_now counts now n so_far others here same x y lt joined = elim (cases_eq x n) [
+  | inl e ↦ subst (λ (u : ℕ). 0 < count_at now u y) (sym e) (here y (subst (λ (u : ℕ). partner zero_now u ≡ Some y) e joined))
+  | inr ne ↦
+      let was = sym (others x ne) ∙ joined in
+      omega (arith, same x y ne was, so_far x y (omega arith) was)
+]
 
 -- ---- no longer
 

@@ -14,6 +14,10 @@ pub record IsSide (near uses : List ℕ) (most : ℕ) : Type 0 where
   pub uses_is : (x : ℕ) → x < MAX_MODULES → slice_index uses x ≡ sum_below MAX_MODULES (count x)
   pub few : (y : ℕ) → y < MAX_MODULES → sum_below MAX_MODULES (λ x. count x y) ≤ most
 
+-- the links from the n-th on have no transfers
+abbrev pub HaveNoUses : List ℕ → ℕ → Type 0
+HaveNoUses uses n = (x : ℕ) → n ≤ x → x < MAX_MODULES → slice_index uses x ≡ 0
+
 -- just those of the first n links that have so many transfers are in the mask
 abbrev pub IsFullMask : List ℕ → ℕ → ℕ → ℕ → Type 0
 IsFullMask uses most n mask =

@@ -50,6 +50,10 @@ pub record AreTold (counts zero_near zero_uses three_near three_uses : List ℕ)
   pub uses_zero : (m : ℕ) → m < MAX_MODULES → slice_index zero_uses m ≡ waiting counts Zero m
   pub uses_three : (m : ℕ) → m < MAX_MODULES → slice_index three_uses m ≡ waiting counts Three m
 
+-- no transfer of the modules from the n-th on waits
+abbrev pub NoneWait : List ℕ → ℕ → Type 0
+NoneWait counts n = (end : End) (m : ℕ) → n ≤ m → m < MAX_MODULES → waiting counts end m ≡ 0
+
 -- no link has more transfers that wait
 abbrev pub HaveMost : List ℕ → ℕ → Type 0
 HaveMost counts most = (end : End) (m : ℕ) → m < MAX_MODULES → waiting counts end m ≤ most

@@ -4,7 +4,7 @@ ghost use Rattle.std.specs.Prelude.{◌≡◌, ℕ, ◌+◌, ◌-◌, ◌<◌, �
 ghost use Rattle.batch.specs.Batches.{IsBatch};
 ghost use Rattle.batch.specs.declared.limits.TheConstants.{MAX_MODULES, MAX_TRANSFERS};
 ghost use Rattle.link_graph.specs.declared.link.End.{End};
-ghost use Rattle.steady_schedule.specs.Waiting.{place_of, count_at, waiting, AreCounted, AreTold};
+ghost use Rattle.steady_schedule.specs.Waiting.{place_of, count_at, waiting, AreCounted, AreTold, NoneWait};
 
 use crate::masks::{Masks, with_module, without_module};
 use batch::MAX_MODULES;
@@ -19,7 +19,7 @@ pub(crate) struct Side {
     /// For each link those of the other end with which it has transfers that wait.
     pub(crate) near: Masks,
     /// How many transfers of each link wait.
-    pub(crate) uses: [usize; MAX_MODULES],
+    pub(crate) uses: [u32; MAX_MODULES],
 }
 
 /// How many transfers of each pair of links wait for a setting.
@@ -63,6 +63,20 @@ impl Left {
         left
     }
 
+    /// How many modules count: no transfer of those from there on waits.
+    pub(crate) fn modules(&self) -> usize
+        ensures within { result ≤ MAX_MODULES }
+        ensures none { NoneWait self.now.counts result }
+    {
+        let mut modules = 0;
+        for module in 0..MAX_MODULES {
+            if self.zero.uses[module] > 0 || self.three.uses[module] > 0 {
+                modules = module + 1;
+            }
+        }
+        modules
+    }
+
     /// How many transfers of a pair wait.
     pub(crate) fn count(&self, zero: usize, three: usize) -> usize
         requires zero_in { zero < MAX_MODULES }
@@ -93,14 +107,15 @@ impl Left {
         requires zero_in { zero < MAX_MODULES }
         requires three_in { three < MAX_MODULES }
         requires some { 0 < count }
+        requires few { count ≤ MAX_TRANSFERS }
         requires there { count ≤ count_at self.old.counts zero three }
         ensures { self.new.counts ≡ set self.old.counts (place_of zero three)
             (count_at self.old.counts zero three - count) }
     {
         let place = zero * MAX_MODULES + three;
         self.counts[place] -= count;
-        self.zero.uses[zero] -= count;
-        self.three.uses[three] -= count;
+        self.zero.uses[zero] -= count as u32;
+        self.three.uses[three] -= count as u32;
         if self.counts[place] > 0 {
             return;
         }

@@ -1,18 +1,20 @@
 //! The number of its setting for each transfer.
 
-ghost use Rattle.std.specs.Prelude.{◌≡◌, ℕ, ◌+◌, ◌-◌, ◌*◌, ◌<◌, ◌≤◌, All, Some, None, length, set, IfOk, slice_index};
+ghost use Rattle.std.specs.Prelude.{◌≡◌, ◌≢◌, ℕ, ◌+◌, ◌-◌, ◌*◌, ◌<◌, ◌≤◌, All, Some, None, length, set, IfOk, slice_index};
 ghost use Rattle.batch.specs.Batches.{IsBatch};
 ghost use Rattle.batch.specs.declared.limits.TheConstants.{MAX_MODULES, MAX_TRANSFERS};
 ghost use Rattle.link_graph.specs.declared.link.Link.{Link};
 ghost use Rattle.link_graph.specs.Counts.{uses};
-ghost use Rattle.steady_schedule.specs.Matchings.{partner};
+ghost use Rattle.steady_schedule.specs.Matchings.{partner, AreBelow};
 ghost use Rattle.steady_schedule.specs.Bounds.{most_changes, IsReachedBy};
 ghost use Rattle.steady_schedule.specs.Potentials.{potential, IsReached};
+ghost use Rattle.steady_schedule.specs.Searches.{AreNear};
 ghost use Rattle.steady_schedule.specs.Slots.{slot, AreStarts, AreWithin, IsHeld, IsHeldAs, AreNumbered, AreNumberedFrom, KeepNumbers, AreFewSteps, AreWritten, AreReadTo, AreProper, HaveHeads, AreAtNeed, HaveNeeds};
 ghost use Rattle.steady_schedule.specs.Steps.{AreTaken};
 ghost use Rattle.steady_schedule.specs.Waiting.{sum_below, place_of, count_at, AreCounted, HaveMost};
 
 use crate::left::{Left, PAIRS};
+use crate::matching::part;
 use crate::stepping::{Matching, next_step};
 use batch::{MAX_MODULES, MAX_TRANSFERS};
 use link_graph::LinkGraph;
@@ -70,11 +72,11 @@ fn write_pair(slots: &mut [usize], at: usize, first: usize, settings: usize)
     }
 }
 
-/// Holds the pair of a link 0, where it is joined, for some settings: takes as many of its transfers, and
-/// writes the numbers of the settings for them.
+/// Holds the pair of a link 0, where it is joined, for some settings: takes as many of its
+/// transfers, and writes the numbers of the settings for them. Parts it where none is left.
 fn hold_one(
     left: &mut Left,
-    matching: &Matching,
+    matching: &mut Matching,
     places: &Places,
     slots: &mut [usize],
     zero: usize,
@@ -83,45 +85,58 @@ fn hold_one(
 )
     requires zero_in { zero < MAX_MODULES }
     requires some { 0 < settings }
-    requires there { (y : ℕ) → partner matching.now.zero zero ≡ Some y
+    requires there { (y : ℕ) → partner matching.old.zero zero ≡ Some y
         → settings ≤ count_at left.old.counts zero y }
     requires few { first + settings ≤ MAX_TRANSFERS }
     requires within { AreWithin places.now.totals left.old.counts slots.old }
-    ensures free { partner matching.now.zero zero ≡ None
+    ensures free { partner matching.old.zero zero ≡ None
         → IsHeldAs left.old.counts slots.old left.new.counts slots.new }
-    ensures joined { (y : ℕ) → partner matching.now.zero zero ≡ Some y
+    ensures joined { (y : ℕ) → partner matching.old.zero zero ≡ Some y
         → IsHeld places.now.totals zero y first settings
         left.old.counts slots.old left.new.counts slots.new }
+    ensures rest { (y : ℕ) → partner matching.new.zero zero ≡ Some y
+        → 0 < count_at left.new.counts zero y }
+    ensures others { (x : ℕ) → x ≢ zero
+        → partner matching.new.zero x ≡ partner matching.old.zero x }
 {
     let Some(three) = matching.zero[zero] else {
         return;
     };
     left.take(zero, three, settings);
-    let at = places.slot(zero, three, left.count(zero, three));
+    let rest = left.count(zero, three);
+    let at = places.slot(zero, three, rest);
     write_pair(slots, at, first, settings);
+    if rest == 0 {
+        part(&mut matching.zero, &mut matching.three, zero, three);
+    }
 }
 
-/// Holds the matching for some settings.
+/// Holds the matching for some settings, and parts the pairs of which no transfer is left. Links 0
+/// of the modules from `modules` on are free.
 fn hold(
     left: &mut Left,
-    matching: &Matching,
+    matching: &mut Matching,
     places: &Places,
     slots: &mut [usize],
     first: usize,
     settings: usize,
+    modules: usize,
 )
     requires some { 0 < settings }
-    requires there { (x y : ℕ) → partner matching.now.zero x ≡ Some y
+    requires within { modules ≤ MAX_MODULES }
+    requires low { AreBelow matching.old.zero modules }
+    requires there { (x y : ℕ) → partner matching.old.zero x ≡ Some y
         → settings ≤ count_at left.old.counts x y }
     requires few { first + settings ≤ MAX_TRANSFERS }
     requires numbered { AreNumbered places.now.totals left.old.counts slots.old first }
-    ensures taken { AreTaken matching.now.zero settings MAX_MODULES left.old.counts left.new.counts }
-    ensures numbered { AreNumberedFrom matching.now.zero first MAX_MODULES
+    ensures taken { AreTaken matching.old.zero settings MAX_MODULES left.old.counts left.new.counts }
+    ensures near { AreNear left.new.zero.near matching.new.zero }
+    ensures numbered { AreNumberedFrom matching.old.zero first MAX_MODULES
         places.now.totals left.new.counts slots.new (first + settings) }
     ensures kept { KeepNumbers places.now.totals first
         left.old.counts slots.old left.new.counts slots.new }
 {
-    for zero in 0..MAX_MODULES {
+    for zero in 0..modules {
         hold_one(left, matching, places, slots, zero, first, settings);
     }
 }
@@ -139,11 +154,12 @@ fn fill(left: &mut Left, places: &Places, slots: &mut [usize], settings: usize)
         (potential places.now.totals left.old.counts settings) }
     ensures needs { AreAtNeed places.now.totals left.new.counts slots.new settings settings }
 {
+    let modules = left.modules();
     let mut matching = Matching::none();
     let mut first = 0;
     'steps: while first < settings {
-        let held = next_step(left, &mut matching, settings - first);
-        hold(left, &matching, places, slots, first, held);
+        let held = next_step(left, &mut matching, settings - first, modules);
+        hold(left, &mut matching, places, slots, first, held, modules);
         first += held;
     }
 }

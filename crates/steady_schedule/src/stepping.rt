@@ -2,17 +2,17 @@
 
 ghost use Rattle.std.specs.Prelude.{◌≡◌, ◌≢◌, ℕ, ◌+◌, ◌<◌, ◌≤◌, Some, None, IfSome, IsSome, true};
 ghost use Rattle.link_graph.specs.declared.link.End.TheVariants.{Zero, Three};
-ghost use Rattle.batch.specs.declared.limits.TheConstants.{MAX_MODULES};
-ghost use Rattle.steady_schedule.specs.Covers.{IsSide, IsFullMask, AreFree, AreCovered, KeepsPartners};
+ghost use Rattle.batch.specs.declared.limits.TheConstants.{MAX_MODULES, MAX_TRANSFERS};
+ghost use Rattle.steady_schedule.specs.Covers.{IsSide, HaveNoUses, IsFullMask, AreFree, AreCovered, KeepsPartners};
 ghost use Rattle.steady_schedule.specs.Masks.{has_bit, has_pair};
-ghost use Rattle.steady_schedule.specs.Matchings.{partner, AreMatched};
+ghost use Rattle.steady_schedule.specs.Matchings.{partner, AreMatched, AreBelow};
 ghost use Rattle.steady_schedule.specs.Searches.{AreNear};
 ghost use Rattle.steady_schedule.specs.Steps.{CanHold};
-ghost use Rattle.steady_schedule.specs.Waiting.{count_at, waiting, HaveMost};
+ghost use Rattle.steady_schedule.specs.Waiting.{count_at, waiting, HaveMost, NoneWait};
 
 use crate::left::{Left, Side};
-use crate::masks::{has, lowest, with_module, without_module};
-use crate::matching::{Partners, augment, join, part};
+use crate::masks::{lowest, with_module, without_module};
+use crate::matching::{Partners, augment, join};
 use batch::MAX_MODULES;
 
 /// The links that are joined.
@@ -25,7 +25,9 @@ pub(crate) struct Matching {
 
 impl Matching {
     /// No links.
-    pub(crate) fn none() -> Matching {
+    pub(crate) fn none() -> Matching
+        ensures { AreBelow result.zero 0 }
+    {
         Matching {
             zero: [None; MAX_MODULES],
             three: [None; MAX_MODULES],
@@ -33,46 +35,24 @@ impl Matching {
     }
 }
 
-/// The links that have so many transfers.
-fn full(uses: &[usize; MAX_MODULES], most: usize) -> u32
+/// A mask of the links that have so many transfers. Those from `modules` on have none.
+fn full(uses: &[u32; MAX_MODULES], most: usize, modules: usize) -> u32
+    requires some { 0 < most }
+    requires few { most ≤ MAX_TRANSFERS }
+    requires within { modules ≤ MAX_MODULES }
+    requires none { HaveNoUses uses.now modules }
     ensures { IsFullMask uses.now most MAX_MODULES result }
 {
     let mut mask = 0;
-    for module in 0..MAX_MODULES {
-        if uses[module] == most {
+    for module in 0..modules {
+        if uses[module] == most as u32 {
             mask = with_module(mask, module);
         }
     }
     mask
 }
 
-/// Parts the pair of a link, where no transfer of it waits.
-fn part_one(left: &Left, matching: &mut Matching, zero: usize)
-    requires { zero < MAX_MODULES }
-    ensures near { (y : ℕ) → partner matching.new.zero zero ≡ Some y
-        → has_pair left.now.zero.near zero y ≡ true }
-    ensures others { (x : ℕ) → x ≢ zero
-        → partner matching.new.zero x ≡ partner matching.old.zero x }
-{
-    let Some(three) = matching.zero[zero] else {
-        return;
-    };
-    if left.count(zero, three) > 0 {
-        return;
-    }
-    part(&mut matching.zero, &mut matching.three, zero, three);
-}
-
-/// Parts the pairs of which no transfer waits.
-fn part_done(left: &Left, matching: &mut Matching)
-    ensures { AreNear left.now.zero.near matching.new.zero }
-{
-    for zero in 0..MAX_MODULES {
-        part_one(left, matching, zero);
-    }
-}
-
-/// Finds a partner for a link that is full and has none.
+/// Finds a partner for a link that is full, where it has none.
 ///
 /// By counting there is one. Were the search in vain, all links near it would be seen, each of them the
 /// partner of a full link all of whose links are seen. So these full links, one more than those that are
@@ -82,15 +62,16 @@ fn cover_one(x: usize, side: &Side, most: usize, full: u32, of: &mut Partners, b
     requires some { 0 < most }
     requires side { IsSide side.now.near side.now.uses most }
     requires full { IsFullMask side.now.uses most MAX_MODULES full }
+    requires full_x { has_bit full x ≡ true }
     requires matched { AreMatched of.old back.old }
     ensures matched { AreMatched of.new back.new }
     ensures near { AreNear side.now.near of.old → AreNear side.now.near of.new }
-    ensures found { has_bit full x ≡ true → IsSome (partner of.new x) }
+    ensures found { IsSome (partner of.new x) }
     ensures full { (z : ℕ) → has_bit full z ≡ true → IsSome (partner of.old z)
         → IsSome (partner of.new z) }
     ensures back { KeepsPartners back.old back.new }
 {
-    if !has(full, x) || of[x].is_some() {
+    if of[x].is_some() {
         return;
     }
     let mut unseen = u32::MAX;
@@ -99,8 +80,11 @@ fn cover_one(x: usize, side: &Side, most: usize, full: u32, of: &mut Partners, b
 }
 
 /// Finds a partner for each full link of a side.
-fn cover(side: &Side, most: usize, of: &mut Partners, back: &mut Partners)
+fn cover(side: &Side, most: usize, modules: usize, of: &mut Partners, back: &mut Partners)
     requires some { 0 < most }
+    requires few { most ≤ MAX_TRANSFERS }
+    requires within { modules ≤ MAX_MODULES }
+    requires none { HaveNoUses side.now.uses modules }
     requires side { IsSide side.now.near side.now.uses most }
     requires matched { AreMatched of.old back.old }
     requires near { AreNear side.now.near of.old }
@@ -109,18 +93,22 @@ fn cover(side: &Side, most: usize, of: &mut Partners, back: &mut Partners)
     ensures covered { AreCovered side.now.uses most MAX_MODULES of.new }
     ensures back { KeepsPartners back.old back.new }
 {
-    let full = full(&side.uses, most);
-    for x in 0..MAX_MODULES {
+    let full = full(&side.uses, most, modules);
+    let mut rest = full;
+    'links: while rest != 0 {
+        let x = lowest(rest);
+        rest = without_module(rest, x);
         cover_one(x, side, most, full, of, back);
     }
 }
 
-/// A mask of the links that have no partner.
-fn free(partners: &Partners) -> u32
+/// A mask of the links that have no partner, of the first modules.
+fn free(partners: &Partners, modules: usize) -> u32
+    requires { modules ≤ MAX_MODULES }
     ensures { AreFree partners.now result }
 {
     let mut mask = 0;
-    for module in 0..MAX_MODULES {
+    for module in 0..modules {
         if partners[module].is_none() {
             mask = with_module(mask, module);
         }
@@ -174,14 +162,15 @@ fn join_one(left: &Left, matching: &mut Matching, zero: usize, free: &mut u32)
 
 /// Joins links that are free and have transfers with each other, as far as it finds them: no
 /// contract says that it joins any. Those that have partners still have some.
-fn join_free(left: &Left, matching: &mut Matching)
-    requires { AreNear left.now.zero.near matching.old.zero }
+fn join_free(left: &Left, matching: &mut Matching, modules: usize)
+    requires within { modules ≤ MAX_MODULES }
+    requires near { AreNear left.now.zero.near matching.old.zero }
     ensures near { AreNear left.now.zero.near matching.new.zero }
     ensures zero { KeepsPartners matching.old.zero matching.new.zero }
     ensures three { KeepsPartners matching.old.three matching.new.three }
 {
-    let mut free = free(&matching.three);
-    for zero in 0..MAX_MODULES {
+    let mut free = free(&matching.three, modules);
+    for zero in 0..modules {
         join_one(left, matching, zero, &mut free);
     }
 }
@@ -201,7 +190,7 @@ fn zero_room(left: &Left, matching: &Matching, most: usize, module: usize) -> us
 {
     match matching.zero[module] {
         Some(three) => left.count(module, three),
-        None => most - left.zero.uses[module],
+        None => most - left.zero.uses[module] as usize,
     }
 }
 
@@ -218,21 +207,23 @@ fn three_room(left: &Left, matching: &Matching, most: usize, module: usize) -> u
 {
     match matching.three[module] {
         Some(_) => most,
-        None => most - left.three.uses[module],
+        None => most - left.three.uses[module] as usize,
     }
 }
 
 /// For how many settings the matching can be held at most.
-fn longest(left: &Left, matching: &Matching, most: usize) -> usize
+fn longest(left: &Left, matching: &Matching, most: usize, modules: usize) -> usize
     requires some { 0 < most }
     requires most { HaveMost left.now.counts most }
+    requires within { modules ≤ MAX_MODULES }
+    requires none { NoneWait left.now.counts modules }
     requires near { AreNear left.now.zero.near matching.now.zero }
     requires zero { AreCovered left.now.zero.uses most MAX_MODULES matching.now.zero }
     requires three { AreCovered left.now.three.uses most MAX_MODULES matching.now.three }
     ensures { CanHold left.now.counts matching.now.zero matching.now.three most result }
 {
     let mut settings = most;
-    for module in 0..MAX_MODULES {
+    for module in 0..modules {
         settings = settings
             .min(zero_room(left, matching, most, module))
             .min(three_room(left, matching, most, module));
@@ -241,16 +232,32 @@ fn longest(left: &Left, matching: &Matching, most: usize) -> usize
 }
 
 /// Makes the next matching, and says for how many of the settings that are left it can be held, and
-/// no longer. It begins with the one before, as far as its pairs have transfers; no contract says
-/// so.
-pub(crate) fn next_step(left: &Left, matching: &mut Matching, most: usize) -> usize
+/// no longer. Only the first `modules` have transfers that wait. It begins with what is left of the
+/// one before; no contract says so.
+pub(crate) fn next_step(left: &Left, matching: &mut Matching, most: usize, modules: usize) -> usize
     requires some { 0 < most }
+    requires few { most ≤ MAX_TRANSFERS }
     requires most { HaveMost left.now.counts most }
-    ensures { CanHold left.now.counts matching.new.zero matching.new.three most result }
+    requires within { modules ≤ MAX_MODULES }
+    requires none { NoneWait left.now.counts modules }
+    requires near { AreNear left.now.zero.near matching.old.zero }
+    ensures can { CanHold left.now.counts matching.new.zero matching.new.three most result }
+    ensures low { AreBelow matching.new.zero modules }
 {
-    part_done(left, matching);
-    cover(&left.zero, most, &mut matching.zero, &mut matching.three);
-    cover(&left.three, most, &mut matching.three, &mut matching.zero);
-    join_free(left, matching);
-    longest(left, matching, most)
+    cover(
+        &left.zero,
+        most,
+        modules,
+        &mut matching.zero,
+        &mut matching.three,
+    );
+    cover(
+        &left.three,
+        most,
+        modules,
+        &mut matching.three,
+        &mut matching.zero,
+    );
+    join_free(left, matching, modules);
+    longest(left, matching, most, modules)
 }

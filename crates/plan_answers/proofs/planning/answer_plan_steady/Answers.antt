@@ -26,7 +26,7 @@ returns-in_ok-text-in-Ok c =
     let its = c.in_ok-plan-in-Ok.ensures in
     let denotes : Denotes widest c.args.batch.now plan.batch = rw its.batch c.in-Ok.ensures.batch in
     let text = rw (c.schedule.ensures.schedule, c.certificate.ensures.certificate) at c.in_ok-text-in-Ok.ensures in
-    planned plan denotes its.steady (rw its.batch its.few) (record { spelled = c.done.ensures.text ∙ text; can_say = steady_can_say c.args.batch.now plan denotes its.steady }) c.done.ensures.status
+    planned plan denotes its.steady (record { spelled = c.done.ensures.text ∙ text; can_say = steady_can_say c.args.batch.now plan denotes its.steady }) c.done.ensures.status
 
 pub returns-in-Err : goal.returns-in-Err
 returns-in-Err c =

@@ -1,10 +1,9 @@
-use Rattle.std.proofs.Common.{◌∙◌, ap}
+use Rattle.std.proofs.Common.{ap}
 use Rattle.std.proofs.lemmas.Result.{IfOk-weaker}
 use Rattle.batch.specs.Extent.{widest}
 use Rattle.refusals.specs.Sources.{of_batch}
 use Rattle.plan_answers.specs.Refusals.{Refuses}
 use Rattle.rack_answers.specs.Switching.{TellsSwitch, IsSwitched, switched, unplanned}
-use Rattle.rack_answers.proofs.Switches.{plan_text}
 use Rattle.rack_answers.proofs.switching.answer_switch_alone.Goals as goal
 
 pub returns-in_ok-plan-in-Ok : goal.returns-in_ok-plan-in-Ok
@@ -13,7 +12,7 @@ returns-in_ok-plan-in-Ok c =
     let its = c.in_ok-plan-in-Ok.ensures in
     let tells = rw (c.batch.ensures.batch, c.schedule.ensures.schedule) at c.tell.ensures in
     IfOk-weaker c.tell.result (TellsSwitch plan.batch plan.settings) (IsSwitched widest c.args.batch.now)
-    (λ p tells. switched plan (rw its.batch c.in-Ok.ensures.batch) its.plan its.reinserted (tells.0 ∙ plan_text plan) tells.1) tells
+    (λ p tells. switched plan (rw its.batch c.in-Ok.ensures.batch) its.plan its.reinserted tells) tells
 
 pub returns-in-Err : goal.returns-in-Err
 returns-in-Err c =

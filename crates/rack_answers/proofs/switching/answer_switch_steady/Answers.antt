@@ -12,7 +12,7 @@ returns-in_ok-plan-in-Ok c =
     let its = c.in_ok-plan-in-Ok.ensures in
     let tells = rw (← its.batch, c.schedule.ensures.schedule) at c.tell.ensures in
     IfOk-weaker c.tell.result (TellsSwitch plan.batch plan.settings) (IsSwitchedSteadily widest c.args.batch.now)
-    (λ p told. switched plan (rw its.batch c.in-Ok.ensures.batch) its.steady (rw its.batch its.few) told) tells
+    (λ p told. switched plan (rw its.batch c.in-Ok.ensures.batch) its.steady told) tells
 
 pub returns-in-Err : goal.returns-in-Err
 returns-in-Err c =

@@ -5,12 +5,12 @@ use Rattle.steady_schedule.proofs.Matchings.{has_low}
 use Rattle.steady_schedule.proofs.Needs.{none_over, still_needed}
 use Rattle.steady_schedule.proofs.Potential.{falls, reached_now}
 use Rattle.steady_schedule.proofs.Slots.{all_taken, no_steps, one_step}
-use Rattle.steady_schedule.proofs.Steps.{less_waits}
+use Rattle.steady_schedule.proofs.Steps.{less_waits, none_wait}
 use Rattle.steady_schedule.proofs.numbering.fill.Goals as goal
 
 pub hold-requires-clause-there : goal.hold-requires-clause-there
 hold-requires-clause-there c x y joined =
-    (c.next_step-held.ensures.each x (has_low c.next_step-held.new.matching.zero x y c.next_step-held.new.matching.matched.sized joined)).pair y joined
+    (c.next_step-held.ensures.can.each x (has_low c.next_step-held.new.matching.zero x y c.next_step-held.new.matching.matched.sized joined)).pair y joined
 
 pub steps-init : goal.steps-init
 steps-init c =
@@ -23,12 +23,14 @@ steps-init c =
       reached = subst (IsReached counts) (sym whole) c.requires.reached;
       numbered = c.requires.numbered;
       steps = record { heads = []; few = omega (arith, ap (λ (n : ℕ). potential totals counts n) whole); steps = no_steps totals counts c.args.slots.now };
+      none = c.modules-modules.ensures.none;
+      near = λ x y joined. absurd (omega (arith, c.none-matching.ensures x y joined));
       needs = none_over totals counts c.args.slots.now c.args.settings;
     }
 
 pub steps-preserved : goal.steps-preserved
 steps-preserved c =
-    let can = c.next_step-held.ensures in
+    let can = c.next_step-held.ensures.can in
     let m = c.next_step-held.new.matching in
     let totals = c.args.places.now.totals in
     let most = c.args.settings - c.steps.first in
@@ -47,6 +49,8 @@ steps-preserved c =
         few = omega (arith, c.steps.invariant.steps.few, less_rest);
         steps = one_step totals c.steps.left.counts c.steps.slots after c.hold.new.slots m.zero c.steps.first k c.steps.invariant.steps.heads c.steps.invariant.steps.steps c.hold.ensures.kept c.hold.ensures.numbered;
       };
+      none = none_wait m.zero m.three m.matched k c.steps.left.counts after c.hold.ensures.taken most c.steps.invariant.most can c.modules-modules.result c.steps.invariant.none;
+      near = c.hold.ensures.near;
       needs = still_needed totals c.steps.left.counts c.steps.slots after c.hold.new.slots m.zero m.three m.matched c.args.settings c.steps.first k c.steps.invariant.few c.hold.ensures.taken c.steps.invariant.most can c.hold.ensures.kept c.hold.ensures.numbered c.steps.invariant.needs;
     }
 

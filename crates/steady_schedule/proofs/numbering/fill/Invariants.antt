@@ -1,7 +1,8 @@
 use Rattle.std.proofs.Common.{◌-◌, ◌≤◌}
 use Rattle.steady_schedule.specs.Potentials.{potential, IsReached}
+use Rattle.steady_schedule.specs.Searches.{AreNear}
 use Rattle.steady_schedule.specs.Slots.{AreNumbered, AreFewSteps, AreAtNeed}
-use Rattle.steady_schedule.specs.Waiting.{HaveMost}
+use Rattle.steady_schedule.specs.Waiting.{HaveMost, NoneWait}
 use Rattle.steady_schedule.proofs.numbering.fill.Given as goal
 
 abbrev pub invariant-steps : goal.invariant-steps
@@ -11,6 +12,8 @@ invariant-steps l = record {
   reached : IsReached l.left.counts (l.settings - l.first);
   numbered : AreNumbered l.places.totals l.left.counts l.slots l.first;
   steps : AreFewSteps l.places.totals l.left.counts l.slots l.first (potential l.places.totals l.left.counts (l.settings - l.first)) (potential l.places.totals l.initial.left.counts l.settings);
+  none : NoneWait l.left.counts l.modules;
+  near : AreNear l.left.zero.near l.matching.zero;
   needs : AreAtNeed l.places.totals l.left.counts l.slots l.settings l.first;
 }
 

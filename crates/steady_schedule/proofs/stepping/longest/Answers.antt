@@ -1,10 +1,9 @@
-use Rattle.std.proofs.Common.{◌≡◌, ◌≤◌, ℕ, refl, sym, ap, ◌∙◌, subst, inl, inr, arith}
+use Rattle.std.proofs.Common.{◌≤◌, ℕ, refl, sym, ap, ◌∙◌, subst, inl, inr, arith}
 use Rattle.std.specs.Prelude.{min}
-use Rattle.std.proofs.lemmas.Bool.{cases_eq}
-use Rattle.batch.specs.declared.limits.TheConstants.{MAX_MODULES}
+use Rattle.std.proofs.lemmas.Bool.{cases_eq, cases_lt}
 use Rattle.steady_schedule.specs.Steps.{CanHoldAt}
 use Rattle.steady_schedule.specs.Steps.IsTight.{all}
-use Rattle.steady_schedule.proofs.Steps.{held_less, tighter}
+use Rattle.steady_schedule.proofs.Steps.{held_less, tighter, none_held}
 use Rattle.steady_schedule.proofs.stepping.longest.Goals as goal
 
 pub loop-module-init : goal.loop-module-init
@@ -31,10 +30,20 @@ loop-module-preserved c =
         })
         | inr ne ↦ held_less counts m.zero m.three c.args.most c.loop-module.settings k x old (c.loop-module.invariant.each x (omega arith))
       ];
-      tight = tighter counts m.zero m.three c.args.most c.loop-module.settings c.zero_room.result t k c.loop-module.module c.loop-module-test.true is c.loop-module.invariant.tight c.zero_room.ensures.pair c.zero_room.ensures.out c.three_room.ensures.pair c.three_room.ensures.out;
+      tight = tighter counts m.zero m.three c.args.most c.loop-module.settings c.zero_room.result t k c.loop-module.module (omega (arith, c.loop-module-test.true, c.requires.within)) is c.loop-module.invariant.tight c.zero_room.ensures.pair c.zero_room.ensures.out c.three_room.ensures.pair c.three_room.ensures.out;
     }
 
 pub returns : goal.returns
 returns c =
-    let all_modules : c.loop-module.module ≡ MAX_MODULES = omega arith in
-    record { some = c.loop-module.invariant.some; few = c.loop-module.invariant.few; each = λ x lt. c.loop-module.invariant.each x (omega arith); tight = c.loop-module.invariant.tight }
+    let l = c.args.left.now in
+    let m = c.args.matching.now in
+    let so_far = c.loop-module.invariant in
+    record {
+      some = so_far.some;
+      few = so_far.few;
+      each = λ x x_in. elim (cases_lt x c.args.modules) [
+        | inl lt ↦ so_far.each x (omega arith)
+        | inr le ↦ none_held l.counts l.zero.near l.zero.uses l.three.near l.three.uses l.told m.zero m.three m.matched c.args.modules c.requires.none c.requires.near c.args.most c.loop-module.settings x so_far.few le x_in
+      ];
+      tight = so_far.tight;
+    }

@@ -1,5 +1,7 @@
+use Rattle.std.proofs.Common.{◌∙◌}
+use Rattle.link_graph.specs.declared.link.End.TheVariants.{Zero, Three}
 use Rattle.steady_schedule.proofs.Matchings.{turned}
-use Rattle.steady_schedule.proofs.Steps.{zero_side, three_side, near_turned, near_back}
+use Rattle.steady_schedule.proofs.Steps.{zero_side, three_side, near_turned, near_back, joined_below}
 use Rattle.steady_schedule.proofs.stepping.next_step.Goals as goal
 
 pub cover-requires-clause-side : goal.cover-requires-clause-side
@@ -17,7 +19,19 @@ cover-requires-2-clause-near c =
     let l = c.args.left.now in
     near_turned l.counts l.zero.near l.zero.uses l.three.near l.three.uses l.told c.cover.new.of c.cover.new.back c.cover.ensures.matched c.cover.ensures.near
 
-pub join_free-requires : goal.join_free-requires
-join_free-requires c =
+pub cover-requires-clause-none : goal.cover-requires-clause-none
+cover-requires-clause-none c x le x_in = c.args.left.now.told.uses_zero x x_in ∙ c.requires.none Zero x le x_in
+
+pub cover-requires-2-clause-none : goal.cover-requires-2-clause-none
+cover-requires-2-clause-none c x le x_in = c.args.left.now.told.uses_three x x_in ∙ c.requires.none Three x le x_in
+
+pub returns-clause-low : goal.returns-clause-low
+returns-clause-low c =
+    let l = c.args.left.now in
+    let m = c.join_free.new.matching in
+    joined_below l.counts l.zero.near l.zero.uses l.three.near l.three.uses l.told m.zero m.three m.matched c.args.modules c.requires.none c.join_free.ensures.near
+
+pub join_free-requires-clause-near : goal.join_free-requires-clause-near
+join_free-requires-clause-near c =
     let l = c.args.left.now in
     near_back l.counts l.zero.near l.zero.uses l.three.near l.three.uses l.told c.cover-2.new.back c.cover-2.new.of (turned _ _ c.cover-2.ensures.matched) c.cover-2.ensures.near

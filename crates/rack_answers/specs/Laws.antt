@@ -1,0 +1,26 @@
+-- What the answers of `switch` say. Proofs use it; no contract of a call cites it.
+use Rattle.std.specs.Prelude.{◌≡◌, ℕ, ◌+◌, ◌<◌, List, [], ◌∷◌, length, true}
+use Rattle.batch.specs.declared.transfer.Transfer.{Transfer}
+use Rattle.batch.specs.Batches.{IsBatch}
+use Rattle.c004_commands.specs.declared.command.Command.TheVariants.{Settle}
+use Rattle.crossbar.specs.declared.chip.Wiring.{Wiring}
+use Rattle.link_graph.specs.Schedules.{IsScheduleOf}
+use Rattle.schedule_certificate.specs.Plans.{Plan}
+use Rattle.setting_runner.specs.Sending.{turning}
+use Rattle.steady_schedule.specs.Changes.{join_same}
+use Rattle.steady_schedule.specs.Needs.{setting_at}
+use Rattle.rack_answers.specs.Switching.{pairs_in, pairs_before, schedule_text, switch_text}
+
+-- what is told for a plan is what a run of it sends
+abbrev pub ToldIsSent : Type 0
+ToldIsSent = (plan : Plan) → schedule_text plan.batch plan.settings ≡ switch_text plan
+
+-- for a setting that joins the same pairs of modules as the one before, each switch is sent the end
+-- of a sequence alone
+abbrev pub HeldIsSettled : Type 0
+HeldIsSettled =
+    (batch : List Transfer) (settings : List (List ℕ)) (k : ℕ) (wiring : Wiring)
+    → IsBatch batch → IsScheduleOf batch settings → k + 1 < length settings
+    → join_same batch (setting_at settings k) (setting_at settings (k + 1)) ≡ true
+    → turning wiring (pairs_before batch settings (k + 1)) (pairs_in batch settings (k + 1))
+    ≡ Settle ∷ []

@@ -1,0 +1,14 @@
+//! Laws of the answers, proved of the definitions alone. None of them does anything.
+
+ghost use Rattle.rack_answers.specs.Laws.{ToldIsSent, HeldIsSettled};
+
+/// What `switch` tells for a plan is what a run of that plan sends.
+pub fn told_is_sent()
+    ensures { ToldIsSent }
+{}
+
+/// Where a setting joins the same pairs of modules as the one before, `switch` tells one byte for
+/// each switch, which ends a sequence: nothing is cut or joined.
+pub fn held_is_settled()
+    ensures { HeldIsSettled }
+{}

@@ -1,7 +1,0 @@
-use Rattle.std.proofs.Common.{◌≡◌, ◌<◌, ℕ, Some, true}
-use Rattle.steady_schedule.specs.Masks.{has_pair}
-use Rattle.steady_schedule.specs.Matchings.{partner}
-use Rattle.steady_schedule.proofs.stepping.part_done.Given as goal
-
-abbrev pub invariant-loop-zero : goal.invariant-loop-zero
-invariant-loop-zero l = (x y : ℕ) → x < l.zero → partner l.matching.zero x ≡ Some y → has_pair l.left.zero.near x y ≡ true
