@@ -58,9 +58,13 @@ declare -A greatest=(
     [three_by_three]=1.08 [four_by_two]=1.08 [sixteen_by_three]=1.07 [thirty_two_by_two]=1.09
 )
 greatest_growth=5
-# Counting the changes takes some 600 instructions for each setting, and a small batch is all beginnings
+# The same margin, but none costs more than the plan of its batch: where each transfer has a setting of its own, both make and
+# write as many settings, and that is most of the work
 declare -A greatest_steady=(
-    [one_link]=1.92 [one_link-1024]=1.73 [star]=1.96 [part]=1.86 [gather]=1.77 [random_256]=1.45 [scrambled-1024]=1.20
+    [scrambled]=0.52 [scrambled-1024]=0.70 [one_link]=1 [one_link-1024]=1 [odd]=0.62 [star]=1 [two_by_two]=0.54 [part]=1 [wide]=0.59
+    [three_by_three]=0.36 [four_by_two]=0.43 [sixteen_by_three]=0.39 [thirty_two_by_two]=0.46
+    [all_to_all]=0.55 [in_rounds]=0.55 [halo]=0.82 [random_16]=0.50 [random_32]=0.60 [random_256]=0.96 [sixty_pairs]=0.53 [gather]=1
+    [butterfly]=0.64
 )
 greatest_steady_growth=4
 
@@ -144,7 +148,7 @@ measure_steady() {
     awk -v name="$1" -v steady="$steady" -v planned="$2" -v changes="$changes" -v pairs="$pairs" -v bytes="$bytes" 'BEGIN {
         printf "%-17s steady: %8d of %8d instructions, ratio %.2f; changes %d, pairs %d, bytes %d\n", \
             name, steady, planned, steady / planned, changes, pairs, bytes }'
-    judge "the ratio of a steady plan of $1" "$(awk "BEGIN { printf \"%.3f\", $steady / $2 }")" "${greatest_steady[$1]-1}"
+    judge "the ratio of a steady plan of $1" "$(awk "BEGIN { printf \"%.3f\", $steady / $2 }")" "${greatest_steady[$1]}"
     [ -z "${most_changes[$1]-}" ] || judge "a steady plan of $1, in changes," "$changes" "${most_changes[$1]}"
     [ -z "${most_bytes[$1]-}" ] || judge "a steady plan of $1, in bytes," "$bytes" "${most_bytes[$1]}"
 }

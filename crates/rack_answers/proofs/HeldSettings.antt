@@ -1,7 +1,7 @@
 -- A setting that joins the same pairs as the one before: nothing is cut, and nothing joined.
-use Rattle.std.proofs.Common.{◌≡◌, ◌==◌, ℕ, zero, suc, ◌+◌, ◌<◌, ◌≤◌, List, [], ◌∷◌, ◌++◌, length, map, get_or, Bool, true, false, ◌&&◌, ◌||◌, All, Some, refl, sym, ap, ◌∙◌, subst, inl, inr, add-one, arith}
+use Rattle.std.proofs.Common.{◌≡◌, ◌==◌, ℕ, zero, suc, ◌+◌, ◌<◌, ◌≤◌, List, [], ◌∷◌, ◌++◌, length, map, get_or, true, ◌&&◌, All, refl, sym, ap, ◌∙◌, subst, inl, inr, add-one, arith}
 use Rattle.std.specs.List.{AllByRecursion, flat_map, list_any, range_with_len}
-use Rattle.std.proofs.lemmas.Bool.{cases_Bool, cases_eq, and_parts, false≢true}
+use Rattle.std.proofs.lemmas.Bool.{cases_Bool, cases_eq, and_parts}
 use Rattle.std.proofs.lemmas.Bool.Decides.{nat_tests}
 use Rattle.std.proofs.lemmas.List.Elements.{All-head, All-tail}
 use Rattle.std.proofs.lemmas.List.Folds.{list_any-append}
@@ -20,7 +20,6 @@ use Rattle.setting_runner.specs.Runs.{joined_pair, setting_pairs}
 use Rattle.setting_runner.specs.Sending.{started_by, in_order}
 use Rattle.steady_schedule.specs.Changes.{join, join_within, join_same}
 use Rattle.rack_answers.specs.Laws.{HeldIsSettled}
-use Rattle.rack_answers.specs.Switching.{pairs_in}
 
 -- the pair is among these
 abbrev Among : List Pair → Pair → Type 0
@@ -35,8 +34,8 @@ without_none others (p ∷ ps) all = rw all.0 (without_none others ps all.1)
 all_started : (P : Pair → Type 0) (ps : List Pair) (m : ℕ) → AllByRecursion P ps → AllByRecursion P (started_by ps m)
 all_started P [] m all = tt
 all_started P (p ∷ ps) m all = elim (cases_Bool (p.initiator == m)) [
-  | inl yes ↦ rw yes (all.0, all_started P ps m all.1)
-  | inr no ↦ rw no (all_started P ps m all.1)
+  | inl same ↦ rw same (all.0, all_started P ps m all.1)
+  | inr other ↦ rw other (all_started P ps m all.1)
 ]
 
 all_both : (P : Pair → Type 0) (ps qs : List Pair) → AllByRecursion P ps → AllByRecursion P qs → AllByRecursion P (ps ++ qs)

@@ -1,8 +1,8 @@
 -- Lists of transfers by the numbers of their settings, grown one transfer at a time.
-use Rattle.std.proofs.Common.{◌≡◌, ℕ, ◌+◌, ◌<◌, List, [], ◌∷◌, ◌++◌, length, get_or, take, All, refl, sym, ap, ◌∙◌, subst, inl, inr, get_or-set_same, get_or-set_other, arith, zero, suc}
+use Rattle.std.proofs.Common.{◌≡◌, ℕ, ◌+◌, ◌-◌, ◌<◌, ◌≤◌, List, [], ◌∷◌, ◌++◌, length, get_or, drop, slice_get, Some, All, refl, sym, ap, ◌∙◌, subst, inl, inr, get_or-set_same, get_or-set_other, arith, zero, suc}
 use Rattle.std.specs.Prelude.{AllPairs, Contains}
 use Rattle.std.proofs.lemmas.Bool.{cases_eq, cases_lt}
-use Rattle.std.proofs.lemmas.List.{length-set, length-take-le, get_or-take, get_or_past, length_push, map_push}
+use Rattle.std.proofs.lemmas.List.{length-set, get_or_past, get_or_append_left, get_or_push, length_push, map_push}
 use Rattle.std.proofs.lemmas.List.Elements.{All-set, All-push, All-head, All-tail, All-get_or, Contains-get_or, Contains-push_cases}
 use Rattle.std.proofs.lemmas.List.Quantifiers.{all_pairs_push}
 use Rattle.std.proofs.lemmas.List.Sums.{sum_by-cons}
@@ -11,7 +11,10 @@ use Rattle.batch.proofs.Lists.{count_of, one_same, one_other, times_into}
 use Rattle.link_graph.specs.Schedules.{times, lists_of, IsScheduleOf}
 use Rattle.link_graph.specs.Uses.{IsMatching}
 use Rattle.batch.specs.declared.transfer.Transfer.{Transfer}
-use Rattle.steady_schedule.specs.Slots.{AreProper}
+use Rattle.steady_schedule.specs.Slots.{slot, AreReadInto, AreSlotsBelow, AreProper}
+use Rattle.steady_schedule.specs.Waiting.{pair_count, count_at}
+use Rattle.steady_schedule.proofs.Slots.{read_more}
+use Rattle.batch.specs.declared.limits.TheConstants.{MAX_MODULES}
 use Rattle.steady_schedule.specs.Gathered.{AreEmpty, AreGathered, with_pushed}
 
 none_stand : (lists : List (List ℕ)) (t : ℕ) → All (λ list. list ≡ []) lists → times t lists ≡ 0
@@ -32,49 +35,66 @@ none_gathered lists count e = record {
   within = λ k t stands. absurd (omega (arith, stands.1, ap length (empty_at lists k e.none)));
 }
 
-module _ (numbers : List ℕ) (t count : ℕ) (lists : List (List ℕ)) (t_in : t < length numbers) (k_in : get_or numbers t 0 < count) (so_far : AreGathered (take t numbers) count lists) where
-  abbrev k : ℕ
-  k = get_or numbers t 0
+module _ (numbers : List ℕ) (k count : ℕ) (lists : List (List ℕ)) (k_in : k < count) (so_far : AreGathered numbers count lists) where
+  abbrev t : ℕ
+  t = length numbers
+
+  abbrev more : List ℕ
+  more = numbers ++ k ∷ []
 
   abbrev old : List ℕ
   old = get_or lists k []
 
-  sized_t : length (take t numbers) ≡ t
-  sized_t = length-take-le t numbers (omega arith)
-
-  sized_more : length (take (t + 1) numbers) ≡ t + 1
-  sized_more = length-take-le (t + 1) numbers (omega arith)
+  sized_more : length more ≡ t + 1
+  sized_more = length_push numbers k
 
   in_lists : k < length lists
   in_lists = omega (arith, so_far.sized, k_in)
 
-  number_of : (u : ℕ) → u < t → get_or (take (t + 1) numbers) u 0 ≡ get_or (take t numbers) u 0
-  number_of u lt = get_or-take (t + 1) numbers u 0 (omega arith) ∙ sym (get_or-take t numbers u 0 lt)
-
-  stood : (j u : ℕ) → Contains (get_or lists j []) u → (u < length (take (t + 1) numbers)) × (get_or (take (t + 1) numbers) u 0 ≡ j)
+  stood : (j u : ℕ) → Contains (get_or lists j []) u → (u < length more) × (get_or more u 0 ≡ j)
   stood j u stands =
       let was = so_far.within j u stands in
-      (omega (arith, was.0, sized_t, sized_more), number_of u (omega (arith, was.0, sized_t)) ∙ was.1)
+      (omega (arith, was.0, sized_more), get_or_append_left numbers (k ∷ []) 0 u was.0 ∙ was.1)
 
-  pub gathered_more : AreGathered (take (t + 1) numbers) count (with_pushed lists k t)
+  pub gathered_more : AreGathered more count (with_pushed lists k t)
   gathered_more = record {
     sized = length-set lists k (old ++ t ∷ []) ∙ so_far.sized;
-    ascending = All-set (AllPairs (λ a b. a < b)) lists k (old ++ t ∷ []) (all_pairs_push (λ a b. a < b) old t (All-get_or (AllPairs (λ a b. a < b)) lists k [] in_lists so_far.ascending) (λ i d lt. omega (arith, (so_far.within k (get_or old i d) (Contains-get_or old i d lt)).0, sized_t))) so_far.ascending;
+    ascending = All-set (AllPairs (λ a b. a < b)) lists k (old ++ t ∷ []) (all_pairs_push (λ a b. a < b) old t (All-get_or (AllPairs (λ a b. a < b)) lists k [] in_lists so_far.ascending) (λ i d lt. (so_far.within k (get_or old i d) (Contains-get_or old i d lt)).0)) so_far.ascending;
     once = λ u lt. elim (cases_eq u t) [
-      | inl e ↦ omega (arith, times_into u t k lists in_lists, one_same u t e, so_far.no_other u (omega (arith, e, sized_t)))
-      | inr ne ↦ omega (arith, times_into u t k lists in_lists, one_other u t ne, so_far.once u (omega (arith, ne, lt, sized_t, sized_more)))
+      | inl e ↦ omega (arith, times_into u t k lists in_lists, one_same u t e, so_far.no_other u (omega (arith, e)))
+      | inr ne ↦ omega (arith, times_into u t k lists in_lists, one_other u t ne, so_far.once u (omega (arith, ne, lt, sized_more)))
     ];
-    no_other = λ u le. omega (arith, times_into u t k lists in_lists, one_other u t (λ e. omega (arith, e, le, sized_more)), so_far.no_other u (omega (arith, le, sized_t, sized_more)));
+    no_other = λ u le. omega (arith, times_into u t k lists in_lists, one_other u t (λ e. omega (arith, e, le, sized_more)), so_far.no_other u (omega (arith, le, sized_more)));
     within = λ j u stands. elim (cases_eq j k) [
       | inl e ↦
           let here : get_or (with_pushed lists k t) j [] ≡ old ++ t ∷ [] = ap (λ (i : ℕ). get_or (with_pushed lists k t) i []) e ∙ get_or-set_same lists k (old ++ t ∷ []) [] in_lists in
           elim (Contains-push_cases old t u (subst (λ (xs : List ℕ). Contains xs u) here stands)) [
             | inl before ↦ let was = stood k u before in (was.0, was.1 ∙ sym e)
-            | inr same ↦ (omega (arith, sized_more, same), ap (λ (i : ℕ). get_or (take (t + 1) numbers) i 0) (sym same) ∙ (get_or-take (t + 1) numbers t 0 (omega arith) ∙ sym e))
+            | inr same ↦ (omega (arith, sized_more, same), get_or_push numbers k 0 u same ∙ sym e)
           ]
       | inr ne ↦ stood j u (subst (λ (xs : List ℕ). Contains xs u) (get_or-set_other lists k j (old ++ t ∷ []) [] ne) stands)
     ];
   }
+
+-- ---- settings of the numbers that are read
+
+pub none_into : (batch : List Transfer) (totals slots : List ℕ) (settings : ℕ) (lists : List (List ℕ)) → AreEmpty lists settings → AreReadInto batch totals slots settings 0 lists
+none_into batch totals slots settings lists empty = record {
+  numbers = [];
+  read = record { sized = refl; at = λ t x lt. absurd (omega arith) };
+  gathered = none_gathered lists settings empty;
+}
+
+pub read_into : (batch : List Transfer) (totals slots : List ℕ) (settings n number : ℕ) (x : Transfer) (lists : List (List ℕ)) → number < settings → AreReadInto batch totals slots settings n lists → slice_get batch n ≡ Some x → number ≡ slot totals slots x.initiator x.responder (pair_count (drop (n + 1) batch) x.initiator x.responder) → AreReadInto batch totals slots settings (n + 1) (with_pushed lists number n)
+read_into batch totals slots settings n number x lists low so_far here is = record {
+  numbers = so_far.numbers ++ number ∷ [];
+  read = read_more batch totals slots so_far.numbers n number x so_far.read here is;
+  gathered = subst (λ (t : ℕ). AreGathered (so_far.numbers ++ number ∷ []) settings (with_pushed lists number t)) so_far.read.sized (gathered_more so_far.numbers number settings lists low so_far.gathered);
+}
+
+-- a number that is read is below that of the settings
+pub low_number : (totals slots : List ℕ) (settings a b left number : ℕ) → AreSlotsBelow totals slots settings → a < MAX_MODULES → b < MAX_MODULES → 0 < left → left ≤ count_at totals a b → number ≡ slot totals slots a b (left - 1) → number < settings
+low_number totals slots settings a b left number below a_in b_in some few is = omega (arith, is, below a b (left - 1) a_in b_in (omega (arith, some, few)))
 
 -- ---- empty lists
 

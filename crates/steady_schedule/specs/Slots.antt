@@ -7,6 +7,7 @@ use Rattle.link_graph.specs.declared.link.End.{End}
 use Rattle.link_graph.specs.declared.link.End.TheVariants.{Zero, Three}
 use Rattle.link_graph.specs.declared.link.Link.{Link}
 use Rattle.link_graph.specs.Uses.{Uses, AreApart}
+use Rattle.steady_schedule.specs.Gathered.{AreGathered}
 use Rattle.steady_schedule.specs.Matchings.{partner}
 use Rattle.steady_schedule.specs.Waiting.{sum_below, pair_count, place_of, count_at, waiting}
 
@@ -140,6 +141,19 @@ pub record AreReadTo (batch : List Transfer) (totals slots numbers : List ℕ) (
       ≡ slot totals slots x.initiator x.responder
       (pair_count (drop (t + 1) batch) x.initiator x.responder)
 
+-- the same numbers, and settings that are made of them
+pub record AreReadInto (batch : List Transfer) (totals slots : List ℕ) (settings n : ℕ)
+    (lists : List (List ℕ)) : Type 0 where
+  pub numbers : List ℕ
+  pub read : AreReadTo batch totals slots numbers n
+  pub gathered : AreGathered numbers settings lists
+
+-- each slot of a pair has a number below that of the settings
+abbrev pub AreSlotsBelow : List ℕ → List ℕ → ℕ → Type 0
+AreSlotsBelow totals slots settings =
+    (u v i : ℕ) → u < MAX_MODULES → v < MAX_MODULES → i < count_at totals u v
+    → slot totals slots u v i < settings
+
 -- ---- the numbers of all transfers
 
 -- each transfer has a number below that of the settings, and two with the same one have no common link
@@ -187,3 +201,13 @@ HaveNeeds batch settings numbers =
     (d : ℕ) → d + 1 < settings
     → ((u v : ℕ) → JoinsAs batch numbers d u v ↔ JoinsAs batch numbers (d + 1) u v)
     ⊎ IsOverAs batch settings numbers d
+
+-- Settings that are made of proper numbers of all transfers. At most so many of these are heads, and
+-- pairs change at need.
+pub record AreNumberedSettings (batch : List Transfer) (settings most : ℕ)
+    (lists : List (List ℕ)) : Type 0 where
+  pub numbers : List ℕ
+  pub proper : AreProper batch settings numbers
+  pub heads : HaveHeads batch settings most numbers
+  pub needs : HaveNeeds batch settings numbers
+  pub gathered : AreGathered numbers settings lists

@@ -1,18 +1,20 @@
-//! The number of its setting for each transfer.
+//! The number of its setting for each transfer, and the settings that these make.
 
 ghost use Rattle.std.specs.Prelude.{◌≡◌, ◌≢◌, ℕ, ◌+◌, ◌-◌, ◌*◌, ◌<◌, ◌≤◌, All, Some, None, length, set, IfOk, slice_index};
 ghost use Rattle.batch.specs.Batches.{IsBatch};
 ghost use Rattle.batch.specs.declared.limits.TheConstants.{MAX_MODULES, MAX_TRANSFERS};
 ghost use Rattle.link_graph.specs.declared.link.Link.{Link};
 ghost use Rattle.link_graph.specs.Counts.{uses};
+ghost use Rattle.link_graph.specs.Schedules.{lists_of};
 ghost use Rattle.steady_schedule.specs.Matchings.{partner, AreBelow};
 ghost use Rattle.steady_schedule.specs.Bounds.{most_changes, IsReachedBy};
 ghost use Rattle.steady_schedule.specs.Potentials.{potential, IsReached};
 ghost use Rattle.steady_schedule.specs.Searches.{AreNear};
-ghost use Rattle.steady_schedule.specs.Slots.{slot, AreStarts, AreWithin, IsHeld, IsHeldAs, AreNumbered, AreNumberedFrom, KeepNumbers, AreFewSteps, AreWritten, AreReadTo, AreProper, HaveHeads, AreAtNeed, HaveNeeds};
+ghost use Rattle.steady_schedule.specs.Slots.{slot, AreStarts, AreWithin, IsHeld, IsHeldAs, AreNumbered, AreNumberedFrom, KeepNumbers, AreFewSteps, AreWritten, AreReadInto, AreSlotsBelow, AreAtNeed, AreNumberedSettings};
 ghost use Rattle.steady_schedule.specs.Steps.{AreTaken};
 ghost use Rattle.steady_schedule.specs.Waiting.{sum_below, place_of, count_at, AreCounted, HaveMost};
 
+use crate::gathering::{empty_lists, push_into};
 use crate::left::{Left, PAIRS};
 use crate::matching::part;
 use crate::stepping::{Matching, next_step};
@@ -187,39 +189,42 @@ fn next_number(
     slots[places.slot(zero, three, left[place])]
 }
 
-/// The numbers of all transfers, in order.
+/// The settings, in which each transfer stands by its number. Numbers of transfers ascend in each.
 fn read_all(
     alloc: Global,
     graph: &LinkGraph,
     places: &Places,
     slots: &[usize],
-) -> Result<Vec<usize>, AllocError>
+    settings: usize,
+) -> Result<Vec<Vec<usize>>, AllocError>
     requires batch { IsBatch graph.now }
     requires counted { AreCounted graph.now places.now.totals }
     requires room { length slots.now
         ≡ sum_below (MAX_MODULES * MAX_MODULES) (slice_index places.now.totals) }
-    ensures { IfOk result (λ numbers.
-        AreReadTo graph.now places.now.totals slots.now numbers.items (length graph.now)) }
+    requires below { AreSlotsBelow places.now.totals slots.now settings }
+    ensures { IfOk result (λ lists. AreReadInto graph.now places.now.totals slots.now settings
+        (length graph.now) (lists_of lists.items)) }
 {
+    let room = MAX_MODULES.min(2 * graph.len() / settings.max(1));
+    let mut lists = empty_lists(alloc, settings, room)?;
     let mut left = places.totals;
-    let mut numbers = Vec::with_capacity(alloc, graph.len())?;
     for t in 0..graph.len() {
         let (start, answer) = graph.ends_of(t);
         let number = next_number(&mut left, places, slots, start.module, answer.module);
-        numbers.push(number)?;
+        push_into(&mut lists, number, t)?;
     }
-    Ok(numbers)
+    Ok(lists)
 }
 
-/// The numbers of all transfers, by way of slots in which none is written yet.
-fn number_by(
+/// The settings of all transfers, by way of slots in which no number is written yet.
+fn settings_by(
     alloc: Global,
     graph: &LinkGraph,
     settings: usize,
     left: &mut Left,
     places: &Places,
     slots: &mut [usize],
-) -> Result<Vec<usize>, AllocError>
+) -> Result<Vec<Vec<usize>>, AllocError>
     requires batch { IsBatch graph.now }
     requires counted { AreCounted graph.now places.now.totals }
     requires whole { left.old.counts ≡ places.now.totals }
@@ -228,33 +233,28 @@ fn number_by(
     requires few { settings ≤ MAX_TRANSFERS }
     requires room { length slots.old
         ≡ sum_below (MAX_MODULES * MAX_MODULES) (slice_index places.now.totals) }
-    ensures proper { IfOk result (λ numbers. AreProper graph.now settings numbers.items) }
-    ensures heads { IfOk result (λ numbers.
-        HaveHeads graph.now settings (most_changes graph.now) numbers.items) }
-    ensures needs { IfOk result (λ numbers. HaveNeeds graph.now settings numbers.items) }
+    ensures { IfOk result (λ lists.
+        AreNumberedSettings graph.now settings (most_changes graph.now) (lists_of lists.items)) }
 {
     fill(left, places, slots, settings);
-    read_all(alloc, graph, places, slots)
+    read_all(alloc, graph, places, slots, settings)
 }
 
-/// The number of its setting for each transfer, where the busiest link has as many transfers as there
-/// are settings.
-pub(crate) fn number_all(
+/// So many settings of all transfers, where the busiest link has as many transfers.
+pub(crate) fn settings_of(
     alloc: Global,
     graph: &LinkGraph,
     settings: usize,
-) -> Result<Vec<usize>, AllocError>
+) -> Result<Vec<Vec<usize>>, AllocError>
     requires batch { IsBatch graph.now }
     requires most { (link : Link) → uses graph.now link ≤ settings }
     requires reached { IsReachedBy graph.now settings }
     requires few { settings ≤ MAX_TRANSFERS }
-    ensures proper { IfOk result (λ numbers. AreProper graph.now settings numbers.items) }
-    ensures heads { IfOk result (λ numbers.
-        HaveHeads graph.now settings (most_changes graph.now) numbers.items) }
-    ensures needs { IfOk result (λ numbers. HaveNeeds graph.now settings numbers.items) }
+    ensures { IfOk result (λ lists.
+        AreNumberedSettings graph.now settings (most_changes graph.now) (lists_of lists.items)) }
 {
     let mut left = Left::of(graph);
     let places = Places::of(&left.counts);
     let mut slots = vec![in alloc; 0; places.room]?;
-    number_by(alloc, graph, settings, &mut left, &places, &mut slots)
+    settings_by(alloc, graph, settings, &mut left, &places, &mut slots)
 }

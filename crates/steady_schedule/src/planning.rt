@@ -12,8 +12,7 @@ ghost use Rattle.steady_schedule.specs.Changes.{changes};
 ghost use Rattle.steady_schedule.specs.Needs.{ChangesAtNeed};
 ghost use Rattle.steady_schedule.specs.Plans.{NamesBusiest, IsSteady};
 
-use crate::gathering::gather;
-use crate::numbering::number_all;
+use crate::numbering::settings_of;
 use crate::plan::Steady;
 use batch::{Batch, MAX_TRANSFERS};
 use link_graph::{Certificate, LinkGraph, Schedule};
@@ -43,8 +42,7 @@ fn schedule_of(alloc: Global, graph: &LinkGraph, settings: usize) -> Result<Sche
         changes graph.now schedule ≤ most_changes graph.now) }
     ensures needs { IfOk result (ChangesAtNeed graph.now) }
 {
-    let numbers = number_all(alloc, graph, settings)?;
-    let lists = gather(alloc, settings, &numbers)?;
+    let lists = settings_of(alloc, graph, settings)?;
     Ok(Schedule::of(lists))
 }
 

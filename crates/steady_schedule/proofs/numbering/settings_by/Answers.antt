@@ -1,0 +1,36 @@
+use Rattle.std.proofs.Common.{◌≤◌, arith}
+use Rattle.std.proofs.lemmas.Result.{IfOk-weaker}
+use Rattle.steady_schedule.specs.Bounds.{most_changes}
+use Rattle.steady_schedule.specs.Potentials.{potential}
+use Rattle.steady_schedule.proofs.Ends.{modules_low}
+use Rattle.steady_schedule.proofs.Heads.{potential_most}
+use Rattle.steady_schedule.proofs.Needs.{needs_read}
+use Rattle.steady_schedule.proofs.Slots.{are_proper, heads_read, none_numbered, fewer_heads}
+use Rattle.steady_schedule.proofs.numbering.settings_by.Goals as goal
+
+pub fill-requires-clause-numbered : goal.fill-requires-clause-numbered
+fill-requires-clause-numbered c = rw c.requires.whole (none_numbered c.args.places.now.totals c.args.slots.now c.requires.room)
+
+pub read_all-requires-clause-below : goal.read_all-requires-clause-below
+read_all-requires-clause-below c u v i u_in v_in lt =
+    c.fill.ensures.numbered.below u v i (record { zero_in = u_in; three_in = v_in; done = omega (arith, c.fill.ensures.done u v u_in v_in); there = lt })
+
+pub returns : goal.returns
+returns c =
+    let batch = c.args.graph.now in
+    let totals = c.args.places.now.totals in
+    let counts = c.fill.new.left.counts in
+    let slots = c.fill.new.slots in
+    let settings = c.args.settings in
+    let done = c.fill.ensures.done in
+    let numbered = c.fill.ensures.numbered in
+    let low = modules_low batch c.requires.batch in
+    let most : potential totals c.args.left.now.counts settings ≤ most_changes batch = rw c.requires.whole (potential_most batch totals settings c.requires.batch c.requires.counted) in
+    IfOk-weaker c.read_all.result _ _
+    (λ lists into. record {
+      numbers = into.numbers;
+      proper = are_proper batch totals counts slots into.numbers settings c.requires.counted done numbered into.read low;
+      heads = fewer_heads batch settings _ (most_changes batch) into.numbers most (heads_read batch totals counts slots into.numbers settings c.requires.counted done numbered into.read low 0 _ c.fill.ensures.steps);
+      needs = needs_read batch totals counts slots into.numbers settings c.requires.counted done numbered into.read low c.fill.ensures.needs;
+      gathered = into.gathered;
+    }) c.read_all.ensures
