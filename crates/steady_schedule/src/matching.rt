@@ -38,7 +38,8 @@ pub(crate) fn part(of: &mut Partners, back: &mut Partners, x: usize, y: usize)
     back[y] = None;
 }
 
-/// Frees the link `y`, where its partner isn't full, or finds another one among those that are unseen.
+/// Frees the link `y`, where its partner isn't full, or finds another one among those that are
+/// unseen.
 #[cycle(augment)]
 fn make_room(
     y: usize,
@@ -73,8 +74,8 @@ fn make_room(
     false
 }
 
-/// Finds a partner for the link `x`, which has none, among those near it that are unseen. A partner is
-/// free, or its own partner isn't full and goes without, or finds another one.
+/// Finds a partner for the link `x`, which has none, among those near it that are unseen. A partner
+/// is free, or its own partner isn't full and goes without, or finds another one.
 #[cycle(augment)]
 pub(crate) fn augment(
     x: usize,

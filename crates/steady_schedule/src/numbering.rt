@@ -131,7 +131,8 @@ fn hold(
         → settings ≤ count_at left.old.counts x y }
     requires few { first + settings ≤ MAX_TRANSFERS }
     requires numbered { AreNumbered places.now.totals left.old.counts slots.old first }
-    ensures taken { AreTaken matching.old.zero settings MAX_MODULES left.old.counts left.new.counts }
+    ensures taken { AreTaken matching.old.zero settings MAX_MODULES
+        left.old.counts left.new.counts }
     ensures near { AreNear left.new.zero.near matching.new.zero }
     ensures numbered { AreNumberedFrom matching.old.zero first MAX_MODULES
         places.now.totals left.new.counts slots.new (first + settings) }
@@ -180,7 +181,8 @@ fn next_number(
     requires there { count_at left.old zero three ≤ count_at places.now.totals zero three }
     requires room { length slots.now
         ≡ sum_below (MAX_MODULES * MAX_MODULES) (slice_index places.now.totals) }
-    ensures left { left.new ≡ set left.old (place_of zero three) (count_at left.old zero three - 1) }
+    ensures left { left.new
+        ≡ set left.old (place_of zero three) (count_at left.old zero three - 1) }
     ensures number { result
         ≡ slot places.now.totals slots.now zero three (count_at left.old zero three - 1) }
 {

@@ -79,8 +79,8 @@ impl Steady {
         count_changes(&self.graph, &self.schedule)
     }
 
-    /// The first of the links that have the most partners, and how many these are. Any schedule of the
-    /// batch changes the switch at least so often, by
+    /// The first of the links that have the most partners, and how many these are. Any schedule of
+    /// the batch changes the switch at least so often, by
     /// [`partners_need_changes`](crate::laws::partners_need_changes). An empty batch has none. Each
     /// call looks for it, in time that grows with the number of transfers.
     pub fn demanding(&self) -> Option<(Link, usize)>

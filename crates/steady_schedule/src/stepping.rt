@@ -54,9 +54,9 @@ fn full(uses: &[u32; MAX_MODULES], most: usize, modules: usize) -> u32
 
 /// Finds a partner for a link that is full, where it has none.
 ///
-/// By counting there is one. Were the search in vain, all links near it would be seen, each of them the
-/// partner of a full link all of whose links are seen. So these full links, one more than those that are
-/// seen, would have more transfers than those may have.
+/// By counting there is one. Were the search in vain, all links near it would be seen, each of them
+/// the partner of a full link all of whose links are seen. So these full links, one more than those
+/// that are seen, would have more transfers than those may have.
 fn cover_one(x: usize, side: &Side, most: usize, full: u32, of: &mut Partners, back: &mut Partners)
     requires x_in { x < MAX_MODULES }
     requires some { 0 < most }
@@ -175,8 +175,8 @@ fn join_free(left: &Left, matching: &mut Matching, modules: usize)
     }
 }
 
-/// For how many settings a link 0 can be as it is: no longer than its pair has transfers, or so long that
-/// it has no more of them than there are settings left.
+/// For how many settings a link 0 can be as it is: no longer than its pair has transfers, or so
+/// long that it has no more of them than there are settings left.
 fn zero_room(left: &Left, matching: &Matching, most: usize, module: usize) -> usize
     requires low { «module» < MAX_MODULES }
     requires most { HaveMost left.now.counts most }
