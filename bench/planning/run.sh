@@ -28,7 +28,7 @@
 #
 # With --check each ratio to plain Rust may be as large as `greatest` says, and what `switch` prints of one link may cost so
 # many times as much as of a quarter of the transfers as `greatest_growth` says. A steady plan may cost so many times as much
-# as a plan of the same batch as `greatest_steady` says, which is at most once, and four times the transfers no more than
+# as a plan of the same batch as `greatest_steady` says, and four times the transfers no more than
 # four times as much. Its changes and bytes may be as many as `most_changes` and `most_bytes` say, where
 # these name the batch. Else the status is 1. Where valgrind or rustc is missing, --check says so and counts nothing.
 #
@@ -58,13 +58,12 @@ declare -A greatest=(
     [three_by_three]=1.08 [four_by_two]=1.08 [sixteen_by_three]=1.07 [thirty_two_by_two]=1.09
 )
 greatest_growth=5
-# The same margin, but none costs more than the plan of its batch: where each transfer has a setting of its own, both make and
-# write as many settings, and that is most of the work
+# About an eighth more than was estimated, since these were counted without the command line. Where each transfer has a
+# setting of its own, both make and write as many settings, and that is most of the work
 declare -A greatest_steady=(
-    [scrambled]=0.52 [scrambled-1024]=0.70 [one_link]=1 [one_link-1024]=1 [odd]=0.62 [star]=1 [two_by_two]=0.54 [part]=1 [wide]=0.59
-    [three_by_three]=0.36 [four_by_two]=0.43 [sixteen_by_three]=0.39 [thirty_two_by_two]=0.46
-    [all_to_all]=0.55 [in_rounds]=0.55 [halo]=0.82 [random_16]=0.50 [random_32]=0.60 [random_256]=0.96 [sixty_pairs]=0.53 [gather]=1
-    [butterfly]=0.64
+    [scrambled]=0.58 [scrambled-1024]=0.77 [one_link]=1.08 [one_link-1024]=1.08 [odd]=0.69 [star]=1.08 [two_by_two]=0.61 [part]=1.08
+    [wide]=0.66 [three_by_three]=0.43 [four_by_two]=0.50 [sixteen_by_three]=0.46 [thirty_two_by_two]=0.53 [all_to_all]=0.62
+    [in_rounds]=0.62 [halo]=0.90 [random_16]=0.57 [random_32]=0.67 [random_256]=1.03 [sixty_pairs]=0.60 [gather]=1.06 [butterfly]=0.72
 )
 greatest_steady_growth=4
 
