@@ -1,8 +1,8 @@
 #!/usr/bin/env bash
 # Tries the built programs: the start script, the rows of each command, what the documents show, live
-# clients, the calls from C and Python, what is installed, the instructions that planning, runs and
-# sessions take, and hostile use. What isn't built yet is proved and built first. It also looks for
-# names with several meanings.
+# clients, switches that stand somewhere else, the calls from C and Python, what is installed, the
+# instructions that planning, runs and sessions take, and hostile use. What isn't built yet is proved
+# and built first. It also looks for names with several meanings.
 set -eu
 cd "$(dirname "$(readlink -f "${BASH_SOURCE[0]}")")/.."
 tools/start/run.sh
@@ -12,6 +12,7 @@ tools/python/run.py
 tools/texts/names.py
 tools/texts/run.py
 tools/hosts/run.sh
+tools/ends/run.sh
 bench/planning/run.sh --check
 bench/run/growth.sh --check
 bench/run/apply.sh --check

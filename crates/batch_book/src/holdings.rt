@@ -111,6 +111,22 @@ impl Holdings {
         }
     }
 
+    /// Gives the rack out of what is held.
+    pub fn into_rack(self) -> Rack
+        ensures { result ≡ self.store }
+    {
+        let Holdings {
+            rack,
+            held: _,
+            given: _,
+            runs: _,
+        } = self;
+        match rack {
+            Some(rack) => rack,
+            None => unreachable!(),
+        }
+    }
+
     /// How many runs were given a number.
     pub fn runs(&self) -> usize
         ensures { result ≡ self.now.runs }

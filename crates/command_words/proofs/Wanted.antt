@@ -5,11 +5,12 @@ use Rattle.clap.specs.Words.{Row, Text, all_of, first_of}
 use Rattle.command_words.specs.declared.commands.CommandName.{CommandName}
 use Rattle.command_words.specs.declared.commands.CommandName.TheVariants as name
 use Rattle.command_words.specs.declared.jobs.Job.{Job}
-use Rattle.command_words.specs.declared.jobs.Job.TheVariants.{Plan, Check, Draw, Switch, Direct, Apply, Run, Serve, Host, Talk}
+use Rattle.command_words.specs.declared.jobs.Job.TheVariants.{Plan, Check, Draw, Switch, C004, Direct, Apply, Run, Serve, Host, Talk}
 use Rattle.command_words.specs.declared.jobs.Request.{Request}
+use Rattle.command_words.specs.declared.jobs.ScheduleSource.{ScheduleSource}
 use Rattle.command_words.specs.declared.jobs.ScheduleSource.TheVariants as source
 use Rattle.command_words.specs.Program.{word_of}
-use Rattle.command_words.specs.Jobs.{HasJob, HasSome, IsJob, IsRead, IsRequest, IsWithinLimits, HasWanted, AreClientNames, MayBeDone, NameInputOnce, files_of, clients_of, input_name, name_of}
+use Rattle.command_words.specs.Jobs.{HasJob, HasSome, HasSource, IsApart, IsJob, IsRead, IsRequest, IsWithinLimits, HasWanted, AreClientNames, MayBeDone, NameInputOnce, clients_of, files_of, input_name, name_of, output_of, schedule_files}
 use Rattle.command_words.specs.declared.reading.Lack.{Lack}
 use Rattle.command_words.specs.declared.reading.Lack.TheVariants.{Memory}
 use Rattle.command_words.proofs.CommandNames.{same_word}
@@ -25,12 +26,13 @@ wanted rows (Plan file planning) has = ((file, has.0), (planning, has.1))
 wanted rows (Check batch schedule) has = ((batch, has.0), (schedule, has.1))
 wanted rows (Draw batch schedule settings) has = ((batch, has.0), (schedule, has.1))
 wanted rows (Switch batch source) has = ((batch, has.0), (source, has.1))
+wanted rows C004 has = tt
 wanted rows (Direct moves) has = (moves, has)
 wanted rows (Apply shape batch image workers) has = ((shape, has.0), (batch, has.1), (image, has.2), (workers, has.3))
 wanted rows (Run shape batch image workers) has = ((shape, has.0), (batch, has.1), (workers, has.3))
-wanted rows (Serve shape scripts image workers) has = ((shape, has.0), (scripts, has.1), (workers, has.3))
-wanted rows (Host shape clients image workers) has = ((shape, has.0), (clients, has.1), (workers, has.3))
-wanted rows (Talk shape image) has = (shape, has.0)
+wanted rows (Serve rack scripts workers) has = ((rack, has.0), (scripts, has.1), (workers, has.2))
+wanted rows (Host rack clients workers) has = ((rack, has.0), (clients, has.1), (workers, has.2))
+wanted rows (Talk rack) has = (rack, has)
 
 -- and so of the command that the word calls
 pub wanted_by : (by : CommandName) (word : Text) (rows : List Row) (job : Job) → word_of by ≡ word → IsJob word rows job → HasWanted by rows
@@ -43,8 +45,8 @@ within None request is = absurd is
 within (Some p) request is = go request.job is.job.1
   where
     go : (job : Job) → HasJob p.1 job → IsWithinLimits job
-    go (Serve shape scripts image workers) has = has.1.1
-    go (Host shape clients image workers) has = has.1.1
+    go (Serve rack scripts workers) has = has.1.1
+    go (Host rack clients workers) has = has.1.1
     go job has = tt
 
 -- the text of this word
@@ -57,6 +59,7 @@ files_in name.Plan rows = text_in (codes "FILE") rows ∷ []
 files_in name.Check rows = text_in (codes "BATCH") rows ∷ text_in (codes "SCHEDULE") rows ∷ []
 files_in name.Draw rows = text_in (codes "BATCH") rows ∷ text_in (codes "SCHEDULE") rows ∷ []
 files_in name.Switch rows = text_in (codes "BATCH") rows ∷ option_to_list (first_of (codes "schedule") rows)
+files_in name.C004 rows = input_name ∷ []
 files_in name.Direct rows = text_in (codes "MOVES") rows ∷ []
 files_in name.Apply rows = text_in (codes "BATCH") rows ∷ text_in (codes "IMAGE") rows ∷ []
 files_in name.Run rows = option_to_list (first_of (codes "image") rows) ++ text_in (codes "BATCH") rows ∷ []
@@ -64,19 +67,36 @@ files_in name.Serve rows = option_to_list (first_of (codes "image") rows) ++ unw
 files_in name.Host rows = option_to_list (first_of (codes "image") rows)
 files_in name.Talk rows = option_to_list (first_of (codes "image") rows) ++ input_name ∷ []
 
+scheduled : (rows : List Row) (source : ScheduleSource) → HasSource rows source → schedule_files source ≡ option_to_list (first_of (codes "schedule") rows)
+scheduled rows (source.Plan workers) has = rw has.0 refl
+scheduled rows source.Steady has = rw has.0 refl
+scheduled rows (source.File schedule) has = rw has.0 refl
+
 files_are : (rows : List Row) (job : Job) → HasJob rows job → files_of job ≡ files_in (name_of job) rows
 files_are rows (Plan file planning) has = rw has.0 refl
 files_are rows (Check batch schedule) has = rw (has.0, has.1) refl
 files_are rows (Draw batch schedule settings) has = rw (has.0, has.1) refl
-files_are rows (Switch batch (source.Plan workers)) has = rw (has.0, has.1.0) refl
-files_are rows (Switch batch source.Steady) has = rw (has.0, has.1.0) refl
-files_are rows (Switch batch (source.File schedule)) has = rw (has.0, has.1.0) refl
+files_are rows (Switch batch source) has = rw (has.0, scheduled rows source has.1) refl
+files_are rows C004 has = refl
 files_are rows (Direct moves) has = rw has refl
 files_are rows (Apply shape batch image workers) has = rw (has.1, has.2) refl
 files_are rows (Run shape batch image workers) has = rw (has.1, has.2) refl
-files_are rows (Serve shape scripts image workers) has = rw (has.1.0, has.2) refl
-files_are rows (Host shape clients image workers) has = rw has.2 refl
-files_are rows (Talk shape image) has = rw has.1 refl
+files_are rows (Serve rack scripts workers) has = rw (has.0.image, has.1.0) refl
+files_are rows (Host rack clients workers) has = rw has.0.image refl
+files_are rows (Talk rack) has = rw has.image refl
+
+-- where the image of a command's job goes
+abbrev output_in : CommandName → List Row → Option Text
+output_in name.Serve rows = first_of (codes "image-out") rows
+output_in name.Host rows = first_of (codes "image-out") rows
+output_in name.Talk rows = first_of (codes "image-out") rows
+output_in other rows = None
+
+output_is : (rows : List Row) (job : Job) → HasJob rows job → output_of job ≡ output_in (name_of job) rows
+output_is rows (Serve rack scripts workers) has = sym has.0.out
+output_is rows (Host rack clients workers) has = sym has.0.out
+output_is rows (Talk rack) has = sym has.out
+output_is rows job has = refl
 
 -- the names of the clients of a command
 abbrev clients_in : CommandName → List Row → List Text
@@ -84,7 +104,7 @@ clients_in name.Host rows = unwrap_or (all_of (codes "CLIENT") rows) []
 clients_in other rows = []
 
 clients_are : (rows : List Row) (job : Job) → HasJob rows job → clients_of job ≡ clients_in (name_of job) rows
-clients_are rows (Host shape clients image workers) has = rw has.1.0 refl
+clients_are rows (Host rack clients workers) has = rw has.1.0 refl
 clients_are rows job has = refl
 
 -- two jobs that the same words hold have one command, so the same files and clients: both may be done, or neither
@@ -93,5 +113,7 @@ same_done None a b one other done = absurd one
 same_done (Some p) a b one other done =
     let same = same_word (name_of a.job) (name_of b.job) (sym one.job.0 ∙ other.job.0) in
     let files = files_are p.1 a.job one.job.1 ∙ ap (λ (n : CommandName). files_in n p.1) same ∙ sym (files_are p.1 b.job other.job.1) in
+    let output = output_is p.1 a.job one.job.1 ∙ ap (λ (n : CommandName). output_in n p.1) same ∙ sym (output_is p.1 b.job other.job.1) in
     let clients = clients_are p.1 a.job one.job.1 ∙ ap (λ (n : CommandName). clients_in n p.1) same ∙ sym (clients_are p.1 b.job other.job.1) in
-    record { input = subst NameInputOnce files done.input; clients = subst AreClientNames clients done.clients }
+    let out = subst (λ (o : Option Text). IsApart o (files_of b.job)) output (subst (IsApart (output_of a.job)) files done.output) in
+    record { input = subst NameInputOnce files done.input; output = out; clients = subst AreClientNames clients done.clients }

@@ -1,5 +1,5 @@
 -- The job that the words of the command line name.
-use Rattle.std.specs.Prelude.{◌≡◌, ◌≢◌, ◌⊎◌, ◌↔◌, ℕ, ◌≤◌, List, [], ◌∷◌, ◌++◌, Some, None, String, codes, length, map, find, string_bytes, Option, All, AllPairs, IsTrue, option_and_then, option_to_list, MatchOption, Result, Ok, Err, ⊤}
+use Rattle.std.specs.Prelude.{◌≡◌, ◌≢◌, ◌⊎◌, ◌↔◌, ℕ, ◌≤◌, List, [], ◌∷◌, ◌++◌, Some, None, String, codes, length, map, find, string_bytes, Option, All, AllPairs, IsTrue, IfSome, option_and_then, option_to_list, MatchOption, Result, Ok, Err, ⊤}
 use Rattle.std.specs.Str.{bytes_eq}
 use Rattle.std.specs.Str.Parse.{IsNumeral, digits_value, without_leading_plus}
 use Rattle.clap.specs.Words.{Row, Text, Kinds, IsAmong, all_of, fault_of, first_of, found_of, one_of, rows_of, subcommand_of, subcommand_rows_of}
@@ -11,12 +11,13 @@ use Rattle.clap.specs.declared.error.kind.ErrorKind.TheVariants.{DisplayHelp, Di
 use Rattle.exchange_limits.specs.declared.limits.TheConstants.{MAX_WORKERS}
 use Rattle.command_words.specs.declared.limits.TheConstants.{MAX_CLIENTS}
 use Rattle.command_words.specs.declared.jobs.Job.{Job}
-use Rattle.command_words.specs.declared.jobs.Job.TheVariants.{Plan, Check, Draw, Switch, Direct, Apply, Run, Serve, Host, Talk}
+use Rattle.command_words.specs.declared.jobs.Job.TheVariants.{Plan, Check, Draw, Switch, C004, Direct, Apply, Run, Serve, Host, Talk}
 use Rattle.command_words.specs.declared.jobs.Planning.{Planning}
 use Rattle.command_words.specs.declared.jobs.Planning.TheVariants as planning
 use Rattle.command_words.specs.declared.jobs.Request.{Request}
 use Rattle.command_words.specs.declared.jobs.ScheduleSource.{ScheduleSource}
 use Rattle.command_words.specs.declared.jobs.ScheduleSource.TheVariants as source
+use Rattle.command_words.specs.declared.jobs.SharedRack.{SharedRack}
 use Rattle.command_words.specs.declared.jobs.WordsFault.{WordsFault}
 use Rattle.command_words.specs.declared.jobs.WordsFault.TheVariants.{Clap, NoMemory}
 use Rattle.command_words.specs.declared.reading.Lack.{Lack}
@@ -74,18 +75,25 @@ HasSource rows (source.File file) =
     HasOption (codes "schedule") rows (Some file) × (IsGiven (codes "steady") rows → ⊥)
     × (IsGiven (codes "workers") rows → ⊥)
 
+-- the rack of an exchange: its shape, the image with which it begins, and where its image goes
+pub record HasRack (rows : List Row) (rack : SharedRack) : Type 0 where
+  pub shape : HasText (codes "SHAPE") rows rack.shape
+  pub image : HasOption (codes "image") rows rack.image
+  pub out : HasOption (codes "image-out") rows rack.image_out
+
 -- the command of a job
 abbrev pub name_of : Job → CommandName
 name_of (Plan file planning) = name.Plan
 name_of (Check batch schedule) = name.Check
 name_of (Draw batch schedule settings) = name.Draw
 name_of (Switch batch source) = name.Switch
+name_of C004 = name.C004
 name_of (Direct moves) = name.Direct
 name_of (Apply shape batch image workers) = name.Apply
 name_of (Run shape batch image workers) = name.Run
-name_of (Serve shape scripts image workers) = name.Serve
-name_of (Host shape clients image workers) = name.Host
-name_of (Talk shape image) = name.Talk
+name_of (Serve rack scripts workers) = name.Serve
+name_of (Host rack clients workers) = name.Host
+name_of (Talk rack) = name.Talk
 
 -- what the words and options of its command say of a job
 abbrev pub HasJob : List Row → Job → Type 0
@@ -96,6 +104,7 @@ HasJob rows (Draw batch schedule settings) =
     HasText (codes "BATCH") rows batch × HasText (codes "SCHEDULE") rows schedule
     × HasOption (codes "settings") rows settings
 HasJob rows (Switch batch source) = HasText (codes "BATCH") rows batch × HasSource rows source
+HasJob rows C004 = ⊤
 HasJob rows (Direct moves) = HasText (codes "MOVES") rows moves
 HasJob rows (Apply shape batch image workers) =
     HasText (codes "SHAPE") rows shape × HasText (codes "BATCH") rows batch
@@ -103,14 +112,11 @@ HasJob rows (Apply shape batch image workers) =
 HasJob rows (Run shape batch image workers) =
     HasText (codes "SHAPE") rows shape × HasText (codes "BATCH") rows batch
     × HasOption (codes "image") rows image × HasWorkers rows workers
-HasJob rows (Serve shape scripts image workers) =
-    HasText (codes "SHAPE") rows shape × HasServed (codes "SCRIPT") rows scripts
-    × HasOption (codes "image") rows image × HasWorkers rows workers
-HasJob rows (Host shape clients image workers) =
-    HasText (codes "SHAPE") rows shape × HasServed (codes "CLIENT") rows clients
-    × HasOption (codes "image") rows image × HasWorkers rows workers
-HasJob rows (Talk shape image) =
-    HasText (codes "SHAPE") rows shape × HasOption (codes "image") rows image
+HasJob rows (Serve rack scripts workers) =
+    HasRack rows rack × HasServed (codes "SCRIPT") rows scripts × HasWorkers rows workers
+HasJob rows (Host rack clients workers) =
+    HasRack rows rack × HasServed (codes "CLIENT") rows clients × HasWorkers rows workers
+HasJob rows (Talk rack) = HasRack rows rack
 
 -- the job of the command that this word calls
 abbrev pub IsJob : Text → List Row → Job → Type 0
@@ -144,36 +150,59 @@ IsTaken words = faults_of words ≡ []
 
 -- as many clients, or scripts, as a job has may be served
 abbrev pub IsWithinLimits : Job → Type 0
-IsWithinLimits (Serve shape scripts image workers) = CanBeServed scripts
-IsWithinLimits (Host shape clients image workers) = CanBeServed clients
+IsWithinLimits (Serve rack scripts workers) = CanBeServed scripts
+IsWithinLimits (Host rack clients workers) = CanBeServed clients
 IsWithinLimits job = ⊤
 
 -- the name of a file that stands for standard input
 abbrev pub input_name : Text
 input_name = codes "-"
 
+-- the file that has a schedule, where one has
+abbrev pub schedule_files : ScheduleSource → List Text
+schedule_files (source.File schedule) = schedule ∷ []
+schedule_files source = []
+
 -- the names of the files that a job reads itself, in this order; the client of `talk` is standard
--- input
+-- input, and so is the link of `c004`
 abbrev pub files_of : Job → List Text
 files_of (Plan file planning) = file ∷ []
 files_of (Check batch schedule) = batch ∷ schedule ∷ []
 files_of (Draw batch schedule settings) = batch ∷ schedule ∷ []
-files_of (Switch batch (source.File schedule)) = batch ∷ schedule ∷ []
-files_of (Switch batch source) = batch ∷ []
+files_of (Switch batch source) = batch ∷ schedule_files source
+files_of C004 = input_name ∷ []
 files_of (Direct moves) = moves ∷ []
 files_of (Apply shape batch image workers) = batch ∷ image ∷ []
 files_of (Run shape batch image workers) = option_to_list image ++ batch ∷ []
-files_of (Serve shape scripts image workers) = option_to_list image ++ scripts
-files_of (Host shape clients image workers) = option_to_list image
-files_of (Talk shape image) = option_to_list image ++ input_name ∷ []
+files_of (Serve rack scripts workers) = option_to_list rack.image ++ scripts
+files_of (Host rack clients workers) = option_to_list rack.image
+files_of (Talk rack) = option_to_list rack.image ++ input_name ∷ []
 
 -- no two of these names stand for standard input
 abbrev pub NameInputOnce : List Text → Type 0
 NameInputOnce names = AllPairs (λ name later. name ≡ input_name → later ≢ input_name) names
 
+-- the file to which the image goes that a job leaves, where it goes to one
+abbrev pub output_of : Job → Option Text
+output_of (Serve rack scripts workers) = rack.image_out
+output_of (Host rack clients workers) = rack.image_out
+output_of (Talk rack) = rack.image_out
+output_of job = None
+
+-- a file that is written is none of these, and isn't `-`
+abbrev pub IsOther : List Text → Text → Type 0
+IsOther names out = (out ≢ input_name) × All (λ name. name ≢ out) names
+
+abbrev pub IsApart : Option Text → List Text → Type 0
+IsApart out names = IfSome out (IsOther names)
+
+-- what a job writes goes to no file that it reads
+abbrev pub KeepsInputs : Job → Type 0
+KeepsInputs job = IsApart (output_of job) (files_of job)
+
 -- the names of a job's live clients; `host` has some
 abbrev pub clients_of : Job → List Text
-clients_of (Host shape clients image workers) = clients
+clients_of (Host rack clients workers) = clients
 clients_of job = []
 
 -- the byte that ends a line
@@ -189,9 +218,11 @@ pub record AreClientNames (names : List Text) : Type 0 where
   pub each : All IsClientName names
   pub apart : AllPairs (λ name later. name ≢ later) names
 
--- a job may be done: one of its files at most is standard input, and its clients can be told apart
+-- a job may be done: one of its files at most is standard input, what it writes goes to no file that
+-- it reads, and its clients can be told apart
 pub record MayBeDone (job : Job) : Type 0 where
   pub input : NameInputOnce (files_of job)
+  pub output : KeepsInputs job
   pub clients : AreClientNames (clients_of job)
 
 -- the words ask for this: they fit the grammar, and hold a job that may be done
@@ -243,6 +274,7 @@ HasWanted name.Check rows =
 HasWanted name.Draw rows =
     HasSome (HasText (codes "BATCH") rows) × HasSome (HasText (codes "SCHEDULE") rows)
 HasWanted name.Switch rows = HasSome (HasText (codes "BATCH") rows) × HasSome (HasSource rows)
+HasWanted name.C004 rows = ⊤
 HasWanted name.Direct rows = HasSome (HasText (codes "MOVES") rows)
 HasWanted name.Apply rows =
     HasSome (HasText (codes "SHAPE") rows) × HasSome (HasText (codes "BATCH") rows)
@@ -251,12 +283,10 @@ HasWanted name.Run rows =
     HasSome (HasText (codes "SHAPE") rows) × HasSome (HasText (codes "BATCH") rows)
     × HasSome (HasWorkers rows)
 HasWanted name.Serve rows =
-    HasSome (HasText (codes "SHAPE") rows) × HasSome (HasServed (codes "SCRIPT") rows)
-    × HasSome (HasWorkers rows)
+    HasSome (HasRack rows) × HasSome (HasServed (codes "SCRIPT") rows) × HasSome (HasWorkers rows)
 HasWanted name.Host rows =
-    HasSome (HasText (codes "SHAPE") rows) × HasSome (HasServed (codes "CLIENT") rows)
-    × HasSome (HasWorkers rows)
-HasWanted name.Talk rows = HasSome (HasText (codes "SHAPE") rows)
+    HasSome (HasRack rows) × HasSome (HasServed (codes "CLIENT") rows) × HasSome (HasWorkers rows)
+HasWanted name.Talk rows = HasSome (HasRack rows)
 
 -- what is read of the rows: something of which this is so; or what is lacking, which is memory where
 -- there is something to read

@@ -9,9 +9,9 @@ use Rattle.clap.specs.declared.builder.action.ArgAction.TheVariants.{SetTrue}
 use Rattle.clap.specs.declared.builder.value_parser.ValueParser.TheVariants as parser
 use Rattle.exchange_limits.specs.declared.limits.TheConstants.{MAX_WORKERS}
 use Rattle.command_words.specs.declared.commands.Argument.{Argument}
-use Rattle.command_words.specs.declared.commands.Argument.TheVariants.{Shape, File, Batch, Schedule, Moves, Image, Scripts, Clients, ImageOption, Settings, ScheduleOption, Steady, Workers, Quiet}
+use Rattle.command_words.specs.declared.commands.Argument.TheVariants.{Shape, File, Batch, Schedule, Moves, Image, Scripts, Clients, ImageOption, ImageOut, Settings, ScheduleOption, Steady, Workers, Quiet}
 use Rattle.command_words.specs.declared.commands.CommandName.{CommandName}
-use Rattle.command_words.specs.declared.commands.CommandName.TheVariants.{Plan, Check, Draw, Switch, Direct, Apply, Run, Serve, Host, Talk}
+use Rattle.command_words.specs.declared.commands.CommandName.TheVariants.{Plan, Check, Draw, Switch, C004, Direct, Apply, Run, Serve, Host, Talk}
 use Rattle.command_words.specs.declared.limits.TheConstants.{MAX_CLIENTS}
 
 -- ---- what a command takes
@@ -53,6 +53,7 @@ rule_for Image = word (codes "IMAGE")
 rule_for Scripts = words (codes "SCRIPT")
 rule_for Clients = words (codes "CLIENT")
 rule_for ImageOption = option (codes "image")
+rule_for ImageOut = option (codes "image-out")
 rule_for Settings = option (codes "settings")
 rule_for ScheduleOption = option (codes "schedule")
 rule_for Steady = flag (codes "steady")
@@ -64,7 +65,7 @@ rule_for Quiet = flag (codes "quiet")
 -- all of them, in their order
 abbrev pub commands : List CommandName
 commands =
-    Plan ∷ Check ∷ Draw ∷ Switch ∷ Direct ∷ Apply ∷ Run ∷ Serve ∷ Host ∷ Talk ∷ []
+    Plan ∷ Check ∷ Draw ∷ Switch ∷ C004 ∷ Direct ∷ Apply ∷ Run ∷ Serve ∷ Host ∷ Talk ∷ []
 
 -- the word that calls a command, and what it takes, in this order
 abbrev pub sheet_of : CommandName → List ℕ × List Argument
@@ -72,12 +73,13 @@ sheet_of Plan = (codes "plan", File ∷ Steady ∷ Workers ∷ Quiet ∷ [])
 sheet_of Check = (codes "check", Batch ∷ Schedule ∷ Quiet ∷ [])
 sheet_of Draw = (codes "draw", Batch ∷ Schedule ∷ Settings ∷ Quiet ∷ [])
 sheet_of Switch = (codes "switch", Batch ∷ ScheduleOption ∷ Steady ∷ Workers ∷ Quiet ∷ [])
+sheet_of C004 = (codes "c004", Quiet ∷ [])
 sheet_of Direct = (codes "direct", Moves ∷ Quiet ∷ [])
 sheet_of Apply = (codes "apply", Shape ∷ Batch ∷ Image ∷ Workers ∷ Quiet ∷ [])
 sheet_of Run = (codes "run", Shape ∷ Batch ∷ ImageOption ∷ Workers ∷ Quiet ∷ [])
-sheet_of Serve = (codes "serve", Shape ∷ Scripts ∷ ImageOption ∷ Workers ∷ Quiet ∷ [])
-sheet_of Host = (codes "host", Shape ∷ Clients ∷ ImageOption ∷ Workers ∷ Quiet ∷ [])
-sheet_of Talk = (codes "talk", Shape ∷ ImageOption ∷ Quiet ∷ [])
+sheet_of Serve = (codes "serve", Shape ∷ Scripts ∷ ImageOption ∷ ImageOut ∷ Workers ∷ Quiet ∷ [])
+sheet_of Host = (codes "host", Shape ∷ Clients ∷ ImageOption ∷ ImageOut ∷ Workers ∷ Quiet ∷ [])
+sheet_of Talk = (codes "talk", Shape ∷ ImageOption ∷ ImageOut ∷ Quiet ∷ [])
 
 abbrev pub word_of : CommandName → List ℕ
 word_of name = (sheet_of name).0

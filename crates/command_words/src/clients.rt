@@ -15,7 +15,7 @@ fn is_client_name(name: &Text) -> bool
 }
 
 /// Whether none of these is the name.
-fn is_none_of(name: &Text, names: &[Text]) -> bool
+pub(crate) fn is_none_of(name: &Text, names: &[Text]) -> bool
     ensures { IsTrue result ↔ All (λ other. other ≢ name.now) names.now }
 {
     for other in names {

@@ -11,6 +11,7 @@ pub(crate) enum CommandName {
     Check,
     Draw,
     Switch,
+    C004,
     Direct,
     Apply,
     Run,
@@ -40,6 +41,8 @@ pub(crate) enum Argument {
     Clients,
     /// `--image FILE`.
     ImageOption,
+    /// `--image-out FILE`.
+    ImageOut,
     /// `--settings A..B`.
     Settings,
     /// `--schedule FILE`.
@@ -54,11 +57,12 @@ pub(crate) enum Argument {
 
 impl CommandName {
     /// All commands, in the order in which the program's help lists them.
-    pub(crate) const ALL: [CommandName; 10] = [
+    pub(crate) const ALL: [CommandName; 11] = [
         CommandName::Plan,
         CommandName::Check,
         CommandName::Draw,
         CommandName::Switch,
+        CommandName::C004,
         CommandName::Direct,
         CommandName::Apply,
         CommandName::Run,
@@ -86,20 +90,27 @@ impl CommandName {
         ensures arguments { result.1.now ≡ arguments_of self }
     {
         use Argument::{
-            Batch, Clients, File, Image, ImageOption, Moves, Quiet, Schedule, ScheduleOption,
-            Scripts, Settings, Shape, Steady, Workers,
+            Batch, Clients, File, Image, ImageOption, ImageOut, Moves, Quiet, Schedule,
+            ScheduleOption, Scripts, Settings, Shape, Steady, Workers,
         };
         match self {
             CommandName::Plan => ("plan", &[File, Steady, Workers, Quiet]),
             CommandName::Check => ("check", &[Batch, Schedule, Quiet]),
             CommandName::Draw => ("draw", &[Batch, Schedule, Settings, Quiet]),
             CommandName::Switch => ("switch", &[Batch, ScheduleOption, Steady, Workers, Quiet]),
+            CommandName::C004 => ("c004", &[Quiet]),
             CommandName::Direct => ("direct", &[Moves, Quiet]),
             CommandName::Apply => ("apply", &[Shape, Batch, Image, Workers, Quiet]),
             CommandName::Run => ("run", &[Shape, Batch, ImageOption, Workers, Quiet]),
-            CommandName::Serve => ("serve", &[Shape, Scripts, ImageOption, Workers, Quiet]),
-            CommandName::Host => ("host", &[Shape, Clients, ImageOption, Workers, Quiet]),
-            CommandName::Talk => ("talk", &[Shape, ImageOption, Quiet]),
+            CommandName::Serve => (
+                "serve",
+                &[Shape, Scripts, ImageOption, ImageOut, Workers, Quiet],
+            ),
+            CommandName::Host => (
+                "host",
+                &[Shape, Clients, ImageOption, ImageOut, Workers, Quiet],
+            ),
+            CommandName::Talk => ("talk", &[Shape, ImageOption, ImageOut, Quiet]),
         }
     }
 }

@@ -54,6 +54,14 @@ pub(crate) fn named_twice(alloc: Global) -> WordsFault
     misused(alloc, ErrorKind::ArgumentConflict, message)
 }
 
+/// The fault of words whose image would be written over what is read, or to standard output.
+pub(crate) fn overwritten(alloc: Global) -> WordsFault
+    ensures { IsMistake result }
+{
+    let message = "the file of `--image-out` can't be `-`, nor one that is read";
+    misused(alloc, ErrorKind::ArgumentConflict, message)
+}
+
 /// The fault of words whose clients can't be told apart, or have a name that is no name.
 pub(crate) fn misnamed(alloc: Global) -> WordsFault
     ensures { IsMistake result }

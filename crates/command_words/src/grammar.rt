@@ -7,9 +7,9 @@ ghost use Rattle.command_words.specs.Program.{IsArgument, IsCommand, IsLocal, co
 
 use crate::commands::{Argument, CommandName};
 use crate::help::{
-    BATCH_HELP, CLIENT_HELP, CommandHelp, IMAGE_HELP, IMAGE_OPTION_HELP, MOVES_HELP, PROGRAM,
-    QUIET_HELP, SCHEDULE_HELP, SCHEDULE_OPTION_HELP, SCRIPT_HELP, SETTINGS_HELP, SHAPE_HELP,
-    STEADY_HELP, WORKERS_HELP, help_of,
+    BATCH_HELP, CLIENT_HELP, CommandHelp, IMAGE_HELP, IMAGE_OPTION_HELP, IMAGE_OUT_HELP,
+    MOVES_HELP, PROGRAM, QUIET_HELP, SCHEDULE_HELP, SCHEDULE_OPTION_HELP, SCRIPT_HELP,
+    SETTINGS_HELP, SHAPE_HELP, STEADY_HELP, WORKERS_HELP, help_of,
 };
 use crate::jobs::WordsFault;
 use crate::limits::{MAX_CLIENTS, VERSION};
@@ -71,6 +71,7 @@ fn arg_of<'a>(alloc: Global, argument: Argument) -> Arg<'a>
         Argument::Scripts => words(alloc, "SCRIPT", SCRIPT_HELP),
         Argument::Clients => words(alloc, "CLIENT", CLIENT_HELP),
         Argument::ImageOption => option(alloc, "image", "FILE", IMAGE_OPTION_HELP),
+        Argument::ImageOut => option(alloc, "image-out", "FILE", IMAGE_OUT_HELP),
         Argument::Settings => option(alloc, "settings", "A..B", SETTINGS_HELP),
         Argument::ScheduleOption => option(alloc, "schedule", "FILE", SCHEDULE_OPTION_HELP),
         Argument::Steady => flag(alloc, "steady", STEADY_HELP),

@@ -20,6 +20,7 @@ pub(crate) fn help_of(name: CommandName) -> &'static CommandHelp {
         CommandName::Check => &CHECK,
         CommandName::Draw => &DRAW,
         CommandName::Switch => &SWITCH,
+        CommandName::C004 => &C004,
         CommandName::Direct => &DIRECT,
         CommandName::Apply => &APPLY,
         CommandName::Run => &RUN,
@@ -181,6 +182,33 @@ Status: 0 the bytes were printed, 1 they were refused or there was no memory,
 2 the words fit no command, 3 the answer couldn't be written.",
 };
 
+/// What help says of `c004`.
+const C004: CommandHelp = CommandHelp {
+    about: "Is a C004 switch: configuration bytes in, answers to enquiries out",
+    example: "\
+Example: input 3 feeds output 17, which is then enquired:
+  printf '\\000\\003\\021\\002\\021' | ./exchange c004 | od -An -tx1
+which prints `83`.",
+    notes: "\
+Standard input is the configuration link of an INMOS C004, and standard output
+its way back. A command is one of these, I an input and O an output, or both
+those of a link, from 0 to 31 as a byte:
+  00 I O   input I feeds output O
+  01 I O   input I feeds output O, and input O output I
+  02 O     which input feeds output O? The answer is 80 + I, or 00 where none
+           does, and is written at once
+  03       the connections that were set up are in order
+  04       no output is fed
+  05 O     output O isn't fed
+  06 I O   neither output O nor output I is
+At first no output is fed. A byte that is no command, or no input or output, is
+dropped, with what stands before it in its command, and a line on standard error
+tells of it. --quiet leaves that line out.
+
+Status: 0 standard input ended, 1 it couldn't be read any further, 2 the words
+fit no command, 3 an answer couldn't be written.",
+};
+
 /// What help says of `direct`.
 const DIRECT: CommandHelp = CommandHelp {
     about: "Makes a batch of moves: which are pushed and which are pulled, for the fewest settings",
@@ -331,14 +359,20 @@ With `host` there is `ended open` too, for a client whose files can't be opened.
 The line `logs disagree` at the end would say that what the sessions did isn't
 what the exchange's history has of them, or that it began on another rack.
 
+With --image-out the words of the rack when all sessions have ended are written
+to FILE, in the form that `exchange apply --help` shows. It is opened before the
+first session, made where it isn't there, and emptied only then. It can't be `-`
+or a file that is read. Nothing is written where the logs disagree.
+
 Else nothing is served, and the answer is the first of these that is wrong:
-  refused file               the image or a SCRIPT can't be read
+  refused file               the image or a SCRIPT can't be read, or the FILE of
+                             --image-out can't be opened
   refused shape              SHAPE is no shape
   refused image L W          the image has L bytes, and the shape wants W
 
 Status: 0 each session ended with its script or by `bye`, 1 one of them didn't,
 or the logs disagree, or nothing was served, or there was no memory, 2 the words
-fit no command, 3 the answer couldn't be written.",
+fit no command, 3 the answer or the image couldn't be written.",
 };
 
 /// What help says of `host`.
@@ -378,18 +412,19 @@ shows, and here they mean:
   ended cut     the client went away within a line or within a batch
   ended read    CLIENT.in can't be read any further
   ended write   the client reads its replies no more
-The last line may be `logs disagree`, as with `serve`.
+The last line may be `logs disagree`, as with `serve`. Of --image-out
+`exchange serve --help` tells.
 
 Else nobody is served and no pipe is opened, and the answer is the first of
 these that is wrong:
-  refused file       the image can't be read
+  refused file       the image can't be read, or that of --image-out not opened
   refused shape      SHAPE is no shape
   refused image L W  the image has L bytes, and the shape wants W
   refused threads    the system has no thread for each client
 
 Status: 0 each session ended with its CLIENT.in or by `bye`, 1 one of them
 didn't, or the logs disagree, or nobody was served, or there was no memory, 2
-the words fit no command, 3 the answer couldn't be written.",
+the words fit no command, 3 the answer or the image couldn't be written.",
 };
 
 /// What help says of `talk`.
@@ -408,16 +443,16 @@ before the next is read. So the image can't be `-`. The lines are
 `exchange serve --help` says what each does, and what it is answered by.
 
 The session ends with the input or by `bye`; where it doesn't, its last line is
-`ended ..`, as `exchange serve --help` shows.
+`ended ..`, as `exchange serve --help` shows, which also tells of --image-out.
 
 Else nothing is read, and the answer is the first of these that is wrong:
-  refused file       the image can't be read
+  refused file       the image can't be read, or that of --image-out not opened
   refused shape      SHAPE is no shape
   refused image L W  the image has L bytes, and the shape wants W
 
 Status: 0 the session ended with its input or by `bye`, 1 it didn't, or it was
-refused, or there was no memory, 2 the words fit no command, 3 the answer
-couldn't be written.",
+refused, or there was no memory, 2 the words fit no command, 3 the answer or the
+image couldn't be written.",
 };
 
 /// What help says of the program, below the commands too.
@@ -469,6 +504,9 @@ pub(crate) const IMAGE_HELP: &str = "The file of the words before, or - for stan
 /// What is said of `--image`.
 pub(crate) const IMAGE_OPTION_HELP: &str =
     "The file of the words before, an image as `exchange apply --help` shows";
+
+/// What is said of `--image-out`.
+pub(crate) const IMAGE_OUT_HELP: &str = "The file for the image of the words behind all sessions";
 
 /// What is said of a script.
 pub(crate) const SCRIPT_HELP: &str = "A file of session lines, or - for standard input";

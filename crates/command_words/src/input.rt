@@ -75,8 +75,9 @@ pub(crate) fn reads_input_once(job: &Job) -> bool
             ..
         } => !(batch.is_input() && schedule.is_input()),
         Job::Run { batch, image, .. } => !(is_input(image) && batch.is_input()),
-        Job::Serve { scripts, image, .. } => name_input_once_behind(image, scripts.as_slice()),
-        Job::Talk { image, .. } => !is_input(image),
-        Job::Plan { .. } | Job::Switch { .. } | Job::Direct { .. } | Job::Host { .. } => true,
+        Job::Serve { rack, scripts, .. } => name_input_once_behind(&rack.image, scripts.as_slice()),
+        Job::Talk { rack } => !is_input(&rack.image),
+        Job::Plan { .. } | Job::Switch { .. } | Job::C004 | Job::Direct { .. } | Job::Host { .. } =>
+            true,
     }
 }

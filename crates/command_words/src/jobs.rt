@@ -36,6 +36,8 @@ pub enum Job {
         batch: Text,
         source: ScheduleSource,
     },
+    /// Be a switch whose configuration link is standard input and output.
+    C004,
     /// Give the moves of a file directions that need the fewest settings.
     Direct {
         moves: Text,
@@ -57,28 +59,34 @@ pub enum Job {
         workers: WorkerCount,
     },
     /// Serve the scripts of 1 to [`MAX_CLIENTS`](crate::MAX_CLIENTS) files, side by side on one exchange
-    /// with a rack of the shape, which may begin with the words of an image's file, with so many workers.
+    /// with this rack, with so many workers.
     Serve {
-        shape: Text,
+        rack: SharedRack,
         scripts: TextList,
-        image: Option<Text>,
         workers: WorkerCount,
     },
     /// Serve 1 to [`MAX_CLIENTS`](crate::MAX_CLIENTS) clients of these names while they last, each
-    /// through two files of its own, on one exchange with a rack of the shape, which may begin with the
-    /// words of an image's file, with so many workers.
+    /// through two files of its own, on one exchange with this rack, with so many workers.
     Host {
-        shape: Text,
+        rack: SharedRack,
         clients: TextList,
-        image: Option<Text>,
         workers: WorkerCount,
     },
-    /// Serve one client, which is standard input and output, on an exchange with a rack of the shape,
-    /// which may begin with the words of an image's file.
+    /// Serve one client, which is standard input and output, on an exchange with this rack.
     Talk {
-        shape: Text,
-        image: Option<Text>,
+        rack: SharedRack,
     },
+}
+
+/// The rack of an exchange.
+#[derive(Drop)]
+pub struct SharedRack {
+    /// Its shape.
+    pub shape: Text,
+    /// The file of the image with whose words it begins; without one all are 0.
+    pub image: Option<Text>,
+    /// The file to which its image goes once all sessions have ended.
+    pub image_out: Option<Text>,
 }
 
 /// How a batch is planned: either way no schedule has fewer settings.

@@ -9,11 +9,12 @@ mod help;
 mod input;
 mod jobs;
 mod limits;
+mod outputs;
 mod reading;
 mod text;
 mod text_list;
 
-pub use jobs::{Job, Planning, Request, ScheduleSource, WordsFault};
+pub use jobs::{Job, Planning, Request, ScheduleSource, SharedRack, WordsFault};
 pub use limits::MAX_CLIENTS;
 pub use reading::read_words;
 pub use text::Text;

@@ -5,15 +5,16 @@ ghost use Rattle.command_words.specs.declared.jobs.Job.{Job};
 ghost use Rattle.command_words.specs.declared.jobs.Request.{Request};
 ghost use Rattle.command_words.specs.declared.jobs.WordsFault.TheVariants.{NoMemory};
 ghost use Rattle.command_words.specs.declared.reading.Lack.TheVariants.{Memory};
-ghost use Rattle.command_words.specs.Jobs.{AskFor, HasOption, HasPlanning, HasServed, HasSource, HasText, HasWorkers, Holds, IsFaultIn, IsGiven, IsMistake, IsRead, IsReadJob, IsRequest, IsTaken, IsWithinLimits, MayBeDone, rows_in, texts_of};
+ghost use Rattle.command_words.specs.Jobs.{AskFor, HasOption, HasPlanning, HasServed, HasRack, HasSource, HasText, HasWorkers, Holds, IsFaultIn, IsGiven, IsMistake, IsRead, IsReadJob, IsRequest, IsTaken, IsWithinLimits, MayBeDone, rows_in, texts_of};
 
 use crate::clients::names_clients;
 use crate::commands::CommandName;
-use crate::faults::{excluded, misnamed, missing, named_twice};
+use crate::faults::{excluded, misnamed, missing, named_twice, overwritten};
 use crate::grammar::matches_of;
 use crate::input::reads_input_once;
-use crate::jobs::{Job, Planning, Request, ScheduleSource, WordsFault};
+use crate::jobs::{Job, Planning, Request, ScheduleSource, SharedRack, WordsFault};
 use crate::limits::MAX_CLIENTS;
+use crate::outputs::keeps_inputs;
 use crate::text::Text;
 use crate::text_list::TextList;
 use clap::ArgMatches;
@@ -130,6 +131,17 @@ fn source_of(alloc: Global, matches: &ArgMatches<'_>) -> Result<ScheduleSource, 
     Ok(ScheduleSource::File(file))
 }
 
+/// The rack of an exchange.
+fn rack_of(alloc: Global, matches: &ArgMatches<'_>) -> Result<SharedRack, Lack>
+    ensures { IsRead (HasRack (rows_in matches.now)) result }
+{
+    Ok(SharedRack {
+        shape: text_of(alloc, matches, "SHAPE")?,
+        image: option_of(alloc, matches, "image")?,
+        image_out: option_of(alloc, matches, "image-out")?,
+    })
+}
+
 /// The job of `plan`.
 fn plan_job(alloc: Global, found: &ArgMatches<'_>) -> Result<Job, Lack>
     ensures { IsReadJob CommandName.Plan (rows_in found.now) result }
@@ -209,9 +221,8 @@ fn serve_job(alloc: Global, found: &ArgMatches<'_>) -> Result<Job, Lack>
     ensures { IsReadJob CommandName.Serve (rows_in found.now) result }
 {
     Ok(Job::Serve {
-        shape: text_of(alloc, found, "SHAPE")?,
+        rack: rack_of(alloc, found)?,
         scripts: served_of(alloc, found, "SCRIPT")?,
-        image: option_of(alloc, found, "image")?,
         workers: workers_of(found)?,
     })
 }
@@ -221,9 +232,8 @@ fn host_job(alloc: Global, found: &ArgMatches<'_>) -> Result<Job, Lack>
     ensures { IsReadJob CommandName.Host (rows_in found.now) result }
 {
     Ok(Job::Host {
-        shape: text_of(alloc, found, "SHAPE")?,
+        rack: rack_of(alloc, found)?,
         clients: served_of(alloc, found, "CLIENT")?,
-        image: option_of(alloc, found, "image")?,
         workers: workers_of(found)?,
     })
 }
@@ -233,8 +243,7 @@ fn talk_job(alloc: Global, found: &ArgMatches<'_>) -> Result<Job, Lack>
     ensures { IsReadJob CommandName.Talk (rows_in found.now) result }
 {
     Ok(Job::Talk {
-        shape: text_of(alloc, found, "SHAPE")?,
-        image: option_of(alloc, found, "image")?,
+        rack: rack_of(alloc, found)?,
     })
 }
 
@@ -247,6 +256,7 @@ fn job_of(alloc: Global, name: CommandName, found: &ArgMatches<'_>) -> Result<Jo
         CommandName::Check => check_job(alloc, found),
         CommandName::Draw => draw_job(alloc, found),
         CommandName::Switch => switch_job(alloc, found),
+        CommandName::C004 => Ok(Job::C004),
         CommandName::Direct => direct_job(alloc, found),
         CommandName::Apply => apply_job(alloc, found),
         CommandName::Run => run_job(alloc, found),
@@ -287,8 +297,8 @@ fn request_named(alloc: Global, words: &[String]) -> Result<Request, WordsFault>
     }
 }
 
-/// Whether a job may be done: its fault, where several of its files are standard input, or its clients
-/// can't be told apart.
+/// Whether a job may be done: its fault, where several of its files are standard input, or an image would
+/// go to a file that is read, or to standard output, or its clients can't be told apart.
 fn judged(alloc: Global, job: &Job) -> Result<(), WordsFault>
     ensures done { OnOk result (MayBeDone job.now) }
     ensures refused { OnErr result (MayBeDone job.now → ⊥) }
@@ -296,6 +306,9 @@ fn judged(alloc: Global, job: &Job) -> Result<(), WordsFault>
 {
     if !reads_input_once(job) {
         return Err(named_twice(alloc));
+    }
+    if !keeps_inputs(job) {
+        return Err(overwritten(alloc));
     }
     if !names_clients(job) {
         return Err(misnamed(alloc));
@@ -309,9 +322,9 @@ fn judged(alloc: Global, job: &Job) -> Result<(), WordsFault>
 /// and its number of workers, and whether it is quiet. Other words are clap's error of what is at
 /// fault in them, which holds the text to print; a demand for help or for the program's version is
 /// one. So are words that fit, but give two of `--workers`, `--steady` and `--schedule`, or name a
-/// job of which several files are `-`, standard input, or clients whose names are no names. Where
-/// there was no memory, nothing is said about the words: clap's error of that kind is
-/// [`WordsFault::NoMemory`], too.
+/// job of which several files are `-`, standard input, or an image that would go to one of its files or
+/// to `-`, or clients whose names are no names. Where there was no memory, nothing is said about the
+/// words: clap's error of that kind is [`WordsFault::NoMemory`], too.
 pub fn read_words(alloc: Global, words: &[String]) -> Result<Request, WordsFault>
     ensures request { IfOk result (AskFor (texts_of words.now)) }
     ensures limits { IfOk result (λ request. IsWithinLimits request.job) }

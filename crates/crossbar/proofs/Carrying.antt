@@ -14,7 +14,7 @@ pub after_all-append : (cs ds : List Command) (s : Switch) → after_all (cs ++ 
 after_all-append [] ds s = refl
 after_all-append (c ∷ cs) ds s = after_all-append cs ds (after c s)
 
-answers-append : (cs ds : List Command) (s : Switch) → answers (cs ++ ds) s ≡ answers cs s ++ answers ds (after_all cs s)
+pub answers-append : (cs ds : List Command) (s : Switch) → answers (cs ++ ds) s ≡ answers cs s ++ answers ds (after_all cs s)
 answers-append [] ds s = refl
 answers-append (c ∷ cs) ds s = ap (λ bytes. option_to_list (answer c s) ++ bytes) (answers-append cs ds (after c s)) ∙ sym (append_assoc (option_to_list (answer c s)) (answers cs (after c s)) (answers ds (after_all cs (after c s))))
 

@@ -5,3 +5,4 @@ pub mod Port
 pub mod Chips
 pub mod Pairs
 pub mod Fuse
+pub mod Traffic

@@ -13,9 +13,11 @@ pub mod laws;
 mod pair;
 mod port;
 mod switch;
+mod traffic;
 
 pub use chip::{Chip, Wiring};
 pub use fuse::FusePort;
 pub use pair::Pair;
 pub use port::{ConfigPort, MemoryPort, PortFault};
 pub use switch::{Crossbar, JOINED_MODULES, joined_wide};
+pub use traffic::{Direction, Passing, Traffic};

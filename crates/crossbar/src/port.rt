@@ -1,10 +1,12 @@
 //! The port through which the switches of a rack are set and asked.
 
-ghost use Rattle.std.specs.Prelude.{◌≡◌, ◌<◌, ◌≤◌, ◌+◌, ◌++◌, Bool, true, ℕ, IsTrue, length, take, IsOk, OnOk, OnErr};
+ghost use Rattle.std.specs.Prelude.{◌≡◌, ◌<◌, ◌≤◌, ◌+◌, ◌++◌, Bool, true, ℕ, List, Option, None, IsTrue, length, take, IsOk, OnOk, OnErr};
 ghost use Rattle.std.specs.Option.{option_to_list};
 ghost use Rattle.crossbar.specs.Switch.{after_all, answers, enquiries};
 ghost use Rattle.crossbar.specs.Chips.{Switches, both_idle, switch_at, CarriesOutAt};
 ghost use Rattle.crossbar.specs.Port.{IsExchange, CarriesOut};
+ghost use Rattle.crossbar.specs.Traffic.{HaveConversed, BreaksOff};
+ghost use Rattle.crossbar.specs.declared.traffic.Passing.{Passing};
 
 use crate::chip::Chip;
 use crate::chips::Chips;
@@ -29,9 +31,12 @@ pub trait ConfigPort {
     ghost honest: { Self → Bool };
     // How often the port has failed.
     ghost failures: { Self → ℕ };
+    // The bytes that have passed, in order, where the port tells them.
+    ghost passed: { Self → Option (List Passing) } = { λ _. None };
 
     /// Sends the bytes of whole commands to a chip, and fills `replies` with the answers to their enquiries, in
-    /// order. The other chip stays as it is.
+    /// order. The other chip stays as it is. What passes is told as if each reply were heard before the next
+    /// command is sent: a link adaptor holds a byte each way, so a port to a real switch has to do so.
     fn exchange(&mut self, chip: Chip, bytes: &[u8], replies: &mut [u8]) -> Result<(), PortFault>
         requires { IsExchange bytes.now (length replies.old) }
         ensures done { IsTrue (honest self.old) →
@@ -40,7 +45,12 @@ pub trait ConfigPort {
         ensures fault { OnErr result (failures self.old < failures self.new) }
         ensures counted { failures self.old ≤ failures self.new }
         ensures unfailed { OnOk result (failures self.new ≡ failures self.old) }
-        ensures honesty { honest self.new ≡ honest self.old };
+        ensures honesty { honest self.new ≡ honest self.old }
+        // The commands were sent and the replies heard, each behind its enquiry; where it failed, a front of that.
+        ensures passed { OnOk result
+            (HaveConversed chip bytes.now replies.new (passed self.old) (passed self.new)) }
+        ensures broken { OnErr result
+            (BreaksOff chip bytes.now (passed self.old) (passed self.new)) };
 }
 
 /// A port to a switch in memory for each chip (INMOS IMS C004 data sheet). It is honest and never fails. Contracts

@@ -1,11 +1,11 @@
 -- What files hold of which one may be standard input.
-use Rattle.std.proofs.Common.{◌≡◌, ◌<◌, ◌+◌, ℕ, List, [], ◌∷◌, ◌++◌, Option, Some, None, suc, IfSome, length, get_or, map, Result, is_ok, if◌then◌else◌, true, refl, ap, sym, ◌∙◌, subst, arith, below_more}
+use Rattle.std.proofs.Common.{◌≡◌, ◌<◌, ◌+◌, ℕ, List, [], ◌∷◌, ◌++◌, Option, Some, None, suc, IfSome, true, length, get_or, map, Result, is_ok, if◌then◌else◌, refl, ap, sym, ◌∙◌, subst, arith, below_more}
 use Rattle.std.specs.Prelude.{◌≢◌, option_to_list}
 use Rattle.std.proofs.Math.Seq.{get_or-append_seam}
 use Rattle.std.proofs.lemmas.List.{get_or_append_left, get_or_default, map-append}
 use Rattle.command_words.specs.Jobs.{NameInputOnce, input_name}
 use Rattle.command_words.proofs.Inputs.{behind_first}
-use Rattle.exchange.specs.Responses.{IsHeld, AreHeld}
+use Rattle.exchange.specs.Files.{IsHeld, AreHeld}
 
 -- where files that were read before aren't standard input, this has the bytes that it had then
 pub held_later : (old now : Option (List ℕ)) (name bytes : List ℕ) → (name ≡ input_name → now ≡ old) → IsHeld now name bytes → IsHeld old name bytes

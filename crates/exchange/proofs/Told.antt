@@ -1,20 +1,24 @@
 -- What is printed behind what a session was told, and what is told beside it.
-use Rattle.std.proofs.Common.{ℕ, List, Option, Some, None, Result, Ok, Err, IfOk, OnErr, IfSome, ◌⊎◌, inl, inr, refl, subst, sym, ◌≡◌, ◌∙◌, []}
+use Rattle.std.proofs.Common.{ℕ, Bool, ◌++◌, List, Option, Some, None, Result, Ok, Err, IfOk, OnOk, OnErr, append-nil, IfSome, ◌⊎◌, inl, inr, refl, subst, sym, ◌≡◌, ◌∙◌, []}
 use Rattle.std.specs.Prelude.{String, option_map, string_bytes}
 use Rattle.std.specs.Global.{Global}
 use Rattle.std.specs.Io.KnownBytes.{Appends}
+use Rattle.byte_streams.specs.Writing.{IsCutShort}
 use Rattle.std.proofs.KnownBytes.{Appends-nil, Appends-trans}
 use Rattle.plan_answers.specs.Refusals.{Printed}
-use Rattle.command_words.specs.declared.jobs.Job.TheVariants.{Talk}
+use Rattle.command_words.specs.declared.jobs.Job.TheVariants.{C004, Talk}
 use Rattle.command_words.specs.declared.jobs.Request.{Request}
+use Rattle.command_words.specs.declared.jobs.SharedRack.{SharedRack}
+use Rattle.module_memory.specs.Store.{Store}
 use Rattle.refusals.specs.declared.refusal.Refusal.TheVariants as refusal
-use Rattle.refusal_notes.specs.Told.{line_told}
+use Rattle.exchange.specs.declared.unanswered.Unanswered.{Unanswered}
 use Rattle.exchange.specs.declared.unanswered.Unanswered.TheVariants.{File, NoMemory}
+use Rattle.exchange.specs.declared.unwritten.Unwritten.{Unwritten}
 use Rattle.exchange.specs.declared.notes.Answered.{Answered}
 use Rattle.exchange.specs.declared.notes.Missed.{Missed}
-use Rattle.exchange.specs.Responses.{IsSomeTalk, IsToldBy, IsAnswerTo, behind_told, unanswered}
-use Rattle.exchange.specs.Notes.{IsBeside, IsNoteOn, IsNoted, IsToldUnless}
-use Rattle.exchange.specs.Outcomes.{HasNote, IsAnswered, IsMissed}
+use Rattle.exchange.specs.Responses.{IsSomeC004, IsSomeTalk, IsToldBy, IsAnswerTo, behind_told, unanswered}
+use Rattle.exchange.specs.Notes.{IsBegun, IsBeside, IsNoteOn, IsNoted, IsToldUnless, IsWholeLine}
+use Rattle.exchange.specs.Outcomes.{HasNote, IsAnswered}
 use Rattle.command_words.specs.declared.jobs.WordsFault.{WordsFault}
 use Rattle.command_words.specs.declared.jobs.WordsFault.TheVariants as words_fault
 use Rattle.command_words.specs.Jobs.{AskFor, IsFaultIn}
@@ -22,11 +26,24 @@ use Rattle.exchange.specs.declared.limits.TheConstants.{UNWRITTEN}
 use Rattle.exchange.specs.Ends.{Streams, IsDone, IsEndFor, IsEndForWords, IsPrinted, streams_of}
 
 -- what a session was told stands before what is said of its end
-pub talked : (r : Result Answered Missed) (input : Option (List ℕ)) (shape : List ℕ) (image held holds : Option (List ℕ))
-    → ((told : List ℕ) × Appends held holds told × IfOk r (λ done. IsSomeTalk input shape image told done.answer)) → HasNote r
-    → (told : List ℕ) × Appends held holds told × IsToldBy (Talk shape image) told × IfOk r (λ done. IsAnswerTo input (Talk shape image) (behind_told told done.answer)) × HasNote r
-talked (Ok done) input shape image held holds t note = (t.0, t.1, tt, (t.0, done.answer, refl, t.2), note)
-talked (Err missed) input shape image held holds t note = (t.0, t.1, tt, tt, note)
+pub talked : (r : Result Answered Missed) (input : Option (List ℕ)) (rack : SharedRack) (held holds : Option (List ℕ)) (kept : Option Store → Option Unwritten → Type 0)
+    → ((told : List ℕ) × Appends held holds told × IfOk r (λ done. (left : Option Store) × IsSomeTalk input rack told done.answer left × kept left done.lost)) → HasNote r
+    → (told : List ℕ) × Appends held holds told × IsToldBy (Talk rack) told × IfOk r (λ done. IsAnswerTo input (Talk rack) (behind_told told done.answer)) × HasNote r
+talked (Ok done) input rack held holds kept t note = (t.0, t.1, tt, (t.0, done.answer, t.2.0, refl, t.2.1), note)
+talked (Err missed) input rack held holds kept t note = (t.0, t.1, tt, tt, note)
+
+-- and so does what a switch replied
+pub switched : (r : Result Answered Missed) (input held holds : Option (List ℕ))
+    → ((told : List ℕ) × Appends held holds told × IfOk r (λ done. IsSomeC004 input told done.answer)) → HasNote r
+    → (told : List ℕ) × Appends held holds told × IsToldBy C004 told × IfOk r (λ done. IsAnswerTo input C004 (behind_told told done.answer)) × HasNote r
+switched (Ok done) input held holds t note = (t.0, t.1, tt, (t.0, done.answer, refl, t.2), note)
+switched (Err missed) input held holds t note = (t.0, t.1, tt, tt, note)
+
+-- sessions that are told nothing before their answer, which leave a rack
+pub left_behind : (r : Result Answered Missed) (P : Printed → Option Store → Type 0) (kept : Option Store → Option Unwritten → Type 0)
+    → IfOk r (λ done. (left : Option Store) × P done.answer left × kept left done.lost) → IfOk r (λ done. (left : Option Store) × P done.answer left)
+left_behind (Ok done) P kept is = (is.0, is.1)
+left_behind (Err missed) P kept is = tt
 
 -- an answer behind nothing is the same one
 none_before : (p : Printed) → p ≡ behind_told [] p
@@ -50,35 +67,35 @@ noted request told end (Some line) eb em ea by on beside (inr t) =
     (em, beside, inr (t.0, t.1, rw same (told, end, by, refl, refl, on), t.3))
 
 -- what is told of a file that can't be read
-pub file_told : (r : Option (String Global)) → IfSome r (λ text. (words : List ℕ) × (string_bytes text ≡ line_told words)) → IsNoteOn (unanswered File) (bytes_of_line r)
+pub file_told : (r : Option (String Global)) → IfSome r (λ line. IsWholeLine (string_bytes line)) → IsNoteOn (unanswered File) (bytes_of_line r)
 file_told None h = tt
 file_told (Some text) h = record { refused = refl; of = (refusal.File, (λ e. cc), refl); whole = h }
 
 -- an answer that is printed behind it
 pub answered : {E : Type 0} (r : Result ℕ E) (input : Option (List ℕ)) (request : Request) (told : List ℕ) (done : Answered) (held holds has eb em ea : Option (List ℕ))
     → Appends held holds told → IsToldBy request.job told → IsAnswerTo input request.job (behind_told told done.answer) → IsAnswered done
-    → IsBeside request eb em → IfOk r (IsPrinted holds has done.answer) → IsToldUnless request.is_quiet (bytes_of_line done.note) em ea
+    → IsBeside request eb em → IfOk r (λ status. IsPrinted holds has done.answer status × (done.lost ≡ None)) → IsToldUnless request.is_quiet (bytes_of_line done.note) em ea
     → IfOk r (IsDone input request (streams_of held has eb ea))
 answered (Ok status) input request told done held holds has eb em ea first by is note beside then said = (
   behind_told told done.answer,
   inl is,
-  record { text = Appends-trans held holds has told done.answer.text first then.text; status = then.status },
+  record { text = Appends-trans held holds has told done.answer.text first then.0.text; status = then.0.status },
   noted request told done.answer (bytes_of_line done.note) eb em ea by note beside said,
 )
 answered (Err e) input request told done held holds has eb em ea first by is note beside then said = tt
 
 -- and why there is none
-pub not_answered : {E : Type 0} (r : Result ℕ E) (input : Option (List ℕ)) (request : Request) (told : List ℕ) (missed : Missed) (held holds has eb em ea : Option (List ℕ))
-    → Appends held holds told → IsToldBy request.job told → IsMissed missed
-    → IsBeside request eb em → IfOk r (IsPrinted holds has (unanswered missed.why)) → IsToldUnless request.is_quiet (bytes_of_line missed.note) em ea
+pub not_answered : {E : Type 0} (r : Result ℕ E) (input : Option (List ℕ)) (request : Request) (told : List ℕ) (why : Unanswered) (line : Option (String Global)) (held holds has eb em ea : Option (List ℕ))
+    → Appends held holds told → IsToldBy request.job told → IsNoteOn (unanswered why) (bytes_of_line line)
+    → IsBeside request eb em → IfOk r (IsPrinted holds has (unanswered why)) → IsToldUnless request.is_quiet (bytes_of_line line) em ea
     → IfOk r (IsDone input request (streams_of held has eb ea))
-not_answered (Ok status) input request told missed held holds has eb em ea first by note beside then said = (
-  behind_told told (unanswered missed.why),
-  inr (told, missed.why, by, refl),
-  record { text = Appends-trans held holds has told (unanswered missed.why).text first then.text; status = then.status },
-  noted request told (unanswered missed.why) (bytes_of_line missed.note) eb em ea by note beside said,
+not_answered (Ok status) input request told why line held holds has eb em ea first by note beside then said = (
+  behind_told told (unanswered why),
+  inr (told, why, by, refl),
+  record { text = Appends-trans held holds has told (unanswered why).text first then.text; status = then.status },
+  noted request told (unanswered why) (bytes_of_line line) eb em ea by note beside said,
 )
-not_answered (Err e) input request told missed held holds has eb em ea first by note beside then said = tt
+not_answered (Err e) input request told why line held holds has eb em ea first by note beside then said = tt
 
 -- what holds of the answer that was chosen
 pub chosen : {E : Type 0} (P : Printed → Type 0) (one taken : Result Printed E) (answer : Printed) → taken ≡ one → taken ≡ Ok answer → IfOk one P → P answer
@@ -107,3 +124,13 @@ faulty (Err e) words input fault streams wrong is = tt
 pub wordless : {E : Type 0} (r : Result ℕ E) (input held has err : Option (List ℕ)) → IfOk r (IsPrinted held has (unanswered NoMemory)) → IfOk r (IsEndFor input (Err words_fault.NoMemory) (streams_of held has err err))
 wordless (Ok status) input held has err is = (is, Appends-nil err)
 wordless (Err e) input held has err is = tt
+
+-- as much of a line as could be written
+pub begun : {T E : Type 0} (r : Result T E) (before after : Option (List ℕ)) (line : List ℕ) → OnOk r (Appends before after line) → OnErr r (IsCutShort before after line) → IsBegun before after line
+begun (Ok x) before after line went cut = (line, [], sym (append-nil line), went)
+begun (Err e) before after line went cut = (cut.front, cut.missing, cut.bytes_are, cut.appended)
+
+-- what was told, and then a note
+pub told_more : (quiet : Bool) (note : Option (List ℕ)) (a b c : Option (List ℕ)) (told : List ℕ) → Appends a b told → IsToldUnless quiet note b c → (more : List ℕ) × Appends a c more
+told_more quiet note a b c told first (inl none) = (told ++ [], Appends-trans a b c told [] first none)
+told_more quiet note a b c told first (inr t) = (told ++ t.3.0, Appends-trans a b c told t.3.0 first t.3.3)

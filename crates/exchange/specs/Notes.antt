@@ -1,10 +1,11 @@
 -- What is told on standard error beside what is printed.
-use Rattle.std.specs.Prelude.{◌≡◌, ◌≢◌, ◌⊎◌, ◌++◌, ℕ, Bool, false, List, [], Option, Some, None, IfSome}
+use Rattle.std.specs.Prelude.{◌≡◌, ◌≢◌, ◌⊎◌, ◌++◌, ⊤, ℕ, Bool, false, List, [], Option, Some, None, IfSome}
 use Rattle.std.specs.Io.KnownBytes.{Appends}
 use Rattle.client_session.specs.Listening.{Told, TellsOfRefusals}
 use Rattle.plan_answers.specs.Refusals.{Printed}
 use Rattle.plan_answers.specs.declared.limits.TheConstants.{REFUSED}
 use Rattle.command_words.specs.declared.jobs.Job.{Job}
+use Rattle.command_words.specs.declared.jobs.Job.TheVariants.{C004}
 use Rattle.command_words.specs.declared.jobs.Request.{Request}
 use Rattle.refusals.specs.declared.refusal.Refusal.{Refusal}
 use Rattle.refusals.specs.declared.refusal.Refusal.TheVariants.{NoMemory}
@@ -61,13 +62,21 @@ MayTell refusal told =
 abbrev pub told_there : Option (List ℕ) → Told
 told_there bytes = record { bytes = bytes; loan = None }
 
--- what was told beside the replies of a session: nothing, but for `talk`, where the words don't ask
--- for silence: there what may be told of some refusals, one after another, behind what stood there
+-- the job is `c004`
+abbrev pub IsC004 : Job → Type 0
+IsC004 C004 = ⊤
+IsC004 job = ⊥
+
+-- what was told beside what is replied: nothing, but for `talk`, where the words don't ask for
+-- silence: there what may be told of some refusals, one after another, behind what stood there; and
+-- but for `c004`, which tells what it drops
 abbrev pub IsBeside : Request → Option (List ℕ) → Option (List ℕ) → Type 0
 IsBeside request before after =
     (after ≡ before)
     ⊎ ((request.is_quiet ≡ false) × IsTalk request.job
     × TellsOfRefusals MayTell (told_there before) (told_there after))
+    ⊎ ((request.is_quiet ≡ false) × IsC004 request.job
+    × ((told : List ℕ) × Appends before after told))
 
 -- what was told on standard error of what is printed, behind what was told beside a session: nothing,
 -- or one text of a refusal, and nothing where the words ask for that

@@ -1,45 +1,34 @@
 -- What the program prints for a job.
 use Rattle.std.specs.Prelude.{◌≡◌, ◌⊎◌, ◌<◌, ℕ, List, [], ◌++◌, Option, Some, None, IfSome, ⊤, true, length, slice_index_or}
+use Rattle.std.specs.Io.KnownBytes.{Consumes, IsAtEnd}
 use Rattle.batch.specs.Extent.{widest}
 use Rattle.plan_answers.specs.Answers.{IsPlanned, IsSteadilyPlanned, IsChecked}
 use Rattle.rack_answers.specs.Answers.{IsRunAnswer, image_alone}
 use Rattle.plan_answers.specs.Drawings.{IsDrawn}
 use Rattle.plan_answers.specs.Directing.{IsDirected}
+use Rattle.crossbar.specs.Switch.{idle}
+use Rattle.module_memory.specs.Store.{Store}
 use Rattle.session_answers.specs.Hosts.{Guests, End, IsHostAnswer}
+use Rattle.switch_end.specs.End.{EndState}
+use Rattle.switch_end.specs.Attending.{HasRun}
 use Rattle.plan_answers.specs.Refusals.{Printed}
 use Rattle.rack_answers.specs.Reports.{report_of}
 use Rattle.session_answers.specs.Serving.{IsServeAnswer}
 use Rattle.rack_answers.specs.Switching.{IsSwitched, IsSwitchedSteadily, IsSwitchedAs}
 use Rattle.session_answers.specs.Talking.{IsTalkAnswer}
-use Rattle.plan_answers.specs.declared.limits.TheConstants.{REFUSED}
+use Rattle.plan_answers.specs.declared.limits.TheConstants.{DONE, REFUSED}
 use Rattle.command_words.specs.declared.jobs.Job.{Job}
-use Rattle.command_words.specs.declared.jobs.Job.TheVariants.{Plan, Check, Draw, Switch, Direct, Apply, Run, Serve, Host, Talk}
+use Rattle.command_words.specs.declared.jobs.Job.TheVariants.{Plan, Check, Draw, Switch, C004, Direct, Apply, Run, Serve, Host, Talk}
 use Rattle.command_words.specs.declared.jobs.Planning.TheVariants as planning
 use Rattle.command_words.specs.declared.jobs.ScheduleSource.TheVariants as source
+use Rattle.command_words.specs.declared.jobs.SharedRack.{SharedRack}
 use Rattle.command_words.specs.Jobs.{input_name}
 use Rattle.refusals.specs.declared.refusal.Refusal.{Refusal}
 use Rattle.refusals.specs.declared.refusal.Refusal.TheVariants as refusal
 use Rattle.refusals.specs.Refusals.{refusal_line}
+use Rattle.exchange.specs.Files.{IsHeld, IsHeldImage, AreHeld}
 use Rattle.exchange.specs.declared.unanswered.Unanswered.{Unanswered}
 use Rattle.exchange.specs.declared.unanswered.Unanswered.TheVariants.{File, NoMemory}
-
--- what a file of this name holds, where standard input had these bytes: it may be standard input,
--- and then it holds them, as far as they are known
-abbrev pub IsHeld : Option (List ℕ) → List ℕ → List ℕ → Type 0
-IsHeld input name bytes = name ≡ input_name → IfSome input (λ known. bytes ≡ known)
-
--- what the file of an image holds, where one is named
-abbrev pub IsHeldImage : Option (List ℕ) → Option (List ℕ) → Option (List ℕ) → Type 0
-IsHeldImage input None None = ⊤
-IsHeldImage input None (Some bytes) = ⊥
-IsHeldImage input (Some name) None = ⊥
-IsHeldImage input (Some name) (Some bytes) = IsHeld input name bytes
-
--- what the files of these names hold
-pub record AreHeld (input : Option (List ℕ)) (names files : List (List ℕ)) : Type 0 where
-  pub count : length files ≡ length names
-  pub each : (k : ℕ) → k < length names
-      → IsHeld input (slice_index_or names k []) (slice_index_or files k [])
 
 -- an answer of `plan` to what this file holds
 abbrev pub IsSomePlan : Option (List ℕ) → List ℕ → Printed → Type 0
@@ -96,12 +85,20 @@ IsSomeRun input shape file image_file answer =
     (batch : List ℕ) × (image : Option (List ℕ)) × IsHeld input file batch
     × IsHeldImage input image_file image × IsRunAnswer report_of shape batch image answer
 
--- an answer of `serve` to this shape's text and to what these files hold
-abbrev pub IsSomeServe : Option (List ℕ) → List ℕ → List (List ℕ) → Option (List ℕ) → Printed
+-- what `c004` replied to what came of standard input, to its end, or as far as it could be read; it
+-- prints nothing behind that
+abbrev pub IsSomeC004 : Option (List ℕ) → List ℕ → Printed → Type 0
+IsSomeC004 input replies end =
+    (came told : List ℕ) × (after : Option (List ℕ)) × (switch : EndState) × Consumes input after came
+    × HasRun (record { switch = idle; begun = [] }) came replies told switch × (end.text ≡ [])
+    × ((IsAtEnd after × (end.status ≡ DONE)) ⊎ (end.status ≡ REFUSED))
+
+-- an answer of `serve` on this rack to what these files hold, which leaves this one
+abbrev pub IsSomeServe : Option (List ℕ) → SharedRack → List (List ℕ) → Printed → Option Store
     → Type 0
-IsSomeServe input shape files image_file answer =
+IsSomeServe input rack files answer left =
     (scripts : List (List ℕ)) × (image : Option (List ℕ)) × AreHeld input files scripts
-    × IsHeldImage input image_file image × IsServeAnswer shape image scripts answer
+    × IsHeldImage input rack.image image × IsServeAnswer rack.shape image scripts answer left
 
 -- the clients of these names, of whose files no bytes are known
 abbrev pub guests_of : List (List ℕ) → Guests
@@ -114,19 +111,19 @@ guests_of names =
       bars = λ _. true;
     }
 
--- an answer of `host` to this shape's text, to what this file holds and to what these clients say
-abbrev pub IsSomeHost : Option (List ℕ) → List ℕ → List (List ℕ) → Option (List ℕ) → Printed
+-- an answer of `host` on this rack to what these clients say, which leaves this one
+abbrev pub IsSomeHost : Option (List ℕ) → SharedRack → List (List ℕ) → Printed → Option Store
     → Type 0
-IsSomeHost input shape clients image_file answer =
-    (image : Option (List ℕ)) × (ends : List End) × IsHeldImage input image_file image
-    × IsHostAnswer shape image (guests_of clients) ends answer
+IsSomeHost input rack clients answer left =
+    (image : Option (List ℕ)) × (ends : List End) × IsHeldImage input rack.image image
+    × IsHostAnswer rack.shape image (guests_of clients) ends answer left
 
--- an answer of `talk` to this shape's text, to what this file holds and to standard input, where the
--- session was told this
-abbrev pub IsSomeTalk : Option (List ℕ) → List ℕ → Option (List ℕ) → List ℕ → Printed → Type 0
-IsSomeTalk input shape image_file told answer =
-    (image after : Option (List ℕ)) × IsHeldImage input image_file image
-    × IsTalkAnswer shape image input after told answer
+-- an answer of `talk` on this rack to standard input, where the session was told this, which leaves
+-- this one
+abbrev pub IsSomeTalk : Option (List ℕ) → SharedRack → List ℕ → Printed → Option Store → Type 0
+IsSomeTalk input rack told answer left =
+    (image after : Option (List ℕ)) × IsHeldImage input rack.image image
+    × IsTalkAnswer rack.shape image input after told answer left
 
 -- what is printed, behind what a session was told before
 abbrev pub behind_told : List ℕ → Printed → Printed
@@ -146,22 +143,26 @@ IsAnswerTo input (Switch batch (source.File schedule)) answer =
 IsAnswerTo input (Direct moves) answer = IsSomeDirect input moves answer
 IsAnswerTo input (Apply shape batch image workers) answer = IsSomeApply input shape batch image answer
 IsAnswerTo input (Run shape batch image workers) answer = IsSomeRun input shape batch image answer
-IsAnswerTo input (Serve shape scripts image workers) answer =
-    IsSomeServe input shape scripts image answer
-IsAnswerTo input (Host shape clients image workers) answer =
-    IsSomeHost input shape clients image answer
-IsAnswerTo input (Talk shape image) answer =
-    (told : List ℕ) × (end : Printed) × (answer ≡ behind_told told end)
-    × IsSomeTalk input shape image told end
+IsAnswerTo input C004 answer =
+    (replies : List ℕ) × (end : Printed) × (answer ≡ behind_told replies end)
+    × IsSomeC004 input replies end
+IsAnswerTo input (Serve rack scripts workers) answer =
+    (left : Option Store) × IsSomeServe input rack scripts answer left
+IsAnswerTo input (Host rack clients workers) answer =
+    (left : Option Store) × IsSomeHost input rack clients answer left
+IsAnswerTo input (Talk rack) answer =
+    (told : List ℕ) × (end : Printed) × (left : Option Store) × (answer ≡ behind_told told end)
+    × IsSomeTalk input rack told end left
 
 -- the job is `talk`
 abbrev pub IsTalk : Job → Type 0
-IsTalk (Talk shape image) = ⊤
+IsTalk (Talk rack) = ⊤
 IsTalk job = ⊥
 
--- what a session is told before there is an answer; there is one with `talk` alone
+-- what is told before there is an answer: to the session of `talk`, and what `c004` replies
 abbrev pub IsToldBy : Job → List ℕ → Type 0
-IsToldBy (Talk shape image) told = ⊤
+IsToldBy (Talk rack) told = ⊤
+IsToldBy C004 told = ⊤
 IsToldBy job told = told ≡ []
 
 -- which refusal that is

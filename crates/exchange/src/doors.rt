@@ -5,6 +5,14 @@ use session_answers::{AllThere, Doors};
 use std::alloc::Global;
 use std::fs::{File, OpenOptions};
 use std::io;
+use std::rt::Files;
+use std::sync::Wait;
+use std::thread::Threads;
+
+/// What the program asks of the system.
+pub trait System: AllocGlobal + Files + Threads + Wait + ClientFiles + Sync {}
+
+impl<R: AllocGlobal + Files + Threads + Wait + ClientFiles + Sync> System for R {}
 
 /// What opens the files of clients, in the thread of each. No contract says what the system's files hold.
 pub trait ClientFiles: Sync {

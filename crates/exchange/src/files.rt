@@ -3,7 +3,7 @@
 ghost use Rattle.std.specs.Prelude.{◌≡◌, ◌≢◌, ◌∷◌, [], IfOk, IfErr, Some, map, option_map};
 ghost use Rattle.plan_answers.specs.Lent.{bytes_of};
 ghost use Rattle.command_words.specs.Jobs.{NameInputOnce, input_name};
-ghost use Rattle.exchange.specs.Responses.{IsHeld, IsHeldImage, AreHeld};
+ghost use Rattle.exchange.specs.Files.{IsHeld, IsHeldImage, AreHeld};
 ghost use Rattle.exchange.specs.Outcomes.{IsMissed};
 
 use crate::notes::{Missed, unread};

@@ -1,45 +1,58 @@
 //! The answer to each job.
 
-ghost use Rattle.std.specs.Prelude.{◌≡◌, ◌∷◌, ◌++◌, [], List, ℕ, IfOk, option_to_list};
+ghost use Rattle.std.specs.Prelude.{◌≡◌, ◌∷◌, ◌++◌, [], List, ℕ, IfOk, Option, option_to_list};
 ghost use Rattle.std.specs.Io.KnownBytes.{Appends};
+ghost use Rattle.module_memory.specs.Store.{Store};
 ghost use Rattle.client_session.specs.Listening.{TellsOfRefusals};
 ghost use Rattle.plan_answers.specs.Lent.{bytes_of};
 ghost use Rattle.command_words.specs.Jobs.{CanBeServed, IsWithinLimits, NameInputOnce, files_of, input_name};
 ghost use Rattle.command_words.specs.declared.jobs.Job.TheVariants.{Plan, Switch};
-ghost use Rattle.exchange.specs.Responses.{IsSomeCheck, IsSomeDraw, IsSomeDirect, IsSomeApply, IsSomeRun, IsSomeServe, IsSomeHost, IsSomeTalk};
+ghost use Rattle.exchange.specs.Responses.{IsSomeCheck, IsSomeDraw, IsSomeDirect, IsSomeApply, IsSomeRun, IsSomeC004, IsSomeServe, IsSomeHost, IsSomeTalk};
 ghost use Rattle.exchange.specs.Responses.{IsAnswerTo, IsToldBy, behind_told};
 ghost use Rattle.exchange.specs.Notes.{IsBeside};
+ghost use Rattle.exchange.specs.Images.{IsKept, held_by};
 ghost use Rattle.exchange.specs.Outcomes.{HasNote};
 
 use crate::beside::Beside;
-use crate::doors::{ClientFiles, FileDoors};
+use crate::doors::{ClientFiles, FileDoors, System};
 use crate::files::{read_file, read_files, read_image, read_texts, slice_of};
+use crate::images::{ImageFile, open_image};
 use crate::notes::{
-    Answered, Missed, named, named_image, of_list, of_rack, of_schedule, with_note, with_rack_note,
+    Answered, Missed, alone, closed, named, named_image, of_list, of_rack, of_schedule,
+    reason_line, tell_note, with_note,
 };
+use crate::unwritten::Unwritten;
 use client_session::{Listener, Unheard};
-use command_words::{Job, Planning, Request, ScheduleSource, Text, TextList};
+use command_words::{Job, Planning, Request, ScheduleSource, SharedRack, Text, TextList};
 use exchange_limits::WorkerCount;
-use plan_answers::{answer_check, answer_direct, answer_draw, answer_plan, answer_plan_steady};
+use plan_answers::{
+    Answer, answer_check, answer_direct, answer_draw, answer_plan, answer_plan_steady,
+};
 use rack_answers::{
     answer_apply, answer_run, answer_switch, answer_switch_schedule, answer_switch_steady,
 };
 use refusal_notes::Listing;
-use session_answers::{answer_host, answer_serve, answer_talk};
+use session_answers::{Closing, Hosted, answer_host, answer_serve, answer_talk};
+use std::alloc::Global;
+use std::fs::OpenFile;
+use std::io;
 use std::io::{Read, Write};
 use std::rt::Files;
 use std::sync::Wait;
 use std::thread::Threads;
+use switch_end::{EndFault, SwitchEnd, attend};
 
 /// The answer to a job, or why it has none, with what is told beside it. A session of `talk` is
 /// told its replies on `out` before, and a line on `err` beside each that is a refusal, but for lack
-/// of memory.
-pub(crate) fn answer_to<
-    R: AllocGlobal + Files + Threads + Wait + ClientFiles + Sync,
-    I: Read,
-    O: Write,
-    E: Write,
->(rt: &R, request: Request, input: &mut I, out: &mut O, err: &mut E) -> Result<Answered, Missed>
+/// of memory. `c004` writes its answers to enquiries to `out` before, and tells on `err` what it drops.
+/// A file for the image that sessions leave is opened before any other is read.
+pub(crate) fn answer_to<R: System, I: Read, O: Write, E: Write>(
+    rt: &R,
+    request: Request,
+    input: &mut I,
+    out: &mut O,
+    err: &mut E,
+) -> Result<Answered, Missed>
     requires limits { IsWithinLimits request.job }
     requires input { NameInputOnce (files_of request.job) }
     ensures response { (told : List ℕ) × Appends (O.contents out.old) (O.contents out.new) told
@@ -72,24 +85,32 @@ pub(crate) fn answer_to<
             image,
             workers,
         } => run(rt, &shape, &batch, &image, workers, input),
+        Job::C004 if is_quiet => c004(rt.alloc(), input, out, &mut io::sink()),
+        Job::C004 => c004(rt.alloc(), input, out, err),
         Job::Serve {
-            shape,
+            rack,
             scripts,
-            image,
             workers,
-        } => serve(rt, &shape, &scripts, &image, workers, input),
-        Job::Host {
-            shape,
-            clients,
-            image,
-            workers,
-        } => host(rt, &shape, &clients, &image, workers, input),
-        Job::Talk { shape, image } if is_quiet => {
-            talk(rt, &shape, &image, input, out, &mut Unheard)
+        } => {
+            let mut file = open_image(rt, &rack.image_out)?;
+            serve(rt, &rack, &scripts, workers, input, &mut file)
         }
-        Job::Talk { shape, image } => {
-            let mut beside = Beside::new(rt.alloc(), shape.as_str(), err);
-            let end = talk(rt, &shape, &image, input, out, &mut beside);
+        Job::Host {
+            rack,
+            clients,
+            workers,
+        } => {
+            let mut file = open_image(rt, &rack.image_out)?;
+            host(rt, &rack, &clients, workers, input, &mut file)
+        }
+        Job::Talk { rack } if is_quiet => {
+            let mut file = open_image(rt, &rack.image_out)?;
+            talk(rt, &rack, input, out, &mut Unheard, &mut file)
+        }
+        Job::Talk { rack } => {
+            let mut file = open_image(rt, &rack.image_out)?;
+            let mut beside = Beside::new(rt.alloc(), rack.shape.as_str(), err);
+            let end = talk(rt, &rack, input, out, &mut beside, &mut file);
             // It does nothing when the program runs: the proof reads from it what `err` holds.
             beside.into_stream();
             end
@@ -277,75 +298,114 @@ fn run<R: AllocGlobal + Files + Threads + Sync, I: Read>(
     Ok(with_note(rt.alloc(), answer, texts))
 }
 
-/// The answer of `exchange serve SHAPE SCRIPT..`. The image's file, if one is named, is read first, and then the
-/// scripts' files in the order of the words, before the shape is looked at.
-fn serve<R: AllocGlobal + Files + Threads + Wait + Sync, I: Read>(
-    rt: &R,
-    shape: &Text,
-    scripts: &TextList,
-    image: &Option<Text>,
-    workers: WorkerCount,
+/// The answer of `exchange c004`, behind its answers to enquiries on `out`. What it drops is told on `err`, and so is why
+/// standard input can't be read any further.
+fn c004<I: Read, O: Write, E: Write>(
+    alloc: Global,
     input: &mut I,
+    out: &mut O,
+    err: &mut E,
 ) -> Result<Answered, Missed>
-    requires scripts { CanBeServed scripts.now }
-    requires input { NameInputOnce (option_to_list image.now ++ scripts.now) }
-    ensures answer { IfOk result (λ done.
-        IsSomeServe (I.remaining input.old) shape.now scripts.now image.now done.answer) }
+    ensures answer { (told : List ℕ) × Appends (O.contents out.old) (O.contents out.new) told
+        × IfOk result (λ done. IsSomeC004 (I.remaining input.old) told done.answer) }
     ensures note { HasNote result }
+    ensures beside { (told : List ℕ) × Appends (E.contents err.old) (E.contents err.new) told }
 {
-    let words = read_image(rt, image, input)?;
-    let files = read_files(rt, scripts.as_slice(), input)?;
-    let shape_text = shape.as_str().as_bytes();
-    let (files, words) = (files.as_slice(), slice_of(&words));
-    let answer = answer_serve(rt, rt.alloc(), shape_text, words, workers, files)?;
-    Ok(with_rack_note(rt.alloc(), answer, shape, image, words))
+    let mut end = SwitchEnd::new();
+    match attend(&mut end, input, out, err) {
+        Ok(()) => Ok(alone(Answer::done(Vec::new(alloc)))),
+        Err(EndFault::Read(error)) => {
+            tell_note(&reason_line(alloc, "-", &error), false, err);
+            Ok(alone(Answer::failed(Vec::new(alloc))))
+        }
+        Err(EndFault::Write(error)) => Err(Missed::Unwritten(Unwritten::Answer(error))),
+    }
 }
 
-/// The answer of `exchange host SHAPE CLIENT..`, behind the sessions of the clients. The image's file, if one is named, is read
-/// first.
-fn host<R: AllocGlobal + Files + Threads + Wait + ClientFiles + Sync, I: Read>(
+/// The answer of `exchange serve SHAPE SCRIPT..`, behind which the image of the rack is in its file. The image that it begins
+/// with, if one is named, is read first, and then the scripts' files in the order of the words, before the shape is looked at.
+fn serve<R: AllocGlobal + Files + Threads + Wait + Sync, I: Read, F: Write + OpenFile>(
     rt: &R,
-    shape: &Text,
-    clients: &TextList,
-    image: &Option<Text>,
+    rack: &SharedRack,
+    scripts: &TextList,
     workers: WorkerCount,
     input: &mut I,
+    file: &mut Option<ImageFile<'_, F>>,
 ) -> Result<Answered, Missed>
-    requires clients { CanBeServed clients.now }
-    ensures answer { IfOk result (λ done.
-        IsSomeHost (I.remaining input.old) shape.now clients.now image.now done.answer) }
+    requires scripts { CanBeServed scripts.now }
+    requires input { NameInputOnce (option_to_list rack.now.image ++ scripts.now) }
+    ensures answer { IfOk result (λ done. (left : Option Store)
+        × IsSomeServe (I.remaining input.old) rack.now scripts.now done.answer left
+        × IsKept (held_by F.contents) left file.old file.new done.lost) }
     ensures note { HasNote result }
 {
-    let words = read_image(rt, image, input)?;
-    let shape_text = shape.as_str().as_bytes();
+    let words = read_image(rt, &rack.image, input)?;
+    let files = read_files(rt, scripts.as_slice(), input)?;
+    let shape = rack.shape.as_str().as_bytes();
+    let (files, words) = (files.as_slice(), slice_of(&words));
+    let closing = answer_serve(rt, rt.alloc(), shape, words, workers, files)?;
+    Ok(closed(rt.alloc(), closing, rack, words, file))
+}
+
+/// The answer of `exchange host SHAPE CLIENT..`, behind the sessions of the clients, and behind which the image of the rack is
+/// in its file. The image that it begins with, if one is named, is read first.
+fn host<R: AllocGlobal + Files + Threads + Wait + ClientFiles + Sync, I: Read, F: Write + OpenFile>(
+    rt: &R,
+    rack: &SharedRack,
+    clients: &TextList,
+    workers: WorkerCount,
+    input: &mut I,
+    file: &mut Option<ImageFile<'_, F>>,
+) -> Result<Answered, Missed>
+    requires clients { CanBeServed clients.now }
+    ensures answer { IfOk result (λ done. (left : Option Store)
+        × IsSomeHost (I.remaining input.old) rack.now clients.now done.answer left
+        × IsKept (held_by F.contents) left file.old file.new done.lost) }
+    ensures note { HasNote result }
+{
+    let words = read_image(rt, &rack.image, input)?;
+    let shape = rack.shape.as_str().as_bytes();
     let words = slice_of(&words);
     let alloc = rt.alloc();
     let clients = clients.as_slice();
     let doors = FileDoors { rt, alloc, clients };
-    let hosted = answer_host(rt, alloc, shape_text, words, workers, &doors)?;
-    Ok(with_rack_note(alloc, hosted.answer, shape, image, words))
+    let hosted = answer_host(rt, alloc, shape, words, workers, &doors)?;
+    let Hosted {
+        answer,
+        rack: left,
+        ..
+    } = hosted;
+    let closing = Closing { answer, rack: left };
+    Ok(closed(alloc, closing, rack, words, file))
 }
 
-/// The answer of `exchange talk SHAPE`, behind a session over `input` and `out`, of whose refusals the listener is told.
-/// The image's file, if one is named, is read first.
-fn talk<R: AllocGlobal + Files + Threads + Wait + Sync, I: Read, O: Write, H: Listener>(
+/// The answer of `exchange talk SHAPE`, behind a session over `input` and `out`, of whose refusals the listener is told, and
+/// behind which the image of the rack is in its file. The image that it begins with, if one is named, is read first.
+fn talk<
+    R: AllocGlobal + Files + Threads + Wait + Sync,
+    I: Read,
+    O: Write,
+    H: Listener,
+    F: Write + OpenFile,
+>(
     rt: &R,
-    shape: &Text,
-    image: &Option<Text>,
+    rack: &SharedRack,
     input: &mut I,
     out: &mut O,
     listener: &mut H,
+    file: &mut Option<ImageFile<'_, F>>,
 ) -> Result<Answered, Missed>
-    requires input { NameInputOnce (option_to_list image.now ++ input_name ∷ []) }
+    requires input { NameInputOnce (option_to_list rack.now.image ++ input_name ∷ []) }
     ensures answer { (told : List ℕ) × Appends (O.contents out.old) (O.contents out.new) told
-        × IfOk result (λ done.
-        IsSomeTalk (I.remaining input.old) shape.now image.now told done.answer) }
+        × IfOk result (λ done. (left : Option Store)
+        × IsSomeTalk (I.remaining input.old) rack.now told done.answer left
+        × IsKept (held_by F.contents) left file.old file.new done.lost) }
     ensures note { HasNote result }
     ensures beside { TellsOfRefusals H.may_tell (H.told listener.old) (H.told listener.new) }
 {
-    let words = read_image(rt, image, input)?;
-    let shape_text = shape.as_str().as_bytes();
+    let words = read_image(rt, &rack.image, input)?;
+    let shape = rack.shape.as_str().as_bytes();
     let words = slice_of(&words);
-    let answer = answer_talk(rt, rt.alloc(), shape_text, words, input, out, listener)?;
-    Ok(with_rack_note(rt.alloc(), answer, shape, image, words))
+    let closing = answer_talk(rt, rt.alloc(), shape, words, input, out, listener)?;
+    Ok(closed(rt.alloc(), closing, rack, words, file))
 }

@@ -7,11 +7,13 @@
 mod beside;
 mod doors;
 mod files;
+mod images;
 mod jobs;
 mod limits;
 mod notes;
 mod responding;
 mod unanswered;
+mod unwritten;
 
 use crate::responding::respond;
 use std::process::ExitCode;

@@ -1,16 +1,22 @@
 //! What is told beside an answer.
 
-ghost use Rattle.std.specs.Prelude.{◌≡◌, IfOk, option_map, string_bytes};
-ghost use Rattle.exchange.specs.Notes.{IsBegun, IsNoteOn, IsToldUnless};
-ghost use Rattle.exchange.specs.Responses.{unanswered};
-ghost use Rattle.exchange.specs.declared.unanswered.Unanswered.TheVariants.{File};
+ghost use Rattle.std.specs.Prelude.{◌≡◌, IfSome, None, option_map, string_bytes};
+ghost use Rattle.exchange.specs.Images.{IsKept, held_by};
+ghost use Rattle.exchange.specs.Notes.{IsBegun, IsNoteOn, IsToldUnless, IsWholeLine};
+ghost use Rattle.exchange.specs.Outcomes.{IsMissed};
 
+use crate::images::{ImageFile, keep_image};
 use crate::unanswered::Unanswered;
-use command_words::Text;
+use crate::unwritten::Unwritten;
+use byte_streams::write_bytes;
+use command_words::{SharedRack, Text};
+use module_memory::Rack;
 use plan_answers::Answer;
 use refusal_notes::{Listing, Named, Texts, file_line, second_line};
 use refusals::Validity;
+use session_answers::Closing;
 use std::alloc::{AllocError, Global};
+use std::fs::OpenFile;
 use std::io;
 use std::io::{ErrorKind, Write};
 
@@ -19,23 +25,31 @@ use std::io::{ErrorKind, Write};
 pub(crate) struct Answered {
     pub(crate) answer: Answer,
     pub(crate) note: Option<String>,
+    /// The image that the answer leaves, where it couldn't be written.
+    pub(crate) lost: Option<Unwritten>,
 }
 
-/// Why there is no answer, with the line that is told beside it.
+/// Why there is no answer.
 #[derive(Drop)]
-pub(crate) struct Missed {
-    pub(crate) why: Unanswered,
-    pub(crate) note: Option<String>,
+pub(crate) enum Missed {
+    /// It is refused, with the line that is told beside that.
+    Refused {
+        why: Unanswered,
+        note: Option<String>,
+    },
+    /// What stands before it couldn't be written.
+    Unwritten(Unwritten),
 }
 
 impl From<AllocError> for Missed {
     ghost use Rattle.std.specs.Prelude.{◌≡◌, None};
+    ghost use Rattle.exchange.specs.declared.notes.Missed.TheVariants.{Refused};
     ghost use Rattle.exchange.specs.declared.unanswered.Unanswered.TheVariants.{NoMemory};
 
-    ghost from_gives = { λ _ missed. (missed.why ≡ NoMemory) × (missed.note ≡ None) };
+    ghost from_gives = { λ _ missed. missed ≡ Refused NoMemory None };
 
     fn from(_error: AllocError) -> Missed {
-        Missed {
+        Missed::Refused {
             why: Unanswered::NoMemory,
             note: None,
         }
@@ -48,22 +62,46 @@ pub(crate) fn with_note(alloc: Global, answer: Answer, texts: Texts<'_>) -> Answ
     ensures note { IsNoteOn result.answer (option_map (λ line. string_bytes line) result.note) }
 {
     let note = note_on(alloc, &answer, texts);
-    Answered { answer, note }
+    Answered {
+        answer,
+        note,
+        lost: None,
+    }
 }
 
-/// An answer of sessions on a rack of this shape, with what is told beside it where that is a refusal.
-pub(crate) fn with_rack_note<'a>(
-    alloc: Global,
-    answer: Answer,
-    shape: &'a Text,
-    image: &'a Option<Text>,
-    words: Option<&'a [u8]>,
-) -> Answered
-    ensures answer { result.answer ≡ answer }
-    ensures note { IsNoteOn result.answer (option_map (λ line. string_bytes line) result.note) }
+/// An answer beside which there is nothing to tell.
+pub(crate) fn alone(answer: Answer) -> Answered
+    ensures { result ≡ record { answer = answer; note = None; lost = None } }
 {
-    let texts = of_rack(shape.as_str(), Named::NONE, named_image(image, words));
-    with_note(alloc, answer, texts)
+    Answered {
+        answer,
+        note: None,
+        lost: None,
+    }
+}
+
+/// An answer of sessions on the rack that was asked for, whose image had these bytes, with what is told beside it where
+/// that is a refusal. The image of the rack that they leave goes to the file for it.
+pub(crate) fn closed<'a, F: Write + OpenFile>(
+    alloc: Global,
+    closing: Closing,
+    rack: &'a SharedRack,
+    words: Option<&'a [u8]>,
+    out: &mut Option<ImageFile<'_, F>>,
+) -> Answered
+    ensures answer { result.answer ≡ closing.answer }
+    ensures note { IsNoteOn result.answer (option_map (λ line. string_bytes line) result.note) }
+    ensures kept { IsKept (held_by F.contents) closing.rack out.old out.new result.lost }
+{
+    let Closing { answer, rack: left } = closing;
+    let texts = of_rack(
+        rack.shape.as_str(),
+        Named::NONE,
+        named_image(&rack.image, words),
+    );
+    let note = note_on(alloc, &answer, texts);
+    let lost = keep_image(alloc, &left, out);
+    Answered { answer, note, lost }
 }
 
 /// A batch, or moves, alone.
@@ -108,22 +146,22 @@ fn note_on(alloc: Global, answer: &Answer, texts: Texts<'_>) -> Option<String>
     second_line(alloc, answer.refusal()?, texts)
 }
 
-/// Why there is no answer where a file of this name can't be read, and what is told of it.
+/// Why there is no answer where a file of this name can't be read, or opened, and what is told of it.
 pub(crate) fn unread(alloc: Global, name: &Text, error: &io::Error) -> Missed
-    ensures { IsNoteOn (unanswered result.why) (option_map (λ line. string_bytes line) result.note) }
+    ensures { IsMissed result }
 {
     match error.kind() {
         ErrorKind::OutOfMemory => Missed::from(AllocError),
-        _ => Missed {
+        _ => Missed::Refused {
             why: Unanswered::File,
-            note: unread_line(alloc, name.as_str(), error),
+            note: reason_line(alloc, name.as_str(), error),
         },
     }
 }
 
-/// What is told of a file of this name that can't be read.
-fn unread_line(alloc: Global, name: &str, error: &io::Error) -> Option<String>
-    ensures { IsNoteOn (unanswered File) (option_map (λ line. string_bytes line) result) }
+/// What is told of a file of this name for this reason.
+pub(crate) fn reason_line(alloc: Global, name: &str, error: &io::Error) -> Option<String>
+    ensures { IfSome result (λ line. IsWholeLine (string_bytes line)) }
 {
     match error.to_string(alloc) {
         Ok(reason) => file_line(alloc, name, reason.as_str()),
@@ -166,12 +204,5 @@ pub(crate) fn tell_note<E: Write>(note: &Option<String>, is_quiet: bool, err: &m
 pub(crate) fn tell<E: Write>(line: &[u8], err: &mut E)
     ensures { IsBegun (E.contents err.old) (E.contents err.new) line.now }
 {
-    let mut rest = line;
-    while !rest.is_empty() {
-        match err.write(rest) {
-            Ok(0) => return,
-            Ok(n) => rest = &rest[n..],
-            Err(_) => return,
-        }
-    }
+    let _ = write_bytes(err, line);
 }

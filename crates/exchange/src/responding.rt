@@ -1,17 +1,18 @@
 //! From the words of the command line to what is printed, and the status that the program ends with.
 
-ghost use Rattle.std.specs.Prelude.{◌≡◌, ◌⊎◌, IfOk, OnErr, option_map, string_bytes};
+ghost use Rattle.std.specs.Prelude.{◌≡◌, ◌⊎◌, IfOk, None, OnErr, option_map, string_bytes};
 ghost use Rattle.std.specs.Process.{exit_status};
 ghost use Rattle.command_words.specs.Jobs.{texts_of};
 ghost use Rattle.exchange.specs.Responses.{unanswered};
 ghost use Rattle.exchange.specs.Notes.{IsToldUnless};
 ghost use Rattle.exchange.specs.Ends.{IsPrinted, streams_of, IsEndForWords, IsEndWithoutWords};
 
-use crate::doors::ClientFiles;
+use crate::doors::System;
 use crate::jobs::answer_to;
 use crate::limits::{MISUSED, UNWRITTEN};
 use crate::notes::{Answered, Missed, tell_note};
 use crate::unanswered::Unanswered;
+use crate::unwritten::Unwritten;
 use command_words::{WordsFault, read_words};
 use plan_answers::{Answer, DONE, REFUSED};
 use refusals::Refusal;
@@ -19,21 +20,19 @@ use std::alloc::{AllocError, Global};
 use std::io;
 use std::io::{ErrorKind, Read, Write};
 use std::process::ExitCode;
-use std::rt::Files;
-use std::sync::Wait;
-use std::thread::Threads;
 
 /// Does what the words ask for, prints what there is to say of it, and gives the status that the program
 /// ends with: [`UNWRITTEN`] where that can't be printed.
 ///
 /// A file that is `-` is read from `input`. Answers, refusals and the texts of help go to `out`; words that fit no
 /// command are answered on `err`.
-pub fn respond<
-    R: AllocGlobal + Files + Threads + Wait + ClientFiles + Sync,
-    I: Read,
-    O: Write,
-    E: Write,
->(rt: &R, words: io::Result<Vec<String>>, input: &mut I, out: &mut O, err: &mut E) -> ExitCode
+pub fn respond<R: System, I: Read, O: Write, E: Write>(
+    rt: &R,
+    words: io::Result<Vec<String>>,
+    input: &mut I,
+    out: &mut O,
+    err: &mut E,
+) -> ExitCode
     ensures words { IfOk words (λ w. (exit_status result ≡ UNWRITTEN)
         ⊎ IsEndForWords (texts_of w.items) (I.remaining input.old) (streams_of (O.contents out.old)
         (O.contents out.new) (E.contents err.old) (E.contents err.new)) (exit_status result)) }
@@ -46,16 +45,16 @@ pub fn respond<
     }
 }
 
-/// The status that the program ends with. That something can't be written is told on `err`.
-fn status_of<E: Write>(end: io::Result<u8>, err: &mut E) -> ExitCode
+/// The status that the program ends with. What couldn't be written is told on `err`.
+fn status_of<E: Write>(end: Result<u8, Unwritten>, err: &mut E) -> ExitCode
     ensures done { IfOk end (λ status.
         (exit_status result ≡ status) × (E.contents err.new ≡ E.contents err.old)) }
     ensures unwritten { OnErr end (exit_status result ≡ UNWRITTEN) }
 {
     match end {
         Ok(status) => ExitCode::from(status),
-        Err(error) => {
-            let _ = err.writeln(format_args!("exchange: the answer can't be written: {error}"));
+        Err(unwritten) => {
+            unwritten.tell(err);
             ExitCode::from(UNWRITTEN)
         }
     }
@@ -66,7 +65,7 @@ fn print_without_words<O: Write, E: Write>(
     error: &io::Error,
     out: &mut O,
     err: &mut E,
-) -> io::Result<u8>
+) -> Result<u8, Unwritten>
     ensures { IfOk result (IsEndWithoutWords (O.contents out.old) (O.contents out.new)) }
 {
     if error.kind() == ErrorKind::OutOfMemory {
@@ -78,12 +77,13 @@ fn print_without_words<O: Write, E: Write>(
 
 /// Does what the words ask for, prints its answer, or why it has none, and tells a line beside a refusal. The error is
 /// that of writing the answer.
-fn print_response<
-    R: AllocGlobal + Files + Threads + Wait + ClientFiles + Sync,
-    I: Read,
-    O: Write,
-    E: Write,
->(rt: &R, words: &[String], input: &mut I, out: &mut O, err: &mut E) -> io::Result<u8>
+fn print_response<R: System, I: Read, O: Write, E: Write>(
+    rt: &R,
+    words: &[String],
+    input: &mut I,
+    out: &mut O,
+    err: &mut E,
+) -> Result<u8, Unwritten>
     ensures { IfOk result (IsEndForWords (texts_of words.now) (I.remaining input.old)
         (streams_of (O.contents out.old) (O.contents out.new) (E.contents err.old)
         (E.contents err.new))) }
@@ -92,8 +92,9 @@ fn print_response<
         Ok(request) => {
             let is_quiet = request.is_quiet;
             match answer_to(rt, request, input, out, err) {
-                Ok(done) => print_noted(&done, is_quiet, out, err),
-                Err(missed) => refuse_noted(&missed, is_quiet, out, err),
+                Ok(done) => print_noted(done, is_quiet, out, err),
+                Err(Missed::Refused { why, note }) => refuse_noted(why, &note, is_quiet, out, err),
+                Err(Missed::Unwritten(unwritten)) => Err(unwritten),
             }
         }
         Err(WordsFault::NoMemory) => refuse(Unanswered::NoMemory, out),
@@ -131,43 +132,48 @@ fn installed_help(alloc: Global, help: &clap::Error) -> Result<String, AllocErro
     text.as_str().replace(alloc, "./exchange", "exchange")
 }
 
-/// Prints an answer, then tells what there is to tell beside it, and gives the answer's status.
+/// Prints an answer, then tells what there is to tell beside it, and gives the answer's status. The error is what couldn't
+/// be written, the answer or before it the image that it leaves.
 fn print_noted<O: Write, E: Write>(
-    done: &Answered,
+    done: Answered,
     is_quiet: bool,
     out: &mut O,
     err: &mut E,
-) -> io::Result<u8>
-    ensures printed { IfOk result (IsPrinted (O.contents out.old) (O.contents out.new) done.now.answer) }
-    ensures told { IsToldUnless is_quiet
-        (option_map (λ line. string_bytes line) done.now.note)
+) -> Result<u8, Unwritten>
+    ensures printed { IfOk result (λ status. IsPrinted (O.contents out.old) (O.contents out.new)
+        done.answer status × (done.lost ≡ None)) }
+    ensures told { IsToldUnless is_quiet (option_map (λ line. string_bytes line) done.note)
         (E.contents err.old) (E.contents err.new) }
 {
-    let status = print(&done.answer, out)?;
-    tell_note(&done.note, is_quiet, err);
-    Ok(status)
+    let Answered { answer, note, lost } = done;
+    let status = print(&answer, out)?;
+    tell_note(&note, is_quiet, err);
+    match lost {
+        Some(lost) => Err(lost),
+        None => Ok(status),
+    }
 }
 
 /// Prints why there is no answer, then tells what there is to tell beside it, and gives the status of a refusal.
 fn refuse_noted<O: Write, E: Write>(
-    missed: &Missed,
+    why: Unanswered,
+    note: &Option<String>,
     is_quiet: bool,
     out: &mut O,
     err: &mut E,
-) -> io::Result<u8>
+) -> Result<u8, Unwritten>
     ensures printed { IfOk result
-        (IsPrinted (O.contents out.old) (O.contents out.new) (unanswered missed.now.why)) }
-    ensures told { IsToldUnless is_quiet
-        (option_map (λ line. string_bytes line) missed.now.note)
+        (IsPrinted (O.contents out.old) (O.contents out.new) (unanswered why)) }
+    ensures told { IsToldUnless is_quiet (option_map (λ line. string_bytes line) note.now)
         (E.contents err.old) (E.contents err.new) }
 {
-    let status = refuse(missed.why, out)?;
-    tell_note(&missed.note, is_quiet, err);
+    let status = refuse(why, out)?;
+    tell_note(note, is_quiet, err);
     Ok(status)
 }
 
 /// Prints an answer, and gives its status.
-fn print<O: Write>(answer: &Answer, out: &mut O) -> io::Result<u8>
+fn print<O: Write>(answer: &Answer, out: &mut O) -> Result<u8, Unwritten>
     ensures { IfOk result (IsPrinted (O.contents out.old) (O.contents out.new) answer.now) }
 {
     out.write_all(answer.text())?;
@@ -175,7 +181,7 @@ fn print<O: Write>(answer: &Answer, out: &mut O) -> io::Result<u8>
 }
 
 /// Prints why there is no answer, and gives the status of a refusal.
-fn refuse<O: Write>(why: Unanswered, out: &mut O) -> io::Result<u8>
+fn refuse<O: Write>(why: Unanswered, out: &mut O) -> Result<u8, Unwritten>
     ensures { IfOk result (IsPrinted (O.contents out.old) (O.contents out.new) (unanswered why)) }
 {
     out.write_all(Refusal::from(why).line().as_bytes())?;

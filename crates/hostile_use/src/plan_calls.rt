@@ -10,8 +10,9 @@ use batch::Batch;
 use link_graph::Schedule;
 use module_memory::Rack;
 use schedule_certificate::{Planned, first_fit};
-use setting_runner::{Notice, Outcome, PairList, run, setting_numbers};
+use setting_runner::{Notice, Outcome, run, setting_numbers};
 use std::thread::Threads;
+use switch_settings::PairList;
 
 /// Whether these are the settings `0 1`, `2` and `3`.
 fn is_first_fit(schedule: &Schedule) -> bool {

@@ -16,8 +16,8 @@ use Rattle.crossbar.specs.declared.chip.Wiring.{Wiring}
 use Rattle.crossbar.specs.declared.pair.Pair.{Pair}
 use Rattle.link_graph.specs.Marks.{members}
 use Rattle.module_memory.specs.Core.{setting_of}
-use Rattle.setting_runner.specs.Runs.{joined_pair, setting_pairs}
-use Rattle.setting_runner.specs.Sending.{started_by, in_order}
+use Rattle.switch_settings.specs.Sending.{started_by, in_order}
+use Rattle.switch_settings.specs.Settings.{joined_pair, setting_pairs}
 use Rattle.steady_schedule.specs.Changes.{join, join_within, join_same}
 use Rattle.rack_answers.specs.Laws.{HeldIsSettled}
 

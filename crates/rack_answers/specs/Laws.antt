@@ -6,10 +6,10 @@ use Rattle.c004_commands.specs.declared.command.Command.TheVariants.{Settle}
 use Rattle.crossbar.specs.declared.chip.Wiring.{Wiring}
 use Rattle.link_graph.specs.Schedules.{IsScheduleOf}
 use Rattle.schedule_certificate.specs.Plans.{Plan}
-use Rattle.setting_runner.specs.Sending.{turning}
+use Rattle.switch_settings.specs.Sending.{pairs_at, standing_before, turning}
 use Rattle.steady_schedule.specs.Changes.{join_same}
 use Rattle.steady_schedule.specs.Needs.{setting_at}
-use Rattle.rack_answers.specs.Switching.{pairs_in, pairs_before, schedule_text, switch_text}
+use Rattle.rack_answers.specs.Switching.{schedule_text, switch_text}
 
 -- what is told for a plan is what a run of it sends
 abbrev pub ToldIsSent : Type 0
@@ -22,5 +22,5 @@ HeldIsSettled =
     (batch : List Transfer) (settings : List (List ℕ)) (k : ℕ) (wiring : Wiring)
     → IsBatch batch → IsScheduleOf batch settings → k + 1 < length settings
     → join_same batch (setting_at settings k) (setting_at settings (k + 1)) ≡ true
-    → turning wiring (pairs_before batch settings (k + 1)) (pairs_in batch settings (k + 1))
+    → turning wiring (standing_before batch settings (k + 1)) (pairs_at batch settings (k + 1))
     ≡ Settle ∷ []

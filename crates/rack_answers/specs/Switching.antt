@@ -1,8 +1,8 @@
 -- What `switch` answers: what the switches of a rack are sent for a schedule, setting by setting.
 -- The texts are this project's choice.
-use Rattle.std.specs.Prelude.{◌≡◌, ℕ, zero, suc, ◌++◌, ◌||◌, Bool, List, [], Option, Some, None, if◌then◌else◌, codes, length, nat_le, slice_index_or}
+use Rattle.std.specs.Prelude.{◌≡◌, ℕ, ◌++◌, Bool, List, [], if◌then◌else◌, codes, length}
 use Rattle.std.specs.Fmt.{decimal}
-use Rattle.std.specs.List.{flat_map, list_any, range_with_len}
+use Rattle.std.specs.List.{flat_map, range_with_len}
 use Rattle.batch.specs.declared.fault.BatchFault.{BatchFault}
 use Rattle.batch.specs.declared.transfer.Transfer.{Transfer}
 use Rattle.batch.specs.Extent.{Extent}
@@ -10,34 +10,19 @@ use Rattle.batch.specs.Text.{Denotes}
 use Rattle.batch.specs.Faults.{IsFirstFault}
 use Rattle.c004_commands.specs.Commands.{text}
 use Rattle.c004_commands.specs.declared.command.Command.{Command}
-use Rattle.c004_commands.specs.declared.port.TheConstants.{PORTS}
 use Rattle.crossbar.specs.declared.chip.Wiring.{Wiring}
 use Rattle.crossbar.specs.declared.chip.Wiring.TheVariants.{Both, Forth, Back}
-use Rattle.crossbar.specs.declared.pair.Pair.{Pair}
-use Rattle.crossbar.specs.declared.switch.TheConstants.{JOINED_MODULES}
 use Rattle.refusals.specs.declared.refusal.Refusal.{Refusal}
 use Rattle.refusals.specs.Refusals.{refusal_words}
 use Rattle.refusals.specs.Sources.{of_batch}
 use Rattle.schedule_certificate.specs.Plans.{Plan, IsPlan, HasFewReinsertions}
-use Rattle.setting_runner.specs.Runs.{setting_pairs}
-use Rattle.setting_runner.specs.Sending.{in_order, turning, sent_for}
 use Rattle.steady_schedule.specs.Plans.{SteadyPlan, IsSteady}
+use Rattle.switch_settings.specs.Racks.{is_wide}
+use Rattle.switch_settings.specs.Sending.{sent_for}
 use Rattle.line_words.specs.HexWords.{hex2}
 use Rattle.plan_answers.specs.declared.limits.TheConstants.{DONE}
 use Rattle.plan_answers.specs.Refusals.{Printed, IsRefused}
 use Rattle.plan_answers.specs.Validities.{IsScheduleRead, IsInvalid}
-
--- the transfer names a module that one switch doesn't join
-abbrev pub is_far : Transfer → Bool
-is_far t = nat_le JOINED_MODULES t.initiator || nat_le JOINED_MODULES t.responder
-
--- a rack that has the modules of these transfers has two switches
-abbrev pub is_wide : List Transfer → Bool
-is_wide batch = list_any is_far batch
-
--- how many modules the switches of such a rack join
-abbrev pub joined_by : Bool → ℕ
-joined_by wide = if wide then PORTS else JOINED_MODULES
 
 -- bytes of two hexadecimal digits each, with a space before each
 abbrev pub bytes_text : List ℕ → List ℕ
@@ -65,20 +50,10 @@ lines_for wide setting sent =
 
 -- ---- any schedule
 
--- the pairs of a setting, in the order of their initiators
-abbrev pub pairs_in : List Transfer → List (List ℕ) → ℕ → List Pair
-pairs_in batch settings k = in_order (setting_pairs batch (slice_index_or settings k []))
-
--- the pairs that stand before it: before the first none are known
-abbrev pub pairs_before : List Transfer → List (List ℕ) → ℕ → Option (List Pair)
-pairs_before batch settings zero = None
-pairs_before batch settings (suc k) = Some (pairs_in batch settings k)
-
 -- the lines of a setting: what turns the switches to its pairs
 abbrev pub turning_lines : List Transfer → List (List ℕ) → ℕ → List ℕ
 turning_lines batch settings k =
-    lines_for (is_wide batch) k
-    (λ wiring. turning wiring (pairs_before batch settings k) (pairs_in batch settings k))
+    lines_for (is_wide batch) k (λ wiring. sent_for wiring batch settings k)
 
 -- the lines of all settings, in their order
 abbrev pub schedule_text : List Transfer → List (List ℕ) → List ℕ
@@ -112,7 +87,8 @@ pub data IsSwitchedSteadily (shape : Extent) (batch : List ℕ) (printed : Print
 
 -- the lines of a plan's setting: what a run sends for it
 abbrev pub setting_lines : Plan → ℕ → List ℕ
-setting_lines plan k = lines_for (is_wide plan.batch) k (λ wiring. sent_for wiring plan k)
+setting_lines plan k =
+    lines_for (is_wide plan.batch) k (λ wiring. sent_for wiring plan.batch plan.settings k)
 
 -- the lines of all settings, in their order
 abbrev pub switch_text : Plan → List ℕ

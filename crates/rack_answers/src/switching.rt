@@ -5,25 +5,23 @@ ghost use Rattle.batch.specs.Extent.{widest};
 ghost use Rattle.crossbar.specs.Pairs.{ArePairs, room_of};
 ghost use Rattle.link_graph.specs.Schedules.{IsScheduleOf};
 ghost use Rattle.plan_answers.specs.Answers.{IsOnly};
-ghost use Rattle.setting_runner.specs.Sending.{turning};
+ghost use Rattle.switch_settings.specs.Racks.{joined_by};
+ghost use Rattle.switch_settings.specs.Sending.{turning};
 ghost use Rattle.rack_answers.specs.Reports.{Adds};
-ghost use Rattle.rack_answers.specs.Switching.{is_wide as needs_two, joined_by, bytes_text, setting_head as head_of, switch_line, lines_for, TellsSwitch, IsSwitched, IsSwitchedSteadily, IsSwitchedAs};
+ghost use Rattle.rack_answers.specs.Switching.{bytes_text, setting_head as head_of, switch_line, lines_for, TellsSwitch, IsSwitched, IsSwitchedSteadily, IsSwitchedAs};
 
 use crate::spaced::push_spaced;
-use batch::{Batch, Shape, Transfer};
-use crossbar::{JOINED_MODULES, Pair, Wiring};
+use batch::{Batch, Shape};
+use crossbar::{Pair, Wiring};
 use exchange_limits::WorkerCount;
 use line_words::{Line, hex2_of};
 use link_graph::Schedule;
 use plan_answers::{Answer, ScheduleTexts};
 use schedule_certificate::{OpenGate, schedule, schedule_alone};
-use setting_runner::{PairList, WIDE_CHANGE_BYTES, bytes_for};
 use std::alloc::{AllocError, Global};
 use std::thread::Threads;
 use steady_schedule::steady;
-
-/// The most modules that one switch joins.
-const JOINED: usize = JOINED_MODULES as usize;
+use switch_settings::{PairList, WIDE_CHANGE_BYTES, bytes_for, is_wide, numbers_of_setting};
 
 /// Puts bytes at the end of the text, each after a space and as two hexadecimal digits.
 fn push_bytes(text: &mut Vec<u8>, bytes: &[u8]) -> Result<(), AllocError>
@@ -89,15 +87,6 @@ fn push_setting(
     }
 }
 
-/// Whether a rack that has the modules of these transfers has two switches.
-fn is_wide(transfers: &[Transfer]) -> bool
-    ensures { result ≡ needs_two transfers.now }
-{
-    transfers
-        .iter()
-        .any(|t| JOINED <= t.initiator || JOINED <= t.responder)
-}
-
 /// The answer that tells what the switches are sent for a schedule of the batch.
 fn tell(alloc: Global, batch: &Batch, schedule: &Schedule) -> Result<Answer, AllocError>
     requires { IsScheduleOf batch.now schedule.now }
@@ -107,7 +96,7 @@ fn tell(alloc: Global, batch: &Batch, schedule: &Schedule) -> Result<Answer, All
     let mut text = Vec::new(alloc);
     let mut standing = None;
     for number in 0..schedule.settings() {
-        let pairs = PairList::of_setting(batch, schedule.setting(number).unwrap());
+        let pairs = PairList::of_setting(batch, numbers_of_setting(batch, schedule, number));
         push_setting(&mut text, wide, number, &standing, pairs.as_slice())?;
         standing = Some(pairs);
     }

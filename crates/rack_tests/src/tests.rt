@@ -1,4 +1,4 @@
-//! Tests of the crates from `setting_runner` to `client_session`.
+//! Tests of the crates from `switch_settings` to `client_session`.
 
 mod book;
 mod common;

@@ -11,15 +11,15 @@ use std::fmt::Display;
 /// The line that is told on standard error beside this refusal, with its line feed: which line of which text, what
 /// stands there, and what is wanted there.
 ///
-/// There is none of want of memory, nor of a file that can't be read, of which [`file_line`] tells. There is none where there
-/// is no memory for it. Takes time that grows with the lengths of the texts.
+/// There is none of want of memory, nor of a file or a port that can't be opened, of which [`file_line`] tells. There is none
+/// where there is no memory for it. Takes time that grows with the lengths of the texts.
 pub fn second_line(alloc: Global, refusal: Refusal, texts: Texts<'_>) -> Option<String>
     ensures text { IfSome result (λ text.
         (words : List ℕ) × (string_bytes text ≡ line_told words)) }
     ensures refusal { IfSome result (λ _. refusal ≢ Refusal.NoMemory) }
 {
     match refusal {
-        Refusal::NoMemory | Refusal::File => None,
+        Refusal::NoMemory | Refusal::File | Refusal::Port(_) => None,
         _ => told(alloc, &Note { refusal, texts }),
     }
 }
@@ -48,7 +48,7 @@ pub fn session_line<'a>(
     second_line(alloc, refusal, texts)
 }
 
-/// The line that is told on standard error of a file that can't be read, for this reason, without the
+/// The line that is told on standard error of a file that can't be read, or opened, for this reason, without the
 /// system's number for it; none where there is no memory for the line.
 pub fn file_line(alloc: Global, name: &str, reason: &str) -> Option<String>
     ensures { IfSome result (λ text. (words : List ℕ) × (string_bytes text ≡ line_told words)) }

@@ -132,6 +132,7 @@ impl<'a> Display for Note<'a> {
             | Refusal::Shape
             | Refusal::Image { .. }
             | Refusal::Overlap(..)
+            | Refusal::Ports(_)
             | Refusal::Threads => write_asked(f, *self),
             Refusal::NoCertificate
             | Refusal::CheckUnknown(_)
@@ -149,7 +150,7 @@ impl<'a> Display for Note<'a> {
             | Refusal::Memory(_)
             | Refusal::BookFull
             | Refusal::HistoryFull => write_sent(f, *self),
-            Refusal::File | Refusal::NoMemory => Ok(()),
+            Refusal::File | Refusal::Port(_) | Refusal::NoMemory => Ok(()),
         }
     }
 }

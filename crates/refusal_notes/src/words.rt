@@ -148,7 +148,7 @@ fn write_counts<W: Write>(f: &mut Formatter<W>, named: Named<'_>, listing: Listi
     write!(f, "{named}: {lines}, and line 1 says {said}")
 }
 
-/// Writes what is told of a word, of how many settings there are, of an image, an overlap, or threads.
+/// Writes what is told of a word, of how many settings there are, of an image, an overlap, ports, or threads.
 pub(crate) fn write_asked<W: Write>(f: &mut Formatter<W>, note: Note<'_>) -> fmt::Result {
     let (other, shape) = (note.texts.other, note.texts.shape);
     match note.refusal {
@@ -172,8 +172,24 @@ pub(crate) fn write_asked<W: Write>(f: &mut Formatter<W>, note: Note<'_>) -> fmt
             write!(f, "{other}: {bytes}; an image of {shape} has {wanted}")
         }
         Refusal::Overlap(t, u) => write_overlap(f, note.texts.list, t, u),
+        Refusal::Ports(wanted) => write_ports(f, note.texts.list, wanted),
         _ => f.write_str("no thread could be had for each client; fewer clients may do"),
     }
+}
+
+/// Writes how many ports are wanted, and why.
+fn write_ports<W: Write>(f: &mut Formatter<W>, list: Named<'_>, wanted: usize) -> fmt::Result {
+    let (named, ports) = match wanted {
+        1 => (
+            "no module above 15 is named",
+            "one switch, and PORT alone is wanted",
+        ),
+        _ => (
+            "a module above 15 is named",
+            "two switches, and PORT and PORT_B are wanted",
+        ),
+    };
+    write!(f, "{list}: {named}: {ports}")
 }
 
 /// Writes which block two transfers write.

@@ -5,6 +5,8 @@ use Rattle.link_graph.specs.declared.link.Link.{Link}
 use Rattle.link_graph.specs.ScheduleText.{end_number}
 use Rattle.module_memory.specs.declared.fault.MemoryFault.{MemoryFault}
 use Rattle.module_memory.specs.declared.fault.MemoryFault.TheVariants as memory_fault
+use Rattle.refusals.specs.declared.refusal.PortName.{PortName}
+use Rattle.refusals.specs.declared.refusal.PortName.TheVariants as port_name
 use Rattle.refusals.specs.declared.refusal.Refusal.{Refusal}
 use Rattle.refusals.specs.declared.refusal.Refusal.TheVariants as refusal
 
@@ -22,6 +24,11 @@ abbrev pub memory_words : MemoryFault → List ℕ
 memory_words memory_fault.NoModule = codes "memory no module"
 memory_words memory_fault.Misaligned = codes "memory misaligned"
 memory_words memory_fault.Outside = codes "memory outside"
+
+-- which port it is
+abbrev pub port_words : PortName → List ℕ
+port_words port_name.A = codes "port a"
+port_words port_name.B = codes "port b"
 
 -- what stands behind `refused `
 abbrev pub refusal_words : Refusal → List ℕ
@@ -46,6 +53,8 @@ refusal_words refusal.Shape = codes "shape"
 refusal_words (refusal.Image is wanted) = codes "image " ++ two_numbers is wanted
 refusal_words (refusal.Overlap i j) = codes "overlap " ++ two_numbers i j
 refusal_words refusal.File = codes "file"
+refusal_words (refusal.Ports wanted) = codes "ports " ++ decimal wanted
+refusal_words (refusal.Port name) = port_words name
 refusal_words refusal.Threads = codes "threads"
 refusal_words refusal.Line = codes "line"
 refusal_words refusal.Unknown = codes "unknown"

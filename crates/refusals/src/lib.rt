@@ -7,5 +7,5 @@
 mod refusal;
 mod validity;
 
-pub use refusal::{REFUSAL_ROOM, Refusal};
+pub use refusal::{PortName, REFUSAL_ROOM, Refusal};
 pub use validity::Validity;

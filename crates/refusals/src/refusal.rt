@@ -1,6 +1,6 @@
 ghost use Rattle.std.specs.Prelude.{◌≡◌, ◌≤◌, ◌+◌, ◌++◌, length};
 ghost use Rattle.std.specs.Fmt.{decimal};
-ghost use Rattle.refusals.specs.Refusals.{link_words, memory_words, refusal_line, refusal_words, two_numbers};
+ghost use Rattle.refusals.specs.Refusals.{link_words, memory_words, port_words, refusal_line, refusal_words, two_numbers};
 
 use batch::{BatchFault, ShapeFault};
 use line_words::{LINE_ROOM, Line, NUMBER_ROOM};
@@ -59,8 +59,12 @@ pub enum Refusal {
     Image { is: usize, wanted: usize },
     /// `overlap I J`: these two transfers write one block.
     Overlap(usize, usize),
-    /// `file`: a file, or standard input, can't be read.
+    /// `file`: a file, or standard input, can't be read, or a file to be written can't be opened.
     File,
+    /// `ports W`: so many ports are wanted, one for each switch that the batch needs, and another number is named.
+    Ports(usize),
+    /// `port a` or `port b`: this port can't be opened.
+    Port(PortName),
     /// `threads`: there isn't a thread for each client.
     Threads,
     /// `line`: this is no line of a session.
@@ -81,6 +85,15 @@ pub enum Refusal {
     HistoryFull,
     /// `no memory`: there was no memory.
     NoMemory,
+}
+
+/// Which of the ports to switches.
+#[derive(Clone, Copy, Debug, PartialEq, Eq)]
+pub enum PortName {
+    /// The port that is named first: that to the only switch, or to switch A.
+    A,
+    /// The port that is named second: that to switch B.
+    B,
 }
 
 impl From<AllocError> for Refusal {
@@ -226,6 +239,8 @@ impl Refusal {
             Refusal::Image { is, wanted } => put_two(line, b"image ", is, wanted),
             Refusal::Overlap(i, j) => put_two(line, b"overlap ", i, j),
             Refusal::File => line.put(b"file"),
+            Refusal::Ports(wanted) => put_numbered(line, b"ports ", wanted),
+            Refusal::Port(name) => put_port(line, name),
             Refusal::Threads => line.put(b"threads"),
             Refusal::Line => line.put(b"line"),
             Refusal::Unknown => line.put(b"unknown"),
@@ -283,5 +298,17 @@ fn put_memory(line: &mut Line, fault: MemoryFault)
         MemoryFault::NoModule => b"memory no module".as_slice(),
         MemoryFault::Misaligned => b"memory misaligned".as_slice(),
         MemoryFault::Outside => b"memory outside".as_slice(),
+    });
+}
+
+/// Puts which port it is.
+fn put_port(line: &mut Line, name: PortName)
+    requires { length line.old + 6 ≤ LINE_ROOM }
+    ensures text { line.new ≡ line.old ++ port_words name }
+    ensures room { length line.new ≤ length line.old + 6 }
+{
+    line.put(match name {
+        PortName::A => b"port a".as_slice(),
+        PortName::B => b"port b".as_slice(),
     });
 }

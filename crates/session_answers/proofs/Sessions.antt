@@ -14,7 +14,8 @@ use Rattle.batch_book.specs.declared.close.Closed.{Closed}
 use Rattle.batch_book.specs.declared.entry.Entry.{Entry}
 use Rattle.batch_book.specs.Closing.{AreClosed, LogsAgree, NoneAhead}
 use Rattle.batch_book.specs.Exchanges.{Exchange, AreNew, new_seat, parts_at}
-use Rattle.batch_book.specs.History.{IsLegal}
+use Rattle.batch_book.specs.History.{IsLegal, IsReplay}
+use Rattle.batch_book.specs.Machine.{opened}
 use Rattle.batch_book.specs.Seats.{SeatState, IsSameSeat, own}
 use Rattle.batch_book.specs.Values.{greatest}
 use Rattle.client_session.specs.declared.fault.ServeFault.{ServeFault}
@@ -161,14 +162,17 @@ its_history {L} seats c closed legal =
     record { legal = legal; counted = closed.counted ∙ sym (sum_mapped (λ (p : Part). length p.entries) part_of seats) }
 
 -- where their lists agree with it, it is that of its sessions
-pub one_history : {L P W G : Type 0} (opening : Store) (seats : List SeatState) (c : Closed L P W G)
-    → AreClosed seats c → LogsAgree seats c → NoneAhead seats c → IsLegal c.book.opening c.book.history → c.book.opening ≡ opening
-    → HaveOneHistory opening (map part_of seats)
-one_history {L} opening seats c closed agree behind legal is =
+pub one_history : {L P W G : Type 0} (opening left : Store) (seats : List SeatState) (c : Closed L P W G)
+    → AreClosed seats c → LogsAgree seats c → NoneAhead seats c → IsReplay (opened c.book.opening) c.book.history c.book.machine
+    → c.book.opening ≡ opening → left ≡ c.book.machine.store → HaveOneHistory opening (map part_of seats) left
+one_history {L} opening left seats c closed agree behind replay is words =
     let h = c.book.history in
     record {
       history = h;
-      is_history = subst (λ (s : Store). IsHistoryOf s (map part_of seats) h) is (its_history seats c closed legal);
+      is_history = subst (λ (s : Store). IsHistoryOf s (map part_of seats) h) is (its_history seats c closed (c.book.machine, replay));
+      machine = c.book.machine;
+      replay = subst (λ (s : Store). IsReplay (opened s) h c.book.machine) is replay;
+      words = words;
       are_parts = All-map (λ (p : Part). p.entries ≡ own p.session h) part_of seats agree;
       seen = All-map (λ (p : Part). p.seen ≤ greatest h) part_of seats behind;
     }

@@ -58,8 +58,8 @@ all_there x rest old new one same =
 pub has_talked : (opening rack : Store) (x : Exchange) (rest : List SeatState) (old new : SeatState) (before after : Option (List ℕ)) (line told : List ℕ) (fault : Option ServeFault) (failed : Bool)
     → IsAlone x rest old → IsSameSeat old new → x.shape ≡ rack.shape → opening ≡ rack → line ≡ end_line fault → failed ≡ is_some fault
     → IsAttended x.shape before after (record { part = part_of new; told = told; fault = fault })
-    → (printed : Printed) → IsClosing opening (map part_of (rest ++ new ∷ [])) line failed printed → HasTalked rack before after told printed
-has_talked opening rack x rest old new before after line told fault failed one same shape copied said fails session printed closed =
+    → (printed : Printed) (left : Option Store) → IsClosing opening (map part_of (rest ++ new ∷ [])) line failed printed left → HasTalked rack before after told printed left
+has_talked opening rack x rest old new before after line told fault failed one same shape copied said fails session printed left closed =
     let t : Transcript = record { part = part_of new; told = told; fault = fault } in (
       t,
       same.session ∙ one.first,

@@ -163,11 +163,11 @@ kept_each {H} {L} {C} hs exchange_of guests_of seat_of x g received seats given 
 
 -- what is printed of the sessions is what the host answers
 pub are_hosted : {L C : Type 0} (x : Exchange) (opening rack : Store) (g : Guests) (received : C → Option (List ℕ)) (ss : List (Attended L C))
-    (seats : List SeatState) (endings : List (Ending C)) (text : List ℕ) (failed : Bool) (printed : Printed)
+    (seats : List SeatState) (endings : List (Ending C)) (text : List ℕ) (failed : Bool) (printed : Printed) (left : Option Store)
     → AreVisitsAt x g received ss → x.shape ≡ rack.shape → opening ≡ rack
     → seats ≡ map (λ s. s.seat) ss → endings ≡ map (λ s. s.ending) ss → text ≡ flat_map (visit_text g) (map (visit received) ss) → failed ≡ list_any has_failed (map (λ s. s.ending) ss)
-    → IsClosing opening (map part_of seats) text failed printed → AreHosted rack g (map (end_of received) endings) printed
-are_hosted {L} {C} x opening rack g received ss seats endings text failed printed visited shape copied seated ended framed fails closed =
+    → IsClosing opening (map part_of seats) text failed printed left → AreHosted rack g (map (end_of received) endings) printed left
+are_hosted {L} {C} x opening rack g received ss seats endings text failed printed left visited shape copied seated ended framed fails closed =
     let Seat : Attended L C → SeatState = λ s. s.seat in
     let How : Attended L C → Ending C = λ s. s.ending in
     let visits : List Visit = map (visit received) ss in

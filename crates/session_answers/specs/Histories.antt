@@ -1,8 +1,9 @@
 -- The history of an exchange, and the parts of it that its sessions have.
-use Rattle.std.specs.Prelude.{◌≡◌, ℕ, ◌≤◌, if◌then◌else◌, Bool, List, ◌++◌, codes, length, All, sum_by}
+use Rattle.std.specs.Prelude.{◌≡◌, ℕ, ◌≤◌, if◌then◌else◌, Bool, List, ◌++◌, codes, length, All, sum_by, Option, Some, None}
 use Rattle.module_memory.specs.Store.{Store}
 use Rattle.batch_book.specs.declared.entry.Entry.{Entry}
-use Rattle.batch_book.specs.History.{IsLegal}
+use Rattle.batch_book.specs.History.{IsLegal, IsReplay}
+use Rattle.batch_book.specs.Machine.{Machine, opened}
 use Rattle.batch_book.specs.Seats.{SeatState, own}
 use Rattle.batch_book.specs.Values.{greatest}
 use Rattle.plan_answers.specs.declared.limits.TheConstants.{DONE, REFUSED}
@@ -30,10 +31,14 @@ abbrev pub AreParts : List Part → List Entry → Type 0
 AreParts parts history = All (λ p. p.entries ≡ own p.session history) parts
 
 -- The sessions have one history from this opening store: it has just their entries, those of each
--- session in its order. No session saw the runs come further than it tells.
-pub record HaveOneHistory (opening : Store) (parts : List Part) : Type 0 where
+-- session in its order, and leads to a machine that has the words that are left. No session saw the
+-- runs come further than it tells.
+pub record HaveOneHistory (opening : Store) (parts : List Part) (left : Store) : Type 0 where
   pub history : List Entry
   pub is_history : IsHistoryOf opening parts history
+  pub machine : Machine
+  pub replay : IsReplay (opened opening) history machine
+  pub words : left ≡ machine.store
   pub are_parts : AreParts parts history
   pub seen : All (λ p. p.seen ≤ greatest history) parts
 
@@ -54,10 +59,13 @@ abbrev pub status_at : Bool → ℕ
 status_at failed = if failed then REFUSED else DONE
 
 -- The sessions with these parts were on an exchange that began with this store, and this text is
--- printed of them. Where another history was kept of them, that is said by a last line.
+-- printed of them. Their history leads to the words that are left. Where another history was kept
+-- of them, that is said by a last line, and no words are left.
 pub data IsClosing (opening : Store) (parts : List Part) (text : List ℕ) (failed : Bool)
-    (printed : Printed) : Type 0 where
-  agree : HaveOneHistory opening parts → printed.text ≡ text → printed.status ≡ status_at failed
-      → IsClosing opening parts text failed printed
-  disagree : HaveAnotherHistory opening parts → printed.text ≡ text ++ disagree_line
-      → printed.status ≡ REFUSED → IsClosing opening parts text failed printed
+    (printed : Printed) (left : Option Store) : Type 0 where
+  agree : (end : Store) → HaveOneHistory opening parts end → left ≡ Some end
+      → printed.text ≡ text → printed.status ≡ status_at failed
+      → IsClosing opening parts text failed printed left
+  disagree : HaveAnotherHistory opening parts → left ≡ None
+      → printed.text ≡ text ++ disagree_line → printed.status ≡ REFUSED
+      → IsClosing opening parts text failed printed left

@@ -1,5 +1,5 @@
 -- What `host` answers.
-use Rattle.std.specs.Prelude.{◌≡◌, ℕ, Bool, true, List, [], ◌++◌, codes, flat_map, map, All, Option, is_some}
+use Rattle.std.specs.Prelude.{◌≡◌, ℕ, Bool, true, List, [], ◌++◌, codes, flat_map, map, All, Option, None, is_some}
 use Rattle.std.specs.Fmt.{decimal}
 use Rattle.std.specs.Io.KnownBytes.{Appends}
 use Rattle.std.specs.List.{list_any, range_with_len}
@@ -84,26 +84,27 @@ abbrev pub has_failed : {C : Type 0} → Ending C → Bool
 has_failed Unopened = true
 has_failed (Served fault receipt) = is_some fault
 
--- the sessions of the clients, which ended so, on one exchange whose rack has this store at first
-abbrev pub AreHosted : Store → Guests → List End → Printed → Type 0
-AreHosted opening g ends printed =
+-- the sessions of the clients, which ended so, on one exchange whose rack has this store at first,
+-- and the words that they leave
+abbrev pub AreHosted : Store → Guests → List End → Printed → Option Store → Type 0
+AreHosted opening g ends printed left =
     (visits : List Visit) × (map (λ v. v.end) visits ≡ ends)
     × AreVisits opening.shape g visits
     × IsClosing opening (map (λ v. v.part) visits) (flat_map (visit_text g) visits)
-    (list_any has_failed ends) printed
+    (list_any has_failed ends) printed left
 
--- such sessions, or none, where not all of their threads could be had
+-- such sessions; or none, and no words, where not all of their threads could be had
 pub data IsHosting (opening : Store) (g : Guests) (ends : List End) (printed : Printed)
-    : Type 0 where
-  hosted : AreHosted opening g ends printed → IsHosting opening g ends printed
-  threads_refused : Refuses Threads printed → ends ≡ []
-      → IsHosting opening g ends printed
+    (left : Option Store) : Type 0 where
+  hosted : AreHosted opening g ends printed left → IsHosting opening g ends printed left
+  threads_refused : Refuses Threads printed → ends ≡ [] → left ≡ None
+      → IsHosting opening g ends printed left
 
--- the sessions of the clients on the rack of the shape and the image; or the refusal where there is
--- none, and no session
+-- the sessions of the clients on the rack of the shape and the image, and the words that are left;
+-- or the refusal where there is none, no session and no words
 pub data IsHostAnswer (shape : List ℕ) (image : Option (List ℕ)) (g : Guests) (ends : List End)
-    (printed : Printed) : Type 0 where
-  opened : (opening : Store) → IsRackOf shape image opening → IsHosting opening g ends printed
-      → IsHostAnswer shape image g ends printed
+    (printed : Printed) (left : Option Store) : Type 0 where
+  opened : (opening : Store) → IsRackOf shape image opening
+      → IsHosting opening g ends printed left → IsHostAnswer shape image g ends printed left
   refused : (refusal : Refusal) → IsWrongRack shape image refusal → Refuses refusal printed
-      → ends ≡ [] → IsHostAnswer shape image g ends printed
+      → ends ≡ [] → left ≡ None → IsHostAnswer shape image g ends printed left

@@ -1,5 +1,5 @@
 -- What `serve` answers.
-use Rattle.std.specs.Prelude.{◌≡◌, ℕ, List, length, map, All, slice_get, Option, Some}
+use Rattle.std.specs.Prelude.{◌≡◌, ℕ, List, length, map, All, slice_get, Option, Some, None}
 use Rattle.std.specs.List.{range_with_len}
 use Rattle.batch.specs.Extent.{Extent}
 use Rattle.module_memory.specs.Store.{Store}
@@ -22,18 +22,19 @@ pub record AreSessionsOf (shape : Extent) (scripts : List (List ℕ))
   pub numbers : map (λ t. t.part.session) sessions ≡ range_with_len 0 (length scripts)
   pub each : All (HasItsScript shape scripts) sessions
 
--- the sessions of the scripts on one exchange, whose rack has this store at first, are printed
-abbrev pub AreServed : Store → List (List ℕ) → Printed → Type 0
-AreServed opening scripts printed =
+-- the sessions of the scripts on one exchange, whose rack has this store at first, are printed, and
+-- leave these words
+abbrev pub AreServed : Store → List (List ℕ) → Printed → Option Store → Type 0
+AreServed opening scripts printed left =
     (sessions : List Transcript) × AreSessionsOf opening.shape scripts sessions
     × IsClosing opening (map (λ t. t.part) sessions) (sessions_text sessions) (has_fault sessions)
-    printed
+    printed left
 
--- the sessions of the scripts on the rack of the shape and the image, or the refusal where there is
--- none
+-- the sessions of the scripts on the rack of the shape and the image, and the words that are left;
+-- or the refusal where there is none, and no words
 pub data IsServeAnswer (shape : List ℕ) (image : Option (List ℕ)) (scripts : List (List ℕ))
-    (printed : Printed) : Type 0 where
-  served : (opening : Store) → IsRackOf shape image opening → AreServed opening scripts printed
-      → IsServeAnswer shape image scripts printed
+    (printed : Printed) (left : Option Store) : Type 0 where
+  served : (opening : Store) → IsRackOf shape image opening
+      → AreServed opening scripts printed left → IsServeAnswer shape image scripts printed left
   refused : (refusal : Refusal) → IsWrongRack shape image refusal → Refuses refusal printed
-      → IsServeAnswer shape image scripts printed
+      → left ≡ None → IsServeAnswer shape image scripts printed left

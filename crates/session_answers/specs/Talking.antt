@@ -1,5 +1,5 @@
 -- What `talk` answers.
-use Rattle.std.specs.Prelude.{◌≡◌, ◌∷◌, ℕ, List, [], Option, is_some}
+use Rattle.std.specs.Prelude.{◌≡◌, ◌∷◌, ℕ, List, [], Option, None, is_some}
 use Rattle.module_memory.specs.Store.{Store}
 use Rattle.plan_answers.specs.Refusals.{Printed, Refuses}
 use Rattle.refusals.specs.declared.refusal.Refusal.{Refusal}
@@ -9,23 +9,25 @@ use Rattle.session_answers.specs.Racks.{IsRackOf, IsWrongRack}
 use Rattle.session_answers.specs.Sessions.{IsAttended}
 
 -- the one session of an exchange, whose rack has this store at first, and which was told this; of
--- its end this is printed
-abbrev pub HasTalked : Store → (before after : Option (List ℕ)) → List ℕ → Printed → Type 0
-HasTalked opening before after told printed =
+-- its end this is printed, and it leaves these words
+abbrev pub HasTalked : Store → (before after : Option (List ℕ)) → List ℕ → Printed → Option Store
+    → Type 0
+HasTalked opening before after told printed left =
     (t : Transcript) × (t.part.session ≡ 0) × (t.told ≡ told)
     × IsAttended opening.shape before after t
-    × IsClosing opening (t.part ∷ []) (end_line t.fault) (is_some t.fault) printed
+    × IsClosing opening (t.part ∷ []) (end_line t.fault) (is_some t.fault) printed left
 
 -- nothing was read, and nothing told
 abbrev pub IsUntouched : (before after : Option (List ℕ)) → List ℕ → Type 0
 IsUntouched before after told = (after ≡ before) × (told ≡ [])
 
--- the session on the rack of the shape and the image; or the refusal where there is none, and no
--- session
+-- the session on the rack of the shape and the image, and the words that it leaves; or the refusal
+-- where there is none, no session and no words
 pub data IsTalkAnswer (shape : List ℕ) (image : Option (List ℕ)) (before after : Option (List ℕ))
-    (told : List ℕ) (printed : Printed) : Type 0 where
+    (told : List ℕ) (printed : Printed) (left : Option Store) : Type 0 where
   talked : (opening : Store) → IsRackOf shape image opening
-      → HasTalked opening before after told printed
-      → IsTalkAnswer shape image before after told printed
+      → HasTalked opening before after told printed left
+      → IsTalkAnswer shape image before after told printed left
   refused : (refusal : Refusal) → IsWrongRack shape image refusal → Refuses refusal printed
-      → IsUntouched before after told → IsTalkAnswer shape image before after told printed
+      → IsUntouched before after told → left ≡ None
+      → IsTalkAnswer shape image before after told printed left

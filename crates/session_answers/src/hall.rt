@@ -1,7 +1,7 @@
 //! An exchange whose port and wires never fail: how it is opened, how a client has its session there, and how it is
 //! closed.
 
-ghost use Rattle.std.specs.Prelude.{◌≡◌, ◌≤◌, List, ℕ, IfOk, map, true, false};
+ghost use Rattle.std.specs.Prelude.{◌≡◌, ◌≤◌, List, ℕ, IfOk, MatchOption, map};
 ghost use Rattle.std.specs.Io.KnownBytes.{Appends};
 ghost use Rattle.progress_word.specs.declared.limits.TheConstants.{ALL_PARTS};
 ghost use Rattle.batch_book.specs.Exchanges.{AreNew};
@@ -11,7 +11,8 @@ ghost use Rattle.session_answers.specs.Histories.{part_of, HaveOneHistory, HaveA
 ghost use Rattle.session_answers.specs.Hosting.{AreAllSeats, IsFresh};
 ghost use Rattle.session_answers.specs.Sessions.{IsAttended};
 
-use batch_book::{Seat, Shared, Unclosed};
+use crate::closing::Closing;
+use batch_book::{Closed, Seat, Shared, Unclosed};
 use client_session::{Listener, ServeFault, serve};
 use crossbar::MemoryPort;
 use exchange_limits::{MAX_SESSIONS, WorkerCount};
@@ -83,24 +84,34 @@ pub fn attend<L: Ledger, R: Threads + Wait + Sync, I: Read, O: Write, H: Listene
     }
 }
 
-/// Closes the exchange, and says whether the lists of its seats are those of its history, which began on this rack.
-fn close<L: Ledger>(exchange: PlainExchange<L>, seats: Vec<Seat<L>>, opening: &Rack) -> bool
+/// Closes the exchange, and gives its rack, if the lists of its seats are those of its history,
+/// which began on this rack.
+fn close<L: Ledger>(exchange: PlainExchange<L>, seats: Vec<Seat<L>>, opening: &Rack) -> Option<Rack>
     requires parts { L.parts ≡ ALL_PARTS }
     requires seats { AreAllSeats exchange seats.items }
-    ensures agree { result ≡ true → HaveOneHistory opening.now (map part_of seats.items) }
-    ensures disagree { result ≡ false → HaveAnotherHistory opening.now (map part_of seats.items) }
+    ensures { MatchOption result
+        (HaveAnotherHistory opening.now (map part_of seats.items))
+        (HaveOneHistory opening.now (map part_of seats.items)) }
 {
     // The history is asked for only for its contract, which says that it is legal.
     match exchange.close(seats) {
         Ok(closed) => {
             closed.book.history();
             // A book that comes from under a lock could have been opened with any rack, as far as contracts tell.
-            let is_opening = closed.book.opening().is_same(opening);
-            is_opening
+            if closed.book.opening().is_same(opening) {
+                let Closed {
+                    book,
+                    plant: _,
+                    seats: _,
+                } = closed;
+                Some(book.into_rack())
+            } else {
+                None
+            }
         }
         Err(Unclosed::LogsDisagree(closed)) => {
             closed.book.history();
-            false
+            None
         }
         Err(Unclosed::SeatMissing(..)) => unreachable!(),
     }
@@ -113,17 +124,24 @@ pub fn finish<L: Ledger>(
     opening: &Rack,
     mut text: Vec<u8>,
     failed: bool,
-) -> Result<Answer, AllocError>
+) -> Result<Closing, AllocError>
     requires parts { L.parts ≡ ALL_PARTS }
     requires seats { AreAllSeats exchange seats.items }
-    ensures { IfOk result (IsClosing opening.now (map part_of seats.items) text.items failed) }
+    ensures { IfOk result (λ closing. IsClosing opening.now (map part_of seats.items) text.items
+        failed closing.answer closing.rack) }
 {
-    if !close(exchange, seats, opening) {
+    let Some(rack) = close(exchange, seats, opening) else {
         text.extend_from_slice(b"logs disagree\n")?;
-        return Ok(Answer::failed(text));
-    }
+        return Ok(Closing {
+            answer: Answer::failed(text),
+            rack: None,
+        });
+    };
+    let rack = Some(rack);
     if failed {
-        return Ok(Answer::failed(text));
+        let answer = Answer::failed(text);
+        return Ok(Closing { answer, rack });
     }
-    Ok(Answer::done(text))
+    let answer = Answer::done(text);
+    Ok(Closing { answer, rack })
 }

@@ -1,6 +1,6 @@
 //! The command `host`.
 
-ghost use Rattle.std.specs.Prelude.{◌≡◌, ◌≤◌, ◌++◌, [], All, IfOk, IfSome, OnOk, Some, length, map, flat_map};
+ghost use Rattle.std.specs.Prelude.{◌≡◌, ◌≤◌, ◌++◌, [], All, IfOk, IfSome, OnOk, None, Some, length, map, flat_map};
 ghost use Rattle.std.specs.List.{list_any};
 ghost use Rattle.progress_word.specs.declared.limits.TheConstants.{ALL_PARTS};
 ghost use Rattle.batch_book.specs.Exchanges.{AreNew};
@@ -12,6 +12,7 @@ ghost use Rattle.session_answers.specs.Visits.{visit, IsOfSeat, AreVisitsAt};
 
 use crate::all_there::AllThere;
 use crate::attended::{Attended, Ending};
+use crate::closing::Closing;
 use crate::doors::Doors;
 use crate::frames::end_line;
 use crate::hall::{PlainExchange, attend, finish, open_exchange};
@@ -31,12 +32,15 @@ use std::sync::{OnceLock, Wait};
 use std::thread;
 use std::thread::{Promise, PromisedHandle, Scope, Threads};
 
-/// What is left of a host: its answer, and how the session of each client ended, in their order. There are no sessions behind a
-/// refusal.
+/// What is left of a host: its answer, the rack, and how the session of each client ended, in their
+/// order. There are no sessions behind a refusal.
 #[derive(Drop)]
 pub struct Hosted<C> {
     /// What is said of the sessions' ends, or the refusal.
     pub answer: Answer,
+    /// The rack, with the words to which the history of the sessions leads: that of the exchange,
+    /// and no copy. There is none behind a refusal, and none where logs disagree.
+    pub rack: Option<Rack>,
     /// How each session ended.
     pub endings: Vec<Ending<C>>,
 }
@@ -313,14 +317,16 @@ fn part<L: Ledger, C: Drop>(
     Ok((seats, endings))
 }
 
-/// A refusal, which leaves no sessions.
+/// A refusal, which leaves no sessions and no rack.
 fn refused<C>(alloc: Global, refusal: Refusal) -> Result<Hosted<C>, AllocError>
     ensures refusal { IfOk result (λ hosted. Refuses refusal hosted.answer) }
     ensures none { IfOk result (λ hosted. hosted.endings.items ≡ []) }
+    ensures rack { IfOk result (λ hosted. hosted.rack ≡ None) }
 {
-    let answer = Answer::refused(alloc, refusal)?;
+    let Closing { answer, rack } = Closing::refused(alloc, refusal)?;
     Ok(Hosted {
         answer,
+        rack,
         endings: Vec::new(alloc),
     })
 }
@@ -339,7 +345,7 @@ fn host<L: Ledger + Send + Sync, R: Threads + Wait + Sync, D: Doors>(
     requires some { 1 ≤ (D.guests doors.now).clients }
     requires few { (D.guests doors.now).clients ≤ MAX_SESSIONS }
     ensures { IfOk result (λ hosted. IsHosting rack (D.guests doors.now)
-        (map (end_of D.received) hosted.endings.items) hosted.answer) }
+        (map (end_of D.received) hosted.endings.items) hosted.answer hosted.rack) }
 {
     let opening = rack.copy()?;
     let (exchange, seats) = open_exchange::<L>(alloc, blank, rack, workers, doors.clients())?;
@@ -349,20 +355,28 @@ fn host<L: Ledger + Send + Sync, R: Threads + Wait + Sync, D: Doors>(
     let text = ends_of(alloc, doors, sessions.as_slice())?;
     let failed = any_failed(sessions.as_slice());
     let (seats, endings) = part(alloc, sessions)?;
-    let answer = finish(exchange, seats, &opening, text, failed)?;
-    Ok(Hosted { answer, endings })
+    let Closing { answer, rack } = finish(exchange, seats, &opening, text, failed)?;
+    Ok(Hosted {
+        answer,
+        rack,
+        endings,
+    })
 }
 
-/// What `exchange host` leaves: the sessions of the doors' clients, 1 to [`MAX_SESSIONS`], on one exchange that has a rack of
-/// the shape which the shape text denotes, whose words are first those of the image or, where there is none, 0; or the
-/// refusal of the shape, or else of the image, or of the threads, before a file is opened.
+/// What `exchange host` leaves: the sessions of the doors' clients, 1 to [`MAX_SESSIONS`], on one
+/// exchange that has a rack of the shape which the shape text denotes, whose words are first those
+/// of the image or, where there is none, 0; or the refusal of the shape, or else of the image, or
+/// of the threads, before a file is opened.
 ///
-/// Each client is served in a thread of its own, from the files that its doors open there. It waits for its own files, and
-/// while the exchange answers a call of another. Planning and runs are given so many workers each. Each reply line is written,
-/// and the writer flushed, before the client's next command is read. For each client, in order, comes the line `session I NAME`,
-/// and where a fault ended the session, or its files couldn't be opened, a line `ended ..` that says so, under the status
-/// [`REFUSED`](plan_answers::REFUSED). Under that status too, a last line `logs disagree` would say that the sessions' lists aren't
-/// those of the exchange's history, or that this began on another rack.
+/// Each client is served in a thread of its own, from the files that its doors open there. It waits
+/// for its own files, and while the exchange answers a call of another. Planning and runs are given
+/// so many workers each. Each reply line is written, and the writer flushed, before the client's
+/// next command is read. For each client, in order, comes the line `session I NAME`, and where a
+/// fault ended the session, or its files couldn't be opened, a line `ended ..` that says so, under
+/// the status [`REFUSED`](plan_answers::REFUSED). Under that status too, a last line
+/// `logs disagree` would say that the sessions' lists aren't those of the exchange's history, or
+/// that this began on another rack. Else the exchange's rack is given back, with the words that the
+/// history leaves.
 ///
 /// Want of memory behind the sessions, for the list of their ends and for what is said of them, is the same error as want of
 /// it before them: how they ended isn't told then, though each client was told its replies.
@@ -377,7 +391,8 @@ pub fn answer_host<R: Threads + Wait + Sync, D: Doors>(
     requires some_clients { 1 ≤ (D.guests doors.now).clients }
     requires few_clients { (D.guests doors.now).clients ≤ MAX_SESSIONS }
     ensures { IfOk result (λ hosted. IsHostAnswer shape.now (bytes_of image.entry)
-        (D.guests doors.now) (map (end_of D.received) hosted.endings.items) hosted.answer) }
+        (D.guests doors.now) (map (end_of D.received) hosted.endings.items) hosted.answer
+        hosted.rack) }
 {
     match read_rack(alloc, shape, image) {
         Ok(rack) => {

@@ -3,11 +3,12 @@
 //!
 //! Each `answer_` function opens an exchange, serves its clients, closes it, and gives an
 //! [`Answer`](plan_answers::Answer): what is printed behind the sessions, or the line of the refusal of what is first
-//! wrong.
+//! wrong. Beside it stands the rack that the sessions leave.
 #![tactic(auto)]
 
 mod all_there;
 mod attended;
+mod closing;
 mod doors;
 mod frames;
 mod hall;
@@ -19,6 +20,7 @@ mod talking;
 
 pub use all_there::AllThere;
 pub use attended::Ending;
+pub use closing::Closing;
 pub use doors::Doors;
 pub use frames::push_end;
 pub use hosting::{Hosted, answer_host};

@@ -8,6 +8,7 @@ ghost use Rattle.session_answers.specs.Hosting.{transcript, IsReady, AreServedAt
 ghost use Rattle.plan_answers.specs.Lent.{bytes_of};
 ghost use Rattle.session_answers.specs.Serving.{HasItsScript, AreServed, IsServeAnswer};
 
+use crate::closing::Closing;
 use crate::frames::{frame, has_fault};
 use crate::hall::{PlainExchange, attend, finish, open_exchange};
 use crate::racks::read_rack;
@@ -16,7 +17,6 @@ use batch_book::Seat;
 use client_session::Unheard;
 use exchange_limits::{MAX_SESSIONS, WorkerCount};
 use module_memory::Rack;
-use plan_answers::Answer;
 use progress_word::ALL_PARTS;
 use std::alloc::{AllocError, Global};
 use std::marker::Brand;
@@ -87,7 +87,7 @@ fn seats_of<L: Ledger>(alloc: Global, sessions: Vec<Session<L>>) -> Result<Vec<S
         .collect(alloc)
 }
 
-/// The answer of the scripts' sessions on one exchange with this rack.
+/// What is left of the scripts' sessions on one exchange with this rack.
 fn host<L: Ledger + Send + Sync, R: Threads + Wait + Sync>(
     rt: &R,
     alloc: Global,
@@ -95,12 +95,13 @@ fn host<L: Ledger + Send + Sync, R: Threads + Wait + Sync>(
     rack: Rack,
     workers: WorkerCount,
     scripts: &[Vec<u8>],
-) -> Result<Answer, AllocError>
+) -> Result<Closing, AllocError>
     requires name { blank.name ≡ L.name }
     requires parts { (blank.parts ≡ L.parts) × (blank.parts ≡ ALL_PARTS) }
     requires some_scripts { 1 ≤ length scripts.now }
     requires few_scripts { length scripts.now ≤ MAX_SESSIONS }
-    ensures { IfOk result (AreServed rack (map (λ s. s.items) scripts.now)) }
+    ensures { IfOk result (λ closing. AreServed rack (map (λ s. s.items) scripts.now)
+        closing.answer closing.rack) }
 {
     let opening = rack.copy()?;
     let (exchange, seats) = open_exchange::<L>(alloc, blank, rack, workers, scripts.len())?;
@@ -111,17 +112,19 @@ fn host<L: Ledger + Send + Sync, R: Threads + Wait + Sync>(
     finish(exchange, seats, &opening, text, failed)
 }
 
-/// The answer of `exchange serve`: what the sessions of the scripts were told, on one exchange that has a rack
-/// of the shape which the shape text denotes, whose words are first those of the image or, where there is none, 0; or the
-/// refusal of the shape, or else of the image.
+/// The answer of `exchange serve`: what the sessions of the scripts were told, on one exchange that
+/// has a rack of the shape which the shape text denotes, whose words are first those of the image
+/// or, where there is none, 0; or the refusal of the shape, or else of the image.
 ///
-/// There are 1 to [`MAX_SESSIONS`] scripts, of lines of at most [`LINE_BYTES`](client_session::LINE_BYTES) bytes. Each is
-/// served in a thread of its own, or by the caller where none can be had, and waits while the exchange answers
-/// the calls of the others; planning and runs are given so many workers each. For each script, in
-/// order, comes the line `session I`, and then what the session was told; where a fault ended it, a line
-/// `ended ..` says so, and the status is [`REFUSED`](plan_answers::REFUSED). When all have ended the exchange is closed.
-/// Under that status too, a last line `logs disagree` would say that the sessions' lists aren't those of its
-/// history, or that this began on another rack.
+/// There are 1 to [`MAX_SESSIONS`] scripts, of lines of at most
+/// [`LINE_BYTES`](client_session::LINE_BYTES) bytes. Each is served in a thread of its own, or by
+/// the caller where none can be had, and waits while the exchange answers the calls of the others;
+/// planning and runs are given so many workers each. For each script, in order, comes the line
+/// `session I`, and then what the session was told; where a fault ended it, a line `ended ..` says
+/// so, and the status is [`REFUSED`](plan_answers::REFUSED). When all have ended the exchange is
+/// closed. Under that status too, a last line `logs disagree` would say that the sessions' lists
+/// aren't those of its history, or that this began on another rack. Else the exchange's rack is
+/// given back, with the words that the history leaves.
 pub fn answer_serve<R: Threads + Wait + Sync>(
     rt: &R,
     alloc: Global,
@@ -129,17 +132,17 @@ pub fn answer_serve<R: Threads + Wait + Sync>(
     image: Option<&[u8]>,
     workers: WorkerCount,
     scripts: &[Vec<u8>],
-) -> Result<Answer, AllocError>
+) -> Result<Closing, AllocError>
     requires some_scripts { 1 ≤ length scripts.now }
     requires few_scripts { length scripts.now ≤ MAX_SESSIONS }
-    ensures { IfOk result (IsServeAnswer shape.now (bytes_of image.entry)
-        (map (λ s. s.items) scripts.now)) }
+    ensures { IfOk result (λ closing. IsServeAnswer shape.now (bytes_of image.entry)
+        (map (λ s. s.items) scripts.now) closing.answer closing.rack) }
 {
     match read_rack(alloc, shape, image) {
         Ok(rack) => {
             let blank = Blank::new(ALL_PARTS as u64);
             host::<Brand, R>(rt, alloc, blank, rack, workers, scripts)
         }
-        Err(refusal) => Answer::refused(alloc, refusal),
+        Err(refusal) => Closing::refused(alloc, refusal),
     }
 }

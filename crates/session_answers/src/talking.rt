@@ -9,13 +9,13 @@ ghost use Rattle.refusals.specs.declared.refusal.Refusal.{Refusal};
 ghost use Rattle.session_answers.specs.Racks.{IsWrongRack};
 ghost use Rattle.session_answers.specs.Talking.{HasTalked, IsTalkAnswer};
 
+use crate::closing::Closing;
 use crate::frames::end_line;
 use crate::hall::{attend, finish, open_exchange};
 use crate::racks::read_rack;
 use client_session::Listener;
 use exchange_limits::WorkerCount;
 use module_memory::Rack;
-use plan_answers::Answer;
 use progress_word::ALL_PARTS;
 use std::alloc::{AllocError, Global};
 use std::io::{Read, Write};
@@ -24,7 +24,7 @@ use std::sync::Wait;
 use std::sync::ledger::{Blank, Ledger};
 use std::thread::Threads;
 
-/// The answer of the session of this reader and this writer, on an exchange with this rack.
+/// What is left of the session of this reader and this writer, on an exchange with this rack.
 fn talk<L: Ledger, R: Threads + Wait + Sync, I: Read, O: Write, H: Listener>(
     rt: &R,
     alloc: Global,
@@ -33,12 +33,13 @@ fn talk<L: Ledger, R: Threads + Wait + Sync, I: Read, O: Write, H: Listener>(
     reader: &mut I,
     writer: &mut O,
     listener: &mut H,
-) -> Result<Answer, AllocError>
+) -> Result<Closing, AllocError>
     requires name { blank.name ≡ L.name }
     requires parts { (blank.parts ≡ L.parts) × (blank.parts ≡ ALL_PARTS) }
     ensures session { (told : List ℕ)
         × Appends (O.contents writer.old) (O.contents writer.new) told
-        × IfOk result (HasTalked rack (I.remaining reader.old) (I.remaining reader.new) told) }
+        × IfOk result (λ closing. HasTalked rack (I.remaining reader.old) (I.remaining reader.new)
+        told closing.answer closing.rack) }
     ensures beside { TellsOfRefusals H.may_tell (H.told listener.old) (H.told listener.new) }
 {
     let opening = rack.copy()?;
@@ -53,15 +54,17 @@ fn talk<L: Ledger, R: Threads + Wait + Sync, I: Read, O: Write, H: Listener>(
     finish(exchange, seats, &opening, line, fault.is_some())
 }
 
-/// What `exchange talk` answers behind its session: one client's, which is read from the reader, on an exchange that has a rack of
-/// the shape which the shape text denotes, whose words are first those of the image or, where there is none, 0; or the
-/// refusal of the shape, or else of the image, before anything is read.
+/// What `exchange talk` answers behind its session: one client's, which is read from the reader, on
+/// an exchange that has a rack of the shape which the shape text denotes, whose words are first
+/// those of the image or, where there is none, 0; or the refusal of the shape, or else of the
+/// image, before anything is read.
 ///
-/// Each reply line is written, and the writer flushed, before the next command is read. The listener
-/// hears each command, and each refusal of the session; where no session begins it hears nothing.
-/// Behind a session that ended by itself there is nothing more to print; where a fault ended it a line
-/// `ended ..` says so, under the status [`REFUSED`](plan_answers::REFUSED). A line `logs disagree` would
-/// say that its list isn't that of the exchange's history, or that this began on another rack.
+/// Each reply line is written, and the writer flushed, before the next command is read. The
+/// listener hears each command, and each refusal of the session; where no session begins it hears
+/// nothing. Behind a session that ended by itself there is nothing more to print; where a fault
+/// ended it a line `ended ..` says so, under the status [`REFUSED`](plan_answers::REFUSED). A line
+/// `logs disagree` would say that its list isn't that of the exchange's history, or that this began
+/// on another rack. Else the exchange's rack is given back, with the words that the history leaves.
 pub fn answer_talk<R: Threads + Wait + Sync, I: Read, O: Write, H: Listener>(
     rt: &R,
     alloc: Global,
@@ -70,11 +73,11 @@ pub fn answer_talk<R: Threads + Wait + Sync, I: Read, O: Write, H: Listener>(
     reader: &mut I,
     writer: &mut O,
     listener: &mut H,
-) -> Result<Answer, AllocError>
+) -> Result<Closing, AllocError>
     ensures answer { (told : List ℕ)
         × Appends (O.contents writer.old) (O.contents writer.new) told
-        × IfOk result (IsTalkAnswer shape.now (bytes_of image.entry)
-        (I.remaining reader.old) (I.remaining reader.new) told) }
+        × IfOk result (λ closing. IsTalkAnswer shape.now (bytes_of image.entry)
+        (I.remaining reader.old) (I.remaining reader.new) told closing.answer closing.rack) }
     ensures beside { TellsOfRefusals H.may_tell (H.told listener.old) (H.told listener.new) }
     ensures no_session { (refusal : Refusal) → IsWrongRack shape.now (bytes_of image.entry) refusal
         → H.told listener.new ≡ H.told listener.old }
@@ -84,6 +87,6 @@ pub fn answer_talk<R: Threads + Wait + Sync, I: Read, O: Write, H: Listener>(
             let blank = Blank::new(ALL_PARTS as u64);
             talk::<Brand, R, I, O, H>(rt, alloc, blank, rack, reader, writer, listener)
         }
-        Err(refusal) => Answer::refused(alloc, refusal),
+        Err(refusal) => Closing::refused(alloc, refusal),
     }
 }

@@ -1,13 +1,15 @@
 -- Why a setting stops.
-use Rattle.std.proofs.Common.{◌≡◌, ◌<◌, ◌≤◌, ℕ, zero, Bool, List, [], ◌∷◌, suc, map, length, take, get_or, refl, sym, ap, ◌∙◌, arith, subst}
+use Rattle.std.proofs.Common.{◌≡◌, ◌<◌, ◌≤◌, ℕ, zero, List, [], ◌∷◌, suc, map, length, take, get_or, refl, sym, ap, ◌∙◌, arith, subst}
 use Rattle.std.specs.Prelude.{All, AllPairs}
 use Rattle.std.proofs.lemmas.List.Elements.{All-cons, All-head}
 use Rattle.link_graph.proofs.Sums.{later, first_with}
 use Rattle.batch.specs.declared.transfer.Transfer.{Transfer}
 use Rattle.module_memory.specs.Lending.{Left, BlockAt}
-use Rattle.setting_runner.specs.declared.outcome.StopCause.{StopCause}
-use Rattle.setting_runner.specs.declared.outcome.StopCause.TheVariants.{Port, SwitchDisagrees, Wire}
-use Rattle.setting_runner.specs.Answers.{IsSetFault}
+use Rattle.setting_runner.specs.declared.outcome.StopCause.TheVariants.{Wire}
+use Rattle.switch_settings.specs.Answers.{IsSetFault}
+use Rattle.switch_settings.specs.declared.fault.SetFault.{SetFault}
+use Rattle.switch_settings.specs.declared.fault.SetFault.TheVariants as fault
+use Rattle.setting_runner.specs.Causes.{cause_of}
 use Rattle.setting_runner.specs.Moves.{HaveMoved, all_moved, AllWhole}
 use Rattle.setting_runner.specs.Runs.{Given, IsStopCause, IsLeastShort, names_of}
 
@@ -16,13 +18,13 @@ all_zero [] = λ k d l. absurd (omega arith)
 all_zero (t ∷ ts) = All-cons (λ (m : ℕ × ℕ). m.1 ≡ 0) (t, 0) (all_moved ts 0) refl (all_zero ts)
 
 -- a switch that can't be set stops the setting before a word has moved
-pub set_fault_stops : (given : Given) (cause : StopCause) (ms : List (ℕ × ℕ)) → IsSetFault given.shape.modules given.before given.after given.honest cause → All (λ (m : ℕ × ℕ). m.1 ≡ 0) ms → IsStopCause given cause ms
-set_fault_stops given Port ms f z = record { failed = f; unmoved = z }
-set_fault_stops given (SwitchDisagrees output) ms f z = record { dishonest = f.0; known = f.1; unmoved = z; unfailed = f.2 }
-set_fault_stops given (Wire t) ms f z = absurd f
+pub set_fault_stops : (given : Given) (f : SetFault) (ms : List (ℕ × ℕ)) → IsSetFault given.shape.modules given.before given.after given.honest f → All (λ (m : ℕ × ℕ). m.1 ≡ 0) ms → IsStopCause given (cause_of f) ms
+set_fault_stops given fault.Port ms is z = record { failed = is; unmoved = z }
+set_fault_stops given (fault.SwitchDisagrees output) ms is z = record { dishonest = is.0; known = is.1; unmoved = z; unfailed = is.2 }
 
-pub no_wire : (modules before after : ℕ) (honest : Bool) (cause : StopCause) (t : ℕ) → IsSetFault modules before after honest cause → cause ≡ Wire t → ⊥
-no_wire modules before after honest cause t f e = subst (IsSetFault modules before after honest) e f
+pub no_wire : (f : SetFault) (t : ℕ) → cause_of f ≡ Wire t → ⊥
+no_wire fault.Port t e = absurd cc
+no_wire (fault.SwitchDisagrees output) t e = absurd cc
 
 -- those whose wires never fail have moved all words
 pub sure_moved : (sure : ℕ → Type 0) (rest : Left) (batch : List Transfer) (ts : List ℕ) (os ns : List BlockAt) (ms : List (ℕ × ℕ)) → HaveMoved sure rest batch ts os ns ms → All (λ (m : ℕ × ℕ). sure m.0 → m.1 ≡ rest.store.shape.words) ms

@@ -25,8 +25,11 @@ use Rattle.crossbar.specs.Chips.{Switches}
 use Rattle.crossbar.specs.Pairs.{AreSwitchesOf, room_of, switch_of}
 use Rattle.crossbar.specs.declared.chip.Wiring.{Wiring}
 use Rattle.crossbar.specs.declared.pair.Pair.{Pair}
-use Rattle.setting_runner.specs.Runs.{AreSettingSwitches, IsPrepared, IsCompleted, IsStopped, HasOwnBays, numbers_of, setting_pairs, words_of}
-use Rattle.setting_runner.proofs.Joined.{same_switches}
+use Rattle.setting_runner.specs.Runs.{AreSettingSwitches, IsPrepared, IsCompleted, IsStopped, HasOwnBays, numbers_of, words_of}
+use Rattle.switch_settings.specs.Racks.{HasModulesOf}
+use Rattle.switch_settings.specs.Settings.{setting_pairs}
+use Rattle.switch_settings.proofs.Joined.{same_switches}
+use Rattle.setting_runner.proofs.Racks.{has_modules}
 use Rattle.setting_runner.proofs.Causes.{names_moved, most_moved}
 use Rattle.setting_runner.proofs.Moves.{HaveMoved-length}
 use Rattle.setting_runner.proofs.Parts.{are_filled, length_part, movable_from, no_bay, part_at}
@@ -228,10 +231,10 @@ going_stops rest first bays part plan k a n ms b g h ea en moves =
       w.rejoins,
     )
 
--- the rack has the modules and blocks of the plan's batch
-pub rack_fits : (rest : Left) (first : List BlockAt) (plan : Plan) (batch : List Transfer) → IsPrepared rest first plan → batch ≡ plan.batch → FitsIn rest.store.shape batch
-rack_fits rest first plan batch b same =
-    subst (λ (x : List Transfer). FitsIn rest.store.shape x) (sym same) (subst (λ (x : Extent). FitsIn x plan.batch) (shape-joined rest.store first) b.ready.places)
+-- the rack has the modules of the plan's batch
+pub rack_has : (rest : Left) (first : List BlockAt) (plan : Plan) (batch : List Transfer) → IsPrepared rest first plan → batch ≡ plan.batch → HasModulesOf rest.store.shape.modules batch
+rack_has rest first plan batch b same =
+    subst (HasModulesOf rest.store.shape.modules) (sym same) (has_modules rest.store.shape plan.batch (subst (λ (x : Extent). FitsIn x plan.batch) (shape-joined rest.store first) b.ready.places))
 
 -- switches that are set to pairs which join what those of a setting do are the setting's
 pub setting_switches : (rest : Left) (first : List BlockAt) (plan : Plan) (k : ℕ) (batch : List Transfer) (numbers : List ℕ) (pairs : List Pair) (s : Switches) → IsPrepared rest first plan → batch ≡ plan.batch → numbers ≡ numbers_of plan k

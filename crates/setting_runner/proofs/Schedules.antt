@@ -2,17 +2,17 @@
 use Rattle.std.proofs.Common.{◌≡◌, ◌<◌, ◌≤◌, ◌+◌, ◌-◌, inl, inr, ℕ, zero, suc, List, [], ◌∷◌, ◌++◌, length, take, drop, get_or, refl, sym, ap, ◌∙◌, arith, subst, length-append, append_assoc}
 use Rattle.std.specs.Prelude.{All, sum_by}
 use Rattle.std.specs.List.{concat, range_with_len, AllByRecursion}
-use Rattle.std.proofs.lemmas.Bool.{cases_lt, cases_eq}
+use Rattle.std.proofs.lemmas.Bool.{cases_lt}
 use Rattle.std.proofs.lemmas.List.{get_or_append_left, get_or-append_right}
-use Rattle.std.proofs.lemmas.List.Sums.{sum_by-cons}
-use Rattle.std.proofs.lemmas.List.Elements.{All-head, All-tail}
+use Rattle.std.proofs.lemmas.List.Elements.{All-tail}
 use Rattle.batch.specs.declared.transfer.Transfer.{Transfer}
 use Rattle.module_memory.specs.Core.{IsSetting}
 use Rattle.link_graph.specs.Schedules.{IsScheduleOf}
 use Rattle.link_graph.specs.Certificates.{AreDistinct}
 use Rattle.link_graph.proofs.Once.{is_known, is_once, once_from_distinct}
-use Rattle.link_graph.proofs.Sums.{hit, hit_same, hit_other, swap, sum_ones}
+use Rattle.link_graph.proofs.Sums.{hit, swap, sum_ones}
 use Rattle.link_graph.proofs.Firsts.{all_left}
+use Rattle.switch_settings.proofs.Counting.{each_once, length_range}
 
 -- the numbers before a setting, those of the setting, and those behind it
 pub split_concat : (settings : List (List ℕ)) (k : ℕ) → k < length settings → concat settings ≡ concat (take k settings) ++ get_or settings k [] ++ concat (drop (k + 1) settings)
@@ -79,28 +79,9 @@ all_settings batch settings s = setting_from batch (concat settings) (is_known b
 
 -- ---- a schedule has as many numbers as the batch has transfers
 
-none_above : (u a n : ℕ) → u < a → sum_by (λ t. hit t u) (range_with_len a n) ≡ 0
-none_above u a zero h = refl
-none_above u a (suc n) h = omega (arith, sum_by-cons (λ t. hit t u) a (range_with_len (a + 1) n), hit_other a u (λ e. omega arith), none_above u (a + 1) n (omega arith))
-
-counted_once : (u a n : ℕ) → a ≤ u → u < a + n → sum_by (λ t. hit t u) (range_with_len a n) ≡ 1
-counted_once u a zero low high = absurd (omega arith)
-counted_once u a (suc n) low high = elim (cases_eq u a) [
-  | inl e ↦ omega (arith, sum_by-cons (λ t. hit t u) a (range_with_len (a + 1) n), hit_same a u e, none_above u (a + 1) n (omega arith))
-  | inr ne ↦ omega (arith, sum_by-cons (λ t. hit t u) a (range_with_len (a + 1) n), hit_other a u ne, counted_once u (a + 1) n (omega arith) (omega arith))
-]
-
-pub each_once : (xs : List ℕ) (n : ℕ) → All (λ u. u < n) xs → AllByRecursion (λ u. sum_by (λ t. hit t u) (range_with_len 0 n) ≡ 1) xs
-each_once [] n h = tt
-each_once (x ∷ xs) n h = (counted_once x 0 n (omega arith) (omega (arith, All-head (λ u. u < n) x xs h)), each_once xs n (All-tail (λ u. u < n) x xs h))
-
 each_stands : (xs : List ℕ) (a n : ℕ) → ((t : ℕ) → a ≤ t → t < a + n → sum_by (hit t) xs ≡ 1) → AllByRecursion (λ t. sum_by (hit t) xs ≡ 1) (range_with_len a n)
 each_stands xs a zero h = tt
 each_stands xs a (suc n) h = (h a (omega arith) (omega arith), each_stands xs (a + 1) n (λ t l m. h t (omega arith) (omega arith)))
-
-pub length_range : (a n : ℕ) → length (range_with_len a n) ≡ n
-length_range a zero = refl
-length_range a (suc n) = ap suc (length_range (a + 1) n)
 
 pub numbers_are_counted : (batch : List Transfer) (settings : List (List ℕ)) → IsScheduleOf batch settings → length (concat settings) ≡ length batch
 numbers_are_counted batch settings s =

@@ -1,13 +1,8 @@
-pub mod ShortLists
 pub mod Equal
-pub mod Pairs
-pub mod Answers
 pub mod Moves
 pub mod Carried
-pub mod Tables
+pub mod Causes
 pub mod Runs
-pub mod Sending
 pub mod LineBits
 pub mod Refusals
 pub mod Plants
-pub mod Laws

@@ -1,6 +1,6 @@
 -- How a run ends, and what it leaves and tells. The outcomes and their causes are this project's
 -- choice.
-use Rattle.std.specs.Prelude.{◌≡◌, ℕ, ◌<◌, ◌≤◌, ◌+◌, ◌*◌, Bool, false, List, [], ◌++◌, zero, suc, length, map, take, slice_index, slice_index_or, All, Contains}
+use Rattle.std.specs.Prelude.{◌≡◌, ℕ, ◌<◌, ◌≤◌, ◌+◌, ◌*◌, Bool, false, List, ◌++◌, zero, suc, length, map, take, slice_index, All, Contains}
 use Rattle.std.specs.List.{concat}
 use Rattle.batch.specs.Extent.{Extent}
 use Rattle.batch.specs.declared.transfer.Transfer.{Transfer}
@@ -8,7 +8,6 @@ use Rattle.batch.specs.declared.transfer.Place.{Place}
 use Rattle.batch.specs.Overlap.{IsApart}
 use Rattle.crossbar.specs.Chips.{Switches}
 use Rattle.crossbar.specs.Pairs.{AreSwitchesOf}
-use Rattle.crossbar.specs.declared.pair.Pair.{Pair}
 use Rattle.module_memory.specs.Store.{Store}
 use Rattle.module_memory.specs.Bays.{AreBaysOf, AreFound, destinations_of}
 use Rattle.module_memory.specs.Core.{FitsIn, IsMoved, IsPlaced, IsReady, setting_of, times}
@@ -16,29 +15,22 @@ use Rattle.module_memory.specs.Lending.{BlockAt, Left, Rejoins, found_in, joined
 use Rattle.link_graph.specs.Schedules.{IsScheduleOf}
 use Rattle.module_memory.specs.Settings.{IsRun, IsStoppedRun, all_words}
 use Rattle.schedule_certificate.specs.Plans.{Plan}
-use Rattle.setting_runner.specs.Answers.{HasOutput}
 use Rattle.setting_runner.specs.declared.outcome.Outcome.{Outcome}
 use Rattle.setting_runner.specs.declared.outcome.Outcome.TheVariants.{Completed, Refused, Stopped}
 use Rattle.setting_runner.specs.declared.outcome.StopCause.{StopCause}
 use Rattle.setting_runner.specs.declared.outcome.StopCause.TheVariants.{Port, SwitchDisagrees, Wire}
+use Rattle.switch_settings.specs.Answers.{HasOutput}
+use Rattle.switch_settings.specs.Settings.{numbers_in, setting_pairs}
 
 -- the transfers of a plan's setting, by their numbers
 abbrev pub numbers_of : Plan → ℕ → List ℕ
-numbers_of plan k = slice_index_or plan.settings k []
+numbers_of plan k = numbers_in plan.settings k
 
 -- the bays of a setting stand behind those of the settings before it
 abbrev pub HasOwnBays : Store → List BlockAt → Plan → ℕ → Type 0
 HasOwnBays rest bays plan k =
     AreBaysOf rest bays
     (length (concat (take k plan.settings))) (setting_of plan.batch (numbers_of plan k))
-
--- the modules that a transfer wants joined
-abbrev pub joined_pair : Transfer → Pair
-joined_pair t = record { initiator = t.initiator; responder = t.responder }
-
--- the pairs of a setting
-abbrev pub setting_pairs : List Transfer → List ℕ → List Pair
-setting_pairs batch numbers = map joined_pair (setting_of batch numbers)
 
 -- the switches of a setting, in a rack of this shape
 abbrev pub AreSettingSwitches : Extent → Plan → ℕ → Switches → Type 0
@@ -111,6 +103,12 @@ pub record IsLeastShort (words transfer : ℕ) (moved : List (ℕ × ℕ)) : Typ
   pub stands : Contains moved (transfer, count)
   pub short : count < words
   pub least : All (λ m. m.1 < words → transfer ≤ m.0) moved
+
+-- a setting stops because a transfer has moved too few words: this is the least such
+abbrev pub IsShortfall : ℕ → List (ℕ × ℕ) → StopCause → Type 0
+IsShortfall words moved (Wire transfer) = IsLeastShort words transfer moved
+IsShortfall words moved Port = ⊥
+IsShortfall words moved (SwitchDisagrees output) = ⊥
 
 -- what the causes of a run are judged by
 pub record Given : Type 1 where

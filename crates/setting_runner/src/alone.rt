@@ -7,19 +7,17 @@ ghost use Rattle.module_memory.specs.Lending.{joined, Rejoins};
 ghost use Rattle.setting_runner.specs.declared.outcome.RunRefusal.TheVariants.{Overlap, Shape, NoMemory};
 ghost use Rattle.setting_runner.specs.declared.outcome.Outcome.TheVariants.{Refused};
 ghost use Rattle.setting_runner.specs.declared.outcome.StopCause.TheVariants.{Wire};
-ghost use Rattle.setting_runner.specs.Answers.{AreSetTo, AreStanding};
 ghost use Rattle.setting_runner.specs.Moves.{AreMovable, HaveMoved, none_sure, all_moved};
 ghost use Rattle.setting_runner.specs.Plants.{LeavesPlant};
 ghost use Rattle.setting_runner.specs.Runs.{IsPrepared, LeavesMemories, IsMisfit, IsRefusedRun, CanMove, RunNeedsMemory, TellsOutcome, IsStopCause};
+ghost use Rattle.switch_settings.specs.Answers.{AreSetTo, AreStanding};
 
 use crate::notice::Notice;
 use crate::numbers::setting_numbers;
-use crate::outcome::{Outcome, StopCause};
-use crate::pair_list::PairList;
+use crate::outcome::Outcome;
 use crate::plant::Plant;
 use crate::running::prepare;
-use crate::setting::{Setting, Stop, least_short, none_moved};
-use crate::switching::set_switches;
+use crate::setting::{Setting, Stop, begin_setting, end_setting};
 use crate::work::{Work, move_in_turn};
 use batch::MAX_MODULES;
 use crossbar::ConfigPort;
@@ -27,6 +25,7 @@ use module_memory::{Bay, Parted, Rack, Rest};
 use peek_poke::WireMaker;
 use schedule_certificate::Planned;
 use std::alloc::Global;
+use switch_settings::PairList;
 
 /// Runs a plan on a rack, as [`run`](crate::run) does with one worker, and starts no thread: the plant's workers
 /// and its gate take no part.
@@ -150,15 +149,7 @@ fn run_setting_alone<P: ConfigPort, W: WireMaker, G>(
     ensures unfailed { OnOk result (P.failures plant.new.port ≡ P.failures plant.old.port) }
     ensures honesty { P.honest plant.new.port ≡ P.honest plant.old.port }
 {
-    let shape = rest.shape();
-    let pairs = setting.pairs.as_slice();
-    if let Err(cause) = set_switches(&mut plant.port, shape.modules(), &setting.standing, pairs) {
-        return Err(Stop {
-            cause,
-            moved: none_moved(setting.batch, setting.numbers),
-        });
-    }
-    let words = shape.words();
+    begin_setting(plant, setting, rest.shape())?;
     let work = Work {
         gate: &plant.gate,
         wires: &plant.wires,
@@ -166,11 +157,5 @@ fn run_setting_alone<P: ConfigPort, W: WireMaker, G>(
         batch: setting.batch,
     };
     let moved = move_in_turn(&work, setting.numbers, bays);
-    match least_short(&moved, words) {
-        Some(transfer) => Err(Stop {
-            cause: StopCause::Wire(transfer),
-            moved,
-        }),
-        None => Ok(()),
-    }
+    end_setting(moved, rest.shape().words())
 }

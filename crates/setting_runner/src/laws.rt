@@ -1,8 +1,7 @@
-//! Laws of what a notice is told, and of what switches are sent. They make no call.
+//! A law of what a notice is told. It makes no call.
 
 ghost use Rattle.std.specs.Prelude.{◌≡◌, Bool, true, ℕ, suc};
 ghost use Rattle.setting_runner.specs.Runs.{ToldUpTo};
-ghost use Rattle.setting_runner.specs.Laws.{PlansTurn};
 
 use crate::notice::Notice;
 
@@ -15,10 +14,4 @@ pub fn told<N: Notice>()
         ((b c : N) (k : ℕ) → holds b k ≡ true → N.hears b (suc k) c → holds c (suc k) ≡ true) →
         (b : N) (k : ℕ) → ToldUpTo N.hears a k b → holds b k ≡ true }
     ensures last { (a b : N) (k : ℕ) → ToldUpTo N.hears a k b → (m : N) × N.hears m k b }
-{}
-
-/// What a switch is sent for the first settings of a plan, one after the other, turns it into that of the last of
-/// these settings, whatever it was. What each command does is the INMOS IMS C004 data sheet's.
-pub fn plans_turn()
-    ensures { PlansTurn }
 {}

@@ -4,18 +4,10 @@ ghost use Rattle.std.specs.Prelude.{◌≡◌, ◌≤◌, ◌<◌, ◌+◌, ◌+
 ghost use Rattle.std.specs.Slice.Iter.{iter_rest};
 ghost use Rattle.setting_runner.specs.Equal.{same_moved};
 
-use crate::short_list::{Blank, ShortList};
 use batch::{MAX_MODULES, MAX_TRANSFERS, MAX_WORDS};
 use std::marker::Model;
 use std::slice;
-
-impl Blank for (u16, u16) {
-    ghost blank = { (0, 0) };
-
-    fn blank() -> (u16, u16) {
-        (0, 0)
-    }
-}
+use switch_settings::ShortList;
 
 /// The transfers of a setting by ascending number, at most one of each module, each with the number of words
 /// that it has moved, from none to those of a block. Contracts see the list. It has 136 bytes, since a reply may

@@ -1,4 +1,5 @@
 use crate::moved::Moved;
+use switch_settings::SetFault;
 use thiserror::Error;
 
 /// Why a run was refused: the rack is as it was, and the port wasn't called. The causes are tested in this
@@ -29,6 +30,20 @@ pub enum StopCause {
     /// The wire of this transfer failed before all its words had moved, and of none before it in the
     /// setting. All other transfers of the setting have moved as far as their wires went.
     Wire(usize),
+}
+
+impl From<SetFault> for StopCause {
+    ghost use Rattle.std.specs.Prelude.{◌≡◌};
+    ghost use Rattle.setting_runner.specs.Causes.{cause_of};
+
+    ghost from_gives = { λ fault cause. cause ≡ cause_of fault };
+
+    fn from(fault: SetFault) -> StopCause {
+        match fault {
+            SetFault::Port => StopCause::Port,
+            SetFault::SwitchDisagrees(output) => StopCause::SwitchDisagrees(output),
+        }
+    }
 }
 
 /// How a run ended.

@@ -6,10 +6,11 @@ ghost use Rattle.module_memory.specs.Bays.{destinations_of};
 ghost use Rattle.module_memory.specs.Core.{FitsIn};
 ghost use Rattle.setting_runner.specs.Runs.{plan_destinations};
 
-use crate::numbers::{setting_numbers, transfer_of};
+use crate::numbers::setting_numbers;
 use batch::{Batch, Place, Shape, Transfer};
 use schedule_certificate::Planned;
 use std::alloc::{AllocError, Global};
+use switch_settings::transfer_of;
 
 /// Whether the shape has the block.
 fn has_place(shape: Shape, place: Place) -> bool

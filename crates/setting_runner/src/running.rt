@@ -12,7 +12,6 @@ ghost use Rattle.setting_runner.specs.Runs.{IsPrepared, LeavesMemories, IsMisfit
 use crate::notice::Notice;
 use crate::numbers::setting_numbers;
 use crate::outcome::{Outcome, RunRefusal};
-use crate::pair_list::PairList;
 use crate::plant::Plant;
 use crate::ready::{destinations, fits_in};
 use crate::setting::{Setting, run_setting};
@@ -22,6 +21,7 @@ use peek_poke::WireMaker;
 use schedule_certificate::{Gate, Planned};
 use std::alloc::Global;
 use std::thread::Threads;
+use switch_settings::PairList;
 
 /// Runs a plan on a rack, and gives the rack back.
 ///

@@ -4,21 +4,20 @@ ghost use Rattle.std.specs.Prelude.{◌≡◌, ◌≤◌, ◌<◌, ℕ, All, All
 ghost use Rattle.crossbar.specs.Pairs.{ArePairs};
 ghost use Rattle.setting_runner.specs.declared.outcome.StopCause.TheVariants.{Wire};
 ghost use Rattle.setting_runner.specs.Moves.{AreMovable, HaveMoved, none_sure, all_moved, AllWhole};
-ghost use Rattle.setting_runner.specs.Answers.{AreSetTo, AreStanding};
-ghost use Rattle.setting_runner.specs.Runs.{IsStopCause, IsLeastShort, names_of};
+ghost use Rattle.setting_runner.specs.Runs.{IsStopCause, IsShortfall, IsLeastShort, names_of};
+ghost use Rattle.switch_settings.specs.Answers.{AreSetTo, AreStanding};
 
 use crate::moved::Moved;
 use crate::outcome::StopCause;
-use crate::pair_list::PairList;
 use crate::plant::Plant;
-use crate::switching::set_switches;
 use crate::work::{Work, move_all};
-use batch::{Batch, MAX_MODULES};
+use batch::{Batch, MAX_MODULES, Shape};
 use crossbar::ConfigPort;
 use module_memory::{Bay, Rest};
 use peek_poke::WireMaker;
 use schedule_certificate::{Gate, Workers};
 use std::thread::Threads;
+use switch_settings::{PairList, set_switches};
 
 /// Why a setting stopped, and how many words its transfers have moved.
 #[derive(Clone, Copy, Debug)]
@@ -76,15 +75,7 @@ pub fn run_setting<R: Threads + Sync, P: ConfigPort, W: WireMaker + Sync, G: Gat
     ensures unfailed { OnOk result (P.failures plant.new.port ≡ P.failures plant.old.port) }
     ensures honesty { P.honest plant.new.port ≡ P.honest plant.old.port }
 {
-    let shape = rest.shape();
-    let pairs = setting.pairs.as_slice();
-    if let Err(cause) = set_switches(&mut plant.port, shape.modules(), &setting.standing, pairs) {
-        return Err(Stop {
-            cause,
-            moved: none_moved(setting.batch, setting.numbers),
-        });
-    }
-    let words = shape.words();
+    begin_setting(plant, setting, rest.shape())?;
     let work = Work {
         gate: &plant.gate,
         wires: &plant.wires,
@@ -93,6 +84,56 @@ pub fn run_setting<R: Threads + Sync, P: ConfigPort, W: WireMaker + Sync, G: Gat
     };
     let workers = Workers::all(plant.workers);
     let moved = move_all(rt, &work, workers, setting.numbers, bays);
+    end_setting(moved, rest.shape().words())
+}
+
+/// Begins a setting: sets the switches to its pairs, and asks them whether they stand so. Where they
+/// don't, no word has moved.
+pub(crate) fn begin_setting<P: ConfigPort, W: WireMaker, G>(
+    plant: &mut Plant<P, W, G>,
+    setting: &Setting<'_>,
+    shape: Shape,
+) -> Result<(), Stop>
+    requires standing { AreStanding shape.modules
+        (P.honest plant.old.port) (P.switches plant.old.port) setting.now.standing }
+    requires pairs { ArePairs shape.modules setting.now.pairs }
+    requires numbers { length setting.now.numbers.now ≤ MAX_MODULES }
+    requires known { All (λ t. t < length setting.now.batch.now) setting.now.numbers.now }
+
+    ensures unmoved { IfErr result (λ stop. stop.moved ≡ all_moved setting.now.numbers.now 0) }
+    ensures cause { IfErr result (λ stop. IsStopCause (record {
+      sure = W.is_sure plant.old.wires;
+      shape = shape;
+      before = P.failures plant.old.port;
+      after = P.failures plant.new.port;
+      honest = P.honest plant.old.port;
+    }) stop.cause stop.moved) }
+    ensures no_wire { IfErr result (λ stop. (t : ℕ) → stop.cause ≡ Wire t → ⊥) }
+    ensures set { OnOk result
+        (AreSetTo shape.modules (P.honest plant.old.port) (P.switches plant.new.port) setting.now.pairs) }
+    ensures plant { plant.new ≡ record plant.old { port = plant.new.port } }
+    ensures counted { P.failures plant.old.port ≤ P.failures plant.new.port }
+    ensures unfailed { OnOk result (P.failures plant.new.port ≡ P.failures plant.old.port) }
+    ensures honesty { P.honest plant.new.port ≡ P.honest plant.old.port }
+{
+    let pairs = setting.pairs.as_slice();
+    if let Err(fault) = set_switches(&mut plant.port, shape.modules(), &setting.standing, pairs) {
+        return Err(Stop {
+            cause: fault.into(),
+            moved: none_moved(setting.batch, setting.numbers),
+        });
+    }
+    Ok(())
+}
+
+/// Ends a setting whose transfers have moved so many words: where one hasn't moved as many as a block
+/// has, the least of these stops it.
+pub(crate) fn end_setting(moved: Moved, words: usize) -> Result<(), Stop>
+    requires { AllPairs (λ t u. t < u) (names_of moved) }
+    ensures whole { OnOk result (AllWhole words moved) }
+    ensures moved { IfErr result (λ stop. stop.moved ≡ moved) }
+    ensures short { IfErr result (λ stop. IsShortfall words moved stop.cause) }
+{
     match least_short(&moved, words) {
         Some(transfer) => Err(Stop {
             cause: StopCause::Wire(transfer),
@@ -103,7 +144,7 @@ pub fn run_setting<R: Threads + Sync, P: ConfigPort, W: WireMaker + Sync, G: Gat
 }
 
 /// The transfers of a setting of which no word has moved.
-pub(crate) fn none_moved(batch: &Batch, numbers: &[usize]) -> Moved
+fn none_moved(batch: &Batch, numbers: &[usize]) -> Moved
     requires few { length numbers.now ≤ MAX_MODULES }
     requires known { All (λ t. t < length batch.now) numbers.now }
     ensures { result ≡ all_moved numbers.now 0 }
@@ -118,7 +159,7 @@ pub(crate) fn none_moved(batch: &Batch, numbers: &[usize]) -> Moved
 }
 
 /// The least transfer that has moved fewer words than a block has.
-pub(crate) fn least_short(moved: &Moved, words: usize) -> Option<usize>
+fn least_short(moved: &Moved, words: usize) -> Option<usize>
     requires { AllPairs (λ t u. t < u) (names_of moved.now) }
     ensures { MatchOption result
         (AllWhole words moved.now)

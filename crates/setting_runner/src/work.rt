@@ -7,12 +7,12 @@ ghost use Rattle.setting_runner.specs.Moves.{AreMovable, HaveMoved};
 
 use crate::block::move_block;
 use crate::moved::Moved;
-use crate::numbers::transfer_of;
 use batch::{Batch, MAX_MODULES};
 use module_memory::{Bay, Rest};
 use peek_poke::WireMaker;
 use schedule_certificate::{Gate, Workers};
 use std::thread::{Threads, join_mut};
+use switch_settings::transfer_of;
 
 /// What the workers of a setting share: the gate at which they arrive, the maker of their wires, the rest of
 /// the rack, and the batch.

@@ -1,5 +1,6 @@
 //! A module for each crate that is tested here, how values are printed, and racks that the tests share.
 
+mod byte_streams_rows;
 mod c004_commands_rows;
 mod contract_data_rows;
 mod crossbar_rows;
@@ -9,3 +10,5 @@ mod peek_poke_rows;
 mod prints;
 mod progress_word_rows;
 mod racks;
+mod streams;
+mod switch_end_rows;

@@ -6,6 +6,7 @@ ghost use Rattle.session_answers.specs.Hosts.{end_of, IsHostAnswer};
 ghost use Rattle.answers_tests.specs.Known.{known_guests};
 
 use exchange_limits::WorkerCount;
+use module_memory::Rack;
 use session_answers::{AllThere, Doors, Ending, Hosted, answer_host};
 use std::alloc::{AllocError, Global};
 use std::io;
@@ -63,7 +64,8 @@ fn host_known<R: Threads + Wait + Sync>(
     requires some { 1 ≤ length said.now }
     requires few { length said.now ≤ MAX_SESSIONS }
     ensures { IfOk result (λ hosted. IsHostAnswer (codes "1x1x2") None (known_guests said.now)
-        (map (end_of (λ told. Some told.items)) hosted.endings.items) hosted.answer) }
+        (map (end_of (λ told. Some told.items)) hosted.endings.items) hosted.answer
+        hosted.rack) }
 {
     let doors = KnownDoors { alloc, said };
     answer_host(rt, alloc, b"1x1x2", None, WorkerCount::ONE, &doors)
@@ -80,7 +82,16 @@ fn was_told(ending: &Ending<Vec<u8>>, told: &str) -> bool {
     }
 }
 
-/// Whether each of two clients is told its own replies, and the answer has both.
+/// Whether there is a rack, of which this is the image.
+fn is_left(rack: Option<Rack>, image: &[u8]) -> bool {
+    match rack.map(|rack| rack.image()) {
+        Some(Ok(left)) => left.as_slice() == image,
+        _ => false,
+    }
+}
+
+/// Whether each of two clients is told its own replies, the answer has both, and the rack has what
+/// both wrote.
 fn are_hosted<R: Threads + Wait + Sync>(rt: &R, alloc: Global) -> bool {
     let said: [&[u8]; 2] = [
         b"poke 0 80000800 000000aa\npeek 0 80000800\n",
@@ -93,6 +104,7 @@ fn are_hosted<R: Threads + Wait + Sync>(rt: &R, alloc: Global) -> bool {
                 && was_told(&hosted.endings[1], "poked\nbye\n")
                 && hosted.answer.text() == b"session 0 client\nsession 1 client\n".as_slice()
                 && hosted.answer.status() == 0
+                && is_left(hosted.rack, &[0xaa, 0, 0, 0, 0xbb, 0, 0, 0])
         }
         Err(AllocError) => false,
     }

@@ -49,9 +49,11 @@ fn said_by(job: &Job) -> Said<'_> {
             source: ScheduleSource::File(file),
             ..
         } => Said::File(file.as_str()),
-        Job::Check { .. } | Job::Draw { .. } | Job::Direct { .. } | Job::Talk { .. } => {
-            Said::Nothing
-        }
+        Job::Check { .. }
+        | Job::Draw { .. }
+        | Job::C004
+        | Job::Direct { .. }
+        | Job::Talk { .. } => Said::Nothing,
     }
 }
 
@@ -97,6 +99,7 @@ fn words_name_workers(rt: HostRuntime) {
         ("exchange serve --workers 2 S A B", Said::Workers(2)),
         ("exchange host S A B --workers 5", Said::Workers(5)),
         ("exchange check B S", Said::Nothing),
+        ("exchange c004", Said::Nothing),
     ];
     assert!(rt; are_all_read_as(rt.alloc(), &rows));
 }
@@ -123,6 +126,7 @@ fn options_exclude_each_other(rt: HostRuntime) {
         "exchange switch B --workers 1 --schedule S",
         "exchange switch B --schedule S --steady",
         "exchange switch - --schedule -",
+        "exchange serve S A --image-out A",
     ] {
         let said = Said::Refused(ErrorKind::ArgumentConflict);
         assert!(rt; is_read_as(rt.alloc(), line, &said));

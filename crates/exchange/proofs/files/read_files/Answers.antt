@@ -2,7 +2,7 @@ use Rattle.std.proofs.Common.{◌≡◌, ◌≢◌, ◌<◌, ◌+◌, ◌++◌, 
 use Rattle.std.proofs.lemmas.List.{get_or_default, length-append}
 use Rattle.std.specs.Global.{Global}
 use Rattle.command_words.specs.Jobs.{input_name}
-use Rattle.exchange.specs.Responses.{IsHeld}
+use Rattle.exchange.specs.Files.{IsHeld}
 use Rattle.exchange.proofs.Held.{held_later, earlier_are_others, one_more_file, pushed_items, mapped_more}
 use Rattle.exchange.proofs.files.read_files.Goals as goal
 

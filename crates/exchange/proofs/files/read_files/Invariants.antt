@@ -1,7 +1,7 @@
 use Rattle.std.proofs.Common.{◌≡◌, ◌<◌, ℕ, [], length, map, get_or}
 use Rattle.std.specs.Prelude.{◌≢◌}
 use Rattle.command_words.specs.Jobs.{input_name}
-use Rattle.exchange.specs.Responses.{IsHeld}
+use Rattle.exchange.specs.Files.{IsHeld}
 use Rattle.exchange.proofs.files.read_files.Given as goal
 
 abbrev pub invariant-loop-name : goal.invariant-loop-name

@@ -1,6 +1,6 @@
 use Rattle.std.proofs.Common.{[], refl, inl}
 use Rattle.std.proofs.KnownBytes.{Appends-nil}
-use Rattle.exchange.proofs.Told.{talked, untold}
+use Rattle.exchange.proofs.Told.{left_behind, switched, talked, untold}
 use Rattle.exchange.proofs.jobs.answer_to.Goals as goal
 
 pub returns-in-Plan : goal.returns-in-Plan
@@ -24,11 +24,14 @@ returns-in-Apply g c = rw c.in-Apply.is (record { response = ([], Appends-nil _,
 pub returns-in-Run : goal.returns-in-Run
 returns-in-Run g c = rw c.in-Run.is (record { response = ([], Appends-nil _, refl, untold c.run.result _ c.run.ensures.answer, c.run.ensures.note); beside = inl refl })
 
+pub returns-in-C004 : goal.returns-in-C004
+returns-in-C004 g c = rw c.in-C004.is (record { response = switched c.c004.result _ _ _ c.c004.ensures.answer c.c004.ensures.note; beside = inl refl })
+
 pub returns-in-Serve : goal.returns-in-Serve
-returns-in-Serve g c = rw c.in-Serve.is (record { response = ([], Appends-nil _, refl, untold c.serve.result _ c.serve.ensures.answer, c.serve.ensures.note); beside = inl refl })
+returns-in-Serve g c = rw c.in-Serve.is (record { response = ([], Appends-nil _, refl, untold c.serve.result _ (left_behind c.serve.result _ _ c.serve.ensures.answer), c.serve.ensures.note); beside = inl refl })
 
 pub returns-in-Host : goal.returns-in-Host
-returns-in-Host g c = rw c.in-Host.is (record { response = ([], Appends-nil _, refl, untold c.host.result _ c.host.ensures.answer, c.host.ensures.note); beside = inl refl })
+returns-in-Host g c = rw c.in-Host.is (record { response = ([], Appends-nil _, refl, untold c.host.result _ (left_behind c.host.result _ _ c.host.ensures.answer), c.host.ensures.note); beside = inl refl })
 
 pub returns-in-Talk : goal.returns-in-Talk
 returns-in-Talk g c = rw c.in-Talk.is (record { response = talked c.talk.result _ _ _ _ _ c.talk.ensures.answer c.talk.ensures.note; beside = inl refl })

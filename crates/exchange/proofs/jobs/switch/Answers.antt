@@ -2,7 +2,8 @@ use Rattle.std.proofs.Common.{ℕ, List, [], ◌∷◌, subst}
 use Rattle.batch.specs.Extent.{widest}
 use Rattle.command_words.specs.Jobs.{NameInputOnce}
 use Rattle.rack_answers.specs.Switching.{IsSwitched, IsSwitchedSteadily}
-use Rattle.exchange.specs.Responses.{IsHeld, IsSomeSwitch, IsSomeSteadySwitch, IsSomeScheduleSwitch}
+use Rattle.exchange.specs.Files.{IsHeld}
+use Rattle.exchange.specs.Responses.{IsSomeSwitch, IsSomeSteadySwitch, IsSomeScheduleSwitch}
 use Rattle.exchange.proofs.Held.{held_later, first_is_other}
 use Rattle.exchange.proofs.Told.{same_answer}
 use Rattle.exchange.proofs.jobs.switch.Goals as goal

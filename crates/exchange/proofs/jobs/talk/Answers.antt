@@ -20,12 +20,12 @@ returns-clause-answer g c =
     let old = g.I.Read.remaining c.args.input.now in
     let now = g.I.Read.remaining c.read_image.new.input in
     let after = g.I.Read.remaining c.answer_talk.new.reader in
+    let rack = c.args.rack.now in
+    let left = c.in_ok-closing.closing.rack in
     let image = option_map (λ file. file.items) c.in_ok-words.words in
-    let t = c.in_ok-answer.ensures.answer in
-    let other : c.args.image.now ≢ Some input_name = image_is_other c.args.image.now (input_name ∷ []) 0 c.requires.input (omega arith) refl in
-    let unread : now ≡ old = c.read_image.ensures.unread other in (
-      t.0,
-      t.1,
-      same_answer (IsSomeTalk old c.args.shape.now c.args.image.now t.0) _ _ c.with_rack_note.ensures.answer
-          (image, after, c.in_ok-words.ensures.held, subst (λ (before : Option (List ℕ)). IsTalkAnswer c.args.shape.now image before after t.0 c.in_ok-answer.answer) unread (rw (c.as_bytes-shape_text.ensures.value, c.as_str.ensures, c.slice_of-words.ensures) at t.2)),
-    )
+    let t = c.in_ok-closing.ensures.answer in
+    let other : rack.image ≢ Some input_name = image_is_other rack.image (input_name ∷ []) 0 c.requires.input (omega arith) refl in
+    let unread : now ≡ old = c.read_image.ensures.unread other in
+    let answer : IsTalkAnswer rack.shape image now after t.0 c.in_ok-closing.closing.answer left = rw (c.as_bytes-shape.ensures.value, c.as_str.ensures, c.slice_of-words.ensures) at t.2 in
+    let told = (image, after, c.in_ok-words.ensures.held, subst (λ (before : Option (List ℕ)). IsTalkAnswer rack.shape image before after t.0 c.in_ok-closing.closing.answer left) unread answer) in
+    (t.0, t.1, (left, same_answer (λ p. IsSomeTalk old rack t.0 p left) _ _ c.closed.ensures.answer told, c.closed.ensures.kept))

@@ -5,9 +5,10 @@ ghost use Rattle.crossbar.specs.Pairs.{ArePairs};
 
 use c004_commands::PORTS;
 use crossbar::JOINED_MODULES;
-use setting_runner::{
+use setting_runner::line_bits;
+use switch_settings::{
     CHANGE_BYTES, Chip, ENQUIRY_BYTES, Pair, WIDE_CHANGE_BYTES, WIDE_SETTING_BYTES, change_bytes,
-    line_bits, setting_bytes, wide_bytes, wide_change,
+    setting_bytes, wide_bytes, wide_change,
 };
 
 fn pair(initiator: u8, responder: u8) -> Pair

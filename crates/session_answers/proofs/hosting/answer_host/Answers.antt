@@ -1,5 +1,6 @@
-use Rattle.std.proofs.Common.{refl}
+use Rattle.std.proofs.Common.{◌≡◌, [], IfOk, refl}
 use Rattle.std.proofs.lemmas.Result.{IfOk-weaker}
+use Rattle.plan_answers.specs.Refusals.{Refuses}
 use Rattle.session_answers.specs.Hosts.{opened, refused}
 use Rattle.session_answers.proofs.Sessions.{both}
 use Rattle.session_answers.proofs.hosting.answer_host.Goals as goal
@@ -9,5 +10,5 @@ returns-in-Ok g c = IfOk-weaker c.host.result _ _ (λ h is. opened c.in-Ok.rack 
 
 pub returns-in-Err : goal.returns-in-Err
 returns-in-Err g c =
-    both c.refused.result c.refused.ensures.refusal c.refused.ensures.none
-    (λ h is none. refused c.in-Err.refusal (c.in-Err.ensures.wrong is.0) is (rw none refl))
+    let none : IfOk c.refused.result (λ h. Refuses c.in-Err.refusal h.answer × (h.endings.items ≡ [])) = both c.refused.result c.refused.ensures.refusal c.refused.ensures.none (λ h is ends. (is, ends)) in
+    both c.refused.result none c.refused.ensures.rack (λ h is left. refused c.in-Err.refusal (c.in-Err.ensures.wrong is.0.0) is.0 (rw is.1 refl) left)

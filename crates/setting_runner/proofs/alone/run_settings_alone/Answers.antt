@@ -5,7 +5,7 @@ use Rattle.batch.specs.declared.transfer.Transfer.{Transfer}
 use Rattle.module_memory.specs.Lending.{joined}
 use Rattle.setting_runner.specs.Moves.{AreMovable, HaveMoved, none_sure, all_moved}
 use Rattle.setting_runner.specs.Runs.{numbers_of, AreSettingSwitches, ToldUpTo, IsCompleted}
-use Rattle.setting_runner.proofs.Going.{rack_fits, setting_switches, going_next, going_stops, going_completes, next_begins, part_movable}
+use Rattle.setting_runner.proofs.Going.{rack_has, setting_switches, going_next, going_stops, going_completes, next_begins, part_movable}
 use Rattle.setting_runner.proofs.Schedules.{front_few, numbers_are_counted}
 use Rattle.setting_runner.proofs.alone.run_settings_alone.Goals as goal
 
@@ -67,19 +67,19 @@ returns-in-Err-clause-memories g c =
     (going_stops c.args.rest.now c.args.bays.now c.loop-number.bays new plan n a k ms begun inv.going below inv.from count moves).0
 
 pub run_setting_alone-requires-clause-pairs : goal.run_setting_alone-requires-clause-pairs
-run_setting_alone-requires-clause-pairs g c κs within = c.of_setting-pairs.ensures.pairs c.args.rest.now.store.shape (rack_fits c.args.rest.now c.args.bays.now c.args.planned.now c.batch-batch.result.now c.requires.prepared c.batch-batch.ensures.batch)
+run_setting_alone-requires-clause-pairs g c κs within = c.of_setting-pairs.ensures.pairs c.args.rest.now.store.shape.modules (rack_has c.args.rest.now c.args.bays.now c.args.planned.now c.batch-batch.result.now c.requires.prepared c.batch-batch.ensures.batch)
 
 pub returns-in-Err-clause-plant : goal.returns-in-Err-clause-plant
 returns-in-Err-clause-plant g c =
     let n = c.loop-number.number in
     let plan = c.args.planned.now in
     let inv = c.loop-number.invariant in
-    let fits = rack_fits c.args.rest.now c.args.bays.now plan c.batch-batch.result.now c.requires.prepared c.batch-batch.ensures.batch in
+    let has = rack_has c.args.rest.now c.args.bays.now plan c.batch-batch.result.now c.requires.prepared c.batch-batch.ensures.batch in
     record {
       cause = search rules;
       switches = λ honest t is.
           setting_switches c.args.rest.now c.args.bays.now plan n c.batch-batch.result.now c.setting_numbers-numbers.result.now c.of_setting-pairs.result (g.P.ConfigPort.switches c.run_setting_alone.new.plant.port)
-          c.requires.prepared c.batch-batch.ensures.batch c.setting_numbers-numbers.ensures.numbers (λ w. c.of_setting-pairs.ensures.switch c.args.rest.now.store.shape w fits)
+          c.requires.prepared c.batch-batch.ensures.batch c.setting_numbers-numbers.ensures.numbers (λ w. c.of_setting-pairs.ensures.switch c.args.rest.now.store.shape.modules w has)
           (c.in-Err.ensures.wire t is (subst IsTrue (sym inv.honesty) honest));
       refused = search rules;
       uncalled = search rules;
@@ -106,17 +106,17 @@ loop-number-preserved g c =
     let moves : HaveMoved none_sure c.args.rest.now plan.batch (numbers_of plan n) part new (all_moved (numbers_of plan n) words) =
     subst (λ (x : List ℕ). HaveMoved none_sure c.args.rest.now plan.batch x part new (all_moved x words)) (sym e)
     (subst (λ (b : List Transfer). HaveMoved none_sure c.args.rest.now b numbers part new (all_moved numbers words)) c.batch-batch.ensures.batch c.in_default.ensures.moved) in
-    let fits = rack_fits c.args.rest.now c.args.bays.now plan c.batch-batch.result.now begun c.batch-batch.ensures.batch in
+    let has = rack_has c.args.rest.now c.args.bays.now plan c.batch-batch.result.now begun c.batch-batch.ensures.batch in
     record {
       from = omega (arith, next_begins plan n a k below inv.from count);
       going = going_next c.args.rest.now c.args.bays.now c.loop-number.bays new plan n a k begun inv.going below inv.from count moves;
       told = subst (λ (x : ℕ). ToldUpTo g.N.Notice.hears c.args.notice.now x c.done-in-loop-number.new.self) (sym (add-one n)) (c.loop-number.notice, inv.told, subst (λ (x : ℕ). g.N.Notice.hears c.loop-number.notice x c.done-in-loop-number.new.self) (add-one n) c.done-in-loop-number.ensures);
-      standing = (c.of_setting-pairs.ensures.pairs c.args.rest.now.store.shape fits, λ honest. c.in_default.ensures.set (subst IsTrue (sym inv.honesty) honest));
+      standing = (c.of_setting-pairs.ensures.pairs c.args.rest.now.store.shape.modules has, λ honest. c.in_default.ensures.set (subst IsTrue (sym inv.honesty) honest));
       switches = λ j last honest.
           let at : n ≡ j = omega arith in
           subst (λ (x : ℕ). AreSettingSwitches c.args.rest.now.store.shape plan x (g.P.ConfigPort.switches c.run_setting_alone.new.plant.port)) at
           (setting_switches c.args.rest.now c.args.bays.now plan n c.batch-batch.result.now numbers c.of_setting-pairs.result (g.P.ConfigPort.switches c.run_setting_alone.new.plant.port)
-          begun c.batch-batch.ensures.batch c.setting_numbers-numbers.ensures.numbers (λ w. c.of_setting-pairs.ensures.switch c.args.rest.now.store.shape w fits)
+          begun c.batch-batch.ensures.batch c.setting_numbers-numbers.ensures.numbers (λ w. c.of_setting-pairs.ensures.switch c.args.rest.now.store.shape.modules w has)
           (c.in_default.ensures.set (subst IsTrue (sym inv.honesty) honest)));
       uncalled = λ none. absurd (omega arith);
       plant = search rules;

@@ -1,7 +1,7 @@
 use Rattle.std.proofs.Common.{◌≡◌, ◌+◌, ℕ, IsTrue, length, take}
 use Rattle.std.specs.List.{concat}
 use Rattle.setting_runner.specs.Runs.{AreSettingSwitches, ToldUpTo}
-use Rattle.setting_runner.specs.Answers.{AreStanding}
+use Rattle.switch_settings.specs.Answers.{AreStanding}
 use Rattle.setting_runner.proofs.Going.{Going}
 use Rattle.setting_runner.proofs.alone.run_settings_alone.Given as goal
 

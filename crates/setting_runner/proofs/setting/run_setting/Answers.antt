@@ -1,46 +1,38 @@
-use Rattle.std.proofs.Common.{◌≡◌, ◌<◌, ℕ, List, sym, subst, rules}
-use Rattle.std.specs.Prelude.{All, AllPairs}
+use Rattle.std.proofs.Common.{◌≡◌, ◌<◌, ℕ, List, refl, sym, subst, rules}
+use Rattle.std.specs.Prelude.{AllPairs, OnOk, IfErr}
+use Rattle.std.proofs.lemmas.Result.{err_from_is_err_and}
 use Rattle.setting_runner.specs.Moves.{HaveMoved, none_sure, AllWhole}
-use Rattle.setting_runner.specs.Answers.{IsSetFault}
-use Rattle.setting_runner.specs.Runs.{Given, IsLeastShort}
-use Rattle.setting_runner.proofs.Moves.{AreMovable-known, HaveMoved-forget, none_have_moved, whole_moves}
-use Rattle.setting_runner.proofs.Causes.{all_zero, set_fault_stops, no_wire, sure_moved, names_moved}
+use Rattle.setting_runner.specs.Runs.{Given, IsShortfall}
+use Rattle.setting_runner.proofs.Moves.{AreMovable-known, none_have_moved}
+use Rattle.setting_runner.proofs.Causes.{names_moved}
+use Rattle.setting_runner.proofs.Ending.{ended, ended_cause}
 use Rattle.setting_runner.proofs.setting.run_setting.Goals as goal
 
-pub none_moved-requires-clause-known : goal.none_moved-requires-clause-known
-none_moved-requires-clause-known g c = AreMovable-known _ _ _ _ c.requires.movable
+pub begin_setting-requires-clause-known : goal.begin_setting-requires-clause-known
+begin_setting-requires-clause-known g c κs within = AreMovable-known _ _ _ _ c.requires.movable
 
-pub returns-in-Err-clause-moved : goal.returns-in-Err-clause-moved
-returns-in-Err-clause-moved g c =
-    subst (λ (ms : List (ℕ × ℕ)). HaveMoved none_sure c.args.rest.now c.args.setting.now.batch.now c.args.setting.now.numbers.now c.args.bays.now c.args.bays.now ms) (sym c.none_moved.ensures) (none_have_moved c.args.rest.now c.args.setting.now.batch.now c.args.setting.now.numbers.now c.args.bays.now c.requires.movable)
+pub returns-in_err-begin_setting-clause-moved : goal.returns-in_err-begin_setting-clause-moved
+returns-in_err-begin_setting-clause-moved g c =
+    let setting = c.args.setting.now in
+    let bays = c.args.bays.now in
+    let p = err_from_is_err_and c.from_residual.result c.from_residual.ensures.1 in
+    rw (p.1, p.2)
+    (subst (λ (ms : List (ℕ × ℕ)). HaveMoved none_sure c.args.rest.now setting.batch.now setting.numbers.now bays bays ms) (sym c.in_err-begin_setting.ensures.unmoved) (none_have_moved c.args.rest.now setting.batch.now setting.numbers.now bays c.requires.movable))
 
-pub returns-in-Err-clause-cause : goal.returns-in-Err-clause-cause
-returns-in-Err-clause-cause g c =
-    let given : Given = record { sure = g.W.WireMaker.is_sure c.args.plant.now.wires; shape = c.args.rest.now.store.shape; before = g.P.ConfigPort.failures c.args.plant.now.port; after = g.P.ConfigPort.failures c.set_switches.new.port; honest = g.P.ConfigPort.honest c.args.plant.now.port } in
-    let same : c.modules.result ≡ c.args.rest.now.store.shape.modules = search rules in
-    set_fault_stops given c.in-Err.cause c.none_moved.result (subst (λ (m : ℕ). IsSetFault m given.before given.after given.honest c.in-Err.cause) same c.in-Err.ensures.fault)
-    (subst (λ (ms : List (ℕ × ℕ)). All (λ (m : ℕ × ℕ). m.1 ≡ 0) ms) (sym c.none_moved.ensures) (all_zero c.args.setting.now.numbers.now))
+pub end_setting-requires : goal.end_setting-requires
+end_setting-requires g c = subst (λ (ts : List ℕ). AllPairs (λ a b. a < b) ts) (sym (names_moved _ _ _ _ _ _ _ c.move_all-moved.ensures)) c.requires.ascending
 
-pub returns-in-Err-clause-wire : goal.returns-in-Err-clause-wire
-returns-in-Err-clause-wire g c = λ t is. absurd (no_wire _ _ _ _ c.in-Err.cause t c.in-Err.ensures.fault is)
+pub returns-clause-moved : goal.returns-clause-moved
+returns-clause-moved g c =
+    let e : c.words.result ≡ c.args.rest.now.store.shape.words = search rules in
+    ended _ _ _ _ _ _ _ _ c.move_all-moved.ensures (subst (λ (w : ℕ). OnOk c.end_setting.result (AllWhole w c.move_all-moved.result)) e c.end_setting.ensures.whole) c.end_setting.ensures.moved
 
-pub returns-in-Some-clause-moved : goal.returns-in-Some-clause-moved
-returns-in-Some-clause-moved g c = HaveMoved-forget _ _ _ _ _ _ _ c.move_all-moved.ensures
-
-pub least_short-requires : goal.least_short-requires
-least_short-requires g c = subst (λ (ts : List ℕ). AllPairs (λ a b. a < b) ts) (sym (names_moved _ _ _ _ _ _ _ c.move_all-moved.ensures)) c.requires.ascending
-
-pub returns-in-Some-clause-cause : goal.returns-in-Some-clause-cause
-returns-in-Some-clause-cause g c =
-    let e : c.words-words.result ≡ c.args.rest.now.store.shape.words = search rules in
-    record {
-      least = subst (λ (w : ℕ). IsLeastShort w c.in-Some.transfer c.move_all-moved.result) e c.in-Some.ensures;
-      others = sure_moved _ _ _ _ _ _ _ c.move_all-moved.ensures;
-      unfailed = c.in_default.ensures.unfailed;
-    }
-
-pub returns-in-None-clause-moved : goal.returns-in-None-clause-moved
-returns-in-None-clause-moved g c =
-    let e : c.words-words.result ≡ c.args.rest.now.store.shape.words = search rules in
-    let ms = whole_moves _ _ _ _ _ _ _ c.move_all-moved.ensures (subst (λ (w : ℕ). AllWhole w c.move_all-moved.result) e c.in-None.ensures) in
-    subst (λ (m : List (ℕ × ℕ)). HaveMoved none_sure c.args.rest.now c.args.setting.now.batch.now c.args.setting.now.numbers.now c.args.bays.now c.move_all-moved.new.bays m) ms (HaveMoved-forget _ _ _ _ _ _ _ c.move_all-moved.ensures)
+pub returns-clause-cause : goal.returns-clause-cause
+returns-clause-cause g c =
+    let e : c.words.result ≡ c.args.rest.now.store.shape.words = search rules in
+    let port = g.P.ConfigPort in
+    let old = c.args.plant.now in
+    let given : Given = record { sure = g.W.WireMaker.is_sure old.wires; shape = c.args.rest.now.store.shape; before = port.failures old.port; after = port.failures c.begin_setting.new.plant.port; honest = port.honest old.port } in
+    let same : c.begin_setting.new.plant.wires ≡ old.wires = search rules in
+    ended_cause _ given _ _ _ _ _ _ refl (rw same at c.move_all-moved.ensures) c.end_setting.ensures.moved (subst (λ (w : ℕ). IfErr c.end_setting.result (λ stop. IsShortfall w c.move_all-moved.result stop.cause)) e c.end_setting.ensures.short)
+    c.in_ok-begin_setting.ensures.unfailed

@@ -1,0 +1,36 @@
+-- The last line of a drive. The texts are this project's choice.
+use Rattle.std.specs.Prelude.{◌≡◌, ℕ, List, ◌++◌, codes}
+use Rattle.std.specs.Fmt.{decimal}
+use Rattle.plan_answers.specs.Refusals.{Printed}
+use Rattle.plan_answers.specs.declared.limits.TheConstants.{DONE, REFUSED}
+use Rattle.switch_driver.specs.declared.driving.Driven.{Driven}
+use Rattle.switch_driver.specs.declared.driving.Driven.TheVariants.{Completed, Stopped, Left, Untold}
+use Rattle.switch_settings.specs.declared.fault.SetFault.{SetFault}
+use Rattle.switch_settings.specs.declared.fault.SetFault.TheVariants.{Port, SwitchDisagrees}
+
+-- why a setting couldn't be set
+abbrev pub fault_words : SetFault → List ℕ
+fault_words Port = codes "port"
+fault_words (SwitchDisagrees output) = codes "switch " ++ decimal output
+
+-- all settings stood
+abbrev pub completed_line : ℕ → List ℕ
+completed_line settings = codes "driven settings " ++ decimal settings ++ codes "\n"
+
+-- a setting couldn't be set
+abbrev pub stopped_line : ℕ → SetFault → List ℕ
+stopped_line k fault =
+    codes "stopped setting " ++ decimal k ++ codes " " ++ fault_words fault ++ codes "\n"
+
+-- a setting stands, and no other was wanted
+abbrev pub left_line : ℕ → List ℕ
+left_line k = codes "left setting " ++ decimal k ++ codes "\n"
+
+-- the line of an end, under its status; a setting that couldn't be told has none
+abbrev pub IsEnding : Driven → Printed → Type 0
+IsEnding (Completed count) printed =
+    (printed.text ≡ completed_line count) × (printed.status ≡ DONE)
+IsEnding (Stopped k fault) printed =
+    (printed.text ≡ stopped_line k fault) × (printed.status ≡ REFUSED)
+IsEnding (Left k) printed = (printed.text ≡ left_line k) × (printed.status ≡ REFUSED)
+IsEnding (Untold k) printed = ⊥

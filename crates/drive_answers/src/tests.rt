@@ -1,0 +1,350 @@
+//! Three settings of one switch, driven over a stream whose other end follows a script: which bytes it is sent, when it
+//! is asked for a reply, and when a setting is told, all in one order.
+
+ghost use Rattle.std.specs.Prelude.{⊤};
+
+use crate::{DriveFault, Ports, answer_drive_schedule};
+use crossbar::Traffic;
+use plan_answers::{Answer, DONE, REFUSED};
+use refusals::Refusal;
+use std::alloc::{AllocError, Global};
+use std::io;
+use std::io::{Read, Write};
+use std::sync::atomic::{AtomicBool, AtomicUsize, Ordering};
+use switch_driver::{Cue, Stage, StreamPort, SwitchStream};
+
+/// Module 0 sends a block to each of three others.
+const BATCH: &[u8] = b"batch 3\npush 0 0 1 0\npush 0 0 2 0\npush 0 0 3 0\n";
+
+/// A setting for each.
+const SCHEDULE: &[u8] = b"settings 3\nsetting 0\nsetting 1\nsetting 2\n";
+
+/// What the switch is sent for each setting.
+const SETTINGS: [&[u8]; 3] = [
+    &[0x04, 0x01, 0x00, 0x11, 0x03],
+    &[0x06, 0x00, 0x11, 0x01, 0x00, 0x12, 0x03],
+    &[0x06, 0x00, 0x12, 0x01, 0x00, 0x13, 0x03],
+];
+
+/// How many outputs are asked.
+const OUTPUTS: u8 = 32;
+
+/// What output 0 replies in each setting, and which output has input 0 then.
+const JOINED: [(u8, u8); 3] = [(0x91, 17), (0x92, 18), (0x93, 19)];
+
+/// What happens at the switch's end of the stream, and at the stage.
+#[derive(Clone, Copy, Debug, PartialEq, Eq)]
+enum Step {
+    /// This byte comes.
+    Sent(u8),
+    /// All is flushed, and this reply is read.
+    Heard(u8),
+    /// The setting of this number is told.
+    Told(usize),
+}
+
+/// Which reply of the second setting is another one.
+type Lie = Option<(u8, u8)>;
+
+/// What an output replies where output 0 has such a reply, and another one input 0.
+fn reply_of(output: u8, joined: (u8, u8)) -> u8 {
+    if output == 0 {
+        joined.0
+    } else if output == joined.1 {
+        0x80
+    } else {
+        0
+    }
+}
+
+/// Puts what happens in a setting behind the other steps.
+fn push_setting(steps: &mut Vec<Step>, number: usize, lie: Lie) -> Result<(), AllocError> {
+    let (Some(bytes), Some(joined)) = (SETTINGS.get(number), JOINED.get(number)) else {
+        return Ok(());
+    };
+    for byte in *bytes {
+        steps.push(Step::Sent(*byte))?;
+    }
+    for output in 0..OUTPUTS {
+        let reply = match lie {
+            Some((liar, reply)) if liar == output && number == 1 => reply,
+            _ => reply_of(output, *joined),
+        };
+        steps.push(Step::Sent(2))?;
+        steps.push(Step::Sent(output))?;
+        steps.push(Step::Heard(reply))?;
+    }
+    steps.push(Step::Told(number))?;
+    Ok(())
+}
+
+/// What happens in all three settings.
+fn steps_of(alloc: Global, lie: Lie) -> Result<Vec<Step>, AllocError> {
+    let mut steps = Vec::new(alloc);
+    for number in 0..SETTINGS.len() {
+        push_setting(&mut steps, number, lie)?;
+    }
+    Ok(steps)
+}
+
+/// What has happened of a script.
+#[derive(Drop)]
+struct Desk<'a> {
+    script: &'a [Step],
+    /// How many steps have been made.
+    at: AtomicUsize,
+    /// How many had been when the stream was last flushed.
+    flushed: AtomicUsize,
+    /// How many ports were asked for.
+    opened: AtomicUsize,
+    /// Whether something came out of turn.
+    is_wrong: AtomicBool,
+}
+
+impl<'a> Desk<'a> {
+    fn of(script: &'a [Step]) -> Desk<'a> {
+        Desk {
+            script,
+            at: AtomicUsize::new(0),
+            flushed: AtomicUsize::new(usize::MAX),
+            opened: AtomicUsize::new(0),
+            is_wrong: AtomicBool::new(false),
+        }
+    }
+
+    /// The next step, if the script has one.
+    fn next(&self) -> Option<Step> {
+        self.script.get(self.at.load(Ordering::SeqCst)).copied()
+    }
+
+    /// Makes this step, and says whether it is the next one. At the script's end nothing is made, and nothing is wrong.
+    fn make(&self, step: Step) -> bool {
+        let Some(wanted) = self.next() else {
+            return false;
+        };
+        if wanted != step {
+            self.is_wrong.store(true, Ordering::SeqCst);
+            return false;
+        }
+        self.at.fetch_add(1, Ordering::SeqCst);
+        true
+    }
+
+    /// Whether all came in turn, up to the script's end.
+    fn is_followed(&self) -> bool {
+        self.next().is_none() && !self.is_wrong.load(Ordering::SeqCst)
+    }
+}
+
+/// The way from the switch.
+#[derive(Clone, Copy, Drop)]
+struct FromSwitch<'a> {
+    desk: &'a Desk<'a>,
+}
+
+impl Read for FromSwitch<'_> {
+    fn read(&mut self, buf: &mut [u8]) -> io::Result<usize> {
+        let (Some(Step::Heard(reply)), Some(first)) = (self.desk.next(), buf.first_mut()) else {
+            self.desk.make(Step::Heard(0));
+            return Ok(0);
+        };
+        if self.desk.flushed.load(Ordering::SeqCst) != self.desk.at.load(Ordering::SeqCst) {
+            self.desk.is_wrong.store(true, Ordering::SeqCst);
+        }
+        *first = reply;
+        self.desk.make(Step::Heard(reply));
+        Ok(1)
+    }
+}
+
+/// The way to the switch.
+#[derive(Clone, Copy, Drop)]
+struct ToSwitch<'a> {
+    desk: &'a Desk<'a>,
+}
+
+impl Write for ToSwitch<'_> {
+    fn write(&mut self, buf: &[u8]) -> io::Result<usize> {
+        match buf.first() {
+            Some(byte) if self.desk.make(Step::Sent(*byte)) => Ok(1),
+            _ => Err(io::ErrorKind::BrokenPipe.into()),
+        }
+    }
+
+    fn flush(&mut self) -> io::Result<()> {
+        self.desk
+            .flushed
+            .store(self.desk.at.load(Ordering::SeqCst), Ordering::SeqCst);
+        Ok(())
+    }
+}
+
+/// The one port to the desk, or its refusal.
+#[derive(Drop)]
+struct DeskPorts<'a> {
+    desk: &'a Desk<'a>,
+    refusal: Option<Refusal>,
+    passed: Option<Traffic>,
+}
+
+impl<'a> Ports for DeskPorts<'a> {
+    ghost use Rattle.std.specs.Prelude.{⊤};
+
+    type Port = StreamPort<FromSwitch<'a>, ToSwitch<'a>>;
+
+    ghost refuses = { λ _ _ _. ⊤ };
+
+    ghost carried = { λ p. p.passed };
+
+    fn open(&mut self, _switches: usize) -> Result<Self::Port, Refusal> {
+        self.desk.opened.fetch_add(1, Ordering::SeqCst);
+        if let Some(refusal) = self.refusal {
+            return Err(refusal);
+        }
+        let desk = self.desk;
+        let stream = SwitchStream {
+            reader: FromSwitch { desk },
+            writer: ToSwitch { desk },
+        };
+        Ok(StreamPort::new(stream, None))
+    }
+
+    fn close(&mut self, port: StreamPort<FromSwitch<'a>, ToSwitch<'a>>) {
+        self.passed = Some(port.into_traffic());
+    }
+}
+
+/// The stage at the desk: behind a setting it says this.
+#[derive(Clone, Copy, Drop)]
+struct DeskStage<'a> {
+    desk: &'a Desk<'a>,
+    says: [Cue; 3],
+}
+
+impl Stage for DeskStage<'_> {
+    ghost use Rattle.std.specs.Prelude.{⊤};
+
+    ghost hears = { λ _ _ _ _ _. ⊤ };
+
+    fn stands(&mut self, setting: usize, numbers: &[usize]) -> Cue {
+        if numbers != [setting].as_slice() || !self.desk.make(Step::Told(setting)) {
+            return Cue::Leave;
+        }
+        self.says.get(setting).copied().unwrap_or(Cue::Leave)
+    }
+}
+
+/// The answer where the desk follows its script, and the stage says this.
+fn answer_at(
+    alloc: Global,
+    desk: &Desk<'_>,
+    says: [Cue; 3],
+    refusal: Option<Refusal>,
+    schedule: &[u8],
+) -> Result<Answer, DriveFault> {
+    let mut ports = DeskPorts {
+        desk,
+        refusal,
+        passed: None,
+    };
+    let mut stage = DeskStage { desk, says };
+    answer_drive_schedule(alloc, BATCH, schedule, &mut ports, &mut stage)
+}
+
+/// Whether the answer is this line, under this status.
+fn is_line(answer: &Result<Answer, DriveFault>, line: &[u8], status: u8) -> bool {
+    matches!(answer, Ok(answer) if answer.text() == line && answer.status() == status)
+}
+
+const ON: [Cue; 3] = [Cue::GoOn, Cue::GoOn, Cue::GoOn];
+
+/// How many settings are told in these steps.
+fn told_in(steps: &[Step]) -> usize {
+    steps
+        .iter()
+        .filter(|step| matches!(step, Step::Told(_)))
+        .count()
+}
+
+/// Whether a drive stops where the script ends, behind so many steps: at the port, or at the stage where a setting would
+/// be told next.
+fn stops_behind(alloc: Global, steps: &[Step], count: usize) -> Result<bool, AllocError> {
+    let count = count.min(steps.len());
+    let front = &steps[..count];
+    let desk = Desk::of(front);
+    let answer = answer_at(alloc, &desk, ON, None, SCHEDULE);
+    let setting = told_in(front);
+    let line = match steps.get(count) {
+        Some(Step::Told(_)) => format!(in alloc; "left setting {setting}\n")?,
+        _ => format!(in alloc; "stopped setting {setting} port\n")?,
+    };
+    Ok(desk.is_followed() && is_line(&answer, line.as_bytes(), REFUSED))
+}
+
+/// Whether a reply of this output in the second setting that names an input which nothing is on stops the drive there, behind all
+/// replies of the setting.
+fn is_caught(alloc: Global, output: u8) -> Result<bool, AllocError> {
+    let steps = steps_of(alloc, Some((output, 0x93)))?;
+    let desk = Desk::of(steps.as_slice().get(..205).unwrap_or(&[]));
+    let answer = answer_at(alloc, &desk, ON, None, SCHEDULE);
+    let line = format!(in alloc; "stopped setting 1 switch {output}\n")?;
+    Ok(desk.is_followed() && is_line(&answer, line.as_bytes(), REFUSED))
+}
+
+#[test]
+fn in_turn(rt: HostRuntime) {
+    let steps = steps_of(rt.alloc(), None).expect(&rt, "memory");
+    let desk = Desk::of(steps.as_slice());
+    let answer = answer_at(rt.alloc(), &desk, ON, None, SCHEDULE);
+    assert!(rt; is_line(&answer, b"driven settings 3\n", DONE));
+    assert!(rt; desk.is_followed());
+}
+
+/// The stream ends behind each step in turn.
+#[test]
+fn cut_off(rt: HostRuntime) {
+    let steps = steps_of(rt.alloc(), None).expect(&rt, "memory");
+    for count in 0..steps.len() {
+        let stops = stops_behind(rt.alloc(), steps.as_slice(), count);
+        assert!(rt; stops.expect(&rt, "memory"));
+    }
+}
+
+#[test]
+fn lied_to(rt: HostRuntime) {
+    for output in 0..OUTPUTS {
+        assert!(rt; is_caught(rt.alloc(), output).expect(&rt, "memory"));
+    }
+}
+
+#[test]
+fn left(rt: HostRuntime) {
+    let steps = steps_of(rt.alloc(), None).expect(&rt, "memory");
+    let desk = Desk::of(steps.as_slice().get(..206).unwrap_or(&[]));
+    let says = [Cue::GoOn, Cue::Leave, Cue::GoOn];
+    let answer = answer_at(rt.alloc(), &desk, says, None, SCHEDULE);
+    assert!(rt; is_line(&answer, b"left setting 1\n", REFUSED));
+    assert!(rt; desk.is_followed());
+}
+
+#[test]
+fn untold(rt: HostRuntime) {
+    let steps = steps_of(rt.alloc(), None).expect(&rt, "memory");
+    let desk = Desk::of(steps.as_slice().get(..102).unwrap_or(&[]));
+    let says = [Cue::Untold, Cue::GoOn, Cue::GoOn];
+    let answer = answer_at(rt.alloc(), &desk, says, None, SCHEDULE);
+    assert!(rt; matches!(answer, Err(DriveFault::Untold)));
+    assert!(rt; desk.is_followed());
+}
+
+/// Nothing is sent, and no port is asked for where the texts are wrong.
+#[test]
+fn refused(rt: HostRuntime) {
+    let desk = Desk::of(&[]);
+    let clash = answer_at(rt.alloc(), &desk, ON, None, b"settings 1\nsetting 0 1 2\n");
+    assert!(rt; is_line(&clash, b"refused check clash 0 link 0 module 0\n", REFUSED));
+    assert!(rt; desk.opened.load(Ordering::SeqCst) == 0);
+    let unopened = answer_at(rt.alloc(), &desk, ON, Some(Refusal::File), SCHEDULE);
+    assert!(rt; is_line(&unopened, b"refused file\n", REFUSED));
+    assert!(rt; desk.opened.load(Ordering::SeqCst) == 1 && desk.is_followed());
+}

@@ -1,5 +1,0 @@
-use Rattle.std.proofs.Common.{rules}
-use Rattle.setting_runner.proofs.bytes.line_bits.Goals as goal
-
-pub returns : goal.returns
-returns c = search rules

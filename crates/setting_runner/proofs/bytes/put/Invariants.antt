@@ -1,8 +1,0 @@
-use Rattle.std.proofs.Common.{◌≡◌, ◌+◌, ◌++◌, take}
-use Rattle.setting_runner.proofs.bytes.put.Given as goal
-
-abbrev pub invariant-loop-byte : goal.invariant-loop-byte
-invariant-loop-byte l = record {
-  stand : l.count ≡ l.stand + l.byte-index;
-  bytes : take l.count l.out ≡ take l.stand l.fn.out ++ take l.byte-index l.byte-items;
-}

@@ -1,6 +1,0 @@
-use Rattle.std.proofs.Common.{take}
-use Rattle.setting_runner.proofs.Joined.{IsTableOf}
-use Rattle.setting_runner.proofs.pair_list.responders_of.Given as goal
-
-abbrev pub invariant-loop-t : goal.invariant-loop-t
-invariant-loop-t l = IsTableOf l.batch (take l.t-index l.numbers) l.responders

@@ -1,0 +1,5 @@
+pub mod Streams
+pub mod Conversing
+pub mod Settings
+pub mod Telling
+pub mod Texts

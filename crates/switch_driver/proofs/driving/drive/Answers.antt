@@ -1,0 +1,29 @@
+use Rattle.std.proofs.Common.{◌≡◌, List, ◌∙◌, subst, IsTrue}
+use Rattle.crossbar.specs.Pairs.{AreSwitchesOf}
+use Rattle.crossbar.specs.declared.pair.Pair.{Pair}
+use Rattle.switch_settings.specs.Sending.{pairs_at}
+use Rattle.switch_driver.proofs.Settings.{pairs_are, stood, known_next, one_more}
+use Rattle.switch_driver.proofs.driving.drive.Goals as goal
+
+pub loop-setting-preserved : goal.loop-setting-preserved
+loop-setting-preserved g c =
+    let batch = c.args.batch.now in
+    let settings = c.args.schedule.now in
+    let n = c.loop-setting.setting in
+    let invariant = c.loop-setting.invariant in
+    let given = c.in_default.ensures in
+    let numbers = c.numbers_of_setting-numbers.ensures.numbers in
+    let pairs = c.of_setting-pairs.result in
+    let are : pairs ≡ pairs_at batch settings n = pairs_are batch settings n c.numbers_of_setting-numbers.result.now pairs numbers c.of_setting-pairs.ensures.members in
+    let sliced : c.as_slice.result.now ≡ pairs_at batch settings n = c.as_slice.ensures.pairs ∙ are in
+    record {
+      stood = one_more g.S.Stage.hears c.args.modules batch settings n _ _ c.args.stage.now (g.P.ConfigPort.passed c.loop-setting.port) c.loop-setting.stage _ _ numbers invariant.stood
+          (stood c.args.modules batch settings n c.loop-setting.standing c.as_slice.result.now _ _ invariant.known sliced given.replied) c.in-GoOn.ensures;
+      known = known_next batch settings n pairs are;
+      standing = (
+        c.of_setting-pairs.ensures.pairs c.args.modules c.requires.modules,
+        λ h. subst (λ (ps : List Pair). AreSwitchesOf c.args.modules ps (g.P.ConfigPort.switches c.set_switches.new.port)) c.as_slice.ensures.pairs (given.set (subst IsTrue given.honesty h)),
+      );
+      unfailed = given.unfailed ∙ invariant.unfailed;
+      honesty = given.honesty ∙ invariant.honesty;
+    }

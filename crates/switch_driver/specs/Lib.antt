@@ -1,0 +1,4 @@
+pub mod Streams
+pub mod Driving
+pub mod Lines
+pub mod Laws

@@ -1,0 +1,51 @@
+-- What is told of a setting that stands, and what is waited for. The texts are this project's choice.
+use Rattle.std.specs.Prelude.{◌≡◌, ℕ, Bool, true, false, IsTrue, List, [], ◌∷◌, ◌++◌, codes, Option}
+use Rattle.std.specs.Fmt.{decimal}
+use Rattle.std.specs.List.{flat_map}
+use Rattle.std.specs.Io.KnownBytes.{Appends, Consumes}
+use Rattle.byte_streams.specs.Writing.{IsCutShort}
+use Rattle.switch_driver.specs.declared.lines.Lines.{Lines}
+use Rattle.switch_driver.specs.declared.stage.Cue.{Cue}
+use Rattle.switch_driver.specs.declared.stage.Cue.TheVariants.{GoOn, Leave, Untold}
+
+-- a transfer's number behind a space
+abbrev pub number_word : ℕ → List ℕ
+number_word t = codes " " ++ decimal t
+
+-- `setting K`, and behind it the numbers of its transfers
+abbrev pub setting_line : ℕ → List ℕ → List ℕ
+setting_line setting numbers =
+    codes "setting " ++ decimal setting ++ flat_map number_word numbers ++ codes "\n"
+
+-- bytes were read, and where it went well, a line feed was the last of them
+pub record HasWaited (had has : Option (List ℕ)) (well : Bool) : Type 0 where
+  pub came : List ℕ
+  pub read : Consumes had has came
+  pub ends : IsTrue well → (front : List ℕ) × (came ≡ front ++ 10 ∷ [])
+
+-- The line of a setting was told, and where one was waited for, a line was read or none came any
+-- more; or not all of the line could be told, and nothing was read.
+abbrev pub HasToldLine : {I O : Type 0} → (I → Option (List ℕ)) → (O → Option (List ℕ)) → ℕ → List ℕ
+    → Cue → Lines I O → Lines I O → Type 0
+HasToldLine {I} {O} remaining contents setting numbers GoOn old new =
+    Appends (contents old.out) (contents new.out) (setting_line setting numbers)
+    × (IsTrue old.waits → HasWaited (remaining old.input) (remaining new.input) true)
+    × (old.waits ≡ false → new.input ≡ old.input)
+    × (new.waits ≡ old.waits)
+HasToldLine {I} {O} remaining contents setting numbers Leave old new =
+    Appends (contents old.out) (contents new.out) (setting_line setting numbers)
+    × IsTrue old.waits
+    × HasWaited (remaining old.input) (remaining new.input) false
+    × (new.waits ≡ old.waits)
+HasToldLine {I} {O} remaining contents setting numbers Untold old new =
+    IsCutShort (contents old.out) (contents new.out) (setting_line setting numbers)
+    × (new.input ≡ old.input)
+    × (new.waits ≡ old.waits)
+
+-- what that is where the stage is the text that was told: the line of a setting stands behind the
+-- others, or, where it couldn't be told, a front of it
+abbrev pub TellsLine : List ℕ → ℕ → List ℕ → Cue → List ℕ → Type 0
+TellsLine old setting numbers GoOn new = new ≡ old ++ setting_line setting numbers
+TellsLine old setting numbers Leave new = new ≡ old ++ setting_line setting numbers
+TellsLine old setting numbers Untold new =
+    (front left : List ℕ) × (setting_line setting numbers ≡ front ++ left) × (new ≡ old ++ front)

@@ -1,0 +1,106 @@
+-- What passes over the stream to a switch, where its bytes are known.
+use Rattle.std.specs.Prelude.{◌≡◌, ℕ, List, [], ◌∷◌, ◌++◌, length, Option, Some, None}
+use Rattle.std.specs.List.{flat_map}
+use Rattle.std.specs.Io.KnownBytes.{Appends, Consumes}
+use Rattle.c004_commands.specs.Commands.{row}
+use Rattle.c004_commands.specs.declared.command.Command.{Command}
+use Rattle.crossbar.specs.Switch.{enquiries}
+use Rattle.crossbar.specs.Traffic.{sent_to, heard_from}
+use Rattle.crossbar.specs.declared.chip.Chip.{Chip}
+use Rattle.crossbar.specs.declared.chip.Chip.TheVariants.{A, B}
+use Rattle.crossbar.specs.declared.traffic.Direction.{Direction}
+use Rattle.crossbar.specs.declared.traffic.Direction.TheVariants.{Sent, Heard}
+use Rattle.crossbar.specs.declared.traffic.Passing.{Passing}
+use Rattle.switch_driver.specs.declared.port.StreamPort.{StreamPort}
+use Rattle.switch_driver.specs.declared.stream.SwitchStream.{SwitchStream}
+
+-- a byte, where it went to the switch
+abbrev pub where_sent : Direction → ℕ → List ℕ
+where_sent Sent byte = byte ∷ []
+where_sent Heard byte = []
+
+-- a byte, where it came from the switch
+abbrev pub where_heard : Direction → ℕ → List ℕ
+where_heard Sent byte = []
+where_heard Heard byte = byte ∷ []
+
+-- the bytes that were sent, in order
+abbrev pub bytes_sent : List Passing → List ℕ
+bytes_sent passed = flat_map (λ p. where_sent p.direction p.byte) passed
+
+-- the bytes that were heard, in order
+abbrev pub bytes_heard : List Passing → List ℕ
+bytes_heard passed = flat_map (λ p. where_heard p.direction p.byte) passed
+
+-- This passed over a stream, and was noted in the traffic: what was sent was written behind what its
+-- writer held, and what was heard was read of what its reader had.
+pub record HasCarried {I O : Type 0} (contents : O → Option (List ℕ))
+    (remaining : I → Option (List ℕ)) (old new : SwitchStream I O) (before after : List Passing)
+    (more : List Passing) : Type 0 where
+  pub written : Appends (contents old.writer) (contents new.writer) (bytes_sent more)
+  pub read : Consumes (remaining old.reader) (remaining new.reader) (bytes_heard more)
+  pub noted : after ≡ before ++ more
+
+-- something passed over a stream
+abbrev pub HasPassed : {I O : Type 0} → (O → Option (List ℕ)) → (I → Option (List ℕ))
+    → SwitchStream I O → SwitchStream I O → List Passing → List Passing → Type 0
+HasPassed contents remaining old new before after =
+    (more : List Passing) × HasCarried contents remaining old new before after more
+
+-- the same of the second stream, where there is one; else nothing passed
+abbrev pub HasPassedSecond : {I O : Type 0} → (O → Option (List ℕ)) → (I → Option (List ℕ))
+    → Option (SwitchStream I O) → Option (SwitchStream I O) → List Passing → List Passing → Type 0
+HasPassedSecond contents remaining (Some old) (Some new) before after =
+    HasPassed contents remaining old new before after
+HasPassedSecond contents remaining None None before after = after ≡ before
+HasPassedSecond contents remaining (Some old) None before after = ⊥
+HasPassedSecond contents remaining None (Some new) before after = ⊥
+
+-- what an exchange with a chip leaves of the streams: something passed over that of the chip, and the
+-- other is as it was
+abbrev pub HasTried : {I O : Type 0} → (O → Option (List ℕ)) → (I → Option (List ℕ)) → Chip
+    → StreamPort I O → StreamPort I O → Type 0
+HasTried contents remaining A old new =
+    HasPassed contents remaining old.a new.a old.traffic new.traffic × (new.b ≡ old.b)
+HasTried contents remaining B old new =
+    HasPassedSecond contents remaining old.b new.b old.traffic new.traffic × (new.a ≡ old.a)
+
+-- ---- a command
+
+-- these bytes were written to the writer of a chip, and noted
+pub record HasWritten (chip : Chip) (bytes : List ℕ) (held holds : Option (List ℕ))
+    (before after : List Passing) : Type 0 where
+  pub written : Appends held holds bytes
+  pub noted : after ≡ before ++ sent_to chip bytes
+
+-- these were read from its reader, and noted
+pub record HasRead (chip : Chip) (bytes : List ℕ) (had has : Option (List ℕ))
+    (before after : List Passing) : Type 0 where
+  pub read : Consumes had has bytes
+  pub noted : after ≡ before ++ heard_from chip bytes
+
+-- a front of the bytes was written
+pub record HasWrittenFront (chip : Chip) (bytes : List ℕ) (held holds : Option (List ℕ))
+    (before after : List Passing) : Type 0 where
+  pub front : List ℕ
+  pub left : List ℕ
+  pub bytes_are : bytes ≡ front ++ left
+  pub went : HasWritten chip front held holds before after
+
+-- a command was sent over a stream, and the reply was heard if it is an enquiry
+pub record HasAsked {I O : Type 0} (contents : O → Option (List ℕ))
+    (remaining : I → Option (List ℕ)) (chip : Chip) (command : Command) (reply : List ℕ)
+    (old new : SwitchStream I O) (before after : List Passing) : Type 0 where
+  pub carried :
+      HasCarried contents remaining old new before after
+      (sent_to chip (row command) ++ heard_from chip reply)
+  pub count : length reply ≡ enquiries (command ∷ [])
+
+-- a front of its bytes was sent, or all, and nothing was heard
+pub record HasAskedInVain {I O : Type 0} (contents : O → Option (List ℕ))
+    (remaining : I → Option (List ℕ)) (chip : Chip) (command : Command)
+    (old new : SwitchStream I O) (before after : List Passing) : Type 0 where
+  pub front : List ℕ
+  pub left : List ℕ
+  pub bytes_are : row command ≡ front ++ left
+  pub carried : HasCarried contents remaining old new before after (sent_to chip front)

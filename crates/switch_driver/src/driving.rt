@@ -1,0 +1,64 @@
+//! The settings of a schedule, put on the switches one after another.
+
+ghost use Rattle.std.specs.Prelude.{◌≤◌};
+ghost use Rattle.c004_commands.specs.declared.port.TheConstants.{PORTS};
+ghost use Rattle.link_graph.specs.Schedules.{IsScheduleOf};
+ghost use Rattle.switch_settings.specs.Racks.{HasModulesOf};
+ghost use Rattle.switch_driver.specs.Driving.{IsDriven, HasCause};
+
+use crate::stage::{Cue, Stage};
+use batch::Batch;
+use crossbar::ConfigPort;
+use link_graph::Schedule;
+use switch_settings::{PairList, SetFault, numbers_of_setting, set_switches};
+
+/// How the settings of a schedule were put on the switches. Settings are counted from 0.
+#[derive(Clone, Copy, Debug, PartialEq, Eq)]
+pub enum Driven {
+    /// All settings stood, one after another.
+    Completed { settings: usize },
+    /// The switches couldn't be set to this setting.
+    Stopped { setting: usize, fault: SetFault },
+    /// This setting stands, and no other is wanted.
+    Left { setting: usize },
+    /// This setting stands, and couldn't be told.
+    Untold { setting: usize },
+}
+
+/// Puts the settings of a schedule on the switches of a rack of so many modules, one after another: each is sent, all
+/// outputs are asked, and where they reply as the setting calls for, the stage is told that it stands.
+///
+/// The rack has to have the modules that the batch names, at most 32. The switches are left as they stand.
+pub fn drive<P: ConfigPort, S: Stage>(
+    port: &mut P,
+    modules: usize,
+    batch: &Batch,
+    schedule: &Schedule,
+    stage: &mut S,
+) -> Driven
+    requires few { modules ≤ PORTS }
+    requires modules { HasModulesOf modules batch.now }
+    requires schedule { IsScheduleOf batch.now schedule.now }
+    ensures driven { IsDriven S.hears modules batch.now schedule.now result
+        (P.passed port.old) stage.old (P.passed port.new) stage.new }
+    ensures cause { HasCause P.ConfigPort modules batch.now schedule.now result port.old port.new }
+{
+    // Asked for its contract alone: the batch is one.
+    let _batch = batch.as_slice();
+    let settings = schedule.settings();
+    let mut standing = None;
+    for setting in 0..settings {
+        let numbers = numbers_of_setting(batch, schedule, setting);
+        let pairs = PairList::of_setting(batch, numbers);
+        if let Err(fault) = set_switches(port, modules, &standing, pairs.as_slice()) {
+            return Driven::Stopped { setting, fault };
+        }
+        match stage.stands(setting, numbers) {
+            Cue::GoOn => {}
+            Cue::Leave => return Driven::Left { setting },
+            Cue::Untold => return Driven::Untold { setting },
+        }
+        standing = Some(pairs);
+    }
+    Driven::Completed { settings }
+}

@@ -1,0 +1,135 @@
+//! The stream of one switch.
+
+ghost use Rattle.std.specs.Prelude.{◌≡◌, ◌++◌, ◌∷◌, [], List, length, Some, OnOk, OnErr, IfOk};
+ghost use Rattle.std.specs.Option.{option_to_list};
+ghost use Rattle.c004_commands.specs.Commands.{row};
+ghost use Rattle.crossbar.specs.Port.{IsExchange};
+ghost use Rattle.crossbar.specs.Traffic.{HaveConversed, BreaksOff};
+ghost use Rattle.switch_driver.specs.Streams.{HasPassed, HasWritten, HasWrittenFront, HasRead, HasAsked, HasAskedInVain};
+
+use byte_streams::{read_byte, write_byte};
+use c004_commands::{Command, CommandReader, LONGEST_COMMAND, write};
+use crossbar::{Chip, Direction, Passing, Traffic};
+use std::io;
+use std::io::{ErrorKind, Read, Write};
+
+/// Both ends of a byte stream to the configuration link of a switch: a device, a terminal's line or two pipes.
+#[derive(Drop)]
+pub struct SwitchStream<I, O> {
+    /// What the switch replies comes from here.
+    pub reader: I,
+    /// What the switch is sent goes here.
+    pub writer: O,
+}
+
+/// Writes the bytes one by one, and notes each. Where that fails, a front of them has gone.
+fn send_bytes<O: Write>(
+    chip: Chip,
+    bytes: &[u8],
+    writer: &mut O,
+    traffic: &mut Traffic,
+) -> io::Result<()>
+    ensures went { OnOk result (HasWritten chip bytes.now (O.contents writer.old) (O.contents writer.new)
+        traffic.old traffic.new) }
+    ensures cut { OnErr result (HasWrittenFront chip bytes.now (O.contents writer.old)
+        (O.contents writer.new) traffic.old traffic.new) }
+{
+    for byte in bytes {
+        write_byte(writer, *byte)?;
+        traffic.add(Passing {
+            chip,
+            direction: Direction::Sent,
+            byte: *byte,
+        });
+    }
+    Ok(())
+}
+
+/// Writes the bytes of a command, and notes each. Where that fails, a front of them has gone.
+fn send<O: Write>(
+    chip: Chip,
+    command: Command,
+    writer: &mut O,
+    traffic: &mut Traffic,
+) -> io::Result<()>
+    ensures went { OnOk result (HasWritten chip (row command) (O.contents writer.old)
+        (O.contents writer.new) traffic.old traffic.new) }
+    ensures cut { OnErr result (HasWrittenFront chip (row command) (O.contents writer.old)
+        (O.contents writer.new) traffic.old traffic.new) }
+{
+    let mut bytes = [0; LONGEST_COMMAND];
+    let number = write(command, &mut bytes);
+    send_bytes(chip, &bytes[..number], writer, traffic)
+}
+
+/// Reads a reply, and notes it. Where none comes, that is the error.
+fn hear<I: Read>(chip: Chip, reader: &mut I, traffic: &mut Traffic) -> io::Result<u8>
+    ensures heard { IfOk result (λ reply. HasRead chip (reply ∷ []) (I.remaining reader.old)
+        (I.remaining reader.new) traffic.old traffic.new) }
+    ensures silent { OnErr result (HasRead chip [] (I.remaining reader.old)
+        (I.remaining reader.new) traffic.old traffic.new) }
+{
+    let Some(byte) = read_byte(reader)? else {
+        return Err(io::Error::from(ErrorKind::UnexpectedEof));
+    };
+    traffic.add(Passing {
+        chip,
+        direction: Direction::Heard,
+        byte,
+    });
+    Ok(byte)
+}
+
+/// Sends a command, and hears the reply if it is an enquiry.
+fn ask<I: Read, O: Write>(
+    chip: Chip,
+    command: Command,
+    stream: &mut SwitchStream<I, O>,
+    traffic: &mut Traffic,
+) -> io::Result<Option<u8>>
+    ensures asked { IfOk result (λ reply. HasAsked O.contents I.remaining chip command
+        (option_to_list reply) stream.old stream.new traffic.old traffic.new) }
+    ensures vain { OnErr result (HasAskedInVain O.contents I.remaining chip command
+        stream.old stream.new traffic.old traffic.new) }
+{
+    send(chip, command, &mut stream.writer, traffic)?;
+    match command {
+        Command::Enquire { .. } => {
+            stream.writer.flush()?;
+            Ok(Some(hear(chip, &mut stream.reader, traffic)?))
+        }
+        _ => Ok(None),
+    }
+}
+
+/// Sends whole commands one by one, and hears the reply to each enquiry before the next command is sent.
+pub(crate) fn converse<I: Read, O: Write>(
+    chip: Chip,
+    bytes: &[u8],
+    replies: &mut [u8],
+    stream: &mut SwitchStream<I, O>,
+    traffic: &mut Traffic,
+) -> io::Result<()>
+    requires { IsExchange bytes.now (length replies.old) }
+    ensures carried { HasPassed O.contents I.remaining stream.old stream.new traffic.old traffic.new }
+    ensures whole { OnOk result
+        (HaveConversed chip bytes.now replies.new (Some traffic.old) (Some traffic.new)) }
+    ensures broken { OnErr result
+        (BreaksOff chip bytes.now (Some traffic.old) (Some traffic.new)) }
+{
+    let mut reader = CommandReader::new();
+    let mut heard = 0;
+    for byte in bytes {
+        let Ok(given) = reader.feed(*byte) else {
+            unreachable!();
+        };
+        let Some(command) = given else {
+            continue;
+        };
+        if let Some(reply) = ask(chip, command, stream, traffic)? {
+            replies[heard] = reply;
+            heard += 1;
+        }
+    }
+    stream.writer.flush()
+}

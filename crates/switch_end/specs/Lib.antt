@@ -1,0 +1,4 @@
+pub mod End
+pub mod Told
+pub mod Attending
+pub mod Laws

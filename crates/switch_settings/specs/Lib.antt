@@ -1,0 +1,9 @@
+pub mod ShortLists
+pub mod Racks
+pub mod Settings
+pub mod Pairs
+pub mod Tables
+pub mod Sending
+pub mod Answers
+pub mod Asking
+pub mod Laws

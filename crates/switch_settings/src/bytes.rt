@@ -1,0 +1,251 @@
+//! The bytes that go to the switches.
+
+ghost use Rattle.std.specs.Prelude.{◌≡◌, ◌≤◌, ◌<◌, ◌+◌, ◌++◌, length, take};
+ghost use Rattle.std.specs.List.{list_any};
+ghost use Rattle.c004_commands.specs.Commands.{row, text};
+ghost use Rattle.crossbar.specs.Switch.{Switch};
+ghost use Rattle.crossbar.specs.Chips.{wide_wiring};
+ghost use Rattle.crossbar.specs.Pairs.{ArePairs, room_of, switch_of, setting, change, is_pair};
+ghost use Rattle.crossbar.specs.declared.chip.Wiring.TheVariants.{Both};
+ghost use Rattle.switch_settings.specs.Pairs.{command_of, commands_of, one_way_command, longest_setting, longest_change, Turns, all_enquiries};
+
+use c004_commands::{Command, LONGEST_COMMAND, PORTS, PortNo, write};
+use crossbar::{Chip, JOINED_MODULES, Pair, Wiring, laws};
+
+/// How many bytes the longest change has where one switch joins all modules, 97: three for each pair that goes,
+/// three for each pair that comes, and one for the end of the sequence.
+pub const CHANGE_BYTES: usize = 2 * LONGEST_COMMAND * (JOINED_MODULES as usize) + 1;
+
+/// How many bytes the longest setting of a switch of a wider rack has, 98: three for each pair, one for the reset,
+/// and one for the end of the sequence.
+pub const WIDE_SETTING_BYTES: usize = LONGEST_COMMAND * (PORTS as usize) + 2;
+
+/// How many bytes the longest change of a switch of a wider rack has, 161: two for each pair that goes, three for
+/// each pair that comes, and one for the end of the sequence.
+pub const WIDE_CHANGE_BYTES: usize = (2 + LONGEST_COMMAND) * (PORTS as usize) + 1;
+
+/// How many bytes the enquiries of all outputs have, 64.
+pub const ENQUIRY_BYTES: usize = 2 * (PORTS as usize);
+
+/// What becomes of a pair.
+#[derive(Clone, Copy)]
+enum Way {
+    Join,
+    Cut,
+}
+
+/// Writes the bytes that set the one switch of a rack to the pairs, whatever it was, and gives their number, at
+/// most 50: a reset, the joins of the pairs in their order, and the end of the sequence (INMOS IMS C004 data sheet,
+/// configuration messages): `04`, a row `01 I 16+R` a pair, `03`. What stands in `out` behind them isn't said.
+///
+/// The initiators have to ascend, the responders to be distinct, and all to be below 16. Takes time by the
+/// number of pairs.
+pub fn setting_bytes(pairs: &[Pair], out: &mut [u8; CHANGE_BYTES]) -> usize
+    requires { ArePairs JOINED_MODULES pairs.now }
+    ensures bytes { take result out.new ≡ text (setting Both pairs.now) }
+    ensures sets { (switch : Switch) → Turns (take result out.new) switch (switch_of Both pairs.now) }
+    ensures room { result ≤ CHANGE_BYTES }
+{
+    put_setting(Wiring::Both, pairs, out)
+}
+
+/// Writes the bytes that set the one switch of a rack from the old pairs to the new ones, and gives their number, at
+/// most 97: the cuts of the pairs that go, the joins of those that come, each in their order, and the end of the
+/// sequence (INMOS IMS C004 data sheet, configuration messages): a row `06 I 16+R` a cut, a row `01 I 16+R` a
+/// join, `03`. What stands in `out` behind them isn't said.
+///
+/// Of both, the initiators have to ascend, the responders to be distinct, and all to be below 16. The time
+/// grows with the product of the numbers of pairs.
+pub fn change_bytes(old: &[Pair], new: &[Pair], out: &mut [u8; CHANGE_BYTES]) -> usize
+    requires old { ArePairs JOINED_MODULES old.now }
+    requires new { ArePairs JOINED_MODULES new.now }
+    ensures bytes { take result out.new ≡ text (change Both old.now new.now) }
+    ensures sets { Turns (take result out.new) (switch_of Both old.now) (switch_of Both new.now) }
+    ensures room { result ≤ CHANGE_BYTES }
+{
+    put_change(Wiring::Both, old, new, out)
+}
+
+/// Writes the bytes that set a switch of a wider rack to the pairs, whatever it was, and gives their number, at most
+/// 98: a reset, a connection of each pair in their order, and the end of the sequence (INMOS IMS C004 data sheet,
+/// configuration messages): `04`, a row `00 I R` a pair for `A` or `00 R I` for `B`, `03`. What stands in `out`
+/// behind them isn't said.
+///
+/// The initiators have to ascend, the responders to be distinct, and all to be below 32. Takes time by the
+/// number of pairs.
+pub fn wide_bytes(chip: Chip, pairs: &[Pair], out: &mut [u8; WIDE_SETTING_BYTES]) -> usize
+    requires { ArePairs PORTS pairs.now }
+    ensures bytes { take result out.new ≡ text (setting (wide_wiring chip) pairs.now) }
+    ensures sets { (switch : Switch) →
+        Turns (take result out.new) switch (switch_of (wide_wiring chip) pairs.now) }
+    ensures room { result ≤ WIDE_SETTING_BYTES }
+{
+    put_setting(Wiring::of_wide(chip), pairs, out)
+}
+
+/// Writes the bytes that set a switch of a wider rack from the old pairs to the new ones, and gives their number, at
+/// most 161: the cuts of the pairs that go, the connections of those that come, each in their order, and the end of
+/// the sequence (INMOS IMS C004 data sheet, configuration messages): a row `05 R` a cut for `A` or `05 I` for `B`, a
+/// row `00 I R` a connection for `A` or `00 R I` for `B`, `03`. What stands in `out` behind them isn't said.
+///
+/// Of both, the initiators have to ascend, the responders to be distinct, and all to be below 32. The time
+/// grows with the product of the numbers of pairs.
+pub fn wide_change(
+    chip: Chip,
+    old: &[Pair],
+    new: &[Pair],
+    out: &mut [u8; WIDE_CHANGE_BYTES],
+) -> usize
+    requires old { ArePairs PORTS old.now }
+    requires new { ArePairs PORTS new.now }
+    ensures bytes { take result out.new ≡ text (change (wide_wiring chip) old.now new.now) }
+    ensures sets { Turns (take result out.new)
+        (switch_of (wide_wiring chip) old.now) (switch_of (wide_wiring chip) new.now) }
+    ensures room { result ≤ WIDE_CHANGE_BYTES }
+{
+    put_change(Wiring::of_wide(chip), old, new, out)
+}
+
+/// Puts the bytes that set a switch of this wiring to the pairs, whatever it was, and says how many they are.
+pub fn put_setting(wiring: Wiring, pairs: &[Pair], out: &mut [u8]) -> usize
+    requires pairs { ArePairs (room_of wiring) pairs.now }
+    requires room { longest_setting wiring ≤ length out.old }
+    ensures bytes { take result out.new ≡ text (setting wiring pairs.now) }
+    ensures sets { (switch : Switch) → Turns (take result out.new) switch (switch_of wiring pairs.now) }
+    ensures room { result ≤ longest_setting wiring }
+{
+    laws::setting();
+    let begun = put(out, 0, Command::Reset);
+    let joined = put_pairs(out, begun, Way::Join, wiring, pairs, &[]);
+    put(out, joined, Command::Settle)
+}
+
+/// Puts the bytes that set a switch of this wiring from the old pairs to the new ones, and says how many they are.
+pub fn put_change(wiring: Wiring, old: &[Pair], new: &[Pair], out: &mut [u8]) -> usize
+    requires old { ArePairs (room_of wiring) old.now }
+    requires new { ArePairs (room_of wiring) new.now }
+    requires room { longest_change wiring ≤ length out.old }
+    ensures bytes { take result out.new ≡ text (change wiring old.now new.now) }
+    ensures sets { Turns (take result out.new) (switch_of wiring old.now) (switch_of wiring new.now) }
+    ensures room { result ≤ longest_change wiring }
+{
+    laws::change();
+    let cut = put_pairs(out, 0, Way::Cut, wiring, old, new);
+    let changed = put_pairs(out, cut, Way::Join, wiring, new, old);
+    put(out, changed, Command::Settle)
+}
+
+/// The bytes that enquire every output, in order: `02 n` for n from 0 to 31 (INMOS IMS C004 data sheet,
+/// configuration messages). The switch answers each by a byte.
+pub fn enquiry_bytes() -> [u8; ENQUIRY_BYTES]
+    ensures { result ≡ text all_enquiries }
+{
+    let mut bytes = [0; ENQUIRY_BYTES];
+    let mut stand = 0;
+    for number in 0..PORTS {
+        let output = port(number);
+        stand = put(&mut bytes, stand, Command::Enquire { output });
+    }
+    bytes
+}
+
+/// Puts the commands of those pairs that aren't among others behind the bytes that stand, and says how many
+/// stand then.
+fn put_pairs(
+    out: &mut [u8],
+    stand: usize,
+    way: Way,
+    wiring: Wiring,
+    pairs: &[Pair],
+    others: &[Pair],
+) -> usize
+    requires pairs { ArePairs (room_of wiring) pairs.now }
+    requires room { stand + length (text (commands_of way wiring others.now pairs.now)) ≤ length out.old }
+    ensures bytes { take result out.new ≡
+        take stand out.old ++ text (commands_of way wiring others.now pairs.now) }
+    ensures number { result ≡ stand + length (text (commands_of way wiring others.now pairs.now)) }
+{
+    let mut count = stand;
+    for pair in pairs {
+        if !is_among(*pair, others) {
+            count = put(out, count, to_command(way, wiring, *pair));
+        }
+    }
+    count
+}
+
+/// Whether a pair is one of others.
+fn is_among(pair: Pair, others: &[Pair]) -> bool
+    ensures { result ≡ list_any (is_pair pair) others.now }
+{
+    for other in others {
+        if *other == pair {
+            return true;
+        }
+    }
+    false
+}
+
+/// The command that joins or parts a pair.
+fn to_command(way: Way, wiring: Wiring, pair: Pair) -> Command
+    requires { (pair.initiator < room_of wiring) × (pair.responder < room_of wiring) }
+    ensures { result ≡ command_of way wiring pair }
+{
+    match wiring {
+        Wiring::Both => both_ways(way, pair),
+        Wiring::Forth => one_way(way, pair.initiator, pair.responder),
+        Wiring::Back => one_way(way, pair.responder, pair.initiator),
+    }
+}
+
+/// The command that joins or parts both ends of a pair.
+fn both_ways(way: Way, pair: Pair) -> Command
+    requires { (pair.initiator < JOINED_MODULES) × (pair.responder < JOINED_MODULES) }
+    ensures { result ≡ command_of way Both pair }
+{
+    let link1 = port(pair.initiator);
+    let link2 = port(JOINED_MODULES + pair.responder);
+    match way {
+        Way::Join => Command::Join { link1, link2 },
+        Way::Cut => Command::CutPair { link1, link2 },
+    }
+}
+
+/// The command that connects an output to an input, or disconnects it.
+fn one_way(way: Way, input: u8, output: u8) -> Command
+    requires { (input < PORTS) × (output < PORTS) }
+    ensures { result ≡ one_way_command way input output }
+{
+    let (input, output) = (port(input), port(output));
+    match way {
+        Way::Join => Command::Connect { input, output },
+        Way::Cut => Command::Cut { output },
+    }
+}
+
+/// The port of a number.
+fn port(number: u8) -> PortNo
+    requires { number < PORTS }
+    ensures { result ≡ number }
+{
+    let Some(port) = PortNo::new(number) else {
+        unreachable!();
+    };
+    port
+}
+
+/// Puts the bytes of a command behind those that stand, and says how many stand then.
+fn put(out: &mut [u8], stand: usize, command: Command) -> usize
+    requires { stand + length (row command) ≤ length out.old }
+    ensures bytes { take result out.new ≡ take stand out.old ++ row command }
+    ensures number { result ≡ stand + length (row command) }
+{
+    let mut bytes = [0; LONGEST_COMMAND];
+    let number = write(command, &mut bytes);
+    let mut count = stand;
+    for byte in &bytes[..number] {
+        out[count] = *byte;
+        count += 1;
+    }
+    count
+}

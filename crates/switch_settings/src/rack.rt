@@ -1,0 +1,20 @@
+//! The rack that a batch needs.
+
+ghost use Rattle.std.specs.Prelude.{◌≡◌};
+ghost use Rattle.switch_settings.specs.Racks.{is_wide as needs_two};
+
+use batch::Transfer;
+use crossbar::JOINED_MODULES;
+
+/// The most modules that one switch joins.
+const JOINED: usize = JOINED_MODULES as usize;
+
+/// Whether a rack that has the modules of these transfers has two switches. Takes time by their
+/// number.
+pub fn is_wide(transfers: &[Transfer]) -> bool
+    ensures { result ≡ needs_two transfers.now }
+{
+    transfers
+        .iter()
+        .any(|t| JOINED <= t.initiator || JOINED <= t.responder)
+}
