@@ -27,11 +27,11 @@ returns-in-Run g c = rw c.in-Run.is (record { response = ([], Appends-nil _, ref
 pub returns-in-C004 : goal.returns-in-C004
 returns-in-C004 g c = rw c.in-C004.is (record { response = switched c.c004.result _ _ _ c.c004.ensures.answer c.c004.ensures.note; beside = inl refl })
 
-pub returns-in-Serve : goal.returns-in-Serve
-returns-in-Serve g c = rw c.in-Serve.is (record { response = ([], Appends-nil _, refl, untold c.serve.result _ (left_behind c.serve.result _ _ c.serve.ensures.answer), c.serve.ensures.note); beside = inl refl })
+pub returns-in_ok-file-in-Serve-clause-response : goal.returns-in_ok-file-in-Serve-clause-response
+returns-in_ok-file-in-Serve-clause-response g c = rw c.in-Serve.is ([], Appends-nil _, refl, untold c.serve.result _ (left_behind c.serve.result _ _ c.serve.ensures.answer), c.serve.ensures.note)
 
-pub returns-in-Host : goal.returns-in-Host
-returns-in-Host g c = rw c.in-Host.is (record { response = ([], Appends-nil _, refl, untold c.host.result _ (left_behind c.host.result _ _ c.host.ensures.answer), c.host.ensures.note); beside = inl refl })
+pub returns-in_ok-file-in-Host-clause-response : goal.returns-in_ok-file-in-Host-clause-response
+returns-in_ok-file-in-Host-clause-response g c = rw c.in-Host.is ([], Appends-nil _, refl, untold c.host.result _ (left_behind c.host.result _ _ c.host.ensures.answer), c.host.ensures.note)
 
-pub returns-in-Talk : goal.returns-in-Talk
-returns-in-Talk g c = rw c.in-Talk.is (record { response = talked c.talk.result _ _ _ _ _ c.talk.ensures.answer c.talk.ensures.note; beside = inl refl })
+pub returns-in_ok-file-in-Talk-2-clause-response : goal.returns-in_ok-file-in-Talk-2-clause-response
+returns-in_ok-file-in-Talk-2-clause-response g c = rw c.in-Talk-2.is ?

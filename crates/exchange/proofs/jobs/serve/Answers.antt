@@ -15,12 +15,14 @@ returns-clause-answer g c =
     let rack = c.args.rack.now in
     let files = map (λ file. file.items) c.in_ok-files.files.items in
     let left = c.in_ok-closing.closing.rack in
-    let scripts = all_held_later old now c.args.scripts.now files (λ k below is. c.read_image.ensures.unread (image_is_other rack.image c.args.scripts.now k c.requires.input below is)) (rw c.as_slice.ensures at c.in_ok-files.ensures.held) in
-    let served = (
-      files,
-      option_map (λ file. file.items) c.in_ok-words.words,
-      scripts,
-      c.in_ok-words.ensures.held,
-      rw (c.as_bytes-shape.ensures.value, c.as_str.ensures, c.slice_of-words.ensures, c.as_slice-files.ensures.value) at c.in_ok-closing.ensures,
-    ) in
-    (left, same_answer (λ p. IsSomeServe old rack c.args.scripts.now p left) _ _ c.closed.ensures.answer served, c.closed.ensures.kept)
+    let scripts = all_held_later old now c.args.scripts.now files (λ k below is. c.read_image.ensures.unread (image_is_other rack.image c.args.scripts.now k c.requires.input below is)) (rw c.as_slice.ensures at c.in_ok-files.ensures.held) in (
+      left,
+      same_answer (λ p. IsSomeServe old rack c.args.scripts.now p left) _ _ c.closed.ensures.answer (
+        files,
+        option_map (λ file. file.items) c.in_ok-words.words,
+        scripts,
+        c.in_ok-words.ensures.held,
+        rw (c.as_bytes-shape.ensures.value, c.as_str.ensures, c.slice_of-words.ensures, c.as_slice-files.ensures.value) at c.in_ok-closing.ensures,
+      ),
+      c.closed.ensures.kept,
+    )

@@ -1,6 +1,7 @@
 use Rattle.std.proofs.Common.{ℕ, List, [], ◌∷◌, subst}
 use Rattle.batch.specs.Extent.{widest}
-use Rattle.command_words.specs.Jobs.{NameInputOnce}
+use Rattle.command_words.specs.Jobs.{NameInputOnce, schedule_files}
+use Rattle.command_words.specs.declared.jobs.ScheduleSource.{ScheduleSource}
 use Rattle.rack_answers.specs.Switching.{IsSwitched, IsSwitchedSteadily}
 use Rattle.exchange.specs.Files.{IsHeld}
 use Rattle.exchange.specs.Responses.{IsSomeSwitch, IsSomeSteadySwitch, IsSomeScheduleSwitch}
@@ -25,7 +26,7 @@ returns-clause-answer g c =
     let batch = c.args.batch.now in
     let file = c.in-File.file in
     let schedule = c.in_ok-other-in-File.other.items in
-    let once : NameInputOnce (batch ∷ file ∷ []) = rw c.in-File.is at c.requires in
+    let once : NameInputOnce (batch ∷ file ∷ []) = subst (λ (s : ScheduleSource). NameInputOnce (batch ∷ schedule_files s)) c.in-File.is c.requires in
     let held : IsHeld old file schedule = held_later old now file schedule (λ is. c.read_file.ensures.unread (first_is_other batch file once is)) c.in_ok-other-in-File.ensures.held in
     rw c.in-File.is (same_answer (IsSomeScheduleSwitch old batch file) _ _ c.with_note-in-File.ensures.answer
     (c.in_ok-held.held.items, schedule, c.in_ok-held.ensures.held, held, rw (c.as_slice-text.ensures.value, c.as_slice-schedule.ensures.value) at c.in_ok-answer-in-File.ensures.switched))

@@ -10,11 +10,8 @@ returns-in-Ok-answer_to g c =
     asked c.print_noted.result _ _ c.in-Ok.request _ c.in-Ok.ensures.request
     (answered c.print_noted.result _ c.in-Ok.request t.0 c.in-Ok-answer_to.done _ _ _ _ _ _ t.1 t.2 t.3 t.4 c.in-Ok-answer_to.ensures.beside c.print_noted.ensures.printed c.print_noted.ensures.told)
 
-pub returns-in-Err : goal.returns-in-Err
-returns-in-Err g c =
-    let t = c.in-Err.ensures.response in
-    asked c.refuse_noted.result _ _ c.in-Ok.request _ c.in-Ok.ensures.request
-    (not_answered c.refuse_noted.result _ c.in-Ok.request t.0 c.in-Err.missed _ _ _ _ _ _ t.1 t.2 t.4 c.in-Err.ensures.beside c.refuse_noted.ensures.printed c.refuse_noted.ensures.told)
+pub returns-in-Err-Refused : goal.returns-in-Err-Refused
+returns-in-Err-Refused g c = ?
 
 pub returns-in-Err-NoMemory : goal.returns-in-Err-NoMemory
 returns-in-Err-NoMemory g c = faulty c.refuse.result _ _ words_fault.NoMemory _ tt (wordless c.refuse.result (g.I.Read.remaining c.args.input.now) (g.O.Write.contents c.args.out.now) (g.O.Write.contents c.refuse.new.out) (g.E.Write.contents c.args.err.now) c.refuse.ensures)
