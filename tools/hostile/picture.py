@@ -1,5 +1,5 @@
 """The picture of a schedule, a second time: plain Python, as plain.py, that shares no code with the product. It was written from the words
-of the product's contracts and of docs/ROWS.md. Only the looks and the legend, which are fixed texts, are read where the product has them."""
+of the product's contracts and of rows/draw.rows. Only the looks and the legend, which are fixed texts, are read where the product has them."""
 
 import re
 
