@@ -24,21 +24,24 @@ pub record HasWaited (had has : Option (List ℕ)) (well : Bool) : Type 0 where
   pub ends : IsTrue well → (front : List ℕ) × (came ≡ front ++ 10 ∷ [])
 
 -- The line of a setting was told, and where one was waited for, a line was read or none came any
--- more; or not all of the line could be told, and nothing was read.
+-- more; or not all of the line could be told, and nothing was read. It is told over the same loan.
 abbrev pub HasToldLine : {I O : Type 0} → (I → Option (List ℕ)) → (O → Option (List ℕ)) → ℕ → List ℕ
     → Cue → Lines I O → Lines I O → Type 0
 HasToldLine {I} {O} remaining contents setting numbers GoOn old new =
-    Appends (contents old.out) (contents new.out) (setting_line setting numbers)
-    × (IsTrue old.waits → HasWaited (remaining old.input) (remaining new.input) true)
+    Appends (contents old.out.now) (contents new.out.now) (setting_line setting numbers)
+    × (new.out.ghost_name ≡ old.out.ghost_name)
+    × (IsTrue old.waits → HasWaited (remaining old.input.now) (remaining new.input.now) true)
     × (old.waits ≡ false → new.input ≡ old.input)
     × (new.waits ≡ old.waits)
 HasToldLine {I} {O} remaining contents setting numbers Leave old new =
-    Appends (contents old.out) (contents new.out) (setting_line setting numbers)
+    Appends (contents old.out.now) (contents new.out.now) (setting_line setting numbers)
+    × (new.out.ghost_name ≡ old.out.ghost_name)
     × IsTrue old.waits
-    × HasWaited (remaining old.input) (remaining new.input) false
+    × HasWaited (remaining old.input.now) (remaining new.input.now) false
     × (new.waits ≡ old.waits)
 HasToldLine {I} {O} remaining contents setting numbers Untold old new =
-    IsCutShort (contents old.out) (contents new.out) (setting_line setting numbers)
+    IsCutShort (contents old.out.now) (contents new.out.now) (setting_line setting numbers)
+    × (new.out.ghost_name ≡ old.out.ghost_name)
     × (new.input ≡ old.input)
     × (new.waits ≡ old.waits)
 

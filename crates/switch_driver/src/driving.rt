@@ -25,10 +25,12 @@ pub enum Driven {
     Untold { setting: usize },
 }
 
-/// Puts the settings of a schedule on the switches of a rack of so many modules, one after another: each is sent, all
-/// outputs are asked, and where they reply as the setting calls for, the stage is told that it stands.
+/// Puts the settings of a schedule on the switches of a rack of so many modules, one after another:
+/// each is sent, all outputs are asked, and where they reply as the setting calls for, the stage is
+/// told that it stands.
 ///
-/// The rack has to have the modules that the batch names, at most 32. The switches are left as they stand.
+/// The rack has to have the modules that the batch names, at most 32. The switches are left as they
+/// stand.
 pub fn drive<P: ConfigPort, S: Stage>(
     port: &mut P,
     modules: usize,

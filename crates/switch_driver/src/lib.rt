@@ -1,5 +1,5 @@
-//! The settings of a schedule on switches that stand somewhere else: each is sent, asked for and told, and stands
-//! until the next one may come.
+//! The settings of a schedule on switches that stand somewhere else: each is sent, asked for and
+//! told, and stands until the next one may come.
 #![tactic(auto)]
 
 mod driving;

@@ -10,9 +10,9 @@ use contract_data::FailureCount;
 use crossbar::{Chip, ConfigPort, PortFault, Traffic};
 use std::io::{Read, Write};
 
-/// A port to the switches of a rack over streams of bytes: one for the one switch, and a second where there are two.
-/// What is sent to a switch that has no stream fails. Nobody knows what is at the other ends, so it isn't honest: what
-/// was replied has to be looked at.
+/// A port to the switches of a rack over streams of bytes: one for the one switch, and a second
+/// where there are two. What is sent to a switch that has no stream fails. Nobody knows what is at
+/// the other ends, so it isn't honest: what was replied has to be looked at.
 #[derive(Drop)]
 pub struct StreamPort<I, O> {
     a: SwitchStream<I, O>,

@@ -17,11 +17,12 @@ pub enum Cue {
 
 /// Whoever is told that a setting stands, and says when the next one may come.
 pub trait Stage {
-    // What becomes of it where it is told that the setting of this number, of these transfers, stands,
-    // and what it says.
+    // What becomes of it where it is told that the setting of this number, of these transfers,
+    // stands, and what it says.
     ghost hears: { Self → ℕ → List ℕ → Cue → Self → Type 0 };
 
-    /// The setting of this number, of these transfers, stands. It may wait until the next one may come.
+    /// The setting of this number, of these transfers, stands. It may wait until the next one may
+    /// come.
     fn stands(&mut self, setting: usize, numbers: &[usize]) -> Cue
         requires { length numbers.now ≤ MAX_MODULES }
         ensures { hears self.old setting numbers.now result self.new };

@@ -13,7 +13,8 @@ use crossbar::{Chip, Direction, Passing, Traffic};
 use std::io;
 use std::io::{ErrorKind, Read, Write};
 
-/// Both ends of a byte stream to the configuration link of a switch: a device, a terminal's line or two pipes.
+/// Both ends of a byte stream to the configuration link of a switch: a device, a terminal's line or
+/// two pipes.
 #[derive(Drop)]
 pub struct SwitchStream<I, O> {
     /// What the switch replies comes from here.
@@ -29,8 +30,8 @@ fn send_bytes<O: Write>(
     writer: &mut O,
     traffic: &mut Traffic,
 ) -> io::Result<()>
-    ensures went { OnOk result (HasWritten chip bytes.now (O.contents writer.old) (O.contents writer.new)
-        traffic.old traffic.new) }
+    ensures went { OnOk result (HasWritten chip bytes.now (O.contents writer.old)
+        (O.contents writer.new) traffic.old traffic.new) }
     ensures cut { OnErr result (HasWrittenFront chip bytes.now (O.contents writer.old)
         (O.contents writer.new) traffic.old traffic.new) }
 {
@@ -102,7 +103,8 @@ fn ask<I: Read, O: Write>(
     }
 }
 
-/// Sends whole commands one by one, and hears the reply to each enquiry before the next command is sent.
+/// Sends whole commands one by one, and hears the reply to each enquiry before the next command is
+/// sent.
 pub(crate) fn converse<I: Read, O: Write>(
     chip: Chip,
     bytes: &[u8],
@@ -111,7 +113,8 @@ pub(crate) fn converse<I: Read, O: Write>(
     traffic: &mut Traffic,
 ) -> io::Result<()>
     requires { IsExchange bytes.now (length replies.old) }
-    ensures carried { HasPassed O.contents I.remaining stream.old stream.new traffic.old traffic.new }
+    ensures carried { HasPassed O.contents I.remaining stream.old stream.new
+        traffic.old traffic.new }
     ensures whole { OnOk result
         (HaveConversed chip bytes.now replies.new (Some traffic.old) (Some traffic.new)) }
     ensures broken { OnErr result
