@@ -3,7 +3,7 @@ use Rattle.std.proofs.Common.{◌≡◌, ◌∙◌, ◌<◌, ℕ, List, length, 
 use Rattle.std.specs.Prelude.{Option, Some, find}
 use Rattle.std.specs.Str.{bytes_eq}
 use Rattle.command_words.specs.declared.commands.CommandName.{CommandName}
-use Rattle.command_words.specs.declared.commands.CommandName.TheVariants.{Plan, Check, Draw, Switch, C004, Direct, Apply, Run, Serve, Host, Talk}
+use Rattle.command_words.specs.declared.commands.CommandName.TheVariants.{Plan, Check, Draw, Switch, Drive, C004, Direct, Apply, Run, Serve, Host, Talk}
 use Rattle.command_words.specs.Program.{commands, word_of}
 
 -- what holds of each in the list holds of all
@@ -12,13 +12,14 @@ every_command P each Plan = each 0 (omega arith)
 every_command P each Check = each 1 (omega arith)
 every_command P each Draw = each 2 (omega arith)
 every_command P each Switch = each 3 (omega arith)
-every_command P each C004 = each 4 (omega arith)
-every_command P each Direct = each 5 (omega arith)
-every_command P each Apply = each 6 (omega arith)
-every_command P each Run = each 7 (omega arith)
-every_command P each Serve = each 8 (omega arith)
-every_command P each Host = each 9 (omega arith)
-every_command P each Talk = each 10 (omega arith)
+every_command P each Drive = each 4 (omega arith)
+every_command P each C004 = each 5 (omega arith)
+every_command P each Direct = each 6 (omega arith)
+every_command P each Apply = each 7 (omega arith)
+every_command P each Run = each 8 (omega arith)
+every_command P each Serve = each 9 (omega arith)
+every_command P each Host = each 10 (omega arith)
+every_command P each Talk = each 11 (omega arith)
 
 -- the command that a word calls
 abbrev called_by : List ℕ → Option CommandName
@@ -29,6 +30,7 @@ calls Plan = refl
 calls Check = refl
 calls Draw = refl
 calls Switch = refl
+calls Drive = refl
 calls C004 = refl
 calls Direct = refl
 calls Apply = refl

@@ -1,5 +1,5 @@
 -- Names of files, of which one at most stands for standard input.
-use Rattle.std.proofs.Common.{◌≡◌, ◌<◌, ◌+◌, ℕ, zero, suc, ◌↔◌, Option, Some, None, List, [], ◌∷◌, ◌++◌, length, take, get_or, sym, ap, ◌∙◌, subst, arith}
+use Rattle.std.proofs.Common.{◌≡◌, ◌<◌, ◌+◌, ℕ, zero, suc, ◌↔◌, Bool, true, false, not, IsTrue, refl, Option, Some, None, List, [], ◌∷◌, ◌++◌, length, take, get_or, sym, ap, ◌∙◌, subst, arith}
 use Rattle.std.specs.Prelude.{◌≢◌, All, option_to_list}
 use Rattle.std.proofs.lemmas.List.{take_more}
 use Rattle.std.proofs.lemmas.List.Quantifiers.{all_pairs_push}
@@ -39,3 +39,13 @@ pub behind_other : (first : Option Text) (names : List Text) → (first ≡ Some
 behind_other None names other = (λ once. once, λ once. once)
 behind_other (Some first) names other =
     (λ once. with_first first names once (λ e. absurd (other (ap Some e))), behind_first first names)
+
+-- two names before that of standard input: of neither may it be
+pub neither_is_input : (one other : Text) (first second : Bool) → (IsTrue first ↔ (one ≡ input_name)) → (IsTrue second ↔ (other ≡ input_name)) → first ≡ false → IsTrue (not second) ↔ NameInputOnce (one ∷ other ∷ input_name ∷ [])
+neither_is_input one other first true is other_is off =
+    (λ yes. absurd cc, λ once. absurd (once 1 2 one (omega arith) (omega arith) (other_is.0 refl) refl))
+neither_is_input one other first false is other_is off =
+    let alone : NameInputOnce (input_name ∷ []) = λ i j d lt within. absurd (omega (arith, lt, within)) in
+    let differs : one ≢ input_name = λ e. (let bad : true ≡ false = sym (is.1 e) ∙ off in cc) in
+    let other_differs : other ≢ input_name = λ e. (let bad : false ≡ true = other_is.1 e in cc) in
+    (λ _. with_first one (other ∷ input_name ∷ []) (with_first other (input_name ∷ []) alone (λ e. absurd (other_differs e))) (λ e. absurd (differs e)), λ _. refl)

@@ -1,16 +1,19 @@
 -- What the rows have of a job that words hold.
-use Rattle.std.proofs.Common.{◌≡◌, ◌∙◌, ap, sym, subst, List, [], ◌∷◌, Option, Some, None, codes, refl, Result, Ok, Err, IsErrAnd}
-use Rattle.std.specs.Prelude.{MatchOption, ◌++◌, option_to_list, unwrap_or}
+use Rattle.std.proofs.Common.{◌≡◌, ◌∙◌, ◌↔◌, ap, ap₂, sym, subst, List, [], ◌∷◌, Option, Some, None, Bool, true, false, IsTrue, codes, refl, Result, Ok, Err, IsErrAnd}
+use Rattle.std.specs.Prelude.{MatchOption, ◌++◌, find, option_and_then, option_to_list, unwrap_or}
+use Rattle.std.specs.Str.{bytes_eq}
 use Rattle.clap.specs.Words.{Row, Text, all_of, first_of}
+use Rattle.clap.specs.declared.parser.matches.ValueSource.{ValueSource}
+use Rattle.clap.specs.declared.parser.matches.ValueSource.TheVariants.{CommandLine, DefaultValue}
 use Rattle.command_words.specs.declared.commands.CommandName.{CommandName}
 use Rattle.command_words.specs.declared.commands.CommandName.TheVariants as name
 use Rattle.command_words.specs.declared.jobs.Job.{Job}
-use Rattle.command_words.specs.declared.jobs.Job.TheVariants.{Plan, Check, Draw, Switch, C004, Direct, Apply, Run, Serve, Host, Talk}
+use Rattle.command_words.specs.declared.jobs.Job.TheVariants.{Plan, Check, Draw, Switch, Drive, C004, Direct, Apply, Run, Serve, Host, Talk}
 use Rattle.command_words.specs.declared.jobs.Request.{Request}
 use Rattle.command_words.specs.declared.jobs.ScheduleSource.{ScheduleSource}
 use Rattle.command_words.specs.declared.jobs.ScheduleSource.TheVariants as source
 use Rattle.command_words.specs.Program.{word_of}
-use Rattle.command_words.specs.Jobs.{HasJob, HasSome, HasSource, IsApart, IsJob, IsRead, IsRequest, IsWithinLimits, HasWanted, AreClientNames, MayBeDone, NameInputOnce, clients_of, files_of, input_name, name_of, output_of, schedule_files}
+use Rattle.command_words.specs.Jobs.{HasJob, HasSome, HasSource, IsApart, IsJob, IsRead, IsRequest, IsWithinLimits, HasWanted, AreClientNames, MayBeDone, NameInputOnce, clients_of, cue_files, files_of, input_name, name_of, output_of, schedule_files}
 use Rattle.command_words.specs.declared.reading.Lack.{Lack}
 use Rattle.command_words.specs.declared.reading.Lack.TheVariants.{Memory}
 use Rattle.command_words.proofs.CommandNames.{same_word}
@@ -26,6 +29,8 @@ wanted rows (Plan file planning) has = ((file, has.0), (planning, has.1))
 wanted rows (Check batch schedule) has = ((batch, has.0), (schedule, has.1))
 wanted rows (Draw batch schedule settings) has = ((batch, has.0), (schedule, has.1))
 wanted rows (Switch batch source) has = ((batch, has.0), (source, has.1))
+wanted rows (Drive batch port port_b source goes_on) has =
+    ((batch, has.0), (port, has.1), (source, has.3))
 wanted rows C004 has = tt
 wanted rows (Direct moves) has = (moves, has)
 wanted rows (Apply shape batch image workers) has = ((shape, has.0), (batch, has.1), (image, has.2), (workers, has.3))
@@ -53,12 +58,30 @@ within (Some p) request is = go request.job is.job.1
 abbrev text_in : Text → List Row → Text
 text_in id rows = unwrap_or (first_of id rows) []
 
+-- whether the words themselves give this option
+abbrev is_words : Option ValueSource → Bool
+is_words (Some CommandLine) = true
+is_words (Some DefaultValue) = false
+is_words None = false
+
+abbrev given_in : Text → List Row → Bool
+given_in id rows = is_words (option_and_then (λ row. row.source) (find (λ row. bytes_eq row.id id) rows))
+
+same_flag : (o : Option ValueSource) (b : Bool) → (IsTrue b ↔ (o ≡ Some CommandLine)) → b ≡ is_words o
+same_flag (Some CommandLine) b given = given.1 refl
+same_flag None true given = absurd (let bad : None ≡ Some CommandLine = given.0 refl in cc)
+same_flag (Some DefaultValue) true given = absurd (let bad : Some DefaultValue ≡ Some CommandLine = given.0 refl in cc)
+same_flag None false given = refl
+same_flag (Some DefaultValue) false given = refl
+
 -- the names of the files of a command
 abbrev files_in : CommandName → List Row → List Text
 files_in name.Plan rows = text_in (codes "FILE") rows ∷ []
 files_in name.Check rows = text_in (codes "BATCH") rows ∷ text_in (codes "SCHEDULE") rows ∷ []
 files_in name.Draw rows = text_in (codes "BATCH") rows ∷ text_in (codes "SCHEDULE") rows ∷ []
 files_in name.Switch rows = text_in (codes "BATCH") rows ∷ option_to_list (first_of (codes "schedule") rows)
+files_in name.Drive rows =
+    text_in (codes "BATCH") rows ∷ option_to_list (first_of (codes "schedule") rows) ++ cue_files (given_in (codes "go-on") rows)
 files_in name.C004 rows = input_name ∷ []
 files_in name.Direct rows = text_in (codes "MOVES") rows ∷ []
 files_in name.Apply rows = text_in (codes "BATCH") rows ∷ text_in (codes "IMAGE") rows ∷ []
@@ -77,6 +100,10 @@ files_are rows (Plan file planning) has = rw has.0 refl
 files_are rows (Check batch schedule) has = rw (has.0, has.1) refl
 files_are rows (Draw batch schedule settings) has = rw (has.0, has.1) refl
 files_are rows (Switch batch source) has = rw (has.0, scheduled rows source has.1) refl
+files_are rows (Drive batch port port_b source goes_on) has =
+    let flag = same_flag (option_and_then (λ row. row.source) (find (λ row. bytes_eq row.id (codes "go-on")) rows)) goes_on has.4 in
+    ap₂ (λ (name : Text) (more : List Text). name ∷ more) (sym (ap (λ (o : Option Text). unwrap_or o []) has.0))
+    (ap₂ (λ (front more : List Text). front ++ more) (scheduled rows source has.3) (ap cue_files flag))
 files_are rows C004 has = refl
 files_are rows (Direct moves) has = rw has refl
 files_are rows (Apply shape batch image workers) has = rw (has.1, has.2) refl

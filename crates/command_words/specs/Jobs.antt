@@ -1,5 +1,5 @@
 -- The job that the words of the command line name.
-use Rattle.std.specs.Prelude.{◌≡◌, ◌≢◌, ◌⊎◌, ◌↔◌, ℕ, ◌≤◌, List, [], ◌∷◌, ◌++◌, Some, None, String, codes, length, map, find, string_bytes, Option, All, AllPairs, IsTrue, IfSome, option_and_then, option_to_list, MatchOption, Result, Ok, Err, ⊤}
+use Rattle.std.specs.Prelude.{◌≡◌, ◌≢◌, ◌⊎◌, ◌↔◌, ℕ, ◌≤◌, List, [], ◌∷◌, ◌++◌, Some, None, String, codes, length, map, find, string_bytes, Option, All, AllPairs, IsTrue, IfSome, Bool, true, false, option_and_then, option_to_list, MatchOption, Result, Ok, Err, ⊤}
 use Rattle.std.specs.Str.{bytes_eq}
 use Rattle.std.specs.Str.Parse.{IsNumeral, digits_value, without_leading_plus}
 use Rattle.clap.specs.Words.{Row, Text, Kinds, IsAmong, all_of, fault_of, first_of, found_of, one_of, rows_of, subcommand_of, subcommand_rows_of}
@@ -11,7 +11,7 @@ use Rattle.clap.specs.declared.error.kind.ErrorKind.TheVariants.{DisplayHelp, Di
 use Rattle.exchange_limits.specs.declared.limits.TheConstants.{MAX_WORKERS}
 use Rattle.command_words.specs.declared.limits.TheConstants.{MAX_CLIENTS}
 use Rattle.command_words.specs.declared.jobs.Job.{Job}
-use Rattle.command_words.specs.declared.jobs.Job.TheVariants.{Plan, Check, Draw, Switch, C004, Direct, Apply, Run, Serve, Host, Talk}
+use Rattle.command_words.specs.declared.jobs.Job.TheVariants.{Plan, Check, Draw, Switch, Drive, C004, Direct, Apply, Run, Serve, Host, Talk}
 use Rattle.command_words.specs.declared.jobs.Planning.{Planning}
 use Rattle.command_words.specs.declared.jobs.Planning.TheVariants as planning
 use Rattle.command_words.specs.declared.jobs.Request.{Request}
@@ -87,6 +87,7 @@ name_of (Plan file planning) = name.Plan
 name_of (Check batch schedule) = name.Check
 name_of (Draw batch schedule settings) = name.Draw
 name_of (Switch batch source) = name.Switch
+name_of (Drive batch port port_b source goes_on) = name.Drive
 name_of C004 = name.C004
 name_of (Direct moves) = name.Direct
 name_of (Apply shape batch image workers) = name.Apply
@@ -104,6 +105,10 @@ HasJob rows (Draw batch schedule settings) =
     HasText (codes "BATCH") rows batch × HasText (codes "SCHEDULE") rows schedule
     × HasOption (codes "settings") rows settings
 HasJob rows (Switch batch source) = HasText (codes "BATCH") rows batch × HasSource rows source
+HasJob rows (Drive batch port port_b source goes_on) =
+    HasText (codes "BATCH") rows batch × HasText (codes "PORT") rows port
+    × HasOption (codes "PORT_B") rows port_b × HasSource rows source
+    × (IsTrue goes_on ↔ IsGiven (codes "go-on") rows)
 HasJob rows C004 = ⊤
 HasJob rows (Direct moves) = HasText (codes "MOVES") rows moves
 HasJob rows (Apply shape batch image workers) =
@@ -163,6 +168,14 @@ abbrev pub schedule_files : ScheduleSource → List Text
 schedule_files (source.File schedule) = schedule ∷ []
 schedule_files source = []
 
+-- where a driver hears that it may go on, unless it goes on at once: standard input
+abbrev pub cue_files : Bool → List Text
+cue_files true = []
+cue_files false = input_name ∷ []
+
+abbrev pub driven_files : Text → ScheduleSource → Bool → List Text
+driven_files batch source goes_on = batch ∷ schedule_files source ++ cue_files goes_on
+
 -- the names of the files that a job reads itself, in this order; the client of `talk` is standard
 -- input, and so is the link of `c004`
 abbrev pub files_of : Job → List Text
@@ -170,6 +183,7 @@ files_of (Plan file planning) = file ∷ []
 files_of (Check batch schedule) = batch ∷ schedule ∷ []
 files_of (Draw batch schedule settings) = batch ∷ schedule ∷ []
 files_of (Switch batch source) = batch ∷ schedule_files source
+files_of (Drive batch port port_b source goes_on) = driven_files batch source goes_on
 files_of C004 = input_name ∷ []
 files_of (Direct moves) = moves ∷ []
 files_of (Apply shape batch image workers) = batch ∷ image ∷ []
@@ -274,6 +288,9 @@ HasWanted name.Check rows =
 HasWanted name.Draw rows =
     HasSome (HasText (codes "BATCH") rows) × HasSome (HasText (codes "SCHEDULE") rows)
 HasWanted name.Switch rows = HasSome (HasText (codes "BATCH") rows) × HasSome (HasSource rows)
+HasWanted name.Drive rows =
+    HasSome (HasText (codes "BATCH") rows) × HasSome (HasText (codes "PORT") rows)
+    × HasSome (HasSource rows)
 HasWanted name.C004 rows = ⊤
 HasWanted name.Direct rows = HasSome (HasText (codes "MOVES") rows)
 HasWanted name.Apply rows =

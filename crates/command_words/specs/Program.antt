@@ -9,9 +9,9 @@ use Rattle.clap.specs.declared.builder.action.ArgAction.TheVariants.{SetTrue}
 use Rattle.clap.specs.declared.builder.value_parser.ValueParser.TheVariants as parser
 use Rattle.exchange_limits.specs.declared.limits.TheConstants.{MAX_WORKERS}
 use Rattle.command_words.specs.declared.commands.Argument.{Argument}
-use Rattle.command_words.specs.declared.commands.Argument.TheVariants.{Shape, File, Batch, Schedule, Moves, Image, Scripts, Clients, ImageOption, ImageOut, Settings, ScheduleOption, Steady, Workers, Quiet}
+use Rattle.command_words.specs.declared.commands.Argument.TheVariants.{Shape, File, Batch, Schedule, Port, PortB, Moves, Image, Scripts, Clients, ImageOption, ImageOut, Settings, ScheduleOption, Steady, GoOn, Workers, Quiet}
 use Rattle.command_words.specs.declared.commands.CommandName.{CommandName}
-use Rattle.command_words.specs.declared.commands.CommandName.TheVariants.{Plan, Check, Draw, Switch, C004, Direct, Apply, Run, Serve, Host, Talk}
+use Rattle.command_words.specs.declared.commands.CommandName.TheVariants.{Plan, Check, Draw, Switch, Drive, C004, Direct, Apply, Run, Serve, Host, Talk}
 use Rattle.command_words.specs.declared.limits.TheConstants.{MAX_CLIENTS}
 
 -- ---- what a command takes
@@ -19,6 +19,10 @@ use Rattle.command_words.specs.declared.limits.TheConstants.{MAX_CLIENTS}
 -- a word that has to be there
 abbrev pub word : List ℕ → Rule
 word id = record (new_rule id) { required = true }
+
+-- a word that may be left out
+abbrev pub spare_word : List ℕ → Rule
+spare_word id = new_rule id
 
 -- a word that has to be there, and may be there so many times
 abbrev pub words : List ℕ → Rule
@@ -48,6 +52,8 @@ rule_for Shape = word (codes "SHAPE")
 rule_for File = word (codes "FILE")
 rule_for Batch = word (codes "BATCH")
 rule_for Schedule = word (codes "SCHEDULE")
+rule_for Port = word (codes "PORT")
+rule_for PortB = spare_word (codes "PORT_B")
 rule_for Moves = word (codes "MOVES")
 rule_for Image = word (codes "IMAGE")
 rule_for Scripts = words (codes "SCRIPT")
@@ -57,6 +63,7 @@ rule_for ImageOut = option (codes "image-out")
 rule_for Settings = option (codes "settings")
 rule_for ScheduleOption = option (codes "schedule")
 rule_for Steady = flag (codes "steady")
+rule_for GoOn = flag (codes "go-on")
 rule_for Workers = workers
 rule_for Quiet = flag (codes "quiet")
 
@@ -65,7 +72,7 @@ rule_for Quiet = flag (codes "quiet")
 -- all of them, in their order
 abbrev pub commands : List CommandName
 commands =
-    Plan ∷ Check ∷ Draw ∷ Switch ∷ C004 ∷ Direct ∷ Apply ∷ Run ∷ Serve ∷ Host ∷ Talk ∷ []
+    Plan ∷ Check ∷ Draw ∷ Switch ∷ Drive ∷ C004 ∷ Direct ∷ Apply ∷ Run ∷ Serve ∷ Host ∷ Talk ∷ []
 
 -- the word that calls a command, and what it takes, in this order
 abbrev pub sheet_of : CommandName → List ℕ × List Argument
@@ -73,6 +80,10 @@ sheet_of Plan = (codes "plan", File ∷ Steady ∷ Workers ∷ Quiet ∷ [])
 sheet_of Check = (codes "check", Batch ∷ Schedule ∷ Quiet ∷ [])
 sheet_of Draw = (codes "draw", Batch ∷ Schedule ∷ Settings ∷ Quiet ∷ [])
 sheet_of Switch = (codes "switch", Batch ∷ ScheduleOption ∷ Steady ∷ Workers ∷ Quiet ∷ [])
+sheet_of Drive = (
+  codes "drive",
+  Batch ∷ Port ∷ PortB ∷ ScheduleOption ∷ Steady ∷ Workers ∷ GoOn ∷ Quiet ∷ [],
+)
 sheet_of C004 = (codes "c004", Quiet ∷ [])
 sheet_of Direct = (codes "direct", Moves ∷ Quiet ∷ [])
 sheet_of Apply = (codes "apply", Shape ∷ Batch ∷ Image ∷ Workers ∷ Quiet ∷ [])

@@ -11,6 +11,7 @@ pub(crate) enum CommandName {
     Check,
     Draw,
     Switch,
+    Drive,
     C004,
     Direct,
     Apply,
@@ -31,6 +32,10 @@ pub(crate) enum Argument {
     Batch,
     /// `SCHEDULE`.
     Schedule,
+    /// `PORT`.
+    Port,
+    /// `PORT_B`, which may be left out.
+    PortB,
     /// `MOVES`.
     Moves,
     /// `IMAGE`.
@@ -49,6 +54,8 @@ pub(crate) enum Argument {
     ScheduleOption,
     /// `--steady`.
     Steady,
+    /// `--go-on`.
+    GoOn,
     /// `--workers N`.
     Workers,
     /// `--quiet`.
@@ -57,11 +64,12 @@ pub(crate) enum Argument {
 
 impl CommandName {
     /// All commands, in the order in which the program's help lists them.
-    pub(crate) const ALL: [CommandName; 11] = [
+    pub(crate) const ALL: [CommandName; 12] = [
         CommandName::Plan,
         CommandName::Check,
         CommandName::Draw,
         CommandName::Switch,
+        CommandName::Drive,
         CommandName::C004,
         CommandName::Direct,
         CommandName::Apply,
@@ -90,14 +98,29 @@ impl CommandName {
         ensures arguments { result.1.now ≡ arguments_of self }
     {
         use Argument::{
-            Batch, Clients, File, Image, ImageOption, ImageOut, Moves, Quiet, Schedule,
-            ScheduleOption, Scripts, Settings, Shape, Steady, Workers,
+            Batch, Clients, File, GoOn, Image, ImageOption, ImageOut, Moves, Port, PortB, Quiet,
+            Schedule, ScheduleOption, Scripts, Settings, Shape, Steady, Workers,
         };
         match self {
             CommandName::Plan => ("plan", &[File, Steady, Workers, Quiet]),
             CommandName::Check => ("check", &[Batch, Schedule, Quiet]),
             CommandName::Draw => ("draw", &[Batch, Schedule, Settings, Quiet]),
             CommandName::Switch => ("switch", &[Batch, ScheduleOption, Steady, Workers, Quiet]),
+            CommandName::Drive => {
+                (
+                    "drive",
+                    &[
+                        Batch,
+                        Port,
+                        PortB,
+                        ScheduleOption,
+                        Steady,
+                        Workers,
+                        GoOn,
+                        Quiet,
+                    ],
+                )
+            }
             CommandName::C004 => ("c004", &[Quiet]),
             CommandName::Direct => ("direct", &[Moves, Quiet]),
             CommandName::Apply => ("apply", &[Shape, Batch, Image, Workers, Quiet]),

@@ -3,13 +3,14 @@
 ghost use Rattle.std.specs.Prelude.{◌≡◌, IfErr, IfOk, OnOk};
 ghost use Rattle.command_words.specs.Jobs.{AreMatchesOf, IsFaultIn, IsTaken, texts_of};
 ghost use Rattle.clap.specs.Words.{app_of, new_app};
-ghost use Rattle.command_words.specs.Program.{IsArgument, IsCommand, IsLocal, command as command_app, flag, option, program, rule_for, top, with_arguments, with_command, word, words, workers};
+ghost use Rattle.command_words.specs.Program.{IsArgument, IsCommand, IsLocal, command as command_app, flag, option, program, rule_for, spare_word, top, with_arguments, with_command, word, words, workers};
 
 use crate::commands::{Argument, CommandName};
 use crate::help::{
-    BATCH_HELP, CLIENT_HELP, CommandHelp, IMAGE_HELP, IMAGE_OPTION_HELP, IMAGE_OUT_HELP,
-    MOVES_HELP, PROGRAM, QUIET_HELP, SCHEDULE_HELP, SCHEDULE_OPTION_HELP, SCRIPT_HELP,
-    SETTINGS_HELP, SHAPE_HELP, STEADY_HELP, WORKERS_HELP, help_of,
+    BATCH_HELP, CLIENT_HELP, CommandHelp, GO_ON_HELP, IMAGE_HELP, IMAGE_OPTION_HELP,
+    IMAGE_OUT_HELP, MOVES_HELP, PORT_B_HELP, PORT_HELP, PROGRAM, QUIET_HELP, SCHEDULE_HELP,
+    SCHEDULE_OPTION_HELP, SCRIPT_HELP, SETTINGS_HELP, SHAPE_HELP, STEADY_HELP, WORKERS_HELP,
+    help_of,
 };
 use crate::jobs::WordsFault;
 use crate::limits::{MAX_CLIENTS, VERSION};
@@ -22,6 +23,13 @@ fn word<'a>(alloc: Global, id: &'a str, help: &'a str) -> Arg<'a>
     ensures { IsArgument (word id.entry.now) result }
 {
     Arg::new(alloc, id).required(true).help(help)
+}
+
+/// A word that may be left out.
+fn spare_word<'a>(alloc: Global, id: &'a str, help: &'a str) -> Arg<'a>
+    ensures { IsArgument (spare_word id.entry.now) result }
+{
+    Arg::new(alloc, id).help(help)
 }
 
 /// From 1 to [`MAX_CLIENTS`] words.
@@ -66,6 +74,8 @@ fn arg_of<'a>(alloc: Global, argument: Argument) -> Arg<'a>
         Argument::File => word(alloc, "FILE", BATCH_HELP),
         Argument::Batch => word(alloc, "BATCH", BATCH_HELP),
         Argument::Schedule => word(alloc, "SCHEDULE", SCHEDULE_HELP),
+        Argument::Port => word(alloc, "PORT", PORT_HELP),
+        Argument::PortB => spare_word(alloc, "PORT_B", PORT_B_HELP),
         Argument::Moves => word(alloc, "MOVES", MOVES_HELP),
         Argument::Image => word(alloc, "IMAGE", IMAGE_HELP),
         Argument::Scripts => words(alloc, "SCRIPT", SCRIPT_HELP),
@@ -75,6 +85,7 @@ fn arg_of<'a>(alloc: Global, argument: Argument) -> Arg<'a>
         Argument::Settings => option(alloc, "settings", "A..B", SETTINGS_HELP),
         Argument::ScheduleOption => option(alloc, "schedule", "FILE", SCHEDULE_OPTION_HELP),
         Argument::Steady => flag(alloc, "steady", STEADY_HELP),
+        Argument::GoOn => flag(alloc, "go-on", GO_ON_HELP),
         Argument::Workers => workers(alloc),
         Argument::Quiet => flag(alloc, "quiet", QUIET_HELP),
     }

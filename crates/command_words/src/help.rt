@@ -20,6 +20,7 @@ pub(crate) fn help_of(name: CommandName) -> &'static CommandHelp {
         CommandName::Check => &CHECK,
         CommandName::Draw => &DRAW,
         CommandName::Switch => &SWITCH,
+        CommandName::Drive => &DRIVE,
         CommandName::C004 => &C004,
         CommandName::Direct => &DIRECT,
         CommandName::Apply => &APPLY,
@@ -180,6 +181,51 @@ Else it is the first of these that is wrong. The files are read first:
 
 Status: 0 the bytes were printed, 1 they were refused or there was no memory,
 2 the words fit no command, 3 the answer couldn't be written.",
+};
+
+/// What help says of `drive`.
+const DRIVE: CommandHelp = CommandHelp {
+    about: "Sets a real switch: sends its bytes setting by setting, and asks it whether each stands",
+    example: "\
+Example: a driver and a switch of this program, with two pipes between them:
+  mkfifo board.in board.out
+  ./exchange c004 < board.in > board.out &
+  ./exchange drive examples/three-transfers.txt board --go-on",
+    notes: "\
+BATCH is a batch text, in the form that `exchange plan --help` shows. Which
+schedule of it is driven, and where there are two switches,
+`exchange switch --help` tells. PORT is the way to the only switch, or to switch
+a, and PORT_B that to switch b: a device of a link adaptor, which is opened to
+read and write; or, where PORT.in and PORT.out are there, two named pipes, of
+which PORT.in goes to the switch. It is opened first, and each pipe waits for
+its other end.
+
+Setting by setting, the bytes are sent that `exchange switch` tells, and then
+each output is enquired; a reply is read before the next command is sent. Once
+all outputs answer as the setting calls for, this is told at once:
+  setting K t t ..   setting K stands, from 0; these transfers may move in it
+Then a line of standard input is waited for, whatever it says: it tells that
+their blocks have moved. With --go-on nothing is waited for.
+
+The last line says how it ended. The switches are left as they are:
+  driven settings S            all S settings stood, one after the other
+  stopped setting K port       a byte couldn't be sent, or a reply didn't come
+  stopped setting K switch O   output O of setting K answered otherwise; those
+                               of switch b are counted from 32
+  left setting K               setting K stands, and standard input ended
+A switch that says nothing is waited for without end, and a terminal that isn't
+raw alters bytes and may hold them. Both are settled before, for a device:
+  stty -F PORT raw -echo min 0 time 20
+
+Else nothing is sent, and the answer is the first of these that is wrong:
+  refused file            BATCH or FILE can't be read
+  refused ..              BATCH or FILE, as `exchange switch --help` shows
+  refused ports W         W ports are wanted: 2 where BATCH names a module above
+                          15, else 1
+  refused port a          PORT can't be opened; `port b`: PORT_B can't
+
+Status: 0 all settings stood, 1 they didn't, or it was refused or there was no
+memory, 2 the words fit no command, 3 standard output couldn't be written.",
 };
 
 /// What help says of `c004`.
@@ -507,6 +553,15 @@ pub(crate) const IMAGE_OPTION_HELP: &str =
 
 /// What is said of `--image-out`.
 pub(crate) const IMAGE_OUT_HELP: &str = "The file for the image of the words behind all sessions";
+
+/// What is said of a port.
+pub(crate) const PORT_HELP: &str = "The device of the switch, or the pipes PORT.in and PORT.out";
+
+/// What is said of the second port.
+pub(crate) const PORT_B_HELP: &str = "That of switch b, where there are two";
+
+/// What is said of `--go-on`.
+pub(crate) const GO_ON_HELP: &str = "Wait for no line of standard input behind a setting";
 
 /// What is said of a script.
 pub(crate) const SCRIPT_HELP: &str = "A file of session lines, or - for standard input";

@@ -1,7 +1,7 @@
 //! Which files are standard input.
 
-ghost use Rattle.std.specs.Prelude.{◌≡◌, ◌≢◌, ◌↔◌, ◌++◌, All, IsTrue, Some, option_to_list};
-ghost use Rattle.command_words.specs.Jobs.{NameInputOnce, files_of, input_name};
+ghost use Rattle.std.specs.Prelude.{◌≡◌, ◌≢◌, ◌↔◌, ◌++◌, ◌∷◌, [], All, IsTrue, Some, option_to_list};
+ghost use Rattle.command_words.specs.Jobs.{NameInputOnce, driven_files, files_of, input_name};
 
 use crate::jobs::{Job, ScheduleSource};
 use crate::text::Text;
@@ -54,6 +54,25 @@ pub(crate) fn name_input_once_behind(first: &Option<Text>, names: &[Text]) -> bo
     name_input_once(names)
 }
 
+/// Whether neither of these names stands for standard input.
+fn are_no_input(one: &Text, other: &Text) -> bool
+    ensures { IsTrue result ↔ NameInputOnce (one.now ∷ other.now ∷ input_name ∷ []) }
+{
+    !one.is_input() && !other.is_input()
+}
+
+/// Whether standard input is at most one of the batch, the schedule's file, and what `drive` waits
+/// for.
+fn drives_by_one_input(batch: &Text, source: &ScheduleSource, goes_on: bool) -> bool
+    ensures { IsTrue result ↔ NameInputOnce (driven_files batch.now source.now goes_on) }
+{
+    match source {
+        ScheduleSource::File(schedule) if goes_on => !(batch.is_input() && schedule.is_input()),
+        ScheduleSource::File(schedule) => are_no_input(batch, schedule),
+        _ => goes_on || !batch.is_input(),
+    }
+}
+
 /// Whether at most one of a job's files is standard input.
 pub(crate) fn reads_input_once(job: &Job) -> bool
     ensures { IsTrue result ↔ NameInputOnce (files_of job.now) }
@@ -74,6 +93,12 @@ pub(crate) fn reads_input_once(job: &Job) -> bool
             image: schedule,
             ..
         } => !(batch.is_input() && schedule.is_input()),
+        Job::Drive {
+            batch,
+            source,
+            goes_on,
+            ..
+        } => drives_by_one_input(batch, source, *goes_on),
         Job::Run { batch, image, .. } => !(is_input(image) && batch.is_input()),
         Job::Serve { rack, scripts, .. } => name_input_once_behind(&rack.image, scripts.as_slice()),
         Job::Talk { rack } => !is_input(&rack.image),

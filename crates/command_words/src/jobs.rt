@@ -36,6 +36,15 @@ pub enum Job {
         batch: Text,
         source: ScheduleSource,
     },
+    /// Set the switches behind a port, or behind two, as each setting of a schedule of the batch of
+    /// a file calls for, and behind each wait for a line of standard input, unless it goes on.
+    Drive {
+        batch: Text,
+        port: Text,
+        port_b: Option<Text>,
+        source: ScheduleSource,
+        goes_on: bool,
+    },
     /// Be a switch whose configuration link is standard input and output.
     C004,
     /// Give the moves of a file directions that need the fewest settings.

@@ -183,6 +183,19 @@ fn switch_job(alloc: Global, found: &ArgMatches<'_>) -> Result<Job, Lack>
     })
 }
 
+/// The job of `drive`.
+fn drive_job(alloc: Global, found: &ArgMatches<'_>) -> Result<Job, Lack>
+    ensures { IsReadJob CommandName.Drive (rows_in found.now) result }
+{
+    Ok(Job::Drive {
+        batch: text_of(alloc, found, "BATCH")?,
+        port: text_of(alloc, found, "PORT")?,
+        port_b: option_of(alloc, found, "PORT_B")?,
+        source: source_of(alloc, found)?,
+        goes_on: is_given(found, "go-on"),
+    })
+}
+
 /// The job of `direct`.
 fn direct_job(alloc: Global, found: &ArgMatches<'_>) -> Result<Job, Lack>
     ensures { IsReadJob CommandName.Direct (rows_in found.now) result }
@@ -256,6 +269,7 @@ fn job_of(alloc: Global, name: CommandName, found: &ArgMatches<'_>) -> Result<Jo
         CommandName::Check => check_job(alloc, found),
         CommandName::Draw => draw_job(alloc, found),
         CommandName::Switch => switch_job(alloc, found),
+        CommandName::Drive => drive_job(alloc, found),
         CommandName::C004 => Ok(Job::C004),
         CommandName::Direct => direct_job(alloc, found),
         CommandName::Apply => apply_job(alloc, found),
