@@ -71,16 +71,17 @@ fn drive_over<Q: Ports, S: Stage>(
     }
 }
 
-/// What `exchange drive` answers behind what the stage was told: the settings of a plan of the batch that the text
-/// denotes are put on the switches, one after another, over ports that are opened for them; or the refusal of the
-/// text's first fault, or of the ports. Where it refuses, nothing is sent and nothing told, and a port is asked for
-/// only where the text is right.
+/// What `exchange drive` answers behind what the stage was told: the settings of a plan of the
+/// batch that the text denotes are put on the switches, one after another, over ports that are
+/// opened for them; or the refusal of the text's first fault, or of the ports. Where it refuses,
+/// nothing is sent and nothing told, and a port is asked for only where the text is right.
 ///
-/// The last line is `driven settings S` under the status [`DONE`](plan_answers::DONE), where all settings stood; or,
-/// under [`REFUSED`](plan_answers::REFUSED), `stopped setting K port` where the port failed, `stopped setting K switch O`
-/// where that output is the first that doesn't reply what setting K calls for, or `left setting K` where the stage
-/// wants no other setting. The rack has two switches where the batch names a module above 15. The batch is read
-/// against the widest shape. Planning is given so many workers. Want of memory comes before anything is sent.
+/// The last line is `driven settings S` under the status [`DONE`](plan_answers::DONE), where all
+/// settings stood; or, under [`REFUSED`](plan_answers::REFUSED), `stopped setting K port` where the
+/// port failed, `stopped setting K switch O` where that output is the first that doesn't reply what
+/// setting K calls for, or `left setting K` where the stage wants no other setting. The rack has
+/// two switches where the batch names a module above 15. The batch is read against the widest
+/// shape. Planning is given so many workers. Want of memory comes before anything is sent.
 pub fn answer_drive<R: Threads + Sync, Q: Ports, S: Stage>(
     rt: &R,
     alloc: Global,
@@ -128,8 +129,8 @@ pub fn answer_drive_steady<Q: Ports, S: Stage>(
     }
 }
 
-/// What `exchange drive --schedule` answers, as [`answer_drive`], of the schedule that the schedule text says, which may
-/// be any schedule of the batch; or the refusal of what is first wrong, as
+/// What `exchange drive --schedule` answers, as [`answer_drive`], of the schedule that the schedule
+/// text says, which may be any schedule of the batch; or the refusal of what is first wrong, as
 /// [`ScheduleTexts::read`](plan_answers::ScheduleTexts::read) looks at it.
 pub fn answer_drive_schedule<Q: Ports, S: Stage>(
     alloc: Global,

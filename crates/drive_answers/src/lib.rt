@@ -1,8 +1,8 @@
-//! The answer of the command that drives the switches of a rack, from the bytes of its texts to the last line that is
-//! printed and its status.
+//! The answer of the command that drives the switches of a rack, from the bytes of its texts to the
+//! last line that is printed and its status.
 //!
-//! The ways to the switches, and whoever is told that a setting stands, are the caller's: [`Ports`] and
-//! [`Stage`](switch_driver::Stage).
+//! The ways to the switches, and whoever is told that a setting stands, are the caller's: [`Ports`]
+//! and [`Stage`](switch_driver::Stage).
 #![tactic(auto)]
 
 mod driving;

@@ -1,5 +1,5 @@
-//! Three settings of one switch, driven over a stream whose other end follows a script: which bytes it is sent, when it
-//! is asked for a reply, and when a setting is told, all in one order.
+//! Three settings of one switch, driven over a stream whose other end follows a script: which bytes
+//! it is sent, when it is asked for a reply, and when a setting is told, all in one order.
 
 ghost use Rattle.std.specs.Prelude.{⊤};
 
@@ -117,7 +117,8 @@ impl<'a> Desk<'a> {
         self.script.get(self.at.load(Ordering::SeqCst)).copied()
     }
 
-    /// Makes this step, and says whether it is the next one. At the script's end nothing is made, and nothing is wrong.
+    /// Makes this step, and says whether it is the next one. At the script's end nothing is made,
+    /// and nothing is wrong.
     fn make(&self, step: Step) -> bool {
         let Some(wanted) = self.next() else {
             return false;
@@ -266,8 +267,8 @@ fn told_in(steps: &[Step]) -> usize {
         .count()
 }
 
-/// Whether a drive stops where the script ends, behind so many steps: at the port, or at the stage where a setting would
-/// be told next.
+/// Whether a drive stops where the script ends, behind so many steps: at the port, or at the stage
+/// where a setting would be told next.
 fn stops_behind(alloc: Global, steps: &[Step], count: usize) -> Result<bool, AllocError> {
     let count = count.min(steps.len());
     let front = &steps[..count];
@@ -281,8 +282,8 @@ fn stops_behind(alloc: Global, steps: &[Step], count: usize) -> Result<bool, All
     Ok(desk.is_followed() && is_line(&answer, line.as_bytes(), REFUSED))
 }
 
-/// Whether a reply of this output in the second setting that names an input which nothing is on stops the drive there, behind all
-/// replies of the setting.
+/// Whether a reply of this output in the second setting that names an input which nothing is on
+/// stops the drive there, behind all replies of the setting.
 fn is_caught(alloc: Global, output: u8) -> Result<bool, AllocError> {
     let steps = steps_of(alloc, Some((output, 0x93)))?;
     let desk = Desk::of(steps.as_slice().get(..205).unwrap_or(&[]));
