@@ -11,14 +11,19 @@ import switching  # noqa: E402
 ENQUIRE = 2
 PORTS = {**switching.PORTS, ENQUIRE: 1}
 
+# The commands that join and cut.
+TURNS = (0, 1, 5, 6)
+
 
 class Chip:
     """A C004 that is handed bytes. At first it is as after a reset. It drops a byte that can't
-    stand where it comes, and the command that was begun with it."""
+    stand where it comes, and the command that was begun with it. It counts joins and cuts, and may
+    forget one: it doesn't obey that of this number, from 0."""
 
     def __init__(self):
         self.switch, self.begun, self.place, self.told = switching.Switch(), [], 0, []
         self.switch.inputs = {}
+        self.forgets, self.turns = None, 0
 
     def take(self, byte):
         """Takes a byte, and gives the answer where an enquiry ends."""
@@ -38,7 +43,9 @@ class Chip:
         self.begun = []
         if command == ENQUIRE:
             return self.answer(ports[0])
-        self.switch.obey(command, ports)
+        self.turns += command in TURNS
+        if not (command in TURNS and self.turns - 1 == self.forgets):
+            self.switch.obey(command, ports)
         return None
 
     def answer(self, output):

@@ -1,9 +1,12 @@
 -- What files hold of which one may be standard input.
-use Rattle.std.proofs.Common.{◌≡◌, ◌<◌, ◌+◌, ℕ, List, [], ◌∷◌, ◌++◌, Option, Some, None, suc, IfSome, true, length, get_or, map, Result, is_ok, if◌then◌else◌, refl, ap, sym, ◌∙◌, subst, arith, below_more}
+use Rattle.std.proofs.Common.{◌≡◌, ◌<◌, ◌+◌, ℕ, List, [], ◌∷◌, ◌++◌, Option, Some, None, suc, IfSome, Bool, true, false, length, get_or, map, Result, is_ok, if◌then◌else◌, refl, ap, sym, ◌∙◌, subst, arith, below_more}
 use Rattle.std.specs.Prelude.{◌≢◌, option_to_list}
 use Rattle.std.proofs.Math.Seq.{get_or-append_seam}
 use Rattle.std.proofs.lemmas.List.{get_or_append_left, get_or_default, map-append}
-use Rattle.command_words.specs.Jobs.{NameInputOnce, input_name}
+use Rattle.command_words.specs.Jobs.{NameInputOnce, driven_files, input_name}
+use Rattle.command_words.specs.declared.jobs.ScheduleSource.{ScheduleSource}
+use Rattle.command_words.specs.declared.jobs.ScheduleSource.TheVariants as source
+use Rattle.exchange.specs.Drives.{IsHeldSchedule}
 use Rattle.command_words.proofs.Inputs.{behind_first}
 use Rattle.exchange.specs.Files.{IsHeld, AreHeld}
 
@@ -54,3 +57,16 @@ one_more_file input names files i name file below is count before here =
     subst (IsHeld input (get_or names k [])) (sym (get_or_append_left files (file ∷ []) [] k (omega arith))) (before k lt) in
     let latest : IsHeld input (get_or names i []) (get_or (files ++ file ∷ []) i []) = subst (λ (n : List ℕ). IsHeld input n (get_or (files ++ file ∷ []) i [])) at (subst (IsHeld input name) (sym last) here) in
     below_more (λ k. IsHeld input (get_or names k []) (get_or (files ++ file ∷ []) k [])) i earlier latest
+
+-- of a batch and a schedule that are driven the batch isn't standard input where the schedule is
+pub batch_is_other : (batch file : List ℕ) (goes_on : Bool) → NameInputOnce (driven_files batch (source.File file) goes_on) → file ≡ input_name → batch ≢ input_name
+batch_is_other batch file true once is = λ e. once 0 1 batch (omega arith) (omega arith) e is
+batch_is_other batch file false once is = λ e. once 0 1 batch (omega arith) (omega arith) e is
+
+-- a schedule's file has the bytes that it had before the batch was read
+pub schedule_held_later : (old now : Option (List ℕ)) (batch : List ℕ) (from : ScheduleSource) (goes_on : Bool) (schedule : List ℕ) → NameInputOnce (driven_files batch from goes_on)
+    → (batch ≢ input_name → now ≡ old) → IsHeldSchedule now from schedule → IsHeldSchedule old from schedule
+schedule_held_later old now batch (source.File file) goes_on schedule once unread held =
+    held_later old now file schedule (λ is. unread (batch_is_other batch file goes_on once is)) held
+schedule_held_later old now batch (source.Plan workers) goes_on schedule once unread held = tt
+schedule_held_later old now batch source.Steady goes_on schedule once unread held = tt

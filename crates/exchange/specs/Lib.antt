@@ -1,4 +1,6 @@
 pub mod Files
+pub mod Ports
+pub mod Drives
 pub mod Responses
 pub mod Images
 pub mod Notes

@@ -18,7 +18,7 @@ use Rattle.rack_answers.specs.Switching.{IsSwitched, IsSwitchedSteadily, IsSwitc
 use Rattle.session_answers.specs.Talking.{IsTalkAnswer}
 use Rattle.plan_answers.specs.declared.limits.TheConstants.{DONE, REFUSED}
 use Rattle.command_words.specs.declared.jobs.Job.{Job}
-use Rattle.command_words.specs.declared.jobs.Job.TheVariants.{Plan, Check, Draw, Switch, C004, Direct, Apply, Run, Serve, Host, Talk}
+use Rattle.command_words.specs.declared.jobs.Job.TheVariants.{Plan, Check, Draw, Switch, Drive, C004, Direct, Apply, Run, Serve, Host, Talk}
 use Rattle.command_words.specs.declared.jobs.Planning.TheVariants as planning
 use Rattle.command_words.specs.declared.jobs.ScheduleSource.TheVariants as source
 use Rattle.command_words.specs.declared.jobs.SharedRack.{SharedRack}
@@ -27,6 +27,8 @@ use Rattle.refusals.specs.declared.refusal.Refusal.{Refusal}
 use Rattle.refusals.specs.declared.refusal.Refusal.TheVariants as refusal
 use Rattle.refusals.specs.Refusals.{refusal_line}
 use Rattle.exchange.specs.Files.{IsHeld, IsHeldImage, AreHeld}
+use Rattle.exchange.specs.Drives.{IsSomeDrive}
+use Rattle.exchange.specs.Ports.{ports_named}
 use Rattle.exchange.specs.declared.unanswered.Unanswered.{Unanswered}
 use Rattle.exchange.specs.declared.unanswered.Unanswered.TheVariants.{File, NoMemory}
 
@@ -143,6 +145,9 @@ IsAnswerTo input (Switch batch (source.File schedule)) answer =
 IsAnswerTo input (Direct moves) answer = IsSomeDirect input moves answer
 IsAnswerTo input (Apply shape batch image workers) answer = IsSomeApply input shape batch image answer
 IsAnswerTo input (Run shape batch image workers) answer = IsSomeRun input shape batch image answer
+IsAnswerTo input (Drive batch port port_b source goes_on) answer =
+    (told : List ℕ) × (end : Printed) × (answer ≡ behind_told told end)
+    × IsSomeDrive input batch source (record { named = ports_named port_b; carried = None }) told end
 IsAnswerTo input C004 answer =
     (replies : List ℕ) × (end : Printed) × (answer ≡ behind_told replies end)
     × IsSomeC004 input replies end
@@ -159,8 +164,10 @@ abbrev pub IsTalk : Job → Type 0
 IsTalk (Talk rack) = ⊤
 IsTalk job = ⊥
 
--- what is told before there is an answer: to the session of `talk`, and what `c004` replies
+-- what is told before there is an answer: to the session of `talk`, of settings that stand, and what
+-- `c004` replies
 abbrev pub IsToldBy : Job → List ℕ → Type 0
+IsToldBy (Drive batch port port_b source goes_on) told = ⊤
 IsToldBy (Talk rack) told = ⊤
 IsToldBy C004 told = ⊤
 IsToldBy job told = told ≡ []

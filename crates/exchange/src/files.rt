@@ -3,11 +3,12 @@
 ghost use Rattle.std.specs.Prelude.{◌≡◌, ◌≢◌, ◌∷◌, [], IfOk, IfErr, Some, map, option_map};
 ghost use Rattle.plan_answers.specs.Lent.{bytes_of};
 ghost use Rattle.command_words.specs.Jobs.{NameInputOnce, input_name};
+ghost use Rattle.exchange.specs.Drives.{IsHeldSchedule};
 ghost use Rattle.exchange.specs.Files.{IsHeld, IsHeldImage, AreHeld};
 ghost use Rattle.exchange.specs.Outcomes.{IsMissed};
 
 use crate::notes::{Missed, unread};
-use command_words::Text;
+use command_words::{ScheduleSource, Text};
 use std::alloc::AllocError;
 use std::io::Read;
 use std::rt::Files;
@@ -27,6 +28,22 @@ pub(crate) fn read_image<R: AllocGlobal + Files, I: Read>(
     match name {
         Some(name) => Ok(Some(read_file(rt, name, input)?)),
         None => Ok(None),
+    }
+}
+
+/// What a schedule's file holds: nothing, where none has it.
+pub(crate) fn read_schedule<R: AllocGlobal + Files, I: Read>(
+    rt: &R,
+    source: &ScheduleSource,
+    input: &mut I,
+) -> Result<Vec<u8>, Missed>
+    ensures held { IfOk result (λ file.
+        IsHeldSchedule (I.remaining input.old) source.now file.items) }
+    ensures note { IfErr result (λ missed. IsMissed missed) }
+{
+    match source {
+        ScheduleSource::File(file) => read_file(rt, file, input),
+        _ => Ok(Vec::new(rt.alloc())),
     }
 }
 

@@ -15,12 +15,14 @@ ghost use Rattle.exchange.specs.Outcomes.{HasNote};
 
 use crate::beside::Beside;
 use crate::doors::{ClientFiles, FileDoors, System};
+use crate::driving::drive;
 use crate::files::{read_file, read_files, read_image, read_texts, slice_of};
 use crate::images::{ImageFile, open_image};
 use crate::notes::{
     Answered, Missed, alone, closed, named, named_image, of_list, of_rack, of_schedule,
     reason_line, tell_note, with_note,
 };
+use crate::ports::NamedPorts;
 use crate::unwritten::Unwritten;
 use client_session::{Listener, Unheard};
 use command_words::{Job, Planning, Request, ScheduleSource, SharedRack, Text, TextList};
@@ -43,9 +45,10 @@ use std::thread::Threads;
 use switch_end::{EndFault, SwitchEnd, attend};
 
 /// The answer to a job, or why it has none, with what is told beside it. A session of `talk` is
-/// told its replies on `out` before, and a line on `err` beside each that is a refusal, but for lack
-/// of memory. `c004` writes its answers to enquiries to `out` before, and tells on `err` what it drops.
-/// A file for the image that sessions leave is opened before any other is read.
+/// told its replies on `out` before, and a line on `err` beside each that is a refusal, but for
+/// lack of memory. `drive` tells its settings on `out` before, and `c004` writes its answers to
+/// enquiries there, and tells on `err` what it drops. A file for the image that sessions leave is
+/// opened before any other is read.
 pub(crate) fn answer_to<R: System, I: Read, O: Write, E: Write>(
     rt: &R,
     request: Request,
@@ -85,6 +88,16 @@ pub(crate) fn answer_to<R: System, I: Read, O: Write, E: Write>(
             image,
             workers,
         } => run(rt, &shape, &batch, &image, workers, input),
+        Job::Drive {
+            batch,
+            port,
+            port_b,
+            source,
+            goes_on,
+        } => {
+            let ports = NamedPorts::new(rt, &port, &port_b);
+            drive(rt, &batch, &source, goes_on, ports, input, out)
+        }
         Job::C004 if is_quiet => c004(rt.alloc(), input, out, &mut io::sink()),
         Job::C004 => c004(rt.alloc(), input, out, err),
         Job::Serve {

@@ -6,11 +6,13 @@
 
 mod beside;
 mod doors;
+mod driving;
 mod files;
 mod images;
 mod jobs;
 mod limits;
 mod notes;
+mod ports;
 mod responding;
 mod unanswered;
 mod unwritten;

@@ -10,6 +10,7 @@ use crate::unanswered::Unanswered;
 use crate::unwritten::Unwritten;
 use byte_streams::write_bytes;
 use command_words::{SharedRack, Text};
+use drive_answers::DriveFault;
 use module_memory::Rack;
 use plan_answers::Answer;
 use refusal_notes::{Listing, Named, Texts, file_line, second_line};
@@ -52,6 +53,19 @@ impl From<AllocError> for Missed {
         Missed::Refused {
             why: Unanswered::NoMemory,
             note: None,
+        }
+    }
+}
+
+impl From<DriveFault> for Missed {
+    ghost use Rattle.exchange.specs.Outcomes.{IsMissed};
+
+    ghost from_gives = { λ _ missed. IsMissed missed };
+
+    fn from(fault: DriveFault) -> Missed {
+        match fault {
+            DriveFault::Untold => Missed::Unwritten(Unwritten::Setting),
+            DriveFault::NoMemory => Missed::from(AllocError),
         }
     }
 }

@@ -9,6 +9,8 @@ use std::io::Write;
 pub(crate) enum Unwritten {
     /// The answer, or what a session or a switch is told before it.
     Answer(io::Error),
+    /// The line of a setting that stands.
+    Setting,
     /// The image that is left. This line says why, where there is memory for it.
     Image(Option<String>),
 }
@@ -26,6 +28,7 @@ impl Unwritten {
             Unwritten::Answer(error) => {
                 let _ = err.writeln(format_args!("exchange: the answer can't be written: {error}"));
             }
+            Unwritten::Setting => tell(b"exchange: a setting that stands can't be told\n", err),
             Unwritten::Image(Some(line)) => tell(line.as_str().as_bytes(), err),
             Unwritten::Image(None) => {}
         }

@@ -33,6 +33,10 @@ fn said_by(job: &Job) -> Said<'_> {
             source: ScheduleSource::Plan(workers),
             ..
         }
+        | Job::Drive {
+            source: ScheduleSource::Plan(workers),
+            ..
+        }
         | Job::Apply { workers, .. }
         | Job::Run { workers, .. }
         | Job::Serve { workers, .. }
@@ -44,8 +48,16 @@ fn said_by(job: &Job) -> Said<'_> {
         | Job::Switch {
             source: ScheduleSource::Steady,
             ..
+        }
+        | Job::Drive {
+            source: ScheduleSource::Steady,
+            ..
         } => Said::Steady,
         Job::Switch {
+            source: ScheduleSource::File(file),
+            ..
+        }
+        | Job::Drive {
             source: ScheduleSource::File(file),
             ..
         } => Said::File(file.as_str()),
@@ -91,6 +103,8 @@ fn words_name_workers(rt: HostRuntime) {
         ("exchange plan F --workers 007", Said::Workers(7)),
         ("exchange switch B", Said::Workers(1)),
         ("exchange switch B --workers 3", Said::Workers(3)),
+        ("exchange drive B P", Said::Workers(1)),
+        ("exchange drive B P Q --workers 3", Said::Workers(3)),
         ("exchange apply S B I --workers 9", Said::Workers(9)),
         ("exchange run S B", Said::Workers(1)),
         ("exchange run --workers 3 S B", Said::Workers(3)),
@@ -112,6 +126,9 @@ fn words_name_schedules(rt: HostRuntime) {
         ("exchange switch B --schedule S", Said::File("S")),
         ("exchange switch --schedule=S -", Said::File("S")),
         ("exchange switch B --schedule -", Said::File("-")),
+        ("exchange drive --steady B P", Said::Steady),
+        ("exchange drive B P Q --schedule S", Said::File("S")),
+        ("exchange drive B P --schedule - --go-on", Said::File("-")),
     ];
     assert!(rt; are_all_read_as(rt.alloc(), &rows));
 }
@@ -126,6 +143,11 @@ fn options_exclude_each_other(rt: HostRuntime) {
         "exchange switch B --workers 1 --schedule S",
         "exchange switch B --schedule S --steady",
         "exchange switch - --schedule -",
+        "exchange drive B P --steady --workers 1",
+        "exchange drive B P --schedule S --steady",
+        "exchange drive - P --schedule - --go-on",
+        "exchange drive - P",
+        "exchange drive B P --schedule -",
         "exchange serve S A --image-out A",
     ] {
         let said = Said::Refused(ErrorKind::ArgumentConflict);

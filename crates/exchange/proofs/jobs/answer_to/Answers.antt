@@ -1,5 +1,6 @@
 use Rattle.std.proofs.Common.{[], refl, inl}
 use Rattle.std.proofs.KnownBytes.{Appends-nil}
+use Rattle.exchange.proofs.Lines.{settings_told}
 use Rattle.exchange.proofs.Told.{left_behind, switched, talked, untold}
 use Rattle.exchange.proofs.jobs.answer_to.Goals as goal
 
@@ -23,6 +24,9 @@ returns-in-Apply g c = rw c.in-Apply.is (record { response = ([], Appends-nil _,
 
 pub returns-in-Run : goal.returns-in-Run
 returns-in-Run g c = rw c.in-Run.is (record { response = ([], Appends-nil _, refl, untold c.run.result _ c.run.ensures.answer, c.run.ensures.note); beside = inl refl })
+
+pub returns-in-Drive : goal.returns-in-Drive
+returns-in-Drive g c = rw c.in-Drive.is (record { response = settings_told c.drive.result _ _ _ _ _ _ _ _ _ c.new-ports.ensures c.drive.ensures.answer c.drive.ensures.note; beside = inl refl })
 
 pub returns-in-C004 : goal.returns-in-C004
 returns-in-C004 g c = rw c.in-C004.is (record { response = switched c.c004.result _ _ _ c.c004.ensures.answer c.c004.ensures.note; beside = inl refl })
