@@ -26,7 +26,7 @@ pub returns-in-Run : goal.returns-in-Run
 returns-in-Run g c = rw c.in-Run.is (record { response = ([], Appends-nil _, refl, untold c.run.result _ c.run.ensures.answer, c.run.ensures.note); beside = inl refl })
 
 pub returns-in-Drive : goal.returns-in-Drive
-returns-in-Drive g c = rw c.in-Drive.is (record { response = settings_told c.drive.result _ _ _ _ _ _ _ _ _ c.new-ports.ensures c.drive.ensures.answer c.drive.ensures.note; beside = inl refl })
+returns-in-Drive g c = rw c.in-Drive.is (record { response = settings_told c.drive.result _ _ c.in-Drive.port _ _ c.in-Drive.goes_on _ _ _ c.new-ports.ensures c.drive.ensures.answer c.drive.ensures.note; beside = inl refl })
 
 pub returns-in-C004 : goal.returns-in-C004
 returns-in-C004 g c = rw c.in-C004.is (record { response = switched c.c004.result _ _ _ c.c004.ensures.answer c.c004.ensures.note; beside = inl refl })
