@@ -1,5 +1,5 @@
 -- What the program prints for a job.
-use Rattle.std.specs.Prelude.{◌≡◌, ◌⊎◌, ◌<◌, ℕ, List, [], ◌++◌, Option, Some, None, IfSome, ⊤, true, length, slice_index_or}
+use Rattle.std.specs.Prelude.{◌≡◌, ◌⊎◌, ℕ, List, [], ◌++◌, Option, Some, None, ⊤, true, length, slice_index_or}
 use Rattle.std.specs.Io.KnownBytes.{Consumes, IsAtEnd}
 use Rattle.batch.specs.Extent.{widest}
 use Rattle.plan_answers.specs.Answers.{IsPlanned, IsSteadilyPlanned, IsChecked}
@@ -22,7 +22,6 @@ use Rattle.command_words.specs.declared.jobs.Job.TheVariants.{Plan, Check, Draw,
 use Rattle.command_words.specs.declared.jobs.Planning.TheVariants as planning
 use Rattle.command_words.specs.declared.jobs.ScheduleSource.TheVariants as source
 use Rattle.command_words.specs.declared.jobs.SharedRack.{SharedRack}
-use Rattle.command_words.specs.Jobs.{input_name}
 use Rattle.refusals.specs.declared.refusal.Refusal.{Refusal}
 use Rattle.refusals.specs.declared.refusal.Refusal.TheVariants as refusal
 use Rattle.refusals.specs.Refusals.{refusal_line}

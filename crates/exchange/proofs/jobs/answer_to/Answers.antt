@@ -38,4 +38,4 @@ pub returns-in_ok-file-in-Host-clause-response : goal.returns-in_ok-file-in-Host
 returns-in_ok-file-in-Host-clause-response g c = rw c.in-Host.is ([], Appends-nil _, refl, untold c.host.result _ (left_behind c.host.result _ _ c.host.ensures.answer), c.host.ensures.note)
 
 pub returns-in_ok-file-in-Talk-2-clause-response : goal.returns-in_ok-file-in-Talk-2-clause-response
-returns-in_ok-file-in-Talk-2-clause-response g c = rw c.in-Talk-2.is ?
+returns-in_ok-file-in-Talk-2-clause-response g c = rw c.in-Talk.is (talked c.talk-end.result _ c.in-Talk.rack _ _ _ c.talk-end.ensures.answer c.talk-end.ensures.note)

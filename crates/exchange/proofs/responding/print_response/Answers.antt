@@ -1,6 +1,8 @@
 use Rattle.std.proofs.Common.{Err, inl, inr, refl}
 use Rattle.std.proofs.KnownBytes.{Appends-nil}
 use Rattle.command_words.specs.declared.jobs.WordsFault.TheVariants as words_fault
+use Rattle.exchange.specs.Outcomes.{IsMissed}
+use Rattle.exchange.specs.declared.notes.Missed.TheVariants.{Refused}
 use Rattle.exchange.proofs.Told.{answered, asked, faulty, not_answered, wordless}
 use Rattle.exchange.proofs.responding.print_response.Goals as goal
 
@@ -11,7 +13,11 @@ returns-in-Ok-answer_to g c =
     (answered c.print_noted.result _ c.in-Ok.request t.0 c.in-Ok-answer_to.done _ _ _ _ _ _ t.1 t.2 t.3 t.4 c.in-Ok-answer_to.ensures.beside c.print_noted.ensures.printed c.print_noted.ensures.told)
 
 pub returns-in-Err-Refused : goal.returns-in-Err-Refused
-returns-in-Err-Refused g c = ?
+returns-in-Err-Refused g c =
+    let t = c.in-Err-Refused.ensures.response in
+    let note : IsMissed (Refused c.in-Err-Refused.why c.in-Err-Refused.note) = rw c.in-Err-Refused.field-0-is at t.4 in
+    asked c.refuse_noted.result _ _ c.in-Ok.request _ c.in-Ok.ensures.request
+    (not_answered c.refuse_noted.result _ c.in-Ok.request t.0 c.in-Err-Refused.why c.in-Err-Refused.note _ _ _ _ _ _ t.1 t.2 note c.in-Err-Refused.ensures.beside c.refuse_noted.ensures.printed c.refuse_noted.ensures.told)
 
 pub returns-in-Err-NoMemory : goal.returns-in-Err-NoMemory
 returns-in-Err-NoMemory g c = faulty c.refuse.result _ _ words_fault.NoMemory _ tt (wordless c.refuse.result (g.I.Read.remaining c.args.input.now) (g.O.Write.contents c.args.out.now) (g.O.Write.contents c.refuse.new.out) (g.E.Write.contents c.args.err.now) c.refuse.ensures)
