@@ -61,11 +61,8 @@ fn said_by(job: &Job) -> Said<'_> {
             source: ScheduleSource::File(file),
             ..
         } => Said::File(file.as_str()),
-        Job::Check { .. }
-        | Job::Draw { .. }
-        | Job::C004
-        | Job::Direct { .. }
-        | Job::Talk { .. } => Said::Nothing,
+        Job::Check { .. } | Job::Draw { .. } | Job::C004 | Job::Direct { .. } | Job::Talk { .. } =>
+            Said::Nothing,
     }
 }
 
