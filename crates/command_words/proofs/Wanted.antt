@@ -1,6 +1,6 @@
 -- What the rows have of a job that words hold.
 use Rattle.std.proofs.Common.{◌≡◌, ◌∙◌, ◌↔◌, ap, ap₂, sym, subst, List, [], ◌∷◌, Option, Some, None, Bool, true, false, IsTrue, codes, refl, Result, Ok, Err, IsErrAnd}
-use Rattle.std.specs.Prelude.{MatchOption, ◌++◌, find, option_and_then, option_to_list, unwrap_or}
+use Rattle.std.specs.Prelude.{IfSome, MatchOption, ◌++◌, find, option_and_then, option_to_list, unwrap_or}
 use Rattle.std.specs.Str.{bytes_eq}
 use Rattle.clap.specs.Words.{Row, Text, all_of, first_of}
 use Rattle.clap.specs.declared.parser.matches.ValueSource.{ValueSource}
@@ -13,7 +13,7 @@ use Rattle.command_words.specs.declared.jobs.Request.{Request}
 use Rattle.command_words.specs.declared.jobs.ScheduleSource.{ScheduleSource}
 use Rattle.command_words.specs.declared.jobs.ScheduleSource.TheVariants as source
 use Rattle.command_words.specs.Program.{word_of}
-use Rattle.command_words.specs.Jobs.{HasJob, HasSome, HasSource, IsApart, IsJob, IsRead, IsRequest, IsWithinLimits, HasWanted, AreClientNames, MayBeDone, NameInputOnce, clients_of, cue_files, files_of, input_name, name_of, output_of, schedule_files}
+use Rattle.command_words.specs.Jobs.{HasJob, HasSome, HasSource, IsApart, IsJob, IsRead, IsRequest, IsWithinLimits, HasWanted, AreClientNames, IsOfNone, MayBeDone, NameInputOnce, clients_of, cue_files, files_of, input_name, name_of, output_of, schedule_files}
 use Rattle.command_words.specs.declared.reading.Lack.{Lack}
 use Rattle.command_words.specs.declared.reading.Lack.TheVariants.{Memory}
 use Rattle.command_words.proofs.CommandNames.{same_word}
@@ -143,4 +143,5 @@ same_done (Some p) a b one other done =
     let output = output_is p.1 a.job one.job.1 ∙ ap (λ (n : CommandName). output_in n p.1) same ∙ sym (output_is p.1 b.job other.job.1) in
     let clients = clients_are p.1 a.job one.job.1 ∙ ap (λ (n : CommandName). clients_in n p.1) same ∙ sym (clients_are p.1 b.job other.job.1) in
     let out = subst (λ (o : Option Text). IsApart o (files_of b.job)) output (subst (IsApart (output_of a.job)) files done.output) in
-    record { input = subst NameInputOnce files done.input; output = out; clients = subst AreClientNames clients done.clients }
+    let kept = subst (λ (names : List Text). IfSome (output_of b.job) (IsOfNone names)) clients (subst (λ (o : Option Text). IfSome o (IsOfNone (clients_of a.job))) output done.client_files) in
+    record { input = subst NameInputOnce files done.input; output = out; client_files = kept; clients = subst AreClientNames clients done.clients }

@@ -219,6 +219,17 @@ abbrev pub clients_of : Job → List Text
 clients_of (Host rack clients workers) = clients
 clients_of job = []
 
+-- a file of this name is one of a client's: of what it says, or of what it is told
+abbrev pub IsFileOf : Text → Text → Type 0
+IsFileOf client file = (file ≡ client ++ codes ".in") ⊎ (file ≡ client ++ codes ".out")
+
+abbrev pub IsOfNone : List Text → Text → Type 0
+IsOfNone clients file = All (λ client. IsFileOf client file → ⊥) clients
+
+-- what a job writes goes to none of its clients' files
+abbrev pub KeepsClientFiles : Job → Type 0
+KeepsClientFiles job = IfSome (output_of job) (IsOfNone (clients_of job))
+
 -- the byte that ends a line
 abbrev pub line_feed : ℕ
 line_feed = 10
@@ -233,10 +244,11 @@ pub record AreClientNames (names : List Text) : Type 0 where
   pub apart : AllPairs (λ name later. name ≢ later) names
 
 -- a job may be done: one of its files at most is standard input, what it writes goes to no file that
--- it reads, and its clients can be told apart
+-- it reads, nor to one of a client's, and its clients can be told apart
 pub record MayBeDone (job : Job) : Type 0 where
   pub input : NameInputOnce (files_of job)
   pub output : KeepsInputs job
+  pub client_files : KeepsClientFiles job
   pub clients : AreClientNames (clients_of job)
 
 -- the words ask for this: they fit the grammar, and hold a job that may be done

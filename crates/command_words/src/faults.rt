@@ -54,11 +54,13 @@ pub(crate) fn named_twice(alloc: Global) -> WordsFault
     misused(alloc, ErrorKind::ArgumentConflict, message)
 }
 
-/// The fault of words whose image would be written over what is read, or to standard output.
+/// The fault of words whose image would be written over what is read, over a client's file, or to
+/// standard output.
 pub(crate) fn overwritten(alloc: Global) -> WordsFault
     ensures { IsMistake result }
 {
-    let message = "the file of `--image-out` can't be `-`, nor one that is read";
+    let message =
+        "the file of `--image-out` can't be `-`, nor one that is read, nor one of a client's";
     misused(alloc, ErrorKind::ArgumentConflict, message)
 }
 

@@ -407,8 +407,9 @@ what the exchange's history has of them, or that it began on another rack.
 
 With --image-out the words of the rack when all sessions have ended are written
 to FILE, in the form that `exchange apply --help` shows. It is opened before the
-first session, made where it isn't there, and emptied only then. It can't be `-`
-or a file that is read. Nothing is written where the logs disagree.
+first session, made where it isn't there, and emptied only then. It can't be
+`-`, nor one that is read, nor one of a client's. Nothing is written where the
+logs disagree.
 
 Else nothing is served, and the answer is the first of these that is wrong:
   refused file               the image or a SCRIPT can't be read, or the FILE of

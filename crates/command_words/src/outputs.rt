@@ -1,7 +1,7 @@
 //! The file to which an image goes.
 
 ghost use Rattle.std.specs.Prelude.{◌≢◌, ◌↔◌, ◌++◌, All, IsTrue, option_to_list};
-ghost use Rattle.command_words.specs.Jobs.{IsApart, IsOther, KeepsInputs};
+ghost use Rattle.command_words.specs.Jobs.{IsApart, IsFileOf, IsOfNone, IsOther, KeepsClientFiles, KeepsInputs};
 
 use crate::clients::is_none_of;
 use crate::jobs::{Job, SharedRack};
@@ -46,6 +46,45 @@ pub(crate) fn keeps_inputs(job: &Job) -> bool
         Job::Serve { rack, scripts, .. } => is_apart(rack, scripts.as_slice()),
         Job::Host { rack, .. } => is_apart(rack, &[]),
         Job::Talk { rack } => is_apart(rack, &[]),
+        _ => true,
+    }
+}
+
+/// Whether a file of this name is one of a client's: of what it says, or of what it is told.
+fn is_file_of(client: &Text, file: &Text) -> bool
+    ensures { IsTrue result ↔ IsFileOf client.now file.now }
+{
+    match file.as_str().strip_prefix(client.as_str()) {
+        Some(ending) => ending == ".in" || ending == ".out",
+        None => false,
+    }
+}
+
+/// Whether a file of this name is none of these clients'.
+fn is_of_none(clients: &[Text], file: &Text) -> bool
+    ensures { IsTrue result ↔ IsOfNone clients.now file.now }
+{
+    for client in clients {
+        if is_file_of(client, file) {
+            return false;
+        }
+    }
+    true
+}
+
+/// Whether the image that a job leaves goes to none of its clients' files.
+pub(crate) fn keeps_client_files(job: &Job) -> bool
+    ensures { IsTrue result ↔ KeepsClientFiles job.now }
+{
+    match job {
+        Job::Host {
+            rack: SharedRack {
+                image_out: Some(out),
+                ..
+            },
+            clients,
+            ..
+        } => is_of_none(clients.as_slice(), out),
         _ => true,
     }
 }

@@ -14,7 +14,7 @@ use crate::grammar::matches_of;
 use crate::input::reads_input_once;
 use crate::jobs::{Job, Planning, Request, ScheduleSource, SharedRack, WordsFault};
 use crate::limits::MAX_CLIENTS;
-use crate::outputs::keeps_inputs;
+use crate::outputs::{keeps_client_files, keeps_inputs};
 use crate::text::Text;
 use crate::text_list::TextList;
 use clap::ArgMatches;
@@ -311,8 +311,9 @@ fn request_named(alloc: Global, words: &[String]) -> Result<Request, WordsFault>
     }
 }
 
-/// Whether a job may be done: its fault, where several of its files are standard input, or an image would
-/// go to a file that is read, or to standard output, or its clients can't be told apart.
+/// Whether a job may be done: its fault, where several of its files are standard input, or an image
+/// would go to a file that is read or a client's, or to standard output, or its clients can't be
+/// told apart.
 fn judged(alloc: Global, job: &Job) -> Result<(), WordsFault>
     ensures done { OnOk result (MayBeDone job.now) }
     ensures refused { OnErr result (MayBeDone job.now → ⊥) }
@@ -321,7 +322,7 @@ fn judged(alloc: Global, job: &Job) -> Result<(), WordsFault>
     if !reads_input_once(job) {
         return Err(named_twice(alloc));
     }
-    if !keeps_inputs(job) {
+    if !keeps_inputs(job) || !keeps_client_files(job) {
         return Err(overwritten(alloc));
     }
     if !names_clients(job) {
@@ -336,9 +337,9 @@ fn judged(alloc: Global, job: &Job) -> Result<(), WordsFault>
 /// and its number of workers, and whether it is quiet. Other words are clap's error of what is at
 /// fault in them, which holds the text to print; a demand for help or for the program's version is
 /// one. So are words that fit, but give two of `--workers`, `--steady` and `--schedule`, or name a
-/// job of which several files are `-`, standard input, or an image that would go to one of its files or
-/// to `-`, or clients whose names are no names. Where there was no memory, nothing is said about the
-/// words: clap's error of that kind is [`WordsFault::NoMemory`], too.
+/// job of which several files are `-`, standard input, or an image that would go to one of its files,
+/// to a client's or to `-`, or clients whose names are no names. Where there was no memory, nothing is
+/// said about the words: clap's error of that kind is [`WordsFault::NoMemory`], too.
 pub fn read_words(alloc: Global, words: &[String]) -> Result<Request, WordsFault>
     ensures request { IfOk result (AskFor (texts_of words.now)) }
     ensures limits { IfOk result (λ request. IsWithinLimits request.job) }
