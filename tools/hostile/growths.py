@@ -82,7 +82,7 @@ FILES = {
 INPUT = "three"
 
 COMMANDS = [
-    # `read_words`, `Batch::read` and `copy`, `LinkGraph::of` and `transfers_of`, `Table::one_with_room`, `join` and `into_schedule`,
+    # `read_arguments`, `Batch::read` and `copy`, `LinkGraph::of` and `transfers_of`, `Table::one_with_room`, `join` and `into_schedule`,
     # `schedule`, `Schedule::write` and `answer_plan`. Three settings take `Table::take_back` too.
     ["plan", "three"], ["plan", "three", "--workers", "2"], ["plan", "nine"], ["plan", "nine", "--workers", "2"],
     ["plan", "wrong"], ["plan", "missing"], ["plan", "-"],

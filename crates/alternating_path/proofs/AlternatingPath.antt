@@ -1,20 +1,23 @@
 -- Colouring one more edge of a bipartite graph along an alternating path (König 1916).
 --
--- The edge t has no colour; c is free at one of its ends, d at the other. If t takes c, an edge of colour c may be in the way at the other end; that edge
--- takes d, an edge of colour d may be in the way at its other end, and so on. These edges form a path whose colours alternate. At each time one edge of
--- the path, in hand, has no colour; so the colouring is proper throughout. The path ends, since it meets no edge twice: the next edge still has its first colour.
+-- The edge t has no colour; c is free at one of its ends, d at the other. If t takes c, an edge of
+-- colour c may be in the way at the other end; that edge takes d, an edge of colour d may be in the
+-- way at its other end, and so on. These edges form a path whose colours alternate. At each time
+-- one edge of the path, in hand, has no colour; so the colouring is proper throughout. The path
+-- ends, since it meets no edge twice: the next edge still has its first colour.
 use Rattle.std.proofs.Common.{◌≡◌, ◌≢◌, ℕ, ◌<◌, ◌≤◌, ◌⊎◌, ◌↔◌, inl, inr, List, length, set, Option, Some, None, IsSome, false, refl, sym, ap, ◌∙◌, subst, arith, get_or-set_same, get_or-set_other, length-set, eq-eqb}
 use Rattle.std.proofs.lemmas.Bool.Decides.{eqb_tells}
 use Rattle.batch.specs.declared.transfer.Transfer.{Transfer}
 use Rattle.link_graph.specs.declared.link.End.{End}
 use Rattle.alternating_path.specs.Ends.{link_at}
-use Rattle.alternating_path.specs.Colouring.{colour_at, IsProper, IsFree, IsPlaced, PlacesJust}
+use Rattle.alternating_path.specs.Colouring.{colour_at, IsProper, IsFree, HasColour, PlacesJust}
 use Rattle.alternating_path.proofs.Links.{not_free, free_from, same_transfer}
 use Rattle.alternating_path.proofs.Writes.{at_written, after_take, after_put, some_within, differs}
 use Rattle.alternating_path.proofs.Agreement.{is_same, agreeing, agreeing-set_lt, agreeing-set_le}
 
--- The colouring is f₀ at first and f now. The edge in hand has no colour; it is to take c, which is free at its end o and may be taken at its end e, where d is free.
--- An edge that has c or d now had the same or the other of the two at first, or is t.
+-- The colouring is f₀ at first and f now. The edge in hand has no colour; it is to take c, which is
+-- free at its end o and may be taken at its end e, where d is free. An edge that has c or d now had
+-- the same or the other of the two at first, or is t.
 pub record IsOnPath (g : List Transfer) (k : ℕ) (f₀ : List (Option ℕ)) (t : ℕ) (f : List (Option ℕ)) (hand : ℕ) (e o : End) (c d : ℕ) : Type 0 where
   pub proper : IsProper g k f
   pub known : hand < length g
@@ -24,7 +27,7 @@ pub record IsOnPath (g : List Transfer) (k : ℕ) (f₀ : List (Option ℕ)) (t 
   pub last : ((hand ≡ t) × IsFree g f₀ (link_at g t e) d) ⊎ (colour_at f₀ hand ≡ Some d)
   pub of_c : (u : ℕ) → u ≢ hand → colour_at f u ≡ Some c → (colour_at f₀ u ≡ Some c) ⊎ ((colour_at f₀ u ≡ Some d) ⊎ ((u ≡ t) × IsFree g f₀ (link_at g t e) d))
   pub of_d : (u : ℕ) → u ≢ hand → colour_at f u ≡ Some d → (colour_at f₀ u ≡ Some d) ⊎ ((colour_at f₀ u ≡ Some c) ⊎ ((u ≡ t) × IsFree g f₀ (link_at g t o) c))
-  pub placed : (u : ℕ) → u ≢ hand → IsPlaced f u ↔ (IsPlaced f₀ u ⊎ (u ≡ t))
+  pub placed : (u : ℕ) → u ≢ hand → HasColour f u ↔ (HasColour f₀ u ⊎ (u ≡ t))
 
 -- ---- what happens at one link
 

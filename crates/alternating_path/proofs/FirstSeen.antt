@@ -11,7 +11,7 @@ use Rattle.batch.specs.declared.transfer.Transfer.{Transfer}
 use Rattle.batch.proofs.Lists.{one, one_same, one_other, times_into, times_alone}
 use Rattle.link_graph.specs.Uses.{IsMatching}
 use Rattle.link_graph.specs.Schedules.{times, IsScheduleOf}
-use Rattle.alternating_path.specs.Colouring.{colour_at, IsPlaced, IsProper}
+use Rattle.alternating_path.specs.Colouring.{colour_at, HasColour, IsProper}
 use Rattle.alternating_path.specs.Classes.{IsClassOf, AreClassesOf}
 use Rattle.alternating_path.proofs.Writes.{some_within}
 
@@ -35,7 +35,7 @@ pub record Partial (f : List (Option ℕ)) (n : ℕ) (setting_of : List (Option 
   pub owner : (k : ℕ) → k < length settings → (c : ℕ) × (get_or setting_of c None ≡ Some k)
   pub seen : (u c : ℕ) → u < n → colour_at f u ≡ Some c → IsSome (get_or setting_of c None)
   pub count : length settings ≡ count_by (λ o. is_some o) setting_of
-  pub once : (u : ℕ) → u < n → IsPlaced f u → times u settings ≡ 1
+  pub once : (u : ℕ) → u < n → HasColour f u → times u settings ≡ 1
   pub not_yet : (u : ℕ) → n ≤ u → times u settings ≡ 0
   pub none_empty : All (λ s. 0 < length s) settings
   pub ascending : All (AllPairs (λ t u. t < u)) settings
@@ -76,7 +76,7 @@ passed_over f n setting_of settings p out =
 
 module _ (f : List (Option ℕ)) (n c : ℕ) (setting_of : List (Option ℕ)) (settings : List (List ℕ)) (p : Partial f n setting_of settings) (is : colour_at f n ≡ Some c) where
   -- what holds of u, and how often it stands, once n stands too
-  once_more : (new : List (List ℕ)) → ((u : ℕ) → times u new ≡ times u settings + one u n) → (u : ℕ) → u < n + 1 → IsPlaced f u → times u new ≡ 1
+  once_more : (new : List (List ℕ)) → ((u : ℕ) → times u new ≡ times u settings + one u n) → (u : ℕ) → u < n + 1 → HasColour f u → times u new ≡ 1
   once_more new more u lt placed = elim (cases_eq u n) [
     | inl same ↦ omega (arith, more u, one_same u n same, p.not_yet u (omega arith))
     | inr other ↦ omega (arith, more u, one_other u n other, p.once u (omega arith) placed)
@@ -273,7 +273,7 @@ module _ (f : List (Option ℕ)) (setting_of : List (Option ℕ)) (settings : Li
 
 -- ---- where all transfers are placed, the classes are a schedule
 
-pub is_schedule : (batch : List Transfer) (k : ℕ) (f : List (Option ℕ)) (settings : List (List ℕ)) → IsProper batch k f → AreClassesOf f settings → ((t : ℕ) → IsPlaced f t → times t settings ≡ 1) → ((t : ℕ) → t < length batch → IsPlaced f t) → IsScheduleOf batch settings
+pub is_schedule : (batch : List Transfer) (k : ℕ) (f : List (Option ℕ)) (settings : List (List ℕ)) → IsProper batch k f → AreClassesOf f settings → ((t : ℕ) → HasColour f t → times t settings ≡ 1) → ((t : ℕ) → t < length batch → HasColour f t) → IsScheduleOf batch settings
 is_schedule batch k f settings proper classes once all = record {
   matchings = All-from_get_or (IsMatching batch) settings [] (λ i i_in.
       let class = All-get_or (IsClassOf f) settings i [] i_in classes.classes in

@@ -15,7 +15,7 @@ use Rattle.link_graph.specs.declared.link.End.TheVariants.{Zero, Three}
 use Rattle.link_graph.specs.declared.link.Link.{Link}
 use Rattle.link_graph.specs.Uses.{Uses}
 use Rattle.batch.specs.Overlap.{transfer_at, no_transfer}
-use Rattle.alternating_path.specs.Ends.{link_at, link_of}
+use Rattle.alternating_path.specs.Ends.{link_at, end_link}
 use Rattle.alternating_path.specs.Colouring.{colour_at}
 use Rattle.link_graph.specs.Counts.{count_below, module_at, uses}
 use Rattle.alternating_path.specs.Counts.{uses_link, placed_uses}
@@ -105,7 +105,8 @@ abbrev among : ℕ → Option ℕ → Bool
 among m None = false
 among m (Some t) = ltb t m
 
--- p and q are each other's inverse, from the numbers below n to those below k: as many have one as the other
+-- p and q are each other's inverse, from the numbers below n to those below k: as many have one as
+-- the other
 module _ (n k : ℕ) (p q : ℕ → Option ℕ) (there : (t c : ℕ) → t < n → p t ≡ Some c → (c < k) × (q c ≡ Some t)) (back : (c t : ℕ) → c < k → q c ≡ Some t → (t < n) × (p t ≡ Some c)) where
   among-same : (m : ℕ) (o : Option ℕ) → o ≢ Some m → among m o ≡ among (suc m) o
   among-same m None ne = refl
@@ -139,7 +140,7 @@ cond_none false o c h = absurd (none-some c h)
 unfoldable colour_if : Bool → Option ℕ → Option ℕ
 colour_if b o = cond b o None
 
-end_yes : (x : Transfer) (e : End) → (module_at e x == (link_of x e).«module») ≡ true
+end_yes : (x : Transfer) (e : End) → (module_at e x == (end_link x e).«module») ≡ true
 end_yes x Zero = eq-eqb x.initiator x.initiator refl
 end_yes x Three = eq-eqb x.responder x.responder refl
 
@@ -152,7 +153,7 @@ uses-own g t Three = end_yes (transfer_at g t) Three
 pub uses_yes : (g : List Transfer) (t : ℕ) (link : Link) → Uses g t link → uses_link g link t ≡ true
 uses_yes g t link uses = subst (λ (l : Link). uses_link g l t ≡ true) (sym (uses_at g t link uses)) (uses-own g t link.end)
 
-end_place : (x y : Transfer) (e : End) → (module_at e x == (link_of y e).«module») ≡ true → link_of x e ≡ link_of y e
+end_place : (x y : Transfer) (e : End) → (module_at e x == (end_link y e).«module») ≡ true → end_link x e ≡ end_link y e
 end_place x y Zero h = ap (λ (m : ℕ). let l : Link = record { end = Zero; «module» = m } in l) (eqb-true _ _ h)
 end_place x y Three h = ap (λ (m : ℕ). let l : Link = record { end = Three; «module» = m } in l) (eqb-true _ _ h)
 

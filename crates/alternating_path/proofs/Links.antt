@@ -15,7 +15,7 @@ use Rattle.link_graph.specs.Links.{link_index}
 use Rattle.link_graph.specs.Uses.{Uses, start_link, answer_link}
 use Rattle.link_graph.specs.Links.{other_end}
 use Rattle.batch.specs.Overlap.{no_transfer, transfer_at}
-use Rattle.alternating_path.specs.Ends.{link_of, link_at}
+use Rattle.alternating_path.specs.Ends.{end_link, link_at}
 use Rattle.alternating_path.specs.Colouring.{colour_at, IsProper, IsFree}
 use Rattle.alternating_path.specs.Cells.{place_at}
 use Rattle.alternating_path.proofs.Writes.{some_within}
@@ -27,11 +27,11 @@ other-other Three = refl
 zero_three : (a b : End) → a ≡ Zero → b ≡ Three → a ≡ b → ⊥
 zero_three a b p q e = cc
 
-end-link_of : (x : Transfer) (e : End) → (link_of x e).end ≡ e
+end-link_of : (x : Transfer) (e : End) → (end_link x e).end ≡ e
 end-link_of x Zero = refl
 end-link_of x Three = refl
 
-of_end : (x : Transfer) (link : Link) (e : End) → link.end ≡ e → (link ≡ start_link x) ⊎ (link ≡ answer_link x) → link ≡ link_of x e
+of_end : (x : Transfer) (link : Link) (e : End) → link.end ≡ e → (link ≡ start_link x) ⊎ (link ≡ answer_link x) → link ≡ end_link x e
 of_end x link Zero is (inl p) = p
 of_end x link Zero is (inr p) = absurd (zero_three link.end (answer_link x).end is refl (ap (λ (l : Link). l.end) p))
 of_end x link Three is (inl p) = absurd (zero_three (start_link x).end link.end refl is (sym (ap (λ (l : Link). l.end) p)))

@@ -15,7 +15,7 @@ use Rattle.link_graph.specs.Counts.{count_below, module_at}
 use Rattle.alternating_path.specs.Colouring.{colour_at}
 use Rattle.alternating_path.specs.Counts.{uses_link, placed_uses}
 use Rattle.alternating_path.specs.Laws.{CountsPlacedUsers}
-use Rattle.alternating_path.specs.Ends.{link_at, link_of}
+use Rattle.alternating_path.specs.Ends.{link_at, end_link}
 use Rattle.alternating_path.proofs.Held.{and_true, uses_yes}
 use Rattle.alternating_path.proofs.Links.{uses_within, uses-link_at}
 
@@ -77,7 +77,7 @@ passing_all (suc n) test = elim (cases_Bool (test n)) [
 
 -- ---- the placed transfers that use a link
 
-link_of_module : (x : Transfer) (e : End) (m : ℕ) → module_at e x ≡ m → let link : Link = record { end = e; «module» = m } in link_of x e ≡ link
+link_of_module : (x : Transfer) (e : End) (m : ℕ) → module_at e x ≡ m → let link : Link = record { end = e; «module» = m } in end_link x e ≡ link
 link_of_module x Zero m is = ap (λ (k : ℕ). let l : Link = record { end = Zero; «module» = k } in l) is
 link_of_module x Three m is = ap (λ (k : ℕ). let l : Link = record { end = Three; «module» = k } in l) is
 

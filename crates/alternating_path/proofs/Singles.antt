@@ -9,7 +9,7 @@ use Rattle.batch.specs.declared.transfer.Transfer.{Transfer}
 use Rattle.link_graph.specs.declared.link.End.{End}
 use Rattle.link_graph.specs.Certificates.{AreDistinct}
 use Rattle.alternating_path.specs.Ends.{link_at}
-use Rattle.alternating_path.specs.Colouring.{Colouring, colour_at, IsPlaced, nothing_placed, IsProper, IsFree}
+use Rattle.alternating_path.specs.Colouring.{Colouring, colour_at, HasColour, nothing_placed, IsProper, IsFree}
 use Rattle.alternating_path.proofs.Writes.{at_written}
 use Rattle.alternating_path.proofs.Shown.{nothing_at}
 
@@ -19,7 +19,7 @@ pub record HoldsJust (g : List Transfer) (k : ℕ) (members : List ℕ) (n : ℕ
   pub colours : s.colours ≡ k
   pub inserted : s.inserted ≡ 0
   pub proper : IsProper s.batch s.colours s.colour
-  pub placed : (t : ℕ) → IsPlaced s.colour t ↔ Contains (take n members) t
+  pub placed : (t : ℕ) → HasColour s.colour t ↔ Contains (take n members) t
 
 pub none_held : (g : List Transfer) (k : ℕ) (members : List ℕ) → HoldsJust g k members 0 (nothing_placed g k)
 none_held g k members = record {
@@ -47,7 +47,7 @@ module _ (g : List Transfer) (k : ℕ) (members : List ℕ) (n : ℕ) (s : Colou
   t_in = known n 0 n_in
 
   -- where a placed transfer stands among the members
-  place_of : (u : ℕ) → IsPlaced s.colour u → (i : ℕ) × (i < n) × (get_or members i 0 ≡ u)
+  place_of : (u : ℕ) → HasColour s.colour u → (i : ℕ) × (i < n) × (get_or members i 0 ≡ u)
   place_of u some =
       let stands = (held.placed u).0 some in
       let i : ℕ = stands.0 in
@@ -57,13 +57,13 @@ module _ (g : List Transfer) (k : ℕ) (members : List ℕ) (n : ℕ) (s : Colou
   t_len : t < length s.colour
   t_len = rw (held.proper.sized, held.batch) t_in
 
-  placed_now : (c u : ℕ) → (u ≡ t) ⊎ IsPlaced s.colour u → IsPlaced (set s.colour t (Some c)) u
+  placed_now : (c u : ℕ) → (u ≡ t) ⊎ HasColour s.colour u → HasColour (set s.colour t (Some c)) u
   placed_now c u which = elim (at_written s.colour t u (Some c) t_len) [
     | inl here ↦ subst IsSome (sym here.1) refl
     | inr other ↦ elim which [ inl same ↦ absurd (other.0 same) | inr old ↦ subst IsSome (sym other.1) old ]
   ]
 
-  now_placed : (c u : ℕ) → IsPlaced (set s.colour t (Some c)) u → (u ≡ t) ⊎ IsPlaced s.colour u
+  now_placed : (c u : ℕ) → HasColour (set s.colour t (Some c)) u → (u ≡ t) ⊎ HasColour s.colour u
   now_placed c u some = elim (at_written s.colour t u (Some c) t_len) [
     | inl here ↦ inl here.0
     | inr other ↦ inr (subst IsSome other.1 some)
@@ -78,11 +78,11 @@ module _ (g : List Transfer) (k : ℕ) (members : List ℕ) (n : ℕ) (s : Colou
         inserted = ap (λ (x : Colouring). x.inserted) is ∙ held.inserted;
         proper = proper;
         placed = λ u. (
-          λ some. rw (take_more members n 0 n_in) (elim (now_placed c u (subst (λ (f : List (Option ℕ)). IsPlaced f u) colour some)) [
+          λ some. rw (take_more members n 0 n_in) (elim (now_placed c u (subst (λ (f : List (Option ℕ)). HasColour f u) colour some)) [
             | inl same ↦ subst (λ (v : ℕ). Contains (take n members ++ t ∷ []) v) (sym same) (Contains-push (take n members) t)
             | inr old ↦ Contains-append_left (take n members) (t ∷ []) u ((held.placed u).0 old)
           ]),
-          λ stands. subst (λ (f : List (Option ℕ)). IsPlaced f u) (sym colour) (placed_now c u (elim (Contains-push_cases (take n members) t u (rw (take_more members n 0 n_in) at stands)) [ inl before ↦ inr ((held.placed u).1 before) | inr same ↦ inl (sym same) ])),
+          λ stands. subst (λ (f : List (Option ℕ)). HasColour f u) (sym colour) (placed_now c u (elim (Contains-push_cases (take n members) t u (rw (take_more members n 0 n_in) at stands)) [ inl before ↦ inr ((held.placed u).1 before) | inr same ↦ inl (sym same) ])),
         );
       }
 

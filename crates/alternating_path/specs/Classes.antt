@@ -3,7 +3,7 @@ use Rattle.std.specs.Prelude.{◌≡◌, ◌↔◌, ℕ, ◌-◌, ◌*◌, ◌<�
 use Rattle.link_graph.specs.Certificates.{AreDistinct}
 use Rattle.link_graph.specs.Counts.{count_below}
 use Rattle.link_graph.specs.Schedules.{times, IsScheduleOf}
-use Rattle.alternating_path.specs.Colouring.{Colouring, colour_at, IsPlaced, AllPlaced}
+use Rattle.alternating_path.specs.Colouring.{Colouring, colour_at, HasColour, AllPlaced}
 
 -- settings, and how many insertions the table that they come from counted
 pub record ColouredSettings : Type 0 where
@@ -26,7 +26,7 @@ pub record AreClassesOf (colour : List (Option ℕ)) (settings : List (List ℕ)
 
 -- each placed transfer stands once in the settings
 abbrev pub EachStandsOnce : List (Option ℕ) → List (List ℕ) → Type 0
-EachStandsOnce colour settings = (t : ℕ) → IsPlaced colour t → times t settings ≡ 1
+EachStandsOnce colour settings = (t : ℕ) → HasColour colour t → times t settings ≡ 1
 
 -- where all transfers are placed, the settings are a schedule of the batch
 abbrev pub ScheduleIfAll : Colouring → List (List ℕ) → Type 0

@@ -23,12 +23,12 @@ abbrev pub colour_at : List (Option ℕ) → ℕ → Option ℕ
 colour_at colour t = slice_index_or colour t None
 
 -- the transfer has a colour
-abbrev pub IsPlaced : List (Option ℕ) → ℕ → Type 0
-IsPlaced colour t = IsSome (colour_at colour t)
+abbrev pub HasColour : List (Option ℕ) → ℕ → Type 0
+HasColour colour t = IsSome (colour_at colour t)
 
 -- every transfer of the batch has a colour
 abbrev pub AllPlaced : Colouring → Type 0
-AllPlaced s = (t : ℕ) → t < length s.batch → IsPlaced s.colour t
+AllPlaced s = (t : ℕ) → t < length s.batch → HasColour s.colour t
 
 -- no transfer of the batch is placed
 abbrev pub nothing_placed : List Transfer → ℕ → Colouring
@@ -72,15 +72,15 @@ with_colour s t c = record s { colour = set s.colour t c }
 
 -- just the transfers of the list are placed
 abbrev pub PlacesOnly : List (Option ℕ) → List ℕ → Type 0
-PlacesOnly colour list = (t : ℕ) → IsPlaced colour t ↔ Contains list t
+PlacesOnly colour list = (t : ℕ) → HasColour colour t ↔ Contains list t
 
 -- the transfers placed now are those placed before and t
 pub record PlacesJust (old new : List (Option ℕ)) (t : ℕ) : Type 0 where
-  pub placed : (u : ℕ) → IsPlaced new u ↔ (IsPlaced old u ⊎ (u ≡ t))
+  pub placed : (u : ℕ) → HasColour new u ↔ (HasColour old u ⊎ (u ≡ t))
 
 -- no transfer is placed in both
 abbrev pub ArePlacedApart : List (Option ℕ) → List (Option ℕ) → Type 0
-ArePlacedApart left right = (t : ℕ) → IsPlaced left t → IsPlaced right t → ⊥
+ArePlacedApart left right = (t : ℕ) → HasColour left t → HasColour right t → ⊥
 
 -- a transfer's colour where the colours of another table stand behind the k of this one
 abbrev pub joined_colour : ℕ → Option ℕ → Option ℕ → Option ℕ
@@ -101,8 +101,8 @@ pub record IsJoined (left right table : Colouring) : Type 0 where
       ≡ joined_colour left.colours (colour_at left.colour t) (colour_at right.colour t)
   pub inserted : table.inserted ≡ counted (left.inserted + right.inserted)
 
--- the table with one colour more, behind the others: each placed transfer keeps its colour, just those
--- of the class have the new one, and no other is placed
+-- the table with one colour more, behind the others: each placed transfer keeps its colour, just
+-- those of the class have the new one, and no other is placed
 pub record HasClassMore (old : Colouring) (class : List ℕ) (new : Colouring) : Type 0 where
   pub batch : new.batch ≡ old.batch
   pub colours : new.colours ≡ old.colours + 1

@@ -7,7 +7,7 @@ use Rattle.link_graph.specs.Uses.{Uses}
 use Rattle.link_graph.specs.Counts.{count_below, module_at}
 use Rattle.batch.specs.Overlap.{transfer_at}
 use Rattle.alternating_path.specs.Ends.{link_at}
-use Rattle.alternating_path.specs.Colouring.{Colouring, colour_at, IsPlaced}
+use Rattle.alternating_path.specs.Colouring.{Colouring, colour_at, HasColour}
 
 -- whether transfer t uses the link
 unfoldable pub uses_link : List Transfer → Link → ℕ → Bool
@@ -38,4 +38,4 @@ IsShutOut s t = (colour_at s.colour t ≡ None) × HasFullLink s t
 pub record ArePlacedUsers (batch : List Transfer) (colour : List (Option ℕ)) (link : Link)
     (users : List ℕ) : Type 0 where
   pub ascending : AllPairs (λ t u. t < u) users
-  pub just : (t : ℕ) → Contains users t ↔ (Uses batch t link × IsPlaced colour t)
+  pub just : (t : ℕ) → Contains users t ↔ (Uses batch t link × HasColour colour t)

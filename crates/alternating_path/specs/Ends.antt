@@ -8,10 +8,10 @@ use Rattle.link_graph.specs.declared.link.Link.{Link}
 use Rattle.link_graph.specs.Uses.{start_link, answer_link}
 
 -- the link of a transfer at an end
-abbrev pub link_of : Transfer → End → Link
-link_of x Zero = start_link x
-link_of x Three = answer_link x
+abbrev pub end_link : Transfer → End → Link
+end_link x Zero = start_link x
+end_link x Three = answer_link x
 
 -- the link that transfer t uses at an end
 unfoldable pub link_at : List Transfer → ℕ → End → Link
-link_at batch t end = link_of (transfer_at batch t) end
+link_at batch t end = end_link (transfer_at batch t) end

@@ -5,7 +5,7 @@ ghost use Rattle.batch.specs.Batches.{IsBatch};
 ghost use Rattle.link_graph.specs.declared.link.End.TheVariants.{Zero, Three};
 ghost use Rattle.link_graph.specs.Certificates.{AreDistinct};
 ghost use Rattle.link_graph.specs.Uses.{Uses, IsMatching};
-ghost use Rattle.alternating_path.specs.Colouring.{colour_at, IsPlaced, nothing_placed, IsProperTable, IsFreeAt, TakesAt, with_colour, PlacesOnly, PlacesJust, ArePlacedApart, counted, IsJoined, HasClassMore};
+ghost use Rattle.alternating_path.specs.Colouring.{colour_at, HasColour, nothing_placed, IsProperTable, IsFreeAt, TakesAt, with_colour, PlacesOnly, PlacesJust, ArePlacedApart, counted, IsJoined, HasClassMore};
 ghost use Rattle.alternating_path.specs.Classes.{AreClassesOf, ScheduleIfAll, class_size, IsSmallestClass, IsTakenBack};
 ghost use Rattle.alternating_path.specs.Counts.{placed_uses_at, IsShutOut};
 ghost use Rattle.alternating_path.specs.Cells.{place_at, StartBelow, AreStarts};
@@ -69,8 +69,8 @@ impl<'a> Table<'a> {
         }
     }
 
-    /// A table with one colour, in which just the members are placed: distinct numbers of transfers of
-    /// which no two use a common link.
+    /// A table with one colour, in which just the members are placed: distinct numbers of transfers
+    /// of which no two use a common link.
     ///
     /// Takes time that grows with the number of members.
     pub fn one(
@@ -109,12 +109,12 @@ impl<'a> Table<'a> {
         Table::empty(graph, 0, cells).with_class(members)
     }
 
-    /// The table with one colour more, behind the others, that just the members have: distinct numbers
-    /// of transfers that aren't placed yet, of which no two use a common link. The table is dropped also
-    /// where there is no memory.
+    /// The table with one colour more, behind the others, that just the members have: distinct
+    /// numbers of transfers that aren't placed yet, of which no two use a common link. The table is
+    /// dropped also where there is no memory.
     ///
-    /// Takes time that grows with the number of members, where the table has room for the colour; else
-    /// also with the number of colours.
+    /// Takes time that grows with the number of members, where the table has room for the colour;
+    /// else also with the number of colours.
     pub fn with_class(self, members: &[usize]) -> Result<Table<'a>, AllocError>
         requires known { All (λ t. t < length self.batch) members.now }
         requires matching { IsMatching self.batch members.now }
@@ -182,9 +182,9 @@ impl<'a> Table<'a> {
         Ok(table)
     }
 
-    /// The two tables in one: the colours of the left table, and behind them those of the right one.
-    /// Both are of one graph, and no transfer is placed in both. They are dropped also where there is
-    /// no memory.
+    /// The two tables in one: the colours of the left table, and behind them those of the right
+    /// one. Both are of one graph, and no transfer is placed in both. They are dropped also where
+    /// there is no memory.
     ///
     /// Takes time that grows with the number of colours.
     pub fn join(left: Table<'a>, right: Table<'a>) -> Result<Table<'a>, AllocError>
@@ -245,14 +245,14 @@ impl<'a> Table<'a> {
 
     /// Places transfer `t`, which must be one of the graph. Other placed transfers may change their
     /// colours. Where `t` is placed already it answers [`InsertFault::Already`], else
-    /// [`InsertFault::NoRoom`] where one of its links is full, as the transfers placed there have all
-    /// colours; then nothing changes.
+    /// [`InsertFault::NoRoom`] where one of its links is full, as the transfers placed there have
+    /// all colours; then nothing changes.
     ///
     /// Takes time that grows with the number of colours, which are looked at along two links, and
     /// with the length of an alternating path, which meets each link at most once.
     pub fn insert(&mut self, t: usize) -> Result<(), InsertFault>
         requires { t < length self.old.batch }
-        ensures already { (result ≡ Err InsertFault.Already) ↔ IsPlaced self.old.colour t }
+        ensures already { (result ≡ Err InsertFault.Already) ↔ HasColour self.old.colour t }
         ensures no_room { (result ≡ Err InsertFault.NoRoom) ↔ IsShutOut self.old t }
 
         ensures placed { OnOk result (PlacesJust self.old.colour self.new.colour t) }
@@ -277,9 +277,9 @@ impl<'a> Table<'a> {
         Ok(())
     }
 
-    /// Gives up a smallest class, the one of the least colour among equals: the table without it, and
-    /// its transfers. The colours above come one down. There has to be a colour, and the table is
-    /// dropped also where there is no memory.
+    /// Gives up a smallest class, the one of the least colour among equals: the table without it,
+    /// and its transfers. The colours above come one down. There has to be a colour, and the table
+    /// is dropped also where there is no memory.
     ///
     /// Takes time that grows with the number of colours.
     pub fn take_back(self) -> Result<(Table<'a>, Vec<usize>), AllocError>
@@ -306,8 +306,8 @@ impl<'a> Table<'a> {
         Ok((table, class))
     }
 
-    /// The least of the colours whose classes are smallest, where all transfers start at the first so
-    /// many modules.
+    /// The least of the colours whose classes are smallest, where all transfers start at the first
+    /// so many modules.
     fn smallest_class(&self, modules: usize) -> usize
         requires some { 0 < self.now.colours }
         requires few { modules ≤ MAX_MODULES }
@@ -326,8 +326,8 @@ impl<'a> Table<'a> {
         smallest
     }
 
-    /// The transfers of a colour, each at the module whose link 0 it uses, where all transfers start at
-    /// the first so many modules.
+    /// The transfers of a colour, each at the module whose link 0 it uses, where all transfers
+    /// start at the first so many modules.
     fn starts(&self, colour: usize, modules: usize) -> &[Option<u16>]
         requires in_range { colour < self.now.colours }
         requires few { modules ≤ MAX_MODULES }
@@ -430,12 +430,12 @@ impl<'a> Table<'a> {
         self.cells[colour * LINKS + three] = None;
     }
 
-    /// Places `t` with the colour `first`, which is free at its link 0, where `second` is free at its
-    /// link 3.
+    /// Places `t` with the colour `first`, which is free at its link 0, where `second` is free at
+    /// its link 3.
     ///
-    /// A transfer that is in the way loses its colour and is in hand next. It takes the other of the
-    /// two colours, which is free where it made way; another may be in the way at its other end, and
-    /// so on along a path on which the two colours alternate.
+    /// A transfer that is in the way loses its colour and is in hand next. It takes the other of
+    /// the two colours, which is free where it made way; another may be in the way at its other
+    /// end, and so on along a path on which the two colours alternate.
     fn place(&mut self, t: usize, first: usize, second: usize)
         requires known { t < length self.old.batch }
         requires proper { IsProperTable self.old }

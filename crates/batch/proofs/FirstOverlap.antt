@@ -6,7 +6,8 @@ use Rattle.batch.specs.Overlap.{Overlap, IsApart, IsPairUpTo, IsFirstOverlap}
 
 -- where no pair is the first that overlaps, no pair overlaps whose first number is below a bound
 module _ (ts : List Transfer) (none : (i j : ℕ) → IsFirstOverlap ts i j → ⊥) where
-  -- the pairs with a lesser first number don't overlap, nor do those of this first number with a second one below a bound
+  -- the pairs with a lesser first number don't overlap, nor do those of this first number with a
+  -- second one below a bound
   none_at : (i : ℕ) → ((k l : ℕ) → k < i → Overlap ts k l → ⊥) → (m j : ℕ) → j < m → Overlap ts i j → ⊥
   none_at i before zero j lt both = omega arith
   none_at i before (suc m) j lt both =

@@ -11,7 +11,7 @@ use Rattle.batch.specs.declared.fault.BatchFault.TheVariants.{Line, TooMany, NoM
 use Rattle.batch.specs.declared.transfer.Transfer.{Transfer}
 use Rattle.batch.specs.declared.limits.TheConstants.{MAX_TRANSFERS}
 use Rattle.batch.specs.Extent.{Extent, IsShape}
-use Rattle.batch.specs.Text.{IsNumber, number, head, word, line, space, line_feed, HasModules, HasBlocks, IsWithin, Denotes}
+use Rattle.batch.specs.Text.{IsNumber, number, head, first_word, line, space, line_feed, HasModules, HasBlocks, IsWithin, Denotes}
 use Rattle.batch.specs.Faults.{IsSpellable, BeginsWithLine, IsLineFault, IsHeadFault, IsGoodUpTo, IsFirstFault, at_head, at_line, at_end}
 use Rattle.batch.proofs.Equal.{same_transfer_parts}
 use Rattle.batch.proofs.Lines.{one_number, fields, line_parts, to_responder, ends_line}
@@ -40,8 +40,8 @@ one_head n m x y ln lm same =
 some_line : (t : Transfer) (x : List ℕ) → line t ++ x ≢ []
 some_line t x e =
     let long : length (line t ++ x) ≡ 0 = ap length e in
-    let parts : length (word t.kind ++ fields t x) ≡ 0 = ap length (sym (line_parts t x)) ∙ long in
-    omega (arith, parts, length-append (word t.kind) (fields t x), length-append (number t.initiator space) (number t.own_block space ++ (number t.responder space ++ (number t.far_block line_feed ++ x))), length-append (decimal t.initiator) (space ∷ []))
+    let parts : length (first_word t.kind ++ fields t x) ≡ 0 = ap length (sym (line_parts t x)) ∙ long in
+    omega (arith, parts, length-append (first_word t.kind) (fields t x), length-append (number t.initiator space) (number t.own_block space ++ (number t.responder space ++ (number t.far_block line_feed ++ x))), length-append (decimal t.initiator) (space ∷ []))
 
 abbrev Within : Extent → List Transfer → Type 0
 Within shape ts = All (IsWithin shape) ts

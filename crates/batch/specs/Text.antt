@@ -26,14 +26,15 @@ number n end = decimal n ++ end ∷ []
 abbrev pub head : ℕ → List ℕ
 head n = codes "batch " ++ number n line_feed
 
-abbrev pub word : Kind → List ℕ
-word Push = codes "push "
-word Pull = codes "pull "
+abbrev pub first_word : Kind → List ℕ
+first_word Push = codes "push "
+first_word Pull = codes "pull "
 
 -- the line `push I b R c` or `pull I b R c`
 abbrev pub line : Transfer → List ℕ
 line t =
-    word t.kind ++ number t.initiator space ++ number t.own_block space ++ number t.responder space
+    first_word t.kind ++ number t.initiator space ++ number t.own_block space
+    ++ number t.responder space
     ++ number t.far_block line_feed
 
 -- the one text of a list of transfers
@@ -46,7 +47,7 @@ BeginsWithNoNumber text end = (n : ℕ) (rest : List ℕ) → IsNumber n → tex
 
 -- the text begins with neither word
 abbrev pub BeginsWithNoWord : List ℕ → Type 0
-BeginsWithNoWord text = (kind : Kind) (rest : List ℕ) → text ≢ word kind ++ rest
+BeginsWithNoWord text = (kind : Kind) (rest : List ℕ) → text ≢ first_word kind ++ rest
 
 -- the shape has the transfer's modules
 abbrev pub HasModules : Extent → Transfer → Type 0

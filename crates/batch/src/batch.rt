@@ -33,7 +33,8 @@ impl Model for Batch {
 }
 
 impl Batch {
-    /// The batch of these transfers: not too many, and all of them between blocks of the widest shape.
+    /// The batch of these transfers: not too many, and all of them between blocks of the widest
+    /// shape.
     pub fn of(transfers: Vec<Transfer>) -> Batch
         requires { IsBatch transfers.items }
         ensures { result ≡ transfers.items }
@@ -95,8 +96,8 @@ impl Batch {
         self.transfers.iter()
     }
 
-    /// All transfers, in order. A loop over them, and over their numbers with `enumerate`, knows which
-    /// transfer comes without a proof by hand.
+    /// All transfers, in order. A loop over them, and over their numbers with `enumerate`, knows
+    /// which transfer comes without a proof by hand.
     pub fn as_slice(&self) -> &[Transfer]
         ensures value { result.now ≡ self.now }
         ensures batch { IsBatch self.now }
@@ -111,11 +112,11 @@ impl Batch {
         self.transfers.get(t).copied()
     }
 
-    /// The allocator that the batch was made with, for a list that is made beside the batch, such as one
-    /// of its numbers.
+    /// The allocator that the batch was made with, for a list that is made beside the batch, such
+    /// as one of its numbers.
     ///
-    /// A call that takes no memory leaves it alone. No contract can say that it does, since whoever holds
-    /// a batch holds this too: only a test that refuses memory shows it.
+    /// A call that takes no memory leaves it alone. No contract can say that it does, since whoever
+    /// holds a batch holds this too: only a test that refuses memory shows it.
     pub fn allocator(&self) -> Global {
         *self.transfers.allocator()
     }

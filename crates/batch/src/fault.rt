@@ -15,8 +15,8 @@ pub enum ShapeFault {
 /// modules, then the blocks. That order is this project's choice.
 #[derive(Clone, Copy, Debug, PartialEq, Eq, Error)]
 pub enum BatchFault {
-    /// The first line, by its number from 1, whose form isn't the one that belongs there, or which no
-    /// line feed ends. An empty text is at fault in line 1.
+    /// The first line, by its number from 1, whose form isn't the one that belongs there, or which
+    /// no line feed ends. An empty text is at fault in line 1.
     #[error("line {0}")]
     Line(usize),
     /// The first line announces more than [`MAX_TRANSFERS`](crate::MAX_TRANSFERS) transfers.

@@ -10,12 +10,12 @@ use crate::written::flags_of;
 use std::alloc::{AllocError, Global};
 
 impl Batch {
-    /// The held sources: the blocks that a transfer of the batch reads and one, the same or another, writes.
-    /// Each stands once; their order isn't said. That such a block is copied before any word moves is this
-    /// project's choice.
+    /// The held sources: the blocks that a transfer of the batch reads and one, the same or
+    /// another, writes. Each stands once; their order isn't said. That such a block is copied
+    /// before any word moves is this project's choice.
     ///
-    /// Want of memory is answered only where there is such a block. The time grows with the number of
-    /// transfers and of blocks.
+    /// Want of memory is answered only where there is such a block. The time grows with the number
+    /// of transfers and of blocks.
     pub fn held_sources(&self, alloc: Global) -> Result<Vec<Place>, AllocError>
         ensures held { IfOk result (λ held. AreHeldSources self.now held.items) }
         ensures memory { IfErr result (λ _. HasHeldSource self.now) }

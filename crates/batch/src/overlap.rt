@@ -15,11 +15,11 @@ use crate::transfer::{Place, Transfer};
 pub const MAX_PLACES: usize = MAX_MODULES * MAX_BLOCKS;
 
 impl Batch {
-    /// The first two transfers that overlap: both write one block. The first number is as small as can be,
-    /// and then the second.
+    /// The first two transfers that overlap: both write one block. The first number is as small as
+    /// can be, and then the second.
     ///
-    /// Where none overlap, the time grows with the number of transfers and of blocks; else it may grow
-    /// with the square of the number of transfers. What overlaps is this project's choice.
+    /// Where none overlap, the time grows with the number of transfers and of blocks; else it may
+    /// grow with the square of the number of transfers. What overlaps is this project's choice.
     pub fn first_overlap(&self) -> Option<(usize, usize)>
         ensures none { IfNone result (IsApart self.now) }
         ensures first { IfSome result (λ pair. IsFirstOverlap self.now pair.0 pair.1) }

@@ -2,7 +2,7 @@
 
 ghost use Rattle.std.specs.Prelude.{◌≡◌, ◌≢◌, ℕ, ◌<◌, ◌≤◌, ◌++◌, IfSome, IfNone, IfOk, IfErr, length, position, ◌==◌, ◌↔◌, IsTrue, slice_index};
 ghost use Rattle.std.specs.Fmt.{decimal};
-ghost use Rattle.batch.specs.Text.{BeginsWithNoNumber, BeginsWithNoWord, IsNumber, IsDigit, number, word, line, IsWithin};
+ghost use Rattle.batch.specs.Text.{BeginsWithNoNumber, BeginsWithNoWord, IsNumber, IsDigit, number, first_word, line, IsWithin};
 ghost use Rattle.batch.specs.Faults.{AreTransfers, BeginsWithLine, BeginsWithNoLine, ButForMemory, ForMemory, HasGrown, HasNoHead, IsHeaded, IsLineFault, StopsAt};
 
 use crate::fault::BatchFault;
@@ -37,16 +37,16 @@ pub fn number_from_digits(digits: &[u8]) -> Option<usize>
     Some(n)
 }
 
-/// Where a byte stands first, counted from 0, or `None` where it doesn't stand. Takes time that grows
-/// with the number of bytes before it.
+/// Where a byte stands first, counted from 0, or `None` where it doesn't stand. Takes time that
+/// grows with the number of bytes before it.
 pub fn position_of(bytes: &[u8], byte: u8) -> Option<usize>
     ensures { result ≡ position (λ b. b == byte) bytes.now }
 {
     bytes.iter().position(|b| *b == byte)
 }
 
-/// A number that this byte ends behind one digit or two, and what stands behind the two. Most numbers
-/// of a text are so short; of others, and of a number that ends the text, nothing is said.
+/// A number that this byte ends behind one digit or two, and what stands behind the two. Most
+/// numbers of a text are so short; of others, and of a number that ends the text, nothing is said.
 fn short_number_before(bytes: &[u8], end: u8) -> Option<(usize, &[u8])>
     ensures { IfSome result (λ x. IsNumber x.0 × (bytes.now ≡ number x.0 end ++ x.1.now)) }
 {
@@ -89,7 +89,7 @@ pub(crate) fn first_line(text: &[u8]) -> Option<(usize, &[u8])>
 
 /// The word that a transfer's line begins with.
 fn kind_word(bytes: &[u8]) -> Option<(Kind, &[u8])>
-    ensures some { IfSome result (λ x. bytes.now ≡ word x.0 ++ x.1.now) }
+    ensures some { IfSome result (λ x. bytes.now ≡ first_word x.0 ++ x.1.now) }
     ensures none { IfNone result (BeginsWithNoWord bytes.now) }
 {
     if let Some(rest) = bytes.strip_prefix(b"push ") {

@@ -1,14 +1,14 @@
 //! The lines of a batch text.
 
 ghost use Rattle.std.specs.Prelude.{◌≡◌, ◌++◌, OnOk, IfOk, string_bytes};
-ghost use Rattle.batch.specs.Text.{word, line, batch_text};
+ghost use Rattle.batch.specs.Text.{first_word, line, batch_text};
 
 use crate::transfer::{Kind, Transfer};
 use std::alloc::{AllocError, Global};
 
 /// The word that a transfer's line begins with, and the space behind it.
 fn kind_text(kind: Kind) -> &'static str
-    ensures { result.now ≡ word kind }
+    ensures { result.now ≡ first_word kind }
 {
     match kind {
         Kind::Push => "push ",

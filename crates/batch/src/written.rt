@@ -56,7 +56,8 @@ impl<'a> WrittenBlocks<'a> {
     }
 }
 
-/// A flag for each block of the widest shape, which is up where one of the transfers writes the block.
+/// A flag for each block of the widest shape, which is up where one of the transfers writes the
+/// block.
 pub(crate) fn flags_of(transfers: &[Transfer]) -> [bool; MAX_PLACES]
     requires { All (IsWithin widest) transfers.now }
     ensures { AreWritten transfers.now result }

@@ -1,4 +1,5 @@
--- What a step of the machine says of its reply: it is one of its call's, and a run has the next number.
+-- What a step of the machine says of its reply: it is one of its call's, and a run has the next
+-- number.
 use Rattle.std.proofs.Common.{◌≡◌, ℕ, ◌+◌, ◌*◌, ◌≤◌, List, Bool, true, false, nat_eq, nat_lt, if◌then◌else◌, ◌==◌, length, Option, None, Some, IfSome, ◌≢◌, refl, sym, subst, arith}
 use Rattle.std.proofs.lemmas.Nat.{mul-le}
 use Rattle.std.proofs.lemmas.Map.Entries.{All-lookup}
@@ -14,10 +15,10 @@ use Rattle.schedule_certificate.specs.Plans.{Plan, IsPlan}
 use Rattle.setting_runner.specs.declared.outcome.RunRefusal.TheVariants as run_refusal
 use Rattle.batch_book.specs.declared.limits.TheConstants.{MAX_BATCHES}
 use Rattle.batch_book.specs.declared.entry.Entry.{Entry}
-use Rattle.batch_book.specs.declared.held.Held.{Held}
-use Rattle.batch_book.specs.declared.held.Stage.{Stage}
-use Rattle.batch_book.specs.declared.held.Stage.TheVariants as stage
-use Rattle.batch_book.specs.declared.refusal.Refusal.TheVariants.{HistoryFull, NoMemory, BookFull, Unknown, Unplanned, Stranger, Already}
+use Rattle.batch_book.specs.declared.kept.KeptBatch.{KeptBatch}
+use Rattle.batch_book.specs.declared.kept.Stage.{Stage}
+use Rattle.batch_book.specs.declared.kept.Stage.TheVariants as stage
+use Rattle.batch_book.specs.declared.refusal.BookRefusal.TheVariants.{HistoryFull, NoMemory, BookFull, Unknown, Unplanned, Stranger, Already}
 use Rattle.batch_book.specs.declared.reply.Reply.{Reply}
 use Rattle.batch_book.specs.declared.reply.Reply.TheVariants as reply
 use Rattle.batch_book.specs.declared.call.Call.{Call}
@@ -40,11 +41,11 @@ pub record IsAnswer (m : Machine) (call : Call) (r : Reply) : Type 0 where
 
 -- ---- a batch that is found has its own plan
 
-owned_if : (P : Held → Type 0) (h : Held) (b : Bool) → P h → IfSome (if b then Some h else None) P
+owned_if : (P : KeptBatch → Type 0) (h : KeptBatch) (b : Bool) → P h → IfSome (if b then Some h else None) P
 owned_if P h true is = is
 owned_if P h false is = tt
 
-owned_keeps : (P : Held → Type 0) (session : ℕ) (o : Option Held) → IfSome o P → IfSome (owned session o) P
+owned_keeps : (P : KeptBatch → Type 0) (session : ℕ) (o : Option KeptBatch) → IfSome o P → IfSome (owned session o) P
 owned_keeps P session None is = tt
 owned_keeps P session (Some h) is = owned_if P h (h.owner == session) is
 
@@ -63,7 +64,7 @@ submit_if : (m : Machine) (session : ℕ) (batch : List Transfer) (b : Bool) →
 submit_if m session batch true = quiet m (Submit batch) _ (omega arith) tt
 submit_if m session batch false = quiet m (Submit batch) _ tt tt
 
-fetch_of : (m : Machine) (id : ℕ) (h : Option Held) → IsAnswer m (Fetch id) (fetch m h).0
+fetch_of : (m : Machine) (id : ℕ) (h : Option KeptBatch) → IsAnswer m (Fetch id) (fetch m h).0
 fetch_of m id None = quiet m (Fetch id) _ tt tt
 fetch_of m id (Some h) = quiet m (Fetch id) _ tt tt
 
@@ -77,15 +78,15 @@ settle_if : (m : Machine) (id : ℕ) (plan : Plan) (s : Stage) (b : Bool) → Is
 settle_if m id plan s true = settle_stage m id plan s
 settle_if m id plan s false = quiet m (Settle id plan) _ tt tt
 
-settle_of : (m : Machine) (id : ℕ) (plan : Plan) (h : Option Held) → IsAnswer m (Settle id plan) (settle m id plan h).0
+settle_of : (m : Machine) (id : ℕ) (plan : Plan) (h : Option KeptBatch) → IsAnswer m (Settle id plan) (settle m id plan h).0
 settle_of m id plan None = quiet m (Settle id plan) _ tt tt
 settle_of m id plan (Some h) = settle_if m id plan h.stage (same_transfers h.batch plan.batch)
 
-show_of : (m : Machine) (id : ℕ) (h : Option Held) → IsAnswer m (Show id) (show m h).0
+show_of : (m : Machine) (id : ℕ) (h : Option KeptBatch) → IsAnswer m (Show id) (show m h).0
 show_of m id None = quiet m (Show id) _ tt tt
 show_of m id (Some h) = quiet m (Show id) _ tt tt
 
-discard_of : (m : Machine) (id : ℕ) (h : Option Held) → IsAnswer m (Discard id) (discard m id h).0
+discard_of : (m : Machine) (id : ℕ) (h : Option KeptBatch) → IsAnswer m (Discard id) (discard m id h).0
 discard_of m id None = quiet m (Discard id) _ tt tt
 discard_of m id (Some h) = quiet m (Discard id) _ tt tt
 
@@ -134,7 +135,7 @@ run_at m id (stage.Planned plan) r n shape good is = run_of m id plan r n shape 
 run_at m id stage.Ran r n shape good is = gives m (Run id) (refuse m Already) r n (quiet m (Run id) _ tt tt) is
 run_at m id stage.Stopped r n shape good is = gives m (Run id) (refuse m Already) r n (quiet m (Run id) _ tt tt) is
 
-run : (m : Machine) (id : ℕ) (h : Option Held) (r : Reply) (n : Machine) → IsShape m.store.shape → IfSome h HasOwnPlan → IsRunStep m id h r n → IsAnswer m (Run id) r
+run : (m : Machine) (id : ℕ) (h : Option KeptBatch) (r : Reply) (n : Machine) → IsShape m.store.shape → IfSome h HasOwnPlan → IsRunStep m id h r n → IsAnswer m (Run id) r
 run m id None r n shape good is = gives m (Run id) (refuse m Unknown) r n (quiet m (Run id) _ tt tt) is
 run m id (Some h) r n shape good is = run_at m id h.stage r n shape (λ plan staged. (good plan staged).0) is
 

@@ -8,10 +8,10 @@ use Rattle.module_memory.specs.declared.fault.MemoryFault.{MemoryFault}
 use Rattle.schedule_certificate.specs.Plans.{Plan}
 use Rattle.setting_runner.specs.declared.outcome.RunRefusal.TheVariants as run_refusal
 use Rattle.batch_book.specs.declared.limits.TheConstants.{MAX_BATCHES}
-use Rattle.batch_book.specs.declared.held.Held.{Held}
-use Rattle.batch_book.specs.declared.held.Stage.{Stage}
-use Rattle.batch_book.specs.declared.held.Stage.TheVariants as stage
-use Rattle.batch_book.specs.declared.refusal.Refusal.TheVariants.{BookFull, Stranger}
+use Rattle.batch_book.specs.declared.kept.KeptBatch.{KeptBatch}
+use Rattle.batch_book.specs.declared.kept.Stage.{Stage}
+use Rattle.batch_book.specs.declared.kept.Stage.TheVariants as stage
+use Rattle.batch_book.specs.declared.refusal.BookRefusal.TheVariants.{BookFull, Stranger}
 use Rattle.batch_book.specs.declared.reply.Reply.{Reply}
 use Rattle.batch_book.specs.declared.reply.Reply.TheVariants as reply
 use Rattle.batch_book.specs.declared.call.Call.{Call}
@@ -47,7 +47,7 @@ submitted : (m : Machine) (session : ℕ) (batch : List Transfer) (b : Bool) →
 submitted m session batch true = ((refl, refl, refl), refl)
 submitted m session batch false = (refl, refl)
 
-fetched : (m : Machine) (h : Option Held) → IsCountedAnswer m (fetch m h)
+fetched : (m : Machine) (h : Option KeptBatch) → IsCountedAnswer m (fetch m h)
 fetched m None = (refl, refl)
 fetched m (Some h) = (refl, refl)
 
@@ -61,15 +61,15 @@ settled_if : (m : Machine) (id : ℕ) (plan : Plan) (s : Stage) (b : Bool) → I
 settled_if m id plan s true = settled_at m id plan s
 settled_if m id plan s false = (refl, refl)
 
-settled : (m : Machine) (id : ℕ) (plan : Plan) (h : Option Held) → IsCountedAnswer m (settle m id plan h)
+settled : (m : Machine) (id : ℕ) (plan : Plan) (h : Option KeptBatch) → IsCountedAnswer m (settle m id plan h)
 settled m id plan None = (refl, refl)
 settled m id plan (Some h) = settled_if m id plan h.stage (same_transfers h.batch plan.batch)
 
-shown : (m : Machine) (h : Option Held) → IsCountedAnswer m (show m h)
+shown : (m : Machine) (h : Option KeptBatch) → IsCountedAnswer m (show m h)
 shown m None = (refl, refl)
 shown m (Some h) = (refl, refl)
 
-discarded : (m : Machine) (id : ℕ) (h : Option Held) → IsCountedAnswer m (discard m id h)
+discarded : (m : Machine) (id : ℕ) (h : Option KeptBatch) → IsCountedAnswer m (discard m id h)
 discarded m id None = (refl, refl)
 discarded m id (Some h) = (refl, refl)
 
@@ -96,7 +96,7 @@ run_at m id (stage.Planned plan) r n is = run_of m id plan r n is
 run_at m id stage.Ran r n is = gives m _ r n (refl, refl) is
 run_at m id stage.Stopped r n is = gives m _ r n (refl, refl) is
 
-run : (m : Machine) (id : ℕ) (h : Option Held) (r : Reply) (n : Machine) → IsRunStep m id h r n → IsCounted m r n
+run : (m : Machine) (id : ℕ) (h : Option KeptBatch) (r : Reply) (n : Machine) → IsRunStep m id h r n → IsCounted m r n
 run m id None r n is = gives m _ r n (refl, refl) is
 run m id (Some h) r n is = run_at m id h.stage r n is
 

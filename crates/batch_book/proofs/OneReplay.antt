@@ -5,9 +5,9 @@ use Rattle.module_memory.specs.Store.{HasAllBlocks}
 use Rattle.module_memory.proofs.CoreLaw.{one_moved, one_placed}
 use Rattle.schedule_certificate.specs.Plans.{Plan}
 use Rattle.setting_runner.specs.declared.outcome.RunRefusal.TheVariants as run_refusal
-use Rattle.batch_book.specs.declared.held.Held.{Held}
-use Rattle.batch_book.specs.declared.held.Stage.{Stage}
-use Rattle.batch_book.specs.declared.held.Stage.TheVariants as stage
+use Rattle.batch_book.specs.declared.kept.KeptBatch.{KeptBatch}
+use Rattle.batch_book.specs.declared.kept.Stage.{Stage}
+use Rattle.batch_book.specs.declared.kept.Stage.TheVariants as stage
 use Rattle.batch_book.specs.declared.reply.Reply.{Reply}
 use Rattle.batch_book.specs.declared.reply.Reply.TheVariants as reply
 use Rattle.batch_book.specs.declared.call.Call.{Call}
@@ -38,7 +38,7 @@ one_run_at m id (stage.Planned plan) r a b all x y = one_run_of m id plan r a b 
 one_run_at m id stage.Ran r a b all x y = one_given _ r a b x y
 one_run_at m id stage.Stopped r a b all x y = one_given _ r a b x y
 
-one_run : (m : Machine) (id : ℕ) (h : Option Held) (r : Reply) (a b : Machine) → HasAllBlocks m.store → IsRunStep m id h r a → IsRunStep m id h r b → a ≡ b
+one_run : (m : Machine) (id : ℕ) (h : Option KeptBatch) (r : Reply) (a b : Machine) → HasAllBlocks m.store → IsRunStep m id h r a → IsRunStep m id h r b → a ≡ b
 one_run m id None r a b all x y = one_given _ r a b x y
 one_run m id (Some h) r a b all x y = one_run_at m id h.stage r a b all x y
 

@@ -17,9 +17,9 @@ use Rattle.setting_runner.specs.declared.plant.Plant.{Plant}
 use Rattle.setting_runner.specs.declared.outcome.RunRefusal.TheVariants as run_refusal
 use Rattle.batch_book.specs.declared.reply.Reply.{Reply}
 use Rattle.batch_book.specs.declared.reply.Reply.TheVariants as reply
-use Rattle.batch_book.specs.declared.held.Held.{Held}
-use Rattle.batch_book.specs.declared.held.Stage.{Stage}
-use Rattle.batch_book.specs.declared.held.Stage.TheVariants as stage
+use Rattle.batch_book.specs.declared.kept.KeptBatch.{KeptBatch}
+use Rattle.batch_book.specs.declared.kept.Stage.{Stage}
+use Rattle.batch_book.specs.declared.kept.Stage.TheVariants as stage
 use Rattle.batch_book.specs.Holdings.{EndsRun}
 use Rattle.batch_book.specs.Replies.{outcome_in}
 use Rattle.batch_book.specs.Machine.{Machine, HasBegun, batch_of, IsRunStep, IsRunAt, IsRunOf}
@@ -58,7 +58,8 @@ ended m s id plan (outcome.Refused run_refusal.Shape) r next are left is =
 ended m s id plan (outcome.Refused run_refusal.NoMemory) (Ok x) next are left is = absurd (false≢true is.0)
 ended m s id plan (outcome.Refused run_refusal.NoMemory) (Err e) next are left is = tt
 
--- what holds of how a run ended, holds of what the reply tells of it, if it makes no difference why a run was refused
+-- what holds of how a run ended, holds of what the reply tells of it, if it makes no difference why
+-- a run was refused
 pub as_told : {E : Type 0} (P : Outcome → Type 0) (m : Machine) (id : ℕ) (o : Outcome) (r : Result Reply E) (next : Machine)
     → ((why other : RunRefusal) → P (outcome.Refused why) → P (outcome.Refused other)) → EndsRun m id o r next → P o → P (outcome_in r)
 as_told P m id (outcome.Completed settings words) r next any is holds = subst (λ (x : Result Reply _). P (outcome_in x)) (sym is.0) holds
@@ -81,9 +82,9 @@ refused_so seen sure shape ran old new why other is =
 -- ---- the step of a run
 
 -- the run of a batch that is held and planned
-pub ran_step : {E : Type 0} (m : Machine) (session id : ℕ) (h : Held) (plan : Plan) (r : Result Reply E) (next : Machine)
+pub ran_step : {E : Type 0} (m : Machine) (session id : ℕ) (h : KeptBatch) (plan : Plan) (r : Result Reply E) (next : Machine)
     → batch_of m session id ≡ Some h → h.stage ≡ stage.Planned plan → IfOk r (λ reply. IsRunOf m id plan reply next)
     → IfOk r (λ reply. IsRunStep m id (batch_of m session id) reply next)
 ran_step m session id h plan r next own staged step =
-    subst (λ (x : Option Held). IfOk r (λ reply. IsRunStep m id x reply next)) (sym own)
+    subst (λ (x : Option KeptBatch). IfOk r (λ reply. IsRunStep m id x reply next)) (sym own)
     (subst (λ (x : Stage). IfOk r (λ reply. IsRunAt m id x reply next)) (sym staged) step)

@@ -1,7 +1,7 @@
 -- What a notice heard, and the greatest value of a list that grows.
 use Rattle.std.proofs.Common.{◌≡◌, ℕ, zero, suc, ◌+◌, ◌≤◌, max, List, [], ◌∷◌, ◌++◌, length, length-append, if◌then◌else◌, cond, nat_eq, take, drop, Bool, true, false, refl, sym, ap, ◌∙◌, subst, arith}
 use Rattle.std.proofs.Math.Seq.{take-append_seam}
-use Rattle.progress_word.specs.Lookouts.{LookoutView}
+use Rattle.progress_word.specs.Watchers.{WatcherView}
 use Rattle.setting_runner.specs.Runs.{ToldUpTo, TellsOutcome}
 use Rattle.batch_book.specs.declared.entry.Entry.{Entry}
 use Rattle.batch_book.specs.declared.reply.Reply.{Reply}
@@ -17,15 +17,15 @@ pub greatest_push : (es : List Entry) (e : Entry) → greatest (es ++ e ∷ []) 
 greatest_push [] e = omega arith
 greatest_push (x ∷ xs) e = omega (arith, greatest_push xs e)
 
--- what one hears that raises a word from a lookout, in a run
-abbrev pub Hears : {N : Type 0} → (N → LookoutView) → (N → ℕ) → N → ℕ → N → Type 0
-Hears lookout run a k b = Reaches (lookout a) (value_at (run a) k) (lookout b) × (run b ≡ run a)
+-- what one hears that raises a word from a watcher, in a run
+abbrev pub Hears : {N : Type 0} → (N → WatcherView) → (N → ℕ) → N → ℕ → N → Type 0
+Hears watcher run a k b = Reaches (watcher a) (value_at (run a) k) (watcher b) × (run b ≡ run a)
 
-pub told : {N : Type 0} (lookout : N → LookoutView) (run : N → ℕ) (a : N) (k : ℕ) (b : N) → ToldUpTo (Hears lookout run) a k b → Hears lookout run a k b
-told lookout run a zero b h = h
-told {N} lookout run a (suc k) b h =
+pub told : {N : Type 0} (watcher : N → WatcherView) (run : N → ℕ) (a : N) (k : ℕ) (b : N) → ToldUpTo (Hears watcher run) a k b → Hears watcher run a k b
+told watcher run a zero b h = h
+told {N} watcher run a (suc k) b h =
     let m = h.0 in
-    let t = told lookout run a k m h.1 in
+    let t = told watcher run a k m h.1 in
     let s = h.2 in
     let t0 = t.0 in let s0 = s.0 in
     let t1 = t.1 in let s1 = s.1 in
@@ -34,39 +34,40 @@ told {N} lookout run a (suc k) b h =
     let seen_then = s0.seen in
     (record { word = s0.word ∙ t0.word; parts = s0.parts ∙ t0.parts; raised = omega arith; later = omega arith; seen = omega arith }, s1 ∙ t1)
 
-stays : (a b : LookoutView) → b ≡ a → Reaches a 0 b
+stays : (a b : WatcherView) → b ≡ a → Reaches a 0 b
 stays a b is = record {
-  word = ap (λ (o : LookoutView). o.word) is;
-  parts = ap (λ (o : LookoutView). o.parts) is;
-  raised = let e = ap (λ (o : LookoutView). o.raised) is in omega arith;
-  later = let e = ap (λ (o : LookoutView). o.seen) is in omega arith;
+  word = ap (λ (o : WatcherView). o.word) is;
+  parts = ap (λ (o : WatcherView). o.parts) is;
+  raised = let e = ap (λ (o : WatcherView). o.raised) is in omega arith;
+  later = let e = ap (λ (o : WatcherView). o.seen) is in omega arith;
   seen = omega arith;
 }
 
-numbered : (a b : LookoutView) (run number k : ℕ) → number ≡ run → Reaches a (value_at run k) b → Reaches a (value_at number k) b
+numbered : (a b : WatcherView) (run number k : ℕ) → number ≡ run → Reaches a (value_at run k) b → Reaches a (value_at number k) b
 numbered a b run number k is h = subst (λ n. Reaches a (value_at n k) b) (sym is) h
 
--- after a call the word was raised from the lookout to the reply's value
-pub heard : {N : Type 0} (lookout : N → LookoutView) (run : N → ℕ) (a b : N) (old : Account) (session : ℕ) (c : Call) (r : Reply) (new : Account)
-    → IsSound old.machine → run a ≡ old.machine.runs + 1 → (is_logged r ≡ true → IsGrown old session c r new) → TellsOutcome (Hears lookout run) a (outcome_of r) b
-    → Reaches (lookout a) (value_of r) (lookout b)
-heard lookout run a b old session c (Ran number settings words) new sound next grown h =
-    numbered (lookout a) (lookout b) (run a) number settings ((answered old.machine session c (Ran number settings words) new.machine sound (grown refl).step).number ∙ sym next) (told lookout run a settings b h).0
-heard lookout run a b old session c (Stopped number setting cause moved) new sound next grown h =
-    numbered (lookout a) (lookout b) (run a) number setting ((answered old.machine session c (Stopped number setting cause moved) new.machine sound (grown refl).step).number ∙ sym next) (told lookout run a setting b h).0
-heard lookout run a b old session c r new sound next grown h = stays (lookout a) (lookout b) (ap lookout h)
+-- after a call the word was raised from the watcher to the reply's value
+pub heard : {N : Type 0} (watcher : N → WatcherView) (run : N → ℕ) (a b : N) (old : Account) (session : ℕ) (c : Call) (r : Reply) (new : Account)
+    → IsSound old.machine → run a ≡ old.machine.runs + 1 → (is_logged r ≡ true → IsGrown old session c r new) → TellsOutcome (Hears watcher run) a (outcome_of r) b
+    → Reaches (watcher a) (value_of r) (watcher b)
+heard watcher run a b old session c (Ran number settings words) new sound next grown h =
+    numbered (watcher a) (watcher b) (run a) number settings ((answered old.machine session c (Ran number settings words) new.machine sound (grown refl).step).number ∙ sym next) (told watcher run a settings b h).0
+heard watcher run a b old session c (Stopped number setting cause moved) new sound next grown h =
+    numbered (watcher a) (watcher b) (run a) number setting ((answered old.machine session c (Stopped number setting cause moved) new.machine sound (grown refl).step).number ∙ sym next) (told watcher run a setting b h).0
+heard watcher run a b old session c r new sound next grown h = stays (watcher a) (watcher b) (ap watcher h)
 
--- where the reply tells of no run, the lookout is as it was: a run's number isn't 0, nor is its value
-pub unheard : {N : Type 0} (lookout : N → LookoutView) (run : N → ℕ) (a b : N) (old : Account) (session : ℕ) (c : Call) (r : Reply) (new : Account)
-    → IsSound old.machine → (is_logged r ≡ true → IsGrown old session c r new) → TellsOutcome (Hears lookout run) a (outcome_of r) b
-    → value_of r ≡ 0 → lookout b ≡ lookout a
-unheard lookout run a b old session c (Ran number settings words) new sound grown h none =
+-- where the reply tells of no run, the watcher is as it was: a run's number isn't 0, nor is its
+-- value
+pub unheard : {N : Type 0} (watcher : N → WatcherView) (run : N → ℕ) (a b : N) (old : Account) (session : ℕ) (c : Call) (r : Reply) (new : Account)
+    → IsSound old.machine → (is_logged r ≡ true → IsGrown old session c r new) → TellsOutcome (Hears watcher run) a (outcome_of r) b
+    → value_of r ≡ 0 → watcher b ≡ watcher a
+unheard watcher run a b old session c (Ran number settings words) new sound grown h none =
     let is = (answered old.machine session c (Ran number settings words) new.machine sound (grown refl).step).number in
     absurd (omega arith)
-unheard lookout run a b old session c (Stopped number setting cause moved) new sound grown h none =
+unheard watcher run a b old session c (Stopped number setting cause moved) new sound grown h none =
     let is = (answered old.machine session c (Stopped number setting cause moved) new.machine sound (grown refl).step).number in
     absurd (omega arith)
-unheard lookout run a b old session c r new sound grown h none = ap lookout h
+unheard watcher run a b old session c r new sound grown h none = ap watcher h
 
 -- a reply that isn't logged tells of no run
 pub unlogged_value : (r : Reply) → is_logged r ≡ false → value_of r ≡ 0
@@ -87,7 +88,8 @@ pub listed : (es log ns : List Entry) (session : ℕ) (kept c : Call) (r : Reply
 listed es log ns session kept c r logged is same equal =
     is ∙ (ap (λ b. if b then log ++ entry session kept r ∷ [] else log) logged ∙ (λ i. same i ++ entry session (equal i) r ∷ []))
 
--- the ledger's amount is the length of the list, and the raised value the greatest of the list, as they were before
+-- the ledger's amount is the length of the list, and the raised value the greatest of the list, as
+-- they were before
 pub entered : (es log ns : List Entry) (session : ℕ) (c : Call) (r : Reply) (amount later raised now : ℕ)
     → ns ≡ (if is_logged r then log ++ entry session c r ∷ [] else log) → log ≡ es → later ≡ (if is_logged r then amount + 1 else amount)
     → now ≡ max raised (value_of r) → amount ≡ length es → raised ≡ greatest es → (later ≡ length ns) × (now ≡ greatest ns)

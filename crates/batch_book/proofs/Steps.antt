@@ -7,10 +7,10 @@ use Rattle.module_memory.specs.declared.fault.MemoryFault.{MemoryFault}
 use Rattle.schedule_certificate.specs.Plans.{Plan}
 use Rattle.setting_runner.specs.declared.outcome.RunRefusal.TheVariants as run_refusal
 use Rattle.batch_book.specs.declared.limits.TheConstants.{MAX_BATCHES}
-use Rattle.batch_book.specs.declared.held.Held.{Held}
-use Rattle.batch_book.specs.declared.held.Stage.{Stage}
-use Rattle.batch_book.specs.declared.held.Stage.TheVariants as stage
-use Rattle.batch_book.specs.declared.refusal.Refusal.TheVariants.{BookFull, Unknown, Unplanned, Stranger, Already}
+use Rattle.batch_book.specs.declared.kept.KeptBatch.{KeptBatch}
+use Rattle.batch_book.specs.declared.kept.Stage.{Stage}
+use Rattle.batch_book.specs.declared.kept.Stage.TheVariants as stage
+use Rattle.batch_book.specs.declared.refusal.BookRefusal.TheVariants.{BookFull, Unknown, Unplanned, Stranger, Already}
 use Rattle.batch_book.specs.declared.reply.Reply.{Reply}
 use Rattle.batch_book.specs.declared.reply.Reply.TheVariants as reply
 use Rattle.batch_book.specs.declared.call.Call.{Call}
@@ -18,7 +18,8 @@ use Rattle.batch_book.specs.declared.call.Call.TheVariants.{Submit, Fetch, Settl
 use Rattle.batch_book.specs.Machine.{Machine, batch_of, Gives, accept, submit, fetch, settle_at, settle, show, discard, peek_unless, poke_unless, refuse, IsRunOf, IsRunAt, IsRunStep, IsMachineStep}
 use Rattle.batch_book.specs.Replies.{is_logged}
 
--- the reply goes into the history; one number at most is given to batches, and one to runs; and the rack keeps its shape
+-- the reply goes into the history; one number at most is given to batches, and one to runs; and the
+-- rack keeps its shape
 pub record IsSmall (m : Machine) (r : Reply) (n : Machine) : Type 0 where
   pub logged : is_logged r ≡ true
   pub given : n.given ≤ m.given + 1
@@ -57,7 +58,7 @@ submit_if m session batch false = stays m _ m refl refl
 small_submit : (m : Machine) (session : ℕ) (batch : List Transfer) → IsSmallAnswer m (submit m session batch)
 small_submit m session batch = submit_if m session batch (nat_lt (length m.batches) MAX_BATCHES)
 
-small_fetch : (m : Machine) (h : Option Held) → IsSmallAnswer m (fetch m h)
+small_fetch : (m : Machine) (h : Option KeptBatch) → IsSmallAnswer m (fetch m h)
 small_fetch m None = stays m _ m refl refl
 small_fetch m (Some h) = stays m _ m refl refl
 
@@ -71,15 +72,15 @@ settle_if : (m : Machine) (id : ℕ) (plan : Plan) (s : Stage) (b : Bool) → Is
 settle_if m id plan s true = small_settle_at m id plan s
 settle_if m id plan s false = stays m _ m refl refl
 
-small_settle : (m : Machine) (id : ℕ) (plan : Plan) (h : Option Held) → IsSmallAnswer m (settle m id plan h)
+small_settle : (m : Machine) (id : ℕ) (plan : Plan) (h : Option KeptBatch) → IsSmallAnswer m (settle m id plan h)
 small_settle m id plan None = stays m _ m refl refl
 small_settle m id plan (Some h) = settle_if m id plan h.stage (same_transfers h.batch plan.batch)
 
-small_show : (m : Machine) (h : Option Held) → IsSmallAnswer m (show m h)
+small_show : (m : Machine) (h : Option KeptBatch) → IsSmallAnswer m (show m h)
 small_show m None = stays m _ m refl refl
 small_show m (Some h) = stays m _ m refl refl
 
-small_discard : (m : Machine) (id : ℕ) (h : Option Held) → IsSmallAnswer m (discard m id h)
+small_discard : (m : Machine) (id : ℕ) (h : Option KeptBatch) → IsSmallAnswer m (discard m id h)
 small_discard m id None = stays m _ m refl refl
 small_discard m id (Some h) = moves m _ _ refl (omega arith) (omega arith) refl refl
 
@@ -110,7 +111,7 @@ small_run_at m id (stage.Planned plan) r n is = small_run_of m id plan r n is
 small_run_at m id stage.Ran r n is = gives m (refuse m Already) r n (stays m _ m refl refl) is
 small_run_at m id stage.Stopped r n is = gives m (refuse m Already) r n (stays m _ m refl refl) is
 
-small_run : (m : Machine) (id : ℕ) (h : Option Held) (r : Reply) (n : Machine) → IsRunStep m id h r n → IsSmall m r n
+small_run : (m : Machine) (id : ℕ) (h : Option KeptBatch) (r : Reply) (n : Machine) → IsRunStep m id h r n → IsSmall m r n
 small_run m id None r n is = gives m (refuse m Unknown) r n (stays m _ m refl refl) is
 small_run m id (Some h) r n is = small_run_at m id h.stage r n is
 

@@ -15,11 +15,11 @@ use Rattle.batch_book.specs.declared.call.Call.{Call}
 use Rattle.batch_book.specs.declared.call.Call.TheVariants.{Submit, Fetch, Settle, Run, Show, Discard, Peek, Poke}
 use Rattle.batch_book.specs.declared.reply.Reply.{Reply}
 use Rattle.batch_book.specs.declared.reply.Reply.TheVariants.{Accepted, Fetched, Settled, Ran, Stopped, RunRefused, Shown, Discarded, Word, Poked, Refused}
-use Rattle.batch_book.specs.declared.refusal.Refusal.{Refusal}
-use Rattle.batch_book.specs.declared.refusal.Refusal.TheVariants.{HistoryFull, BookFull, Unknown, Unplanned, Stranger, Already, Memory, NoMemory}
+use Rattle.batch_book.specs.declared.refusal.BookRefusal.{BookRefusal}
+use Rattle.batch_book.specs.declared.refusal.BookRefusal.TheVariants.{HistoryFull, BookFull, Unknown, Unplanned, Stranger, Already, Memory, NoMemory}
 
 -- why a call may be refused; each for a full history and for want of memory
-abbrev pub IsRefusalOf : Call → Refusal → Type 0
+abbrev pub IsRefusalOf : Call → BookRefusal → Type 0
 IsRefusalOf call HistoryFull = Unit {0}
 IsRefusalOf call NoMemory = Unit {0}
 IsRefusalOf (Submit batch) BookFull = Unit {0}

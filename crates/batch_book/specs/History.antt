@@ -5,8 +5,8 @@ use Rattle.batch.specs.Extent.{IsShape}
 use Rattle.module_memory.specs.Store.{Store}
 use Rattle.schedule_certificate.specs.Plans.{Plan, IsPlan}
 use Rattle.batch_book.specs.declared.limits.TheConstants.{MAX_ENTRIES}
-use Rattle.batch_book.specs.declared.held.Held.{Held}
-use Rattle.batch_book.specs.declared.held.Stage.TheVariants.{Planned}
+use Rattle.batch_book.specs.declared.kept.KeptBatch.{KeptBatch}
+use Rattle.batch_book.specs.declared.kept.Stage.TheVariants.{Planned}
 use Rattle.batch_book.specs.declared.entry.Entry.{Entry}
 use Rattle.batch_book.specs.declared.reply.Reply.{Reply}
 use Rattle.batch_book.specs.declared.reply.Reply.TheVariants.{Accepted, Ran, Stopped}
@@ -83,7 +83,7 @@ abbrev pub given_numbers : (Reply → List ℕ) → List Entry → List ℕ
 given_numbers given es = flat_map (λ e. given e.reply) es
 
 -- a batch that can be run has a shortest plan of its own transfers
-abbrev pub HasOwnPlan : Held → Type 0
+abbrev pub HasOwnPlan : KeptBatch → Type 0
 HasOwnPlan h = (plan : Plan) → h.stage ≡ Planned plan → IsPlan plan × (plan.batch ≡ h.batch)
 
 abbrev pub HaveOwnPlans : Machine → Type 0

@@ -12,8 +12,8 @@ use Rattle.batch_book.specs.declared.call.Call.{Call}
 use Rattle.batch_book.specs.declared.call.Call.TheVariants.{Fetch}
 use Rattle.batch_book.specs.declared.reply.Reply.{Reply}
 use Rattle.batch_book.specs.declared.reply.Reply.TheVariants.{Ran, Stopped, RunRefused}
-use Rattle.batch_book.specs.declared.held.Stage.TheVariants as stage
-use Rattle.batch_book.specs.declared.held.Held.{Held}
+use Rattle.batch_book.specs.declared.kept.Stage.TheVariants as stage
+use Rattle.batch_book.specs.declared.kept.KeptBatch.{KeptBatch}
 use Rattle.batch_book.specs.Machine.{Machine, batch_of, run_to}
 
 -- what stands for the words while a run has them
@@ -21,17 +21,17 @@ abbrev pub no_store : Store
 no_store = record { shape = extent 0 0 0; blocks = [] }
 
 -- numbers above those that were given are free
-abbrev pub IsFreeAbove : List (ℕ × Held) → ℕ → Type 0
+abbrev pub IsFreeAbove : List (ℕ × KeptBatch) → ℕ → Type 0
 IsFreeAbove batches given = (id : ℕ) → given < id → lookup (nat_eq id) batches ≡ None
 
--- the rack is there, no number is held that wasn't given, and there are no more batches than may be
-pub record AreKept (rack : Option Store) (batches : List (ℕ × Held)) (given : ℕ) : Type 0 where
+-- the rack is there, no number is kept that wasn't given, and there are no more batches than may be
+pub record AreKept (rack : Option Store) (batches : List (ℕ × KeptBatch)) (given : ℕ) : Type 0 where
   pub there : IsSome rack
   pub free : IsFreeAbove batches given
   pub few : length batches ≤ MAX_BATCHES
 
 -- the batch of a reply to this call
-abbrev pub batch_in : Option Held → Option (List Transfer)
+abbrev pub batch_in : Option KeptBatch → Option (List Transfer)
 batch_in None = None
 batch_in (Some h) = Some h.batch
 

@@ -10,45 +10,45 @@ use Rattle.module_memory.specs.Store.{Store}
 use Rattle.module_memory.specs.Address.{fault_of, word_at, write_at}
 use Rattle.module_memory.specs.declared.fault.MemoryFault.{MemoryFault}
 use Rattle.schedule_certificate.specs.Plans.{Plan, IsPlan}
-use Rattle.setting_runner.specs.Runs.{CanMove, IsCompleted, IsStopped, IsMisfit}
+use Rattle.setting_runner.specs.Runs.{CanMove, IsCompleted, HasStoppedIn, IsMisfit}
 use Rattle.setting_runner.specs.declared.outcome.RunRefusal.TheVariants as run_refusal
 use Rattle.batch_book.specs.declared.limits.TheConstants.{MAX_BATCHES}
 use Rattle.batch_book.specs.declared.call.Call.{Call}
 use Rattle.batch_book.specs.declared.call.Call.TheVariants.{Submit, Fetch, Settle, Run, Show, Discard, Peek, Poke}
 use Rattle.batch_book.specs.declared.reply.Reply.{Reply}
 use Rattle.batch_book.specs.declared.reply.Reply.TheVariants.{Accepted, Fetched, Settled, Ran, Stopped, RunRefused, Shown, Discarded, Word, Poked, Refused}
-use Rattle.batch_book.specs.declared.refusal.Refusal.{Refusal}
-use Rattle.batch_book.specs.declared.refusal.Refusal.TheVariants.{BookFull, Unknown, Unplanned, Stranger, Already, Memory}
-use Rattle.batch_book.specs.declared.held.BatchState.{BatchState}
-use Rattle.batch_book.specs.declared.held.BatchState.TheVariants as state
-use Rattle.batch_book.specs.declared.held.Stage.{Stage}
-use Rattle.batch_book.specs.declared.held.Stage.TheVariants as stage
-use Rattle.batch_book.specs.declared.held.Held.{Held}
+use Rattle.batch_book.specs.declared.refusal.BookRefusal.{BookRefusal}
+use Rattle.batch_book.specs.declared.refusal.BookRefusal.TheVariants.{BookFull, Unknown, Unplanned, Stranger, Already, Memory}
+use Rattle.batch_book.specs.declared.kept.BatchState.{BatchState}
+use Rattle.batch_book.specs.declared.kept.BatchState.TheVariants as state
+use Rattle.batch_book.specs.declared.kept.Stage.{Stage}
+use Rattle.batch_book.specs.declared.kept.Stage.TheVariants as stage
+use Rattle.batch_book.specs.declared.kept.KeptBatch.{KeptBatch}
 
--- the batches that are held with their numbers, in order of acceptance; how many numbers batches
+-- the batches that are kept with their numbers, in order of acceptance; how many numbers batches
 -- and runs were given so far; and the words
 pub record Machine : Type 0 where
-  pub batches : List (ℕ × Held)
+  pub batches : List (ℕ × KeptBatch)
   pub given : ℕ
   pub runs : ℕ
   pub store : Store
 
--- nothing held, no number given, and these words
+-- nothing kept, no number given, and these words
 abbrev pub opened : Store → Machine
 opened store = record { batches = []; given = 0; runs = 0; store = store }
 
--- ---- what is held
+-- ---- what is kept
 
-abbrev pub held : ℕ → List Transfer → Stage → Held
-held owner batch stage = record { owner = owner; batch = batch; stage = stage }
+abbrev pub kept_batch : ℕ → List Transfer → Stage → KeptBatch
+kept_batch owner batch stage = record { owner = owner; batch = batch; stage = stage }
 
--- what is held, where this session has it
-abbrev pub owned : ℕ → Option Held → Option Held
+-- what is kept, where this session has it
+abbrev pub owned : ℕ → Option KeptBatch → Option KeptBatch
 owned session None = None
 owned session (Some h) = if h.owner == session then Some h else None
 
 -- the session's batch of this number
-abbrev pub batch_of : Machine → ℕ → ℕ → Option Held
+abbrev pub batch_of : Machine → ℕ → ℕ → Option KeptBatch
 batch_of m session id = owned session (lookup (nat_eq id) m.batches)
 
 -- the stage without its plan
@@ -59,12 +59,12 @@ state_of stage.Ran = state.Ran
 state_of stage.Stopped = state.Stopped
 
 -- the batches, of which the one that was found under a number is at another stage
-abbrev pub staged : ℕ → Stage → List (ℕ × Held) → Option Held → List (ℕ × Held)
+abbrev pub staged : ℕ → Stage → List (ℕ × KeptBatch) → Option KeptBatch → List (ℕ × KeptBatch)
 staged id s batches None = batches
-staged id s batches (Some h) = set_value (nat_eq id) batches (held h.owner h.batch s)
+staged id s batches (Some h) = set_value (nat_eq id) batches (kept_batch h.owner h.batch s)
 
 -- the batches, of which the one of this number is at another stage
-abbrev pub set_stage : ℕ → Stage → List (ℕ × Held) → List (ℕ × Held)
+abbrev pub set_stage : ℕ → Stage → List (ℕ × KeptBatch) → List (ℕ × KeptBatch)
 set_stage id s batches = staged id s batches (lookup (nat_eq id) batches)
 
 -- ---- the refusals of each call, in the order in which they are tested
@@ -83,7 +83,7 @@ abbrev pub Gives : Reply × Machine → Reply → Machine → Type 0
 Gives answer reply next = (reply ≡ answer.0) × (next ≡ answer.1)
 
 -- nothing changes
-abbrev pub refuse : Machine → Refusal → Reply × Machine
+abbrev pub refuse : Machine → BookRefusal → Reply × Machine
 refuse m why = (Refused why, m)
 
 -- the batch goes last, and waits for its plan
@@ -91,7 +91,7 @@ abbrev pub accept : Machine → ℕ → List Transfer → Reply × Machine
 accept m session batch = (
   Accepted (m.given + 1),
   record m {
-    batches = m.batches ++ (m.given + 1, held session batch stage.Waiting) ∷ [];
+    batches = m.batches ++ (m.given + 1, kept_batch session batch stage.Waiting) ∷ [];
     given = m.given + 1;
   },
 )
@@ -100,7 +100,7 @@ abbrev pub submit : Machine → ℕ → List Transfer → Reply × Machine
 submit m session batch =
     if nat_lt (length m.batches) MAX_BATCHES then accept m session batch else refuse m BookFull
 
-abbrev pub fetch : Machine → Option Held → Reply × Machine
+abbrev pub fetch : Machine → Option KeptBatch → Reply × Machine
 fetch m None = refuse m Unknown
 fetch m (Some h) = (Fetched h.batch, m)
 
@@ -111,16 +111,16 @@ settle_at m id plan stage.Waiting = (
 )
 settle_at m id plan s = refuse m Already
 
-abbrev pub settle : Machine → ℕ → Plan → Option Held → Reply × Machine
+abbrev pub settle : Machine → ℕ → Plan → Option KeptBatch → Reply × Machine
 settle m id plan None = refuse m Unknown
 settle m id plan (Some h) =
     if same_transfers h.batch plan.batch then settle_at m id plan h.stage else refuse m Stranger
 
-abbrev pub show : Machine → Option Held → Reply × Machine
+abbrev pub show : Machine → Option KeptBatch → Reply × Machine
 show m None = refuse m Unknown
 show m (Some h) = (Shown (length h.batch) (state_of h.stage), m)
 
-abbrev pub discard : Machine → ℕ → Option Held → Reply × Machine
+abbrev pub discard : Machine → ℕ → Option KeptBatch → Reply × Machine
 discard m id None = refuse m Unknown
 discard m id (Some h) = (Discarded, record m { batches = remove_entry (nat_eq id) m.batches })
 
@@ -163,7 +163,7 @@ IsRunOf m id plan (Ran run settings words) next =
     HasBegun m plan run × IsCompleted m.store plan settings words next.store
     × (next ≡ run_to m id stage.Ran next.store)
 IsRunOf m id plan (Stopped run setting cause moved) next =
-    HasBegun m plan run × IsStopped m.store plan setting moved next.store
+    HasBegun m plan run × HasStoppedIn m.store plan setting moved next.store
     × (next ≡ run_to m id stage.Stopped next.store)
 IsRunOf m id plan reply next = ⊥
 
@@ -172,7 +172,7 @@ IsRunAt m id stage.Waiting reply next = Gives (refuse m Unplanned) reply next
 IsRunAt m id (stage.Planned plan) reply next = IsRunOf m id plan reply next
 IsRunAt m id s reply next = Gives (refuse m Already) reply next
 
-abbrev pub IsRunStep : Machine → ℕ → Option Held → Reply → Machine → Type 0
+abbrev pub IsRunStep : Machine → ℕ → Option KeptBatch → Reply → Machine → Type 0
 IsRunStep m id None reply next = Gives (refuse m Unknown) reply next
 IsRunStep m id (Some h) reply next = IsRunAt m id h.stage reply next
 

@@ -6,7 +6,7 @@ use Rattle.setting_runner.specs.declared.outcome.Outcome.TheVariants as outcome
 use Rattle.setting_runner.specs.declared.outcome.RunRefusal.TheVariants as run_refusal
 use Rattle.batch_book.specs.declared.reply.Reply.{Reply}
 use Rattle.batch_book.specs.declared.reply.Reply.TheVariants.{Fetched, Ran, Stopped, Refused}
-use Rattle.batch_book.specs.declared.refusal.Refusal.TheVariants.{HistoryFull, NoMemory}
+use Rattle.batch_book.specs.declared.refusal.BookRefusal.TheVariants.{HistoryFull, NoMemory}
 
 -- the history has all replies but these two
 abbrev pub is_logged : Reply → Bool

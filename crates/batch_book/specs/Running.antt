@@ -3,9 +3,9 @@ use Rattle.std.specs.Prelude.{ℕ, Option, Some, None}
 use Rattle.schedule_certificate.specs.Plans.{Plan}
 use Rattle.batch_book.specs.declared.call.Call.{Call}
 use Rattle.batch_book.specs.declared.call.Call.TheVariants.{Run}
-use Rattle.batch_book.specs.declared.held.Stage.{Stage}
-use Rattle.batch_book.specs.declared.held.Stage.TheVariants as stage
-use Rattle.batch_book.specs.declared.held.Held.{Held}
+use Rattle.batch_book.specs.declared.kept.Stage.{Stage}
+use Rattle.batch_book.specs.declared.kept.Stage.TheVariants as stage
+use Rattle.batch_book.specs.declared.kept.KeptBatch.{KeptBatch}
 use Rattle.batch_book.specs.Machine.{Machine, batch_of}
 
 -- the plan by which a batch can be run
@@ -13,7 +13,7 @@ abbrev pub plan_at : Stage → Option Plan
 plan_at (stage.Planned plan) = Some plan
 plan_at s = None
 
-abbrev pub plan_in : Option Held → Option Plan
+abbrev pub plan_in : Option KeptBatch → Option Plan
 plan_in None = None
 plan_in (Some h) = plan_at h.stage
 

@@ -1,7 +1,7 @@
 -- The seats of an exchange, and their lists.
 use Rattle.std.specs.Prelude.{◌≡◌, ℕ, ◌≤◌, max, nat_eq, List, length, filter, sum_by, Option, Some, None}
 use Rattle.atomic_table.specs.Seated.{TableId}
-use Rattle.progress_word.specs.Lookouts.{LookoutView}
+use Rattle.progress_word.specs.Watchers.{WatcherView}
 use Rattle.batch_book.specs.declared.entry.Entry.{Entry}
 
 -- What contracts see of a seat: the word of its exchange (none, once that is closed), its session,
@@ -15,8 +15,8 @@ pub record SeatState : Type 0 where
   pub raised : ℕ
   pub parts : ℕ
 
--- a seat with this lookout on the word of its exchange
-abbrev pub open_seat : LookoutView → ℕ → List Entry → ℕ → SeatState
+-- a seat with this watcher on the word of its exchange
+abbrev pub open_seat : WatcherView → ℕ → List Entry → ℕ → SeatState
 open_seat o session log parts =
     record {
       exchange = Some o.word;
@@ -54,8 +54,8 @@ own session history = filter (λ e. nat_eq e.session session) history
 abbrev pub LogAgrees : List Entry → SeatState → Type 0
 LogAgrees history seat = seat.log ≡ own seat.session history
 
--- a lookout from which the word was raised to a value, or needn't be
-pub record Reaches (old : LookoutView) (value : ℕ) (new : LookoutView) : Type 0 where
+-- a watcher from which the word was raised to a value, or needn't be
+pub record Reaches (old : WatcherView) (value : ℕ) (new : WatcherView) : Type 0 where
   pub word : new.word ≡ old.word
   pub parts : new.parts ≡ old.parts
   pub raised : new.raised ≡ max old.raised value

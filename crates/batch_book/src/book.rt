@@ -13,7 +13,7 @@ use crate::call::Call;
 use crate::entry::{Copies, Entry, list};
 use crate::holdings::Holdings;
 use crate::limits::MAX_ENTRIES;
-use crate::refusal::Refusal;
+use crate::refusal::BookRefusal;
 use crate::reply::Reply;
 use crossbar::ConfigPort;
 use module_memory::Rack;
@@ -24,9 +24,9 @@ use std::alloc::{AllocError, Global};
 use std::marker::Model;
 use std::thread::Threads;
 
-/// The batches that sessions have submitted, the rack that these are run on, and the history of what was
-/// asked and answered. Contracts see the words that it was opened with, the history, and the machine that
-/// this has led to, step by step.
+/// The batches that sessions have submitted, the rack that these are run on, and the history of
+/// what was asked and answered. Contracts see the words that it was opened with, the history, and
+/// the machine that this has led to, step by step.
 pub struct Book {
     holdings: Holdings,
     opening: Rack,
@@ -55,8 +55,9 @@ impl Model for Book {
 }
 
 impl Book {
-    /// A book of this rack, with no batch and no entry. It takes memory, and time, for a copy of the rack and
-    /// for as many batches as it may hold; where there is no memory the rack comes back as it was.
+    /// A book of this rack, with no batch and no entry. It takes memory, and time, for a copy of
+    /// the rack and for as many batches as it may hold; where there is no memory the rack comes
+    /// back as it was.
     pub fn new(alloc: Global, rack: Rack) -> Result<Book, (Rack, AllocError)>
         ensures ok { IfOk result (λ book. book ≡ new_account rack) }
         ensures unchanged { IfErr result (λ refused. refused.0 ≡ rack) }
@@ -73,8 +74,8 @@ impl Book {
         })
     }
 
-    /// What was asked and answered, in order. Each reply is one that the machine may give where the entries
-    /// before it lead, and the batches and memories are where all of them lead.
+    /// What was asked and answered, in order. Each reply is one that the machine may give where the
+    /// entries before it lead, and the batches and memories are where all of them lead.
     pub fn history(&self) -> &[Entry]
         ensures history { result.now ≡ self.now.history }
         ensures replay { IsReplay (opened self.now.opening) self.now.history self.now.machine }
@@ -120,8 +121,8 @@ impl Book {
         self.holdings.runs() + 1
     }
 
-    /// Makes room in a list for an entry, and copies the call, and the batch that the reply to it has, if it has
-    /// one.
+    /// Makes room in a list for an entry, and copies the call, and the batch that the reply to it
+    /// has, if it has one.
     pub(crate) fn prepare(
         &self,
         log: &mut Vec<Entry>,
@@ -137,15 +138,17 @@ impl Book {
         self.holdings.prepare(log, session, call)
     }
 
-    /// One call of a session, and its reply. The history has both then, but where it is full, and where there
-    /// was no memory: then nothing has changed. A batch or plan of a call that is refused is dropped.
+    /// One call of a session, and its reply. The history has both then, but where it is full, and
+    /// where there was no memory: then nothing has changed. A batch or plan of a call that is
+    /// refused is dropped.
     ///
-    /// In a full history no memory is asked for. Else all of it is taken before anything changes: for the
-    /// entry, for copies of what the call and the reply hold, and for the run, if there is one.
+    /// In a full history no memory is asked for. Else all of it is taken before anything changes:
+    /// for the entry, for copies of what the call and the reply hold, and for the run, if there is
+    /// one.
     ///
-    /// A run takes its time, `Submit`, `Fetch` and `Settle` take time by the batch, and `Discard` by the batches
-    /// that are held. All other calls take constant time, however long the history is, but for those few at
-    /// which its memory grows.
+    /// A run takes its time, `Submit`, `Fetch` and `Settle` take time by the batch, and `Discard`
+    /// by the batches that are held. All other calls take constant time, however long the history
+    /// is, but for those few at which its memory grows.
     pub fn apply<R: Threads + Sync, P: ConfigPort, W: WireMaker + Sync, G: Gate + Sync, N: Notice>(
         &mut self,
         rt: &R,
@@ -158,20 +161,21 @@ impl Book {
         // One step of the machine, and one entry more.
         ensures grown { is_logged result ≡ true → IsGrown self.old session call result self.new }
         ensures opening { self.new.opening ≡ self.old.opening }
-        ensures full { (result ≡ Reply.Refused Refusal.HistoryFull) ↔ IsFull self.old }
+        ensures full { (result ≡ Reply.Refused BookRefusal.HistoryFull) ↔ IsFull self.old }
         ensures unchanged { is_logged result ≡ false → self.new ≡ self.old }
 
-        // What a run leaves of the plant, and what the notice is told. Nothing else does anything to them.
+        // What a run leaves of the plant, and what the notice is told. Nothing else does anything
+        // to them.
         ensures plant { LeavesPlant P.ConfigPort W.is_sure self.old.machine.store.shape
             (plan_to_run self.old.machine session call) (outcome_of result) plant.old plant.new }
         ensures told { TellsOutcome N.hears notice.old (outcome_of result) notice.new }
     {
         if self.history.len() >= MAX_ENTRIES {
-            return Reply::Refused(Refusal::HistoryFull);
+            return Reply::Refused(BookRefusal::HistoryFull);
         }
         match self.enter(rt, session, call, plant, notice) {
             Ok(reply) => reply,
-            Err(_) => Reply::Refused(Refusal::NoMemory),
+            Err(_) => Reply::Refused(BookRefusal::NoMemory),
         }
     }
 

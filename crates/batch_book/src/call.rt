@@ -4,8 +4,8 @@ use batch::Batch;
 use schedule_certificate::Planned;
 use std::alloc::AllocError;
 
-/// What a session asks of the book. A batch goes by the number under which it was accepted, modules are
-/// counted from 0, and addresses are in bytes.
+/// What a session asks of the book. A batch goes by the number under which it was accepted, modules
+/// are counted from 0, and addresses are in bytes.
 #[derive(Drop)]
 pub enum Call {
     /// Accept this batch.

@@ -30,16 +30,17 @@ pub struct Closed<L: Ledger, P, W, G> {
 pub enum Unclosed<L: Ledger, P, W, G> {
     /// The seats aren't all seats of the exchange. All is as it was.
     SeatMissing(Shared<L, P, W, G>, Vec<Seat<L>>),
-    /// Some seat's list has other entries than the history has of its session, or in another order. The exchange
-    /// is closed all the same.
+    /// Some seat's list has other entries than the history has of its session, or in another order.
+    /// The exchange is closed all the same.
     LogsDisagree(Closed<L, P, W, G>),
 }
 
 impl<L: Ledger, P, W, G> Shared<L, P, W, G> {
     ghost use Rattle.batch_book.specs.Closing.{Closes};
 
-    /// Closes the exchange, once all of its seats are given back, in any order. It compares each seat's list
-    /// with the history, in time that grows with the history times the seats. It takes no memory.
+    /// Closes the exchange, once all of its seats are given back, in any order. It compares each
+    /// seat's list with the history, in time that grows with the history times the seats. It takes
+    /// no memory.
     pub fn close(self, mut seats: Vec<Seat<L>>) -> Result<Closed<L, P, W, G>, Unclosed<L, P, W, G>>
         requires parts { L.parts ≡ ALL_PARTS }
         requires seats { All (λ s. s.exchange ≡ Some self.word) seats.items }
@@ -57,7 +58,7 @@ impl<L: Ledger, P, W, G> Shared<L, P, W, G> {
         let agree = agree(book.history(), seats.as_slice());
         let mut all = gather(&word, seats.as_mut_slice());
         entries.audit(&mut all.share);
-        word.load(&mut all.lookout);
+        word.load(&mut all.watcher);
         let closed = Closed { book, plant, seats };
         if agree {
             Ok(closed)
@@ -73,12 +74,12 @@ fn gather<L: Ledger>(word: &ProgressWord, seats: &mut [Seat<L>]) -> ExchangeAcce
     requires all { ALL_PARTS ≤ parts_of seats.old }
     requires seats { All (λ s. s.exchange ≡ Some word.now) seats.old }
     ensures seats { seats.new ≡ map closed seats.old }
-    ensures word { result.lookout.word ≡ word.now }
+    ensures word { result.watcher.word ≡ word.now }
     ensures parts { result.parts ≡ ALL_PARTS }
     ensures total { parts_of seats.old ≡ ALL_PARTS }
     ensures amount { result.share.amount ≡ entries_of seats.old }
-    ensures seen { All (λ s. s.seen ≤ result.lookout.seen) seats.old }
-    ensures raised { (n : ℕ) → All (λ s. greatest s.log ≤ n) seats.old → result.lookout.raised ≤ n }
+    ensures seen { All (λ s. s.seen ≤ result.watcher.seen) seats.old }
+    ensures raised { (n : ℕ) → All (λ s. greatest s.log ≤ n) seats.old → result.watcher.raised ≤ n }
 {
     let mut all = seats[0].leave();
     for i in 1..seats.len() {

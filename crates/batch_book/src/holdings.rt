@@ -14,9 +14,9 @@ ghost use Rattle.batch_book.specs.Replies.{TellsNoRun, outcome_of, outcome_in};
 
 use crate::call::Call;
 use crate::entry::{Copies, Entry};
-use crate::held::{Held, Stage};
+use crate::kept::{KeptBatch, Stage};
 use crate::limits::{MAX_BATCHES, MAX_ENTRIES};
-use crate::refusal::Refusal;
+use crate::refusal::BookRefusal;
 use crate::reply::Reply;
 use batch::Batch;
 use crossbar::ConfigPort;
@@ -29,12 +29,12 @@ use std::alloc::{AllocError, Global};
 use std::marker::Model;
 use std::thread::Threads;
 
-/// The batches that are held, and the rack. Contracts see the machine.
+/// The batches that are kept, and the rack. Contracts see the machine.
 pub struct Holdings {
     // A run takes the rack and gives it back.
     rack: Option<Rack>,
     // By their numbers, in order of acceptance.
-    held: IndexMap<usize, Held>,
+    batches: IndexMap<usize, KeptBatch>,
     // How many numbers batches and runs were given.
     given: usize,
     runs: usize,
@@ -45,7 +45,7 @@ impl Drop for Holdings {
     fn drop(self) {
         let Holdings {
             rack: _,
-            held: _,
+            batches: _,
             given: _,
             runs: _,
         } = self;
@@ -59,41 +59,45 @@ impl Model for Holdings {
 
     ghost Value = { Machine };
 
-    ghost view = { λ h. record { batches = h.held.entries; given = h.given; runs = h.runs; store = unwrap_or h.rack no_store } };
+    ghost view = { λ h. record { batches = h.batches.entries; given = h.given; runs = h.runs; store = unwrap_or h.rack no_store } };
 
-    ghost invariant = { λ h. AreKept h.rack h.held.entries h.given };
+    ghost invariant = { λ h. AreKept h.rack h.batches.entries h.given };
 }
 
-/// What is held under a number, where it is this session's.
-fn held_by<'a>(held: &'a IndexMap<usize, Held>, session: usize, id: usize) -> Option<&'a Held>
-    ensures { option_copied result ≡ owned session (lookup (nat_eq id) held.now.entries) }
+/// What is kept under a number, where it is this session's.
+fn owned_by<'a>(
+    batches: &'a IndexMap<usize, KeptBatch>,
+    session: usize,
+    id: usize,
+) -> Option<&'a KeptBatch>
+    ensures { option_copied result ≡ owned session (lookup (nat_eq id) batches.now.entries) }
 {
-    match held.get(&id) {
+    match batches.get(&id) {
         Some(found) if found.owner == session => Some(found),
         _ => None,
     }
 }
 
-/// Brings what is held under a number to another stage.
-fn bring(held: &mut IndexMap<usize, Held>, id: usize, stage: Stage)
-    ensures { held.new.entries ≡ set_stage id stage held.old.entries }
+/// Brings what is kept under a number to another stage.
+fn bring(batches: &mut IndexMap<usize, KeptBatch>, id: usize, stage: Stage)
+    ensures { batches.new.entries ≡ set_stage id stage batches.old.entries }
 {
-    if let Some(found) = held.get_mut(&id) {
+    if let Some(found) = batches.get_mut(&id) {
         found.stage = stage;
     }
 }
 
 impl Holdings {
-    /// This rack and no batch, with room for as many batches as may be held. For want of memory the
+    /// This rack and no batch, with room for as many batches as may be kept. For want of memory the
     /// rack comes back as it was.
     pub fn new(alloc: Global, rack: Rack) -> Result<Holdings, (Rack, AllocError)>
         ensures ok { IfOk result (λ holdings. holdings ≡ opened rack) }
         ensures err { IfErr result (λ refused. refused.0 ≡ rack) }
     {
         match IndexMap::with_capacity(alloc, MAX_BATCHES) {
-            Ok(held) => Ok(Holdings {
+            Ok(batches) => Ok(Holdings {
                 rack: Some(rack),
-                held,
+                batches,
                 given: 0,
                 runs: 0,
             }),
@@ -111,13 +115,13 @@ impl Holdings {
         }
     }
 
-    /// Gives the rack out of what is held.
+    /// Gives the rack out of what is kept.
     pub fn into_rack(self) -> Rack
         ensures { result ≡ self.store }
     {
         let Holdings {
             rack,
-            held: _,
+            batches: _,
             given: _,
             runs: _,
         } = self;
@@ -134,8 +138,8 @@ impl Holdings {
         self.runs
     }
 
-    /// Makes room in a list for an entry, and copies the call, and the batch that the reply to it has, if it has
-    /// one.
+    /// Makes room in a list for an entry, and copies the call, and the batch that the reply to it
+    /// has, if it has one.
     pub fn prepare(
         &self,
         log: &mut Vec<Entry>,
@@ -163,7 +167,7 @@ impl Holdings {
         let Call::Fetch(id) = call else {
             return Ok(None);
         };
-        match held_by(&self.held, session, *id) {
+        match owned_by(&self.batches, session, *id) {
             Some(found) => Ok(Some(found.batch.copy()?)),
             None => Ok(None),
         }
@@ -175,18 +179,18 @@ impl Holdings {
         ensures quiet { TellsNoRun (outcome_in result) }
         ensures unchanged { OnErr result (self.new ≡ self.old) }
     {
-        if self.held.len() >= MAX_BATCHES {
-            return Ok(Reply::Refused(Refusal::BookFull));
+        if self.batches.len() >= MAX_BATCHES {
+            return Ok(Reply::Refused(BookRefusal::BookFull));
         }
         // There is room from the start on, but the map doesn't say that removing a batch leaves it.
-        self.held.reserve(1)?;
+        self.batches.reserve(1)?;
         let id = self.given + 1;
-        let held = Held {
+        let kept = KeptBatch {
             owner: session,
             batch,
             stage: Stage::Waiting,
         };
-        self.held.insert(id, held).unwrap();
+        self.batches.insert(id, kept).unwrap();
         self.given = id;
         Ok(Reply::Accepted(id))
     }
@@ -196,9 +200,9 @@ impl Holdings {
             Gives (fetch self.now (batch_of self.now session id)) reply self.now) }
         ensures quiet { TellsNoRun (outcome_in result) }
     {
-        match held_by(&self.held, session, id) {
+        match owned_by(&self.batches, session, id) {
             Some(found) => Ok(Reply::Fetched(found.batch.copy()?)),
-            None => Ok(Reply::Refused(Refusal::Unknown)),
+            None => Ok(Reply::Refused(BookRefusal::Unknown)),
         }
     }
 
@@ -207,19 +211,19 @@ impl Holdings {
             result self.new }
         ensures quiet { TellsNoRun (outcome_of result) }
     {
-        let Some(found) = held_by(&self.held, session, id) else {
-            return Reply::Refused(Refusal::Unknown);
+        let Some(found) = owned_by(&self.batches, session, id) else {
+            return Reply::Refused(BookRefusal::Unknown);
         };
         if found.batch != *planned.batch() {
-            return Reply::Refused(Refusal::Stranger);
+            return Reply::Refused(BookRefusal::Stranger);
         }
         match found.stage {
             Stage::Waiting => {
                 let settings = planned.schedule().settings();
-                bring(&mut self.held, id, Stage::Planned(planned));
+                bring(&mut self.batches, id, Stage::Planned(planned));
                 Reply::Settled { settings }
             }
-            _ => Reply::Refused(Refusal::Already),
+            _ => Reply::Refused(BookRefusal::Already),
         }
     }
 
@@ -227,12 +231,12 @@ impl Holdings {
         ensures step { Gives (show self.now (batch_of self.now session id)) result self.now }
         ensures quiet { TellsNoRun (outcome_of result) }
     {
-        match held_by(&self.held, session, id) {
+        match owned_by(&self.batches, session, id) {
             Some(found) => Reply::Shown {
                 transfers: found.batch.len(),
                 state: found.stage.state(),
             },
-            None => Reply::Refused(Refusal::Unknown),
+            None => Reply::Refused(BookRefusal::Unknown),
         }
     }
 
@@ -240,10 +244,10 @@ impl Holdings {
         ensures step { Gives (discard self.old id (batch_of self.old session id)) result self.new }
         ensures quiet { TellsNoRun (outcome_of result) }
     {
-        if held_by(&self.held, session, id).is_none() {
-            return Reply::Refused(Refusal::Unknown);
+        if owned_by(&self.batches, session, id).is_none() {
+            return Reply::Refused(BookRefusal::Unknown);
         }
-        self.held.shift_remove(&id);
+        self.batches.shift_remove(&id);
         Reply::Discarded
     }
 
@@ -253,7 +257,7 @@ impl Holdings {
     {
         match self.rack().read(module, address) {
             Ok(word) => Reply::Word(word),
-            Err(fault) => Reply::Refused(Refusal::Memory(fault)),
+            Err(fault) => Reply::Refused(BookRefusal::Memory(fault)),
         }
     }
 
@@ -266,7 +270,7 @@ impl Holdings {
         };
         match rack.write(module, address, word) {
             Ok(()) => Reply::Poked,
-            Err(fault) => Reply::Refused(Refusal::Memory(fault)),
+            Err(fault) => Reply::Refused(BookRefusal::Memory(fault)),
         }
     }
 
@@ -288,15 +292,15 @@ impl Holdings {
             (plan_in (batch_of self.old session id)) (outcome_in result) plant.old plant.new }
         ensures told { TellsOutcome N.hears notice.old (outcome_in result) notice.new }
     {
-        let Some(found) = held_by(&self.held, session, id) else {
-            return Ok(Reply::Refused(Refusal::Unknown));
+        let Some(found) = owned_by(&self.batches, session, id) else {
+            return Ok(Reply::Refused(BookRefusal::Unknown));
         };
         let planned = match &found.stage {
-            Stage::Waiting => return Ok(Reply::Refused(Refusal::Unplanned)),
+            Stage::Waiting => return Ok(Reply::Refused(BookRefusal::Unplanned)),
             Stage::Planned(planned) => planned,
-            Stage::Ran | Stage::Stopped => return Ok(Reply::Refused(Refusal::Already)),
+            Stage::Ran | Stage::Stopped => return Ok(Reply::Refused(BookRefusal::Already)),
         };
-        let alloc = *self.held.allocator();
+        let alloc = *self.batches.allocator();
         let Some(rack) = self.rack.take() else {
             unreachable!()
         };
@@ -305,18 +309,20 @@ impl Holdings {
         self.end(id, &outcome)
     }
 
-    /// Brings a batch to the stage behind its run, which left these words, and gives the run's number.
+    /// Brings a batch to the stage behind its run, which left these words, and gives the run's
+    /// number.
     fn number(&mut self, id: usize, stage: Stage) -> usize
         requires { self.old.runs < MAX_ENTRIES }
         ensures number { result ≡ self.old.runs + 1 }
         ensures next { self.new ≡ run_to self.old id stage self.old.store }
     {
-        bring(&mut self.held, id, stage);
+        bring(&mut self.batches, id, stage);
         self.runs += 1;
         self.runs
     }
 
-    /// The reply that tells of a run, which left these words. A run that was refused leaves its batch planned.
+    /// The reply that tells of a run, which left these words. A run that was refused leaves its
+    /// batch planned.
     fn end(&mut self, id: usize, outcome: &Outcome) -> Result<Reply, AllocError>
         requires { self.old.runs < MAX_ENTRIES }
         ensures { EndsRun self.old id outcome.now result self.new }

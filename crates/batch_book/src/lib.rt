@@ -1,15 +1,15 @@
-//! The book of an exchange: the batches that sessions hand in, the rack on which these are run, and the
-//! history of what was asked and answered.
+//! The book of an exchange: the batches that sessions hand in, the rack on which these are run, and
+//! the history of what was asked and answered.
 //!
-//! A [`Book`] answers one [`Call`] at a time. Its contracts see a machine: what the book holds, and which
-//! reply and which next machine each call of a session has. The type keeps that the history is legal, which
-//! means that each reply in it is one that the machine may give there, and that batches and memories are
-//! where the history leads.
+//! A [`Book`] answers one [`Call`] at a time. Its contracts see a machine: what the book holds, and
+//! which reply and which next machine each call of a session has. The type keeps that the history
+//! is legal, which means that each reply in it is one that the machine may give there, and that
+//! batches and memories are where the history leads.
 //!
-//! A [`Shared`] is one exchange for many sessions: a book behind a lock, and a word that says how far the runs
-//! have come, which is read without the lock. Each session calls from its own [`Seat`], which keeps a list of
-//! what it asked and was answered. Where all seats are given back and the exchange closes, each list is the
-//! history filtered to its session.
+//! A [`Shared`] is one exchange for many sessions: a book behind a lock, and a word that says how
+//! far the runs have come, which is read without the lock. Each session calls from its own
+//! [`Seat`], which keeps a list of what it asked and was answered. Where all seats are given back
+//! and the exchange closes, each list is the history filtered to its session.
 #![tactic(auto)]
 
 mod access;
@@ -17,8 +17,8 @@ mod book;
 mod call;
 mod close;
 mod entry;
-mod held;
 mod holdings;
+mod kept;
 pub mod laws;
 mod limits;
 mod lists;
@@ -36,12 +36,12 @@ pub use book::Book;
 pub use call::Call;
 pub use close::{Closed, Unclosed};
 pub use entry::Entry;
-pub use held::{BatchState, Held, Stage};
+pub use kept::{BatchState, KeptBatch, Stage};
 pub use limits::{MAX_BATCHES, MAX_ENTRIES, RUN_STEP};
 pub use open::SharedFault;
 pub use progress_word::ALL_PARTS;
 pub use reading::Reading;
-pub use refusal::Refusal;
+pub use refusal::BookRefusal;
 pub use reply::Reply;
 pub use seat::Seat;
 pub use shared::Shared;

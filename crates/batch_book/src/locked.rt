@@ -13,7 +13,7 @@ use crate::call::Call;
 use crate::entry::list;
 use crate::limits::MAX_ENTRIES;
 use crate::raise::Raise;
-use crate::refusal::Refusal;
+use crate::refusal::BookRefusal;
 use crate::reply::Reply;
 use crate::seat::Seat;
 use crossbar::ConfigPort;
@@ -61,11 +61,11 @@ impl<L: Ledger, P: ConfigPort, W: WireMaker + Sync, G: Gate + Sync> Locked<L, P,
         // This opens the seat: by its invariant `raised` holds also where the history is full.
         let _session = seat.session;
         if self.book.history().len() >= MAX_ENTRIES {
-            return Reply::Refused(Refusal::HistoryFull);
+            return Reply::Refused(BookRefusal::HistoryFull);
         }
         match self.enter(rt, word, seat, call) {
             Ok(reply) => reply,
-            Err(_) => Reply::Refused(Refusal::NoMemory),
+            Err(_) => Reply::Refused(BookRefusal::NoMemory),
         }
     }
 
@@ -103,7 +103,8 @@ impl<L: Ledger, P: ConfigPort, W: WireMaker + Sync, G: Gate + Sync> Locked<L, P,
         Ok(reply)
     }
 
-    // One call of the book, which raises the word from the access's lookout, and counts in the ledger.
+    // One call of the book, which raises the word from the access's watcher, and counts in the
+    // ledger.
     fn ask<R: Threads + Sync>(
         &mut self,
         rt: &R,
@@ -112,25 +113,25 @@ impl<L: Ledger, P: ConfigPort, W: WireMaker + Sync, G: Gate + Sync> Locked<L, P,
         access: ExchangeAccess<L>,
         call: Call,
     ) -> (Reply, ExchangeAccess<L>)
-        requires { access.lookout.word ≡ word.now }
+        requires { access.watcher.word ≡ word.now }
         ensures reply { IsReplyTo call result.0 }
         ensures history { is_logged result.0 ≡ true →
             IsGrown self.old.book session call result.0 self.new.book }
         ensures unlogged { is_logged result.0 ≡ false → self.new.book ≡ self.old.book }
-        ensures quiet { value_of result.0 ≡ 0 → result.1.lookout ≡ access.lookout }
+        ensures quiet { value_of result.0 ≡ 0 → result.1.watcher ≡ access.watcher }
         ensures amount { result.1.share.amount ≡
             (if is_logged result.0 then access.share.amount + 1 else access.share.amount) }
         ensures parts { result.1.parts ≡ access.parts }
-        ensures lookout { Reaches access.lookout (value_of result.0) result.1.lookout }
+        ensures watcher { Reaches access.watcher (value_of result.0) result.1.watcher }
     {
         let ExchangeAccess {
             mut share,
-            lookout,
+            watcher,
             parts,
         } = access;
         let mut raise = Raise {
             word,
-            lookout,
+            watcher,
             run: self.book.next_run(),
         };
         let reply = self
@@ -141,12 +142,12 @@ impl<L: Ledger, P: ConfigPort, W: WireMaker + Sync, G: Gate + Sync> Locked<L, P,
         }
         let Raise {
             word: _,
-            lookout,
+            watcher,
             run: _,
         } = raise;
         let access = ExchangeAccess {
             share,
-            lookout,
+            watcher,
             parts,
         };
         (reply, access)

@@ -1,7 +1,7 @@
 //! How an exchange is made.
 
 ghost use Rattle.std.specs.Prelude.{◌≡◌, ◌↔◌, ◌≤◌, ◌<◌, ◌⊎◌, [], vec_capacity, IfOk, IfErr, OnOk};
-ghost use Rattle.progress_word.specs.Lookouts.{lookout_view};
+ghost use Rattle.progress_word.specs.Watchers.{watcher_view};
 ghost use Rattle.batch_book.specs.Exchanges.{AreNew};
 
 use crate::access::ExchangeAccess;
@@ -29,11 +29,12 @@ pub enum SharedFault {
 }
 
 impl<L: Ledger, P, W, G> Shared<L, P, W, G> {
-    /// An exchange over this rack and plant, and a seat for each session, from 1 to [`MAX_SESSIONS`] of them.
-    /// The sessions are numbered from 0, in the order of the seats. The blank is one of a ledger of [`ALL_PARTS`].
+    /// An exchange over this rack and plant, and a seat for each session, from 1 to
+    /// [`MAX_SESSIONS`] of them. The sessions are numbered from 0, in the order of the seats. The
+    /// blank is one of a ledger of [`ALL_PARTS`].
     ///
-    /// It takes memory for a copy of the rack, for the book, the word and the seats. Where it can't be made,
-    /// blank, rack and plant come back as they were.
+    /// It takes memory for a copy of the rack, for the book, the word and the seats. Where it can't
+    /// be made, blank, rack and plant come back as they were.
     pub fn new(
         alloc: Global,
         blank: Blank,
@@ -59,7 +60,7 @@ impl<L: Ledger, P, W, G> Shared<L, P, W, G> {
         let Ok(seats) = Vec::with_capacity(alloc, sessions) else {
             return Err((blank, rack, plant, SharedFault::NoMemory));
         };
-        let Ok((word, lookout)) = ProgressWord::new(alloc) else {
+        let Ok((word, watcher)) = ProgressWord::new(alloc) else {
             return Err((blank, rack, plant, SharedFault::NoMemory));
         };
         let shape = rack.shape();
@@ -70,7 +71,7 @@ impl<L: Ledger, P, W, G> Shared<L, P, W, G> {
         let (entries, share) = blank.open::<L>();
         let all = ExchangeAccess {
             share,
-            lookout,
+            watcher,
             parts: ALL_PARTS,
         };
         let seats = deal(alloc, &word, seats, all, sessions);
@@ -83,7 +84,8 @@ impl<L: Ledger, P, W, G> Shared<L, P, W, G> {
     }
 }
 
-// Deals the parts to the seats, which takes no memory: each gets one, and the first keeps those left over.
+// Deals the parts to the seats, which takes no memory: each gets one, and the first keeps those
+// left over.
 fn deal<L: Ledger>(
     alloc: Global,
     word: &ProgressWord,
@@ -95,7 +97,7 @@ fn deal<L: Ledger>(
     requires room { sessions ≤ vec_capacity seats }
     requires some { 0 < sessions }
     requires few { sessions ≤ MAX_SESSIONS }
-    requires first { first.lookout ≡ lookout_view word.now 0 0 ALL_PARTS }
+    requires first { first.watcher ≡ watcher_view word.now 0 0 ALL_PARTS }
     requires amount { first.share.amount ≡ 0 }
     ensures { AreNew word.now sessions result.items }
 {

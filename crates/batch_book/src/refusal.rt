@@ -3,10 +3,10 @@ use thiserror::Error;
 
 /// Why the book refuses a call. Batches and memories are as they were.
 ///
-/// The causes are tested in this order, which is this project's choice. Want of memory may come in place of
-/// any cause but the first: where the history is full, no memory is asked for.
+/// The causes are tested in this order, which is this project's choice. Want of memory may come in
+/// place of any cause but the first: where the history is full, no memory is asked for.
 #[derive(Clone, Copy, Debug, PartialEq, Eq, Error)]
-pub enum Refusal {
+pub enum BookRefusal {
     /// The history has no room for another entry. It has none of this call.
     #[error("history full")]
     HistoryFull,

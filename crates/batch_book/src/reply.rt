@@ -1,8 +1,8 @@
 ghost use Rattle.std.specs.Prelude.{◌≡◌};
 ghost use Rattle.batch_book.specs.Replies.{SpareFits, is_logged};
 
-use crate::held::BatchState;
-use crate::refusal::Refusal;
+use crate::kept::BatchState;
+use crate::refusal::BookRefusal;
 use batch::Batch;
 use setting_runner::{Moved, RunRefusal, StopCause};
 
@@ -38,7 +38,8 @@ pub enum Reply {
         /// How many words each transfer of that setting has moved.
         moved: Moved,
     },
-    /// The batch can't be run on this rack, for this cause, which isn't want of memory. It is still planned.
+    /// The batch can't be run on this rack, for this cause, which isn't want of memory. It is still
+    /// planned.
     RunRefused(RunRefusal),
     /// What the batch is.
     Shown {
@@ -54,18 +55,18 @@ pub enum Reply {
     /// The word was written.
     Poked,
     /// The call was refused.
-    Refused(Refusal),
+    Refused(BookRefusal),
 }
 
 impl Reply {
-    /// Whether a call with this reply has its entry in the history: each has, but where the history was full or
-    /// there was no memory.
+    /// Whether a call with this reply has its entry in the history: each has, but where the history
+    /// was full or there was no memory.
     pub fn is_logged(&self) -> bool
         ensures { result ≡ is_logged self.now }
     {
         !matches!(
             self,
-            Reply::Refused(Refusal::HistoryFull) | Reply::Refused(Refusal::NoMemory)
+            Reply::Refused(BookRefusal::HistoryFull) | Reply::Refused(BookRefusal::NoMemory)
         )
     }
 

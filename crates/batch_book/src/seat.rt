@@ -12,8 +12,8 @@ use std::alloc::Global;
 use std::marker::Model;
 use std::sync::ledger::Ledger;
 
-/// The seat of a session at an exchange, and the list of what the session has asked and was answered. Once
-/// the exchange is closed, the seat keeps its list, and no exchange takes it.
+/// The seat of a session at an exchange, and the list of what the session has asked and was
+/// answered. Once the exchange is closed, the seat keeps its list, and no exchange takes it.
 pub struct Seat<L: Ledger> {
     pub(crate) session: usize,
     pub(crate) log: Vec<Entry>,
@@ -41,24 +41,24 @@ impl<L: Ledger> Model for Seat<L> {
     ghost Value = { SeatState };
 
     ghost view = { λ s. record {
-      exchange = option_map (λ t. t.lookout.word) s.access;
+      exchange = option_map (λ t. t.watcher.word) s.access;
       session = s.session;
       log = s.log.items;
-      seen = option_map_or (λ t. t.lookout.seen) s.access 0;
-      raised = option_map_or (λ t. t.lookout.raised) s.access 0;
+      seen = option_map_or (λ t. t.watcher.seen) s.access 0;
+      raised = option_map_or (λ t. t.watcher.raised) s.access 0;
       parts = option_map_or (λ t. t.parts) s.access 0;
     } };
 
     ghost invariant = { λ s. IfSome s.access (λ t.
-        (t.share.amount ≡ length s.log.items) × (t.lookout.raised ≡ greatest s.log.items)) };
+        (t.share.amount ≡ length s.log.items) × (t.watcher.raised ≡ greatest s.log.items)) };
 }
 
 impl<L: Ledger> Seat<L> {
     /// The seat of a session that has asked nothing yet.
     pub(crate) fn new(alloc: Global, session: usize, access: ExchangeAccess<L>) -> Seat<L>
         requires amount { access.share.amount ≡ 0 }
-        requires raised { access.lookout.raised ≡ 0 }
-        ensures { result ≡ open_seat access.lookout session [] access.parts }
+        requires raised { access.watcher.raised ≡ 0 }
+        ensures { result ≡ open_seat access.watcher session [] access.parts }
     {
         Seat {
             session,
@@ -74,7 +74,8 @@ impl<L: Ledger> Seat<L> {
         self.session
     }
 
-    /// What this session asked and was answered, in order: the entries of its calls that are in the history.
+    /// What this session asked and was answered, in order: the entries of its calls that are in the
+    /// history.
     pub fn log(&self) -> &[Entry]
         ensures { result.now ≡ self.now.log }
     {
@@ -96,9 +97,9 @@ impl<L: Ledger> Seat<L> {
     pub(crate) fn leave(&mut self) -> ExchangeAccess<L>
         requires { IsSome self.old.exchange }
         ensures seat { self.new ≡ closed self.old }
-        ensures word { Some result.lookout.word ≡ self.old.exchange }
-        ensures seen { result.lookout.seen ≡ self.old.seen }
-        ensures raised { result.lookout.raised ≡ greatest self.old.log }
+        ensures word { Some result.watcher.word ≡ self.old.exchange }
+        ensures seen { result.watcher.seen ≡ self.old.seen }
+        ensures raised { result.watcher.raised ≡ greatest self.old.log }
         ensures parts { result.parts ≡ self.old.parts }
         ensures amount { result.share.amount ≡ length self.old.log }
     {

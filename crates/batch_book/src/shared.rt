@@ -23,9 +23,9 @@ use std::sync::ledger::Ledger;
 use std::sync::{Mutex, Wait};
 use std::thread::Threads;
 
-/// One exchange for many sessions: a book and its plant behind a lock, and beside the lock a word that says
-/// how far the runs have come. Each session calls from a [`Seat`] of its own. Contracts see which exchange it
-/// is, and the shape of its rack.
+/// One exchange for many sessions: a book and its plant behind a lock, and beside the lock a word
+/// that says how far the runs have come. Each session calls from a [`Seat`] of its own. Contracts
+/// see which exchange it is, and the shape of its rack.
 #[derive(Drop)]
 pub struct Shared<L: Ledger, P, W, G> {
     locked: Mutex<Locked<L, P, W, G>>,
@@ -76,8 +76,8 @@ impl<L: Ledger, P, W, G> Shared<L, P, W, G> {
         self.shape
     }
 
-    /// How far the runs have come, which isn't behind what the seat has seen. One atomic load: it takes no
-    /// lock, and waits for no run.
+    /// How far the runs have come, which isn't behind what the seat has seen. One atomic load: it
+    /// takes no lock, and waits for no run.
     pub fn progress(&self, seat: &mut Seat<L>) -> Reading
         requires { seat.old.exchange ≡ Some self.now.word }
         ensures reading { seat.new.seen ≡ value_at result.run result.done }
@@ -88,7 +88,7 @@ impl<L: Ledger, P, W, G> Shared<L, P, W, G> {
         ensures raised { seat.new.raised ≡ seat.old.raised }
     {
         let value = match &mut seat.access {
-            Some(access) => self.word.load(&mut access.lookout),
+            Some(access) => self.word.load(&mut access.watcher),
             None => unreachable!(),
         };
         Reading {
@@ -99,12 +99,12 @@ impl<L: Ledger, P, W, G> Shared<L, P, W, G> {
 }
 
 impl<L: Ledger, P: ConfigPort, W: WireMaker + Sync, G: Gate + Sync> Shared<L, P, W, G> {
-    /// One call of the seat's session, and its reply: it takes the lock, and applies the call to the book. Call
-    /// and reply are added to the seat's list, where they are in the history. The seat has then seen what the
-    /// reply tells of a run, and nothing new where it tells of none.
+    /// One call of the seat's session, and its reply: it takes the lock, and applies the call to
+    /// the book. Call and reply are added to the seat's list, where they are in the history. The
+    /// seat has then seen what the reply tells of a run, and nothing new where it tells of none.
     ///
-    /// It waits until the calls of other seats that go before it are done, runs included. Beside what the
-    /// book takes it takes memory for the entry in the seat's list.
+    /// It waits until the calls of other seats that go before it are done, runs included. Beside
+    /// what the book takes it takes memory for the entry in the seat's list.
     pub fn call<R: Threads + Wait + Sync>(&self, rt: &R, seat: &mut Seat<L>, call: Call) -> Reply
         requires { seat.old.exchange ≡ Some self.now.word }
         ensures reply { IsReplyTo call result }

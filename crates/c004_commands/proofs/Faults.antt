@@ -1,7 +1,7 @@
 -- A byte with which a text goes on is no fault.
 use Rattle.std.proofs.Common.{◌≡◌, ◌<◌, ◌≤◌, ◌||◌, ℕ, zero, suc, List, [], ◌∷◌, ◌++◌, length, get_or, drop, refl, sym, ap, ◌∙◌, append_assoc, append-nil, arith, cond, eqb, length-append, subst}
 use Rattle.std.proofs.Math.Seq.{get_or-append_seam}
-use Rattle.c004_commands.specs.Commands.{row, text, ArePorts, HasPorts, AreCommands, IsRest, Spells}
+use Rattle.c004_commands.specs.Commands.{row, text, ArePorts, HasPorts, AreCommands, IsCommandFront, Spells}
 use Rattle.c004_commands.specs.Faults.{IsFault}
 use Rattle.c004_commands.specs.declared.port.TheConstants.{PORTS}
 use Rattle.c004_commands.specs.declared.command.Command.{Command}
@@ -47,7 +47,7 @@ record Begins (bytes : List ℕ) : Type 0 where
   more : List ℕ
   row_begins : row command ++ behind ≡ bytes ++ more
 
-begins : (commands : List Command) (bytes left : List ℕ) → AreCommands commands → IsRest left → bytes ≡ text commands ++ left → Begins bytes
+begins : (commands : List Command) (bytes left : List ℕ) → AreCommands commands → IsCommandFront left → bytes ≡ text commands ++ left → Begins bytes
 begins [] bytes left a r e = record {
   command = r.command;
   ports = r.ports;
@@ -70,7 +70,7 @@ begins_low byte more b =
     omega (arith, first.1)
 
 -- inside a command a port is due
-port_due : (first : ℕ) (rest : List ℕ) (byte : ℕ) (more : List ℕ) → IsRest (first ∷ rest) → Begins ((first ∷ rest) ++ byte ∷ more) → byte < PORTS
+port_due : (first : ℕ) (rest : List ℕ) (byte : ℕ) (more : List ℕ) → IsCommandFront (first ∷ rest) → Begins ((first ∷ rest) ++ byte ∷ more) → byte < PORTS
 port_due first rest byte more r b =
     let ports = drop 1 (row b.command) in
     let split : row b.command ≡ (row_is b.command).0 ∷ ports = (row_is b.command).2 in
@@ -84,7 +84,7 @@ port_due first rest byte more r b =
     let low = port_at ports b.behind (length rest) b.ports inside in
     omega arith
 
-no_fault : (fault : CommandFault) (rest : List ℕ) (byte : ℕ) (more : List ℕ) → IsRest rest → Begins (rest ++ byte ∷ more) → IsFault rest byte fault → ⊥
+no_fault : (fault : CommandFault) (rest : List ℕ) (byte : ℕ) (more : List ℕ) → IsCommandFront rest → Begins (rest ++ byte ∷ more) → IsFault rest byte fault → ⊥
 no_fault (UnknownCommand _) [] byte more r b f = let low = begins_low byte more b in omega (arith, f.1)
 no_fault (UnknownCommand _) (first ∷ rest) byte more r b f = let empty : first ∷ rest ≡ [] = f.0 in cc
 no_fault (BadPort _) [] byte more r b f = f.0 refl

@@ -2,7 +2,7 @@
 use Rattle.std.proofs.Common.{◌≡◌, ℕ, List, [], ◌∷◌, ◌++◌, refl, sym, ap, ◌∙◌, append_assoc, append-nil, Option}
 use Rattle.std.specs.Option.{option_to_list}
 use Rattle.std.proofs.lemmas.List.Concat.{flat_map-append}
-use Rattle.c004_commands.specs.Commands.{row, text, AreCommands, IsRest, Spells}
+use Rattle.c004_commands.specs.Commands.{row, text, AreCommands, IsCommandFront, Spells}
 use Rattle.c004_commands.specs.Reader.{Reads}
 use Rattle.c004_commands.specs.declared.command.Command.{Command}
 use Rattle.c004_commands.proofs.Rows.{same_row, no_row}
@@ -13,7 +13,7 @@ pub record GoesOn (commands others : List Command) (bytes left : List ℕ) : Typ
   pub others_are : others ≡ commands ++ later
   pub bytes_are : bytes ≡ text later ++ left
 
-goes_on : (commands others : List Command) (bytes left : List ℕ) → IsRest left → text commands ++ bytes ≡ text others ++ left → GoesOn commands others bytes left
+goes_on : (commands others : List Command) (bytes left : List ℕ) → IsCommandFront left → text commands ++ bytes ≡ text others ++ left → GoesOn commands others bytes left
 goes_on [] others bytes left r e = record { later = others; others_are = refl; bytes_are = e }
 goes_on (c ∷ cs) [] bytes left r e =
     absurd (no_row c (text cs ++ bytes) left r (sym e ∙ append_assoc (row c) (text cs) bytes))
@@ -29,7 +29,7 @@ longer_text bytes more commands others rest left s t =
     goes_on commands others (rest ++ more) left t.partial
     (sym (append_assoc (text commands) rest more) ∙ ap (λ b. b ++ more) (sym s.whole) ∙ t.whole)
 
-none_later : (later : List Command) (rest left : List ℕ) → IsRest rest → rest ≡ text later ++ left → (later ≡ []) × (rest ≡ left)
+none_later : (later : List Command) (rest left : List ℕ) → IsCommandFront rest → rest ≡ text later ++ left → (later ≡ []) × (rest ≡ left)
 none_later [] rest left r e = (refl, e)
 none_later (c ∷ cs) rest left r e = absurd (no_row c (text cs ++ left) rest r (e ∙ append_assoc (row c) (text cs) left))
 
@@ -48,7 +48,7 @@ AreCommands-back [] ds p = p
 AreCommands-back (c ∷ cs) ds p = AreCommands-back cs ds p.1
 
 -- a byte that is read adds to the text and to its commands
-pub spells_more : (bytes : List ℕ) (commands : List Command) (rest : List ℕ) (byte : ℕ) (given : Option Command) (left : List ℕ) → Spells bytes commands rest → Reads rest byte given left → IsRest left → Spells (bytes ++ byte ∷ []) (commands ++ option_to_list given) left
+pub spells_more : (bytes : List ℕ) (commands : List Command) (rest : List ℕ) (byte : ℕ) (given : Option Command) (left : List ℕ) → Spells bytes commands rest → Reads rest byte given left → IsCommandFront left → Spells (bytes ++ byte ∷ []) (commands ++ option_to_list given) left
 spells_more bytes commands rest byte given left s r p = record {
   whole = ap (λ t. t ++ byte ∷ []) s.whole ∙ append_assoc (text commands) rest (byte ∷ []) ∙ ap (λ t. text commands ++ t) r.whole
       ∙ sym (append_assoc (text commands) (text (option_to_list given)) left) ∙ ap (λ t. t ++ left) (sym (flat_map-append row commands (option_to_list given)));

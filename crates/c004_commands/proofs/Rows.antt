@@ -1,6 +1,6 @@
 -- No row begins another, and less than a row is no row.
 use Rattle.std.proofs.Common.{◌≡◌, ℕ, List, [], ◌∷◌, ◌++◌, length, refl, sym, ap, ◌∙◌, append_assoc, append-nil, arith, Option, Some, None, cond, eqb, length-append, unwrap_or}
-use Rattle.c004_commands.specs.Commands.{row, IsRest}
+use Rattle.c004_commands.specs.Commands.{row, IsCommandFront}
 use Rattle.c004_commands.specs.declared.command.Command.{Command}
 use Rattle.c004_commands.specs.declared.command.Command.TheVariants.{Connect, Join, Enquire, Settle, Reset, Cut, CutPair}
 
@@ -45,7 +45,7 @@ same_row c d x y e =
     (ap (λ o. (found o).0) both, ap (λ o. (found o).1) both)
 
 -- less than a row doesn't begin with one
-pub no_row : (c : Command) (x rest : List ℕ) → IsRest rest → rest ≡ row c ++ x → ⊥
+pub no_row : (c : Command) (x rest : List ℕ) → IsCommandFront rest → rest ≡ row c ++ x → ⊥
 no_row c x rest r e =
     let whole : row r.command ++ [] ≡ row c ++ (x ++ r.next ∷ r.more) =
     append-nil (row r.command) ∙ r.row_is ∙ ap (λ bytes. bytes ++ r.next ∷ r.more) e ∙ append_assoc (row c) x (r.next ∷ r.more) in

@@ -5,8 +5,8 @@
 use Rattle.std.specs.Prelude.{◌≡◌, ◌<◌, ◌+◌, ℕ, Option, Some, None}
 use Rattle.c004_commands.specs.declared.port.TheConstants.{PORTS}
 use Rattle.c004_commands.specs.declared.answer.TheConstants.{CONNECTED}
-use Rattle.c004_commands.specs.declared.answer.Answer.{Answer}
-use Rattle.c004_commands.specs.declared.answer.Answer.TheVariants.{Connected, Loose}
+use Rattle.c004_commands.specs.declared.answer.OutputState.{OutputState}
+use Rattle.c004_commands.specs.declared.answer.OutputState.TheVariants.{Connected, Loose}
 
 -- what a switch answers of an output: the input that feeds it, with the top bit 1, or 0 where none
 -- does
@@ -15,6 +15,6 @@ answer_byte (Some input) = CONNECTED + input
 answer_byte None = 0
 
 -- how an answer is read: the top bit 1 and an input below it, or the top bit 0
-abbrev pub IsAnswer : Answer → ℕ → Type 0
+abbrev pub IsAnswer : OutputState → ℕ → Type 0
 IsAnswer (Connected input) byte = (byte ≡ answer_byte (Some input)) × (input < PORTS)
 IsAnswer Loose byte = byte < CONNECTED

@@ -33,7 +33,7 @@ abbrev pub text : List Command → List ℕ
 text commands = flat_map row commands
 
 -- less than a whole command: the bytes that a command begins with, without its last, at least
-pub record IsRest (rest : List ℕ) : Type 0 where
+pub record IsCommandFront (rest : List ℕ) : Type 0 where
   pub command : Command
   pub ports : HasPorts command
   pub next : ℕ
@@ -44,7 +44,7 @@ pub record IsRest (rest : List ℕ) : Type 0 where
 pub record Spells (bytes : List ℕ) (commands : List Command) (rest : List ℕ) : Type 0 where
   pub whole : bytes ≡ text commands ++ rest
   pub ports : AreCommands commands
-  pub partial : IsRest rest
+  pub partial : IsCommandFront rest
 
 -- however the bytes are read, they are the same commands and the same rest
 abbrev pub HasOneReading : List ℕ → Type 0

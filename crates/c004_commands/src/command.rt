@@ -42,8 +42,9 @@ pub enum Command {
     CutPair { link1: PortNo, link2: PortNo },
 }
 
-/// Writes the command's bytes (INMOS IMS C004 data sheet, configuration messages) to the front of `out`,
-/// and gives their number, 1 to [`LONGEST_COMMAND`]. That zeros stand behind them is this project's choice.
+/// Writes the command's bytes (INMOS IMS C004 data sheet, configuration messages) to the front of
+/// `out`, and gives their number, 1 to [`LONGEST_COMMAND`]. That zeros stand behind them is this
+/// project's choice.
 pub fn write(command: Command, out: &mut [u8; LONGEST_COMMAND]) -> usize
     ensures number { result ≡ length (row command) }
     ensures bytes { take result out.new ≡ row command }

@@ -8,8 +8,8 @@ use std::marker::Model;
 /// How many link inputs the chip has, and how many link outputs (INMOS IMS C004 data sheet).
 pub const PORTS: u8 = 32;
 
-/// The number of a link input or of a link output, below [`PORTS`] (INMOS IMS C004 data sheet). Contracts
-/// see the number.
+/// The number of a link input or of a link output, below [`PORTS`] (INMOS IMS C004 data sheet).
+/// Contracts see the number.
 #[derive(Clone, Copy, Debug, PartialEq, Eq)]
 pub struct PortNo {
     number: u8,

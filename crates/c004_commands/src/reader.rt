@@ -3,7 +3,7 @@
 ghost use Rattle.std.specs.Prelude.{◌≡◌, ◌≢◌, ◌<◌, ◌≤◌, ◌↔◌, ◌++◌, ◌∷◌, [], List, ℕ, IsTrue, IfOk, IfErr, OnErr, IsOk};
 ghost use Rattle.std.specs.Option.{option_to_list};
 ghost use Rattle.std.specs.Result.{IsErrOf};
-ghost use Rattle.c004_commands.specs.Commands.{Spells, IsRest};
+ghost use Rattle.c004_commands.specs.Commands.{Spells, IsCommandFront};
 ghost use Rattle.c004_commands.specs.Faults.{IsFault, TellsFaults};
 ghost use Rattle.c004_commands.specs.Reader.{begun_bytes, HasBegunPorts, Becomes, GoesOn};
 ghost use Rattle.c004_commands.specs.declared.command.Command.{Command};
@@ -15,8 +15,8 @@ use crate::port::PortNo;
 use std::marker::Model;
 use thiserror::Error;
 
-/// A byte that can't stand where it came. That it is refused, and drops the command that was begun, is
-/// this project's choice.
+/// A byte that can't stand where it came. That it is refused, and drops the command that was begun,
+/// is this project's choice.
 #[derive(Clone, Copy, Debug, PartialEq, Eq, Error)]
 pub enum CommandFault {
     /// No command begins with this byte.
@@ -41,8 +41,8 @@ enum Begun {
     CutPairOf(PortNo),
 }
 
-/// Reads commands byte by byte (INMOS IMS C004 data sheet, configuration messages). Contracts see the
-/// bytes of the command that isn't whole yet.
+/// Reads commands byte by byte (INMOS IMS C004 data sheet, configuration messages). Contracts see
+/// the bytes of the command that isn't whole yet.
 #[derive(Debug, Drop)]
 pub struct CommandReader {
     begun: Begun,
@@ -74,21 +74,23 @@ impl CommandReader {
     #[tactic(auto, using(crate::proofs::Rests::begun_is_rest))]
     pub fn at_rest(&self) -> bool
         ensures rest { IsTrue result ↔ (self.now ≡ []) }
-        ensures partial { IsRest self.now }
+        ensures partial { IsCommandFront self.now }
     {
         matches!(self.begun, Begun::Nothing)
     }
 
-    /// Takes the next byte, and gives the command that it ends, if it ends one. Takes constant time.
+    /// Takes the next byte, and gives the command that it ends, if it ends one. Takes constant
+    /// time.
     ///
-    /// Where a command begins, a byte that begins none is `UnknownCommand`. Where a port is due, a byte
-    /// that is no port's number is `BadPort`. Either drops the bytes of that command, this one too, and
-    /// the next byte begins a command.
+    /// Where a command begins, a byte that begins none is `UnknownCommand`. Where a port is due, a
+    /// byte that is no port's number is `BadPort`. Either drops the bytes of that command, this one
+    /// too, and the next byte begins a command.
     #[tactic(auto, using(crate::proofs::Rests::begun_is_rest, crate::proofs::Faults::not_fault))]
     pub fn feed(&mut self, byte: u8) -> Result<Option<Command>, CommandFault>
-        // Whatever the text since the last fault is, with this byte it spells the command given as well.
+        // Whatever the text since the last fault is, with this byte it spells the command given as
+        // well.
         ensures text { IfOk result (λ given. GoesOn self.old byte given self.new) }
-        ensures rest { IsRest self.new }
+        ensures rest { IsCommandFront self.new }
 
         ensures fault { TellsFaults result self.old byte }
         ensures dropped { OnErr result (self.new ≡ []) }

@@ -20,7 +20,7 @@ use Rattle.batch_book.specs.Values.{value_of}
 use Rattle.refusals.specs.declared.refusal.Refusal.TheVariants as refusal
 use Rattle.refusals.specs.Refusals.{refusal_line}
 use Rattle.refusals.specs.Sources.{of_batch}
-use Rattle.client_session.specs.declared.command.Command.{Command}
+use Rattle.client_session.specs.declared.command.SessionCommand.{SessionCommand}
 use Rattle.batch_book.specs.declared.reading.Reading.{Reading}
 use Rattle.client_session.specs.Replies.{reply_line, progress_line}
 use Rattle.client_session.specs.Seats.{SeatView, logged, GoesOnFrom, IsCalled, IsProgressRead}
@@ -154,5 +154,5 @@ faulty p shape text (NoBlock t) line same first needs e = tells_fault p shape te
 faulty p shape text Count line same first needs e = tells_fault p shape text Count line same (λ x. cc) first e
 
 -- the command that there is
-pub which : (o : Option Command) (x y : Command) → o ≡ Some x → x ≡ y → o ≡ Some y
+pub which : (o : Option SessionCommand) (x y : SessionCommand) → o ≡ Some x → x ≡ y → o ≡ Some y
 which o x y e f = e ∙ ap Some f

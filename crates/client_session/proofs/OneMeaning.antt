@@ -7,8 +7,8 @@ use Rattle.batch.specs.Text.{IsNumber, number, space}
 use Rattle.batch.proofs.Lines.{one_number}
 use Rattle.line_words.specs.HexWords.{hex8}
 use Rattle.line_words.proofs.Numbers.{space_ends, one_hex8, behind_hex8, hex8_in_front}
-use Rattle.client_session.specs.declared.command.Command.{Command}
-use Rattle.client_session.specs.declared.command.Command.TheVariants.{Batch, Plan, Run, Show, Drop, Peek, Poke, Progress, Bye}
+use Rattle.client_session.specs.declared.command.SessionCommand.{SessionCommand}
+use Rattle.client_session.specs.declared.command.SessionCommand.TheVariants.{Batch, Plan, Run, Show, Drop, Peek, Poke, Progress, Bye}
 use Rattle.client_session.specs.Commands.{line_of, CanBeSpelled}
 use Rattle.client_session.specs.Laws.{OneMeaning}
 
@@ -33,7 +33,7 @@ one_poke m n a b v w p q e =
 first_two : (x y : List ℕ) → x ≡ y → (get_or x 0 0 ≡ get_or y 0 0) × (get_or x 1 0 ≡ get_or y 1 0)
 first_two x y e = (ap (λ l. get_or l 0 0) e, ap (λ l. get_or l 1 0) e)
 
-same_command : (a b : Command) → CanBeSpelled a → CanBeSpelled b → line_of a ≡ line_of b → a ≡ b
+same_command : (a b : SessionCommand) → CanBeSpelled a → CanBeSpelled b → line_of a ≡ line_of b → a ≡ b
 same_command (Batch m) (Batch n) p q e = ap Batch (one_behind (codes "batch ") m n p q e)
 same_command (Plan m) (Plan n) p q e = ap Plan (one_behind (codes "plan ") m n p q e)
 same_command (Run m) (Run n) p q e = ap Run (one_behind (codes "run ") m n p q e)

@@ -14,7 +14,7 @@ use Rattle.client_session.specs.Bytes.{PendingInput, TakesIn}
 use Rattle.client_session.specs.Faults.{IsFaultAt}
 use Rattle.client_session.specs.Seats.{SeatView, GoesOnFrom, seat_view}
 use Rattle.client_session.specs.Turns.{Turn, IsTurn, SessionGoesOn, turn_text}
-use Rattle.client_session.specs.Sessions.{IsSession, IsPartialCommand, RestAt, GoOn, HasEnded, Passes}
+use Rattle.client_session.specs.Sessions.{IsSession, IsPartialCommand, RestAt, GoOn, HasEnded, GoesThrough}
 use Rattle.client_session.specs.Steps.{TurnTaken, TurnStopped, IsCutLine, of_input}
 use Rattle.client_session.proofs.Known.{Consumes-nil, Consumes-more, Appends-nil, Appends-more}
 use Rattle.client_session.proofs.Lists.{every-push}
@@ -30,11 +30,11 @@ pub record Going (from to : SeatView) (h : PendingInput) (bytes : List ℕ) (ent
   pub reads : h.reads ≤ length bytes
 
 abbrev pub Serving : (a b w v : Option (List ℕ)) (from to : SeatView) → PendingInput → Type 0
-Serving a b w v from to h = Passes a b w v from to (Going from to h)
+Serving a b w v from to h = GoesThrough a b w v from to (Going from to h)
 
 -- how a session has ended
 abbrev pub Ends : (a b w v : Option (List ℕ)) (from to : SeatView) → Option ServeFault → Type 0
-Ends a b w v from to fault = Passes a b w v from to (HasEnded fault b from to)
+Ends a b w v from to fault = GoesThrough a b w v from to (HasEnded fault b from to)
 
 pub Serving-none : (a w : Option (List ℕ)) (p : SeatView) (h : PendingInput) → h.pending ≡ [] → h.reads ≡ 0 → Serving a a w w p p h
 Serving-none a w p h e zero = record {
@@ -104,7 +104,7 @@ session_more b c from to next old new line bytes entries written ends s t = reco
 
 -- what has passed then, where so much of the line was written
 passed_more : (a b c w v u : Option (List ℕ)) (from to next : SeatView) (old new : PendingInput) (line sent : List ℕ) (ends : Bool) (IsSo : List ℕ → List Entry → List ℕ → Type 0) (p : Serving a b w v from to old) (t : TurnTaken b c old new to next line ends)
-    → Appends v u sent → IsSo (p.bytes ++ t.bytes) (p.entries ++ t.turn.did.entries) (p.written ++ sent) → Passes a c w u from next IsSo
+    → Appends v u sent → IsSo (p.bytes ++ t.bytes) (p.entries ++ t.turn.did.entries) (p.written ++ sent) → GoesThrough a c w u from next IsSo
 passed_more a b c w v u from to next old new line sent ends IsSo p t appended so = record {
   bytes = p.bytes ++ t.bytes;
   entries = p.entries ++ t.turn.did.entries;

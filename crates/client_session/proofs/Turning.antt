@@ -4,8 +4,8 @@ use Rattle.std.proofs.lemmas.List.{take-append-drop, length-append, length-drop}
 use Rattle.std.proofs.lemmas.Bool.{lt-ltb, le-ltb}
 use Rattle.batch.specs.declared.limits.TheConstants.{MAX_TRANSFERS}
 use Rattle.client_session.specs.declared.limits.TheConstants.{LINE_BYTES}
-use Rattle.client_session.specs.declared.command.Command.{Command}
-use Rattle.client_session.specs.declared.command.Command.TheVariants.{Batch, Plan, Run, Show, Drop, Peek, Poke, Progress, Bye}
+use Rattle.client_session.specs.declared.command.SessionCommand.{SessionCommand}
+use Rattle.client_session.specs.declared.command.SessionCommand.TheVariants.{Batch, Plan, Run, Show, Drop, Peek, Poke, Progress, Bye}
 use Rattle.client_session.specs.declared.fault.ServeFault.{ServeFault}
 use Rattle.client_session.specs.declared.fault.ServeFault.TheVariants.{Read, Write, LineTooLong, Cut, Turns, NoMemory}
 use Rattle.client_session.specs.Bytes.{PendingInput, HasLine, fuel}
@@ -125,7 +125,7 @@ batch_taken a b old mid new from to n count before after all line has short begi
       last = tt;
     }
 
-none_after : (command : Option Command) → StandsAlone command → lines_after command ≡ 0
+none_after : (command : Option SessionCommand) → StandsAlone command → lines_after command ≡ 0
 none_after None h = refl
 none_after (Some (Batch count)) h = many_after count h
 none_after (Some (Plan id)) h = refl
@@ -138,7 +138,7 @@ none_after (Some Progress) h = refl
 none_after (Some Bye) h = refl
 
 -- a command with no lines behind its own was taken, and done
-pub alone_taken : (a : Option (List ℕ)) (old new : PendingInput) (from to : SeatView) (n : ℕ) (command : Option Command) (line : List ℕ) (ends : Bool) → HasLine old.pending n → n ≤ LINE_BYTES
+pub alone_taken : (a : Option (List ℕ)) (old new : PendingInput) (from to : SeatView) (n : ℕ) (command : Option SessionCommand) (line : List ℕ) (ends : Bool) → HasLine old.pending n → n ≤ LINE_BYTES
     → Means (take n old.pending) command → StandsAlone command → new.pending ≡ drop (n + 1) old.pending → new.reads ≡ old.reads
     → ((text : List ℕ) → Acts from to (DoesCommand from.shape from.session command text) line) → MatchBool ends (command ≡ Some Bye) (SessionGoesOn command) → TurnTaken a a old new from to line ends
 alone_taken a old new from to n command line ends has short means alone rest same acts last =

@@ -3,11 +3,11 @@ use Rattle.std.specs.Prelude.{◌≡◌, ◌≢◌, ℕ, List, ◌∷◌, ◌++�
 use Rattle.std.specs.Fmt.{decimal}
 use Rattle.batch.specs.Text.{IsNumber, number, space}
 use Rattle.line_words.specs.HexWords.{IsWord, hex8}
-use Rattle.client_session.specs.declared.command.Command.{Command}
-use Rattle.client_session.specs.declared.command.Command.TheVariants.{Batch, Plan, Run, Show, Drop, Peek, Poke, Progress, Bye}
+use Rattle.client_session.specs.declared.command.SessionCommand.{SessionCommand}
+use Rattle.client_session.specs.declared.command.SessionCommand.TheVariants.{Batch, Plan, Run, Show, Drop, Peek, Poke, Progress, Bye}
 
 -- the line of a command, without its line feed
-abbrev pub line_of : Command → List ℕ
+abbrev pub line_of : SessionCommand → List ℕ
 line_of (Batch count) = codes "batch " ++ decimal count
 line_of (Plan id) = codes "plan " ++ decimal id
 line_of (Run id) = codes "run " ++ decimal id
@@ -20,7 +20,7 @@ line_of Progress = codes "progress"
 line_of Bye = codes "bye"
 
 -- the numbers of a command are such as a line can hold
-abbrev pub CanBeSpelled : Command → Type 0
+abbrev pub CanBeSpelled : SessionCommand → Type 0
 CanBeSpelled (Batch count) = IsNumber count
 CanBeSpelled (Plan id) = IsNumber id
 CanBeSpelled (Run id) = IsNumber id
@@ -32,6 +32,6 @@ CanBeSpelled Progress = Unit {0}
 CanBeSpelled Bye = Unit {0}
 
 -- what a line means: the command whose line it is, or none where it is no command's line
-abbrev pub Means : List ℕ → Option Command → Type 0
+abbrev pub Means : List ℕ → Option SessionCommand → Type 0
 Means line (Some command) = CanBeSpelled command × (line ≡ line_of command)
-Means line None = (command : Command) → CanBeSpelled command → line ≢ line_of command
+Means line None = (command : SessionCommand) → CanBeSpelled command → line ≢ line_of command

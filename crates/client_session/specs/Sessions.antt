@@ -7,7 +7,7 @@ use Rattle.batch.specs.declared.limits.TheConstants.{MAX_TRANSFERS}
 use Rattle.batch_book.specs.declared.entry.Entry.{Entry}
 use Rattle.batch_book.specs.Seats.{SeatState}
 use Rattle.client_session.specs.declared.limits.TheConstants.{LINE_BYTES, MAX_READS}
-use Rattle.client_session.specs.declared.command.Command.TheVariants.{Batch, Bye}
+use Rattle.client_session.specs.declared.command.SessionCommand.TheVariants.{Batch, Bye}
 use Rattle.client_session.specs.declared.fault.ServeFault.{ServeFault}
 use Rattle.client_session.specs.declared.fault.ServeFault.TheVariants.{Read, Write, LineTooLong, Cut, Turns, NoMemory}
 use Rattle.client_session.specs.Bytes.{HasNoFeed, IsSessionLine}
@@ -127,14 +127,14 @@ fault_in (Err fault) = Some fault
 
 -- the bytes that the reader gave, the entries that are new in the seat's list, and those bytes that
 -- the writer took
-pub record Passes (before after held holds : Option (List ℕ)) (old new : SeatView)
+pub record GoesThrough (before after out_before out_after : Option (List ℕ)) (old new : SeatView)
     (IsSo : List ℕ → List Entry → List ℕ → Type 0) : Type 0 where
   pub bytes : List ℕ
   pub entries : List Entry
   pub written : List ℕ
   pub consumed : Consumes before after bytes
   pub logged : new.log ≡ old.log ++ entries
-  pub appended : Appends held holds written
+  pub appended : Appends out_before out_after written
   pub is_so : IsSo bytes entries written
 
 -- ---- the session of a seat
@@ -150,8 +150,9 @@ fault_back (Err e) = Some e.1
 
 -- a session was served from this seat of an exchange whose rack has this shape, with this result
 abbrev pub IsServed : Extent → SeatState → Result SeatState (SeatState × ServeFault)
-    → (before after held holds : Option (List ℕ)) → Type 0
-IsServed shape seat result before after held holds =
+    → (before after out_before out_after : Option (List ℕ)) → Type 0
+IsServed shape seat result before after out_before out_after =
     let old = seat_view shape seat in
     let new = seat_view shape (seat_back result) in
-    Passes before after held holds old new (HasEnded (fault_back result) after old new)
+    GoesThrough before after out_before out_after old new
+    (HasEnded (fault_back result) after old new)

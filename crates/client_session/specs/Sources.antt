@@ -1,8 +1,8 @@
 -- Which refusal one of the book is, and one of a run.
 use Rattle.setting_runner.specs.declared.outcome.RunRefusal.{RunRefusal}
 use Rattle.setting_runner.specs.declared.outcome.RunRefusal.TheVariants as run
-use Rattle.batch_book.specs.declared.refusal.Refusal.{Refusal as BookRefusal}
-use Rattle.batch_book.specs.declared.refusal.Refusal.TheVariants as book
+use Rattle.batch_book.specs.declared.refusal.BookRefusal.{BookRefusal}
+use Rattle.batch_book.specs.declared.refusal.BookRefusal.TheVariants as book
 use Rattle.refusals.specs.declared.refusal.Refusal.{Refusal}
 use Rattle.refusals.specs.declared.refusal.Refusal.TheVariants as refusal
 

@@ -10,8 +10,8 @@ use Rattle.batch_book.specs.declared.reply.Reply.TheVariants.{Fetched, Ran}
 use Rattle.client_session.specs.declared.limits.TheConstants.{LINE_BYTES, MAX_READS}
 use Rattle.client_session.specs.declared.input.InputFault.{InputFault}
 use Rattle.client_session.specs.declared.input.InputFault.TheVariants as input
-use Rattle.client_session.specs.declared.command.Command.{Command}
-use Rattle.client_session.specs.declared.command.Command.TheVariants.{Batch, Bye}
+use Rattle.client_session.specs.declared.command.SessionCommand.{SessionCommand}
+use Rattle.client_session.specs.declared.command.SessionCommand.TheVariants.{Batch, Bye}
 use Rattle.client_session.specs.declared.fault.ServeFault.{ServeFault}
 use Rattle.client_session.specs.declared.fault.ServeFault.TheVariants.{Read, Write, LineTooLong, Cut, Turns, NoMemory}
 use Rattle.client_session.specs.Bytes.{PendingInput, HasNoFeed, IsSessionLine}
@@ -37,7 +37,7 @@ CanBeTold (Ran run settings words) = words ≤ MAX_TRANSFERS * MAX_WORDS
 CanBeTold reply = Unit {0}
 
 -- no lines belong to the command behind its own
-abbrev pub StandsAlone : Option Command → Type 0
+abbrev pub StandsAlone : Option SessionCommand → Type 0
 StandsAlone (Some (Batch count)) = MAX_TRANSFERS < count
 StandsAlone command = Unit {0}
 
@@ -106,10 +106,10 @@ pub record TurnStopped (fault : ServeFault) (before after : Option (List ℕ)) (
   pub rest : RestAt fault after (old.reads + length bytes) (old.pending ++ bytes)
 
 -- writing failed, and so much as a front of the line was written
-pub record IsCutLine (fault : ServeFault) (held holds : Option (List ℕ))
+pub record IsCutLine (fault : ServeFault) (out_before out_after : Option (List ℕ))
     (line : List ℕ) : Type 0 where
   pub fault_is : fault ≡ Write
   pub front : List ℕ
   pub missing : List ℕ
   pub line_is : line ≡ front ++ missing
-  pub appended : Appends held holds front
+  pub appended : Appends out_before out_after front

@@ -12,7 +12,7 @@ use Rattle.schedule_certificate.specs.Plans.{Plan, IsPlan}
 use Rattle.batch_book.specs.declared.entry.Entry.{Entry}
 use Rattle.batch_book.specs.declared.call.Call.{Call}
 use Rattle.batch_book.specs.declared.call.Call.TheVariants as call
-use Rattle.batch_book.specs.declared.refusal.Refusal.{Refusal as BookRefusal}
+use Rattle.batch_book.specs.declared.refusal.BookRefusal.{BookRefusal}
 use Rattle.batch_book.specs.declared.reply.Reply.{Reply}
 use Rattle.batch_book.specs.declared.reply.Reply.TheVariants.{Fetched, Refused}
 use Rattle.batch_book.specs.Answering.{IsReplyTo}
@@ -23,8 +23,8 @@ use Rattle.refusals.specs.declared.refusal.Refusal.{Refusal}
 use Rattle.refusals.specs.declared.refusal.Refusal.TheVariants as refusal
 use Rattle.refusals.specs.Refusals.{refusal_line}
 use Rattle.refusals.specs.Sources.{of_batch}
-use Rattle.client_session.specs.declared.command.Command.{Command}
-use Rattle.client_session.specs.declared.command.Command.TheVariants.{Batch, Plan as PlanOf, Run, Show, Drop, Peek, Poke, Progress, Bye}
+use Rattle.client_session.specs.declared.command.SessionCommand.{SessionCommand}
+use Rattle.client_session.specs.declared.command.SessionCommand.TheVariants.{Batch, Plan as PlanOf, Run, Show, Drop, Peek, Poke, Progress, Bye}
 use Rattle.batch_book.specs.declared.reading.Reading.{Reading}
 use Rattle.client_session.specs.Bytes.{IsSessionLine}
 use Rattle.client_session.specs.Commands.{Means}
@@ -93,7 +93,7 @@ ReadsProgress a =
     × (a ≡ record { entries = []; reading = Some r; line = progress_line r })
 
 -- What a command may do: this is the whole table of a session. The text is that of its lines.
-abbrev pub DoesCommand : Extent → ℕ → Option Command → List ℕ → Answer → Type 0
+abbrev pub DoesCommand : Extent → ℕ → Option SessionCommand → List ℕ → Answer → Type 0
 DoesCommand shape by None text a = a ≡ refuses refusal.Line
 DoesCommand shape by (Some (Batch count)) text a =
     ((MAX_TRANSFERS < count) × (a ≡ refuses refusal.TooMany))
@@ -115,7 +115,7 @@ DoesCommand shape by (Some Bye) text a = a ≡ plain_answer [] (with_feed (codes
 pub record Turn : Type 0 where
   pub head : List ℕ
   pub body : List (List ℕ)
-  pub command : Option Command
+  pub command : Option SessionCommand
   pub did : Answer
 
 abbrev pub lines_text : List (List ℕ) → List ℕ
@@ -125,7 +125,7 @@ abbrev pub turn_text : Turn → List ℕ
 turn_text t = with_feed t.head ++ lines_text t.body
 
 -- how many lines belong to a command behind its own
-abbrev pub lines_after : Option Command → ℕ
+abbrev pub lines_after : Option SessionCommand → ℕ
 lines_after (Some (Batch count)) = if nat_lt MAX_TRANSFERS count then 0 else count
 lines_after command = 0
 
@@ -137,7 +137,7 @@ pub record IsTurn (shape : Extent) (by : ℕ) (t : Turn) : Type 0 where
   pub does : DoesCommand shape by t.command (turn_text t) t.did
 
 -- the session goes on after it
-abbrev pub SessionGoesOn : Option Command → Type 0
+abbrev pub SessionGoesOn : Option SessionCommand → Type 0
 SessionGoesOn (Some Bye) = ⊥
 SessionGoesOn command = Unit {0}
 

@@ -4,7 +4,7 @@ ghost use Rattle.std.specs.Prelude.{◌≡◌, [], ℕ, List, Option};
 ghost use Rattle.client_session.specs.Turns.{TellsReply, Submits, Plans, DoesCommand};
 ghost use Rattle.client_session.specs.Steps.{IsNoFetch, StandsAlone, Acts};
 
-use crate::command::Command;
+use crate::command::SessionCommand;
 use crate::exchange_seat::ExchangeSeat;
 use crate::reply_line::ReplyLine;
 use batch::Batch;
@@ -86,7 +86,7 @@ pub(crate) fn answer<
     alloc: Global,
     seat: &mut ExchangeSeat<'_, L, P, W, G>,
     line: &mut ReplyLine,
-    command: Option<Command>,
+    command: Option<SessionCommand>,
     workers: WorkerCount,
 )
     requires empty { line.old ≡ [] }
@@ -96,22 +96,22 @@ pub(crate) fn answer<
 {
     match command {
         None => line.refuse(Refusal::Line),
-        Some(Command::Batch(_)) => line.refuse(Refusal::TooMany),
-        Some(Command::Plan(id)) => plan(rt, alloc, seat, line, id, workers),
-        Some(Command::Run(id)) => call(rt, seat, line, id, Call::Run(id)),
-        Some(Command::Show(id)) => call(rt, seat, line, id, Call::Show(id)),
-        Some(Command::Drop(id)) => call(rt, seat, line, id, Call::Discard(id)),
-        Some(Command::Peek(module, address)) => call(
+        Some(SessionCommand::Batch(_)) => line.refuse(Refusal::TooMany),
+        Some(SessionCommand::Plan(id)) => plan(rt, alloc, seat, line, id, workers),
+        Some(SessionCommand::Run(id)) => call(rt, seat, line, id, Call::Run(id)),
+        Some(SessionCommand::Show(id)) => call(rt, seat, line, id, Call::Show(id)),
+        Some(SessionCommand::Drop(id)) => call(rt, seat, line, id, Call::Discard(id)),
+        Some(SessionCommand::Peek(module, address)) => call(
             rt,
             seat,
             line,
             0,
             Call::Peek(module, address),
         ),
-        Some(Command::Poke(module, address, word)) => {
+        Some(SessionCommand::Poke(module, address, word)) => {
             call(rt, seat, line, 0, Call::Poke(module, address, word))
         }
-        Some(Command::Progress) => line.tell_progress(seat.progress()),
-        Some(Command::Bye) => line.tell_bye(),
+        Some(SessionCommand::Progress) => line.tell_progress(seat.progress()),
+        Some(SessionCommand::Bye) => line.tell_bye(),
     }
 }

@@ -9,7 +9,8 @@ use contract_data::FailureCount;
 use std::io;
 use std::io::Read;
 
-/// What a session reads from: any reader. Of a [`CountedReader`] contracts know how often it was asked.
+/// What a session reads from: any reader. Of a [`CountedReader`] contracts know how often it was
+/// asked.
 pub trait AskedReader {
     // The bytes that it will give from here on, where they are known.
     ghost remaining: { Self → Option (List ℕ) };

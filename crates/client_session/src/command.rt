@@ -10,10 +10,10 @@ ghost use Rattle.client_session.specs.Commands.{Means, line_of};
 use batch::number_from_digits;
 use line_words::{Line, behind, hex8_and_rest, number_and_rest, word_from_hex8};
 
-/// A line of a session that is in the grammar. Batches go by the numbers under which they were accepted, modules
-/// are counted from 0, and addresses are in bytes.
+/// A line of a session that is in the grammar. Batches go by the numbers under which they were
+/// accepted, modules are counted from 0, and addresses are in bytes.
 #[derive(Clone, Copy, Debug, PartialEq, Eq)]
-pub enum Command {
+pub enum SessionCommand {
     /// Submit the batch of which so many lines follow: `batch N`.
     Batch(usize),
     /// Plan this batch: `plan ID`.
@@ -84,7 +84,7 @@ fn named(word: &[u8], n: usize) -> Line
 
 /// The line that peeks there.
 fn peek_line(module: usize, address: u32) -> Line
-    ensures { result ≡ line_of (Command.Peek «module» address) }
+    ensures { result ≡ line_of (SessionCommand.Peek «module» address) }
 {
     let mut line = named(b"peek ", module);
     line.put(b" ");
@@ -94,7 +94,7 @@ fn peek_line(module: usize, address: u32) -> Line
 
 /// The line that pokes this there.
 fn poke_line(module: usize, address: u32, word: u32) -> Line
-    ensures { result ≡ line_of (Command.Poke «module» address word) }
+    ensures { result ≡ line_of (SessionCommand.Poke «module» address word) }
 {
     let mut line = named(b"poke ", module);
     line.put(b" ");
@@ -104,25 +104,25 @@ fn poke_line(module: usize, address: u32, word: u32) -> Line
     line
 }
 
-impl Command {
+impl SessionCommand {
     /// Its line, without a line feed. Takes no memory.
     pub fn line(self) -> Line
         ensures { result ≡ line_of self }
     {
         match self {
-            Command::Batch(count) => named(b"batch ", count),
-            Command::Plan(id) => named(b"plan ", id),
-            Command::Run(id) => named(b"run ", id),
-            Command::Show(id) => named(b"show ", id),
-            Command::Drop(id) => named(b"drop ", id),
-            Command::Peek(module, address) => peek_line(module, address),
-            Command::Poke(module, address, word) => poke_line(module, address, word),
-            Command::Progress => {
+            SessionCommand::Batch(count) => named(b"batch ", count),
+            SessionCommand::Plan(id) => named(b"plan ", id),
+            SessionCommand::Run(id) => named(b"run ", id),
+            SessionCommand::Show(id) => named(b"show ", id),
+            SessionCommand::Drop(id) => named(b"drop ", id),
+            SessionCommand::Peek(module, address) => peek_line(module, address),
+            SessionCommand::Poke(module, address, word) => poke_line(module, address, word),
+            SessionCommand::Progress => {
                 let mut line = Line::new();
                 line.put(b"progress");
                 line
             }
-            Command::Bye => {
+            SessionCommand::Bye => {
                 let mut line = Line::new();
                 line.put(b"bye");
                 line
@@ -130,36 +130,37 @@ impl Command {
         }
     }
 
-    /// The command that this is the line of, without its line feed. Takes time by the length of the line.
-    pub fn read(line: &[u8]) -> Option<Command>
+    /// The command that this is the line of, without its line feed. Takes time by the length of the
+    /// line.
+    pub fn read(line: &[u8]) -> Option<SessionCommand>
         ensures { Means line.now result }
     {
         if let Some(count) = number_behind(line, b"batch ") {
-            return Some(Command::Batch(count));
+            return Some(SessionCommand::Batch(count));
         }
         if let Some(id) = number_behind(line, b"plan ") {
-            return Some(Command::Plan(id));
+            return Some(SessionCommand::Plan(id));
         }
         if let Some(id) = number_behind(line, b"run ") {
-            return Some(Command::Run(id));
+            return Some(SessionCommand::Run(id));
         }
         if let Some(id) = number_behind(line, b"show ") {
-            return Some(Command::Show(id));
+            return Some(SessionCommand::Show(id));
         }
         if let Some(id) = number_behind(line, b"drop ") {
-            return Some(Command::Drop(id));
+            return Some(SessionCommand::Drop(id));
         }
         if let Some((module, address)) = peek(line) {
-            return Some(Command::Peek(module, address));
+            return Some(SessionCommand::Peek(module, address));
         }
         if let Some((module, address, word)) = poke(line) {
-            return Some(Command::Poke(module, address, word));
+            return Some(SessionCommand::Poke(module, address, word));
         }
         if line == b"progress".as_slice() {
-            return Some(Command::Progress);
+            return Some(SessionCommand::Progress);
         }
         if line == b"bye".as_slice() {
-            return Some(Command::Bye);
+            return Some(SessionCommand::Bye);
         }
         None
     }

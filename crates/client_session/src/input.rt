@@ -117,8 +117,8 @@ impl Input {
         }
     }
 
-    /// The length of the line in front, without its line feed, or nothing at the end of the input. Takes time by
-    /// the length of the line times the reads that it came in.
+    /// The length of the line in front, without its line feed, or nothing at the end of the input.
+    /// Takes time by the length of the line times the reads that it came in.
     pub(crate) fn next_line<R: AskedReader>(
         &mut self,
         reader: &mut R,

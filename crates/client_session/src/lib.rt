@@ -1,9 +1,10 @@
 //! Sessions: a client speaks lines, and has a reply line to each command.
 //!
-//! [`serve`] reads the commands of one client and answers them from one seat of an exchange. Contracts see a
-//! session as a relation between the bytes that were read, the entries that are new in the seat's list, the
-//! progress that the seat has seen, and the bytes that were written. A [`Listener`] hears beside them what was said, and
-//! what of it is refused; contracts see what it tells.
+//! [`serve`] reads the commands of one client and answers them from one seat of an exchange.
+//! Contracts see a session as a relation between the bytes that were read, the entries that are new
+//! in the seat's list, the progress that the seat has seen, and the bytes that were written. A
+//! [`Listener`] hears beside them what was said, and what of it is refused; contracts see what it
+//! tells.
 #![tactic(auto)]
 
 mod answering;
@@ -21,8 +22,8 @@ mod sources;
 mod turns;
 
 pub use asked_reader::{AskedReader, CountedReader};
-pub use command::Command;
+pub use command::SessionCommand;
 pub use fault::ServeFault;
 pub use limits::{LINE_BYTES, MAX_READS};
-pub use listener::{Listener, Unheard};
+pub use listener::{Listener, NoListener};
 pub use serving::serve;

@@ -14,22 +14,22 @@ pub trait Listener {
     // That these bytes may be told of a refusal.
     ghost may_tell: { Refusal → List ℕ → Type 0 };
 
-    /// Lines were read that are answered next, each with its line feed: a command with the lines that belong to it, or a
-    /// line that is no command. Nothing is told of them yet.
+    /// Lines were read that are answered next, each with its line feed: a command with the lines
+    /// that belong to it, or a line that is no command. Nothing is told of them yet.
     fn heard(&mut self, text: &[u8])
         ensures { told self.new ≡ told self.old };
 
-    /// What was heard last is refused, and the reply line that says so is written. Of this refusal, and of nothing else,
-    /// something may be told now.
+    /// What was heard last is refused, and the reply line that says so is written. Of this refusal,
+    /// and of nothing else, something may be told now.
     fn refused(&mut self, refusal: Refusal)
         ensures { Tells may_tell refusal (told self.old) (told self.new) };
 }
 
 /// A listener that tells nothing.
 #[derive(Clone, Copy, Debug)]
-pub struct Unheard;
+pub struct NoListener;
 
-impl Listener for Unheard {
+impl Listener for NoListener {
     ghost told = { λ _. record { bytes = Some []; loan = None } };
 
     ghost may_tell = { λ _ bytes. bytes ≡ [] };

@@ -1,5 +1,5 @@
-//! The reply lines, with their line feeds. They are public for whoever serves sessions over something else than a
-//! reader and a writer.
+//! The reply lines, with their line feeds. They are public for whoever serves sessions over
+//! something else than a reader and a writer.
 
 ghost use Rattle.std.specs.Prelude.{◌≡◌, [], ◌≤◌, ◌<◌, ◌+◌, ◌*◌, ◌++◌, ◌∷◌, length, flat_map, codes, IfSome};
 ghost use Rattle.refusals.specs.Refusals.{refusal_line};

@@ -5,7 +5,7 @@ ghost use Rattle.std.specs.Io.KnownBytes.{Appends};
 ghost use Rattle.batch_book.specs.Seats.{IsSameSeat};
 ghost use Rattle.client_session.specs.Asking.{AsksWithinLimit};
 ghost use Rattle.client_session.specs.Listening.{TellsOfRefusals};
-ghost use Rattle.client_session.specs.Sessions.{HasEnded, Passes, IsServed, fault_in, seat_back, fault_back};
+ghost use Rattle.client_session.specs.Sessions.{HasEnded, GoesThrough, IsServed, fault_in, seat_back, fault_back};
 ghost use Rattle.client_session.specs.Steps.{IsCutLine};
 
 use crate::asked_reader::AskedReader;
@@ -74,7 +74,7 @@ fn serve_seat<
     listener: &mut H,
     workers: WorkerCount,
 ) -> Result<(), ServeFault>
-    ensures session { Passes (I.remaining reader.old) (I.remaining reader.new)
+    ensures session { GoesThrough (I.remaining reader.old) (I.remaining reader.new)
         (O.contents writer.old) (O.contents writer.new) seat.old seat.new
         (HasEnded (fault_in result) (I.remaining reader.new) seat.old seat.new) }
     ensures asks { AsksWithinLimit (I.asked reader.old) (I.asked reader.new) (fault_in result) }
@@ -95,19 +95,20 @@ fn serve_seat<
     Ok(())
 }
 
-/// Serves the session of one client from a seat: reads its commands, and writes a reply line to each, whole, before
-/// the next command is looked at. The seat comes back, whether the session ended by itself, behind a whole command
-/// or by `bye`, or by a fault.
+/// Serves the session of one client from a seat: reads its commands, and writes a reply line to
+/// each, whole, before the next command is looked at. The seat comes back, whether the session
+/// ended by itself, behind a whole command or by `bye`, or by a fault.
 ///
-/// A client that asks for a plan has it made by so many workers, outside the exchange's lock. A reply takes no
-/// memory, so none is lost whose call was made; want of memory is a reply, but for the text of a batch, where it
-/// ends the session.
+/// A client that asks for a plan has it made by so many workers, outside the exchange's lock. A
+/// reply takes no memory, so none is lost whose call was made; want of memory is a reply, but for
+/// the text of a batch, where it ends the session.
 ///
-/// The listener hears each command, and each line that is none, before it is done, and each refusal behind its reply line.
-/// What it tells stands behind what it had told, and is told of such refusals alone.
+/// The listener hears each command, and each line that is none, before it is done, and each refusal
+/// behind its reply line. What it tells stands behind what it had told, and is told of such
+/// refusals alone.
 ///
-/// The reader is asked at most [`MAX_READS`](crate::MAX_READS) times. Where it has been, and would have to be asked
-/// once more, the session ends with `Turns`.
+/// The reader is asked at most [`MAX_READS`](crate::MAX_READS) times. Where it has been, and would
+/// have to be asked once more, the session ends with `Turns`.
 ///
 /// A command takes time by its lines and by its call, whatever the session has said before it.
 pub fn serve<

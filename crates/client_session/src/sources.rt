@@ -7,22 +7,23 @@ use refusals::Refusal;
 use setting_runner::RunRefusal;
 
 /// That of a call which the book refused.
-pub(crate) fn of_book(refusal: batch_book::Refusal) -> Refusal
+pub(crate) fn of_book(refusal: batch_book::BookRefusal) -> Refusal
     ensures { result ≡ of_book refusal }
 {
     match refusal {
-        batch_book::Refusal::HistoryFull => Refusal::HistoryFull,
-        batch_book::Refusal::BookFull => Refusal::BookFull,
-        batch_book::Refusal::Unknown => Refusal::Unknown,
-        batch_book::Refusal::Unplanned => Refusal::Unplanned,
-        batch_book::Refusal::Stranger => Refusal::Stranger,
-        batch_book::Refusal::Already => Refusal::Already,
-        batch_book::Refusal::Memory(fault) => Refusal::Memory(fault),
-        batch_book::Refusal::NoMemory => Refusal::NoMemory,
+        batch_book::BookRefusal::HistoryFull => Refusal::HistoryFull,
+        batch_book::BookRefusal::BookFull => Refusal::BookFull,
+        batch_book::BookRefusal::Unknown => Refusal::Unknown,
+        batch_book::BookRefusal::Unplanned => Refusal::Unplanned,
+        batch_book::BookRefusal::Stranger => Refusal::Stranger,
+        batch_book::BookRefusal::Already => Refusal::Already,
+        batch_book::BookRefusal::Memory(fault) => Refusal::Memory(fault),
+        batch_book::BookRefusal::NoMemory => Refusal::NoMemory,
     }
 }
 
-/// That of a run which was refused. [`Refusal::Shape`] is that of a plan with a module or a block that the rack hasn't.
+/// That of a run which was refused. [`Refusal::Shape`] is that of a plan with a module or a block
+/// that the rack hasn't.
 pub(crate) fn of_run(refusal: RunRefusal) -> Refusal
     ensures { result ≡ of_run refusal }
 {

@@ -9,7 +9,7 @@ ghost use Rattle.client_session.specs.Steps.{StandsAlone, LinesTaken, LinesStopp
 
 use crate::answering::{answer, submit};
 use crate::asked_reader::AskedReader;
-use crate::command::Command;
+use crate::command::SessionCommand;
 use crate::exchange_seat::ExchangeSeat;
 use crate::fault::ServeFault;
 use crate::input::Input;
@@ -96,28 +96,28 @@ fn batch<
 }
 
 /// How many lines belong to a batch that isn't too long.
-fn lines_behind(command: Option<Command>) -> Option<usize>
+fn lines_behind(command: Option<SessionCommand>) -> Option<usize>
     ensures { MatchOption result (StandsAlone command)
-        (λ count. (command ≡ Some (Command.Batch count)) × (count ≤ MAX_TRANSFERS)) }
+        (λ count. (command ≡ Some (SessionCommand.Batch count)) × (count ≤ MAX_TRANSFERS)) }
 {
     match command {
-        Some(Command::Batch(count)) if count <= MAX_TRANSFERS => Some(count),
+        Some(SessionCommand::Batch(count)) if count <= MAX_TRANSFERS => Some(count),
         _ => None,
     }
 }
 
 /// Whether the session ends with this command.
-fn ends(command: Option<Command>) -> bool
-    ensures { MatchBool result (command ≡ Some Command.Bye) (SessionGoesOn command) }
+fn ends(command: Option<SessionCommand>) -> bool
+    ensures { MatchBool result (command ≡ Some SessionCommand.Bye) (SessionGoesOn command) }
 {
     match command {
-        Some(Command::Bye) => true,
+        Some(SessionCommand::Bye) => true,
         _ => false,
     }
 }
 
-/// Takes the command in front with its lines, does it, and puts its reply line into an empty one. Gives whether the
-/// session ends with it.
+/// Takes the command in front with its lines, does it, and puts its reply line into an empty one.
+/// Gives whether the session ends with it.
 pub(crate) fn turn<
     R: Threads + Wait + Sync,
     L: Ledger,
@@ -150,7 +150,7 @@ pub(crate) fn turn<
     ensures beside { H.told listener.new ≡ H.told listener.old }
     ensures fuel { OnOk result (fuel input.new < fuel input.old) }
 {
-    let command = Command::read(&input.pending()[..n]);
+    let command = SessionCommand::read(&input.pending()[..n]);
     match lines_behind(command) {
         Some(count) => {
             batch(rt, alloc, seat, input, reader, listener, line, n, count)?;

@@ -4,7 +4,7 @@ use Rattle.std.specs.Prelude.{Option, Some, find}
 use Rattle.std.specs.Str.{bytes_eq}
 use Rattle.command_words.specs.declared.commands.CommandName.{CommandName}
 use Rattle.command_words.specs.declared.commands.CommandName.TheVariants.{Plan, Check, Draw, Switch, Drive, C004, Direct, Apply, Run, Serve, Host, Talk}
-use Rattle.command_words.specs.Program.{commands, word_of}
+use Rattle.command_words.specs.Program.{commands, command_word}
 
 -- what holds of each in the list holds of all
 pub every_command : (P : CommandName → Type 0) → ((k : ℕ) → k < length commands → P (get_or commands k Plan)) → (name : CommandName) → P name
@@ -23,9 +23,9 @@ every_command P each Talk = each 11 (omega arith)
 
 -- the command that a word calls
 abbrev called_by : List ℕ → Option CommandName
-called_by word = find (λ name. bytes_eq (word_of name) word) commands
+called_by word = find (λ name. bytes_eq (command_word name) word) commands
 
-calls : (name : CommandName) → called_by (word_of name) ≡ Some name
+calls : (name : CommandName) → called_by (command_word name) ≡ Some name
 calls Plan = refl
 calls Check = refl
 calls Draw = refl
@@ -40,5 +40,5 @@ calls Host = refl
 calls Talk = refl
 
 -- no word calls two
-pub same_word : (a b : CommandName) → word_of a ≡ word_of b → a ≡ b
+pub same_word : (a b : CommandName) → command_word a ≡ command_word b → a ≡ b
 same_word a b same = let found : Some a ≡ Some b = sym (calls a) ∙ ap called_by same ∙ calls b in cc

@@ -2,7 +2,7 @@
 use Rattle.std.proofs.Common.{◌↔◌, zero, suc, Option, Some, None, List, [], ◌∷◌, ◌++◌, sym, arith}
 use Rattle.std.specs.Prelude.{◌≢◌, All, option_to_list}
 use Rattle.clap.specs.Words.{Text}
-use Rattle.command_words.specs.Jobs.{IsApart, input_name}
+use Rattle.command_words.specs.Jobs.{IsNoInput, input_name}
 
 -- one name before others
 all_with : (P : Text → Type 0) (first : Text) (names : List Text) → P first → All P names → All P (first ∷ names)
@@ -19,13 +19,13 @@ all_with_image P (Some first) names is =
     (all_with P first names (is 0 first (omega arith)), all_behind P first names)
 
 -- no other file is read
-pub image_alone : (out image : Option Text) → IsApart out (option_to_list image ++ []) ↔ IsApart out (option_to_list image)
+pub image_alone : (out image : Option Text) → IsNoInput out (option_to_list image ++ []) ↔ IsNoInput out (option_to_list image)
 image_alone None image = (λ _. tt, λ _. tt)
 image_alone (Some out) None = (λ is. is, λ is. is)
 image_alone (Some out) (Some image) = (λ is. is, λ is. is)
 
 -- standard input is read, whose name is no output's
-pub image_and_input : (out image : Option Text) → IsApart out (option_to_list image ++ []) ↔ IsApart out (option_to_list image ++ input_name ∷ [])
+pub image_and_input : (out image : Option Text) → IsNoInput out (option_to_list image ++ []) ↔ IsNoInput out (option_to_list image ++ input_name ∷ [])
 image_and_input None image = (λ _. tt, λ _. tt)
 image_and_input (Some out) image =
     (λ is. (is.0, go image is.0 is.1), λ is. (is.0, back image is.1))

@@ -1,4 +1,4 @@
--- What the rows have of a job that words hold.
+-- What the rows have of a job that arguments hold.
 use Rattle.std.proofs.Common.{◌≡◌, ◌∙◌, ◌↔◌, ap, ap₂, sym, subst, List, [], ◌∷◌, Option, Some, None, Bool, true, false, IsTrue, codes, refl, Result, Ok, Err, IsErrAnd}
 use Rattle.std.specs.Prelude.{IfSome, MatchOption, ◌++◌, find, option_and_then, option_to_list, unwrap_or}
 use Rattle.std.specs.Str.{bytes_eq}
@@ -12,14 +12,14 @@ use Rattle.command_words.specs.declared.jobs.Job.TheVariants.{Plan, Check, Draw,
 use Rattle.command_words.specs.declared.jobs.Request.{Request}
 use Rattle.command_words.specs.declared.jobs.ScheduleSource.{ScheduleSource}
 use Rattle.command_words.specs.declared.jobs.ScheduleSource.TheVariants as source
-use Rattle.command_words.specs.Program.{word_of}
-use Rattle.command_words.specs.Jobs.{HasJob, HasSome, HasSource, IsApart, IsJob, IsRead, IsRequest, IsWithinLimits, HasWanted, AreClientNames, IsOfNone, MayBeDone, NameInputOnce, clients_of, cue_files, files_of, input_name, name_of, output_of, schedule_files}
+use Rattle.command_words.specs.Program.{command_word}
+use Rattle.command_words.specs.Jobs.{HasJob, HasSome, HasSource, IsNoInput, IsJob, IsReading, IsRequest, IsWithinLimits, HasWanted, AreClientNames, IsOfNone, MayBeDone, NameInputOnce, clients_of, cue_files, files_of, input_name, name_of, output_of, schedule_files}
 use Rattle.command_words.specs.declared.reading.Lack.{Lack}
 use Rattle.command_words.specs.declared.reading.Lack.TheVariants.{Memory}
 use Rattle.command_words.proofs.CommandNames.{same_word}
 
 -- what is lacking of a part is lacking of the whole
-pub still_lacks : {X : Type 0} (is : X → Type 0) (lack : Lack) (r : Result X Lack) → IsErrAnd r (λ e. e ≡ lack) → (HasSome is → lack ≡ Memory) → IsRead is r
+pub still_lacks : {X : Type 0} (is : X → Type 0) (lack : Lack) (r : Result X Lack) → IsErrAnd r (λ e. e ≡ lack) → (HasSome is → lack ≡ Memory) → IsReading is r
 still_lacks is lack (Ok x) made why = absurd made
 still_lacks is lack (Err e) made why = λ some. made ∙ why some
 
@@ -40,7 +40,7 @@ wanted rows (Host rack clients workers) has = ((rack, has.0), (clients, has.1), 
 wanted rows (Talk rack) has = (rack, has)
 
 -- and so of the command that the word calls
-pub wanted_by : (by : CommandName) (word : Text) (rows : List Row) (job : Job) → word_of by ≡ word → IsJob word rows job → HasWanted by rows
+pub wanted_by : (by : CommandName) (word : Text) (rows : List Row) (job : Job) → command_word by ≡ word → IsJob word rows job → HasWanted by rows
 wanted_by by word rows job calls is =
     subst (λ (n : CommandName). HasWanted n rows) (same_word (name_of job) by (sym is.0 ∙ sym calls)) (wanted rows job is.1)
 
@@ -58,7 +58,7 @@ within (Some p) request is = go request.job is.job.1
 abbrev text_in : Text → List Row → Text
 text_in id rows = unwrap_or (first_of id rows) []
 
--- whether the words themselves give this option
+-- whether the arguments themselves give this option
 abbrev is_words : Option ValueSource → Bool
 is_words (Some CommandLine) = true
 is_words (Some DefaultValue) = false
@@ -134,7 +134,8 @@ clients_are : (rows : List Row) (job : Job) → HasJob rows job → clients_of j
 clients_are rows (Host rack clients workers) has = rw has.1.0 refl
 clients_are rows job has = refl
 
--- two jobs that the same words hold have one command, so the same files and clients: both may be done, or neither
+-- two jobs that the same arguments hold have one command, so the same files and clients: both may
+-- be done, or neither
 pub same_done : (o : Option (Text × List Row)) (a b : Request) → MatchOption o ⊥ (λ p. IsRequest p.0 p.1 a) → MatchOption o ⊥ (λ p. IsRequest p.0 p.1 b) → MayBeDone a.job → MayBeDone b.job
 same_done None a b one other done = absurd one
 same_done (Some p) a b one other done =
@@ -142,6 +143,6 @@ same_done (Some p) a b one other done =
     let files = files_are p.1 a.job one.job.1 ∙ ap (λ (n : CommandName). files_in n p.1) same ∙ sym (files_are p.1 b.job other.job.1) in
     let output = output_is p.1 a.job one.job.1 ∙ ap (λ (n : CommandName). output_in n p.1) same ∙ sym (output_is p.1 b.job other.job.1) in
     let clients = clients_are p.1 a.job one.job.1 ∙ ap (λ (n : CommandName). clients_in n p.1) same ∙ sym (clients_are p.1 b.job other.job.1) in
-    let out = subst (λ (o : Option Text). IsApart o (files_of b.job)) output (subst (IsApart (output_of a.job)) files done.output) in
+    let out = subst (λ (o : Option Text). IsNoInput o (files_of b.job)) output (subst (IsNoInput (output_of a.job)) files done.output) in
     let kept = subst (λ (names : List Text). IfSome (output_of b.job) (IsOfNone names)) clients (subst (λ (o : Option Text). IfSome o (IsOfNone (clients_of a.job))) output done.client_files) in
     record { input = subst NameInputOnce files done.input; output = out; client_files = kept; clients = subst AreClientNames clients done.clients }

@@ -1,4 +1,4 @@
--- The job that the words of the command line name.
+-- The job that the arguments of the command line name.
 use Rattle.std.specs.Prelude.{◌≡◌, ◌≢◌, ◌⊎◌, ◌↔◌, ℕ, ◌≤◌, List, [], ◌∷◌, ◌++◌, Some, None, String, codes, length, map, find, string_bytes, Option, All, AllPairs, IsTrue, IfSome, Bool, true, false, option_and_then, option_to_list, MatchOption, Result, Ok, Err, ⊤}
 use Rattle.std.specs.Str.{bytes_eq}
 use Rattle.std.specs.Str.Parse.{IsNumeral, digits_value, without_leading_plus}
@@ -18,19 +18,19 @@ use Rattle.command_words.specs.declared.jobs.Request.{Request}
 use Rattle.command_words.specs.declared.jobs.ScheduleSource.{ScheduleSource}
 use Rattle.command_words.specs.declared.jobs.ScheduleSource.TheVariants as source
 use Rattle.command_words.specs.declared.jobs.SharedRack.{SharedRack}
-use Rattle.command_words.specs.declared.jobs.WordsFault.{WordsFault}
-use Rattle.command_words.specs.declared.jobs.WordsFault.TheVariants.{Clap, NoMemory}
+use Rattle.command_words.specs.declared.jobs.ArgumentsFault.{ArgumentsFault}
+use Rattle.command_words.specs.declared.jobs.ArgumentsFault.TheVariants.{Clap, NoMemory}
 use Rattle.command_words.specs.declared.reading.Lack.{Lack}
 use Rattle.command_words.specs.declared.reading.Lack.TheVariants.{Memory}
 use Rattle.command_words.specs.declared.commands.CommandName.{CommandName}
 use Rattle.command_words.specs.declared.commands.CommandName.TheVariants as name
-use Rattle.command_words.specs.Program.{program, word_of}
+use Rattle.command_words.specs.Program.{program, command_word}
 
--- what clap has found for the words and options of a command
+-- what clap has found for the arguments and options of a command
 abbrev pub rows_in : ArgMatches → List Row
 rows_in matches = rows_of (found_of matches)
 
--- the words themselves give the option, and no default does
+-- the arguments themselves give the option, and no default does
 abbrev pub IsGiven : Text → List Row → Type 0
 IsGiven id rows =
     option_and_then (λ row. row.source) (find (λ row. bytes_eq row.id id) rows) ≡ Some CommandLine
@@ -42,7 +42,7 @@ HasWorkers rows n =
     × IsNumeral 10 (without_leading_plus text) × (n ≡ digits_value 10 (without_leading_plus text))
     × (1 ≤ n) × (n ≤ MAX_WORKERS)
 
--- the text of a word
+-- the text of an argument
 abbrev pub HasText : Text → List Row → Text → Type 0
 HasText id rows text = first_of id rows ≡ Some text
 
@@ -96,7 +96,7 @@ name_of (Serve rack scripts workers) = name.Serve
 name_of (Host rack clients workers) = name.Host
 name_of (Talk rack) = name.Talk
 
--- what the words and options of its command say of a job
+-- what the arguments and options of its command say of a job
 abbrev pub HasJob : List Row → Job → Type 0
 HasJob rows (Plan file planning) = HasText (codes "FILE") rows file × HasPlanning rows planning
 HasJob rows (Check batch schedule) =
@@ -125,33 +125,34 @@ HasJob rows (Talk rack) = HasRack rows rack
 
 -- the job of the command that this word calls
 abbrev pub IsJob : Text → List Row → Job → Type 0
-IsJob word rows job = (word ≡ word_of (name_of job)) × HasJob rows job
+IsJob word rows job = (word ≡ command_word (name_of job)) × HasJob rows job
 
--- the words as lists of their bytes
+-- the arguments as lists of their bytes
 abbrev pub texts_of : {Z : Type 0} → List (String Z) → List Text
-texts_of words = map (λ word. string_bytes word) words
+texts_of arguments = map (λ word. string_bytes word) arguments
 
--- clap's matches are those of the program's words
+-- clap's matches are those of the program's arguments
 abbrev pub AreMatchesOf : List Text → ArgMatches → Type 0
-AreMatchesOf words found = subcommand_rows_of found ≡ subcommand_of program words
+AreMatchesOf arguments found = subcommand_rows_of found ≡ subcommand_of program arguments
 
 -- a command's job, and whether nothing is to be told beside its answer
 pub record IsRequest (word : Text) (rows : List Row) (request : Request) : Type 0 where
   pub job : IsJob word rows request.job
   pub quiet : IsTrue request.is_quiet ↔ IsGiven (codes "quiet") rows
 
--- what clap finds in these words
-abbrev pub Holds : List Text → Request → Type 0
-Holds words request = MatchOption (subcommand_of program words) ⊥ (λ p. IsRequest p.0 p.1 request)
+-- what clap finds in these arguments
+abbrev pub GivesRequest : List Text → Request → Type 0
+GivesRequest arguments request =
+    MatchOption (subcommand_of program arguments) ⊥ (λ p. IsRequest p.0 p.1 request)
 
--- what the program's grammar finds at fault in the words, by the kinds of clap's errors: a demand for
--- help is one of them
+-- what the program's grammar finds at fault in the arguments, by the kinds of clap's errors: a
+-- demand for help is one of them
 unfoldable pub faults_of : List Text → Kinds
-faults_of words = fault_of program words
+faults_of arguments = fault_of program arguments
 
--- the grammar takes the words
+-- the grammar takes the arguments
 abbrev pub IsTaken : List Text → Type 0
-IsTaken words = faults_of words ≡ []
+IsTaken arguments = faults_of arguments ≡ []
 
 -- as many clients, or scripts, as a job has may be served
 abbrev pub IsWithinLimits : Job → Type 0
@@ -207,12 +208,12 @@ output_of job = None
 abbrev pub IsOther : List Text → Text → Type 0
 IsOther names out = (out ≢ input_name) × All (λ name. name ≢ out) names
 
-abbrev pub IsApart : Option Text → List Text → Type 0
-IsApart out names = IfSome out (IsOther names)
+abbrev pub IsNoInput : Option Text → List Text → Type 0
+IsNoInput out names = IfSome out (IsOther names)
 
 -- what a job writes goes to no file that it reads
 abbrev pub KeepsInputs : Job → Type 0
-KeepsInputs job = IsApart (output_of job) (files_of job)
+KeepsInputs job = IsNoInput (output_of job) (files_of job)
 
 -- the names of a job's live clients; `host` has some
 abbrev pub clients_of : Job → List Text
@@ -243,50 +244,51 @@ pub record AreClientNames (names : List Text) : Type 0 where
   pub each : All IsClientName names
   pub apart : AllPairs (λ name later. name ≢ later) names
 
--- a job may be done: one of its files at most is standard input, what it writes goes to no file that
--- it reads, nor to one of a client's, and its clients can be told apart
+-- a job may be done: one of its files at most is standard input, what it writes goes to no file
+-- that it reads, nor to one of a client's, and its clients can be told apart
 pub record MayBeDone (job : Job) : Type 0 where
   pub input : NameInputOnce (files_of job)
   pub output : KeepsInputs job
   pub client_files : KeepsClientFiles job
   pub clients : AreClientNames (clients_of job)
 
--- the words ask for this: they fit the grammar, and hold a job that may be done
-pub record AskFor (words : List Text) (request : Request) : Type 0 where
-  pub taken : IsTaken words
-  pub holds : Holds words request
+-- the arguments ask for this: they fit the grammar, and hold a job that may be done
+pub record AskFor (arguments : List Text) (request : Request) : Type 0 where
+  pub taken : IsTaken arguments
+  pub gives : GivesRequest arguments request
   pub job : MayBeDone request.job
 
 -- the error gives a text that helps, and tells no mistake
 abbrev pub AsksForHelp : Error → Type 0
 AsksForHelp error = (kind_of error ≡ DisplayHelp) ⊎ (kind_of error ≡ DisplayVersion)
 
--- the error isn't that there was no memory, so it tells something of the words
-abbrev pub IsOfWords : Error → Type 0
-IsOfWords error = kind_of error ≢ OutOfMemory
+-- the error isn't that there was no memory, so it tells something of the arguments
+abbrev pub IsOfArguments : Error → Type 0
+IsOfArguments error = kind_of error ≢ OutOfMemory
 
--- a mistake in the words is told; or lack of memory, and then nothing is said about them
-abbrev pub IsMistake : WordsFault → Type 0
+-- a mistake in the arguments is told; or lack of memory, and then nothing is said about them
+abbrev pub IsMistake : ArgumentsFault → Type 0
 IsMistake NoMemory = ⊤
-IsMistake (Clap error) = IsOfWords error × (AsksForHelp error → ⊥)
+IsMistake (Clap error) = IsOfArguments error × (AsksForHelp error → ⊥)
 
--- clap's error tells what the grammar finds at fault in the words; or a mistake, where they fit it,
--- but ask for nothing that may be done
+-- clap's error tells what the grammar finds at fault in the arguments; or a mistake, where they fit
+-- it, but ask for nothing that may be done
 abbrev pub IsToldOf : List Text → Error → Type 0
-IsToldOf words error =
-    IsAmong (kind_of error) (faults_of words)
-    ⊎ (IsTaken words × IsMistake (Clap error) × ((request : Request) → AskFor words request → ⊥))
+IsToldOf arguments error =
+    IsAmong (kind_of error) (faults_of arguments)
+    ⊎ (IsTaken arguments × IsMistake (Clap error)
+    × ((request : Request) → AskFor arguments request → ⊥))
 
--- why words aren't read: what is at fault in them; or lack of memory, and then nothing is said about
--- them. No error of clap is about memory
-abbrev pub IsFaultIn : List Text → WordsFault → Type 0
-IsFaultIn words NoMemory = ⊤
-IsFaultIn words (Clap error) = IsOfWords error × IsToldOf words error
+-- why arguments aren't read: what is at fault in them; or lack of memory, and then nothing is said
+-- about them. No error of clap is about memory
+abbrev pub IsFaultIn : List Text → ArgumentsFault → Type 0
+IsFaultIn arguments NoMemory = ⊤
+IsFaultIn arguments (Clap error) = IsOfArguments error × IsToldOf arguments error
 
 -- the fault is this error of clap, or lack of memory where that is what it tells
-abbrev pub IsFaultBy : Error → WordsFault → Type 0
+abbrev pub IsFaultBy : Error → ArgumentsFault → Type 0
 IsFaultBy error NoMemory = kind_of error ≡ OutOfMemory
-IsFaultBy error (Clap told) = IsOfWords error × (told ≡ error)
+IsFaultBy error (Clap told) = IsOfArguments error × (told ≡ error)
 
 -- there is something of which this is so
 abbrev pub HasSome : {X : Type 0} → (X → Type 0) → Type 0
@@ -317,13 +319,13 @@ HasWanted name.Host rows =
     HasSome (HasRack rows) × HasSome (HasServed (codes "CLIENT") rows) × HasSome (HasWorkers rows)
 HasWanted name.Talk rows = HasSome (HasRack rows)
 
--- what is read of the rows: something of which this is so; or what is lacking, which is memory where
--- there is something to read
-abbrev pub IsRead : {X : Type 0} → (X → Type 0) → Result X Lack → Type 0
-IsRead is (Ok x) = is x
-IsRead is (Err lack) = HasSome is → lack ≡ Memory
+-- what is read of the rows: something of which this is so; or what is lacking, which is memory
+-- where there is something to read
+abbrev pub IsReading : {X : Type 0} → (X → Type 0) → Result X Lack → Type 0
+IsReading is (Ok x) = is x
+IsReading is (Err lack) = HasSome is → lack ≡ Memory
 
 -- what is read of them for a command: its job, where there is what the command wants
 abbrev pub IsReadJob : CommandName → List Row → Result Job Lack → Type 0
-IsReadJob name rows (Ok job) = IsJob (word_of name) rows job
+IsReadJob name rows (Ok job) = IsJob (command_word name) rows job
 IsReadJob name rows (Err lack) = HasWanted name rows → lack ≡ Memory

@@ -16,18 +16,18 @@ use Rattle.command_words.specs.declared.limits.TheConstants.{MAX_CLIENTS}
 
 -- ---- what a command takes
 
--- a word that has to be there
-abbrev pub word : List ℕ → Rule
-word id = record (new_rule id) { required = true }
+-- an argument that has to be there
+abbrev pub one_argument : List ℕ → Rule
+one_argument id = record (new_rule id) { required = true }
 
--- a word that may be left out
+-- an argument that may be left out
 abbrev pub spare_word : List ℕ → Rule
 spare_word id = new_rule id
 
--- a word that has to be there, and may be there so many times
-abbrev pub words : List ℕ → Rule
-words id =
-    record (word id)
+-- an argument that has to be there, and may be there so many times
+abbrev pub client_arguments : List ℕ → Rule
+client_arguments id =
+    record (one_argument id)
     { range = Some (record { start_inclusive = 1; end_inclusive = MAX_CLIENTS }) }
 
 -- an option with a value, as `--image FILE`, which may be left out
@@ -48,16 +48,16 @@ flag id = record (new_rule id) { long = Some id; action = Some SetTrue }
 
 -- what clap reads of an argument
 abbrev pub rule_for : Argument → Rule
-rule_for Shape = word (codes "SHAPE")
-rule_for File = word (codes "FILE")
-rule_for Batch = word (codes "BATCH")
-rule_for Schedule = word (codes "SCHEDULE")
-rule_for Port = word (codes "PORT")
+rule_for Shape = one_argument (codes "SHAPE")
+rule_for File = one_argument (codes "FILE")
+rule_for Batch = one_argument (codes "BATCH")
+rule_for Schedule = one_argument (codes "SCHEDULE")
+rule_for Port = one_argument (codes "PORT")
 rule_for PortB = spare_word (codes "PORT_B")
-rule_for Moves = word (codes "MOVES")
-rule_for Image = word (codes "IMAGE")
-rule_for Scripts = words (codes "SCRIPT")
-rule_for Clients = words (codes "CLIENT")
+rule_for Moves = one_argument (codes "MOVES")
+rule_for Image = one_argument (codes "IMAGE")
+rule_for Scripts = client_arguments (codes "SCRIPT")
+rule_for Clients = client_arguments (codes "CLIENT")
 rule_for ImageOption = option (codes "image")
 rule_for ImageOut = option (codes "image-out")
 rule_for Settings = option (codes "settings")
@@ -92,8 +92,8 @@ sheet_of Serve = (codes "serve", Shape ∷ Scripts ∷ ImageOption ∷ ImageOut 
 sheet_of Host = (codes "host", Shape ∷ Clients ∷ ImageOption ∷ ImageOut ∷ Workers ∷ Quiet ∷ [])
 sheet_of Talk = (codes "talk", Shape ∷ ImageOption ∷ ImageOut ∷ Quiet ∷ [])
 
-abbrev pub word_of : CommandName → List ℕ
-word_of name = (sheet_of name).0
+abbrev pub command_word : CommandName → List ℕ
+command_word name = (sheet_of name).0
 
 abbrev pub arguments_of : CommandName → List Argument
 arguments_of name = (sheet_of name).1
@@ -104,7 +104,7 @@ with_arguments = fold (λ app argument. with_rule app (rule_for argument))
 
 -- a command, with what it takes
 abbrev pub command : CommandName → App
-command name = with_arguments (new_app (word_of name)) (arguments_of name)
+command name = with_arguments (new_app (command_word name)) (arguments_of name)
 
 -- the program's name, which a command has to follow, or `--version`
 abbrev pub top : App

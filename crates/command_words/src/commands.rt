@@ -2,7 +2,7 @@
 
 ghost use Rattle.std.specs.Prelude.{◌≡◌, ◌≢◌, IfNone, IfSome};
 ghost use Rattle.command_words.specs.declared.commands.CommandName.{CommandName};
-ghost use Rattle.command_words.specs.Program.{arguments_of, word_of};
+ghost use Rattle.command_words.specs.Program.{arguments_of, command_word};
 
 /// A command by its name.
 #[derive(Clone, Copy)]
@@ -21,7 +21,8 @@ pub(crate) enum CommandName {
     Talk,
 }
 
-/// What a command may take: words in capitals, which have to be there, and options, which may be left out.
+/// What a command may take: arguments in capitals, which have to be there, and options, which may
+/// be left out.
 #[derive(Clone, Copy)]
 pub(crate) enum Argument {
     /// `SHAPE`.
@@ -40,7 +41,7 @@ pub(crate) enum Argument {
     Moves,
     /// `IMAGE`.
     Image,
-    /// `SCRIPT..`, from 1 to [`MAX_CLIENTS`](crate::MAX_CLIENTS) words.
+    /// `SCRIPT..`, from 1 to [`MAX_CLIENTS`](crate::MAX_CLIENTS) arguments.
     Scripts,
     /// `CLIENT..`, as many.
     Clients,
@@ -81,8 +82,8 @@ impl CommandName {
 
     /// The command that this word calls, if one does.
     pub(crate) fn of(word: &str) -> Option<CommandName>
-        ensures some { IfSome result (λ name. word_of name ≡ word.now) }
-        ensures none { IfNone result ((name : CommandName) → word_of name ≢ word.now) }
+        ensures some { IfSome result (λ name. command_word name ≡ word.now) }
+        ensures none { IfNone result ((name : CommandName) → command_word name ≢ word.now) }
     {
         for name in &CommandName::ALL {
             if name.sheet().0 == word {
@@ -94,7 +95,7 @@ impl CommandName {
 
     /// The word that calls it, and what it takes, in this order.
     pub(crate) fn sheet(self) -> (&'static str, &'static [Argument])
-        ensures word { result.0.now ≡ word_of self }
+        ensures word { result.0.now ≡ command_word self }
         ensures arguments { result.1.now ≡ arguments_of self }
     {
         use Argument::{

@@ -1,4 +1,4 @@
-//! The mistakes in words that clap lets through.
+//! The mistakes in arguments that clap lets through.
 
 ghost use Rattle.std.specs.Prelude.{◌≡◌, ◌≢◌, IfOk};
 ghost use Rattle.clap.specs.declared.error.kind.ErrorKind.TheVariants.{DisplayHelp, DisplayVersion, OutOfMemory};
@@ -6,17 +6,17 @@ ghost use Rattle.clap.specs.Values.{kind_of};
 ghost use Rattle.command_words.specs.Jobs.{IsMistake};
 
 use crate::grammar::program;
-use crate::jobs::WordsFault;
+use crate::jobs::ArgumentsFault;
 use clap::error::ErrorKind;
 use std::alloc::{AllocError, Global};
 
-/// The fault of words that clap has let through.
-fn misused(alloc: Global, kind: ErrorKind, message: &str) -> WordsFault
+/// The fault of arguments that clap has let through.
+fn misused(alloc: Global, kind: ErrorKind, message: &str) -> ArgumentsFault
     ensures { kind ≢ DisplayHelp → kind ≢ DisplayVersion → IsMistake result }
 {
     match error_of(alloc, kind, message) {
-        Ok(error) => WordsFault::from(error),
-        Err(_) => WordsFault::NoMemory,
+        Ok(error) => ArgumentsFault::from(error),
+        Err(_) => ArgumentsFault::NoMemory,
     }
 }
 
@@ -27,8 +27,8 @@ fn error_of(alloc: Global, kind: ErrorKind, message: &str) -> Result<clap::Error
     program(alloc)?.error(kind, message)
 }
 
-/// The fault of a word that is missing.
-pub(crate) fn missing(alloc: Global) -> WordsFault
+/// The fault of an argument that is missing.
+pub(crate) fn missing(alloc: Global) -> ArgumentsFault
     ensures { IsMistake result }
 {
     misused(
@@ -39,24 +39,24 @@ pub(crate) fn missing(alloc: Global) -> WordsFault
 }
 
 /// The fault of options that exclude each other.
-pub(crate) fn excluded(alloc: Global) -> WordsFault
+pub(crate) fn excluded(alloc: Global) -> ArgumentsFault
     ensures { IsMistake result }
 {
     let message = "`--workers`, `--steady` and `--schedule` exclude each other";
     misused(alloc, ErrorKind::ArgumentConflict, message)
 }
 
-/// The fault of words of which several name standard input.
-pub(crate) fn named_twice(alloc: Global) -> WordsFault
+/// The fault of arguments of which several name standard input.
+pub(crate) fn named_twice(alloc: Global) -> ArgumentsFault
     ensures { IsMistake result }
 {
     let message = "standard input, `-`, can be one file only";
     misused(alloc, ErrorKind::ArgumentConflict, message)
 }
 
-/// The fault of words whose image would be written over what is read, over a client's file, or to
-/// standard output.
-pub(crate) fn overwritten(alloc: Global) -> WordsFault
+/// The fault of arguments whose image would be written over what is read, over a client's file, or
+/// to standard output.
+pub(crate) fn overwritten(alloc: Global) -> ArgumentsFault
     ensures { IsMistake result }
 {
     let message =
@@ -64,8 +64,8 @@ pub(crate) fn overwritten(alloc: Global) -> WordsFault
     misused(alloc, ErrorKind::ArgumentConflict, message)
 }
 
-/// The fault of words whose clients can't be told apart, or have a name that is no name.
-pub(crate) fn misnamed(alloc: Global) -> WordsFault
+/// The fault of arguments whose clients can't be told apart, or have a name that is no name.
+pub(crate) fn misnamed(alloc: Global) -> ArgumentsFault
     ensures { IsMistake result }
 {
     let message = "a client's name is empty, has a line feed or stands twice";

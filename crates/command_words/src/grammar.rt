@@ -3,7 +3,7 @@
 ghost use Rattle.std.specs.Prelude.{◌≡◌, IfErr, IfOk, OnOk};
 ghost use Rattle.command_words.specs.Jobs.{AreMatchesOf, IsFaultIn, IsTaken, texts_of};
 ghost use Rattle.clap.specs.Words.{app_of, new_app};
-ghost use Rattle.command_words.specs.Program.{IsArgument, IsCommand, IsLocal, command as command_app, flag, option, program, rule_for, spare_word, top, with_arguments, with_command, word, words, workers};
+ghost use Rattle.command_words.specs.Program.{IsArgument, IsCommand, IsLocal, command as command_app, flag, option, program, rule_for, spare_word, top, with_arguments, with_command, one_argument, client_arguments, workers};
 
 use crate::commands::{Argument, CommandName};
 use crate::help::{
@@ -12,31 +12,31 @@ use crate::help::{
     SCHEDULE_OPTION_HELP, SCRIPT_HELP, SETTINGS_HELP, SHAPE_HELP, STEADY_HELP, WORKERS_HELP,
     help_of,
 };
-use crate::jobs::WordsFault;
+use crate::jobs::ArgumentsFault;
 use crate::limits::{MAX_CLIENTS, VERSION};
 use clap::{Arg, ArgAction, ArgMatches, Command, value_parser};
 use exchange_limits::MAX_WORKERS;
 use std::alloc::{AllocError, Global};
 
-/// A word that has to be there.
-fn word<'a>(alloc: Global, id: &'a str, help: &'a str) -> Arg<'a>
-    ensures { IsArgument (word id.entry.now) result }
+/// An argument that has to be there.
+fn one_argument<'a>(alloc: Global, id: &'a str, help: &'a str) -> Arg<'a>
+    ensures { IsArgument (one_argument id.entry.now) result }
 {
     Arg::new(alloc, id).required(true).help(help)
 }
 
-/// A word that may be left out.
+/// An argument that may be left out.
 fn spare_word<'a>(alloc: Global, id: &'a str, help: &'a str) -> Arg<'a>
     ensures { IsArgument (spare_word id.entry.now) result }
 {
     Arg::new(alloc, id).help(help)
 }
 
-/// From 1 to [`MAX_CLIENTS`] words.
-fn words<'a>(alloc: Global, id: &'a str, help: &'a str) -> Arg<'a>
-    ensures { IsArgument (words id.entry.now) result }
+/// From 1 to [`MAX_CLIENTS`] arguments.
+fn client_arguments<'a>(alloc: Global, id: &'a str, help: &'a str) -> Arg<'a>
+    ensures { IsArgument (client_arguments id.entry.now) result }
 {
-    word(alloc, id, help).num_args(1..=MAX_CLIENTS)
+    one_argument(alloc, id, help).num_args(1..=MAX_CLIENTS)
 }
 
 /// An option with a value, as `--image FILE`.
@@ -70,16 +70,16 @@ fn arg_of<'a>(alloc: Global, argument: Argument) -> Arg<'a>
     ensures { IsArgument (rule_for argument) result }
 {
     match argument {
-        Argument::Shape => word(alloc, "SHAPE", SHAPE_HELP),
-        Argument::File => word(alloc, "FILE", BATCH_HELP),
-        Argument::Batch => word(alloc, "BATCH", BATCH_HELP),
-        Argument::Schedule => word(alloc, "SCHEDULE", SCHEDULE_HELP),
-        Argument::Port => word(alloc, "PORT", PORT_HELP),
+        Argument::Shape => one_argument(alloc, "SHAPE", SHAPE_HELP),
+        Argument::File => one_argument(alloc, "FILE", BATCH_HELP),
+        Argument::Batch => one_argument(alloc, "BATCH", BATCH_HELP),
+        Argument::Schedule => one_argument(alloc, "SCHEDULE", SCHEDULE_HELP),
+        Argument::Port => one_argument(alloc, "PORT", PORT_HELP),
         Argument::PortB => spare_word(alloc, "PORT_B", PORT_B_HELP),
-        Argument::Moves => word(alloc, "MOVES", MOVES_HELP),
-        Argument::Image => word(alloc, "IMAGE", IMAGE_HELP),
-        Argument::Scripts => words(alloc, "SCRIPT", SCRIPT_HELP),
-        Argument::Clients => words(alloc, "CLIENT", CLIENT_HELP),
+        Argument::Moves => one_argument(alloc, "MOVES", MOVES_HELP),
+        Argument::Image => one_argument(alloc, "IMAGE", IMAGE_HELP),
+        Argument::Scripts => client_arguments(alloc, "SCRIPT", SCRIPT_HELP),
+        Argument::Clients => client_arguments(alloc, "CLIENT", CLIENT_HELP),
         Argument::ImageOption => option(alloc, "image", "FILE", IMAGE_OPTION_HELP),
         Argument::ImageOut => option(alloc, "image-out", "FILE", IMAGE_OUT_HELP),
         Argument::Settings => option(alloc, "settings", "A..B", SETTINGS_HELP),
@@ -135,7 +135,8 @@ fn with_command<'a>(
     requires { IsLocal program }
     ensures { IfOk result (IsCommand (with_command (app_of program.entry) name)) }
 {
-    // A `?` would take the program apart here, which makes the proof long; `drop` does it elsewhere.
+    // A `?` would take the program apart here, which makes the proof long; `drop` does it
+    // elsewhere.
     match command_of(alloc, name) {
         Ok(command) => program.subcommand(command),
         Err(error) => {
@@ -165,14 +166,14 @@ pub(crate) fn program<'a>(alloc: Global) -> Result<Command<'a>, AllocError>
     Ok(program)
 }
 
-/// The matches of the words.
+/// The matches of the arguments.
 pub(crate) fn matches_of<'a>(
     alloc: Global,
-    words: &'a [String],
-) -> Result<ArgMatches<'a>, WordsFault>
-    ensures matches { IfOk result (AreMatchesOf (texts_of words.entry.now)) }
-    ensures taken { OnOk result (IsTaken (texts_of words.entry.now)) }
-    ensures fault { IfErr result (IsFaultIn (texts_of words.entry.now)) }
+    arguments: &'a [String],
+) -> Result<ArgMatches<'a>, ArgumentsFault>
+    ensures matches { IfOk result (AreMatchesOf (texts_of arguments.entry.now)) }
+    ensures taken { OnOk result (IsTaken (texts_of arguments.entry.now)) }
+    ensures fault { IfErr result (IsFaultIn (texts_of arguments.entry.now)) }
 {
-    Ok(program(alloc)?.try_get_matches_from(words)?)
+    Ok(program(alloc)?.try_get_matches_from(arguments)?)
 }

@@ -1,5 +1,6 @@
-//! What the commands say of themselves. Where a text names a limit of batches, racks or workers, rows hold the words, and
-//! what lies on both sides of the limit; how many modules one switch joins is of the chip, and a row holds the words.
+//! What the commands say of themselves. Where a text names a limit of batches, racks or workers,
+//! rows hold the words, and what lies on both sides of the limit; how many modules one switch joins
+//! is of the chip, and a row holds the words.
 
 use crate::commands::CommandName;
 

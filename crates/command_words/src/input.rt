@@ -44,7 +44,8 @@ pub(crate) fn is_input(name: &Option<Text>) -> bool
     }
 }
 
-/// Whether at most one of these names stands for standard input, where there may be one more before them.
+/// Whether at most one of these names stands for standard input, where there may be one more before
+/// them.
 pub(crate) fn name_input_once_behind(first: &Option<Text>, names: &[Text]) -> bool
     ensures { IsTrue result ↔ NameInputOnce (option_to_list first.now ++ names.now) }
 {

@@ -1,7 +1,7 @@
-//! What the words of the command line ask for, or why they ask for nothing.
+//! What the arguments of the command line ask for, or why they ask for nothing.
 
 ghost use Rattle.std.specs.Prelude.{◌≡◌};
-ghost use Rattle.command_words.specs.declared.jobs.WordsFault.TheVariants.{NoMemory};
+ghost use Rattle.command_words.specs.declared.jobs.ArgumentsFault.TheVariants.{NoMemory};
 ghost use Rattle.command_words.specs.Jobs.{IsFaultBy};
 
 use crate::text::Text;
@@ -24,8 +24,8 @@ pub enum Job {
         batch: Text,
         schedule: Text,
     },
-    /// Draw the schedule of a file, which is one of the batch of another, or of its settings those of
-    /// the range.
+    /// Draw the schedule of a file, which is one of the batch of another, or of its settings those
+    /// of the range.
     Draw {
         batch: Text,
         schedule: Text,
@@ -51,8 +51,8 @@ pub enum Job {
     Direct {
         moves: Text,
     },
-    /// Run the batch of a file over the words of an image's file, on a rack of the shape, with so many
-    /// workers.
+    /// Run the batch of a file over the words of an image's file, on a rack of the shape, with so
+    /// many workers.
     Apply {
         shape: Text,
         batch: Text,
@@ -67,8 +67,8 @@ pub enum Job {
         image: Option<Text>,
         workers: WorkerCount,
     },
-    /// Serve the scripts of 1 to [`MAX_CLIENTS`](crate::MAX_CLIENTS) files, side by side on one exchange
-    /// with this rack, with so many workers.
+    /// Serve the scripts of 1 to [`MAX_CLIENTS`](crate::MAX_CLIENTS) files, side by side on one
+    /// exchange with this rack, with so many workers.
     Serve {
         rack: SharedRack,
         scripts: TextList,
@@ -118,7 +118,7 @@ pub enum ScheduleSource {
     File(Text),
 }
 
-/// What the words of the command line ask for.
+/// What the arguments of the command line ask for.
 #[derive(Drop)]
 pub struct Request {
     /// What the program is to do.
@@ -127,11 +127,11 @@ pub struct Request {
     pub is_quiet: bool,
 }
 
-/// Why the words name no job.
+/// Why the arguments name no job.
 #[derive(Debug, Drop, Error)]
-pub enum WordsFault {
-    /// They fit no command, or ask for help. The error has the text to print. It never tells of lack of
-    /// memory.
+pub enum ArgumentsFault {
+    /// They fit no command, or ask for help. The error has the text to print. It never tells of
+    /// lack of memory.
     #[error("{0}")]
     Clap(clap::Error),
     /// There was no memory to read them, and nothing is said about them.
@@ -139,21 +139,21 @@ pub enum WordsFault {
     NoMemory,
 }
 
-impl From<AllocError> for WordsFault {
+impl From<AllocError> for ArgumentsFault {
     ghost from_gives = { λ _ fault. fault ≡ NoMemory };
 
-    fn from(_error: AllocError) -> WordsFault {
-        WordsFault::NoMemory
+    fn from(_error: AllocError) -> ArgumentsFault {
+        ArgumentsFault::NoMemory
     }
 }
 
-impl From<clap::Error> for WordsFault {
+impl From<clap::Error> for ArgumentsFault {
     ghost from_gives = { λ error fault. IsFaultBy error fault };
 
-    fn from(error: clap::Error) -> WordsFault {
+    fn from(error: clap::Error) -> ArgumentsFault {
         match error.kind() {
-            ErrorKind::OutOfMemory => WordsFault::NoMemory,
-            _ => WordsFault::Clap(error),
+            ErrorKind::OutOfMemory => ArgumentsFault::NoMemory,
+            _ => ArgumentsFault::Clap(error),
         }
     }
 }

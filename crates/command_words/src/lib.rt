@@ -1,4 +1,4 @@
-//! The words of the command line: the jobs that they name, and the texts of help.
+//! The arguments of the command line: the jobs that they name, and the texts of help.
 #![tactic(auto)]
 
 mod clients;
@@ -14,8 +14,8 @@ mod reading;
 mod text;
 mod text_list;
 
-pub use jobs::{Job, Planning, Request, ScheduleSource, SharedRack, WordsFault};
+pub use jobs::{ArgumentsFault, Job, Planning, Request, ScheduleSource, SharedRack};
 pub use limits::MAX_CLIENTS;
-pub use reading::read_words;
+pub use reading::read_arguments;
 pub use text::Text;
 pub use text_list::TextList;

@@ -2,7 +2,8 @@
 
 use exchange_limits::MAX_SESSIONS;
 
-/// The most clients that are served at once, and so the most scripts: each has a session, and an exchange has as many at most.
+/// The most clients that are served at once, and so the most scripts: each has a session, and an
+/// exchange has as many at most.
 pub const MAX_CLIENTS: usize = MAX_SESSIONS;
 
 /// The program's version.

@@ -1,7 +1,7 @@
 //! The file to which an image goes.
 
 ghost use Rattle.std.specs.Prelude.{◌≢◌, ◌↔◌, ◌++◌, All, IsTrue, option_to_list};
-ghost use Rattle.command_words.specs.Jobs.{IsApart, IsFileOf, IsOfNone, IsOther, KeepsClientFiles, KeepsInputs};
+ghost use Rattle.command_words.specs.Jobs.{IsNoInput, IsFileOf, IsOfNone, IsOther, KeepsClientFiles, KeepsInputs};
 
 use crate::clients::is_none_of;
 use crate::jobs::{Job, SharedRack};
@@ -27,9 +27,10 @@ fn is_other(out: &Text, image: &Option<Text>, names: &[Text]) -> bool
     is_not(out, image) && is_none_of(out, names)
 }
 
-/// Whether the image of a rack may go where it is to go, where these files are read beside its image.
+/// Whether the image of a rack may go where it is to go, where these files are read beside its
+/// image.
 fn is_apart(rack: &SharedRack, names: &[Text]) -> bool
-    ensures { IsTrue result ↔ IsApart rack.now.image_out
+    ensures { IsTrue result ↔ IsNoInput rack.now.image_out
         (option_to_list rack.now.image ++ names.now) }
 {
     match &rack.image_out {
@@ -38,7 +39,8 @@ fn is_apart(rack: &SharedRack, names: &[Text]) -> bool
     }
 }
 
-/// Whether the image that a job leaves goes to none of the files that it reads, nor to standard output.
+/// Whether the image that a job leaves goes to none of the files that it reads, nor to standard
+/// output.
 pub(crate) fn keeps_inputs(job: &Job) -> bool
     ensures { IsTrue result ↔ KeepsInputs job.now }
 {

@@ -1,18 +1,18 @@
-//! From the words to what they ask for, by what clap finds in them.
+//! From the arguments to what they ask for, by what clap finds in them.
 
 ghost use Rattle.std.specs.Prelude.{◌≡◌, ◌↔◌, IfErr, IfOk, IsTrue, OnErr, OnOk};
 ghost use Rattle.command_words.specs.declared.jobs.Job.{Job};
 ghost use Rattle.command_words.specs.declared.jobs.Request.{Request};
-ghost use Rattle.command_words.specs.declared.jobs.WordsFault.TheVariants.{NoMemory};
+ghost use Rattle.command_words.specs.declared.jobs.ArgumentsFault.TheVariants.{NoMemory};
 ghost use Rattle.command_words.specs.declared.reading.Lack.TheVariants.{Memory};
-ghost use Rattle.command_words.specs.Jobs.{AskFor, HasOption, HasPlanning, HasServed, HasRack, HasSource, HasText, HasWorkers, Holds, IsFaultIn, IsGiven, IsMistake, IsRead, IsReadJob, IsRequest, IsTaken, IsWithinLimits, MayBeDone, rows_in, texts_of};
+ghost use Rattle.command_words.specs.Jobs.{AskFor, HasOption, HasPlanning, HasServed, HasRack, HasSource, HasText, HasWorkers, GivesRequest, IsFaultIn, IsGiven, IsMistake, IsReading, IsReadJob, IsRequest, IsTaken, IsWithinLimits, MayBeDone, rows_in, texts_of};
 
 use crate::clients::names_clients;
 use crate::commands::CommandName;
 use crate::faults::{excluded, misnamed, missing, named_twice, overwritten};
 use crate::grammar::matches_of;
 use crate::input::reads_input_once;
-use crate::jobs::{Job, Planning, Request, ScheduleSource, SharedRack, WordsFault};
+use crate::jobs::{ArgumentsFault, Job, Planning, Request, ScheduleSource, SharedRack};
 use crate::limits::MAX_CLIENTS;
 use crate::outputs::{keeps_client_files, keeps_inputs};
 use crate::text::Text;
@@ -22,10 +22,10 @@ use clap::parser::ValueSource;
 use exchange_limits::WorkerCount;
 use std::alloc::{AllocError, Global};
 
-/// What a job lacks whose words clap has let through.
+/// What a job lacks whose arguments clap has let through.
 #[derive(Clone, Copy)]
 enum Lack {
-    /// A word that has to be there. Clap has refused such words before.
+    /// An argument that has to be there. Clap has refused such arguments before.
     Word,
     /// A choice between options that exclude each other.
     Choice,
@@ -42,20 +42,20 @@ impl From<AllocError> for Lack {
 }
 
 /// The fault of what a job lacks.
-fn fault_of(alloc: Global, lack: Lack) -> WordsFault
+fn fault_of(alloc: Global, lack: Lack) -> ArgumentsFault
     ensures memory { lack ≡ Memory → result ≡ NoMemory }
     ensures mistake { IsMistake result }
 {
     match lack {
         Lack::Word => missing(alloc),
         Lack::Choice => excluded(alloc),
-        Lack::Memory => WordsFault::NoMemory,
+        Lack::Memory => ArgumentsFault::NoMemory,
     }
 }
 
-/// The text of a word that has to be there.
+/// The text of an argument that has to be there.
 fn text_of(alloc: Global, matches: &ArgMatches<'_>, id: &str) -> Result<Text, Lack>
-    ensures { IsRead (HasText id.now (rows_in matches.now)) result }
+    ensures { IsReading (HasText id.now (rows_in matches.now)) result }
 {
     match matches.get_str(id) {
         Some(text) => Ok(Text::of(alloc, text)?),
@@ -73,9 +73,9 @@ fn option_of(alloc: Global, matches: &ArgMatches<'_>, id: &str) -> Result<Option
     }
 }
 
-/// The texts of from 1 to [`MAX_CLIENTS`] words.
+/// The texts of from 1 to [`MAX_CLIENTS`] arguments.
 fn served_of(alloc: Global, matches: &ArgMatches<'_>, id: &str) -> Result<TextList, Lack>
-    ensures { IsRead (HasServed id.now (rows_in matches.now)) result }
+    ensures { IsReading (HasServed id.now (rows_in matches.now)) result }
 {
     match matches.get_strs(id) {
         Some(texts) if texts.len() >= 1 && texts.len() <= MAX_CLIENTS => Ok(TextList::of(
@@ -87,7 +87,7 @@ fn served_of(alloc: Global, matches: &ArgMatches<'_>, id: &str) -> Result<TextLi
 
 /// The number of `--workers`.
 fn workers_of(matches: &ArgMatches<'_>) -> Result<WorkerCount, Lack>
-    ensures { IsRead (HasWorkers (rows_in matches.now)) result }
+    ensures { IsReading (HasWorkers (rows_in matches.now)) result }
 {
     let Some(number) = matches.get_one::<usize>("workers") else {
         return Err(Lack::Word);
@@ -95,7 +95,7 @@ fn workers_of(matches: &ArgMatches<'_>) -> Result<WorkerCount, Lack>
     WorkerCount::new(number).ok_or(Lack::Word)
 }
 
-/// Whether the words themselves give an option.
+/// Whether the arguments themselves give an option.
 fn is_given(matches: &ArgMatches<'_>, id: &str) -> bool
     ensures { IsTrue result ↔ IsGiven id.now (rows_in matches.now) }
 {
@@ -104,7 +104,7 @@ fn is_given(matches: &ArgMatches<'_>, id: &str) -> bool
 
 /// How a batch is to be planned.
 fn planning_of(matches: &ArgMatches<'_>) -> Result<Planning, Lack>
-    ensures { IsRead (HasPlanning (rows_in matches.now)) result }
+    ensures { IsReading (HasPlanning (rows_in matches.now)) result }
 {
     if !is_given(matches, "steady") {
         return Ok(Planning::Workers(workers_of(matches)?));
@@ -117,7 +117,7 @@ fn planning_of(matches: &ArgMatches<'_>) -> Result<Planning, Lack>
 
 /// Where a schedule is to come from.
 fn source_of(alloc: Global, matches: &ArgMatches<'_>) -> Result<ScheduleSource, Lack>
-    ensures { IsRead (HasSource (rows_in matches.now)) result }
+    ensures { IsReading (HasSource (rows_in matches.now)) result }
 {
     let Some(file) = option_of(alloc, matches, "schedule")? else {
         return match planning_of(matches)? {
@@ -133,7 +133,7 @@ fn source_of(alloc: Global, matches: &ArgMatches<'_>) -> Result<ScheduleSource, 
 
 /// The rack of an exchange.
 fn rack_of(alloc: Global, matches: &ArgMatches<'_>) -> Result<SharedRack, Lack>
-    ensures { IsRead (HasRack (rows_in matches.now)) result }
+    ensures { IsReading (HasRack (rows_in matches.now)) result }
 {
     Ok(SharedRack {
         shape: text_of(alloc, matches, "SHAPE")?,
@@ -295,13 +295,13 @@ fn request_of(alloc: Global, word: &str, found: &ArgMatches<'_>) -> Result<Reque
     })
 }
 
-/// What the words ask for, whatever files it names.
-fn request_named(alloc: Global, words: &[String]) -> Result<Request, WordsFault>
-    ensures taken { OnOk result (IsTaken (texts_of words.now)) }
-    ensures request { IfOk result (Holds (texts_of words.now)) }
-    ensures fault { IfErr result (IsFaultIn (texts_of words.now)) }
+/// What the arguments ask for, whatever files it names.
+fn request_named(alloc: Global, arguments: &[String]) -> Result<Request, ArgumentsFault>
+    ensures taken { OnOk result (IsTaken (texts_of arguments.now)) }
+    ensures request { IfOk result (GivesRequest (texts_of arguments.now)) }
+    ensures fault { IfErr result (IsFaultIn (texts_of arguments.now)) }
 {
-    let matches = matches_of(alloc, words)?;
+    let matches = matches_of(alloc, arguments)?;
     match matches.subcommand() {
         Some((word, found)) => match request_of(alloc, word, found) {
             Ok(request) => Ok(request),
@@ -314,7 +314,7 @@ fn request_named(alloc: Global, words: &[String]) -> Result<Request, WordsFault>
 /// Whether a job may be done: its fault, where several of its files are standard input, or an image
 /// would go to a file that is read or a client's, or to standard output, or its clients can't be
 /// told apart.
-fn judged(alloc: Global, job: &Job) -> Result<(), WordsFault>
+fn judged(alloc: Global, job: &Job) -> Result<(), ArgumentsFault>
     ensures done { OnOk result (MayBeDone job.now) }
     ensures refused { OnErr result (MayBeDone job.now → ⊥) }
     ensures mistake { IfErr result IsMistake }
@@ -331,22 +331,24 @@ fn judged(alloc: Global, job: &Job) -> Result<(), WordsFault>
     Ok(())
 }
 
-/// Reads the program's words, the first of which is its own name.
+/// Reads the program's arguments, the first of which is its own name.
 ///
-/// Gives what clap finds in words that fit the program's grammar: the command's job, with its texts
-/// and its number of workers, and whether it is quiet. Other words are clap's error of what is at
-/// fault in them, which holds the text to print; a demand for help or for the program's version is
-/// one. So are words that fit, but give two of `--workers`, `--steady` and `--schedule`, or name a
-/// job of which several files are `-`, standard input, or an image that would go to one of its files,
-/// to a client's or to `-`, or clients whose names are no names. Where there was no memory, nothing is
-/// said about the words: clap's error of that kind is [`WordsFault::NoMemory`], too.
-pub fn read_words(alloc: Global, words: &[String]) -> Result<Request, WordsFault>
-    ensures request { IfOk result (AskFor (texts_of words.now)) }
+/// Gives what clap finds in arguments that fit the program's grammar: the command's job, with its
+/// texts and its number of workers, and whether it is quiet. Other arguments are clap's error of
+/// what is at fault in them, which holds the text to print; a demand for help or for the program's
+/// version is one. So are arguments that fit, but give two of `--workers`, `--steady` and
+/// `--schedule`, or name a job of which several files are `-`, standard input, or an image that
+/// would go to one of its files, to a client's or to `-`, or clients whose names are no names.
+/// Where there was no memory, nothing is said about the arguments: clap's error of that kind is
+/// [`ArgumentsFault::NoMemory`], too.
+pub fn read_arguments(alloc: Global, arguments: &[String]) -> Result<Request, ArgumentsFault>
+    ensures request { IfOk result (AskFor (texts_of arguments.now)) }
     ensures limits { IfOk result (λ request. IsWithinLimits request.job) }
-    ensures fault { IfErr result (IsFaultIn (texts_of words.now)) }
+    ensures fault { IfErr result (IsFaultIn (texts_of arguments.now)) }
 {
-    let request = request_named(alloc, words)?;
-    // A `?` would take a refused request apart here, which makes the proof long; `drop` does it elsewhere.
+    let request = request_named(alloc, arguments)?;
+    // A `?` would take a refused request apart here, which makes the proof long; `drop` does it
+    // elsewhere.
     match judged(alloc, &request.job) {
         Ok(()) => Ok(request),
         Err(fault) => {

@@ -4,7 +4,7 @@ ghost use Rattle.command_words.specs.Jobs.{input_name};
 use std::alloc::{AllocError, Global};
 use std::marker::Model;
 
-/// A text of its own, as one word of the command line. Contracts see its bytes.
+/// A text of its own, as one argument of the command line. Contracts see its bytes.
 pub struct Text {
     text: String,
 }

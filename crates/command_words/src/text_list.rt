@@ -5,8 +5,8 @@ use crate::text::Text;
 use std::alloc::{AllocError, Global};
 use std::marker::Model;
 
-/// Texts of their own, as words of the command line that stand for one thing each. Contracts see the list of
-/// their bytes.
+/// Texts of their own, as arguments of the command line that stand for one thing each. Contracts
+/// see the list of their bytes.
 pub struct TextList {
     texts: Vec<Text>,
 }

@@ -3,12 +3,12 @@ use Rattle.std.proofs.Common.{◌≡◌, ◌≤◌, ◌<◌, ◌+◌, ℕ, List,
 use Rattle.std.proofs.Math.Seq.{take-suc, drop-cons}
 use Rattle.std.proofs.lemmas.List.{take-append-drop, take_all}
 use Rattle.std.specs.Option.{option_to_list}
-use Rattle.c004_commands.specs.Commands.{text, AreCommands, IsRest, Spells}
+use Rattle.c004_commands.specs.Commands.{text, AreCommands, IsCommandFront, Spells}
 use Rattle.c004_commands.specs.declared.command.Command.{Command}
 use Rattle.c004_commands.specs.declared.command.Command.TheVariants.{Connect, Join, Enquire, Settle, Reset, Cut, CutPair}
 use Rattle.c004_commands.proofs.Readings.{one_reading, longer_text}
 use Rattle.crossbar.specs.Switch.{Switch, after, after_all, answer, answers, enquiries}
-use Rattle.crossbar.specs.Port.{IsExchange, CarriesOut, CarriesOutWhole}
+use Rattle.crossbar.specs.Port.{IsConversation, CarriesOut, CarriesOutWhole}
 
 pub after_all-append : (cs ds : List Command) (s : Switch) → after_all (cs ++ ds) s ≡ after_all ds (after_all cs s)
 after_all-append [] ds s = refl
@@ -43,7 +43,7 @@ pub record Carried (bytes reader : List ℕ) (start now : Switch) (replies : Lis
   pub told : take answered replies ≡ answers ran.commands start
   pub count : answered ≡ enquiries ran.commands
 
-pub nothing_come : IsRest []
+pub nothing_come : IsCommandFront []
 nothing_come = record { command = Settle; ports = tt; next = 3; more = []; row_is = refl }
 
 pub ran_none : (start : Switch) → Ran [] [] start start
@@ -98,14 +98,14 @@ ran_all come bytes reader start now h all commands rest s =
 spells_whole : (bytes : List ℕ) (commands : List Command) → AreCommands commands → bytes ≡ text commands → Spells bytes commands []
 spells_whole bytes commands a e = record { whole = e ∙ sym (append-nil (text commands)); ports = a; partial = nothing_come }
 
-pub spells_exchange : (bytes : List ℕ) (replies : ℕ) (e : IsExchange bytes replies) → Spells bytes e.commands []
-spells_exchange bytes replies e = spells_whole bytes e.commands e.ports e.whole
+pub spells_conversation : (bytes : List ℕ) (replies : ℕ) (e : IsConversation bytes replies) → Spells bytes e.commands []
+spells_conversation bytes replies e = spells_whole bytes e.commands e.ports e.whole
 
--- once all bytes of an exchange have come, it has been carried out
-pub carried_all : (come bytes reader : List ℕ) (start now : Switch) (replies : List ℕ) (answered number : ℕ) → Carried come reader start now replies answered → come ≡ bytes → IsExchange bytes number → length replies ≡ number → CarriesOut bytes start now replies
+-- once all bytes of a conversation have come, it has been carried out
+pub carried_all : (come bytes reader : List ℕ) (start now : Switch) (replies : List ℕ) (answered number : ℕ) → Carried come reader start now replies answered → come ≡ bytes → IsConversation bytes number → length replies ≡ number → CarriesOut bytes start now replies
 carried_all come bytes reader start now replies answered number h all e len commands a is =
     let spells = spells_whole bytes commands a is in
-    let same = (one_reading bytes commands e.commands [] [] spells (spells_exchange bytes number e)).0 in
+    let same = (one_reading bytes commands e.commands [] [] spells (spells_conversation bytes number e)).0 in
     let ran = (one_reading bytes h.ran.commands commands reader [] (subst (λ b. Spells b h.ran.commands reader) all h.ran.spells) spells).0 in
     let filled : length replies ≤ answered = omega (arith, ap enquiries same, ap enquiries ran, h.count, e.count, len) in
     (ran_all come bytes reader start now h.ran all commands [] spells, sym (take_all answered replies filled) ∙ h.told ∙ ap (λ cs. answers cs start) ran)

@@ -103,7 +103,8 @@ meets_cases o p e = elim (or_cases (o == p.initiator) (o == JOINED_MODULES + p.r
   | inr h ↦ inl (same_number o (JOINED_MODULES + p.responder) h)
 ]
 
--- pairs that the switch has links for, and that meet in an output, have one initiator or one responder
+-- pairs that the switch has links for, and that meet in an output, have one initiator or one
+-- responder
 shared : (w : Wiring) (o : ℕ) (p q : Pair) → p.initiator < room_of w → q.initiator < room_of w → meets w o p ≡ true → meets w o q ≡ true → (p.initiator ≡ q.initiator) ⊎ (p.responder ≡ q.responder)
 shared Both o p q a b m n = elim (meets_cases o p m) [
   | inl x ↦ elim (meets_cases o q n) [ inl y ↦ inr (omega arith) | inr y ↦ absurd (omega arith) ]

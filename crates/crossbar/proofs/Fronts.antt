@@ -3,13 +3,13 @@ use Rattle.std.proofs.Common.{◌≡◌, ◌≤◌, ◌<◌, ◌+◌, ◌-◌, i
 use Rattle.std.proofs.Math.Seq.{drop-cons, take-append-add}
 use Rattle.std.proofs.lemmas.Bool.{cases_lt}
 use Rattle.std.proofs.lemmas.List.{take-append-drop, take-append-le}
-use Rattle.c004_commands.specs.Commands.{row, text, HasPorts, AreCommands, IsRest, Spells}
+use Rattle.c004_commands.specs.Commands.{row, text, HasPorts, AreCommands, IsCommandFront, Spells}
 use Rattle.c004_commands.specs.declared.command.Command.{Command}
-use Rattle.crossbar.specs.Port.{IsExchange, IsFront}
+use Rattle.crossbar.specs.Port.{IsConversation, IsFront}
 use Rattle.crossbar.proofs.Carrying.{nothing_come}
 
 -- less than the bytes of a command are less than a whole one
-row_rest : (c : Command) (k : ℕ) → HasPorts c → k < length (row c) → IsRest (take k (row c))
+row_rest : (c : Command) (k : ℕ) → HasPorts c → k < length (row c) → IsCommandFront (take k (row c))
 row_rest c k p h = record {
   command = c;
   ports = p;
@@ -53,9 +53,9 @@ front_of (c ∷ cs) k a = elim (cases_lt k (length (row c))) [
   | inr h ↦ front_past c cs k (k - length (row c)) a.0 (omega arith) (front_of cs (k - length (row c)) a.1)
 ]
 
--- the first bytes of an exchange are the front of one
-pub front_of_exchange : (bytes : List ℕ) (replies k : ℕ) → IsExchange bytes replies → IsFront (take k bytes)
-front_of_exchange bytes replies k e =
+-- the first bytes of a conversation are the front of one
+pub front_of_conversation : (bytes : List ℕ) (replies k : ℕ) → IsConversation bytes replies → IsFront (take k bytes)
+front_of_conversation bytes replies k e =
     let f = front_of e.commands k e.ports in record {
       commands = f.whole;
       rest = f.rest;

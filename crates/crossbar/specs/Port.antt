@@ -8,7 +8,7 @@ use Rattle.c004_commands.specs.declared.command.Command.{Command}
 use Rattle.crossbar.specs.Switch.{Switch, after_all, answers, enquiries}
 
 -- the bytes are whole commands, and so many of these are enquiries
-pub record IsExchange (bytes : List ℕ) (replies : ℕ) : Type 0 where
+pub record IsConversation (bytes : List ℕ) (replies : ℕ) : Type 0 where
   pub commands : List Command
   pub ports : AreCommands commands
   pub whole : bytes ≡ text commands

@@ -30,8 +30,8 @@ sent_to chip bytes = map (sent_byte chip) bytes
 abbrev pub heard_from : Chip → List ℕ → List Passing
 heard_from chip replies = map (heard_byte chip) replies
 
--- What passes where a chip is sent commands: each reply is heard behind its enquiry, before the next
--- command is sent.
+-- What passes where a chip is sent commands: each reply is heard behind its enquiry, before the
+-- next command is sent.
 abbrev pub conversed : Chip → List Command → List ℕ → List Passing
 conversed chip [] replies = []
 conversed chip (command ∷ commands) replies =
@@ -53,7 +53,7 @@ HaveConversed chip bytes replies old new =
     → Passes old new (conversed chip commands replies)
 
 -- a front of a conversation in which these commands are sent passed
-pub record IsBrokenOff (chip : Chip) (commands : List Command) (more : List Passing)
+pub record IsConversationFront (chip : Chip) (commands : List Command) (more : List Passing)
     : Type 0 where
   pub replies : List ℕ
   pub rest : List Passing
@@ -66,7 +66,7 @@ abbrev pub PassesFront : Chip → List Command → Option (List Passing) → Opt
 PassesFront chip commands None new = Unit {0}
 PassesFront chip commands (Some old) None = ⊥
 PassesFront chip commands (Some old) (Some new) =
-    (more : List Passing) × (new ≡ old ++ more) × IsBrokenOff chip commands more
+    (more : List Passing) × (new ≡ old ++ more) × IsConversationFront chip commands more
 
 -- it grows by a front of the conversation in which the commands that the bytes spell are sent
 abbrev pub BreaksOff : Chip → List ℕ → Option (List Passing) → Option (List Passing) → Type 0

@@ -3,25 +3,26 @@
 ghost use Rattle.std.specs.Prelude.{◌≡◌};
 ghost use Rattle.crossbar.specs.Chips.{wide_wiring};
 
-/// A switch of a rack. A rack of at most [`crate::JOINED_MODULES`] modules has `A` alone, and a wider one has
-/// both. That there are two is this project's choice.
+/// A switch of a rack. A rack of at most [`crate::JOINED_MODULES`] modules has `A` alone, and a
+/// wider one has both. That there are two is this project's choice.
 #[derive(Clone, Copy, Debug, PartialEq, Eq)]
 pub enum Chip {
     A,
     B,
 }
 
-/// Which ends of the modules' links are on a switch. This project's choice, which uses all inputs and outputs of
-/// the chip.
+/// Which ends of the modules' links are on a switch. This project's choice, which uses all inputs
+/// and outputs of the chip.
 #[derive(Clone, Copy, Debug, PartialEq, Eq)]
 pub enum Wiring {
-    /// Both directions of link 0 and of link 3 of each module, of at most [`crate::JOINED_MODULES`].
+    /// Both directions of link 0 and of link 3 of each module, of at most
+    /// [`crate::JOINED_MODULES`].
     Both,
-    /// The way forth: an input comes from link 0 of the module of its number, and an output goes to link 3 of the
-    /// module of its number.
+    /// The way forth: an input comes from link 0 of the module of its number, and an output goes to
+    /// link 3 of the module of its number.
     Forth,
-    /// The way back: an input comes from link 3 of the module of its number, and an output goes to link 0 of the
-    /// module of its number.
+    /// The way back: an input comes from link 3 of the module of its number, and an output goes to
+    /// link 0 of the module of its number.
     Back,
 }
 

@@ -2,7 +2,7 @@
 
 ghost use Rattle.std.specs.Prelude.{◌≡◌, length};
 ghost use Rattle.crossbar.specs.Chips.{both_idle, switch_at, CarriesOutAt, CarriesOutWholeAt};
-ghost use Rattle.crossbar.specs.Port.{IsExchange, IsFront};
+ghost use Rattle.crossbar.specs.Port.{IsConversation, IsFront};
 
 use crate::chip::Chip;
 use crate::fuse::carry_whole;
@@ -48,9 +48,10 @@ impl Chips {
         }
     }
 
-    /// Carries out whole commands at a chip, in order, and fills the replies with the answers to their enquiries.
+    /// Carries out whole commands at a chip, in order, and fills the replies with the answers to
+    /// their enquiries.
     pub fn carry_out(&mut self, chip: Chip, bytes: &[u8], replies: &mut [u8])
-        requires { IsExchange bytes.now (length replies.old) }
+        requires { IsConversation bytes.now (length replies.old) }
         ensures { CarriesOutAt chip bytes.now self.old self.new replies.new }
     {
         match chip {
@@ -59,7 +60,8 @@ impl Chips {
         }
     }
 
-    /// Carries out the commands at a chip that are whole within the bytes, in order, and keeps no answer.
+    /// Carries out the commands at a chip that are whole within the bytes, in order, and keeps no
+    /// answer.
     pub fn carry_whole(&mut self, chip: Chip, bytes: &[u8])
         requires { IsFront bytes.now }
         ensures { CarriesOutWholeAt chip bytes.now self.old self.new }

@@ -1,9 +1,9 @@
-//! The crossbar switch of an INMOS IMS C004, emulated, and the port through which a controller sets the
-//! switches of a rack and asks them.
+//! The crossbar switch of an INMOS IMS C004, emulated, and the port through which a controller sets
+//! the switches of a rack and asks them.
 //!
 //! The commands and their effects are those of the INMOS IMS C004 data sheet. Where the sheet is
-//! silent, the choice is this project's: when the switch is ready, that a new connection replaces the
-//! one that the output had, and which links the modules of a rack are on.
+//! silent, the choice is this project's: when the switch is ready, that a new connection replaces
+//! the one that the output had, and which links the modules of a rack are on.
 #![tactic(auto)]
 
 mod chip;

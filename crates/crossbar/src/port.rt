@@ -4,7 +4,7 @@ ghost use Rattle.std.specs.Prelude.{◌≡◌, ◌<◌, ◌≤◌, ◌+◌, ◌+
 ghost use Rattle.std.specs.Option.{option_to_list};
 ghost use Rattle.crossbar.specs.Switch.{after_all, answers, enquiries};
 ghost use Rattle.crossbar.specs.Chips.{Switches, both_idle, switch_at, CarriesOutAt};
-ghost use Rattle.crossbar.specs.Port.{IsExchange, CarriesOut};
+ghost use Rattle.crossbar.specs.Port.{IsConversation, CarriesOut};
 ghost use Rattle.crossbar.specs.Traffic.{HaveConversed, BreaksOff};
 ghost use Rattle.crossbar.specs.declared.traffic.Passing.{Passing};
 
@@ -15,15 +15,16 @@ use c004_commands::{Command, CommandReader};
 use std::marker::Model;
 use thiserror::Error;
 
-/// The port failed. Which of the commands the switches have carried out isn't known. That a port may fail
-/// is this project's choice.
+/// The port failed. Which of the commands the switches have carried out isn't known. That a port
+/// may fail is this project's choice.
 #[derive(Clone, Copy, Debug, PartialEq, Eq, Error)]
 #[error("the port to the switch failed")]
 pub struct PortFault;
 
-/// The controller's way to the switches of a rack: command bytes go out to one of them, and the answers to
-/// enquiries come back (INMOS IMS C004 data sheet, configuration link). That a port takes whole commands at a
-/// time, and counts its failures over all switches, is this project's choice.
+/// The controller's way to the switches of a rack: command bytes go out to one of them, and the
+/// answers to enquiries come back (INMOS IMS C004 data sheet, configuration link). That a port
+/// takes whole commands at a time, and counts its failures over all switches, is this project's
+/// choice.
 pub trait ConfigPort {
     // The switches at the port's other end.
     ghost switches: { Self → Switches };
@@ -34,11 +35,12 @@ pub trait ConfigPort {
     // The bytes that have passed, in order, where the port tells them.
     ghost passed: { Self → Option (List Passing) } = { λ _. None };
 
-    /// Sends the bytes of whole commands to a chip, and fills `replies` with the answers to their enquiries, in
-    /// order. The other chip stays as it is. What passes is told as if each reply were heard before the next
-    /// command is sent: a link adaptor holds a byte each way, so a port to a real switch has to do so.
-    fn exchange(&mut self, chip: Chip, bytes: &[u8], replies: &mut [u8]) -> Result<(), PortFault>
-        requires { IsExchange bytes.now (length replies.old) }
+    /// Sends the bytes of whole commands to a chip, and fills `replies` with the answers to their
+    /// enquiries, in order. The other chip stays as it is. What passes is told as if each reply
+    /// were heard before the next command is sent: a link adaptor holds a byte each way, so a port
+    /// to a real switch has to do so.
+    fn converse(&mut self, chip: Chip, bytes: &[u8], replies: &mut [u8]) -> Result<(), PortFault>
+        requires { IsConversation bytes.now (length replies.old) }
         ensures done { IsTrue (honest self.old) →
             OnOk result (CarriesOutAt chip bytes.now (switches self.old) (switches self.new) replies.new) }
         // A fault is a failure in this call, and there are no others. They are never taken back.
@@ -46,15 +48,16 @@ pub trait ConfigPort {
         ensures counted { failures self.old ≤ failures self.new }
         ensures unfailed { OnOk result (failures self.new ≡ failures self.old) }
         ensures honesty { honest self.new ≡ honest self.old }
-        // The commands were sent and the replies heard, each behind its enquiry; where it failed, a front of that.
+        // The commands were sent and the replies heard, each behind its enquiry; where it failed, a
+        // front of that.
         ensures passed { OnOk result
             (HaveConversed chip bytes.now replies.new (passed self.old) (passed self.new)) }
         ensures broken { OnErr result
             (BreaksOff chip bytes.now (passed self.old) (passed self.new)) };
 }
 
-/// A port to a switch in memory for each chip (INMOS IMS C004 data sheet). It is honest and never fails. Contracts
-/// see the switches.
+/// A port to a switch in memory for each chip (INMOS IMS C004 data sheet). It is honest and never
+/// fails. Contracts see the switches.
 #[derive(Debug, Drop)]
 pub struct MemoryPort {
     chips: Chips,
@@ -96,8 +99,8 @@ impl ConfigPort for MemoryPort {
     ghost failures = { λ _. 0 };
 
     /// Takes time by the number of bytes, and never fails.
-    fn exchange(&mut self, chip: Chip, bytes: &[u8], replies: &mut [u8]) -> Result<(), PortFault>
-        requires { IsExchange bytes.now (length replies.old) }
+    fn converse(&mut self, chip: Chip, bytes: &[u8], replies: &mut [u8]) -> Result<(), PortFault>
+        requires { IsConversation bytes.now (length replies.old) }
         ensures done { CarriesOutAt chip bytes.now self.old self.new replies.new }
         ensures never_fails { IsOk result }
     {
@@ -108,7 +111,7 @@ impl ConfigPort for MemoryPort {
 
 /// Carries out whole commands, in order, and fills the replies with the answers to their enquiries.
 pub(crate) fn carry_out(crossbar: &mut Crossbar, bytes: &[u8], replies: &mut [u8])
-    requires { IsExchange bytes.now (length replies.old) }
+    requires { IsConversation bytes.now (length replies.old) }
     ensures { CarriesOut bytes.now crossbar.old crossbar.new replies.new }
 {
     let mut reader = CommandReader::new();
@@ -121,8 +124,8 @@ pub(crate) fn carry_out(crossbar: &mut Crossbar, bytes: &[u8], replies: &mut [u8
     }
 }
 
-/// Carries out a command, if there is one, writes its answer behind those that stand, and says how many
-/// stand then.
+/// Carries out a command, if there is one, writes its answer behind those that stand, and says how
+/// many stand then.
 fn carry_given(
     crossbar: &mut Crossbar,
     given: Option<Command>,

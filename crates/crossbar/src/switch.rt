@@ -10,14 +10,14 @@ use c004_commands::{CONNECTED, Command, PORTS, PortNo};
 use std::marker::Model;
 
 /// How many modules one switch joins: link 0 of module m is on switch link m, and its link 3 on
-/// switch link `JOINED_MODULES` + m. A rack with more has two switches. This project's choice, which uses all
-/// links of the chip.
+/// switch link `JOINED_MODULES` + m. A rack with more has two switches. This project's choice,
+/// which uses all links of the chip.
 pub const JOINED_MODULES: u8 = 16;
 
 const LATCHES: usize = PORTS as usize;
 
-/// A switch (INMOS IMS C004 data sheet). Contracts see the map from its outputs to the inputs that feed
-/// them, and whether it is ready to accept data.
+/// A switch (INMOS IMS C004 data sheet). Contracts see the map from its outputs to the inputs that
+/// feed them, and whether it is ready to accept data.
 #[derive(Debug, Drop)]
 pub struct Crossbar {
     // The input that feeds each output.
@@ -39,8 +39,8 @@ impl Model for Crossbar {
 }
 
 impl Crossbar {
-    /// A switch as after a reset: nothing is connected, and it is ready. That a new switch is so is this
-    /// project's choice.
+    /// A switch as after a reset: nothing is connected, and it is ready. That a new switch is so is
+    /// this project's choice.
     pub fn new() -> Crossbar
         ensures { result ≡ idle }
     {
@@ -50,9 +50,9 @@ impl Crossbar {
         }
     }
 
-    /// Carries out a command (INMOS IMS C004 data sheet), and answers an enquiry by one byte: the input
-    /// that feeds the output, with the top bit 1, or 0 where the output is disconnected. All other
-    /// commands are answered `None`. Takes constant time.
+    /// Carries out a command (INMOS IMS C004 data sheet), and answers an enquiry by one byte: the
+    /// input that feeds the output, with the top bit 1, or 0 where the output is disconnected. All
+    /// other commands are answered `None`. Takes constant time.
     pub fn apply(&mut self, command: Command) -> Option<u8>
         ensures switch { self.new ≡ after command self.old }
         ensures answer { result ≡ answer command self.old }
@@ -75,8 +75,8 @@ impl Crossbar {
         None
     }
 
-    /// The input that feeds an output, or `None` where the output is disconnected (INMOS IMS C004 data
-    /// sheet: an output has at most one input).
+    /// The input that feeds an output, or `None` where the output is disconnected (INMOS IMS C004
+    /// data sheet: an output has at most one input).
     #[tactic(auto, using(crate::proofs::Latches::source_at))]
     pub fn source_of(&self, output: PortNo) -> Option<PortNo>
         ensures { result ≡ map.get self.now.sources output }
@@ -85,16 +85,17 @@ impl Crossbar {
         self.latches[index]
     }
 
-    /// Whether the switch is ready to accept data. It isn't from a command that connects to the next
-    /// `Settle` or `Reset` (this project's choice).
+    /// Whether the switch is ready to accept data. It isn't from a command that connects to the
+    /// next `Settle` or `Reset` (this project's choice).
     pub fn is_ready(&self) -> bool
         ensures { result ≡ self.now.ready }
     {
         !self.connecting
     }
 
-    /// Whether link 0 of module `m` and link 3 of module `n` feed each other, and the switch is ready.
-    /// Both modules are below [`JOINED_MODULES`]. Which links a module is on is this project's choice.
+    /// Whether link 0 of module `m` and link 3 of module `n` feed each other, and the switch is
+    /// ready. Both modules are below [`JOINED_MODULES`]. Which links a module is on is this
+    /// project's choice.
     pub fn joined(&self, m: u8, n: u8) -> bool
         requires initiator { m < JOINED_MODULES }
         requires responder { n < JOINED_MODULES }
@@ -126,9 +127,9 @@ impl Crossbar {
     }
 }
 
-/// Whether link 0 of module `m` and link 3 of module `n` feed each other over the two switches of a wider rack,
-/// link 0 over `a` and link 3 over `b`, and both are ready. Both modules are below [`PORTS`]. Which links a module
-/// is on is this project's choice.
+/// Whether link 0 of module `m` and link 3 of module `n` feed each other over the two switches of a
+/// wider rack, link 0 over `a` and link 3 over `b`, and both are ready. Both modules are below
+/// [`PORTS`]. Which links a module is on is this project's choice.
 pub fn joined_wide(a: &Crossbar, b: &Crossbar, m: u8, n: u8) -> bool
     requires initiator { m < PORTS }
     requires responder { n < PORTS }

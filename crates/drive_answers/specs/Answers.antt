@@ -1,5 +1,5 @@
--- What `drive` answers: how the settings of a schedule were put on the switches of a rack, over ports
--- that were opened for them.
+-- What `drive` answers: how the settings of a schedule were put on the switches of a rack, over
+-- ports that were opened for them.
 use Rattle.std.specs.Prelude.{◌≡◌, ℕ, List, [], Option, Some, if◌then◌else◌}
 use Rattle.batch.specs.Extent.{Extent}
 use Rattle.batch.specs.Faults.{IsFirstFault}

@@ -5,11 +5,11 @@ use Rattle.plan_answers.specs.Refusals.{Printed}
 use Rattle.plan_answers.specs.declared.limits.TheConstants.{DONE, REFUSED}
 use Rattle.switch_driver.specs.declared.driving.Driven.{Driven}
 use Rattle.switch_driver.specs.declared.driving.Driven.TheVariants.{Completed, Stopped, Left, Untold}
-use Rattle.switch_settings.specs.declared.fault.SetFault.{SetFault}
-use Rattle.switch_settings.specs.declared.fault.SetFault.TheVariants.{Port, SwitchDisagrees}
+use Rattle.switch_settings.specs.declared.fault.ConfigureFault.{ConfigureFault}
+use Rattle.switch_settings.specs.declared.fault.ConfigureFault.TheVariants.{Port, SwitchDisagrees}
 
 -- why a setting couldn't be set
-abbrev pub fault_words : SetFault → List ℕ
+abbrev pub fault_words : ConfigureFault → List ℕ
 fault_words Port = codes "port"
 fault_words (SwitchDisagrees output) = codes "switch " ++ decimal output
 
@@ -18,7 +18,7 @@ abbrev pub completed_line : ℕ → List ℕ
 completed_line settings = codes "driven settings " ++ decimal settings ++ codes "\n"
 
 -- a setting couldn't be set
-abbrev pub stopped_line : ℕ → SetFault → List ℕ
+abbrev pub stopped_line : ℕ → ConfigureFault → List ℕ
 stopped_line k fault =
     codes "stopped setting " ++ decimal k ++ codes " " ++ fault_words fault ++ codes "\n"
 

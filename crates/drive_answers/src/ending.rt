@@ -11,7 +11,7 @@ use crate::fault::DriveFault;
 use line_words::Line;
 use plan_answers::Answer;
 use switch_driver::Driven;
-use switch_settings::SetFault;
+use switch_settings::ConfigureFault;
 
 /// These words and a number.
 fn numbered(words: &[u8], number: usize) -> Line
@@ -35,13 +35,13 @@ fn line_completed(settings: usize) -> Line
 }
 
 /// The line where a setting couldn't be set.
-fn line_stopped(setting: usize, fault: SetFault) -> Line
+fn line_stopped(setting: usize, fault: ConfigureFault) -> Line
     ensures { result ≡ stopped_line setting fault }
 {
     let mut line = numbered(b"stopped setting ", setting);
     match fault {
-        SetFault::Port => line.put(b" port\n"),
-        SetFault::SwitchDisagrees(output) => {
+        ConfigureFault::Port => line.put(b" port\n"),
+        ConfigureFault::SwitchDisagrees(output) => {
             line.put(b" switch ");
             line.put_number(output as u64);
             line.put(b"\n");

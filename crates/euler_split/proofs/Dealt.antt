@@ -1,4 +1,5 @@
--- Members that are dealt by the turns of their pairs: at each link the halves have equally many uses, or one more or less.
+-- Members that are dealt by the turns of their pairs: at each link the halves have equally many
+-- uses, or one more or less.
 use Rattle.std.proofs.Common.{◌≡◌, ◌==◌, ℕ, ◌+◌, ◌<◌, List, [], ◌∷◌, ◌++◌, length, get_or, take, sum_by, slice_get, Option, Some, Bool, true, false, not, refl, sym, ap, ◌∙◌, arith, add-one, append_assoc}
 use Rattle.std.proofs.Math.Seq.{take-length}
 use Rattle.std.specs.List.Sorted.{IsPermutation}
@@ -19,7 +20,7 @@ use Rattle.euler_split.specs.Split.{uses_among, IsSplit}
 use Rattle.euler_split.specs.Pairs.{module_in, modules_in}
 use Rattle.euler_split.specs.Walks.{partner_at, half_at, IsHalved}
 use Rattle.euler_split.specs.Masks.{has_pair, AreToggled}
-use Rattle.euler_split.specs.Trails.{pairs_at, AreHalved}
+use Rattle.euler_split.specs.Trails.{pairs_of_module, AreHalved}
 use Rattle.euler_split.specs.Deals.{in_left, odd_among, differ, AreDealt}
 use Rattle.euler_split.specs.Evenness.{uses_pair, pair_count}
 use Rattle.euler_split.proofs.Modules.{known_transfer, module_is, module_in_low}
@@ -88,7 +89,7 @@ module _ (g : List Transfer) (whole : List ℕ) (n : ℕ) (turns now new left ri
 pub is_split : (g : List Transfer) (whole odd turns now left right : List ℕ) → ((u v : ℕ) → has_pair odd u v ≡ odd_among (modules_in g whole) (length whole) u v) → AreHalved (has_pair odd) (has_pair turns) → AreDealt g whole (length whole) turns now left right → IsSplit g whole left right
 is_split g whole odd turns now left right is_odd halved dealt =
     let parts : IsPermutation whole (left ++ right) = rw take-length at dealt.parts in
-    let others : (e : End) (m : ℕ) → pairs_at (has_pair now) e m + pairs_at (has_pair turns) e m ≡ pairs_at (has_pair odd) e m = λ e m. omega (arith, none_at (λ _ _. false) e m (λ _ _ _. refl), pairs_sum (has_pair now) (has_pair turns) (has_pair odd) (λ _ _. false) (λ u v. grind (arith, dealt.turned u v, is_odd u v, halved.within u v)) e m) in
+    let others : (e : End) (m : ℕ) → pairs_of_module (has_pair now) e m + pairs_of_module (has_pair turns) e m ≡ pairs_of_module (has_pair odd) e m = λ e m. omega (arith, none_at (λ _ _. false) e m (λ _ _ _. refl), pairs_sum (has_pair now) (has_pair turns) (has_pair odd) (λ _ _. false) (λ u v. grind (arith, dealt.turned u v, is_odd u v, halved.within u v)) e m) in
     record {
       parts = parts;
       left_uses = λ link. omega (arith, uses_parts g link whole left right parts, dealt.even link, others link.end link.«module», halved.least link.end link.«module», halved.most link.end link.«module»);

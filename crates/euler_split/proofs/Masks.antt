@@ -11,7 +11,7 @@ use Rattle.link_graph.specs.declared.link.End.{End}
 use Rattle.link_graph.specs.declared.link.End.TheVariants.{Zero, Three}
 use Rattle.link_graph.specs.Counts.{count_below}
 use Rattle.euler_split.specs.Masks.{has_bit, has_pair, AreMirrored}
-use Rattle.euler_split.specs.Trails.{pairs_at, end_of}
+use Rattle.euler_split.specs.Trails.{pairs_of_module, end_of}
 
 -- ---- bits
 
@@ -46,34 +46,34 @@ all_counted k n c k_in = grind (arith, nat_tests)
 
 -- ---- pairs at a link
 
-pub pairs_sum : (f g h k : ℕ → ℕ → Bool) → ((u v : ℕ) → bit (f u v) + bit (g u v) ≡ bit (h u v) + bit (k u v)) → (e : End) (m : ℕ) → pairs_at f e m + pairs_at g e m ≡ pairs_at h e m + pairs_at k e m
-unfolding pairs_at
+pub pairs_sum : (f g h k : ℕ → ℕ → Bool) → ((u v : ℕ) → bit (f u v) + bit (g u v) ≡ bit (h u v) + bit (k u v)) → (e : End) (m : ℕ) → pairs_of_module f e m + pairs_of_module g e m ≡ pairs_of_module h e m + pairs_of_module k e m
+unfolding pairs_of_module
 pairs_sum f g h k is Zero m = count_sum MAX_MODULES (λ v. f m v) (λ v. g m v) (λ v. h m v) (λ v. k m v) (λ v. is m v)
 pairs_sum f g h k is Three m = count_sum MAX_MODULES (λ u. f u m) (λ u. g u m) (λ u. h u m) (λ u. k u m) (λ u. is u m)
 
-pub none_at : (f : ℕ → ℕ → Bool) (e : End) (m : ℕ) → ((u v : ℕ) → end_of u v e ≡ m → f u v ≡ false) → pairs_at f e m ≡ 0
-unfolding pairs_at
+pub none_at : (f : ℕ → ℕ → Bool) (e : End) (m : ℕ) → ((u v : ℕ) → end_of u v e ≡ m → f u v ≡ false) → pairs_of_module f e m ≡ 0
+unfolding pairs_of_module
 none_at f Zero m none = count_one MAX_MODULES 0 false (λ v. f m v) (λ v. none m v refl)
 none_at f Three m none = count_one MAX_MODULES 0 false (λ u. f u m) (λ u. none u m refl)
 
 -- none where the mask of a link is empty
-pub none_zero : (zeros : List ℕ) (m : ℕ) → get_or zeros m 0 ≡ 0 → pairs_at (has_pair zeros) Zero m ≡ 0
+pub none_zero : (zeros : List ℕ) (m : ℕ) → get_or zeros m 0 ≡ 0 → pairs_of_module (has_pair zeros) Zero m ≡ 0
 none_zero zeros m empty = none_at (has_pair zeros) Zero m (λ u v same. rw same (empty_mask zeros m v empty))
 
-pub none_three : (zeros threes : List ℕ) (m : ℕ) → AreMirrored zeros threes → get_or threes m 0 ≡ 0 → pairs_at (has_pair zeros) Three m ≡ 0
+pub none_three : (zeros threes : List ℕ) (m : ℕ) → AreMirrored zeros threes → get_or threes m 0 ≡ 0 → pairs_of_module (has_pair zeros) Three m ≡ 0
 none_three zeros threes m mirrored empty = none_at (has_pair zeros) Three m (λ u v same. sym (mirrored u v) ∙ rw same (empty_mask threes m u empty))
 
 abbrev single : Bool → (End → ℕ) → ℕ → ℕ → Bool
 single c at u v = (c && at Zero == u) && at Three == v
 
 module _ (at : End → ℕ) (low : (e : End) → at e < MAX_MODULES) where
-  single_at : (c : Bool) (e : End) (m : ℕ) → pairs_at (single c at) e m ≡ bit (c && at e == m)
-  unfolding pairs_at
+  single_at : (c : Bool) (e : End) (m : ℕ) → pairs_of_module (single c at) e m ≡ bit (c && at e == m)
+  unfolding pairs_of_module
   single_at c Zero m = count_one MAX_MODULES (at Three) (c && at Zero == m) (λ v. single c at m v) (λ i. refl) ∙ all_counted (at Three) MAX_MODULES (c && at Zero == m) (low Three)
   single_at c Three m = count_one MAX_MODULES (at Zero) (c && at Three == m) (λ u. single c at u m) (λ i. grind (arith, nat_tests)) ∙ all_counted (at Zero) MAX_MODULES (c && at Three == m) (low Zero)
 
   -- a pair that goes out or comes in is one at both of its links
-  pub pairs_toggled : (c : Bool) (f g : ℕ → ℕ → Bool) → ((u v : ℕ) → g u v ≡ cond (c && (at Zero == u && at Three == v)) (not (f u v)) (f u v)) → (e : End) (m : ℕ) → pairs_at g e m + bit ((c && f (at Zero) (at Three)) && at e == m) ≡ pairs_at f e m + bit ((c && not (f (at Zero) (at Three))) && at e == m)
+  pub pairs_toggled : (c : Bool) (f g : ℕ → ℕ → Bool) → ((u v : ℕ) → g u v ≡ cond (c && (at Zero == u && at Three == v)) (not (f u v)) (f u v)) → (e : End) (m : ℕ) → pairs_of_module g e m + bit ((c && f (at Zero) (at Three)) && at e == m) ≡ pairs_of_module f e m + bit ((c && not (f (at Zero) (at Three))) && at e == m)
   pairs_toggled c f g is e m =
       let was : Bool = f (at Zero) (at Three) in
       rw (← single_at (c && was) e m, ← single_at (c && not was) e m) (pairs_sum g (single (c && was) at) f (single (c && not was) at) (λ u v. grind (arith, nat_tests, is u v)) e m)

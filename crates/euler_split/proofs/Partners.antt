@@ -1,11 +1,12 @@
--- Pairing the places at each link two by two: of each pair one passes a test that tells partners apart.
+-- Pairing the places at each link two by two: of each pair one passes a test that tells partners
+-- apart.
 use Rattle.std.proofs.Common.{◌≡◌, ◌≢◌, ℕ, suc, ◌+◌, ◌<◌, ◌≤◌, inl, inr, List, length, get_or, set, replicate, Option, Some, None, Bool, true, false, not, ◌&&◌, cond, refl, sym, ap, ◌∙◌, subst, arith, get_or-set_same, get_or-set_other, length-set, eq-eqb}
 use Rattle.std.proofs.lemmas.List.{get_or_past, get_or-replicate, length-replicate}
 use Rattle.std.proofs.lemmas.Option.{same_Some, none-some}
 use Rattle.std.proofs.lemmas.Bool.{cases_eq, cases_lt}
 use Rattle.std.proofs.lemmas.Bool.Decides.{eqb_tells}
 use Rattle.batch.specs.declared.limits.TheConstants.{MAX_MODULES}
-use Rattle.euler_split.specs.Pairs.{ArePairs, Tells, passing, AreBalanced, HasCome}
+use Rattle.euler_split.specs.Pairs.{ArePartners, TellsApart, passing, AreBalanced, HasCome}
 
 -- a passing and b failing places, of which one may have no partner yet
 abbrev pub Evens : Option ℕ → (ℕ → Bool) → ℕ → ℕ → Type 0
@@ -16,10 +17,10 @@ Evens (Some w) p a b = (p w ≡ true → a ≡ b + 1) × (p w ≡ false → b �
 pub record ArePaired (module_of : ℕ → ℕ) (count i : ℕ) (ws ps : List (Option ℕ)) : Type 0 where
   pub sized : length ps ≡ count
   pub links : length ws ≡ MAX_MODULES
-  pub pairs : ArePairs ps
+  pub pairs : ArePartners ps
   pub fresh : (u : ℕ) → i ≤ u → get_or ps u None ≡ None
   pub waits : (l w : ℕ) → get_or ws l None ≡ Some w → (w < i) × (get_or ps w None ≡ None) × (module_of w ≡ l)
-  pub even : (p : ℕ → Bool) → Tells ps p → (l : ℕ) → Evens (get_or ws l None) p (passing module_of l i p) (passing module_of l i (λ j. not (p j)))
+  pub even : (p : ℕ → Bool) → TellsApart ps p → (l : ℕ) → Evens (get_or ws l None) p (passing module_of l i p) (passing module_of l i (λ j. not (p j)))
 
 passing_here : (module_of : ℕ → ℕ) (l i : ℕ) (p : ℕ → Bool) → l ≡ module_of i → passing module_of l (suc i) p ≡ cond (p i) 1 0 + passing module_of l i p
 passing_here module_of l i p here = rw (eq-eqb _ l (sym here)) (elim (p i) as (λ b. cond (b && true) 1 0 + passing module_of l i p ≡ cond b 1 0 + passing module_of l i p) [ true ↦ refl | false ↦ refl ])

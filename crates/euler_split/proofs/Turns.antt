@@ -1,11 +1,12 @@
--- A walk from partner to partner, by the two ends in turn, that puts them into the two halves in turn.
+-- A walk from partner to partner, by the two ends in turn, that puts them into the two halves in
+-- turn.
 use Rattle.std.proofs.Common.{◌≡◌, ◌≢◌, ℕ, ◌+◌, ◌<◌, ◌⊎◌, inl, inr, List, length, get_or, set, Option, Some, None, IsSome, is_some, Bool, true, false, not, refl, sym, ap, ◌∙◌, subst, get_or-set_same, get_or-set_other, below_more}
 use Rattle.std.proofs.lemmas.List.{get_or_past}
 use Rattle.std.proofs.lemmas.Option.{same_Some, none-some}
 use Rattle.std.proofs.lemmas.Bool.{cases_eq, cases_lt, true≢false, false≢true}
 use Rattle.link_graph.specs.declared.link.End.{End}
 use Rattle.link_graph.specs.declared.link.End.TheVariants.{Zero, Three}
-use Rattle.euler_split.specs.Pairs.{ArePairs}
+use Rattle.euler_split.specs.Pairs.{ArePartners}
 use Rattle.link_graph.specs.Links.{other_end}
 use Rattle.euler_split.specs.Walks.{partner_at, half_at, is_three, IsWalk, IsClosed, IsHalved, Keeps}
 
@@ -40,7 +41,7 @@ pub some_of : {A : Type 0} (o : Option A) → IsSome o → (x : A) × (o ≡ Som
 some_of None h = absurd (false≢true h)
 some_of (Some x) h = (x, refl)
 
-module _ (zs ts : List (Option ℕ)) (pz : ArePairs zs) (pt : ArePairs ts) where
+module _ (zs ts : List (Option ℕ)) (pz : ArePartners zs) (pt : ArePartners ts) where
   pub mutual_at : (e : End) (u v : ℕ) → partner_at zs ts e u ≡ Some v → partner_at zs ts e v ≡ Some u
   mutual_at Zero u v p = pz.symmetric u v p
   mutual_at Three u v p = pt.symmetric u v p
@@ -49,7 +50,7 @@ module _ (zs ts : List (Option ℕ)) (pz : ArePairs zs) (pt : ArePairs ts) where
   apart_at Zero u v p = pz.apart u v p
   apart_at Three u v p = pt.apart u v p
 
-module _ (zs ts : List (Option ℕ)) (pz : ArePairs zs) (pt : ArePairs ts) (s : ℕ) (first : End) where
+module _ (zs ts : List (Option ℕ)) (pz : ArePartners zs) (pt : ArePartners ts) (s : ℕ) (first : End) where
   -- one more place is put into the half that the last isn't in
   pub walk_on : (h : List (Option Bool)) (at v : ℕ) (e : End) (x : Bool) → IsWalk zs ts s first h at e → partner_at zs ts e at ≡ Some v → v < length h → half_at h v ≡ None → half_at h at ≡ Some x → IsWalk zs ts s first (set h v (Some (not x))) v (other_end e)
   walk_on h at v e x w p v_in out is =
@@ -164,7 +165,7 @@ module _ (zs ts : List (Option ℕ)) where
     met = λ u v o q some. elim (closed.met u v o q some) [ inl m ↦ m | inr loose ↦ absurd (zero≢three loose.0) ];
   }
 
-pub pair_in : (ps : List (Option ℕ)) (u v : ℕ) → ArePairs ps → get_or ps u None ≡ Some v → v < length ps
+pub pair_in : (ps : List (Option ℕ)) (u v : ℕ) → ArePartners ps → get_or ps u None ≡ Some v → v < length ps
 pair_in ps u v pairs at = elim (cases_lt v (length ps)) [
   | inl within ↦ within
   | inr past ↦ absurd (none-some u (sym (get_or_past ps v None past) ∙ pairs.symmetric u v at))

@@ -9,7 +9,7 @@ use Rattle.link_graph.specs.declared.link.Link.{Link}
 use Rattle.euler_split.specs.Split.{uses_among}
 use Rattle.euler_split.specs.Pairs.{modules_in}
 use Rattle.euler_split.specs.Masks.{has_pair, toggled}
-use Rattle.euler_split.specs.Trails.{pairs_at}
+use Rattle.euler_split.specs.Trails.{pairs_of_module}
 use Rattle.euler_split.specs.Walks.{half_at}
 use Rattle.euler_split.specs.Evenness.{pair_count}
 
@@ -27,8 +27,8 @@ odd_among module_of (suc n) u v =
 abbrev pub differ : Bool → Bool → Bool
 differ a b = cond a (not b) b
 
--- The first n members stand in the two halves, and each has changed its pair's turn. Of a pair, and at
--- a link, the left half has as many more than the right one as it has fewer turns now.
+-- The first n members stand in the two halves, and each has changed its pair's turn. Of a pair, and
+-- at a link, the left half has as many more than the right one as it has fewer turns now.
 pub record AreDealt (batch : List Transfer) (whole : List ℕ) (n : ℕ) (turns now : List ℕ)
     (left right : List ℕ) : Type 0 where
   pub parts : IsPermutation (take n whole) (left ++ right)
@@ -38,5 +38,5 @@ pub record AreDealt (batch : List Transfer) (whole : List ℕ) (n : ℕ) (turns 
       → pair_count batch left u v + cond (has_pair now u v) 1 0
       ≡ pair_count batch right u v + cond (has_pair turns u v) 1 0
   pub even : (link : Link)
-      → uses_among batch left link + pairs_at (has_pair now) link.end link.«module»
-      ≡ uses_among batch right link + pairs_at (has_pair turns) link.end link.«module»
+      → uses_among batch left link + pairs_of_module (has_pair now) link.end link.«module»
+      ≡ uses_among batch right link + pairs_of_module (has_pair turns) link.end link.«module»

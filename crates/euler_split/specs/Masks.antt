@@ -1,5 +1,5 @@
--- Pairs of a link 0 and a link 3, as a mask for each module of the one end: its bits are the modules
--- of the other end.
+-- Pairs of a link 0 and a link 3, as a mask for each module of the one end: its bits are the
+-- modules of the other end.
 use Rattle.std.specs.Prelude.{◌≡◌, ℕ, List, Bool, true, not, ◌&&◌, ◌==◌, cond, slice_index_or}
 use Rattle.std.specs.Int.{bit_at}
 

@@ -10,14 +10,15 @@ unfoldable pub module_in : List Transfer → End → ℕ → ℕ
 module_in batch end t = slice_index (map (module_at end) batch) t
 
 -- partners are each other's, and nobody is his own
-pub record ArePairs (partners : List (Option ℕ)) : Type 0 where
+pub record ArePartners (partners : List (Option ℕ)) : Type 0 where
   pub symmetric : (u v : ℕ) → slice_index_or partners u None ≡ Some v
       → slice_index_or partners v None ≡ Some u
   pub apart : (u v : ℕ) → slice_index_or partners u None ≡ Some v → u ≢ v
 
 -- a test of places that tells partners apart
-abbrev pub Tells : List (Option ℕ) → (ℕ → Bool) → Type 0
-Tells partners test = (u v : ℕ) → slice_index_or partners u None ≡ Some v → test u ≡ not (test v)
+abbrev pub TellsApart : List (Option ℕ) → (ℕ → Bool) → Type 0
+TellsApart partners test =
+    (u v : ℕ) → slice_index_or partners u None ≡ Some v → test u ≡ not (test v)
 
 -- the module that each place of a list of transfers has at an end
 abbrev pub modules_in : List Transfer → List ℕ → End → ℕ → ℕ
@@ -32,8 +33,8 @@ passing module_of m n test = count_below n (λ i. test i && module_of i == m)
 pub record AreBalanced (module_of : ℕ → ℕ) (count : ℕ)
     (partners : List (Option ℕ)) : Type 0 where
   pub sized : length partners ≡ count
-  pub pairs : ArePairs partners
-  pub even : (test : ℕ → Bool) → Tells partners test → (m : ℕ)
+  pub pairs : ArePartners partners
+  pub even : (test : ℕ → Bool) → TellsApart partners test → (m : ℕ)
       → (passing module_of m count test ≤ passing module_of m count (λ i. not (test i)) + 1)
       × (passing module_of m count (λ i. not (test i)) ≤ passing module_of m count test + 1)
 

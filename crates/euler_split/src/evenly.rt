@@ -15,8 +15,8 @@ use link_graph::LinkGraph;
 /// How many pairs of a link 0 and a link 3 there are.
 const PAIRS: usize = MAX_MODULES * MAX_MODULES;
 
-/// How many of the members use each pair of links: those of link 0 of module u and link 3 of module v
-/// at the place `u * MAX_MODULES + v`.
+/// How many of the members use each pair of links: those of link 0 of module u and link 3 of module
+/// v at the place `u * MAX_MODULES + v`.
 fn count_pairs(graph: &LinkGraph, members: &[usize]) -> [u16; PAIRS]
     requires batch { IsBatch graph.now }
     requires known { All (λ t. t < length graph.now) members.now }
@@ -42,9 +42,9 @@ fn all_bits(counts: &[u16; PAIRS]) -> u16
     bits
 }
 
-/// How often the members, and then their halves, can be halved so that each pair of links has as many in
-/// the one half as in the other: the greatest number, and 0 where there are no members. They are the
-/// numbers of transfers, without repetition.
+/// How often the members, and then their halves, can be halved so that each pair of links has as
+/// many in the one half as in the other: the greatest number, and 0 where there are no members.
+/// They are the numbers of transfers, without repetition.
 ///
 /// Takes time that grows with the number of members, and with that of all pairs of links.
 pub fn times_even(graph: &LinkGraph, members: &[usize]) -> usize
@@ -63,8 +63,8 @@ pub fn times_even(graph: &LinkGraph, members: &[usize]) -> usize
     bits.trailing_zeros() as usize
 }
 
-/// Permutes transfers as [`split_in_place`](crate::split_in_place) does, where each pair of links has
-/// an even number of them: half of these go into the one half, and half into the other.
+/// Permutes transfers as [`split_in_place`](crate::split_in_place) does, where each pair of links
+/// has an even number of them: half of these go into the one half, and half into the other.
 ///
 /// Takes time that grows with the number of members, and no memory.
 pub fn split_evenly(graph: &LinkGraph, members: &mut [usize], scratch: &mut Scratch) -> usize

@@ -29,8 +29,8 @@ fn odd_pairs(graph: &LinkGraph, members: &[usize]) -> Pairs
     pairs
 }
 
-/// Whether it is the left half's turn at the pair of links that a transfer uses. Then it is the other
-/// one's.
+/// Whether it is the left half's turn at the pair of links that a transfer uses. Then it is the
+/// other one's.
 fn take_turn(graph: &LinkGraph, turns: &mut Masks, t: usize) -> bool
     requires batch { IsBatch graph.now }
     requires known { t < length graph.now }
@@ -77,9 +77,10 @@ pub(crate) fn deal(
     left
 }
 
-/// Permutes transfers so that one of two halves stands in front of the other, and says how many these
-/// are: halves in which each link's uses are halved too, rounded up where they are odd. `members` are the
-/// numbers of the transfers, without repetition, at most as many as the scratch has places.
+/// Permutes transfers so that one of two halves stands in front of the other, and says how many
+/// these are: halves in which each link's uses are halved too, rounded up where they are odd.
+/// `members` are the numbers of the transfers, without repetition, at most as many as the scratch
+/// has places.
 ///
 /// Takes time that grows with the number of members, and no memory.
 pub fn split_in_place(graph: &LinkGraph, members: &mut [usize], scratch: &mut Scratch) -> usize
@@ -96,8 +97,9 @@ pub fn split_in_place(graph: &LinkGraph, members: &mut [usize], scratch: &mut Sc
     deal(graph, members, &mut turns, &mut scratch.others)
 }
 
-/// Two halves of some transfers, in which each link's uses are halved too, rounded up where they are
-/// odd. `members` are the numbers of the transfers, without repetition; each goes into one half.
+/// Two halves of some transfers, in which each link's uses are halved too, rounded up where they
+/// are odd. `members` are the numbers of the transfers, without repetition; each goes into one
+/// half.
 ///
 /// Takes time and room that grow with the number of members.
 pub fn split(

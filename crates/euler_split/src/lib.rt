@@ -1,15 +1,16 @@
 //! Halving the transfers of a batch so that the uses of each link are halved too.
 //!
-//! The transfers are edges between the links of the modules. Of those that join the same two links the
-//! halves get equally many, and where their number is odd, one is left over. These leftovers are a
-//! simple graph, and the walks along them are Euler's: each takes out the edges that it meets, and
-//! they fall into the two halves in turn, until it comes to a link that has none left. So at each link
-//! the halves have equally many of the edges, or one more or less (Gabow 1976).
+//! The transfers are edges between the links of the modules. Of those that join the same two links
+//! the halves get equally many, and where their number is odd, one is left over. These leftovers
+//! are a simple graph, and the walks along them are Euler's: each takes out the edges that it
+//! meets, and they fall into the two halves in turn, until it comes to a link that has none left.
+//! So at each link the halves have equally many of the edges, or one more or less (Gabow 1976).
 //!
-//! Where each pair of links has an even number of the transfers, none is left over, and there is no walk.
+//! Where each pair of links has an even number of the transfers, none is left over, and there is no
+//! walk.
 //!
-//! Places that have partners at two ends are halved by walks from partner to partner. These are public
-//! for others that have places to put into two halves.
+//! Places that have partners at two ends are halved by walks from partner to partner. These are
+//! public for others that have places to put into two halves.
 #![tactic(auto)]
 
 mod evenly;

@@ -6,8 +6,9 @@ ghost use Rattle.euler_split.specs.Pairs.{HasCome};
 use crate::limits::MAX_PLACES;
 use batch::MAX_MODULES;
 
-/// Lets a place wait at a module's link, or pairs it with the one that waits there. Where all places come
-/// in their order, they are paired at each link two by two, and the last of an odd number has no partner.
+/// Lets a place wait at a module's link, or pairs it with the one that waits there. Where all
+/// places come in their order, they are paired at each link two by two, and the last of an odd
+/// number has no partner.
 pub fn wait_or_pair(
     waiting: &mut [Option<u16>; MAX_MODULES],
     partners: &mut [Option<u16>],

@@ -26,8 +26,8 @@ pub(crate) fn has(masks: &Masks, module: usize, other: usize) -> bool
     masks[module] >> other & 1 == 1
 }
 
-/// Takes a pair of modules out where the masks have it, and else puts it in. Without it the masks are
-/// less, as numbers.
+/// Takes a pair of modules out where the masks have it, and else puts it in. Without it the masks
+/// are less, as numbers.
 pub(crate) fn toggle(masks: &mut Masks, module: usize, other: usize)
     requires module { «module» < MAX_MODULES }
     requires other { other < MAX_MODULES }

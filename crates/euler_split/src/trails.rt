@@ -5,77 +5,77 @@ ghost use Rattle.link_graph.specs.declared.link.End.{End};
 ghost use Rattle.link_graph.specs.declared.link.End.TheVariants.{Zero};
 ghost use Rattle.link_graph.specs.Links.{other_end};
 ghost use Rattle.euler_split.specs.Masks.{has_pair};
-ghost use Rattle.euler_split.specs.Trails.{end_of, AreEven, level, is_left_next, walk_lead, AreHalved};
+ghost use Rattle.euler_split.specs.Trails.{end_of, AreEven, no_surplus, is_left_next, walk_surplus, AreHalved};
 
 use crate::pairs::{Masks, Pairs, lowest, toggle};
 use batch::MAX_MODULES;
 
-/// Takes a pair out of those that are left, and puts it to the turns of the left half or not. A walk
+/// Takes a pair that is untaken, and puts it into the left half or not. A walk
 /// that was at one of its links is at the other one then.
-fn take(left: &mut Pairs, turns: &mut Masks, zero: usize, three: usize, to_left: bool)
+fn take(untaken: &mut Pairs, left_half: &mut Masks, zero: usize, three: usize, to_left: bool)
     requires zero_in { zero < MAX_MODULES }
     requires three_in { three < MAX_MODULES }
-    requires some { has_pair left.old.zero zero three ≡ true }
+    requires some { has_pair untaken.old.zero zero three ≡ true }
     ensures walked { (all : ℕ → ℕ → Bool) (first_left : Bool) (start : ℕ) (end : End)
         → to_left ≡ is_left_next first_left end
-        → AreEven all start left.old.zero turns.old
-        (walk_lead first_left start end (end_of zero three end))
-        → AreEven all start left.new.zero turns.new
-        (walk_lead first_left start (other_end end) (end_of zero three (other_end end))) }
-    ensures less { sum left.new.zero < sum left.old.zero }
+        → AreEven all start untaken.old.zero left_half.old
+        (walk_surplus first_left start end (end_of zero three end))
+        → AreEven all start untaken.new.zero left_half.new
+        (walk_surplus first_left start (other_end end) (end_of zero three (other_end end))) }
+    ensures less { sum untaken.new.zero < sum untaken.old.zero }
 {
-    left.toggle(zero, three);
+    untaken.toggle(zero, three);
     if to_left {
-        toggle(turns, zero, three);
+        toggle(left_half, zero, three);
     }
 }
 
-/// Walks from the link 0 of `start` along pairs that are left, and takes each out, until a link has
-/// none. They go to the two halves in turn, the first to the left one or not.
-fn walk(left: &mut Pairs, turns: &mut Masks, start: usize, first_left: bool)
+/// Walks from the link 0 of `start` along untaken pairs, and takes each, until a link has none.
+/// They go to the two halves in turn, the first to the left one or not.
+fn walk(untaken: &mut Pairs, left_half: &mut Masks, start: usize, first_left: bool)
     requires start_in { start < MAX_MODULES }
-    requires some { 0 < slice_index left.old.zero start }
+    requires some { 0 < slice_index untaken.old.zero start }
     ensures walked { (all : ℕ → ℕ → Bool)
-        → AreEven all start left.old.zero turns.old (walk_lead first_left start Zero start)
-        → AreEven all start left.new.zero turns.new (walk_lead (not first_left) start Zero start) }
-    ensures less { sum left.new.zero < sum left.old.zero }
+        → AreEven all start untaken.old.zero left_half.old (walk_surplus first_left start Zero start)
+        → AreEven all start untaken.new.zero left_half.new (walk_surplus (not first_left) start Zero start) }
+    ensures less { sum untaken.new.zero < sum untaken.old.zero }
 {
     let mut zero = start;
-    'steps: while left.zero[zero] != 0 {
-        let three = lowest(left.zero[zero]);
-        take(left, turns, zero, three, first_left);
-        if left.three[three] == 0 {
+    'steps: while untaken.zero[zero] != 0 {
+        let three = lowest(untaken.zero[zero]);
+        take(untaken, left_half, zero, three, first_left);
+        if untaken.three[three] == 0 {
             return;
         }
-        zero = lowest(left.three[three]);
-        take(left, turns, zero, three, !first_left);
+        zero = lowest(untaken.three[three]);
+        take(untaken, left_half, zero, three, !first_left);
     }
 }
 
-/// Walks from the link 0 of `start` until no pair is left there, first forth and then back in turn: a
-/// walk that ends elsewhere leaves that link with one pair more in the one half, and the next with one
-/// more in the other.
-fn walk_all_from(left: &mut Pairs, turns: &mut Masks, start: usize)
+/// Walks from the link 0 of `start` until no pair is untaken there, first forth and then back in
+/// turn: a walk that ends elsewhere leaves that link with one pair more in the one half, and the
+/// next with one more in the other.
+fn walk_all_from(untaken: &mut Pairs, left_half: &mut Masks, start: usize)
     requires start_in { start < MAX_MODULES }
     ensures { (all : ℕ → ℕ → Bool)
-        → AreEven all start left.old.zero turns.old level
-        → AreEven all (start + 1) left.new.zero turns.new level }
+        → AreEven all start untaken.old.zero left_half.old no_surplus
+        → AreEven all (start + 1) untaken.new.zero left_half.new no_surplus }
 {
     let mut first_left = true;
-    'walks: while left.zero[start] != 0 {
-        walk(left, turns, start, first_left);
+    'walks: while untaken.zero[start] != 0 {
+        walk(untaken, left_half, start, first_left);
         first_left = !first_left;
     }
 }
 
-/// Those of the pairs that go to the left half: at each link half of its pairs, rounded up or down. All
-/// pairs are taken out.
+/// Those of the pairs that go to the left half: at each link half of its pairs, rounded up or down.
+/// All pairs are taken out.
 pub(crate) fn left_of(pairs: &mut Pairs) -> Masks
     ensures { AreHalved (has_pair pairs.old.zero) (has_pair result) }
 {
-    let mut turns = [0; MAX_MODULES];
+    let mut left_half = [0; MAX_MODULES];
     for start in 0..MAX_MODULES {
-        walk_all_from(pairs, &mut turns, start);
+        walk_all_from(pairs, &mut left_half, start);
     }
-    turns
+    left_half
 }

@@ -17,7 +17,7 @@ use Rattle.exchange.specs.Outcomes.{HasNote}
 use Rattle.exchange.specs.Ports.{Ways, ports_named}
 use Rattle.exchange.specs.Responses.{IsAnswerTo, IsToldBy, behind_told}
 use Rattle.exchange.specs.declared.notes.Answered.{Answered}
-use Rattle.exchange.specs.declared.notes.Missed.{Missed}
+use Rattle.exchange.specs.declared.notes.NoAnswer.{NoAnswer}
 
 -- what was told is a text, behind which the answer stands
 pub by_lines : {I O : Type 0} (remaining : I → Option (List ℕ)) (contents : O → Option (List ℕ)) (IsSource : List Transfer → List (List ℕ) → Type 0) (IsWrong : Refusal → Type 0)
@@ -33,7 +33,7 @@ by_lines {I} {O} remaining contents IsSource IsWrong asked asks told tells (Err 
     record { text = t.text; appended = t.appended; loan = t.loan; is = tt }
 
 -- the settings that were told stand before what is said of their end
-pub settings_told : (r : Result Answered Missed) (input : Option (List ℕ)) (batch port : List ℕ) (port_b : Option (List ℕ)) (from : ScheduleSource) (goes_on : Bool) (ports : Ways) (held holds : Option (List ℕ)) → ports ≡ record { named = ports_named port_b; carried = None }
+pub settings_told : (r : Result Answered NoAnswer) (input : Option (List ℕ)) (batch port : List ℕ) (port_b : Option (List ℕ)) (from : ScheduleSource) (goes_on : Bool) (ports : Ways) (held holds : Option (List ℕ)) → ports ≡ record { named = ports_named port_b; carried = None }
     → ((told : List ℕ) × Appends held holds told × IfOk r (λ done. IsSomeDrive input batch from ports told done.answer)) → HasNote r
     → (told : List ℕ) × Appends held holds told × IsToldBy (Drive batch port port_b from goes_on) told × IfOk r (λ done. IsAnswerTo input (Drive batch port port_b from goes_on) (behind_told told done.answer)) × HasNote r
 settings_told (Ok done) input batch port port_b from goes_on ports held holds are t note = (t.0, t.1, tt, (t.0, done.answer, refl, subst (λ (ways : Ways). IsSomeDrive input batch from ways t.0 done.answer) are t.2), note)

@@ -15,32 +15,32 @@ use Rattle.exchange.specs.declared.unanswered.Unanswered.{Unanswered}
 use Rattle.exchange.specs.declared.unanswered.Unanswered.TheVariants.{File, NoMemory}
 use Rattle.exchange.specs.declared.unwritten.Unwritten.{Unwritten}
 use Rattle.exchange.specs.declared.notes.Answered.{Answered}
-use Rattle.exchange.specs.declared.notes.Missed.{Missed}
+use Rattle.exchange.specs.declared.notes.NoAnswer.{NoAnswer}
 use Rattle.exchange.specs.Responses.{IsSomeC004, IsSomeTalk, IsToldBy, IsAnswerTo, behind_told, unanswered}
-use Rattle.exchange.specs.Notes.{IsBegun, IsBeside, IsNoteOn, IsNoted, IsToldUnless, IsWholeLine}
+use Rattle.exchange.specs.Notes.{IsToldInPart, IsBeside, IsNoteOn, IsNoted, IsToldUnless, IsWholeLine}
 use Rattle.exchange.specs.Outcomes.{HasNote, IsAnswered}
-use Rattle.command_words.specs.declared.jobs.WordsFault.{WordsFault}
-use Rattle.command_words.specs.declared.jobs.WordsFault.TheVariants as words_fault
+use Rattle.command_words.specs.declared.jobs.ArgumentsFault.{ArgumentsFault}
+use Rattle.command_words.specs.declared.jobs.ArgumentsFault.TheVariants as arguments_fault
 use Rattle.command_words.specs.Jobs.{AskFor, IsFaultIn}
 use Rattle.exchange.specs.declared.limits.TheConstants.{UNWRITTEN}
-use Rattle.exchange.specs.Ends.{Streams, IsDone, IsEndFor, IsEndForWords, IsPrinted, streams_of}
+use Rattle.exchange.specs.Ends.{Streams, IsDone, IsEndFor, IsEndForArguments, IsPrinted, streams_of}
 
 -- what a session was told stands before what is said of its end
-pub talked : (r : Result Answered Missed) (input : Option (List ℕ)) (rack : SharedRack) (held holds : Option (List ℕ)) (kept : Option Store → Option Unwritten → Type 0)
-    → ((told : List ℕ) × Appends held holds told × IfOk r (λ done. (left : Option Store) × IsSomeTalk input rack told done.answer left × kept left done.lost)) → HasNote r
-    → (told : List ℕ) × Appends held holds told × IsToldBy (Talk rack) told × IfOk r (λ done. IsAnswerTo input (Talk rack) (behind_told told done.answer)) × HasNote r
-talked (Ok done) input rack held holds kept t note = (t.0, t.1, tt, (t.0, done.answer, t.2.0, refl, t.2.1), note)
-talked (Err missed) input rack held holds kept t note = (t.0, t.1, tt, tt, note)
+pub talked : (r : Result Answered NoAnswer) (input : Option (List ℕ)) (rack : SharedRack) (out_before out_after : Option (List ℕ)) (kept : Option Store → Option Unwritten → Type 0)
+    → ((told : List ℕ) × Appends out_before out_after told × IfOk r (λ done. (left : Option Store) × IsSomeTalk input rack told done.answer left × kept left done.lost)) → HasNote r
+    → (told : List ℕ) × Appends out_before out_after told × IsToldBy (Talk rack) told × IfOk r (λ done. IsAnswerTo input (Talk rack) (behind_told told done.answer)) × HasNote r
+talked (Ok done) input rack out_before out_after kept t note = (t.0, t.1, tt, (t.0, done.answer, t.2.0, refl, t.2.1), note)
+talked (Err missed) input rack out_before out_after kept t note = (t.0, t.1, tt, tt, note)
 
 -- and so does what a switch replied
-pub switched : (r : Result Answered Missed) (input held holds : Option (List ℕ))
-    → ((told : List ℕ) × Appends held holds told × IfOk r (λ done. IsSomeC004 input told done.answer)) → HasNote r
-    → (told : List ℕ) × Appends held holds told × IsToldBy C004 told × IfOk r (λ done. IsAnswerTo input C004 (behind_told told done.answer)) × HasNote r
-switched (Ok done) input held holds t note = (t.0, t.1, tt, (t.0, done.answer, refl, t.2), note)
-switched (Err missed) input held holds t note = (t.0, t.1, tt, tt, note)
+pub switched : (r : Result Answered NoAnswer) (input out_before out_after : Option (List ℕ))
+    → ((told : List ℕ) × Appends out_before out_after told × IfOk r (λ done. IsSomeC004 input told done.answer)) → HasNote r
+    → (told : List ℕ) × Appends out_before out_after told × IsToldBy C004 told × IfOk r (λ done. IsAnswerTo input C004 (behind_told told done.answer)) × HasNote r
+switched (Ok done) input out_before out_after t note = (t.0, t.1, tt, (t.0, done.answer, refl, t.2), note)
+switched (Err missed) input out_before out_after t note = (t.0, t.1, tt, tt, note)
 
 -- sessions that are told nothing before their answer, which leave a rack
-pub left_behind : (r : Result Answered Missed) (P : Printed → Option Store → Type 0) (kept : Option Store → Option Unwritten → Type 0)
+pub left_behind : (r : Result Answered NoAnswer) (P : Printed → Option Store → Type 0) (kept : Option Store → Option Unwritten → Type 0)
     → IfOk r (λ done. (left : Option Store) × P done.answer left × kept left done.lost) → IfOk r (λ done. (left : Option Store) × P done.answer left)
 left_behind (Ok done) P kept is = (is.0, is.1)
 left_behind (Err missed) P kept is = tt
@@ -49,7 +49,7 @@ left_behind (Err missed) P kept is = tt
 none_before : (p : Printed) → p ≡ behind_told [] p
 none_before p = refl
 
-pub untold : (r : Result Answered Missed) (P : Printed → Type 0) → IfOk r (λ done. P done.answer) → IfOk r (λ done. P (behind_told [] done.answer))
+pub untold : (r : Result Answered NoAnswer) (P : Printed → Type 0) → IfOk r (λ done. P done.answer) → IfOk r (λ done. P (behind_told [] done.answer))
 untold (Ok done) P is = subst P (none_before done.answer) is
 untold (Err missed) P is = tt
 
@@ -60,7 +60,7 @@ bytes_of_line note = option_map (λ line. string_bytes line) note
 -- what is told of an answer is told of what is printed, which the answer ends
 noted : (request : Request) (told : List ℕ) (end : Printed) (note : Option (List ℕ)) (eb em ea : Option (List ℕ))
     → IsToldBy request.job told → IsNoteOn end note → IsBeside request eb em → IsToldUnless request.is_quiet note em ea → IsNoted request (behind_told told end) eb ea
-noted request told end held eb em ea by on beside (inl silent) = (em, beside, inl silent)
+noted request told end out_before eb em ea by on beside (inl silent) = (em, beside, inl silent)
 noted request told end None eb em ea by on beside (inr t) = absurd (let bad : None ≡ Some t.1 = t.2 in cc)
 noted request told end (Some line) eb em ea by on beside (inr t) =
     let same : t.1 ≡ line = (let e : Some line ≡ Some t.1 = t.2 in cc) in
@@ -72,30 +72,30 @@ file_told None h = tt
 file_told (Some text) h = record { refused = refl; of = (refusal.File, (λ e. cc), refl); whole = h }
 
 -- an answer that is printed behind it
-pub answered : {E : Type 0} (r : Result ℕ E) (input : Option (List ℕ)) (request : Request) (told : List ℕ) (done : Answered) (held holds has eb em ea : Option (List ℕ))
-    → Appends held holds told → IsToldBy request.job told → IsAnswerTo input request.job (behind_told told done.answer) → IsAnswered done
-    → IsBeside request eb em → IfOk r (λ status. IsPrinted holds has done.answer status × (done.lost ≡ None)) → IsToldUnless request.is_quiet (bytes_of_line done.note) em ea
-    → IfOk r (IsDone input request (streams_of held has eb ea))
-answered (Ok status) input request told done held holds has eb em ea first by is note beside then said = (
+pub answered : {E : Type 0} (r : Result ℕ E) (input : Option (List ℕ)) (request : Request) (told : List ℕ) (done : Answered) (out_before out_after has eb em ea : Option (List ℕ))
+    → Appends out_before out_after told → IsToldBy request.job told → IsAnswerTo input request.job (behind_told told done.answer) → IsAnswered done
+    → IsBeside request eb em → IfOk r (λ status. IsPrinted out_after has done.answer status × (done.lost ≡ None)) → IsToldUnless request.is_quiet (bytes_of_line done.note) em ea
+    → IfOk r (IsDone input request (streams_of out_before has eb ea))
+answered (Ok status) input request told done out_before out_after has eb em ea first by is note beside then said = (
   behind_told told done.answer,
   inl is,
-  record { text = Appends-trans held holds has told done.answer.text first then.0.text; status = then.0.status },
+  record { text = Appends-trans out_before out_after has told done.answer.text first then.0.text; status = then.0.status },
   noted request told done.answer (bytes_of_line done.note) eb em ea by note beside said,
 )
-answered (Err e) input request told done held holds has eb em ea first by is note beside then said = tt
+answered (Err e) input request told done out_before out_after has eb em ea first by is note beside then said = tt
 
 -- and why there is none
-pub not_answered : {E : Type 0} (r : Result ℕ E) (input : Option (List ℕ)) (request : Request) (told : List ℕ) (why : Unanswered) (line : Option (String Global)) (held holds has eb em ea : Option (List ℕ))
-    → Appends held holds told → IsToldBy request.job told → IsNoteOn (unanswered why) (bytes_of_line line)
-    → IsBeside request eb em → IfOk r (IsPrinted holds has (unanswered why)) → IsToldUnless request.is_quiet (bytes_of_line line) em ea
-    → IfOk r (IsDone input request (streams_of held has eb ea))
-not_answered (Ok status) input request told why line held holds has eb em ea first by note beside then said = (
+pub not_answered : {E : Type 0} (r : Result ℕ E) (input : Option (List ℕ)) (request : Request) (told : List ℕ) (why : Unanswered) (line : Option (String Global)) (out_before out_after has eb em ea : Option (List ℕ))
+    → Appends out_before out_after told → IsToldBy request.job told → IsNoteOn (unanswered why) (bytes_of_line line)
+    → IsBeside request eb em → IfOk r (IsPrinted out_after has (unanswered why)) → IsToldUnless request.is_quiet (bytes_of_line line) em ea
+    → IfOk r (IsDone input request (streams_of out_before has eb ea))
+not_answered (Ok status) input request told why line out_before out_after has eb em ea first by note beside then said = (
   behind_told told (unanswered why),
   inr (told, why, by, refl),
-  record { text = Appends-trans held holds has told (unanswered why).text first then.text; status = then.status },
+  record { text = Appends-trans out_before out_after has told (unanswered why).text first then.text; status = then.status },
   noted request told (unanswered why) (bytes_of_line line) eb em ea by note beside said,
 )
-not_answered (Err e) input request told why line held holds has eb em ea first by note beside then said = tt
+not_answered (Err e) input request told why line out_before out_after has eb em ea first by note beside then said = tt
 
 -- what holds of the answer that was chosen
 pub chosen : {E : Type 0} (P : Printed → Type 0) (one taken : Result Printed E) (answer : Printed) → taken ≡ one → taken ≡ Ok answer → IfOk one P → P answer
@@ -111,22 +111,22 @@ pub ended : {E : Type 0} (r : Result ℕ E) (exit : ℕ) (P : Option (List ℕ) 
 ended (Ok status) exit P before after is done unwritten = inr (subst (λ (e : Option (List ℕ)). P e exit) (sym done.1) (subst (P before) (sym done.0) is))
 ended (Err e) exit P before after is done unwritten = inl unwritten
 
--- the end for a request, and for words that are at fault
-pub asked : {E : Type 0} (r : Result ℕ E) (words : List (List ℕ)) (input : Option (List ℕ)) (request : Request) (streams : Streams) → AskFor words request → IfOk r (IsDone input request streams) → IfOk r (IsEndForWords words input streams)
-asked (Ok status) words input request streams ask is = (Ok request, ask, tt, is)
-asked (Err e) words input request streams ask is = tt
+-- the end for a request, and for arguments that are at fault
+pub asked : {E : Type 0} (r : Result ℕ E) (arguments : List (List ℕ)) (input : Option (List ℕ)) (request : Request) (streams : Streams) → AskFor arguments request → IfOk r (IsDone input request streams) → IfOk r (IsEndForArguments arguments input streams)
+asked (Ok status) arguments input request streams ask is = (Ok request, ask, tt, is)
+asked (Err e) arguments input request streams ask is = tt
 
-pub faulty : {E : Type 0} (r : Result ℕ E) (words : List (List ℕ)) (input : Option (List ℕ)) (fault : WordsFault) (streams : Streams) → IsFaultIn words fault → IfOk r (IsEndFor input (Err fault) streams) → IfOk r (IsEndForWords words input streams)
-faulty (Ok status) words input fault streams wrong is = (Err fault, tt, wrong, is)
-faulty (Err e) words input fault streams wrong is = tt
+pub faulty : {E : Type 0} (r : Result ℕ E) (arguments : List (List ℕ)) (input : Option (List ℕ)) (fault : ArgumentsFault) (streams : Streams) → IsFaultIn arguments fault → IfOk r (IsEndFor input (Err fault) streams) → IfOk r (IsEndForArguments arguments input streams)
+faulty (Ok status) arguments input fault streams wrong is = (Err fault, tt, wrong, is)
+faulty (Err e) arguments input fault streams wrong is = tt
 
--- want of memory for the words
-pub wordless : {E : Type 0} (r : Result ℕ E) (input held has err : Option (List ℕ)) → IfOk r (IsPrinted held has (unanswered NoMemory)) → IfOk r (IsEndFor input (Err words_fault.NoMemory) (streams_of held has err err))
-wordless (Ok status) input held has err is = (is, Appends-nil err)
-wordless (Err e) input held has err is = tt
+-- want of memory for the arguments
+pub without_arguments : {E : Type 0} (r : Result ℕ E) (input out_before has err : Option (List ℕ)) → IfOk r (IsPrinted out_before has (unanswered NoMemory)) → IfOk r (IsEndFor input (Err arguments_fault.NoMemory) (streams_of out_before has err err))
+without_arguments (Ok status) input out_before has err is = (is, Appends-nil err)
+without_arguments (Err e) input out_before has err is = tt
 
 -- as much of a line as could be written
-pub begun : {T E : Type 0} (r : Result T E) (before after : Option (List ℕ)) (line : List ℕ) → OnOk r (Appends before after line) → OnErr r (IsCutShort before after line) → IsBegun before after line
+pub begun : {T E : Type 0} (r : Result T E) (before after : Option (List ℕ)) (line : List ℕ) → OnOk r (Appends before after line) → OnErr r (IsCutShort before after line) → IsToldInPart before after line
 begun (Ok x) before after line went cut = (line, [], sym (append-nil line), went)
 begun (Err e) before after line went cut = (cut.front, cut.missing, cut.bytes_are, cut.appended)
 

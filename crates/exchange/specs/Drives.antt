@@ -9,12 +9,12 @@ use Rattle.command_words.specs.declared.jobs.ScheduleSource.TheVariants as sourc
 use Rattle.refusals.specs.declared.refusal.Refusal.{Refusal}
 use Rattle.switch_driver.specs.Lines.{TellsLine}
 use Rattle.drive_answers.specs.Answers.{IsDriveAnswer, IsPlannedBy, IsSteadyBy, IsWrongBatch}
-use Rattle.exchange.specs.Files.{IsHeld}
+use Rattle.exchange.specs.Files.{IsFileContent}
 use Rattle.exchange.specs.Ports.{IsUnopened, Ways}
 
 -- what a schedule's file holds, where one has it
 abbrev pub IsHeldSchedule : Option (List ℕ) → ScheduleSource → List ℕ → Type 0
-IsHeldSchedule input (source.File file) schedule = IsHeld input file schedule
+IsHeldSchedule input (source.File file) schedule = IsFileContent input file schedule
 IsHeldSchedule input source schedule = ⊤
 
 -- why ports that are named aren't opened
@@ -42,5 +42,6 @@ IsDriveBy source batch schedule asked told end =
 abbrev pub IsSomeDrive : Option (List ℕ) → List ℕ → ScheduleSource → Ways → List ℕ → Printed
     → Type 0
 IsSomeDrive input file source asked told end =
-    (batch schedule : List ℕ) × IsHeld input file batch × IsHeldSchedule input source schedule
+    (batch schedule : List ℕ) × IsFileContent input file batch
+    × IsHeldSchedule input source schedule
     × IsDriveBy source batch schedule asked told end

@@ -4,8 +4,8 @@ use Rattle.std.specs.Io.KnownBytes.{Appends}
 use Rattle.plan_answers.specs.Refusals.{Printed}
 use Rattle.plan_answers.specs.declared.limits.TheConstants.{DONE}
 use Rattle.command_words.specs.declared.jobs.Request.{Request}
-use Rattle.command_words.specs.declared.jobs.WordsFault.{WordsFault}
-use Rattle.command_words.specs.declared.jobs.WordsFault.TheVariants as words_fault
+use Rattle.command_words.specs.declared.jobs.ArgumentsFault.{ArgumentsFault}
+use Rattle.command_words.specs.declared.jobs.ArgumentsFault.TheVariants as arguments_fault
 use Rattle.command_words.specs.Jobs.{AskFor, AsksForHelp, IsFaultIn}
 use Rattle.exchange.specs.declared.limits.TheConstants.{MISUSED}
 use Rattle.exchange.specs.declared.unanswered.Unanswered.TheVariants.{NoMemory}
@@ -24,7 +24,8 @@ pub record Streams : Type 0 where
   pub err_before : Option (List ℕ)
   pub err_after : Option (List ℕ)
 
-abbrev pub streams_of : Option (List ℕ) → Option (List ℕ) → Option (List ℕ) → Option (List ℕ) → Streams
+abbrev pub streams_of : Option (List ℕ) → Option (List ℕ) → Option (List ℕ) → Option (List ℕ)
+    → Streams
 streams_of out_before out_after err_before err_after =
     record {
       out_before = out_before;
@@ -44,23 +45,23 @@ IsDone input request streams code =
 abbrev pub IsSilent : Streams → Type 0
 IsSilent streams = Appends streams.err_before streams.err_after []
 
--- how the program ends where standard input had these bytes and the words ask for this, or are at
--- fault: what it prints behind what stood there, and its status
-abbrev pub IsEndFor : Option (List ℕ) → Result Request WordsFault → Streams → ℕ → Type 0
+-- how the program ends where standard input had these bytes and the arguments ask for this, or are
+-- at fault: what it prints behind what stood there, and its status
+abbrev pub IsEndFor : Option (List ℕ) → Result Request ArgumentsFault → Streams → ℕ → Type 0
 IsEndFor input (Ok request) streams code = IsDone input request streams code
-IsEndFor input (Err words_fault.NoMemory) streams code =
+IsEndFor input (Err arguments_fault.NoMemory) streams code =
     IsPrinted streams.out_before streams.out_after (unanswered NoMemory) code × IsSilent streams
-IsEndFor input (Err (words_fault.Clap error)) streams code =
+IsEndFor input (Err (arguments_fault.Clap error)) streams code =
     (AsksForHelp error → (code ≡ DONE) × IsSilent streams)
     × ((AsksForHelp error → ⊥) → (code ≡ MISUSED) × (streams.out_after ≡ streams.out_before))
 
--- how it ends for these words
-abbrev pub IsEndForWords : List (List ℕ) → Option (List ℕ) → Streams → ℕ → Type 0
-IsEndForWords words input streams code =
-    (request : Result Request WordsFault) × IfOk request (AskFor words)
-    × IfErr request (IsFaultIn words) × IsEndFor input request streams code
+-- how it ends for these arguments
+abbrev pub IsEndForArguments : List (List ℕ) → Option (List ℕ) → Streams → ℕ → Type 0
+IsEndForArguments arguments input streams code =
+    (request : Result Request ArgumentsFault) × IfOk request (AskFor arguments)
+    × IfErr request (IsFaultIn arguments) × IsEndFor input request streams code
 
--- how it ends where the words can't be had as texts
-abbrev pub IsEndWithoutWords : Option (List ℕ) → Option (List ℕ) → ℕ → Type 0
-IsEndWithoutWords before after code =
+-- how it ends where the arguments can't be had as texts
+abbrev pub IsEndWithoutArguments : Option (List ℕ) → Option (List ℕ) → ℕ → Type 0
+IsEndWithoutArguments before after code =
     IsPrinted before after (unanswered NoMemory) code ⊎ ((code ≡ MISUSED) × (after ≡ before))

@@ -8,17 +8,18 @@ use Rattle.exchange.specs.declared.images.ImageFile.{ImageFile}
 use Rattle.exchange.specs.declared.unwritten.Unwritten.{Unwritten}
 
 -- the bytes of a file for an image, where they are known
-abbrev pub held_by : {F : Type 0} → (F → Option (List ℕ)) → ImageFile F → Option (List ℕ)
-held_by contents image = contents image.file
+abbrev pub content_of : {F : Type 0} → (F → Option (List ℕ)) → ImageFile F → Option (List ℕ)
+content_of contents image = contents image.file
 
--- Where a rack is left, its image was written to the file for it, if there is one; or a front of it,
--- where what is lost is told. Where none is left, the file is as it was.
-abbrev pub IsKept : {F : Type 0} → (F → Option (List ℕ)) → Option Store → Option F → Option F
+-- Where a rack is left, its image was written to the file for it, if there is one; or a front of
+-- it, where what is lost is told. Where none is left, the file is as it was.
+abbrev pub IsImageWritten : {F : Type 0} → (F → Option (List ℕ)) → Option Store → Option F
+    → Option F
     → Option Unwritten → Type 0
-IsKept contents None old new lost = (new ≡ old) × (lost ≡ None)
-IsKept contents (Some left) None new lost = (new ≡ None) × (lost ≡ None)
-IsKept contents (Some left) (Some old) None lost = ⊥
-IsKept contents (Some left) (Some old) (Some new) None =
+IsImageWritten contents None old new lost = (new ≡ old) × (lost ≡ None)
+IsImageWritten contents (Some left) None new lost = (new ≡ None) × (lost ≡ None)
+IsImageWritten contents (Some left) (Some old) None lost = ⊥
+IsImageWritten contents (Some left) (Some old) (Some new) None =
     Appends (contents old) (contents new) (image_of left)
-IsKept contents (Some left) (Some old) (Some new) (Some lost) =
+IsImageWritten contents (Some left) (Some old) (Some new) (Some lost) =
     IsCutShort (contents old) (contents new) (image_of left)

@@ -24,33 +24,33 @@ abbrev pub IsWholeLine : List ℕ → Type 0
 IsWholeLine line = (words : List ℕ) × (line ≡ line_told words)
 
 -- the line is told of what is printed: of a refusal, and of nothing else
-pub record Tells (printed : Printed) (line : List ℕ) : Type 0 where
+pub record HasSecondLine (printed : Printed) (line : List ℕ) : Type 0 where
   pub refused : printed.status ≡ REFUSED
   pub of : SaysRefusal printed.text
   pub whole : IsWholeLine line
 
 -- what is told of what is printed, if anything is
 abbrev pub IsNoteOn : Printed → Option (List ℕ) → Type 0
-IsNoteOn printed note = IfSome note (Tells printed)
+IsNoteOn printed note = IfSome note (HasSecondLine printed)
 
 -- ---- what goes to standard error
 
 -- as much of the line as could be written stands behind what was there
-abbrev pub IsBegun : Option (List ℕ) → Option (List ℕ) → List ℕ → Type 0
-IsBegun before after line =
+abbrev pub IsToldInPart : Option (List ℕ) → Option (List ℕ) → List ℕ → Type 0
+IsToldInPart before after line =
     (told rest : List ℕ) × (line ≡ told ++ rest) × Appends before after told
 
 -- what was told of a note: nothing where there is none, or none is wanted
 abbrev pub IsToldUnless : Bool → Option (List ℕ) → Option (List ℕ) → Option (List ℕ) → Type 0
 IsToldUnless quiet note before after =
     Appends before after []
-    ⊎ ((quiet ≡ false) × (line : List ℕ) × (note ≡ Some line) × IsBegun before after line)
+    ⊎ ((quiet ≡ false) × (line : List ℕ) × (note ≡ Some line) × IsToldInPart before after line)
 
 -- a line is told of what is printed behind what a session of this job was told
 abbrev pub IsNoteFor : Job → Printed → List ℕ → Type 0
 IsNoteFor job printed line =
     (told : List ℕ) × (end : Printed) × IsToldBy job told × (printed.text ≡ told ++ end.text)
-    × (printed.status ≡ end.status) × Tells end line
+    × (printed.status ≡ end.status) × HasSecondLine end line
 
 -- what may be told beside a session of a reply that is a refusal: nothing, or as much of a whole
 -- line as could be written, and of want of memory nothing
@@ -67,7 +67,7 @@ abbrev pub IsC004 : Job → Type 0
 IsC004 C004 = ⊤
 IsC004 job = ⊥
 
--- what was told beside what is replied: nothing, but for `talk`, where the words don't ask for
+-- what was told beside what is replied: nothing, but for `talk`, where the arguments don't ask for
 -- silence: there what may be told of some refusals, one after another, behind what stood there; and
 -- but for `c004`, which tells what it drops
 abbrev pub IsBeside : Request → Option (List ℕ) → Option (List ℕ) → Type 0
@@ -78,11 +78,11 @@ IsBeside request before after =
     ⊎ ((request.is_quiet ≡ false) × IsC004 request.job
     × ((told : List ℕ) × Appends before after told))
 
--- what was told on standard error of what is printed, behind what was told beside a session: nothing,
--- or one text of a refusal, and nothing where the words ask for that
+-- what was told on standard error of what is printed, behind what was told beside a session:
+-- nothing, or one text of a refusal, and nothing where the arguments ask for that
 abbrev pub IsNoted : Request → Printed → Option (List ℕ) → Option (List ℕ) → Type 0
 IsNoted request printed before after =
     (mid : Option (List ℕ)) × IsBeside request before mid
     × (Appends mid after []
     ⊎ ((request.is_quiet ≡ false) × (line : List ℕ) × IsNoteFor request.job printed line
-    × IsBegun mid after line))
+    × IsToldInPart mid after line))

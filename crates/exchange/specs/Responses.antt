@@ -8,9 +8,9 @@ use Rattle.plan_answers.specs.Drawings.{IsDrawn}
 use Rattle.plan_answers.specs.Directing.{IsDirected}
 use Rattle.crossbar.specs.Switch.{idle}
 use Rattle.module_memory.specs.Store.{Store}
-use Rattle.session_answers.specs.Hosts.{Guests, End, IsHostAnswer}
+use Rattle.session_answers.specs.HostAnswers.{KnownClients, SessionEnd, IsHostAnswer}
 use Rattle.switch_end.specs.End.{EndState}
-use Rattle.switch_end.specs.Attending.{HasRun}
+use Rattle.switch_end.specs.Answering.{HasRun}
 use Rattle.plan_answers.specs.Refusals.{Printed}
 use Rattle.rack_answers.specs.Reports.{report_of}
 use Rattle.session_answers.specs.Serving.{IsServeAnswer}
@@ -25,105 +25,109 @@ use Rattle.command_words.specs.declared.jobs.SharedRack.{SharedRack}
 use Rattle.refusals.specs.declared.refusal.Refusal.{Refusal}
 use Rattle.refusals.specs.declared.refusal.Refusal.TheVariants as refusal
 use Rattle.refusals.specs.Refusals.{refusal_line}
-use Rattle.exchange.specs.Files.{IsHeld, IsHeldImage, AreHeld}
+use Rattle.exchange.specs.Files.{IsFileContent, IsImageContent, AreFileContents}
 use Rattle.exchange.specs.Drives.{IsSomeDrive}
 use Rattle.exchange.specs.Ports.{ports_named}
 use Rattle.exchange.specs.declared.unanswered.Unanswered.{Unanswered}
 use Rattle.exchange.specs.declared.unanswered.Unanswered.TheVariants.{File, NoMemory}
 
--- an answer of `plan` to what this file holds
+-- an answer of `plan` to what this file contains
 abbrev pub IsSomePlan : Option (List ℕ) → List ℕ → Printed → Type 0
 IsSomePlan input file answer =
-    (batch : List ℕ) × IsHeld input file batch × IsPlanned widest batch answer
+    (batch : List ℕ) × IsFileContent input file batch × IsPlanned widest batch answer
 
 -- an answer of `plan --steady` to it
 abbrev pub IsSomeSteadyPlan : Option (List ℕ) → List ℕ → Printed → Type 0
 IsSomeSteadyPlan input file answer =
-    (batch : List ℕ) × IsHeld input file batch × IsSteadilyPlanned widest batch answer
+    (batch : List ℕ) × IsFileContent input file batch × IsSteadilyPlanned widest batch answer
 
--- an answer of `check` to what these files hold
+-- an answer of `check` to what these files contain
 abbrev pub IsSomeCheck : Option (List ℕ) → List ℕ → List ℕ → Printed → Type 0
 IsSomeCheck input batch_file schedule_file answer =
-    (batch schedule : List ℕ) × IsHeld input batch_file batch × IsHeld input schedule_file schedule
+    (batch schedule : List ℕ) × IsFileContent input batch_file batch
+    × IsFileContent input schedule_file schedule
     × IsChecked widest batch schedule answer
 
--- an answer of `draw` to what these files hold, with the range of settings where one is given
+-- an answer of `draw` to what these files contain, with the range of settings where one is given
 abbrev pub IsSomeDraw : Option (List ℕ) → List ℕ → List ℕ → Option (List ℕ) → Printed → Type 0
 IsSomeDraw input batch_file schedule_file settings answer =
-    (batch schedule : List ℕ) × IsHeld input batch_file batch × IsHeld input schedule_file schedule
+    (batch schedule : List ℕ) × IsFileContent input batch_file batch
+    × IsFileContent input schedule_file schedule
     × IsDrawn widest batch schedule settings answer
 
--- an answer of `switch` to what this file holds
+-- an answer of `switch` to what this file contains
 abbrev pub IsSomeSwitch : Option (List ℕ) → List ℕ → Printed → Type 0
 IsSomeSwitch input file answer =
-    (batch : List ℕ) × IsHeld input file batch × IsSwitched widest batch answer
+    (batch : List ℕ) × IsFileContent input file batch × IsSwitched widest batch answer
 
 -- an answer of `switch --steady` to it
 abbrev pub IsSomeSteadySwitch : Option (List ℕ) → List ℕ → Printed → Type 0
 IsSomeSteadySwitch input file answer =
-    (batch : List ℕ) × IsHeld input file batch × IsSwitchedSteadily widest batch answer
+    (batch : List ℕ) × IsFileContent input file batch × IsSwitchedSteadily widest batch answer
 
--- an answer of `switch` to what these files hold, a batch and a schedule of it
+-- an answer of `switch` to what these files contain, a batch and a schedule of it
 abbrev pub IsSomeScheduleSwitch : Option (List ℕ) → List ℕ → List ℕ → Printed → Type 0
 IsSomeScheduleSwitch input batch_file schedule_file answer =
-    (batch schedule : List ℕ) × IsHeld input batch_file batch × IsHeld input schedule_file schedule
+    (batch schedule : List ℕ) × IsFileContent input batch_file batch
+    × IsFileContent input schedule_file schedule
     × IsSwitchedAs widest batch schedule answer
 
--- an answer of `direct` to what this file holds
+-- an answer of `direct` to what this file contains
 abbrev pub IsSomeDirect : Option (List ℕ) → List ℕ → Printed → Type 0
 IsSomeDirect input file answer =
-    (moves : List ℕ) × IsHeld input file moves × IsDirected moves answer
+    (moves : List ℕ) × IsFileContent input file moves × IsDirected moves answer
 
--- an answer of `apply` to this shape's text and to what these files hold
+-- an answer of `apply` to this shape's text and to what these files contain
 abbrev pub IsSomeApply : Option (List ℕ) → List ℕ → List ℕ → List ℕ → Printed → Type 0
 IsSomeApply input shape file image_file answer =
-    (batch image : List ℕ) × IsHeld input file batch × IsHeld input image_file image
+    (batch image : List ℕ) × IsFileContent input file batch × IsFileContent input image_file image
     × IsRunAnswer image_alone shape batch (Some image) answer
 
--- an answer of `run` to this shape's text and to what these files hold
+-- an answer of `run` to this shape's text and to what these files contain
 abbrev pub IsSomeRun : Option (List ℕ) → List ℕ → List ℕ → Option (List ℕ) → Printed → Type 0
 IsSomeRun input shape file image_file answer =
-    (batch : List ℕ) × (image : Option (List ℕ)) × IsHeld input file batch
-    × IsHeldImage input image_file image × IsRunAnswer report_of shape batch image answer
+    (batch : List ℕ) × (image : Option (List ℕ)) × IsFileContent input file batch
+    × IsImageContent input image_file image × IsRunAnswer report_of shape batch image answer
 
 -- what `c004` replied to what came of standard input, to its end, or as far as it could be read; it
 -- prints nothing behind that
 abbrev pub IsSomeC004 : Option (List ℕ) → List ℕ → Printed → Type 0
 IsSomeC004 input replies end =
-    (came told : List ℕ) × (after : Option (List ℕ)) × (switch : EndState) × Consumes input after came
+    (came told : List ℕ) × (after : Option (List ℕ)) × (switch : EndState)
+    × Consumes input after came
     × HasRun (record { switch = idle; begun = [] }) came replies told switch × (end.text ≡ [])
     × ((IsAtEnd after × (end.status ≡ DONE)) ⊎ (end.status ≡ REFUSED))
 
--- an answer of `serve` on this rack to what these files hold, which leaves this one
+-- an answer of `serve` on this rack to what these files contain, which leaves this one
 abbrev pub IsSomeServe : Option (List ℕ) → SharedRack → List (List ℕ) → Printed → Option Store
     → Type 0
 IsSomeServe input rack files answer left =
-    (scripts : List (List ℕ)) × (image : Option (List ℕ)) × AreHeld input files scripts
-    × IsHeldImage input rack.image image × IsServeAnswer rack.shape image scripts answer left
+    (scripts : List (List ℕ)) × (image : Option (List ℕ)) × AreFileContents input files scripts
+    × IsImageContent input rack.image image × IsServeAnswer rack.shape image scripts answer left
 
 -- the clients of these names, of whose files no bytes are known
-abbrev pub guests_of : List (List ℕ) → Guests
-guests_of names =
+abbrev pub clients_named : List (List ℕ) → KnownClients
+clients_named names =
     record {
       clients = length names;
       says = λ _. None;
-      holds = λ _. None;
+      contains = λ _. None;
       named = λ k. slice_index_or names k [];
-      bars = λ _. true;
+      may_fail = λ _. true;
     }
 
 -- an answer of `host` on this rack to what these clients say, which leaves this one
 abbrev pub IsSomeHost : Option (List ℕ) → SharedRack → List (List ℕ) → Printed → Option Store
     → Type 0
 IsSomeHost input rack clients answer left =
-    (image : Option (List ℕ)) × (ends : List End) × IsHeldImage input rack.image image
-    × IsHostAnswer rack.shape image (guests_of clients) ends answer left
+    (image : Option (List ℕ)) × (ends : List SessionEnd) × IsImageContent input rack.image image
+    × IsHostAnswer rack.shape image (clients_named clients) ends answer left
 
 -- an answer of `talk` on this rack to standard input, where the session was told this, which leaves
 -- this one
 abbrev pub IsSomeTalk : Option (List ℕ) → SharedRack → List ℕ → Printed → Option Store → Type 0
 IsSomeTalk input rack told answer left =
-    (image after : Option (List ℕ)) × IsHeldImage input rack.image image
+    (image after : Option (List ℕ)) × IsImageContent input rack.image image
     × IsTalkAnswer rack.shape image input after told answer left
 
 -- what is printed, behind what a session was told before
@@ -142,11 +146,13 @@ IsAnswerTo input (Switch batch source.Steady) answer = IsSomeSteadySwitch input 
 IsAnswerTo input (Switch batch (source.File schedule)) answer =
     IsSomeScheduleSwitch input batch schedule answer
 IsAnswerTo input (Direct moves) answer = IsSomeDirect input moves answer
-IsAnswerTo input (Apply shape batch image workers) answer = IsSomeApply input shape batch image answer
+IsAnswerTo input (Apply shape batch image workers) answer =
+    IsSomeApply input shape batch image answer
 IsAnswerTo input (Run shape batch image workers) answer = IsSomeRun input shape batch image answer
 IsAnswerTo input (Drive batch port port_b source goes_on) answer =
     (told : List ℕ) × (end : Printed) × (answer ≡ behind_told told end)
-    × IsSomeDrive input batch source (record { named = ports_named port_b; carried = None }) told end
+    × IsSomeDrive input batch source (record { named = ports_named port_b; carried = None }) told
+    end
 IsAnswerTo input C004 answer =
     (replies : List ℕ) × (end : Printed) × (answer ≡ behind_told replies end)
     × IsSomeC004 input replies end
@@ -163,8 +169,8 @@ abbrev pub IsTalk : Job → Type 0
 IsTalk (Talk rack) = ⊤
 IsTalk job = ⊥
 
--- what is told before there is an answer: to the session of `talk`, of settings that stand, and what
--- `c004` replies
+-- what is told before there is an answer: to the session of `talk`, of settings that stand, and
+-- what `c004` replies
 abbrev pub IsToldBy : Job → List ℕ → Type 0
 IsToldBy (Drive batch port port_b source goes_on) told = ⊤
 IsToldBy (Talk rack) told = ⊤

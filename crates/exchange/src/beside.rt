@@ -2,15 +2,15 @@
 
 ghost use Rattle.std.specs.Prelude.{◌≡◌};
 
-use crate::notes::tell;
+use crate::notes::tell_line;
 use client_session::Listener;
 use refusal_notes::session_line;
 use refusals::Refusal;
 use std::alloc::Global;
 use std::io::Write;
 
-/// Tells a line beside each reply that is a refusal, but for lack of memory: what was said, and what
-/// is wanted. No contract says which line.
+/// Tells a line beside each reply that is a refusal, but for lack of memory: what was said, and
+/// what is wanted. No contract says which line.
 #[derive(Drop)]
 pub(crate) struct Beside<'a, E> {
     alloc: Global,
@@ -59,7 +59,7 @@ impl<'a, E: Write> Listener for Beside<'a, E> {
             return;
         };
         if let Some(line) = session_line(self.alloc, refusal, self.shape, heard.as_slice()) {
-            tell(line.as_str().as_bytes(), self.err);
+            tell_line(line.as_str().as_bytes(), self.err);
         }
     }
 }

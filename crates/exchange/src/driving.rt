@@ -9,7 +9,7 @@ ghost use Rattle.exchange.specs.Notes.{IsNoteOn, IsWholeLine};
 ghost use Rattle.exchange.specs.Outcomes.{HasNote};
 
 use crate::files::{read_file, read_schedule};
-use crate::notes::{Answered, Missed, named, of_list, of_schedule, with_note};
+use crate::notes::{Answered, NoAnswer, named, of_list, of_schedule, with_note};
 use crate::ports::NamedPorts;
 use command_words::{ScheduleSource, Text};
 use drive_answers::{DriveFault, answer_drive, answer_drive_schedule, answer_drive_steady};
@@ -46,8 +46,8 @@ fn answer_from<R: AllocGlobal + Files + Threads + Sync, S: Stage>(
     }
 }
 
-/// The same behind lines that are told on `out`. Behind each a line of `input` is waited for, unless
-/// it goes on.
+/// The same behind lines that are told on `out`. Behind each a line of `input` is waited for,
+/// unless it goes on.
 fn answer_lines<R: AllocGlobal + Files + Threads + Sync, I: Read, O: Write>(
     rt: &R,
     batch: &[u8],
@@ -122,7 +122,7 @@ pub(crate) fn drive<R: AllocGlobal + Files + Threads + Sync, I: Read, O: Write>(
     mut ports: NamedPorts<'_, R, R::File>,
     input: &mut I,
     out: &mut O,
-) -> Result<Answered, Missed>
+) -> Result<Answered, NoAnswer>
     requires { NameInputOnce (driven_files batch.now source.now goes_on) }
     ensures answer { (told : List ℕ) × Appends (O.contents out.old) (O.contents out.new) told
         × IfOk result (λ done.

@@ -1,28 +1,28 @@
-//! The files that the words name, of which one may be standard input.
+//! The files that the arguments name, of which one may be standard input.
 
 ghost use Rattle.std.specs.Prelude.{◌≡◌, ◌≢◌, ◌∷◌, [], IfOk, IfErr, Some, map, option_map};
 ghost use Rattle.plan_answers.specs.Lent.{bytes_of};
 ghost use Rattle.command_words.specs.Jobs.{NameInputOnce, input_name};
 ghost use Rattle.exchange.specs.Drives.{IsHeldSchedule};
-ghost use Rattle.exchange.specs.Files.{IsHeld, IsHeldImage, AreHeld};
-ghost use Rattle.exchange.specs.Outcomes.{IsMissed};
+ghost use Rattle.exchange.specs.Files.{IsFileContent, IsImageContent, AreFileContents};
+ghost use Rattle.exchange.specs.Outcomes.{IsNoAnswer};
 
-use crate::notes::{Missed, unread};
+use crate::notes::{NoAnswer, unread};
 use command_words::{ScheduleSource, Text};
 use std::alloc::AllocError;
 use std::io::Read;
 use std::rt::Files;
 use std::{fs, io};
 
-/// What an image's file holds, where one is named.
+/// What an image's file contains, where one is named.
 pub(crate) fn read_image<R: AllocGlobal + Files, I: Read>(
     rt: &R,
     name: &Option<Text>,
     input: &mut I,
-) -> Result<Option<Vec<u8>>, Missed>
-    ensures held { IfOk result (λ image.
-        IsHeldImage (I.remaining input.old) name.now (option_map (λ file. file.items) image)) }
-    ensures note { IfErr result (λ missed. IsMissed missed) }
+) -> Result<Option<Vec<u8>>, NoAnswer>
+    ensures content { IfOk result (λ image.
+        IsImageContent (I.remaining input.old) name.now (option_map (λ file. file.items) image)) }
+    ensures note { IfErr result (λ missed. IsNoAnswer missed) }
     ensures unread { name.now ≢ Some input_name → I.remaining input.new ≡ I.remaining input.old }
 {
     match name {
@@ -36,10 +36,10 @@ pub(crate) fn read_schedule<R: AllocGlobal + Files, I: Read>(
     rt: &R,
     source: &ScheduleSource,
     input: &mut I,
-) -> Result<Vec<u8>, Missed>
-    ensures held { IfOk result (λ file.
+) -> Result<Vec<u8>, NoAnswer>
+    ensures content { IfOk result (λ file.
         IsHeldSchedule (I.remaining input.old) source.now file.items) }
-    ensures note { IfErr result (λ missed. IsMissed missed) }
+    ensures note { IfErr result (λ missed. IsNoAnswer missed) }
 {
     match source {
         ScheduleSource::File(file) => read_file(rt, file, input),
@@ -62,11 +62,11 @@ pub(crate) fn read_files<R: AllocGlobal + Files, I: Read>(
     rt: &R,
     names: &[Text],
     input: &mut I,
-) -> Result<Vec<Vec<u8>>, Missed>
+) -> Result<Vec<Vec<u8>>, NoAnswer>
     requires { NameInputOnce names.now }
-    ensures held { IfOk result (λ files.
-        AreHeld (I.remaining input.old) names.now (map (λ file. file.items) files.items)) }
-    ensures note { IfErr result (λ missed. IsMissed missed) }
+    ensures content { IfOk result (λ files.
+        AreFileContents (I.remaining input.old) names.now (map (λ file. file.items) files.items)) }
+    ensures note { IfErr result (λ missed. IsNoAnswer missed) }
 {
     let mut files = Vec::new(rt.alloc());
     for name in names {
@@ -82,25 +82,25 @@ pub(crate) fn read_texts<R: AllocGlobal + Files, I: Read>(
     batch: &Text,
     other: &Text,
     input: &mut I,
-) -> Result<(Vec<u8>, Vec<u8>), Missed>
+) -> Result<(Vec<u8>, Vec<u8>), NoAnswer>
     requires { NameInputOnce (batch.now ∷ other.now ∷ []) }
-    ensures first { IfOk result (λ texts. IsHeld (I.remaining input.old) batch.now texts.0.items) }
-    ensures second { IfOk result (λ texts. IsHeld (I.remaining input.old) other.now texts.1.items) }
-    ensures note { IfErr result (λ missed. IsMissed missed) }
+    ensures first { IfOk result (λ texts. IsFileContent (I.remaining input.old) batch.now texts.0.items) }
+    ensures second { IfOk result (λ texts. IsFileContent (I.remaining input.old) other.now texts.1.items) }
+    ensures note { IfErr result (λ missed. IsNoAnswer missed) }
 {
     let first = read_file(rt, batch, input)?;
     let second = read_file(rt, other, input)?;
     Ok((first, second))
 }
 
-/// What a file holds, or what is told where it can't be read.
+/// What a file contains, or what is told where it can't be read.
 pub(crate) fn read_file<R: AllocGlobal + Files, I: Read>(
     rt: &R,
     name: &Text,
     input: &mut I,
-) -> Result<Vec<u8>, Missed>
-    ensures held { IfOk result (λ file. IsHeld (I.remaining input.old) name.now file.items) }
-    ensures note { IfErr result (λ missed. IsMissed missed) }
+) -> Result<Vec<u8>, NoAnswer>
+    ensures content { IfOk result (λ file. IsFileContent (I.remaining input.old) name.now file.items) }
+    ensures note { IfErr result (λ missed. IsNoAnswer missed) }
     ensures unread { name.now ≢ input_name → I.remaining input.new ≡ I.remaining input.old }
 {
     match read_bytes(rt, name, input) {
@@ -115,7 +115,7 @@ fn read_bytes<R: AllocGlobal + Files, I: Read>(
     name: &Text,
     input: &mut I,
 ) -> io::Result<Vec<u8>>
-    ensures held { IfOk result (λ file. IsHeld (I.remaining input.old) name.now file.items) }
+    ensures content { IfOk result (λ file. IsFileContent (I.remaining input.old) name.now file.items) }
     ensures unread { name.now ≢ input_name → I.remaining input.new ≡ I.remaining input.old }
 {
     if !name.is_input() {

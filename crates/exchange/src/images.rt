@@ -4,10 +4,10 @@ ghost use Rattle.std.specs.Prelude.{IfErr, OnErr, OnOk};
 ghost use Rattle.std.specs.Io.KnownBytes.{Appends};
 ghost use Rattle.byte_streams.specs.Writing.{IsCutShort};
 ghost use Rattle.module_memory.specs.Images.{image_of};
-ghost use Rattle.exchange.specs.Images.{IsKept, held_by};
-ghost use Rattle.exchange.specs.Outcomes.{IsMissed};
+ghost use Rattle.exchange.specs.Images.{IsImageWritten, content_of};
+ghost use Rattle.exchange.specs.Outcomes.{IsNoAnswer};
 
-use crate::notes::{Missed, reason_line, unread};
+use crate::notes::{NoAnswer, reason_line, unread};
 use crate::unwritten::Unwritten;
 use byte_streams::write_bytes;
 use command_words::Text;
@@ -25,12 +25,13 @@ pub(crate) struct ImageFile<'a, F> {
     pub(crate) file: F,
 }
 
-/// Opens the file for an image, where one is named. It is made where it isn't there, and what it holds stays as yet.
+/// Opens the file for an image, where one is named. It is made where it isn't there, and what it
+/// holds stays as yet.
 pub(crate) fn open_image<'a, R: AllocGlobal + Files>(
     rt: &R,
     name: &'a Option<Text>,
-) -> Result<Option<ImageFile<'a, R::File>>, Missed>
-    ensures { IfErr result (λ missed. IsMissed missed) }
+) -> Result<Option<ImageFile<'a, R::File>>, NoAnswer>
+    ensures { IfErr result (λ missed. IsNoAnswer missed) }
 {
     let Some(name) = name else {
         return Ok(None);
@@ -45,7 +46,8 @@ pub(crate) fn open_image<'a, R: AllocGlobal + Files>(
     }
 }
 
-/// Writes the image of a rack to its file, which is emptied first where it isn't a device or a pipe.
+/// Writes the image of a rack to its file, which is emptied first where it isn't a device or a
+/// pipe.
 fn write_image<'a, F: Write + OpenFile>(rack: &Rack, out: &mut ImageFile<'a, F>) -> io::Result<()>
     ensures written { OnOk result
         (Appends (F.contents out.old.file) (F.contents out.new.file) (image_of rack.now)) }
@@ -59,14 +61,14 @@ fn write_image<'a, F: Write + OpenFile>(rack: &Rack, out: &mut ImageFile<'a, F>)
     write_bytes(&mut out.file, image.as_slice())
 }
 
-/// Writes the image of the rack that is left, where one is, to the file for it, where there is one. Where
-/// that fails, a front of it stands there, and it is given what there is to tell.
+/// Writes the image of the rack that is left, where one is, to the file for it, where there is one.
+/// Where that fails, a front of it stands there, and it is given what there is to tell.
 pub(crate) fn keep_image<'a, F: Write + OpenFile>(
     alloc: Global,
     left: &Option<Rack>,
     out: &mut Option<ImageFile<'a, F>>,
 ) -> Option<Unwritten>
-    ensures { IsKept (held_by F.contents) left.now out.old out.new result }
+    ensures { IsImageWritten (content_of F.contents) left.now out.old out.new result }
 {
     let Some(rack) = left else {
         return None;

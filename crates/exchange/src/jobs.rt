@@ -10,21 +10,21 @@ ghost use Rattle.command_words.specs.declared.jobs.Job.TheVariants.{Plan, Switch
 ghost use Rattle.exchange.specs.Responses.{IsSomeCheck, IsSomeDraw, IsSomeDirect, IsSomeApply, IsSomeRun, IsSomeC004, IsSomeServe, IsSomeHost, IsSomeTalk};
 ghost use Rattle.exchange.specs.Responses.{IsAnswerTo, IsToldBy, behind_told};
 ghost use Rattle.exchange.specs.Notes.{IsBeside};
-ghost use Rattle.exchange.specs.Images.{IsKept, held_by};
+ghost use Rattle.exchange.specs.Images.{IsImageWritten, content_of};
 ghost use Rattle.exchange.specs.Outcomes.{HasNote};
 
 use crate::beside::Beside;
-use crate::doors::{ClientFiles, FileDoors, System};
+use crate::client_streams::{ClientFiles, FileStreams, System};
 use crate::driving::drive;
 use crate::files::{read_file, read_files, read_image, read_texts, slice_of};
 use crate::images::{ImageFile, open_image};
 use crate::notes::{
-    Answered, Missed, alone, closed, named, named_image, of_list, of_rack, of_schedule,
+    Answered, NoAnswer, alone, closed, named, named_image, of_list, of_rack, of_schedule,
     reason_line, tell_note, with_note,
 };
 use crate::ports::NamedPorts;
 use crate::unwritten::Unwritten;
-use client_session::{Listener, Unheard};
+use client_session::{Listener, NoListener};
 use command_words::{Job, Planning, Request, ScheduleSource, SharedRack, Text, TextList};
 use exchange_limits::WorkerCount;
 use plan_answers::{
@@ -42,7 +42,7 @@ use std::io::{Read, Write};
 use std::rt::Files;
 use std::sync::Wait;
 use std::thread::Threads;
-use switch_end::{EndFault, SwitchEnd, attend};
+use switch_end::{EndFault, SwitchEnd, answer_commands};
 
 /// The answer to a job, or why it has none, with what is told beside it. A session of `talk` is
 /// told its replies on `out` before, and a line on `err` beside each that is a refusal, but for
@@ -55,7 +55,7 @@ pub(crate) fn answer_to<R: System, I: Read, O: Write, E: Write>(
     input: &mut I,
     out: &mut O,
     err: &mut E,
-) -> Result<Answered, Missed>
+) -> Result<Answered, NoAnswer>
     requires limits { IsWithinLimits request.job }
     requires input { NameInputOnce (files_of request.job) }
     ensures response { (told : List ℕ) × Appends (O.contents out.old) (O.contents out.new) told
@@ -118,7 +118,7 @@ pub(crate) fn answer_to<R: System, I: Read, O: Write, E: Write>(
         }
         Job::Talk { rack } if is_quiet => {
             let mut file = open_image(rt, &rack.image_out)?;
-            talk(rt, &rack, input, out, &mut Unheard, &mut file)
+            talk(rt, &rack, input, out, &mut NoListener, &mut file)
         }
         Job::Talk { rack } => {
             let mut file = open_image(rt, &rack.image_out)?;
@@ -137,13 +137,13 @@ fn plan<R: AllocGlobal + Files + Threads + Sync, I: Read>(
     file: &Text,
     planning: Planning,
     input: &mut I,
-) -> Result<Answered, Missed>
+) -> Result<Answered, NoAnswer>
     ensures answer { IfOk result (λ done.
         IsAnswerTo (I.remaining input.old) (Plan file.now planning) done.answer) }
     ensures note { HasNote result }
 {
-    let held = read_file(rt, file, input)?;
-    let text = held.as_slice();
+    let content = read_file(rt, file, input)?;
+    let text = content.as_slice();
     let answer = match planning {
         Planning::Workers(workers) => answer_plan(rt, rt.alloc(), text, workers),
         Planning::Steady => answer_plan_steady(rt.alloc(), text),
@@ -158,7 +158,7 @@ fn check<R: AllocGlobal + Files, I: Read>(
     batch: &Text,
     schedule: &Text,
     input: &mut I,
-) -> Result<Answered, Missed>
+) -> Result<Answered, NoAnswer>
     requires { NameInputOnce (batch.now ∷ schedule.now ∷ []) }
     ensures answer { IfOk result (λ done.
         IsSomeCheck (I.remaining input.old) batch.now schedule.now done.answer) }
@@ -172,14 +172,15 @@ fn check<R: AllocGlobal + Files, I: Read>(
     Ok(with_note(rt.alloc(), answer, texts))
 }
 
-/// The answer of `exchange draw BATCH SCHEDULE`. The files are read before the range of settings is looked at.
+/// The answer of `exchange draw BATCH SCHEDULE`. The files are read before the range of settings is
+/// looked at.
 fn draw<R: AllocGlobal + Files, I: Read>(
     rt: &R,
     batch: &Text,
     schedule: &Text,
     settings: &Option<Text>,
     input: &mut I,
-) -> Result<Answered, Missed>
+) -> Result<Answered, NoAnswer>
     requires { NameInputOnce (batch.now ∷ schedule.now ∷ []) }
     ensures answer { IfOk result (λ done.
         IsSomeDraw (I.remaining input.old) batch.now schedule.now settings.now done.answer) }
@@ -218,15 +219,15 @@ fn switch<R: AllocGlobal + Files + Threads + Sync, I: Read>(
     batch: &Text,
     source: &ScheduleSource,
     input: &mut I,
-) -> Result<Answered, Missed>
+) -> Result<Answered, NoAnswer>
     requires { NameInputOnce (files_of (Switch batch.now source.now)) }
     ensures answer { IfOk result (λ done.
         IsAnswerTo (I.remaining input.old) (Switch batch.now source.now) done.answer) }
     ensures note { HasNote result }
 {
     let alloc = rt.alloc();
-    let held = read_file(rt, batch, input)?;
-    let text = held.as_slice();
+    let content = read_file(rt, batch, input)?;
+    let text = content.as_slice();
     let list = of_list(named(batch, text), Listing::Transfers);
     match source {
         ScheduleSource::Plan(workers) => {
@@ -253,19 +254,20 @@ fn direct<R: AllocGlobal + Files, I: Read>(
     rt: &R,
     moves: &Text,
     input: &mut I,
-) -> Result<Answered, Missed>
+) -> Result<Answered, NoAnswer>
     ensures answer { IfOk result (λ done.
         IsSomeDirect (I.remaining input.old) moves.now done.answer) }
     ensures note { HasNote result }
 {
-    let held = read_file(rt, moves, input)?;
-    let text = held.as_slice();
+    let content = read_file(rt, moves, input)?;
+    let text = content.as_slice();
     let answer = answer_direct(rt.alloc(), text)?;
     let texts = of_list(named(moves, text), Listing::Moves);
     Ok(with_note(rt.alloc(), answer, texts))
 }
 
-/// The answer of `exchange apply SHAPE BATCH IMAGE`. The files are read before the shape is looked at.
+/// The answer of `exchange apply SHAPE BATCH IMAGE`. The files are read before the shape is looked
+/// at.
 fn apply<R: AllocGlobal + Files + Threads + Sync, I: Read>(
     rt: &R,
     shape: &Text,
@@ -273,7 +275,7 @@ fn apply<R: AllocGlobal + Files + Threads + Sync, I: Read>(
     image: &Text,
     workers: WorkerCount,
     input: &mut I,
-) -> Result<Answered, Missed>
+) -> Result<Answered, NoAnswer>
     requires input { NameInputOnce (batch.now ∷ image.now ∷ []) }
     ensures answer { IfOk result (λ done.
         IsSomeApply (I.remaining input.old) shape.now batch.now image.now done.answer) }
@@ -287,8 +289,8 @@ fn apply<R: AllocGlobal + Files + Threads + Sync, I: Read>(
     Ok(with_note(rt.alloc(), answer, texts))
 }
 
-/// The answer of `exchange run SHAPE BATCH`. The image's file, if one is named, is read first, and then the batch's,
-/// before the shape is looked at.
+/// The answer of `exchange run SHAPE BATCH`. The image's file, if one is named, is read first, and
+/// then the batch's, before the shape is looked at.
 fn run<R: AllocGlobal + Files + Threads + Sync, I: Read>(
     rt: &R,
     shape: &Text,
@@ -296,47 +298,48 @@ fn run<R: AllocGlobal + Files + Threads + Sync, I: Read>(
     image: &Option<Text>,
     workers: WorkerCount,
     input: &mut I,
-) -> Result<Answered, Missed>
+) -> Result<Answered, NoAnswer>
     requires input { NameInputOnce (option_to_list image.now ++ batch.now ∷ []) }
     ensures answer { IfOk result (λ done.
         IsSomeRun (I.remaining input.old) shape.now batch.now image.now done.answer) }
     ensures note { HasNote result }
 {
     let words = read_image(rt, image, input)?;
-    let held = read_file(rt, batch, input)?;
+    let content = read_file(rt, batch, input)?;
     let shape = shape.as_str();
-    let (held, words) = (held.as_slice(), slice_of(&words));
-    let answer = answer_run(rt, rt.alloc(), shape.as_bytes(), held, words, workers)?;
-    let texts = of_rack(shape, named(batch, held), named_image(image, words));
+    let (content, words) = (content.as_slice(), slice_of(&words));
+    let answer = answer_run(rt, rt.alloc(), shape.as_bytes(), content, words, workers)?;
+    let texts = of_rack(shape, named(batch, content), named_image(image, words));
     Ok(with_note(rt.alloc(), answer, texts))
 }
 
-/// The answer of `exchange c004`, behind its answers to enquiries on `out`. What it drops is told on `err`, and so is why
-/// standard input can't be read any further.
+/// The answer of `exchange c004`, behind its answers to enquiries on `out`. What it drops is told
+/// on `err`, and so is why standard input can't be read any further.
 fn c004<I: Read, O: Write, E: Write>(
     alloc: Global,
     input: &mut I,
     out: &mut O,
     err: &mut E,
-) -> Result<Answered, Missed>
+) -> Result<Answered, NoAnswer>
     ensures answer { (told : List ℕ) × Appends (O.contents out.old) (O.contents out.new) told
         × IfOk result (λ done. IsSomeC004 (I.remaining input.old) told done.answer) }
     ensures note { HasNote result }
     ensures beside { (told : List ℕ) × Appends (E.contents err.old) (E.contents err.new) told }
 {
     let mut end = SwitchEnd::new();
-    match attend(&mut end, input, out, err) {
+    match answer_commands(&mut end, input, out, err) {
         Ok(()) => Ok(alone(Answer::done(Vec::new(alloc)))),
         Err(EndFault::Read(error)) => {
             tell_note(&reason_line(alloc, "-", &error), false, err);
             Ok(alone(Answer::failed(Vec::new(alloc))))
         }
-        Err(EndFault::Write(error)) => Err(Missed::Unwritten(Unwritten::Answer(error))),
+        Err(EndFault::Write(error)) => Err(NoAnswer::Unwritten(Unwritten::Answer(error))),
     }
 }
 
-/// The answer of `exchange serve SHAPE SCRIPT..`, behind which the image of the rack is in its file. The image that it begins
-/// with, if one is named, is read first, and then the scripts' files in the order of the words, before the shape is looked at.
+/// The answer of `exchange serve SHAPE SCRIPT..`, behind which the image of the rack is in its
+/// file. The image that it begins with, if one is named, is read first, and then the scripts' files
+/// in the order of the arguments, before the shape is looked at.
 fn serve<R: AllocGlobal + Files + Threads + Wait + Sync, I: Read, F: Write + OpenFile>(
     rt: &R,
     rack: &SharedRack,
@@ -344,12 +347,12 @@ fn serve<R: AllocGlobal + Files + Threads + Wait + Sync, I: Read, F: Write + Ope
     workers: WorkerCount,
     input: &mut I,
     file: &mut Option<ImageFile<'_, F>>,
-) -> Result<Answered, Missed>
+) -> Result<Answered, NoAnswer>
     requires scripts { CanBeServed scripts.now }
     requires input { NameInputOnce (option_to_list rack.now.image ++ scripts.now) }
     ensures answer { IfOk result (λ done. (left : Option Store)
         × IsSomeServe (I.remaining input.old) rack.now scripts.now done.answer left
-        × IsKept (held_by F.contents) left file.old file.new done.lost) }
+        × IsImageWritten (content_of F.contents) left file.old file.new done.lost) }
     ensures note { HasNote result }
 {
     let words = read_image(rt, &rack.image, input)?;
@@ -360,8 +363,9 @@ fn serve<R: AllocGlobal + Files + Threads + Wait + Sync, I: Read, F: Write + Ope
     Ok(closed(rt.alloc(), closing, rack, words, file))
 }
 
-/// The answer of `exchange host SHAPE CLIENT..`, behind the sessions of the clients, and behind which the image of the rack is
-/// in its file. The image that it begins with, if one is named, is read first.
+/// The answer of `exchange host SHAPE CLIENT..`, behind the sessions of the clients, and behind
+/// which the image of the rack is in its file. The image that it begins with, if one is named, is
+/// read first.
 fn host<R: AllocGlobal + Files + Threads + Wait + ClientFiles + Sync, I: Read, F: Write + OpenFile>(
     rt: &R,
     rack: &SharedRack,
@@ -369,11 +373,11 @@ fn host<R: AllocGlobal + Files + Threads + Wait + ClientFiles + Sync, I: Read, F
     workers: WorkerCount,
     input: &mut I,
     file: &mut Option<ImageFile<'_, F>>,
-) -> Result<Answered, Missed>
+) -> Result<Answered, NoAnswer>
     requires clients { CanBeServed clients.now }
     ensures answer { IfOk result (λ done. (left : Option Store)
         × IsSomeHost (I.remaining input.old) rack.now clients.now done.answer left
-        × IsKept (held_by F.contents) left file.old file.new done.lost) }
+        × IsImageWritten (content_of F.contents) left file.old file.new done.lost) }
     ensures note { HasNote result }
 {
     let words = read_image(rt, &rack.image, input)?;
@@ -381,8 +385,8 @@ fn host<R: AllocGlobal + Files + Threads + Wait + ClientFiles + Sync, I: Read, F
     let words = slice_of(&words);
     let alloc = rt.alloc();
     let clients = clients.as_slice();
-    let doors = FileDoors { rt, alloc, clients };
-    let hosted = answer_host(rt, alloc, shape, words, workers, &doors)?;
+    let streams = FileStreams { rt, alloc, clients };
+    let hosted = answer_host(rt, alloc, shape, words, workers, &streams)?;
     let Hosted {
         answer,
         rack: left,
@@ -392,8 +396,9 @@ fn host<R: AllocGlobal + Files + Threads + Wait + ClientFiles + Sync, I: Read, F
     Ok(closed(alloc, closing, rack, words, file))
 }
 
-/// The answer of `exchange talk SHAPE`, behind a session over `input` and `out`, of whose refusals the listener is told, and
-/// behind which the image of the rack is in its file. The image that it begins with, if one is named, is read first.
+/// The answer of `exchange talk SHAPE`, behind a session over `input` and `out`, of whose refusals
+/// the listener is told, and behind which the image of the rack is in its file. The image that it
+/// begins with, if one is named, is read first.
 fn talk<
     R: AllocGlobal + Files + Threads + Wait + Sync,
     I: Read,
@@ -407,12 +412,12 @@ fn talk<
     out: &mut O,
     listener: &mut H,
     file: &mut Option<ImageFile<'_, F>>,
-) -> Result<Answered, Missed>
+) -> Result<Answered, NoAnswer>
     requires input { NameInputOnce (option_to_list rack.now.image ++ input_name ∷ []) }
     ensures answer { (told : List ℕ) × Appends (O.contents out.old) (O.contents out.new) told
         × IfOk result (λ done. (left : Option Store)
         × IsSomeTalk (I.remaining input.old) rack.now told done.answer left
-        × IsKept (held_by F.contents) left file.old file.new done.lost) }
+        × IsImageWritten (content_of F.contents) left file.old file.new done.lost) }
     ensures note { HasNote result }
     ensures beside { TellsOfRefusals H.may_tell (H.told listener.old) (H.told listener.new) }
 {

@@ -1,6 +1,7 @@
-//! The statuses that the program ends with where there is no answer. They are this project's choice.
+//! The statuses that the program ends with where there is no answer. They are this project's
+//! choice.
 
-/// The status where the words fit no command.
+/// The status where the arguments fit no command.
 pub const MISUSED: u8 = 2;
 
 /// The status where the answer couldn't be written.

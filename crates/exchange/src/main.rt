@@ -1,11 +1,11 @@
 //! The controller of a rack of transputer modules whose links meet in one crossbar switch or two.
 //!
-//! Each command reads the files that its words name, and prints one answer. Only `main` names the system's own streams
-//! and words: it hands them to [`respond`].
+//! Each command reads the files that its arguments name, and prints one answer. Only `main` names
+//! the system's own streams and arguments: it hands them to [`respond`].
 #![tactic(auto)]
 
 mod beside;
-mod doors;
+mod client_streams;
 mod driving;
 mod files;
 mod images;
@@ -23,17 +23,17 @@ use std::rt::Env;
 use std::{env, io};
 
 fn main(rt: HostRuntime) -> ExitCode {
-    let words = command_line(&rt);
+    let arguments = command_line(&rt);
     respond(
         &rt,
-        words,
+        arguments,
         &mut rt.reader(),
         &mut io::writer(&rt),
         &mut rt.stderr(),
     )
 }
 
-/// The words of the command line, the first of which is the program's name.
+/// The arguments of the command line, the first of which is the program's name.
 fn command_line<R: AllocGlobal + Env>(rt: &R) -> io::Result<Vec<String>> {
     Ok(env::args(rt)?.collect(rt.alloc())?)
 }

@@ -1,9 +1,9 @@
 //! What is told beside an answer.
 
 ghost use Rattle.std.specs.Prelude.{◌≡◌, IfSome, None, option_map, string_bytes};
-ghost use Rattle.exchange.specs.Images.{IsKept, held_by};
-ghost use Rattle.exchange.specs.Notes.{IsBegun, IsNoteOn, IsToldUnless, IsWholeLine};
-ghost use Rattle.exchange.specs.Outcomes.{IsMissed};
+ghost use Rattle.exchange.specs.Images.{IsImageWritten, content_of};
+ghost use Rattle.exchange.specs.Notes.{IsToldInPart, IsNoteOn, IsToldUnless, IsWholeLine};
+ghost use Rattle.exchange.specs.Outcomes.{IsNoAnswer};
 
 use crate::images::{ImageFile, keep_image};
 use crate::unanswered::Unanswered;
@@ -32,7 +32,7 @@ pub(crate) struct Answered {
 
 /// Why there is no answer.
 #[derive(Drop)]
-pub(crate) enum Missed {
+pub(crate) enum NoAnswer {
     /// It is refused, with the line that is told beside that.
     Refused {
         why: Unanswered,
@@ -42,30 +42,30 @@ pub(crate) enum Missed {
     Unwritten(Unwritten),
 }
 
-impl From<AllocError> for Missed {
+impl From<AllocError> for NoAnswer {
     ghost use Rattle.std.specs.Prelude.{◌≡◌, None};
-    ghost use Rattle.exchange.specs.declared.notes.Missed.TheVariants.{Refused};
+    ghost use Rattle.exchange.specs.declared.notes.NoAnswer.TheVariants.{Refused};
     ghost use Rattle.exchange.specs.declared.unanswered.Unanswered.TheVariants.{NoMemory};
 
     ghost from_gives = { λ _ missed. missed ≡ Refused NoMemory None };
 
-    fn from(_error: AllocError) -> Missed {
-        Missed::Refused {
+    fn from(_error: AllocError) -> NoAnswer {
+        NoAnswer::Refused {
             why: Unanswered::NoMemory,
             note: None,
         }
     }
 }
 
-impl From<DriveFault> for Missed {
-    ghost use Rattle.exchange.specs.Outcomes.{IsMissed};
+impl From<DriveFault> for NoAnswer {
+    ghost use Rattle.exchange.specs.Outcomes.{IsNoAnswer};
 
-    ghost from_gives = { λ _ missed. IsMissed missed };
+    ghost from_gives = { λ _ missed. IsNoAnswer missed };
 
-    fn from(fault: DriveFault) -> Missed {
+    fn from(fault: DriveFault) -> NoAnswer {
         match fault {
-            DriveFault::Untold => Missed::Unwritten(Unwritten::Setting),
-            DriveFault::NoMemory => Missed::from(AllocError),
+            DriveFault::Untold => NoAnswer::Unwritten(Unwritten::Setting),
+            DriveFault::NoMemory => NoAnswer::from(AllocError),
         }
     }
 }
@@ -94,8 +94,9 @@ pub(crate) fn alone(answer: Answer) -> Answered
     }
 }
 
-/// An answer of sessions on the rack that was asked for, whose image had these bytes, with what is told beside it where
-/// that is a refusal. The image of the rack that they leave goes to the file for it.
+/// An answer of sessions on the rack that was asked for, whose image had these bytes, with what is
+/// told beside it where that is a refusal. The image of the rack that they leave goes to the file
+/// for it.
 pub(crate) fn closed<'a, F: Write + OpenFile>(
     alloc: Global,
     closing: Closing,
@@ -105,7 +106,7 @@ pub(crate) fn closed<'a, F: Write + OpenFile>(
 ) -> Answered
     ensures answer { result.answer ≡ closing.answer }
     ensures note { IsNoteOn result.answer (option_map (λ line. string_bytes line) result.note) }
-    ensures kept { IsKept (held_by F.contents) closing.rack out.old out.new result.lost }
+    ensures kept { IsImageWritten (content_of F.contents) closing.rack out.old out.new result.lost }
 {
     let Closing { answer, rack: left } = closing;
     let texts = of_rack(
@@ -127,7 +128,8 @@ pub(crate) fn of_list<'a>(list: Named<'a>, listing: Listing) -> Texts<'a> {
     }
 }
 
-/// A batch and a schedule, the word of the settings to draw, which may be empty, and what is known of the schedule.
+/// A batch and a schedule, the word of the settings to draw, which may be empty, and what is known
+/// of the schedule.
 pub(crate) fn of_schedule<'a>(
     batch: Named<'a>,
     schedule: Named<'a>,
@@ -160,13 +162,14 @@ fn note_on(alloc: Global, answer: &Answer, texts: Texts<'_>) -> Option<String>
     second_line(alloc, answer.refusal()?, texts)
 }
 
-/// Why there is no answer where a file of this name can't be read, or opened, and what is told of it.
-pub(crate) fn unread(alloc: Global, name: &Text, error: &io::Error) -> Missed
-    ensures { IsMissed result }
+/// Why there is no answer where a file of this name can't be read, or opened, and what is told of
+/// it.
+pub(crate) fn unread(alloc: Global, name: &Text, error: &io::Error) -> NoAnswer
+    ensures { IsNoAnswer result }
 {
     match error.kind() {
-        ErrorKind::OutOfMemory => Missed::from(AllocError),
-        _ => Missed::Refused {
+        ErrorKind::OutOfMemory => NoAnswer::from(AllocError),
+        _ => NoAnswer::Refused {
             why: Unanswered::File,
             note: reason_line(alloc, name.as_str(), error),
         },
@@ -183,7 +186,7 @@ pub(crate) fn reason_line(alloc: Global, name: &str, error: &io::Error) -> Optio
     }
 }
 
-/// The name of an image's file and what that holds, where there is one.
+/// The name of an image's file and what that contains, where there is one.
 pub(crate) fn named_image<'a>(name: &'a Option<Text>, image: Option<&'a [u8]>) -> Named<'a> {
     match (name, image) {
         (Some(name), Some(text)) => named(name, text),
@@ -191,7 +194,7 @@ pub(crate) fn named_image<'a>(name: &'a Option<Text>, image: Option<&'a [u8]>) -
     }
 }
 
-/// A file's name, and what it holds.
+/// A file's name, and what it contains.
 pub(crate) fn named<'a>(name: &'a Text, text: &'a [u8]) -> Named<'a>
     ensures { (result.name.now ≡ name.entry.now) × (result.text ≡ text.entry) }
 {
@@ -210,13 +213,13 @@ pub(crate) fn tell_note<E: Write>(note: &Option<String>, is_quiet: bool, err: &m
         return;
     }
     if let Some(line) = note {
-        tell(line.as_str().as_bytes(), err);
+        tell_line(line.as_str().as_bytes(), err);
     }
 }
 
 /// Tells a line, as far as it can be written. Whether it can changes no answer.
-pub(crate) fn tell<E: Write>(line: &[u8], err: &mut E)
-    ensures { IsBegun (E.contents err.old) (E.contents err.new) line.now }
+pub(crate) fn tell_line<E: Write>(line: &[u8], err: &mut E)
+    ensures { IsToldInPart (E.contents err.old) (E.contents err.new) line.now }
 {
     let _ = write_bytes(err, line);
 }

@@ -1,19 +1,20 @@
-//! From the words of the command line to what is printed, and the status that the program ends with.
+//! From the arguments of the command line to what is printed, and the status that the program ends
+//! with.
 
 ghost use Rattle.std.specs.Prelude.{◌≡◌, ◌⊎◌, IfOk, None, OnErr, option_map, string_bytes};
 ghost use Rattle.std.specs.Process.{exit_status};
 ghost use Rattle.command_words.specs.Jobs.{texts_of};
 ghost use Rattle.exchange.specs.Responses.{unanswered};
 ghost use Rattle.exchange.specs.Notes.{IsToldUnless};
-ghost use Rattle.exchange.specs.Ends.{IsPrinted, streams_of, IsEndForWords, IsEndWithoutWords};
+ghost use Rattle.exchange.specs.Ends.{IsPrinted, streams_of, IsEndForArguments, IsEndWithoutArguments};
 
-use crate::doors::System;
+use crate::client_streams::System;
 use crate::jobs::answer_to;
 use crate::limits::{MISUSED, UNWRITTEN};
-use crate::notes::{Answered, Missed, tell_note};
+use crate::notes::{Answered, NoAnswer, tell_note};
 use crate::unanswered::Unanswered;
 use crate::unwritten::Unwritten;
-use command_words::{WordsFault, read_words};
+use command_words::{ArgumentsFault, read_arguments};
 use plan_answers::{Answer, DONE, REFUSED};
 use refusals::Refusal;
 use std::alloc::{AllocError, Global};
@@ -21,27 +22,30 @@ use std::io;
 use std::io::{ErrorKind, Read, Write};
 use std::process::ExitCode;
 
-/// Does what the words ask for, prints what there is to say of it, and gives the status that the program
-/// ends with: [`UNWRITTEN`] where that can't be printed.
+/// Does what the arguments ask for, prints what there is to say of it, and gives the status that
+/// the program ends with: [`UNWRITTEN`] where that can't be printed.
 ///
-/// A file that is `-` is read from `input`. Answers, refusals and the texts of help go to `out`; words that fit no
-/// command are answered on `err`.
+/// A file that is `-` is read from `input`. Answers, refusals and the texts of help go to `out`;
+/// arguments that fit no command are answered on `err`.
 pub fn respond<R: System, I: Read, O: Write, E: Write>(
     rt: &R,
-    words: io::Result<Vec<String>>,
+    arguments: io::Result<Vec<String>>,
     input: &mut I,
     out: &mut O,
     err: &mut E,
 ) -> ExitCode
-    ensures words { IfOk words (λ w. (exit_status result ≡ UNWRITTEN)
-        ⊎ IsEndForWords (texts_of w.items) (I.remaining input.old) (streams_of (O.contents out.old)
+    ensures arguments { IfOk arguments (λ w. (exit_status result ≡ UNWRITTEN)
+        ⊎ IsEndForArguments (texts_of w.items) (I.remaining input.old) (streams_of (O.contents out.old)
         (O.contents out.new) (E.contents err.old) (E.contents err.new)) (exit_status result)) }
-    ensures none { OnErr words ((exit_status result ≡ UNWRITTEN)
-        ⊎ IsEndWithoutWords (O.contents out.old) (O.contents out.new) (exit_status result)) }
+    ensures none { OnErr arguments ((exit_status result ≡ UNWRITTEN)
+        ⊎ IsEndWithoutArguments (O.contents out.old) (O.contents out.new) (exit_status result)) }
 {
-    match words {
-        Ok(words) => status_of(print_response(rt, words.as_slice(), input, out, err), err),
-        Err(error) => status_of(print_without_words(&error, out, err), err),
+    match arguments {
+        Ok(arguments) => status_of(
+            print_response(rt, arguments.as_slice(), input, out, err),
+            err,
+        ),
+        Err(error) => status_of(print_without_arguments(&error, out, err), err),
     }
 }
 
@@ -60,13 +64,13 @@ fn status_of<E: Write>(end: Result<u8, Unwritten>, err: &mut E) -> ExitCode
     }
 }
 
-/// Prints why words can't be had as texts. The error is that of writing.
-fn print_without_words<O: Write, E: Write>(
+/// Prints why arguments can't be had as texts. The error is that of writing.
+fn print_without_arguments<O: Write, E: Write>(
     error: &io::Error,
     out: &mut O,
     err: &mut E,
 ) -> Result<u8, Unwritten>
-    ensures { IfOk result (IsEndWithoutWords (O.contents out.old) (O.contents out.new)) }
+    ensures { IfOk result (IsEndWithoutArguments (O.contents out.old) (O.contents out.new)) }
 {
     if error.kind() == ErrorKind::OutOfMemory {
         return refuse(Unanswered::NoMemory, out);
@@ -75,49 +79,51 @@ fn print_without_words<O: Write, E: Write>(
     Ok(MISUSED)
 }
 
-/// Does what the words ask for, prints its answer, or why it has none, and tells a line beside a refusal. The error is
-/// that of writing the answer.
+/// Does what the arguments ask for, prints its answer, or why it has none, and tells a line beside
+/// a refusal. The error is that of writing the answer.
 fn print_response<R: System, I: Read, O: Write, E: Write>(
     rt: &R,
-    words: &[String],
+    arguments: &[String],
     input: &mut I,
     out: &mut O,
     err: &mut E,
 ) -> Result<u8, Unwritten>
-    ensures { IfOk result (IsEndForWords (texts_of words.now) (I.remaining input.old)
+    ensures { IfOk result (IsEndForArguments (texts_of arguments.now) (I.remaining input.old)
         (streams_of (O.contents out.old) (O.contents out.new) (E.contents err.old)
         (E.contents err.new))) }
 {
-    match read_words(rt.alloc(), words) {
+    match read_arguments(rt.alloc(), arguments) {
         Ok(request) => {
             let is_quiet = request.is_quiet;
             match answer_to(rt, request, input, out, err) {
                 Ok(done) => print_noted(done, is_quiet, out, err),
-                Err(Missed::Refused { why, note }) => refuse_noted(why, &note, is_quiet, out, err),
-                Err(Missed::Unwritten(unwritten)) => Err(unwritten),
+                Err(NoAnswer::Refused { why, note }) => refuse_noted(
+                    why, &note, is_quiet, out, err,
+                ),
+                Err(NoAnswer::Unwritten(unwritten)) => Err(unwritten),
             }
         }
-        Err(WordsFault::NoMemory) => refuse(Unanswered::NoMemory, out),
-        Err(WordsFault::Clap(error)) if error.use_stderr() => {
+        Err(ArgumentsFault::NoMemory) => refuse(Unanswered::NoMemory, out),
+        Err(ArgumentsFault::Clap(error)) if error.use_stderr() => {
             write!(err, "{error}")?;
             Ok(MISUSED)
         }
-        Err(WordsFault::Clap(help)) => {
-            write_help(rt.alloc(), words, &help, out)?;
+        Err(ArgumentsFault::Clap(help)) => {
+            write_help(rt.alloc(), arguments, &help, out)?;
             Ok(DONE)
         }
     }
 }
 
-/// Writes a text of help. Where the program's own name, the first word, has no `/`, the text says
-/// `exchange` in the place of `./exchange`, as far as there is memory for that.
+/// Writes a text of help. Where the program's own name, the first argument, has no `/`, the text
+/// says `exchange` in the place of `./exchange`, as far as there is memory for that.
 fn write_help<O: Write>(
     alloc: Global,
-    words: &[String],
+    arguments: &[String],
     help: &clap::Error,
     out: &mut O,
 ) -> io::Result<()> {
-    if let Some(name) = words.first()
+    if let Some(name) = arguments.first()
         && !name.as_str().contains('/')
         && let Ok(text) = installed_help(alloc, help)
     {
@@ -132,8 +138,8 @@ fn installed_help(alloc: Global, help: &clap::Error) -> Result<String, AllocErro
     text.as_str().replace(alloc, "./exchange", "exchange")
 }
 
-/// Prints an answer, then tells what there is to tell beside it, and gives the answer's status. The error is what couldn't
-/// be written, the answer or before it the image that it leaves.
+/// Prints an answer, then tells what there is to tell beside it, and gives the answer's status. The
+/// error is what couldn't be written, the answer or before it the image that it leaves.
 fn print_noted<O: Write, E: Write>(
     done: Answered,
     is_quiet: bool,
@@ -154,7 +160,8 @@ fn print_noted<O: Write, E: Write>(
     }
 }
 
-/// Prints why there is no answer, then tells what there is to tell beside it, and gives the status of a refusal.
+/// Prints why there is no answer, then tells what there is to tell beside it, and gives the status
+/// of a refusal.
 fn refuse_noted<O: Write, E: Write>(
     why: Unanswered,
     note: &Option<String>,

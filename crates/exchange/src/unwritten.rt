@@ -1,6 +1,6 @@
 //! What couldn't be written.
 
-use crate::notes::tell;
+use crate::notes::tell_line;
 use std::io;
 use std::io::Write;
 
@@ -29,7 +29,7 @@ impl Unwritten {
                 let _ = err.writeln(format_args!("exchange: the answer can't be written: {error}"));
             }
             Unwritten::Setting => tell(b"exchange: a setting that stands can't be told\n", err),
-            Unwritten::Image(Some(line)) => tell(line.as_str().as_bytes(), err),
+            Unwritten::Image(Some(line)) => tell_line(line.as_str().as_bytes(), err),
             Unwritten::Image(None) => {}
         }
     }

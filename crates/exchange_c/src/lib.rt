@@ -1,9 +1,9 @@
-//! Calls for programs in C: each reads texts that its caller owns, and writes its answer into bytes that its
-//! caller owns.
+//! Calls for programs in C: each reads texts that its caller owns, and writes its answer into bytes
+//! that its caller owns.
 //!
-//! Each gives one of the statuses of [`status`], and says how many bytes there are: those that it wrote, or,
-//! where there was no room for them, those that it would write. It starts no thread, reads no file and prints
-//! nothing. What C has to keep to is said in `include/exchange.h`.
+//! Each gives one of the statuses of [`status`], and says how many bytes there are: those that it
+//! wrote, or, where there was no room for them, those that it would write. It starts no thread,
+//! reads no file and prints nothing. What C has to keep to is said in `include/exchange.h`.
 #![tactic(auto)]
 
 ghost use Rattle.std.specs.Prelude.{IfOk, OnErr, None, Some};
@@ -103,8 +103,8 @@ fn answer_switch(alloc: Global, batch: &[u8], schedule: &[u8]) -> Result<Answer,
     answer_switch_schedule(alloc, batch, schedule)
 }
 
-/// What `exchange switch` answers to the text of a batch, and `exchange switch --schedule` to that and to the
-/// text of a schedule that isn't empty.
+/// What `exchange switch` answers to the text of a batch, and `exchange switch --schedule` to that
+/// and to the text of a schedule that isn't empty.
 #[unsafe(no_mangle)]
 pub extern "C" fn exchange_switch(
     alloc: Global,
@@ -135,7 +135,8 @@ pub extern "C" fn exchange_apply(
     leave(answer_apply_alone(alloc, shape, batch, image), out, count)
 }
 
-/// What `exchange draw` answers to the texts of a batch and of a schedule: the picture of all settings.
+/// What `exchange draw` answers to the texts of a batch and of a schedule: the picture of all
+/// settings.
 #[unsafe(no_mangle)]
 pub extern "C" fn exchange_draw(
     alloc: Global,

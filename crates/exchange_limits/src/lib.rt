@@ -1,4 +1,5 @@
-//! The limits of an exchange that many crates name: how many workers there may be, and how many sessions.
+//! The limits of an exchange that many crates name: how many workers there may be, and how many
+//! sessions.
 #![tactic(auto)]
 
 mod limits;

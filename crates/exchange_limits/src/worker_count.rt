@@ -3,7 +3,8 @@ ghost use Rattle.std.specs.Prelude.{◌≡◌, ◌↔◌, ◌≤◌, IsSome, IfS
 use crate::limits::MAX_WORKERS;
 use std::marker::Model;
 
-/// How many workers planning or a run may have: from 1 to [`MAX_WORKERS`], which is this project's choice.
+/// How many workers planning or a run may have: from 1 to [`MAX_WORKERS`], which is this project's
+/// choice.
 #[derive(Clone, Copy, Debug)]
 pub struct WorkerCount {
     count: usize,

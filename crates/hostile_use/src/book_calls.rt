@@ -2,13 +2,14 @@
 
 use crate::marks::{begin, end};
 use crate::met::Met;
-use crate::plants::{Unheard, plain};
+use crate::plants::{NoNotice, plain};
 use crate::rows::{FIRST, ONE_PUSH, ONE_PUSH_SHAPE, OTHER_PUSH, batch, marked, plan};
-use batch_book::{Book, Call, MAX_ENTRIES, Refusal, Reply};
+use batch_book::{Book, BookRefusal, Call, MAX_ENTRIES, Reply};
 use std::alloc::Global;
 use std::thread::Threads;
 
-/// How many entries the history has before the settling that is tried. So many fill the room that it has taken first.
+/// How many entries the history has before the settling that is tried. So many fill the room that
+/// it has taken first.
 const ENTRIES: usize = 4;
 
 /// A call on the book of row book-limits.
@@ -45,7 +46,7 @@ fn make_on<R: AllocGlobal + Eprint + Threads + Sync>(
 }
 
 /// Why a call was refused, if it was.
-fn refusal_of(reply: &Reply) -> Option<Refusal> {
+fn refusal_of(reply: &Reply) -> Option<BookRefusal> {
     match reply {
         Reply::Refused(refusal) => Some(*refusal),
         _ => None,
@@ -53,9 +54,9 @@ fn refusal_of(reply: &Reply) -> Option<Refusal> {
 }
 
 /// One call of session 0, and why it was refused, if it was.
-fn refusal<R: Threads + Sync>(rt: &R, book: &mut Book, call: Call) -> Option<Refusal> {
+fn refusal<R: Threads + Sync>(rt: &R, book: &mut Book, call: Call) -> Option<BookRefusal> {
     let mut plant = plain();
-    let reply = book.apply(rt, 0, call, &mut plant, &mut Unheard);
+    let reply = book.apply(rt, 0, call, &mut plant, &mut NoNotice);
     refusal_of(&reply)
 }
 
@@ -64,7 +65,7 @@ fn refusal_between<R: Eprint + Threads + Sync>(
     rt: &R,
     book: &mut Book,
     call: Call,
-) -> Option<Refusal> {
+) -> Option<BookRefusal> {
     begin(rt);
     let refusal = refusal(rt, book, call);
     end(rt);
@@ -96,7 +97,7 @@ fn is_at(book: &Book, entries: usize) -> bool {
 }
 
 /// Settles the row's batch by the plan of another one, and says why that was refused.
-fn settle<R: AllocGlobal + Threads + Sync>(rt: &R, book: &mut Book) -> Option<Refusal> {
+fn settle<R: AllocGlobal + Threads + Sync>(rt: &R, book: &mut Book) -> Option<BookRefusal> {
     let call = settling(rt, OTHER_PUSH)?;
     refusal(rt, book, call)
 }
@@ -105,7 +106,7 @@ fn settle<R: AllocGlobal + Threads + Sync>(rt: &R, book: &mut Book) -> Option<Re
 fn settle_between<R: AllocGlobal + Eprint + Threads + Sync>(
     rt: &R,
     book: &mut Book,
-) -> Option<Refusal> {
+) -> Option<BookRefusal> {
     let call = settling(rt, OTHER_PUSH)?;
     refusal_between(rt, book, call)
 }
@@ -118,19 +119,19 @@ fn prepare<R: AllocGlobal + Threads + Sync>(rt: &R, book: &mut Book) -> Option<(
     Some(())
 }
 
-/// What was met by the first settling, given what it was refused for. After want of memory the same call, made again, is
-/// refused as the row says.
+/// What was met by the first settling, given what it was refused for. After want of memory the same
+/// call, made again, is refused as the row says.
 fn met_by_settling<R: AllocGlobal + Threads + Sync>(
     rt: &R,
     book: &mut Book,
-    tried: Option<Refusal>,
+    tried: Option<BookRefusal>,
 ) -> Met {
     match tried {
-        Some(Refusal::Stranger) => Met::row_if(is_at(book, ENTRIES + 1)),
-        Some(Refusal::NoMemory) => {
+        Some(BookRefusal::Stranger) => Met::row_if(is_at(book, ENTRIES + 1)),
+        Some(BookRefusal::NoMemory) => {
             let is_left = is_at(book, ENTRIES);
             let again = settle(rt, book);
-            let is_told = again == Some(Refusal::Stranger) && is_at(book, ENTRIES + 1);
+            let is_told = again == Some(BookRefusal::Stranger) && is_at(book, ENTRIES + 1);
             Met::no_memory_if(is_left && is_told)
         }
         _ => Met::Other,
@@ -149,7 +150,7 @@ fn settle_stranger<R: AllocGlobal + Eprint + Threads + Sync>(
 
 /// Whether a call is refused since the history is full.
 fn is_full_for<R: Eprint + Threads + Sync>(rt: &R, book: &mut Book, call: Call) -> bool {
-    refusal_between(rt, book, call) == Some(Refusal::HistoryFull)
+    refusal_between(rt, book, call) == Some(BookRefusal::HistoryFull)
 }
 
 /// Whether a submission is.

@@ -1,5 +1,5 @@
-//! The calls that the program `exchange` doesn't make where it may want memory, those that hand back what they were lent where there is
-//! none, and those that never want any, by their names.
+//! The calls that the program `exchange` doesn't make where it may want memory, those that hand
+//! back what they were lent where there is none, and those that never want any, by their names.
 
 use crate::met::Met;
 use crate::{book_calls, graph_calls, loan_calls, plan_calls, rack_calls};
@@ -16,7 +16,8 @@ pub enum NamedCall {
     OfRack(rack_calls::RackCall),
 }
 
-/// All of them, each with its name, which has no space. Those whose names say that they take none never want any.
+/// All of them, each with its name, which has no space. Those whose names say that they take none
+/// never want any.
 pub const CALLS: [(&str, NamedCall); 16] = [
     ("split", NamedCall::OfGraph(graph_calls::GraphCall::Split)),
     (
@@ -73,7 +74,8 @@ pub const CALLS: [(&str, NamedCall); 16] = [
 ];
 
 impl NamedCall {
-    /// Makes the call, and says what was met. There is nothing to say where there was no memory to prepare it.
+    /// Makes the call, and says what was met. There is nothing to say where there was no memory to
+    /// prepare it.
     pub fn make<R: AllocGlobal + Eprint + Threads + Sync>(self, rt: &R) -> Option<Met> {
         match self {
             NamedCall::OfGraph(call) => graph_calls::make(rt, call),

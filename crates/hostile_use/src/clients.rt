@@ -1,6 +1,7 @@
 //! Sessions side by side on one exchange, and the history that they leave.
 //!
-//! The last reading of each seat and the closing of the exchange take no memory, and stand between marks.
+//! The last reading of each seat and the closing of the exchange take no memory, and stand between
+//! marks.
 
 ghost use Rattle.std.specs.Prelude.{◌≡◌, All, Some};
 ghost use Rattle.client_session.specs.Sessions.{seat_back};
@@ -11,7 +12,7 @@ use crate::marks::{begin, end};
 use crate::plants::plant_of;
 use batch::Shape;
 use batch_book::{Closed, Seat, Shared, Unclosed};
-use client_session::{ServeFault, Unheard, serve};
+use client_session::{NoListener, ServeFault, serve};
 use crossbar::MemoryPort;
 use exchange_limits::WorkerCount;
 use module_memory::Rack;
@@ -103,7 +104,7 @@ fn serve_script<L: Ledger, R: AllocGlobal + Eprint + Threads + Wait + Sync>(
         seat,
         &mut reader,
         &mut lines,
-        &mut Unheard,
+        &mut NoListener,
         workers(),
     );
     let told = Told {
@@ -159,7 +160,8 @@ fn left_by<L: Ledger, R: AllocGlobal + Eprint>(
     closing_text(rt.alloc(), &closing)
 }
 
-/// Puts what all sessions were told, in whatever order they ended, and then the history, behind a text.
+/// Puts what all sessions were told, in whatever order they ended, and then the history, behind a
+/// text.
 fn push_all(text: &mut Vec<u8>, all: &[Told], history: &str) -> Result<(), AllocError> {
     for told in all {
         push_told(text, told)?;
@@ -178,7 +180,8 @@ fn told_text(alloc: Global, all: &[Told], left: &Result<String, AllocError>) -> 
     Some(text)
 }
 
-/// Serves the scripts side by side on a new exchange, each in a thread of its own where it can be had, and closes it.
+/// Serves the scripts side by side on a new exchange, each in a thread of its own where it can be
+/// had, and closes it.
 fn serve_all<L: Ledger + Send + Sync, R: AllocGlobal + Eprint + Threads + Wait + Sync>(
     rt: &R,
     blank: Blank,
@@ -216,7 +219,8 @@ fn read_all<R: AllocGlobal + Files>(rt: &R, files: &[String]) -> io::Result<Vec<
     Ok(scripts)
 }
 
-/// What is told of scripts that are served side by side on an exchange with a rack of zeros of this shape, if they can be served.
+/// What is told of scripts that are served side by side on an exchange with a rack of zeros of this
+/// shape, if they can be served.
 fn served_text<R: AllocGlobal + Eprint + Threads + Wait + Sync>(
     rt: &R,
     shape: &str,
@@ -232,8 +236,8 @@ fn print_text<R: Print>(rt: &R, text: Option<&[u8]>) -> io::Result<()> {
     io::writer(rt).write_all(text.unwrap_or(b"not served\n"))
 }
 
-/// Serves the scripts of 1 to 16 files side by side on an exchange with a rack of zeros, and prints what each session was told and the
-/// history.
+/// Serves the scripts of 1 to 16 files side by side on an exchange with a rack of zeros, and prints
+/// what each session was told and the history.
 pub fn serve_side_by_side<R: AllocGlobal + Eprint + Files + Print + Threads + Wait + Sync>(
     rt: &R,
     shape: &str,

@@ -1,7 +1,7 @@
 //! The text of a history, an entry a line: the session, the call, and behind `->` the reply.
 
 use batch::{Batch, Kind};
-use batch_book::{BatchState, Call, Entry, Refusal, Reply};
+use batch_book::{BatchState, BookRefusal, Call, Entry, Reply};
 use module_memory::MemoryFault;
 use setting_runner::RunRefusal;
 use std::alloc::AllocError;
@@ -43,18 +43,18 @@ fn push_call(text: &mut String, call: &Call) -> Result<(), AllocError> {
 }
 
 /// The words of a refusal.
-fn refusal_words(refusal: Refusal) -> &'static str {
+fn refusal_words(refusal: BookRefusal) -> &'static str {
     match refusal {
-        Refusal::HistoryFull => "history full",
-        Refusal::BookFull => "book full",
-        Refusal::Unknown => "unknown",
-        Refusal::Unplanned => "unplanned",
-        Refusal::Stranger => "stranger",
-        Refusal::Already => "already",
-        Refusal::Memory(MemoryFault::NoModule) => "memory no module",
-        Refusal::Memory(MemoryFault::Misaligned) => "memory misaligned",
-        Refusal::Memory(MemoryFault::Outside) => "memory outside",
-        Refusal::NoMemory => "no memory",
+        BookRefusal::HistoryFull => "history full",
+        BookRefusal::BookFull => "book full",
+        BookRefusal::Unknown => "unknown",
+        BookRefusal::Unplanned => "unplanned",
+        BookRefusal::Stranger => "stranger",
+        BookRefusal::Already => "already",
+        BookRefusal::Memory(MemoryFault::NoModule) => "memory no module",
+        BookRefusal::Memory(MemoryFault::Misaligned) => "memory misaligned",
+        BookRefusal::Memory(MemoryFault::Outside) => "memory outside",
+        BookRefusal::NoMemory => "no memory",
     }
 }
 

@@ -5,7 +5,7 @@ ghost use Rattle.progress_word.specs.declared.limits.TheConstants.{ALL_PARTS};
 
 use crate::marks::{begin, end};
 use crate::met::Met;
-use crate::plants::{Unheard, plain, plant_of};
+use crate::plants::{NoNotice, plain, plant_of};
 use crate::rows::{TWO_PUSHES, TWO_PUSHES_SHAPE, WRITTEN, is_marked, marked, plan};
 use batch_book::{Book, Shared, SharedFault};
 use crossbar::MemoryPort;
@@ -75,7 +75,7 @@ fn run_plan<R: AllocGlobal + Eprint + Threads + Sync>(
 ) -> Met {
     let mut plant = plain();
     begin(rt);
-    let (rack, outcome) = run(rt, rt.alloc(), rack, &mut plant, planned, &mut Unheard);
+    let (rack, outcome) = run(rt, rt.alloc(), rack, &mut plant, planned, &mut NoNotice);
     end(rt);
     match outcome {
         Outcome::Completed {

@@ -1,9 +1,11 @@
-//! One call that the program `exchange` doesn't make, that is handed a rack or that takes no memory, on the worked row that is named for
-//! it: `hostile_use NAME` makes it and says whether its answer is the row's, or want of memory that leaves all as before. Without a name
-//! each call is made once.
+//! One call that the program `exchange` doesn't make, that is handed a rack or that takes no
+//! memory, on the worked row that is named for it: `hostile_use NAME` makes it and says whether its
+//! answer is the row's, or want of memory that leaves all as before. Without a name each call is
+//! made once.
 //!
-//! `tools/hostile` runs it while the growths of that one call are refused in turn. `hostile_use clients SHAPE SCRIPT..` serves the
-//! scripts side by side, and prints what each session was told and the history.
+//! `tools/hostile` runs it while the growths of that one call are refused in turn.
+//! `hostile_use clients SHAPE SCRIPT..` serves the scripts side by side, and prints what each
+//! session was told and the history.
 #![tactic(auto)]
 
 mod book_calls;

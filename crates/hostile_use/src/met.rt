@@ -3,7 +3,8 @@
 pub enum Met {
     /// It answered what the row says, and left what was lent as the row says.
     Row,
-    /// It answered want of memory in its own form, and what was lent or handed back is as before, word for word.
+    /// It answered want of memory in its own form, and what was lent or handed back is as before,
+    /// word for word.
     NoMemory,
     /// It answered something else, or left something else.
     Other,

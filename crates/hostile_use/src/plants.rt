@@ -8,9 +8,9 @@ use setting_runner::{Notice, Plant};
 
 /// A notice that nobody hears.
 #[derive(Drop)]
-pub struct Unheard;
+pub struct NoNotice;
 
-impl Notice for Unheard {
+impl Notice for NoNotice {
     ghost hears = { λ _ _ _. Unit {0} };
 
     fn done(&mut self, _settings: usize) {}

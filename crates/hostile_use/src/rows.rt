@@ -10,8 +10,8 @@ use std::thread::Threads;
 /// Row three-transfers.
 pub const THREE_TRANSFERS: &str = "batch 3\npush 0 0 1 0\npush 0 1 2 0\npush 1 1 2 1\n";
 
-/// The batch of rows first-fit-loses, split-of-four and table-of-four: transfers 0 and 3 have a common link, and so have 3 and 2,
-/// and 2 and 1.
+/// The batch of rows first-fit-loses, split-of-four and table-of-four: transfers 0 and 3 have a
+/// common link, and so have 3 and 2, and 2 and 1.
 pub const FOUR: &str = "batch 4\npush 0 0 0 1\npush 1 0 1 1\npush 1 1 2 0\npush 0 2 2 1\n";
 
 /// Row two-pushes, for the shape [`TWO_PUSHES_SHAPE`].

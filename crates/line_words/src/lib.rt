@@ -1,7 +1,8 @@
 //! The words of a line: numbers in decimal digits and words of 32 bits in hexadecimal ones.
 //!
-//! They are read from the left, each with the rest behind it, and put one behind another into a [`Line`]. Neither
-//! takes memory, so that a reply whose call was made is never lost for want of it.
+//! They are read from the left, each with the rest behind it, and put one behind another into a
+//! [`Line`]. Neither takes memory, so that a reply whose call was made is never lost for want of
+//! it.
 #![tactic(auto)]
 
 mod hex;

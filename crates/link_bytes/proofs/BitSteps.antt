@@ -11,14 +11,14 @@ use Rattle.link_bytes.specs.declared.fault.LinkFault.{LinkFault}
 use Rattle.link_bytes.specs.declared.fault.LinkFault.TheVariants.{Framing}
 use Rattle.link_bytes.specs.declared.reader.Stage.{Stage}
 use Rattle.link_bytes.specs.declared.reader.Stage.TheVariants.{Idle, Started, Data, Failed}
-use Rattle.link_bytes.specs.Line.{low_bits, data_bits, idle, sent, IsRest}
+use Rattle.link_bytes.specs.Line.{low_bits, data_bits, idle, sent, IsPacketFront}
 use Rattle.link_bytes.specs.Reading.{Reading, HasRead, IsPartial, IsFramingFault}
 use Rattle.link_bytes.specs.Stages.{IsStage, Reads, reading_of}
 use Rattle.link_bytes.proofs.DataBits.{data_bits-is, length-data_bits, take-data_bits, low_bits_set, low_bits_clear, bit_or_range}
 use Rattle.link_bytes.proofs.Lines.{Answers, HasRead-more, goes_on, ends_sign}
 
 -- what has come of a packet is the beginning of one
-rest_data : (b count : ℕ) → count ≤ DATA_BITS → b < 2 ^ count → IsRest (true ∷ true ∷ low_bits b count)
+rest_data : (b count : ℕ) → count ≤ DATA_BITS → b < 2 ^ count → IsPacketFront (true ∷ true ∷ low_bits b count)
 rest_data b count h l =
     let below : 2 ^ count ≤ 2 ^ DATA_BITS = pow-le-pow_right {n = 2} (omega arith) h in
     let len = length-data_bits b in

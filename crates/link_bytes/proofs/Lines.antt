@@ -8,7 +8,7 @@ use Rattle.link_bytes.specs.declared.packet.Packet.{Packet}
 use Rattle.link_bytes.specs.declared.packet.Packet.TheVariants.{Byte, Ack}
 use Rattle.link_bytes.specs.declared.fault.LinkFault.{LinkFault}
 use Rattle.link_bytes.specs.declared.fault.LinkFault.TheVariants.{Framing}
-use Rattle.link_bytes.specs.Line.{data_bits, packet_bits, IsPacket, ArePackets, Sign, idle, sent, sign_bits, line_bits, sign_packets, packets_among, IsRest, IsLine}
+use Rattle.link_bytes.specs.Line.{data_bits, packet_bits, IsPacket, ArePackets, Sign, idle, sent, sign_bits, line_bits, sign_packets, packets_among, IsPacketFront, AreLineBits}
 use Rattle.link_bytes.specs.Reading.{Reading, begun, failed, unstopped_bits, IsBrokenLine, HasRead, IsFramingFault, packets_given}
 use Rattle.link_bytes.specs.Stages.{Reads}
 use Rattle.link_bytes.proofs.DataBits.{length-data_bits, data_bits-same}
@@ -53,11 +53,11 @@ unstopped-no_sign b more (sent (Byte c)) x p e =
     cc
 
 -- the packet that a rest begins
-rest_packet : (rest : List Bool) (r : IsRest rest) → sign_bits (sent r.packet) ++ [] ≡ rest ++ drop r.count (packet_bits r.packet)
+rest_packet : (rest : List Bool) (r : IsPacketFront rest) → sign_bits (sent r.packet) ++ [] ≡ rest ++ drop r.count (packet_bits r.packet)
 rest_packet rest r = append-nil (packet_bits r.packet) ∙ sym (take-append-drop r.count (packet_bits r.packet)) ∙ ap (λ bits. bits ++ drop r.count (packet_bits r.packet)) (sym r.first)
 
 -- less than a packet is no sign
-rest-no_sign : (rest : List Bool) → IsRest rest → NoSign rest
+rest-no_sign : (rest : List Bool) → IsPacketFront rest → NoSign rest
 rest-no_sign rest r s x p e =
     let left = drop r.count (packet_bits r.packet) in
     let same = same_sign (sent r.packet) s [] (x ++ left) (r.is_packet, tt) p (rest_packet rest r ∙ ap (λ bits. bits ++ left) e ∙ append_assoc (sign_bits s) x left) in
@@ -66,7 +66,7 @@ rest-no_sign rest r s x p e =
     omega (arith, len, length-append x left, length-drop r.count (packet_bits r.packet))
 
 -- less than a packet doesn't begin as one without its stop bit
-rest-not_unstopped : (rest : List Bool) (b : ℕ) (more : List Bool) → IsRest rest → rest ≡ unstopped_bits b ++ more → ⊥
+rest-not_unstopped : (rest : List Bool) (b : ℕ) (more : List Bool) → IsPacketFront rest → rest ≡ unstopped_bits b ++ more → ⊥
 rest-not_unstopped rest b more r e =
     let left = drop r.count (packet_bits r.packet) in
     unstopped-no_sign b (more ++ left) (sent r.packet) [] (r.is_packet, tt)
@@ -95,7 +95,7 @@ same_signs (s ∷ ss) (t ∷ ts) x y p q n m e =
 
 -- what comes after the last sign
 abbrev Ends : Reading → List Bool → Type 0
-Ends (begun rest) bits = (bits ≡ rest) × IsRest rest
+Ends (begun rest) bits = (bits ≡ rest) × IsPacketFront rest
 Ends failed bits = (b : ℕ) × (more : List Bool) × (bits ≡ unstopped_bits b ++ more)
 
 -- no sign stands there
@@ -133,11 +133,11 @@ one_reading bits packets others reading other h k =
     (a.these ∙ ap packets_among same.0 ∙ sym b.these, same_reading reading other a.left a.ends (subst (Ends other) (sym same.1) b.ends))
 
 -- less than a packet is a line with none
-pub goes_on : (rest : List Bool) → IsRest rest → IsLine rest [] rest
+pub goes_on : (rest : List Bool) → IsPacketFront rest → AreLineBits rest [] rest
 goes_on rest r = record { signs = []; whole = refl; these = refl; are_packets = tt; partial = r }
 
 -- bits that are one sign
-pub ends_sign : (s : Sign) (bits : List Bool) → bits ≡ sign_bits s → ArePackets (sign_packets s) → IsLine bits (sign_packets s) []
+pub ends_sign : (s : Sign) (bits : List Bool) → bits ≡ sign_bits s → ArePackets (sign_packets s) → AreLineBits bits (sign_packets s) []
 ends_sign s bits e p = record { signs = s ∷ []; whole = e ∙ sym (append-nil (sign_bits s)) ∙ sym (append-nil (sign_bits s ++ [])); these = sym (append-nil (sign_packets s)); are_packets = p; partial = record { packet = Ack; is_packet = tt; count = 0; less = omega arith; first = refl } }
 
 -- the answer to a bit, and what is known afterwards
@@ -185,7 +185,7 @@ HasRead-more bits packets failed bit (Err fault) new h a = subst (HasRead (bits 
 })
 
 -- no line goes on from a bit in place of a stop bit
-line-no_fault : (rest : List Bool) (bit : Bool) (more : List Bool) (packets : List Packet) (left : List Bool) → IsFramingFault (begun rest) bit → IsLine (rest ++ bit ∷ more) packets left → ⊥
+line-no_fault : (rest : List Bool) (bit : Bool) (more : List Bool) (packets : List Packet) (left : List Bool) → IsFramingFault (begun rest) bit → AreLineBits (rest ++ bit ∷ more) packets left → ⊥
 line-no_fault rest bit more packets left b l =
     let broken : IsBrokenLine (rest ++ bit ∷ more) [] = record {
       signs = [];
@@ -215,7 +215,7 @@ given_is (Some q) left old bit (Ok (Some packet)) new a p n = cc
 given_is given left old bit (Err fault) new a p n = let e = a.2 in absurd cc
 
 -- the answer to a bit is the one way in which the bits are a line
-pub answer_is : (rest : List Bool) (bit : Bool) (result : Result (Option Packet) LinkFault) (new : Reading) (left : List Bool) (given : Option Packet) → IsRest rest → Answers (begun rest) bit result new → IsLine (rest ++ bit ∷ []) (option_to_list given) left ↔ ((result ≡ Ok given) × (new ≡ begun left))
+pub answer_is : (rest : List Bool) (bit : Bool) (result : Result (Option Packet) LinkFault) (new : Reading) (left : List Bool) (given : Option Packet) → IsPacketFront rest → Answers (begun rest) bit result new → AreLineBits (rest ++ bit ∷ []) (option_to_list given) left ↔ ((result ≡ Ok given) × (new ≡ begun left))
 answer_is rest bit result new left given r a = (
   λ l.
       let same = one_reading (rest ++ bit ∷ []) (packets_given result) (option_to_list given) new (begun left) (HasRead-more rest [] (begun rest) bit result new (goes_on rest r) a) l in
@@ -224,7 +224,7 @@ answer_is rest bit result new left given r a = (
 )
 
 -- bits with which a line goes on are taken
-pub taken : (rest : List Bool) (bit : Bool) (more left : List Bool) (signs : List Sign) (result : Result (Option Packet) LinkFault) (new : Reading) → Answers (begun rest) bit result new → ArePackets (packets_among signs) → IsRest left → rest ++ bit ∷ more ≡ line_bits signs ++ left → IsOk result
+pub taken : (rest : List Bool) (bit : Bool) (more left : List Bool) (signs : List Sign) (result : Result (Option Packet) LinkFault) (new : Reading) → Answers (begun rest) bit result new → ArePackets (packets_among signs) → IsPacketFront left → rest ++ bit ∷ more ≡ line_bits signs ++ left → IsOk result
 taken rest bit more left signs (Ok given) new a p r e = refl
 taken rest bit more left signs (Err fault) new a p r e = absurd (line-no_fault rest bit more (packets_among signs) left a.1 (record { signs = signs; whole = e; these = refl; are_packets = p; partial = r }))
 

@@ -56,7 +56,7 @@ abbrev pub packets_among : List Sign → List Packet
 packets_among signs = flat_map sign_packets signs
 
 -- less than a whole packet: the first bits of one, and not all of them
-pub record IsRest (rest : List Bool) : Type 0 where
+pub record IsPacketFront (rest : List Bool) : Type 0 where
   pub packet : Packet
   pub is_packet : IsPacket packet
   pub count : ℕ
@@ -64,9 +64,9 @@ pub record IsRest (rest : List Bool) : Type 0 where
   pub first : rest ≡ take count (packet_bits packet)
 
 -- the bits are a line with these packets, and then less than a whole packet
-pub record IsLine (bits : List Bool) (packets : List Packet) (rest : List Bool) : Type 0 where
+pub record AreLineBits (bits : List Bool) (packets : List Packet) (rest : List Bool) : Type 0 where
   pub signs : List Sign
   pub whole : bits ≡ line_bits signs ++ rest
   pub these : packets ≡ packets_among signs
   pub are_packets : ArePackets packets
-  pub partial : IsRest rest
+  pub partial : IsPacketFront rest

@@ -6,7 +6,7 @@ use Rattle.link_bytes.specs.declared.packet.TheConstants.{DATA_BITS}
 use Rattle.link_bytes.specs.declared.packet.Packet.{Packet}
 use Rattle.link_bytes.specs.declared.fault.LinkFault.{LinkFault}
 use Rattle.link_bytes.specs.declared.fault.LinkFault.TheVariants.{Framing}
-use Rattle.link_bytes.specs.Line.{packet_bits, data_bits, Sign, line_bits, packets_among, ArePackets, IsRest, IsLine}
+use Rattle.link_bytes.specs.Line.{packet_bits, data_bits, Sign, line_bits, packets_among, ArePackets, IsPacketFront, AreLineBits}
 
 -- what is known of a line: the bits of the packet that isn't whole yet, or that a packet had no
 -- stop bit
@@ -31,12 +31,12 @@ pub record IsBrokenLine (bits : List Bool) (packets : List Packet) : Type 0 wher
 
 -- these bits have given these packets, and this is known of what came after them
 abbrev pub HasRead : List Bool → List Packet → Reading → Type 0
-HasRead bits packets (begun rest) = IsLine bits packets rest
+HasRead bits packets (begun rest) = AreLineBits bits packets rest
 HasRead bits packets failed = IsBrokenLine bits packets
 
 -- what isn't whole yet is less than a packet
 abbrev pub IsPartial : Reading → Type 0
-IsPartial (begun rest) = IsRest rest
+IsPartial (begun rest) = IsPacketFront rest
 IsPartial failed = Unit {0}
 
 -- the bit stands high in place of a stop bit, or an earlier one did

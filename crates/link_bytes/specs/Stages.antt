@@ -5,7 +5,7 @@ use Rattle.link_bytes.specs.declared.packet.Packet.{Packet}
 use Rattle.link_bytes.specs.declared.packet.TheConstants.{DATA_BITS}
 use Rattle.link_bytes.specs.declared.reader.Stage.{Stage}
 use Rattle.link_bytes.specs.declared.reader.Stage.TheVariants.{Idle, Started, Data, Failed}
-use Rattle.link_bytes.specs.Line.{low_bits, IsLine}
+use Rattle.link_bytes.specs.Line.{low_bits, AreLineBits}
 use Rattle.link_bytes.specs.Reading.{Reading, begun, failed}
 
 -- the bits of a packet that has come so far
@@ -25,7 +25,8 @@ IsStage Failed = Unit {0}
 -- what had come of a packet and the bit are a line with the packet that is given, if one is, and
 -- then what has come now
 abbrev pub Reads : Reading → Bool → Option Packet → Reading → Type 0
-Reads (begun rest) bit given (begun left) = IsLine (rest ++ bit ∷ []) (option_to_list given) left
+Reads (begun rest) bit given (begun left) =
+    AreLineBits (rest ++ bit ∷ []) (option_to_list given) left
 Reads (begun rest) bit given failed = ⊥
 Reads failed bit given new = ⊥
 

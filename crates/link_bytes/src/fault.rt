@@ -2,8 +2,8 @@
 
 use thiserror::Error;
 
-/// Why a bit, a byte to be sent or a packet isn't taken. The rules that it breaks are those of the IMS T414
-/// data sheet, link protocol; that each is refused is this project's choice.
+/// Why a bit, a byte to be sent or a packet isn't taken. The rules that it breaks are those of the
+/// IMS T414 data sheet, link protocol; that each is refused is this project's choice.
 #[derive(Clone, Copy, Debug, PartialEq, Eq, Error)]
 pub enum LinkFault {
     /// The bit after the eight data bits of a packet was high, where a low stop bit belongs.

@@ -10,9 +10,9 @@ use crate::fault::LinkFault;
 use crate::packet::{FRAME_BITS, Packet, frame};
 use std::marker::Model;
 
-/// One end of a link: it sends a byte once the one before is acknowledged, and takes what comes from the
-/// other end (IMS T414 data sheet, link protocol). Contracts see how many bytes are sent and not
-/// acknowledged yet, at most 1.
+/// One end of a link: it sends a byte once the one before is acknowledged, and takes what comes
+/// from the other end (IMS T414 data sheet, link protocol). Contracts see how many bytes are sent
+/// and not acknowledged yet, at most 1.
 #[derive(Debug, Drop)]
 pub struct HalfLink {
     waits: bool,
@@ -49,8 +49,8 @@ impl HalfLink {
         Ok(frame(b))
     }
 
-    /// Takes a packet that came: a byte is handed on, an acknowledge ends the wait. `StrayAck` where no
-    /// byte waits for the acknowledge, and nothing is changed.
+    /// Takes a packet that came: a byte is handed on, an acknowledge ends the wait. `StrayAck`
+    /// where no byte waits for the acknowledge, and nothing is changed.
     pub fn take(&mut self, packet: Packet) -> Result<Option<u8>, LinkFault>
         ensures at_most_one { self.old ≤ 1 }
         ensures byte { (b : ℕ) → packet ≡ Byte b → HandsOn b result self.old self.new }

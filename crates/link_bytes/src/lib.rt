@@ -1,5 +1,5 @@
-//! The bits of an INMOS link (IMS T414 data sheet): data packets and acknowledges, read bit by bit, and the
-//! wait of the sender for each acknowledge.
+//! The bits of an INMOS link (IMS T414 data sheet): data packets and acknowledges, read bit by bit,
+//! and the wait of the sender for each acknowledge.
 #![tactic(auto)]
 
 mod fault;

@@ -8,8 +8,8 @@ ghost use Rattle.link_bytes.specs.declared.packet.Packet.TheVariants.{Byte};
 /// How many data bits a data packet has: those of a byte (IMS T414 data sheet, link protocol).
 pub const DATA_BITS: usize = 8;
 
-/// How many bits a data packet has: a start bit, a one bit, the data bits and a stop bit (IMS T414 data
-/// sheet, link protocol).
+/// How many bits a data packet has: a start bit, a one bit, the data bits and a stop bit (IMS T414
+/// data sheet, link protocol).
 pub const FRAME_BITS: usize = 11;
 
 /// What travels on a link: a byte one way, and its acknowledge the other way (IMS T414 data sheet).
@@ -21,12 +21,13 @@ pub enum Packet {
     Ack,
 }
 
-/// The bits of an acknowledge, the first one first: a high start bit and a low stop bit (IMS T414 data
-/// sheet, link protocol).
+/// The bits of an acknowledge, the first one first: a high start bit and a low stop bit (IMS T414
+/// data sheet, link protocol).
 pub const ACK: [bool; 2] = [true, false];
 
-/// The bits of a byte's data packet, the first one first: a high start bit, a one bit, the eight data
-/// bits with the least significant first, and a low stop bit (IMS T414 data sheet, link protocol).
+/// The bits of a byte's data packet, the first one first: a high start bit, a one bit, the eight
+/// data bits with the least significant first, and a low stop bit (IMS T414 data sheet, link
+/// protocol).
 #[tactic(auto, unfolding(crate::specs::Line::data_bits))]
 pub fn frame(b: u8) -> [bool; FRAME_BITS]
     ensures { result ≡ packet_bits (Byte b) }

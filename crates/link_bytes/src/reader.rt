@@ -3,7 +3,7 @@
 ghost use Rattle.std.specs.Prelude.{◌≡◌, ◌≢◌, ◌<◌, ◌^◌, ◌+◌, ◌↔◌, ◌++◌, ◌∷◌, [], List, Bool, Option, IsOk, IsErr, IfOk, IfErr, OnOk, OnErr};
 ghost use Rattle.std.specs.Option.{option_to_list};
 ghost use Rattle.link_bytes.specs.declared.packet.Packet.{Packet};
-ghost use Rattle.link_bytes.specs.Line.{ArePackets, IsLine, IsRest, Sign, line_bits, low_bits, packets_among};
+ghost use Rattle.link_bytes.specs.Line.{ArePackets, AreLineBits, IsPacketFront, Sign, line_bits, low_bits, packets_among};
 ghost use Rattle.link_bytes.specs.Reading.{begun, failed, HasRead, IsPartial, IsFramingFault, EndsReading, packets_given};
 ghost use Rattle.link_bytes.specs.Stages.{IsStage, Becomes, reading_of};
 
@@ -24,8 +24,9 @@ enum Stage {
     Failed,
 }
 
-/// Reads the bits of a line one by one, and answers each packet at its last bit (IMS T414 data sheet, link
-/// protocol). Contracts see the bits of the packet that isn't whole yet, or that the reader has failed.
+/// Reads the bits of a line one by one, and answers each packet at its last bit (IMS T414 data
+/// sheet, link protocol). Contracts see the bits of the packet that isn't whole yet, or that the
+/// reader has failed.
 #[derive(Debug, Drop)]
 pub struct BitReader {
     stage: Stage,
@@ -53,21 +54,22 @@ impl BitReader {
 
     /// Takes the next bit and answers the packet that ends with it, if one does.
     ///
-    /// The one fault is `Framing`: the bit after the eight data bits is high. From then on every bit is
-    /// answered with it, which is this project's choice.
+    /// The one fault is `Framing`: the bit after the eight data bits is high. From then on every
+    /// bit is answered with it, which is this project's choice.
     pub fn feed(&mut self, bit: bool) -> Result<Option<Packet>, LinkFault>
         // Whatever bits came before, the packets given are those of all the bits, and no others.
         ensures text { (bits : List Bool) (packets : List Packet) → HasRead bits packets self.old
             → HasRead (bits ++ bit ∷ []) (packets ++ packets_given result) self.new }
-        // What had come of a packet and the bit are a line in at most one way, and that is the answer.
+        // What had come of a packet and the bit are a line in at most one way, and that is the
+        // answer.
         ensures step { (rest left : List Bool) (given : Option Packet) → self.old ≡ begun rest
-            → (IsLine (rest ++ bit ∷ []) (option_to_list given) left
+            → (AreLineBits (rest ++ bit ∷ []) (option_to_list given) left
             ↔ ((result ≡ Ok given) × (self.new ≡ begun left))) }
         // What isn't whole is less than a packet.
         ensures partial { IsPartial self.old × IsPartial self.new }
         // Bits with which the line can go on are taken.
         ensures only { (rest more left : List Bool) (signs : List Sign) → self.old ≡ begun rest
-            → ArePackets (packets_among signs) → IsRest left
+            → ArePackets (packets_among signs) → IsPacketFront left
             → rest ++ bit ∷ more ≡ line_bits signs ++ left → IsOk result }
         ensures fault { IsErr result ↔ IsFramingFault self.old bit }
         ensures framing { IfErr result (λ fault. EndsReading fault self.new) }

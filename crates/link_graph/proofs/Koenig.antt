@@ -1,4 +1,5 @@
--- The easy half of König's theorem. Each setting holds at most one of the transfers that use a link, so a schedule has at least as many settings as these.
+-- The easy half of König's theorem. Each setting holds at most one of the transfers that use a
+-- link, so a schedule has at least as many settings as these.
 use Rattle.std.proofs.Common.{◌≡◌, ◌≢◌, ℕ, ◌≤◌, List, [], ◌∷◌, length, Option, Some, None, refl, sym, subst, ◌∙◌, arith, inl, inr, ◌⊎◌}
 use Rattle.std.specs.Prelude.{sum_by, count_by, AllPairs, All, ◌==◌}
 use Rattle.std.specs.List.{AllByRecursion}

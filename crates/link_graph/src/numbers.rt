@@ -75,8 +75,8 @@ fn push_long(text: &mut Vec<u8>, n: usize) -> Result<(), AllocError>
     text.extend_from_slice(&[digit(n % 10)])
 }
 
-/// Puts a number at the end of a text, behind a space. Most of writing a plan is done here, so it is
-/// inlined, and only a number of five digits or more takes a call.
+/// Puts a number at the end of a text, behind a space. Most of writing a plan is done here, so it
+/// is inlined, and only a number of five digits or more takes a call.
 #[inline(always)]
 pub(crate) fn push_number(text: &mut Vec<u8>, n: usize) -> Result<(), AllocError>
     ensures { OnOk result (text.new.items ≡ text.old.items ++ spaced n) }

@@ -35,7 +35,8 @@ pub(crate) fn settings_text(alloc: Global, settings: &[Vec<usize>]) -> Result<Ve
 {
     let count = settings.len();
     let mut text = format!(in alloc; "settings {count}\n")?.into_bytes();
-    // The compiler sees that a copy on the stack doesn't lie within the text, and copies it without looking.
+    // The compiler sees that a copy on the stack doesn't lie within the text, and copies it without
+    // looking.
     let word = *b"setting";
     for setting in settings {
         push_line(&mut text, &word, setting)?;

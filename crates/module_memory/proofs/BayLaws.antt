@@ -9,7 +9,7 @@ use Rattle.batch.specs.Places.{HasPlace, place_index}
 use Rattle.batch.specs.Overlap.{source_at, destination_at}
 use Rattle.module_memory.specs.Store.{Store, block_of, set_block}
 use Rattle.module_memory.specs.Core.{IsMovedFrom}
-use Rattle.module_memory.specs.Lending.{BlockAt, place_in, bay_in, places_of, AreLendable, joined}
+use Rattle.module_memory.specs.Lending.{BlockAt, place_in, bay_in, places_of, AreLendable, store_rejoined}
 use Rattle.module_memory.specs.Bays.{AreLent, AreFound, AreSamePlaces}
 use Rattle.module_memory.specs.Laws.{BaysHoldTheCounts, BaysStayLent, BaysStayWhole, BaysAreWide, LentBlockIsGone, LentBlockIsItsBay, OtherBlockIsTheRest, SetIsOneWord}
 use Rattle.batch.specs.Extent.{IsShape}
@@ -18,11 +18,11 @@ use Rattle.module_memory.proofs.Blocks.{block_at, block_length}
 use Rattle.batch.proofs.Places.{place_index_below, same_place_from_index}
 use Rattle.module_memory.proofs.PartLaws.{IsOnce, IsOff, IsOnce-from_lendable, block_of-without_lent, block_of-joined_off, block_of-joined_bay, joined-set_word}
 
-pub shape-joined : (s : Store) (bays : List BlockAt) → (joined s bays).shape ≡ s.shape
+pub shape-joined : (s : Store) (bays : List BlockAt) → (store_rejoined s bays).shape ≡ s.shape
 shape-joined s [] = refl
 shape-joined s (b ∷ bays) = shape-joined (set_block s b.place b.words) bays
 
-pub length-joined : (s : Store) (bays : List BlockAt) → length (joined s bays).blocks ≡ length s.blocks
+pub length-joined : (s : Store) (bays : List BlockAt) → length (store_rejoined s bays).blocks ≡ length s.blocks
 length-joined s [] = refl
 length-joined s (b ∷ bays) = length-joined (set_block s b.place b.words) bays ∙ length-set s.blocks _ _
 
@@ -64,16 +64,16 @@ places_same bays new e h =
     get_or-map (λ (b : BlockAt). b.place) new k _ d (omega arith) ∙ h k below ∙ sym (get_or-map (λ (b : BlockAt). b.place) bays k _ d below))
 
 -- the block of a bay, in the store of the rest and the bays
-at_bay : (rest : Store) (bays : List BlockAt) (k : ℕ) → IsOnce rest.shape (places_of bays) → length rest.blocks ≡ rest.shape.modules * rest.shape.blocks → k < length bays → HasPlace rest.shape (bay_in bays k).place → block_of (joined rest bays) (bay_in bays k).place ≡ (bay_in bays k).words
+at_bay : (rest : Store) (bays : List BlockAt) (k : ℕ) → IsOnce rest.shape (places_of bays) → length rest.blocks ≡ rest.shape.modules * rest.shape.blocks → k < length bays → HasPlace rest.shape (bay_in bays k).place → block_of (store_rejoined rest bays) (bay_in bays k).place ≡ (bay_in bays k).words
 at_bay rest bays k once all l hp = block_of-joined_bay rest bays k once l (omega (arith, place_index_below rest.shape (bay_in bays k).place hp))
 
 -- a block that is no destination of the setting
-other_block : (find : Place → List ℕ) (opening rest : Store) (bays new : List BlockAt) (first : ℕ) (ts : List Transfer) (moved : ℕ → ℕ) → Moves find opening rest bays new first ts moved → (p : Place) → HasPlace (joined rest bays).shape p → ((i : ℕ) → i < length ts → destination_at ts i ≢ p)
+other_block : (find : Place → List ℕ) (opening rest : Store) (bays new : List BlockAt) (first : ℕ) (ts : List Transfer) (moved : ℕ → ℕ) → Moves find opening rest bays new first ts moved → (p : Place) → HasPlace (store_rejoined rest bays).shape p → ((i : ℕ) → i < length ts → destination_at ts i ≢ p)
     → ((k : ℕ) × (k < length bays) × (place_index rest.shape (bay_in bays k).place ≡ place_index rest.shape p)) ⊎ IsOff rest.shape (places_of bays) p
-    → ((k : ℕ) → k < length bays → block_of (joined rest bays) (bay_in bays k).place ≡ (bay_in bays k).words)
-    → ((k : ℕ) → k < length bays → block_of (joined rest new) (bay_in bays k).place ≡ (bay_in new k).words)
+    → ((k : ℕ) → k < length bays → block_of (store_rejoined rest bays) (bay_in bays k).place ≡ (bay_in bays k).words)
+    → ((k : ℕ) → k < length bays → block_of (store_rejoined rest new) (bay_in bays k).place ≡ (bay_in new k).words)
     → places_of new ≡ places_of bays
-    → block_of (joined rest new) p ≡ block_of (joined rest bays) p
+    → block_of (store_rejoined rest new) p ≡ block_of (store_rejoined rest bays) p
 other_block find opening rest bays new first ts moved h p hp none (inr off) old_bay new_bay places =
     block_of-joined_off rest new p (subst (λ (ps : List Place). IsOff rest.shape ps p) (sym places) off) ∙ sym (block_of-joined_off rest bays p off)
 other_block find opening rest bays new first ts moved h p hp none (inl f) old_bay new_bay places =
@@ -86,14 +86,14 @@ other_block find opening rest bays new first ts moved h p hp none (inl f) old_ba
         | inr m ↦ inr m
       ]
     ] in
-    subst (λ (q : Place). block_of (joined rest new) q ≡ block_of (joined rest bays) q) at (new_bay k f.1 ∙ h.others k f.1 out ∙ sym (old_bay k f.1))
+    subst (λ (q : Place). block_of (store_rejoined rest new) q ≡ block_of (store_rejoined rest bays) q) at (new_bay k f.1 ∙ h.others k f.1 out ∙ sym (old_bay k f.1))
 
-setting_moved : (find : Place → List ℕ) (opening rest : Store) (bays new : List BlockAt) (first : ℕ) (ts : List Transfer) (moved : ℕ → ℕ) → Moves find opening rest bays new first ts moved → IsMovedFrom opening (joined rest bays) ts moved (joined rest new)
+setting_moved : (find : Place → List ℕ) (opening rest : Store) (bays new : List BlockAt) (first : ℕ) (ts : List Transfer) (moved : ℕ → ℕ) → Moves find opening rest bays new first ts moved → IsMovedFrom opening (store_rejoined rest bays) ts moved (store_rejoined rest new)
 setting_moved find opening rest bays new first ts moved h =
     let places = places_same bays new h.same_length h.same_places in
     let once_new : IsOnce rest.shape (places_of new) = subst (IsOnce rest.shape) (sym places) h.once in
     let old_bay = λ (k : ℕ) (l : k < length bays). at_bay rest bays k h.once h.all_blocks l (h.exist k l) in
-    let new_bay = λ (k : ℕ) (l : k < length bays). ap (block_of (joined rest new)) (sym (h.same_places k l)) ∙ at_bay rest new k once_new h.all_blocks (omega (arith, h.same_length)) (subst (HasPlace rest.shape) (sym (h.same_places k l)) (h.exist k l)) in
+    let new_bay = λ (k : ℕ) (l : k < length bays). ap (block_of (store_rejoined rest new)) (sym (h.same_places k l)) ∙ at_bay rest new k once_new h.all_blocks (omega (arith, h.same_length)) (subst (HasPlace rest.shape) (sym (h.same_places k l)) (h.exist k l)) in
     record {
       same_shape = shape-joined rest new ∙ sym (shape-joined rest bays);
       same_length = length-joined rest new ∙ sym (length-joined rest bays);
@@ -102,8 +102,8 @@ setting_moved find opening rest bays new first ts moved h =
           let below : k < length bays = omega (arith, h.within) in
           let d = h.destinations i l in
           let src = h.found i l in
-          ap (block_of (joined rest new)) d ∙ new_bay k below ∙ h.filled i l
-          ∙ ap₂ (λ (x y : List ℕ). take (moved i) x ++ drop (moved i) y) src (sym (old_bay k below) ∙ ap (block_of (joined rest bays)) (sym d));
+          ap (block_of (store_rejoined rest new)) d ∙ new_bay k below ∙ h.filled i l
+          ∙ ap₂ (λ (x y : List ℕ). take (moved i) x ++ drop (moved i) y) src (sym (old_bay k below) ∙ ap (block_of (store_rejoined rest bays)) (sym d));
       others = λ p hp none. other_block find opening rest bays new first ts moved h p hp none (find_bay rest.shape bays p) old_bay new_bay places;
     }
 
@@ -172,15 +172,15 @@ stay_lent rest old new first ts h s = record {
 }
 
 -- the words of a block, in a store of bays and in another
-same_width : (rest : Store) (old new : List BlockAt) → AreLent rest old → AreSamePlaces old new → ((k : ℕ) → k < length old → length (bay_in new k).words ≡ length (bay_in old k).words) → (p : Place) → HasPlace rest.shape p → length (block_of (joined rest new) p) ≡ length (block_of (joined rest old) p)
+same_width : (rest : Store) (old new : List BlockAt) → AreLent rest old → AreSamePlaces old new → ((k : ℕ) → k < length old → length (bay_in new k).words ≡ length (bay_in old k).words) → (p : Place) → HasPlace rest.shape p → length (block_of (store_rejoined rest new) p) ≡ length (block_of (store_rejoined rest old) p)
 same_width rest old new h s w p hp =
     let places = places_same old new s.same_length s.same_places in
     elim (find_bay rest.shape old p) [
       | inl f ↦
           let k = f.0 in
           let at : (bay_in old k).place ≡ p = same_place_from_index rest.shape (bay_in old k).place p (exist_of rest old h k f.1) hp f.2 in
-          let before : block_of (joined rest old) p ≡ (bay_in old k).words = ap (block_of (joined rest old)) (sym at) ∙ lent_block rest old k h f.1 in
-          let after : block_of (joined rest new) p ≡ (bay_in new k).words = ap (block_of (joined rest new)) (sym at ∙ sym (s.same_places k f.1)) ∙ lent_block rest new k (lent_still rest old new h s) (omega (arith, f.1, s.same_length)) in
+          let before : block_of (store_rejoined rest old) p ≡ (bay_in old k).words = ap (block_of (store_rejoined rest old)) (sym at) ∙ lent_block rest old k h f.1 in
+          let after : block_of (store_rejoined rest new) p ≡ (bay_in new k).words = ap (block_of (store_rejoined rest new)) (sym at ∙ sym (s.same_places k f.1)) ∙ lent_block rest new k (lent_still rest old new h s) (omega (arith, f.1, s.same_length)) in
           ap (λ (x : List ℕ). length x) after ∙ w k f.1 ∙ ap (λ (x : List ℕ). length x) (sym before)
       | inr off ↦ ap (λ (x : List ℕ). length x) (block_of-joined_off rest new p (subst (λ (ps : List Place). IsOff rest.shape ps p) (sym places) off) ∙ sym (block_of-joined_off rest old p off))
     ]
@@ -199,9 +199,9 @@ stay_whole rest old new h s w r = record {
         let p = place_at rest.shape k in
         let hp : HasPlace rest.shape p = HasPlace-place_at rest.shape k (subst IsShape (shape-joined rest old) r.whole.within) below in
         let at = place_index-place_at rest.shape k in
-        ap (λ (x : List ℕ). length x) (sym (block_at (joined rest new) rest.shape p k (shape-joined rest new) at))
+        ap (λ (x : List ℕ). length x) (sym (block_at (store_rejoined rest new) rest.shape p k (shape-joined rest new) at))
         ∙ same_width rest old new h s w p hp
-        ∙ ap (λ (x : List ℕ). length x) (block_at (joined rest old) rest.shape p k (shape-joined rest old) at)
+        ∙ ap (λ (x : List ℕ). length x) (block_at (store_rejoined rest old) rest.shape p k (shape-joined rest old) at)
         ∙ r.whole.all_words k (omega (arith, length-joined rest old, length-joined rest new))
         ∙ ap (λ (x : Extent). x.words) (shape-joined rest old ∙ sym (shape-joined rest new));
   };
@@ -212,7 +212,7 @@ bays_are_wide rest bays first ts i h r l =
     let k = first + i in
     let below : k < length bays = omega (arith, h.within) in
     let q = (bay_in bays k).place in
-    let whole = joined rest bays in
+    let whole = store_rejoined rest bays in
     let wide = λ (x : Place) (hp : HasPlace rest.shape x).
     block_length whole x r.whole (subst (λ (e : Extent). HasPlace e x) (sym (shape-joined rest bays)) hp) ∙ ap (λ (e : Extent). e.words) (shape-joined rest bays) in
     ap (λ (x : List ℕ). length x) (sym (lent_block rest bays k h.lent below)) ∙ wide q (exist_of rest bays h.lent k below)

@@ -19,8 +19,8 @@ use Rattle.module_memory.proofs.Blocks.{same_or_not, block_of-set_same, block_of
 abbrev pub IsOldElsewhere : Store → List Transfer → Store → Type 0
 IsOldElsewhere old ts now = (p : Place) → HasPlace old.shape p → IsUnwritten ts p → block_of now p ≡ block_of old p
 
--- the premises, of the setting's transfers alone: where transfers find their words by this rule, each finds what its source had in the
--- opening store
+-- the premises, of the setting's transfers alone: where transfers find their words by this rule,
+-- each finds what its source had in the opening store
 pub record Premises (find : Store → Place → List ℕ) (opening old : Store) (ts : List Transfer) : Type 0 where
   pub whole : IsWhole old
   pub places : FitsIn old.shape ts

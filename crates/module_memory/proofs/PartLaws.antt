@@ -5,7 +5,7 @@ use Rattle.batch.specs.Extent.{Extent}
 use Rattle.batch.specs.declared.transfer.Place.{Place}
 use Rattle.batch.specs.Places.{HasPlace, place_index}
 use Rattle.module_memory.specs.Store.{Store, IsWhole, block_of, set_block, set_word}
-use Rattle.module_memory.specs.Lending.{BlockAt, place_in, bay_in, places_of, AreLendable, bays_of, without, joined, Rejoins}
+use Rattle.module_memory.specs.Lending.{BlockAt, place_in, bay_in, places_of, AreLendable, bays_of, without, store_rejoined, Rejoins}
 use Rattle.batch.proofs.Places.{same_place_from_index}
 use Rattle.module_memory.specs.Bays.{AreLent}
 use Rattle.module_memory.proofs.Blocks.{store_from_parts}
@@ -68,10 +68,10 @@ set_block-without s (q ∷ ps) p x h =
     ∙ ap (λ (t : Store). without t ps) (set_block_comm s p q x [] (h 0 (omega arith)))
 
 -- the words of these places, put back where they stood
-joined_back : (s t : Store) (ps : List Place) → IsOnce t.shape ps → ((k : ℕ) → k < length ps → block_of s (place_in ps k) ≡ block_of t (place_in ps k)) → joined (without t ps) (bays_of s ps) ≡ t
+joined_back : (s t : Store) (ps : List Place) → IsOnce t.shape ps → ((k : ℕ) → k < length ps → block_of s (place_in ps k) ≡ block_of t (place_in ps k)) → store_rejoined (without t ps) (bays_of s ps) ≡ t
 joined_back s t [] once same = refl
 joined_back s t (p ∷ ps) once same =
-    ap (λ (r : Store). joined r (bays_of s ps))
+    ap (λ (r : Store). store_rejoined r (bays_of s ps))
     (set_block-without (set_block t p []) ps p (block_of s p) once.0
     ∙ ap (λ (r : Store). without r ps) (store_from_parts (set_block (set_block t p []) p (block_of s p)) t refl
     (set-set t.blocks (place_index t.shape p) [] (block_of s p)
@@ -80,7 +80,7 @@ joined_back s t (p ∷ ps) once same =
     ∙ joined_back s t ps once.1 (λ k l. same (suc k) (omega arith))
 
 -- what was parted, joined again
-pub joined-without : (s : Store) (ps : List Place) → AreLendable s.shape ps → joined (without s ps) (bays_of s ps) ≡ s
+pub joined-without : (s : Store) (ps : List Place) → AreLendable s.shape ps → store_rejoined (without s ps) (bays_of s ps) ≡ s
 joined-without s ps h = joined_back s s ps (IsOnce-from_lendable s.shape ps h) (λ k l. refl)
 
 -- one more place is lent
@@ -104,21 +104,21 @@ Rejoins-parted s ps w h = record {
 }
 
 -- a write off all bays
-pub set_block-joined : (s : Store) (bays : List BlockAt) (p : Place) (x : List ℕ) → IsOff s.shape (places_of bays) p → joined (set_block s p x) bays ≡ set_block (joined s bays) p x
+pub set_block-joined : (s : Store) (bays : List BlockAt) (p : Place) (x : List ℕ) → IsOff s.shape (places_of bays) p → store_rejoined (set_block s p x) bays ≡ set_block (store_rejoined s bays) p x
 set_block-joined s [] p x h = refl
 set_block-joined s (b ∷ bays) p x h =
-    ap (λ (t : Store). joined t bays) (sym (set_block_comm s p b.place x b.words (h 0 (omega arith))))
+    ap (λ (t : Store). store_rejoined t bays) (sym (set_block_comm s p b.place x b.words (h 0 (omega arith))))
     ∙ set_block-joined (set_block s b.place b.words) bays p x (IsOff-tail s.shape b.place (places_of bays) p h)
 
 -- a block off all bays is the rest's
-pub block_of-joined_off : (s : Store) (bays : List BlockAt) (p : Place) → IsOff s.shape (places_of bays) p → block_of (joined s bays) p ≡ block_of s p
+pub block_of-joined_off : (s : Store) (bays : List BlockAt) (p : Place) → IsOff s.shape (places_of bays) p → block_of (store_rejoined s bays) p ≡ block_of s p
 block_of-joined_off s [] p h = refl
 block_of-joined_off s (b ∷ bays) p h =
     block_of-joined_off (set_block s b.place b.words) bays p (IsOff-tail s.shape b.place (places_of bays) p h)
     ∙ get_or-set_other s.blocks (place_index s.shape b.place) (place_index s.shape p) b.words [] (λ e. h 0 (omega arith) (sym e))
 
 -- a bay's words stand at its place
-pub block_of-joined_bay : (s : Store) (bays : List BlockAt) (k : ℕ) → IsOnce s.shape (places_of bays) → k < length bays → place_index s.shape (bay_in bays k).place < length s.blocks → block_of (joined s bays) (bay_in bays k).place ≡ (bay_in bays k).words
+pub block_of-joined_bay : (s : Store) (bays : List BlockAt) (k : ℕ) → IsOnce s.shape (places_of bays) → k < length bays → place_index s.shape (bay_in bays k).place < length s.blocks → block_of (store_rejoined s bays) (bay_in bays k).place ≡ (bay_in bays k).words
 block_of-joined_bay s [] k once l room = absurd (omega arith)
 block_of-joined_bay s (b ∷ bays) zero once l room =
     block_of-joined_off (set_block s b.place b.words) bays b.place once.0
@@ -127,18 +127,18 @@ block_of-joined_bay s (b ∷ bays) (suc k) once l room =
     block_of-joined_bay (set_block s b.place b.words) bays k once.1 (omega arith) (omega (arith, room, length-set s.blocks (place_index s.shape b.place) b.words))
 
 -- other words in a bay are other words at its place
-pub joined-set : (s : Store) (bays : List BlockAt) (k : ℕ) (ws : List ℕ) → IsOnce s.shape (places_of bays) → k < length bays → joined s (set bays k (record { place = (bay_in bays k).place; words = ws })) ≡ set_block (joined s bays) (bay_in bays k).place ws
+pub joined-set : (s : Store) (bays : List BlockAt) (k : ℕ) (ws : List ℕ) → IsOnce s.shape (places_of bays) → k < length bays → store_rejoined s (set bays k (record { place = (bay_in bays k).place; words = ws })) ≡ set_block (store_rejoined s bays) (bay_in bays k).place ws
 joined-set s [] k ws once l = absurd (omega arith)
 joined-set s (b ∷ bays) zero ws once l =
-    ap (λ (t : Store). joined t bays) (store_from_parts (set_block s b.place ws) (set_block (set_block s b.place b.words) b.place ws) refl (sym (set-set s.blocks (place_index s.shape b.place) b.words ws)))
+    ap (λ (t : Store). store_rejoined t bays) (store_from_parts (set_block s b.place ws) (set_block (set_block s b.place b.words) b.place ws) refl (sym (set-set s.blocks (place_index s.shape b.place) b.words ws)))
     ∙ set_block-joined (set_block s b.place b.words) bays b.place ws once.0
 joined-set s (b ∷ bays) (suc k) ws once l = joined-set (set_block s b.place b.words) bays k ws once.1 (omega arith)
 
 -- one word set in a bay is that word set in the store
-pub joined-set_word : (s : Store) (bays : List BlockAt) (k j w : ℕ) → IsOnce s.shape (places_of bays) → k < length bays → place_index s.shape (bay_in bays k).place < length s.blocks → joined s (set bays k (record { place = (bay_in bays k).place; words = set (bay_in bays k).words j w })) ≡ set_word (joined s bays) (bay_in bays k).place j w
+pub joined-set_word : (s : Store) (bays : List BlockAt) (k j w : ℕ) → IsOnce s.shape (places_of bays) → k < length bays → place_index s.shape (bay_in bays k).place < length s.blocks → store_rejoined s (set bays k (record { place = (bay_in bays k).place; words = set (bay_in bays k).words j w })) ≡ set_word (store_rejoined s bays) (bay_in bays k).place j w
 joined-set_word s bays k j w once l room =
     joined-set s bays k (set (bay_in bays k).words j w) once l
-    ∙ ap (λ (ws : List ℕ). set_block (joined s bays) (bay_in bays k).place (set ws j w)) (sym (block_of-joined_bay s bays k once l room))
+    ∙ ap (λ (ws : List ℕ). set_block (store_rejoined s bays) (bay_in bays k).place (set ws j w)) (sym (block_of-joined_bay s bays k once l room))
 
 -- the bays of places stand there
 pub places_of-bays_of : (s : Store) (ps : List Place) → places_of (bays_of s ps) ≡ ps

@@ -7,7 +7,7 @@ use Rattle.module_memory.specs.Store.{Store, set_word, IsWhole, block_of, HasAll
 use Rattle.batch.specs.declared.transfer.Transfer.{Transfer}
 use Rattle.batch.specs.Held.{AreHeldSources}
 use Rattle.module_memory.specs.Core.{IsMovedFrom, IsReady, setting_of, at_start, run, times, IsStepList, IsComplete, IsPlacedFrom, found, IsMoved, IsPlaced}
-use Rattle.module_memory.specs.Lending.{BlockAt, place_in, bay_in, AreLendable, Left, AreCopies, found_in, bays_of, without, joined, Rejoins}
+use Rattle.module_memory.specs.Lending.{BlockAt, place_in, bay_in, AreLendable, RestView, AreCopies, found_in, bays_of, without, store_rejoined, Rejoins}
 use Rattle.std.specs.List.{concat}
 use Rattle.module_memory.specs.Address.{IsAddress, fault_of, place_of, word_at, word_index, write_at}
 use Rattle.module_memory.specs.Images.{image_of, image_length, word_in_image, word_of_bytes, AreWords, HasImage}
@@ -71,7 +71,7 @@ SettingsHaveBays =
 -- sources, has all that its transfers look for
 abbrev pub SourcesAreFound : Type 0
 SourcesAreFound =
-    (s : Store) (batch : List Transfer) (numbers : List ℕ) (held : List Place) (rest : Left)
+    (s : Store) (batch : List Transfer) (numbers : List ℕ) (held : List Place) (rest : RestView)
     → IsReady s s batch numbers
     → rest.store ≡ without s (destinations_of batch numbers) → AreCopies s held rest.held
     → AreHeldSources batch held → AreFound (found_in rest) s batch
@@ -89,7 +89,7 @@ BaysHoldTheCounts =
     (find : Place → List ℕ) (opening rest : Store) (old new : List BlockAt) (first : ℕ)
     (ts : List Transfer) (moved : ℕ → ℕ)
     → AreBaysOf rest old first ts → AreFound find opening ts → AreFilled find old new first ts moved
-    → IsMovedFrom opening (joined rest old) ts moved (joined rest new)
+    → IsMovedFrom opening (store_rejoined rest old) ts moved (store_rejoined rest new)
 
 -- bays that stand where they stood are lent as before
 abbrev pub BaysStayLent : Type 0
@@ -103,13 +103,13 @@ SetIsOneWord =
     (rest : Store) (bays : List BlockAt) (k j w : ℕ) → AreLent rest bays → k < length bays
     → let bay = bay_in bays k in
     let new = slice_set bays k (record { place = bay.place; words = slice_set bay.words j w }) in
-    joined rest new ≡ set_word (joined rest bays) bay.place j w
+    store_rejoined rest new ≡ set_word (store_rejoined rest bays) bay.place j w
 
 -- a lent block has the words of its bay
 abbrev pub LentBlockIsItsBay : Type 0
 LentBlockIsItsBay =
     (rest : Store) (bays : List BlockAt) (k : ℕ) → AreLent rest bays → k < length bays
-    → block_of (joined rest bays) (bay_in bays k).place ≡ (bay_in bays k).words
+    → block_of (store_rejoined rest bays) (bay_in bays k).place ≡ (bay_in bays k).words
 
 -- a lent block has no words in the rest
 abbrev pub LentBlockIsGone : Type 0
@@ -122,7 +122,7 @@ abbrev pub OtherBlockIsTheRest : Type 0
 OtherBlockIsTheRest =
     (rest : Store) (bays : List BlockAt) (p : Place) → AreLent rest bays → HasPlace rest.shape p
     → ((k : ℕ) → k < length bays → (bay_in bays k).place ≢ p)
-    → block_of (joined rest bays) p ≡ block_of rest p
+    → block_of (store_rejoined rest bays) p ≡ block_of rest p
 
 -- bays that stand where they stood, with as many words as before, rejoin as before
 abbrev pub BaysStayWhole : Type 0

@@ -39,8 +39,8 @@ abbrev pub DifferBefore : List Place → ℕ → Type 0
 DifferBefore places i = (j k : ℕ) → j < k → k < i → place_in places j ≢ place_in places k
 
 -- the place stands before too
-abbrev pub StandsBefore : List Place → ℕ → Type 0
-StandsBefore places i = (k : ℕ) × (k < i) × (place_in places k ≡ place_in places i)
+abbrev pub OccursBefore : List Place → ℕ → Type 0
+OccursBefore places i = (k : ℕ) × (k < i) × (place_in places k ≡ place_in places i)
 
 -- the first of the places that doesn't exist
 pub record IsFirstMissing (shape : Extent) (places : List Place) (i : ℕ) : Type 0 where
@@ -51,7 +51,7 @@ pub record IsFirstMissing (shape : Extent) (places : List Place) (i : ℕ) : Typ
 -- the first of the places that stands before too
 pub record IsFirstRepeated (places : List Place) (i : ℕ) : Type 0 where
   pub within : i < length places
-  pub again : StandsBefore places i
+  pub again : OccursBefore places i
   pub before : DifferBefore places i
 
 -- the places exist, and no two are one
@@ -82,15 +82,15 @@ without s [] = s
 without s (p ∷ places) = without (set_block s p []) places
 
 -- the store of the rest and the bays: the words of each bay in its place
-abbrev pub joined : Store → List BlockAt → Store
-joined rest [] = rest
-joined rest (b ∷ bays) = joined (set_block rest b.place b.words) bays
+abbrev pub store_rejoined : Store → List BlockAt → Store
+store_rejoined rest [] = rest
+store_rejoined rest (b ∷ bays) = store_rejoined (set_block rest b.place b.words) bays
 
 -- ---- what is held
 
 -- what is left of a rack: the blocks, of which those that are lent have no words, and copies of the
 -- blocks that are held, of which those that aren't held have none
-pub record Left : Type 0 where
+pub record RestView : Type 0 where
   pub store : Store
   pub held : List (List ℕ)
 
@@ -100,7 +100,7 @@ abbrev pub copy_in : Extent → List (List ℕ) → Place → List ℕ
 copy_in shape copies p = slice_index_or copies (place_index shape p) []
 
 -- the copy of a block
-abbrev pub copy_of : Left → Place → List ℕ
+abbrev pub copy_of : RestView → Place → List ℕ
 copy_of rest p = copy_in rest.store.shape rest.held p
 
 -- the first of two lists, if it has anything, else the second
@@ -109,7 +109,7 @@ or_else [] ys = ys
 or_else (x ∷ xs) ys = x ∷ xs
 
 -- what a transfer finds at a place of the rest: the copy of a held block, else the block
-abbrev pub found_in : Left → Place → List ℕ
+abbrev pub found_in : RestView → Place → List ℕ
 found_in rest p = or_else (copy_of rest p) (block_of rest.store p)
 
 -- the copies of these places have the words that the store has there, and there is no other copy
@@ -120,7 +120,7 @@ pub record AreCopies (s : Store) (held : List Place) (copies : List (List ℕ)) 
       → copy_in s.shape copies p ≡ []
 
 -- the rack has the block, and a copy of it with these words, as many as a block has
-pub record HasCopy (rest : Left) (p : Place) (words : List ℕ) : Type 0 where
+pub record HasCopy (rest : RestView) (p : Place) (words : List ℕ) : Type 0 where
   pub exists : HasPlace rest.store.shape p
   pub words_are : words ≡ copy_of rest p
   pub all_words : length words ≡ rest.store.shape.words
@@ -135,4 +135,4 @@ AreWholeCopies shape copies =
 -- the bays have places of the rack, and nothing is missing
 pub record Rejoins (rest : Store) (bays : List BlockAt) : Type 0 where
   pub exist : All (λ (b : BlockAt). HasPlace rest.shape b.place) bays
-  pub whole : IsWhole (joined rest bays)
+  pub whole : IsWhole (store_rejoined rest bays)

@@ -9,13 +9,13 @@ ghost use Rattle.module_memory.specs.Address.{IsSiteOf, fault_of};
 use crate::fault::MemoryFault;
 use batch::{Place, Shape};
 
-/// The address at which the window of each module begins: the first one behind the two kilobytes of an
-/// IMS T414's memory on the chip (data sheet, memory map). That the window begins here is this
+/// The address at which the window of each module begins: the first one behind the two kilobytes of
+/// an IMS T414's memory on the chip (data sheet, memory map). That the window begins here is this
 /// project's choice.
 pub const WINDOW_START: u32 = 0x8000_0800;
 
-/// The address at which the hold window of each module begins: a copy of a held block has its words there, during a run
-/// alone. That it begins here is this project's choice.
+/// The address at which the hold window of each module begins: a copy of a held block has its words
+/// there, during a run alone. That it begins here is this project's choice.
 pub const HOLD_START: u32 = 0x8001_0800;
 
 /// How many bytes a word has (IMS T414 data sheet).

@@ -2,8 +2,8 @@
 
 use thiserror::Error;
 
-/// Why a word can't be read or written. The causes are tested in this order, which is this project's
-/// choice.
+/// Why a word can't be read or written. The causes are tested in this order, which is this
+/// project's choice.
 #[derive(Clone, Copy, Debug, PartialEq, Eq, Error)]
 pub enum MemoryFault {
     /// The rack has no such module.
@@ -17,8 +17,8 @@ pub enum MemoryFault {
     Outside,
 }
 
-/// Why there is no rack of an image. The number of bytes is looked at first, and memory is asked for last. This is the
-/// project's choice.
+/// Why there is no rack of an image. The number of bytes is looked at first, and memory is asked
+/// for last. This is the project's choice.
 #[derive(Clone, Copy, Debug, PartialEq, Eq, Error)]
 pub enum ImageFault {
     /// The image has so many bytes, and the images of the shape have another number.
@@ -31,8 +31,8 @@ pub enum ImageFault {
 
 /// Why blocks can't be lent. Positions in a list are counted from 0.
 ///
-/// A missing place is looked for first, in the whole list; then a missing held place, in the whole list
-/// of these; then a repeated place. Memory is asked for last. This is the project's choice.
+/// A missing place is looked for first, in the whole list; then a missing held place, in the whole
+/// list of these; then a repeated place. Memory is asked for last. This is the project's choice.
 #[derive(Clone, Copy, Debug, PartialEq, Eq, Error)]
 pub enum LendFault {
     /// The place at this position stands before it too. It is the first such position.

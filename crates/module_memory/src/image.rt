@@ -18,9 +18,9 @@ fn image_length_of(shape: Shape) -> usize
 }
 
 impl Rack {
-    /// The rack of an image: of each module in order all words of its window, from the first on, of each word four bytes,
-    /// the least significant first, and nothing else. Takes memory for each block, and time that grows with
-    /// the number of bytes.
+    /// The rack of an image: of each module in order all words of its window, from the first on, of
+    /// each word four bytes, the least significant first, and nothing else. Takes memory for each
+    /// block, and time that grows with the number of bytes.
     pub fn of_image(alloc: Global, shape: Shape, bytes: &[u8]) -> Result<Rack, ImageFault>
         ensures { MatchResult result (HasImage shape bytes.now) (IsImageFault shape bytes.now) }
     {
@@ -54,8 +54,8 @@ impl Rack {
         Ok(Rack::of(shape, blocks))
     }
 
-    /// The image of the rack: a rack of the same shape that is made of it is equal. Takes memory for the image, and time that grows with the
-    /// number of bytes.
+    /// The image of the rack: a rack of the same shape that is made of it is equal. Takes memory
+    /// for the image, and time that grows with the number of bytes.
     pub fn image(&self) -> Result<Vec<u8>, AllocError>
         ensures image { IfOk result (λ bytes. bytes.items ≡ image_of self.now) }
         ensures again { IfOk result (λ bytes. HasImage self.now.shape bytes.items self.now) }

@@ -2,16 +2,17 @@
 
 ghost use Rattle.module_memory.specs.Laws.{AddressesAreKnown, WindowsAreWhole, WritesAreApart, WritesAreKept, BaysAreWide, BaysHoldTheCounts, BaysStayLent, BaysStayWhole, LentBlockIsGone, LentBlockIsItsBay, OtherBlockIsTheRest, SetIsOneWord, SettingsHaveBays, SourcesAreFound, EachPrefix, EndIsPlaced, ImagesAreWhole, OneEnd, OneImaged, OneMoved, OnePlaced, OneMarked, AllMovedIsPlaced, CountsAreReached, OneAfterAnother, OthersStayReady, RunIsPlaced, StopIsMoved, WholeBatchIsPlaced, WordsAreInImages};
 
-/// Where a batch doesn't overlap, the order in which the words of a setting move doesn't matter. A source that
-/// the batch writes is found in an opening store, and any other in the store as it is; as the setting begins, these
-/// two agree on the sources that the batch doesn't write.
+/// Where a batch doesn't overlap, the order in which the words of a setting move doesn't matter. A
+/// source that the batch writes is found in an opening store, and any other in the store as it is;
+/// as the setting begins, these two agree on the sources that the batch doesn't write.
 pub fn any_order()
     ensures one_end { OneEnd }
     ensures placed { EndIsPlaced }
     ensures each_prefix { EachPrefix }
 {}
 
-/// The addresses without a fault are just those of the words of the shape's blocks, each of one word.
+/// The addresses without a fault are just those of the words of the shape's blocks, each of one
+/// word.
 pub fn addresses()
     ensures whole { WindowsAreWhole }
     ensures known { AddressesAreKnown }
@@ -23,7 +24,8 @@ pub fn writes()
     ensures apart { WritesAreApart }
 {}
 
-/// An image has four bytes for each word of the shape, which tell that word, so it is the image of one store.
+/// An image has four bytes for each word of the shape, which tell that word, so it is the image of
+/// one store.
 pub fn images()
     ensures whole { ImagesAreWhole }
     ensures words { WordsAreInImages }
@@ -39,8 +41,8 @@ pub fn bays()
     ensures stay_whole { BaysStayWhole }
 {}
 
-/// Parted at the destinations of settings, a rack has a bay for each transfer. What workers leave in the
-/// bays of a setting is the store of their counts.
+/// Parted at the destinations of settings, a rack has a bay for each transfer. What workers leave
+/// in the bays of a setting is the store of their counts.
 pub fn setting_bays()
     ensures parted { SettingsHaveBays }
     ensures found { SourcesAreFound }
@@ -49,8 +51,8 @@ pub fn setting_bays()
     ensures stay_lent { BaysStayLent }
 {}
 
-/// Settings one after another are all of their transfers at once, and those of a schedule are the whole
-/// batch.
+/// Settings one after another are all of their transfers at once, and those of a schedule are the
+/// whole batch.
 pub fn settings()
     ensures run { RunIsPlaced }
     ensures stopped { StopIsMoved }
@@ -61,8 +63,8 @@ pub fn settings()
     ensures reached { CountsAreReached }
 {}
 
-/// There is one marked rack of a shape, one store in which the blocks of transfers are placed, and one
-/// in which given counts of their words have moved.
+/// There is one marked rack of a shape, one store in which the blocks of transfers are placed, and
+/// one in which given counts of their words have moved.
 pub fn placed()
     ensures one_marked { OneMarked }
     ensures one_placed { OnePlaced }

@@ -4,7 +4,7 @@ ghost use Rattle.std.specs.Prelude.{◌≡◌, ◌<◌, ◌*◌, [], length, sli
 ghost use Rattle.batch.specs.Extent.{IsShape};
 ghost use Rattle.batch.specs.Places.{HasPlace};
 ghost use Rattle.module_memory.specs.Store.{block_of, find_word, set_block};
-ghost use Rattle.module_memory.specs.Lending.{AreWholeCopies, HasCopy, Rejoins, copy_of, joined, with_word};
+ghost use Rattle.module_memory.specs.Lending.{AreWholeCopies, HasCopy, Rejoins, copy_of, store_rejoined, with_word};
 
 use crate::address::{block_index, find_block};
 use crate::block::Block;
@@ -27,8 +27,9 @@ impl Model for Bay {
     ghost view = { λ b. record { place = b.place; words = b.block } };
 }
 
-/// What is left of a rack: a lent block has no words here. Of blocks that are held there are copies, made when the
-/// rack was parted. Contracts see a rack's words, and the words of the copies.
+/// What is left of a rack: a lent block has no words here. Of blocks that are held there are
+/// copies, made when the rack was parted. Contracts see a rack's words, and the words of the
+/// copies.
 #[derive(Drop)]
 pub struct Rest {
     shape: Shape,
@@ -39,16 +40,17 @@ pub struct Rest {
 impl Model for Rest {
     ghost use Rattle.std.specs.Prelude.{◌≡◌, ◌*◌, length};
     ghost use Rattle.batch.specs.Extent.{IsShape};
-    ghost use Rattle.module_memory.specs.Lending.{Left, AreWholeCopies};
+    ghost use Rattle.module_memory.specs.Lending.{RestView, AreWholeCopies};
 
-    ghost Value = { Left };
+    ghost Value = { RestView };
 
     ghost view = { λ r. record { store = record { shape = r.shape; blocks = r.blocks.items }; held = r.held.items } };
 
     ghost invariant = { λ r. IsShape r.shape × (length r.blocks.items ≡ r.shape.modules * r.shape.blocks) × AreWholeCopies r.shape r.held.items };
 }
 
-/// A rack of which some blocks are lent: the rest, and a bay for each place, in the order of the places.
+/// A rack of which some blocks are lent: the rest, and a bay for each place, in the order of the
+/// places.
 #[derive(Drop)]
 pub struct Parted {
     pub rest: Rest,
@@ -131,8 +133,8 @@ impl Rest {
         Some(block.as_slice())
     }
 
-    /// The words of a held block, as they stood there when the rack was parted. There are none where the rack hasn't the
-    /// block, or it isn't held.
+    /// The words of a held block, as they stood there when the rack was parted. There are none
+    /// where the rack hasn't the block, or it isn't held.
     pub fn held_block(&self, place: Place) -> Option<&[u32]>
         ensures { MatchOption result
             (HasPlace self.now.store.shape place → copy_of self.now place ≡ [])
@@ -146,8 +148,8 @@ impl Rest {
         Some(block.as_slice())
     }
 
-    /// Word `j` of a held block, as it stood there when the rack was parted. There is none where the rack hasn't the
-    /// block, it isn't held, or it hasn't that word.
+    /// Word `j` of a held block, as it stood there when the rack was parted. There is none where
+    /// the rack hasn't the block, it isn't held, or it hasn't that word.
     pub fn held(&self, place: Place, j: usize) -> Option<u32>
         ensures missing { (HasPlace self.now.store.shape place → ⊥) → result ≡ None }
         // A block that isn't held has no words in the copies.
@@ -187,11 +189,12 @@ impl Rest {
 }
 
 impl Parted {
-    /// The rack, with the words of each bay back in their place. Each block that was lent has to be there
-    /// as a bay, with all its words. Takes no memory, and time that grows with the number of bays.
+    /// The rack, with the words of each bay back in their place. Each block that was lent has to be
+    /// there as a bay, with all its words. Takes no memory, and time that grows with the number of
+    /// bays.
     pub fn rejoin(self) -> Rack
         requires { Rejoins self.rest.store self.bays.items }
-        ensures { result ≡ joined self.rest.store self.bays.items }
+        ensures { result ≡ store_rejoined self.rest.store self.bays.items }
     {
         let Parted { mut rest, bays } = self;
         for bay in bays {

@@ -5,7 +5,7 @@ ghost use Rattle.batch.specs.Places.{HasPlace};
 ghost use Rattle.module_memory.specs.Store.{IsWhole, block_of, zeros_of};
 ghost use Rattle.module_memory.specs.Address.{IsMemoryFault, IsWordAt, IsWrittenAt};
 ghost use Rattle.module_memory.specs.Mark.{IsMarked};
-ghost use Rattle.module_memory.specs.Lending.{AreCopies, AreLendable, AreWholeCopies, ExistBefore, IsLendFault, bays_of, without, joined, Rejoins};
+ghost use Rattle.module_memory.specs.Lending.{AreCopies, AreLendable, AreWholeCopies, ExistBefore, IsLendFault, bays_of, without, store_rejoined, Rejoins};
 ghost use Rattle.module_memory.specs.Bays.{AreLent};
 
 use crate::address::{block_index, find_block, site_of};
@@ -23,8 +23,8 @@ pub const MODULE_MARK: usize = 65536;
 /// How far apart the first words of two blocks of a module are in a marked rack.
 pub const BLOCK_MARK: usize = 256;
 
-/// The memories of all modules of a rack: each has the blocks, and each block the words, that the shape
-/// says. Contracts see the words of the blocks, by module and then by block.
+/// The memories of all modules of a rack: each has the blocks, and each block the words, that the
+/// shape says. Contracts see the words of the blocks, by module and then by block.
 #[derive(Drop)]
 pub struct Rack {
     shape: Shape,
@@ -42,8 +42,8 @@ impl Model for Rack {
 }
 
 impl Rack {
-    /// A rack whose words are all 0. Takes memory for each block, and time that grows with the number of
-    /// words.
+    /// A rack whose words are all 0. Takes memory for each block, and time that grows with the
+    /// number of words.
     pub fn new(alloc: Global, shape: Shape) -> Result<Rack, AllocError>
         ensures { IfOk result (λ rack. rack ≡ zeros_of shape) }
     {
@@ -109,8 +109,8 @@ impl Rack {
         })
     }
 
-    /// Whether the other rack has the same shape and the same words. Takes time that grows with the number of words, and no
-    /// memory.
+    /// Whether the other rack has the same shape and the same words. Takes time that grows with the
+    /// number of words, and no memory.
     pub fn is_same(&self, other: &Rack) -> bool
         ensures same { result ≡ true → self.now ≡ other.now }
         ensures differ { result ≡ false → self.now ≢ other.now }
@@ -139,7 +139,8 @@ impl Rack {
         }
     }
 
-    /// The word at an address, in bytes, of a module, counted from 0; or the first cause why there is none.
+    /// The word at an address, in bytes, of a module, counted from 0; or the first cause why there
+    /// is none.
     pub fn read(&self, module: usize, address: u32) -> Result<u32, MemoryFault>
         ensures { MatchResult result
             (IsWordAt self.now «module» address)
@@ -151,8 +152,8 @@ impl Rack {
         Ok(block.at(site.word))
     }
 
-    /// Writes the word at an address of a module. Where there is none, that is answered with the first
-    /// cause, and nothing is changed.
+    /// Writes the word at an address of a module. Where there is none, that is answered with the
+    /// first cause, and nothing is changed.
     pub fn write(&mut self, module: usize, address: u32, word: u32) -> Result<(), MemoryFault>
         ensures { MatchResult result
             (λ _. IsWrittenAt self.old «module» address word self.new)
@@ -165,8 +166,8 @@ impl Rack {
         Ok(())
     }
 
-    /// Copies of these blocks, by where all blocks stand, and no words for the others. No memory is asked for where
-    /// there are no such blocks.
+    /// Copies of these blocks, by where all blocks stand, and no words for the others. No memory is
+    /// asked for where there are no such blocks.
     fn copies(&self, held: &[Place]) -> Result<Vec<Block>, AllocError>
         requires { ExistBefore self.now.shape held.now (length held.now) }
         ensures copies { IfOk result (λ copies. AreCopies self.now held.now copies.items) }
@@ -190,19 +191,19 @@ impl Rack {
         Ok(copies)
     }
 
-    /// Parts the rack: the block at each of the places becomes a bay that owns its words, and the rest
-    /// stays behind. Words are moved and not copied, but for the held blocks: before any block becomes a bay,
-    /// each of these is copied into the rest. One place may be held more than once. Where a fault is answered the
-    /// rack comes back as it was.
+    /// Parts the rack: the block at each of the places becomes a bay that owns its words, and the
+    /// rest stays behind. Words are moved and not copied, but for the held blocks: before any block
+    /// becomes a bay, each of these is copied into the rest. One place may be held more than once.
+    /// Where a fault is answered the rack comes back as it was.
     ///
-    /// Takes memory for the list of bays, and for the copies. The time grows with the numbers of places and of blocks
-    /// and, where something is held, with the number of the held words.
+    /// Takes memory for the list of bays, and for the copies. The time grows with the numbers of
+    /// places and of blocks and, where something is held, with the number of the held words.
     pub fn part(self, places: &[Place], held: &[Place]) -> Result<Parted, (Rack, LendFault)>
         ensures lendable { IfOk result (λ _. AreLendable self.shape places.now) }
         ensures bays { IfOk result (λ parted. parted.bays.items ≡ bays_of self places.now) }
         ensures rest { IfOk result (λ parted. parted.rest.store ≡ without self places.now) }
         ensures held { IfOk result (λ parted. AreCopies self held.now parted.rest.held) }
-        ensures store { IfOk result (λ parted. joined parted.rest.store parted.bays.items ≡ self) }
+        ensures store { IfOk result (λ parted. store_rejoined parted.rest.store parted.bays.items ≡ self) }
         ensures lent { IfOk result (λ parted. AreLent parted.rest.store parted.bays.items) }
         ensures rejoins { IfOk result (λ parted. Rejoins parted.rest.store parted.bays.items) }
         ensures unchanged { IfErr result (λ refused. refused.0 ≡ self) }

@@ -1,4 +1,5 @@
--- The transfers that do moves, started by the ends in the left half: what they move, and how often they use each link.
+-- The transfers that do moves, started by the ends in the left half: what they move, and how often
+-- they use each link.
 use Rattle.std.proofs.Common.{◌≡◌, ℕ, suc, ◌+◌, ◌*◌, ◌<◌, ◌≤◌, ◌==◌, ◌&&◌, cond, List, [], ◌∷◌, ◌++◌, length, map, take, get_or, All, Bool, true, false, not, refl, sym, ap, subst, ◌∙◌, arith, add-one}
 use Rattle.std.proofs.Math.Seq.{take-length}
 use Rattle.std.proofs.lemmas.Bool.{true≢false, false≢true}
@@ -18,8 +19,8 @@ use Rattle.link_graph.proofs.Users.{use_of, uses_push}
 use Rattle.euler_split.specs.Pairs.{passing}
 use Rattle.move_directions.specs.declared.moves.Move.{Move}
 use Rattle.move_directions.specs.Directions.{directed, link_of, AreDirected, HalvesEnds}
-use Rattle.move_directions.specs.Ends.{module_of_end, AreHalves}
-use Rattle.move_directions.specs.Moves.{ends, ends_of, half_ends, move_of, Directs, IsMoveList, IsWithin}
+use Rattle.move_directions.specs.Ends.{module_of_end, HalvesModules}
+use Rattle.move_directions.specs.Moves.{end_count, ends_of, half_ends, move_of, Directs, IsMoveList, IsWithin}
 use Rattle.move_directions.proofs.EndPairs.{source_module, destination_module}
 
 -- ---- one transfer
@@ -84,16 +85,16 @@ two_ends : (k : Kind) (i o r f m : ℕ) → ends_of m (move_of (made k i o r f))
 two_ends Push i o r f m = refl
 two_ends Pull i o r f m = omega arith
 
-counted : (batch : List Transfer) (m : ℕ) → ends (map move_of batch) m ≡ uses batch (link_of Zero m) + uses batch (link_of Three m)
+counted : (batch : List Transfer) (m : ℕ) → end_count (map move_of batch) m ≡ uses batch (link_of Zero m) + uses batch (link_of Three m)
 counted [] m = refl
 counted (t ∷ ts) m =
     omega (arith, sum_by-cons (λ x. ends_of m x) (move_of t) (map move_of ts), sum_by-cons (use_of (link_of Zero m)) t ts, sum_by-cons (use_of (link_of Three m)) t ts, two_ends t.kind t.initiator t.own_block t.responder t.far_block m, counted ts m)
 
 -- the ends at a module are the uses of its two links
-pub ends_counted : (moves : List Move) (batch : List Transfer) (m : ℕ) → Directs moves batch → ends moves m ≡ uses batch (link_of Zero m) + uses batch (link_of Three m)
-ends_counted moves batch m done = ap (λ (xs : List Move). ends xs m) (sym done) ∙ counted batch m
+pub ends_counted : (moves : List Move) (batch : List Transfer) (m : ℕ) → Directs moves batch → end_count moves m ≡ uses batch (link_of Zero m) + uses batch (link_of Three m)
+ends_counted moves batch m done = ap (λ (xs : List Move). end_count xs m) (sym done) ∙ counted batch m
 
-pub halved : (moves : List Move) (left : ℕ → Bool) (batch : List Transfer) → AreHalves moves left → AreDirected moves left (length moves) batch → HalvesEnds moves batch
+pub halved : (moves : List Move) (left : ℕ → Bool) (batch : List Transfer) → HalvesModules moves left → AreDirected moves left (length moves) batch → HalvesEnds moves batch
 halved moves left batch halves d link = half_at link.end link.«module»
   where
     half_at : (e : End) (m : ℕ) → uses batch (link_of e m) ≤ half_ends moves m

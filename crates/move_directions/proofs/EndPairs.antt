@@ -4,13 +4,13 @@ use Rattle.std.proofs.lemmas.Bool.{cases_eq, cases_lt}
 use Rattle.std.proofs.lemmas.Option.{same_Some, none-some}
 use Rattle.link_graph.specs.declared.link.End.TheVariants.{Zero, Three}
 use Rattle.euler_split.specs.Deals.{in_left}
-use Rattle.euler_split.specs.Pairs.{ArePairs, AreBalanced, HasCome}
+use Rattle.euler_split.specs.Pairs.{ArePartners, AreBalanced, HasCome}
 use Rattle.euler_split.specs.Walks.{IsHalved}
 use Rattle.euler_split.proofs.Dealt.{left_tells}
 use Rattle.euler_split.proofs.Partners.{ArePaired, come_paired}
 use Rattle.euler_split.proofs.Turns.{pair_in}
 use Rattle.move_directions.specs.declared.moves.Move.{Move}
-use Rattle.move_directions.specs.Ends.{module_of_end, other_of, AreHalves, AreJoined}
+use Rattle.move_directions.specs.Ends.{module_of_end, other_of, HalvesModules, AreOtherEnds}
 use Rattle.move_directions.specs.Moves.{IsMoveList}
 
 -- ---- the modules of a move's ends
@@ -67,10 +67,10 @@ other_of_destination (suc t) (suc (suc i)) is = omega (arith, other_of_destinati
 
 -- ---- the two ends of each move as partners
 
-pub none_joined : (ps : List (Option ℕ)) → ((i : ℕ) → get_or ps i None ≡ None) → AreJoined 0 ps
+pub none_joined : (ps : List (Option ℕ)) → ((i : ℕ) → get_or ps i None ≡ None) → AreOtherEnds 0 ps
 none_joined ps none = record { joined = λ i lt. absurd (omega arith); fresh = λ i _. none i }
 
-pub one_joined : (t : ℕ) (ps : List (Option ℕ)) → 2 * t + 1 < length ps → AreJoined (2 * t) ps → AreJoined (2 * (t + 1)) (set (set ps (2 * t) (Some (2 * t + 1))) (2 * t + 1) (Some (2 * t)))
+pub one_joined : (t : ℕ) (ps : List (Option ℕ)) → 2 * t + 1 < length ps → AreOtherEnds (2 * t) ps → AreOtherEnds (2 * (t + 1)) (set (set ps (2 * t) (Some (2 * t + 1))) (2 * t + 1) (Some (2 * t)))
 one_joined t ps within so_far =
     let a : ℕ = 2 * t in
     let b : ℕ = 2 * t + 1 in
@@ -88,7 +88,7 @@ one_joined t ps within so_far =
       fresh = λ i past. get_or-set_other first b i (Some a) None (λ e. omega arith) ∙ (get_or-set_other ps a i (Some b) None (λ e. omega arith) ∙ so_far.fresh i (omega arith));
     }
 
-pub joined_pairs : (n : ℕ) (ps : List (Option ℕ)) → AreJoined (2 * n) ps → ArePairs ps
+pub joined_pairs : (n : ℕ) (ps : List (Option ℕ)) → AreOtherEnds (2 * n) ps → ArePartners ps
 joined_pairs n ps j =
     let partner_is : (u v : ℕ) → get_or ps u None ≡ Some v → (u < 2 * n) × (v ≡ other_of u) = λ u v at. elim (cases_lt u (2 * n)) [
       | inl lt ↦ (lt, same_Some v (other_of u) (sym at ∙ j.joined u lt))
@@ -114,7 +114,7 @@ module _ (xs : List Move) (all : IsMoveList xs) (t : ℕ) (x : Move) (within : t
 
 -- ---- halves of the ends
 
-pub halves_are : (xs : List Move) (zs ts : List (Option ℕ)) (h : List (Option Bool)) → AreBalanced (module_of_end xs) (2 * length xs) zs → AreJoined (2 * length xs) ts → IsHalved zs ts (length zs) h → AreHalves xs (in_left h)
+pub halves_are : (xs : List Move) (zs ts : List (Option ℕ)) (h : List (Option Bool)) → AreBalanced (module_of_end xs) (2 * length xs) zs → AreOtherEnds (2 * length xs) ts → IsHalved zs ts (length zs) h → HalvesModules xs (in_left h)
 halves_are xs zs ts h balanced joined halved = record {
   opposed = λ t lt. left_tells zs ts h Three halved (2 * t) (2 * t + 1) (joined.joined (2 * t) (omega arith) ∙ ap Some (other_of_source t (2 * t) refl)) (omega (arith, balanced.sized));
   even = balanced.even (in_left h) (λ u v at. left_tells zs ts h Zero halved u v at (pair_in zs v u balanced.pairs (balanced.pairs.symmetric u v at)));

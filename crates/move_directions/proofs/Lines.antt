@@ -5,7 +5,7 @@ use Rattle.batch.specs.declared.transfer.Place.{Place}
 use Rattle.batch.specs.Text.{IsNumber, number, space, line_feed}
 use Rattle.batch.proofs.Lines.{Ends, behind_number, ends_line, one_number}
 use Rattle.move_directions.specs.declared.moves.Move.{Move}
-use Rattle.move_directions.specs.Text.{line, place_text, word}
+use Rattle.move_directions.specs.Text.{line, place_text, first_word}
 use Rattle.move_directions.specs.Faults.{CanSpell, BeginsWithPlace, IsSpellable}
 
 ends_space : Ends space
@@ -37,13 +37,13 @@ one_place bytes p q end x y ends one other =
 abbrev pub places : Move → List ℕ → List ℕ
 places x rest = place_text x.source space ++ (place_text x.destination line_feed ++ rest)
 
-pub line_parts : (x : Move) (rest : List ℕ) → line x ++ rest ≡ word ++ places x rest
-line_parts x rest = append_assoc word (place_text x.source space ++ place_text x.destination line_feed) rest ∙ ap (λ (bs : List ℕ). word ++ bs) (append_assoc (place_text x.source space) (place_text x.destination line_feed) rest)
+pub line_parts : (x : Move) (rest : List ℕ) → line x ++ rest ≡ first_word ++ places x rest
+line_parts x rest = append_assoc first_word (place_text x.source space ++ place_text x.destination line_feed) rest ∙ ap (λ (bs : List ℕ). first_word ++ bs) (append_assoc (place_text x.source space) (place_text x.destination line_feed) rest)
 
 -- the source that was read is that of each move that the text begins with
-pub behind_source : (bytes a b : List ℕ) (p : Place) (x : Move) (rest : List ℕ) → IsSpellable x → bytes ≡ word ++ a → BeginsWithPlace a p space b → bytes ≡ line x ++ rest → (p ≡ x.source) × (b ≡ place_text x.destination line_feed ++ rest)
+pub behind_source : (bytes a b : List ℕ) (p : Place) (x : Move) (rest : List ℕ) → IsSpellable x → bytes ≡ first_word ++ a → BeginsWithPlace a p space b → bytes ≡ line x ++ rest → (p ≡ x.source) × (b ≡ place_text x.destination line_feed ++ rest)
 behind_source bytes a b p x rest fits read first whole =
-    let behind : a ≡ places x rest = append_cancel_left word a (places x rest) (sym read ∙ whole ∙ line_parts x rest) in
+    let behind : a ≡ places x rest = append_cancel_left first_word a (places x rest) (sym read ∙ whole ∙ line_parts x rest) in
     one_place a p x.source space b (place_text x.destination line_feed ++ rest) ends_space first (fits.0, behind)
 
 abbrev move_between : Place → Place → Move

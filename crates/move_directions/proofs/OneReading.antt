@@ -12,7 +12,7 @@ use Rattle.batch.specs.Text.{IsNumber, number, line_feed}
 use Rattle.batch.proofs.Lines.{one_number, ends_line}
 use Rattle.move_directions.specs.declared.moves.Move.{Move}
 use Rattle.move_directions.specs.Moves.{HasModules, HasBlocks, IsWithin}
-use Rattle.move_directions.specs.Text.{head, word, line, Denotes}
+use Rattle.move_directions.specs.Text.{head, first_word, line, Denotes}
 use Rattle.move_directions.specs.Faults.{IsSpellable, BeginsWithLine, IsLineFault, IsHeadFault, IsGoodUpTo, IsFirstFault, at_head, at_line, at_end}
 use Rattle.move_directions.proofs.Lines.{places, line_parts, one_line}
 
@@ -25,9 +25,9 @@ one_head n m x y ln lm same =
 
 some_line : (t : Move) (x : List ℕ) → line t ++ x ≢ []
 some_line t x e =
-    let none : length (word ++ places t x) ≡ 0 = ap length (sym (line_parts t x) ∙ e) in
-    let five : length word ≡ 5 = refl in
-    omega (arith, none, five, length-append word (places t x))
+    let none : length (first_word ++ places t x) ≡ 0 = ap length (sym (line_parts t x) ∙ e) in
+    let five : length first_word ≡ 5 = refl in
+    omega (arith, none, five, length-append first_word (places t x))
 
 abbrev Within : List Move → Type 0
 Within ts = All IsWithin ts

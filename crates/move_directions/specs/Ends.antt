@@ -18,13 +18,13 @@ other_of (suc zero) = 0
 other_of (suc (suc i)) = suc (suc (other_of i))
 
 -- the first n ends have the other ends of their moves as partners, and no more have partners
-pub record AreJoined (n : ℕ) (partners : List (Option ℕ)) : Type 0 where
+pub record AreOtherEnds (n : ℕ) (partners : List (Option ℕ)) : Type 0 where
   pub joined : (i : ℕ) → i < n → slice_index_or partners i None ≡ Some (other_of i)
   pub fresh : (i : ℕ) → n ≤ i → slice_index_or partners i None ≡ None
 
 -- The two ends of each move are in different halves, and the ends at each module are in both halves
 -- alike, but for one.
-pub record AreHalves (moves : List Move) (left : ℕ → Bool) : Type 0 where
+pub record HalvesModules (moves : List Move) (left : ℕ → Bool) : Type 0 where
   pub opposed : (t : ℕ) → t < length moves → left (2 * t) ≡ not (left (2 * t + 1))
   pub even : (m : ℕ)
       → (passing (module_of_end moves) m (2 * length moves) left

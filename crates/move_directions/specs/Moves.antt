@@ -38,9 +38,9 @@ abbrev pub ends_of : ℕ → Move → ℕ
 ends_of m x = cond (x.source.«module» == m) 1 0 + cond (x.destination.«module» == m) 1 0
 
 -- how many ends of moves are at the module
-abbrev pub ends : List Move → ℕ → ℕ
-ends moves m = sum_by (λ x. ends_of m x) moves
+abbrev pub end_count : List Move → ℕ → ℕ
+end_count moves m = sum_by (λ x. ends_of m x) moves
 
 -- half of them, rounded up
 abbrev pub half_ends : List Move → ℕ → ℕ
-half_ends moves m = (ends moves m + 1) / 2
+half_ends moves m = (end_count moves m + 1) / 2

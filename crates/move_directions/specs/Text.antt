@@ -15,12 +15,12 @@ abbrev pub place_text : Place → ℕ → List ℕ
 place_text p end = number p.«module» space ++ number p.block end
 
 -- what the line of a move begins with
-abbrev pub word : List ℕ
-word = codes "move "
+abbrev pub first_word : List ℕ
+first_word = codes "move "
 
 -- the line `move M b N c`
 abbrev pub line : Move → List ℕ
-line x = word ++ place_text x.source space ++ place_text x.destination line_feed
+line x = first_word ++ place_text x.source space ++ place_text x.destination line_feed
 
 -- the one text of a list of moves
 abbrev pub moves_text : List Move → List ℕ

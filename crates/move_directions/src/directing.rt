@@ -3,7 +3,7 @@
 ghost use Rattle.std.specs.Prelude.{◌≡◌, ◌≤◌, ◌*◌, ℕ, length, slice_index_or, None, IfOk};
 ghost use Rattle.euler_split.specs.Deals.{in_left};
 ghost use Rattle.move_directions.specs.Directions.{directed, AreDirected, HalvesEnds, NeedsFewest};
-ghost use Rattle.move_directions.specs.Ends.{AreHalves};
+ghost use Rattle.move_directions.specs.Ends.{HalvesModules};
 ghost use Rattle.move_directions.specs.Moves.{Directs, IsMoveList};
 
 use crate::ends::{join, pair_at_modules};
@@ -30,7 +30,8 @@ fn directed(next: &Move, from_source: bool) -> Transfer
     }
 }
 
-/// The transfers that do the moves, each of them started by that of its ends that is in the left half.
+/// The transfers that do the moves, each of them started by that of its ends that is in the left
+/// half.
 fn transfers(
     alloc: Global,
     moves: &[Move],
@@ -38,7 +39,7 @@ fn transfers(
 ) -> Result<Vec<Transfer>, AllocError>
     requires sized { length halves.now ≡ 2 * length moves.now }
     requires few { length moves.now ≤ MAX_TRANSFERS }
-    requires halves { AreHalves moves.now (in_left halves.now) }
+    requires halves { HalvesModules moves.now (in_left halves.now) }
     ensures { IfOk result (λ all. AreDirected moves.now (in_left halves.now) (length moves.now) all.items) }
 {
     let mut transfers = Vec::with_capacity(alloc, moves.len())?;
@@ -62,19 +63,19 @@ fn halve_ends(
     requires modules_empty { (place : ℕ) → slice_index_or at_modules.old place None ≡ None }
     requires moves_empty { (place : ℕ) → slice_index_or of_moves.old place None ≡ None }
     requires halves_empty { (place : ℕ) → slice_index_or halves.old place None ≡ None }
-    ensures { AreHalves moves.now (in_left halves.new) }
+    ensures { HalvesModules moves.now (in_left halves.new) }
 {
     pair_at_modules(moves, at_modules);
     join(moves.len(), of_moves);
     halve(at_modules, of_moves, halves);
 }
 
-/// The half of each end, so that the two ends of a move are in different ones, and half of the ends at each
-/// module are in each, but for one.
+/// The half of each end, so that the two ends of a move are in different ones, and half of the ends
+/// at each module are in each, but for one.
 fn halved_ends(alloc: Global, moves: &[Move]) -> Result<Vec<Option<bool>>, AllocError>
     requires { IsMoveList moves.now }
     ensures sized { IfOk result (λ halves. length halves.items ≡ 2 * length moves.now) }
-    ensures halves { IfOk result (λ halves. AreHalves moves.now (in_left halves.items)) }
+    ensures halves { IfOk result (λ halves. HalvesModules moves.now (in_left halves.items)) }
 {
     let ends = 2 * moves.len();
     let mut at_modules = vec![in alloc; None; ends]?;
@@ -84,14 +85,14 @@ fn halved_ends(alloc: Global, moves: &[Move]) -> Result<Vec<Option<bool>>, Alloc
     Ok(halves)
 }
 
-/// A batch that does just these moves, in their order, by directions that need the fewest settings: each
-/// link is used by at most half of the ends at its module, rounded up. So a shortest schedule, as planning
-/// gives it, has half as many settings as there are ends at the busiest module, rounded up, and no other
-/// directions have a schedule of fewer.
+/// A batch that does just these moves, in their order, by directions that need the fewest settings:
+/// each link is used by at most half of the ends at its module, rounded up. So a shortest schedule,
+/// as planning gives it, has half as many settings as there are ends at the busiest module, rounded
+/// up, and no other directions have a schedule of fewer.
 ///
-/// Euler walks go along a move from end to end, and at each module from an end to the one that it is paired
-/// with; the ends that they meet start a transfer and answer one in turn (Petersen 1891). Takes time and
-/// room that grow with the number of moves.
+/// Euler walks go along a move from end to end, and at each module from an end to the one that it
+/// is paired with; the ends that they meet start a transfer and answer one in turn (Petersen 1891).
+/// Takes time and room that grow with the number of moves.
 pub fn direct(alloc: Global, moves: &MoveList) -> Result<Batch, AllocError>
     ensures moves { IfOk result (λ batch. Directs moves.now batch) }
     ensures halved { IfOk result (λ batch. HalvesEnds moves.now batch) }

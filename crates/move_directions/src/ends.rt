@@ -2,7 +2,7 @@
 
 ghost use Rattle.std.specs.Prelude.{◌≡◌, ◌≤◌, ◌*◌, ℕ, length, None, slice_index_or};
 ghost use Rattle.euler_split.specs.Pairs.{AreBalanced};
-ghost use Rattle.move_directions.specs.Ends.{AreJoined, module_of_end};
+ghost use Rattle.move_directions.specs.Ends.{AreOtherEnds, module_of_end};
 ghost use Rattle.move_directions.specs.Moves.{IsMoveList};
 
 use crate::moves::Move;
@@ -14,7 +14,7 @@ pub(crate) fn join(count: usize, partners: &mut [Option<u16>])
     requires few { count ≤ MAX_TRANSFERS }
     requires sized { length partners.old ≡ 2 * count }
     requires empty { (place : ℕ) → slice_index_or partners.old place None ≡ None }
-    ensures { AreJoined (2 * count) partners.new }
+    ensures { AreOtherEnds (2 * count) partners.new }
 {
     for t in 0..count {
         let source = 2 * t;

@@ -9,16 +9,16 @@ use batch::{BatchFault, MAX_TRANSFERS, Place};
 use std::alloc::{AllocError, Global};
 use std::marker::Model;
 
-/// A block that goes to another place, which may be of the same module. Either end may start the transfer
-/// that does this.
+/// A block that goes to another place, which may be of the same module. Either end may start the
+/// transfer that does this.
 #[derive(Clone, Copy, Debug, PartialEq, Eq)]
 pub struct Move {
     pub source: Place,
     pub destination: Place,
 }
 
-/// A list of moves, numbered from 0: at most [`MAX_TRANSFERS`] of them, all of them between blocks of the
-/// widest shape. Equal moves are different members of the list.
+/// A list of moves, numbered from 0: at most [`MAX_TRANSFERS`] of them, all of them between blocks
+/// of the widest shape. Equal moves are different members of the list.
 #[derive(Drop)]
 pub struct MoveList {
     moves: Vec<Move>,
@@ -37,12 +37,13 @@ impl Model for MoveList {
 }
 
 impl MoveList {
-    /// Reads a text of moves: the line `moves N`, then N lines `move M b N c`, by which block b of module M
-    /// goes to block c of module N.
+    /// Reads a text of moves: the line `moves N`, then N lines `move M b N c`, by which block b of
+    /// module M goes to block c of module N.
     ///
-    /// Gives the list that the text denotes, or the text's first fault; its faults are those of a batch
-    /// text, judged in the same order. Modules and blocks have to be of the widest shape. Want of memory is
-    /// answered only where a move had to be kept. Takes time linear in the length of the text.
+    /// Gives the list that the text denotes, or the text's first fault; its faults are those of a
+    /// batch text, judged in the same order. Modules and blocks have to be of the widest shape.
+    /// Want of memory is answered only where a move had to be kept. Takes time linear in the length
+    /// of the text.
     pub fn read(alloc: Global, text: &[u8]) -> Result<MoveList, BatchFault>
         ensures moves { IfOk result (λ moves. Denotes text.now moves) }
         ensures fault { IfErr result (λ fault. fault ≢ NoMemory → IsFirstFault text.now fault) }
@@ -61,8 +62,8 @@ impl MoveList {
         Ok(MoveList { moves })
     }
 
-    /// The list's text: the line `moves N`, then the N lines of its moves. Reading it gives an equal list.
-    /// Takes time that grows with the length of the text.
+    /// The list's text: the line `moves N`, then the N lines of its moves. Reading it gives an
+    /// equal list. Takes time that grows with the length of the text.
     pub fn write(&self) -> Result<Vec<u8>, AllocError>
         ensures { IfOk result (λ text. text.items ≡ moves_text self.now) }
     {

@@ -1,11 +1,12 @@
-//! The parts of a text of moves, read from the left. Each reader gives what it has read and the rest.
+//! The parts of a text of moves, read from the left. Each reader gives what it has read and the
+//! rest.
 
 ghost use Rattle.std.specs.Prelude.{◌≡◌, ◌≢◌, ◌<◌, ◌≤◌, List, ℕ, ◌++◌, IfSome, IfNone, IfOk, IfErr};
 ghost use Rattle.batch.specs.declared.fault.BatchFault.TheVariants.{NoMemory};
 ghost use Rattle.batch.specs.Text.{IsDigit};
 ghost use Rattle.move_directions.specs.Faults.{AreMoves, BeginsWithLine, BeginsWithNoLine, BeginsWithNoPlace, BeginsWithPlace, HasGrown, HasNoHead, IsHeaded, IsLineFault, StopsAt};
 ghost use Rattle.move_directions.specs.Moves.{IsWithin};
-ghost use Rattle.move_directions.specs.Text.{line, word};
+ghost use Rattle.move_directions.specs.Text.{line, first_word};
 
 use crate::moves::Move;
 use batch::{BatchFault, MAX_BLOCKS, MAX_MODULES, MAX_TRANSFERS, Place, number_before};
@@ -32,8 +33,8 @@ fn place_before(bytes: &[u8], end: u8) -> Option<(Place, &[u8])>
 
 /// What stands behind the word that a move's line begins with.
 fn behind_word(bytes: &[u8]) -> Option<&[u8]>
-    ensures some { IfSome result (λ rest. bytes.now ≡ word ++ rest.now) }
-    ensures none { IfNone result ((rest : List ℕ) → bytes.now ≢ word ++ rest) }
+    ensures some { IfSome result (λ rest. bytes.now ≡ first_word ++ rest.now) }
+    ensures none { IfNone result ((rest : List ℕ) → bytes.now ≢ first_word ++ rest) }
 {
     bytes.strip_prefix(b"move ")
 }

@@ -6,7 +6,7 @@ use Rattle.module_memory.specs.declared.address.TheConstants.{HOLD_START, WORD_B
 use Rattle.batch.specs.Places.{HasPlace}
 use Rattle.batch.specs.declared.transfer.Place.{Place}
 use Rattle.module_memory.specs.Store.{Store, block_of}
-use Rattle.module_memory.specs.Lending.{BlockAt, Left, HasCopy, with_word}
+use Rattle.module_memory.specs.Lending.{BlockAt, RestView, HasCopy, with_word}
 use Rattle.module_memory.specs.Address.{number_from}
 use Rattle.peek_poke.specs.declared.fault.StoreFault.{StoreFault}
 use Rattle.peek_poke.specs.declared.fault.StoreFault.TheVariants.{Misaligned, Outside}
@@ -37,7 +37,7 @@ abbrev pub HasBlock : Store → Place → Type 0
 HasBlock s p = HasPlace s.shape p × (length (block_of s p) ≡ s.shape.words)
 
 -- the rest holds the block at the place, and the store has its copy
-abbrev pub IsHeldStore : Left → Place → BlockAt → Type 0
+abbrev pub IsHeldStore : RestView → Place → BlockAt → Type 0
 IsHeldStore rest p store = (store.place ≡ p) × HasCopy rest p store.words
 
 -- something done with a word that is there

@@ -13,15 +13,16 @@ use Rattle.peek_poke.specs.declared.fault.AnswerFault.TheVariants.{Boot, Misalig
 use Rattle.peek_poke.specs.Messages.{word_bytes, spell, IsMessage, IsPartial, Pending}
 
 -- what reads of a store give
-abbrev pub Reads : Type 0 → Type 0
-Reads S = S → ℕ → Result ℕ StoreFault
+abbrev pub ReadsWord : Type 0 → Type 0
+ReadsWord S = S → ℕ → Result ℕ StoreFault
 
 -- what writes to a store leave
-abbrev pub Writes : Type 0 → Type 0
-Writes S = S → ℕ → ℕ → Result S StoreFault
+abbrev pub WritesWord : Type 0 → Type 0
+WritesWord S = S → ℕ → ℕ → Result S StoreFault
 
 -- a message makes one store of another: a poke writes its word, a peek answers the word as it is
-abbrev pub Does : {S : Type 0} → Reads S → Writes S → S → Message → Option (List ℕ) → S → Type 0
+abbrev pub Does : {S : Type 0} → ReadsWord S → WritesWord S → S → Message → Option (List ℕ) → S
+    → Type 0
 Does read write s (Poke address word) answer t = (answer ≡ None) × (write s address word ≡ Ok t)
 Does read write s (Peek address) answer t =
     (t ≡ s)
@@ -29,12 +30,13 @@ Does read write s (Peek address) answer t =
     × (answer ≡ Some (word_bytes word)))
 
 -- the store refuses the message
-abbrev pub IsRefused : {S : Type 0} → Reads S → Writes S → S → Message → StoreFault → Type 0
+abbrev pub IsRefused : {S : Type 0} → ReadsWord S → WritesWord S → S → Message → StoreFault → Type 0
 IsRefused read write s (Poke address word) fault = write s address word ≡ Err fault
 IsRefused read write s (Peek address) fault = read s address ≡ Err fault
 
 -- messages, one after another
-abbrev pub DoAll : {S : Type 0} → Reads S → Writes S → S → List Message → List (List ℕ) → S → Type 0
+abbrev pub DoAll : {S : Type 0} → ReadsWord S → WritesWord S → S → List Message → List (List ℕ) → S
+    → Type 0
 DoAll read write s [] answers t = (answers ≡ []) × (t ≡ s)
 DoAll {S} read write s (m ∷ ms) answers t =
     (answer : Option (List ℕ)) × (u : S) × (more : List (List ℕ)) × Does read write s m answer u
@@ -42,7 +44,8 @@ DoAll {S} read write s (m ∷ ms) answers t =
 
 -- the text is that of messages, which made the one store of the other, with these answers, and then
 -- less than a whole message
-pub record HasAnswered {S : Type 0} (read : Reads S) (write : Writes S) (s : S) (text : List ℕ)
+pub record HasAnswered {S : Type 0} (read : ReadsWord S) (write : WritesWord S) (s : S)
+    (text : List ℕ)
     (answers : List (List ℕ)) (end : Pending) (t : S) : Type 0 where
   pub messages : List Message
   pub each : All IsMessage messages
@@ -52,7 +55,7 @@ pub record HasAnswered {S : Type 0} (read : Reads S) (write : Writes S) (s : S) 
   pub did : DoAll read write s messages answers t
 
 -- whatever came before, from whatever store on, the byte is the next one of that text
-abbrev pub Continues : {S : Type 0} → Reads S → Writes S → Pending → S → ℕ
+abbrev pub Continues : {S : Type 0} → ReadsWord S → WritesWord S → Pending → S → ℕ
     → Result (Option (List ℕ)) AnswerFault → Pending → S → Type 0
 Continues {S} read write old s byte result new t =
     (first : S) (text : List ℕ) (answers : List (List ℕ))
@@ -70,7 +73,8 @@ pub record Waits {S : Type 0} (old : Pending) (s : S) (byte : ℕ) (answer : Opt
   pub same : t ≡ s
 
 -- the byte ends a message, which takes effect
-pub record Ends {S : Type 0} (read : Reads S) (write : Writes S) (old : Pending) (s : S) (byte : ℕ)
+pub record Ends {S : Type 0} (read : ReadsWord S) (write : WritesWord S) (old : Pending) (s : S)
+    (byte : ℕ)
     (answer : Option (List ℕ)) (new : Pending) (t : S) : Type 0 where
   pub message : Message
   pub fits : IsMessage message
@@ -79,14 +83,16 @@ pub record Ends {S : Type 0} (read : Reads S) (write : Writes S) (old : Pending)
   pub does : Does read write s message answer t
 
 -- the byte ends a message that the store refuses
-abbrev pub EndsRefused : {S : Type 0} → Reads S → Writes S → Pending → S → ℕ → StoreFault → Type 0
+abbrev pub EndsRefused : {S : Type 0} → ReadsWord S → WritesWord S → Pending → S → ℕ → StoreFault
+    → Type 0
 EndsRefused read write old s byte fault =
     (m : Message) × IsMessage m × (old.bytes ++ byte ∷ [] ≡ spell m)
     × IsRefused read write s m fault
 
 -- the cause of a fault: no control byte of a message, a message that the store refuses, or an
 -- earlier fault
-abbrev pub IsCause : {S : Type 0} → Reads S → Writes S → Pending → S → ℕ → AnswerFault → Type 0
+abbrev pub IsCause : {S : Type 0} → ReadsWord S → WritesWord S → Pending → S → ℕ → AnswerFault
+    → Type 0
 IsCause read write old s byte (Boot control) =
     (old.failed ≡ false) × (old.bytes ≡ []) × (control ≡ byte) × (PEEK < byte)
 IsCause read write old s byte Misaligned =
@@ -96,7 +102,7 @@ IsCause read write old s byte Outside =
 IsCause read write old s byte Failed = old.failed ≡ true
 
 -- one byte: it is taken, or there is a cause not to, which leaves the store
-abbrev pub Feeds : {S : Type 0} → Reads S → Writes S → Pending → S → ℕ
+abbrev pub Feeds : {S : Type 0} → ReadsWord S → WritesWord S → Pending → S → ℕ
     → Result (Option (List ℕ)) AnswerFault → Pending → S → Type 0
 Feeds read write old s byte result new t = MatchResult result
     (λ answer. (old.failed ≡ false) × (new.failed ≡ false)

@@ -5,7 +5,7 @@ use Rattle.std.specs.Prelude.{ℕ, List}
 -- a wire with a fuse
 pub record Fuse : Type 0 where
   -- how many bytes it still carries
-  pub left : ℕ
+  pub remaining : ℕ
   -- how often it has failed
   pub failures : ℕ
   -- the bytes that it has carried

@@ -4,9 +4,9 @@ use Rattle.peek_poke.specs.declared.fuse.FuseLine.{FuseLine}
 use Rattle.peek_poke.specs.declared.fuse.FuseLine.TheVariants.{Whole, Fused}
 
 -- how many bytes it still carries, where it has a fuse
-abbrev pub left_of : FuseLine → Option ℕ
-left_of (Whole wire) = None
-left_of (Fused wire) = Some wire.left
+abbrev pub remaining_of : FuseLine → Option ℕ
+remaining_of (Whole wire) = None
+remaining_of (Fused wire) = Some wire.remaining
 
 -- how often it has failed
 abbrev pub failures_of : FuseLine → ℕ
@@ -26,4 +26,4 @@ IsWhole (Fused wire) = ⊥
 -- it carries a byte more
 abbrev pub HasByte : FuseLine → Type 0
 HasByte (Whole wire) = Unit {0}
-HasByte (Fused wire) = 0 < wire.left
+HasByte (Fused wire) = 0 < wire.remaining

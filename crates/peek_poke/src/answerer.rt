@@ -10,10 +10,10 @@ use crate::store::WordStore;
 use contract_data::PassedBytes;
 use std::marker::Model;
 
-/// The answering end of a module: it takes the bytes of pokes and peeks one by one, as an IMS T414 does
-/// while it waits to boot from a link (data sheet). Unlike one, it answers at all times, until it has
-/// failed: this is the project's choice. Contracts see whether it has failed, what has come of the next
-/// message, and all bytes that it was handed.
+/// The answering end of a module: it takes the bytes of pokes and peeks one by one, as an IMS T414
+/// does while it waits to boot from a link (data sheet). Unlike one, it answers at all times, until
+/// it has failed: this is the project's choice. Contracts see whether it has failed, what has come
+/// of the next message, and all bytes that it was handed.
 #[derive(Drop)]
 pub struct Answerer {
     bytes: [u8; POKE_BYTES],
@@ -76,10 +76,10 @@ impl Answerer {
 
     /// Takes the next byte, and answers the bytes of the word at the end of a peek.
     ///
-    /// A message takes effect at its last byte; until then its bytes do nothing. A control byte above
-    /// [`PEEK`] is answered `Boot` at once; an address that the store refuses is answered `Misaligned` or
-    /// `Outside` at the last byte of its message. A fault leaves the store as it is, and every byte
-    /// behind it is answered `Failed`.
+    /// A message takes effect at its last byte; until then its bytes do nothing. A control byte
+    /// above [`PEEK`] is answered `Boot` at once; an address that the store refuses is answered
+    /// `Misaligned` or `Outside` at the last byte of its message. A fault leaves the store as it
+    /// is, and every byte behind it is answered `Failed`.
     #[inline]
     pub fn feed<S: WordStore>(
         &mut self,
@@ -138,8 +138,9 @@ impl Answerer {
         }
     }
 
-    /// Takes a byte that its message goes on behind, as [`feed`](Answerer::feed) does: `count` bytes of the
-    /// message came before it. The number is handed in so that the compiler knows where the byte stands.
+    /// Takes a byte that its message goes on behind, as [`feed`](Answerer::feed) does: `count`
+    /// bytes of the message came before it. The number is handed in so that the compiler knows
+    /// where the byte stands.
     #[inline]
     pub(crate) fn keep(&mut self, count: usize, arrived: u8)
         requires alive { self.old.failed ≡ false }

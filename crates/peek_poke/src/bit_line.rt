@@ -8,8 +8,8 @@ use contract_data::PassedBytes;
 use link_bytes::{BitReader, Packet, laws};
 use std::marker::Model;
 
-/// A line with a reader at its other end. Contracts see what has come of the next packet, and the bytes of
-/// the data packets that it brought. It takes no memory.
+/// A line with a reader at its other end. Contracts see what has come of the next packet, and the
+/// bytes of the data packets that it brought. It takes no memory.
 #[derive(Drop)]
 pub struct BitLine {
     reader: BitReader,
@@ -35,7 +35,8 @@ impl BitLine {
         }
     }
 
-    /// Brings the bits of a packet to the other end, one by one, and gives the packet that was read there.
+    /// Brings the bits of a packet to the other end, one by one, and gives the packet that was read
+    /// there.
     pub fn bring(&mut self, bits: &[bool]) -> Option<Packet>
         requires { self.old.reading ≡ begun [] }
         ensures { Brings bits.now self.old result self.new }

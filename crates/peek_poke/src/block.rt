@@ -12,8 +12,8 @@ use batch::Place;
 use module_memory::{Bay, Rest, WINDOW_START, WORD_BYTES};
 use std::marker::Model;
 
-/// Which word of a block an address is: the block stands at this number in a window that begins at an
-/// address, and each block of the window has so many words.
+/// Which word of a block an address is: the block stands at this number in a window that begins at
+/// an address, and each block of the window has so many words.
 pub fn word_in_block(
     start: u32,
     block: usize,
@@ -53,8 +53,8 @@ impl WordStore for Bay {
     }
 }
 
-/// A block of what is left of a rack, as a store to be read: every write is `Outside`, also one to a
-/// misaligned address, which is this project's choice. Contracts see the block's place and words.
+/// A block of what is left of a rack, as a store to be read: every write is `Outside`, also one to
+/// a misaligned address, which is this project's choice. Contracts see the block's place and words.
 #[derive(Drop)]
 pub struct RestStore<'a> {
     rest: &'a Rest,

@@ -2,8 +2,8 @@
 
 use thiserror::Error;
 
-/// Why a store can't read or write an address. That an address is misaligned is tested first, which is
-/// this project's choice.
+/// Why a store can't read or write an address. That an address is misaligned is tested first, which
+/// is this project's choice.
 #[derive(Clone, Copy, Debug, PartialEq, Eq, Error)]
 pub enum StoreFault {
     /// The address is no multiple of four.

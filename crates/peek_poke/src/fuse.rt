@@ -2,7 +2,7 @@
 
 ghost use Rattle.std.specs.Prelude.{◌≡◌, ◌≢◌, ◌<◌, ◌≤◌, ◌+◌, ◌-◌, ◌↔◌, [], ◌∷◌, ◌++◌, Some, IsOk, IfOk, OnOk, OnErr};
 ghost use Rattle.std.specs.Option.{option_map};
-ghost use Rattle.peek_poke.specs.FuseLines.{left_of, failures_of, carried_by, IsWhole, HasByte};
+ghost use Rattle.peek_poke.specs.FuseLines.{remaining_of, failures_of, carried_by, IsWhole, HasByte};
 
 use crate::fault::WireFault;
 use crate::plain::PlainWire;
@@ -10,11 +10,12 @@ use crate::wire::{Wire, WireMaker};
 use contract_data::FailureCount;
 use std::marker::Model;
 
-/// A wire that carries so many bytes as the bits of a link, and then fails every call. It takes no memory.
+/// A wire that carries so many bytes as the bits of a link, and then fails every call. It takes no
+/// memory.
 #[derive(Drop)]
 pub struct FuseWire {
     plain: PlainWire,
-    left: usize,
+    remaining: usize,
     failed: FailureCount,
 }
 
@@ -24,17 +25,17 @@ impl Model for FuseWire {
     ghost Value = { Fuse };
 
     ghost view = { λ wire.
-        record { left = wire.left; failures = wire.failed; carried = wire.plain } };
+        record { remaining = wire.remaining; failures = wire.failed; carried = wire.plain } };
 }
 
 impl FuseWire {
     /// A wire that carries so many bytes.
     pub fn new(bytes: usize) -> FuseWire
-        ensures { result ≡ record { left = bytes; failures = 0; carried = [] } }
+        ensures { result ≡ record { remaining = bytes; failures = 0; carried = [] } }
     {
         FuseWire {
             plain: PlainWire::new(),
-            left: bytes,
+            remaining: bytes,
             failed: FailureCount::zero(),
         }
     }
@@ -52,17 +53,17 @@ impl Wire for FuseWire {
         ensures added { OnOk result (self.new.carried ≡ self.old.carried ++ byte ∷ []) }
         ensures kept { OnErr result (self.new.carried ≡ self.old.carried) }
         // It carries bytes just as long as some are left.
-        ensures carries { IsOk result ↔ (0 < self.old.left) }
-        ensures left { self.new.left ≡ self.old.left - 1 }
+        ensures carries { IsOk result ↔ (0 < self.old.remaining) }
+        ensures remaining { self.new.remaining ≡ self.old.remaining - 1 }
         ensures fault { OnErr result (self.new.failures ≡ self.old.failures + 1) }
         ensures counted { self.old.failures ≤ self.new.failures }
         ensures unfailed { OnOk result (self.new.failures ≡ self.old.failures) }
     {
-        if self.left == 0 {
+        if self.remaining == 0 {
             self.failed.raise();
             return Err(WireFault);
         }
-        self.left -= 1;
+        self.remaining -= 1;
         self.plain.carry(byte)
     }
 }
@@ -88,7 +89,7 @@ impl Wire for FuseLine {
         ensures added { OnOk result (carried_by self.new ≡ carried_by self.old ++ byte ∷ []) }
         ensures kept { OnErr result (carried_by self.new ≡ carried_by self.old) }
         ensures carries { IsOk result ↔ HasByte self.old }
-        ensures left { left_of self.new ≡ option_map (λ left. left - 1) (left_of self.old) }
+        ensures remaining { remaining_of self.new ≡ option_map (λ remaining. remaining - 1) (remaining_of self.old) }
         ensures fault { OnErr result (failures_of self.new ≡ failures_of self.old + 1) }
         ensures counted { failures_of self.old ≤ failures_of self.new }
         ensures unfailed { OnOk result (failures_of self.new ≡ failures_of self.old) }
@@ -102,7 +103,8 @@ impl Wire for FuseLine {
     }
 }
 
-/// Makes a wire with a fuse of so many bytes for one transfer, and for the others wires that never fail.
+/// Makes a wire with a fuse of so many bytes for one transfer, and for the others wires that never
+/// fail.
 #[derive(Clone, Copy, Debug, PartialEq, Eq)]
 pub struct FuseWires {
     /// The number of the transfer in its batch.
@@ -120,7 +122,7 @@ impl WireMaker for FuseWires {
         ensures fresh { failures_of result ≡ 0 }
         ensures unused { carried_by result ≡ [] }
         ensures sure { transfer ≢ self.now.transfer → IsWhole result }
-        ensures fused { transfer ≡ self.now.transfer → left_of result ≡ Some self.now.bytes }
+        ensures fused { transfer ≡ self.now.transfer → remaining_of result ≡ Some self.now.bytes }
     {
         if transfer == self.transfer {
             FuseLine::Fused(FuseWire::new(self.bytes))

@@ -12,9 +12,9 @@ use batch::Place;
 use module_memory::{HOLD_START, Rest};
 use std::marker::Model;
 
-/// A held block of what is left of a rack, as a store to be read, at its addresses in the hold window: every
-/// other address, a misaligned one too, and every write is `Outside`, which is this project's choice.
-/// Contracts see the block's place and the words of its copy.
+/// A held block of what is left of a rack, as a store to be read, at its addresses in the hold
+/// window: every other address, a misaligned one too, and every write is `Outside`, which is this
+/// project's choice. Contracts see the block's place and the words of its copy.
 #[derive(Drop)]
 pub struct HeldStore<'a> {
     rest: &'a Rest,

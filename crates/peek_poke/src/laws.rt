@@ -7,8 +7,8 @@ pub fn one_reading()
     ensures { OneReading }
 {}
 
-/// A block as a store has each of its words at that word's address in the module, and no word of another
-/// block.
+/// A block as a store has each of its words at that word's address in the module, and no word of
+/// another block.
 pub fn blocks()
     ensures read { WordsAreRead }
     ensures written { WordsAreWritten }

@@ -1,5 +1,5 @@
-//! Peek and poke on a transputer's link (IMS T414): messages spelt as bytes, the end that answers them
-//! byte by byte, and words moved over a wire.
+//! Peek and poke on a transputer's link (IMS T414): messages spelt as bytes, the end that answers
+//! them byte by byte, and words moved over a wire.
 #![tactic(auto)]
 
 mod answerer;

@@ -28,8 +28,8 @@ pub enum Message {
     Peek { address: u32 },
 }
 
-/// The bytes of a poke, the first one first: its control byte, the address and the word, each with the
-/// least significant byte first.
+/// The bytes of a poke, the first one first: its control byte, the address and the word, each with
+/// the least significant byte first.
 pub fn poke_bytes(address: u32, word: u32) -> [u8; POKE_BYTES]
     ensures { result ≡ spell (Poke address word) }
 {

@@ -8,8 +8,9 @@ use crate::wire::{Wire, WireMaker};
 use link_bytes::{ACK, HalfLink, laws};
 use std::marker::Model;
 
-/// A wire that never fails. Each byte goes as the bits of its data packet on one line, and its acknowledge
-/// comes back on the opposite line (IMS T414 data sheet, link protocol). It takes no memory.
+/// A wire that never fails. Each byte goes as the bits of its data packet on one line, and its
+/// acknowledge comes back on the opposite line (IMS T414 data sheet, link protocol). It takes no
+/// memory.
 pub struct PlainWire {
     sender: HalfLink,
     receiver: HalfLink,
@@ -28,8 +29,9 @@ impl Model for PlainWire {
     ghost invariant = { λ w. AreIdle w.sender w.receiver w.line w.opposite_line };
 }
 
-// Derived drop code is written out anew in each crate that lets go of a wire, and the code that moves words over
-// the wire with it. This stands once in a program, so that code does too, and is inlined.
+// Derived drop code is written out anew in each crate that lets go of a wire, and the code that
+// moves words over the wire with it. This stands once in a program, so that code does too, and is
+// inlined.
 impl Drop for PlainWire {
     fn drop(self) {
         let PlainWire {

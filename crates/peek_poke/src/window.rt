@@ -8,8 +8,8 @@ use crate::store::WordStore;
 use module_memory::{MemoryFault, Rack};
 use std::marker::Model;
 
-/// A whole module of a rack, as a store of its words. Contracts see the words of the rack and the number
-/// of the module.
+/// A whole module of a rack, as a store of its words. Contracts see the words of the rack and the
+/// number of the module.
 #[derive(Drop)]
 pub struct Window {
     rack: Rack,

@@ -61,11 +61,12 @@ fn carry_back<W: Wire>(
     Ok([c0, c1, c2, c3])
 }
 
-/// Pokes a word over a wire: the bytes of the poke go forward, and the answering end writes the word.
+/// Pokes a word over a wire: the bytes of the poke go forward, and the answering end writes the
+/// word.
 ///
 /// The answering end has to be at rest, and the store has to take the write. Nine bytes go over the
-/// wire, and the answering end takes them. Where the wire breaks, nothing is written; a new answering end has
-/// to be made then.
+/// wire, and the answering end takes them. Where the wire breaks, nothing is written; a new
+/// answering end has to be made then.
 #[inline(always)]
 pub fn push_word<W: Wire, S: WordStore>(
     wire: &mut W,
@@ -102,8 +103,9 @@ pub fn push_word<W: Wire, S: WordStore>(
 
 /// Peeks a word over a wire: the bytes of the peek go forward, and those of the word come back.
 ///
-/// The answering end has to be at rest, and the store has to have the address. The store stays as it is.
-/// Five bytes go forward and four come back. Where the wire breaks, a new answering end has to be made.
+/// The answering end has to be at rest, and the store has to have the address. The store stays as
+/// it is. Five bytes go forward and four come back. Where the wire breaks, a new answering end has
+/// to be made.
 #[inline(always)]
 pub fn pull_word<W: Wire, S: WordStore>(
     wire: &mut W,

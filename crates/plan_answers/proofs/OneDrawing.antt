@@ -21,7 +21,7 @@ use Rattle.schedule_picture.proofs.OneVerdict.{one_verdict}
 use Rattle.plan_answers.specs.declared.setting_range.SettingRange.{SettingRange}
 use Rattle.plan_answers.specs.Refusals.{Printed, IsRefused}
 use Rattle.plan_answers.specs.Validities.{IsScheduleRead, IsValid, IsUnscheduled, IsInvalid, unread, unscheduled}
-use Rattle.plan_answers.specs.Drawings.{IsInOrder, AreWanted, IsBadWish, AreShown, IsOutside, IsDrawing, IsFirstUndrawn, no_range, invalid, no_setting, IsDrawn, drawn, undrawn}
+use Rattle.plan_answers.specs.Drawings.{IsInOrder, AreWanted, IsBadSettingsText, AreShown, IsOutside, IsDrawing, IsFirstUndrawn, no_range, invalid, no_setting, IsDrawn, drawn, undrawn}
 use Rattle.plan_answers.proofs.OneReading.{same_texts, texts_right, one_text_wrong}
 use Rattle.plan_answers.proofs.Printing.{printed_same, refused_same}
 use Rattle.plan_answers.proofs.Ranges.{one_range}
@@ -29,23 +29,23 @@ use Rattle.plan_answers.proofs.Ranges.{one_range}
 -- ---- which settings are drawn
 
 -- what is wanted is in order
-pub in_order : (wish : Option (List ℕ)) (range : Option SettingRange) → AreWanted wish range → IfSome range IsInOrder
-in_order wish None p = tt
+pub in_order : (settings_text : Option (List ℕ)) (range : Option SettingRange) → AreWanted settings_text range → IfSome range IsInOrder
+in_order settings_text None p = tt
 in_order None (Some range) p = absurd p
 in_order (Some text) (Some range) p = p.some
 
-same_wish : (wish : Option (List ℕ)) (a b : Option SettingRange) → AreWanted wish a → AreWanted wish b → a ≡ b
-same_wish None None None p q = refl
-same_wish None None (Some b) p q = absurd q
-same_wish None (Some a) b p q = absurd p
-same_wish (Some text) None b p q = absurd p
-same_wish (Some text) (Some a) None p q = absurd q
-same_wish (Some text) (Some a) (Some b) p q = ap Some (one_range text a b p q)
+same_range : (settings_text : Option (List ℕ)) (a b : Option SettingRange) → AreWanted settings_text a → AreWanted settings_text b → a ≡ b
+same_range None None None p q = refl
+same_range None None (Some b) p q = absurd q
+same_range None (Some a) b p q = absurd p
+same_range (Some text) None b p q = absurd p
+same_range (Some text) (Some a) None p q = absurd q
+same_range (Some text) (Some a) (Some b) p q = ap Some (one_range text a b p q)
 
-good_wish : (wish : Option (List ℕ)) (range : Option SettingRange) → AreWanted wish range → IsBadWish wish → ⊥
-good_wish None range p bad = bad
-good_wish (Some text) None p bad = p
-good_wish (Some text) (Some range) p bad = bad range p
+no_bad_range : (settings_text : Option (List ℕ)) (range : Option SettingRange) → AreWanted settings_text range → IsBadSettingsText settings_text → ⊥
+no_bad_range None range p bad = bad
+no_bad_range (Some text) None p bad = p
+no_bad_range (Some text) (Some range) p bad = bad range p
 
 same_shown : (range : Option SettingRange) (settings : ℕ) (a b : Shown) → AreShown range settings a → AreShown range settings b → a ≡ b
 same_shown None settings a b p q = p ∙ sym q
@@ -66,7 +66,8 @@ same_outside (Some range) settings k l a b = a.1 ∙ sym b.1
 wrong_same : (t u : ℕ) → WrongLink t ≡ WrongLink u → t ≡ u
 wrong_same t u e = cc
 
--- A schedule of the batch has no fault whatever is named with it: where one number is named, and no link, that is the first fault.
+-- A schedule of the batch has no fault whatever is named with it: where one number is named, and no
+-- link, that is the first fault.
 no_fault : (batch : List Transfer) (settings : List (List ℕ)) (fault : CheckFault) → IsScheduleOf batch settings → IsSettingsFault batch settings fault → ⊥
 no_fault batch settings fault s bad =
     let is : (t : ℕ) → fault ≡ WrongLink t = λ t.
@@ -106,42 +107,42 @@ same_reading P shape valid batch schedule ts us xs ys v w a b p =
     let moved = same_texts (λ t x n. (u : Verdict) × IsVerdict t x n u × P t x u) shape valid batch schedule ts us xs ys a.read.certificate b.read.certificate a.read.texts b.read.texts (w, b.known, p) in
     subst (P ts xs) (one_verdict ts xs a.read.certificate moved.0 v moved.1 a.known) moved.2
 
-one_text : (shape : Extent) → IsShape shape → (batch schedule : List ℕ) (wish : Option (List ℕ)) (t u : List ℕ) → IsDrawing shape batch schedule wish t → IsDrawing shape batch schedule wish u → t ≡ u
-one_text shape valid batch schedule wish t u a b =
-    let range : b.range ≡ a.range = same_wish wish b.range a.range b.wanted a.wanted in
+one_text : (shape : Extent) → IsShape shape → (batch schedule : List ℕ) (settings_text : Option (List ℕ)) (t u : List ℕ) → IsDrawing shape batch schedule settings_text t → IsDrawing shape batch schedule settings_text u → t ≡ u
+one_text shape valid batch schedule settings_text t u a b =
+    let range : b.range ≡ a.range = same_range settings_text b.range a.range b.wanted a.wanted in
     let shows : Shows u a.range b.transfers b.settings b.verdict = subst (λ (r : Option SettingRange). Shows u r b.transfers b.settings b.verdict) range (b.shown, b.are_shown, b.drawing) in
     same_picture t u a.range a.transfers a.settings a.verdict (a.shown, a.are_shown, a.drawing)
     (same_reading (Shows u a.range) shape valid batch schedule a.transfers b.transfers a.settings b.settings a.verdict b.verdict a.valid b.valid shows)
 
 -- a setting that is missing in one reading is missing in each
-same_missing : (shape : Extent) → IsShape shape → (batch schedule : List ℕ) (wish : Option (List ℕ)) (f g : Option SettingRange) (ts us : List Transfer) (xs ys : List (List ℕ)) (v w : Verdict) (k : ℕ)
-    → AreWanted wish f → AreWanted wish g → IsValid shape batch schedule ts xs v → IsValid shape batch schedule us ys w → IsOutside g (length ys) k → IsOutside f (length xs) k
-same_missing shape valid batch schedule wish f g ts us xs ys v w k wanted want a b outside =
-    same_reading (λ t x u. IsOutside f (length x) k) shape valid batch schedule ts us xs ys v w a b (subst (λ (r : Option SettingRange). IsOutside r (length ys) k) (same_wish wish g f want wanted) outside)
+same_missing : (shape : Extent) → IsShape shape → (batch schedule : List ℕ) (settings_text : Option (List ℕ)) (f g : Option SettingRange) (ts us : List Transfer) (xs ys : List (List ℕ)) (v w : Verdict) (k : ℕ)
+    → AreWanted settings_text f → AreWanted settings_text g → IsValid shape batch schedule ts xs v → IsValid shape batch schedule us ys w → IsOutside g (length ys) k → IsOutside f (length xs) k
+same_missing shape valid batch schedule settings_text f g ts us xs ys v w k wanted want a b outside =
+    same_reading (λ t x u. IsOutside f (length x) k) shape valid batch schedule ts us xs ys v w a b (subst (λ (r : Option SettingRange). IsOutside r (length ys) k) (same_range settings_text g f want wanted) outside)
 
 -- what is drawn has nothing wrong
-drawn_right : (shape : Extent) → IsShape shape → (batch schedule : List ℕ) (wish : Option (List ℕ)) (text : List ℕ) (refusal : Refusal) → IsDrawing shape batch schedule wish text → IsFirstUndrawn shape batch schedule wish refusal → ⊥
-drawn_right shape valid batch schedule wish text refusal a (no_range bad is) = good_wish wish a.range a.wanted bad
-drawn_right shape valid batch schedule wish text refusal a (invalid range wanted wrong) = read_right shape valid batch schedule a.transfers a.settings refusal a.valid.read wrong
-drawn_right shape valid batch schedule wish text refusal a (no_setting range ts xs v k wanted is outside _) =
+drawn_right : (shape : Extent) → IsShape shape → (batch schedule : List ℕ) (settings_text : Option (List ℕ)) (text : List ℕ) (refusal : Refusal) → IsDrawing shape batch schedule settings_text text → IsFirstUndrawn shape batch schedule settings_text refusal → ⊥
+drawn_right shape valid batch schedule settings_text text refusal a (no_range bad is) = no_bad_range settings_text a.range a.wanted bad
+drawn_right shape valid batch schedule settings_text text refusal a (invalid range wanted wrong) = read_right shape valid batch schedule a.transfers a.settings refusal a.valid.read wrong
+drawn_right shape valid batch schedule settings_text text refusal a (no_setting range ts xs v k wanted is outside _) =
     not_outside a.range (length a.settings) k a.shown a.are_shown
-    (same_missing shape valid batch schedule wish a.range range a.transfers ts a.settings xs a.verdict v k a.wanted wanted a.valid is outside)
+    (same_missing shape valid batch schedule settings_text a.range range a.transfers ts a.settings xs a.verdict v k a.wanted wanted a.valid is outside)
 
-one_undrawn : (shape : Extent) → IsShape shape → (batch schedule : List ℕ) (wish : Option (List ℕ)) (q r : Refusal) → IsFirstUndrawn shape batch schedule wish q → IsFirstUndrawn shape batch schedule wish r → q ≡ r
-one_undrawn shape valid batch schedule wish q r (no_range a is) (no_range b are) = is ∙ sym are
-one_undrawn shape valid batch schedule wish q r (no_range a is) (invalid range wanted b) = absurd (good_wish wish range wanted a)
-one_undrawn shape valid batch schedule wish q r (no_range a is) (no_setting range us ys w l wanted b out are) = absurd (good_wish wish range wanted a)
-one_undrawn shape valid batch schedule wish q r (invalid range wanted a) (no_range b are) = absurd (good_wish wish range wanted b)
-one_undrawn shape valid batch schedule wish q r (invalid range wanted a) (invalid other want b) = one_invalid shape valid batch schedule q r a b
-one_undrawn shape valid batch schedule wish q r (invalid range wanted a) (no_setting other us ys w l want b out are) = absurd (read_right shape valid batch schedule us ys q b.read a)
-one_undrawn shape valid batch schedule wish q r (no_setting range ts xs v k wanted a outside is) (no_range b are) = absurd (good_wish wish range wanted b)
-one_undrawn shape valid batch schedule wish q r (no_setting range ts xs v k wanted a outside is) (invalid other want b) = absurd (read_right shape valid batch schedule ts xs r a.read b)
-one_undrawn shape valid batch schedule wish q r (no_setting range ts xs v k wanted a outside is) (no_setting other us ys w l want b out are) =
-    is ∙ ap NoSetting (same_outside range (length xs) k l outside (same_missing shape valid batch schedule wish range other ts us xs ys v w l wanted want a b out)) ∙ sym are
+one_undrawn : (shape : Extent) → IsShape shape → (batch schedule : List ℕ) (settings_text : Option (List ℕ)) (q r : Refusal) → IsFirstUndrawn shape batch schedule settings_text q → IsFirstUndrawn shape batch schedule settings_text r → q ≡ r
+one_undrawn shape valid batch schedule settings_text q r (no_range a is) (no_range b are) = is ∙ sym are
+one_undrawn shape valid batch schedule settings_text q r (no_range a is) (invalid range wanted b) = absurd (no_bad_range settings_text range wanted a)
+one_undrawn shape valid batch schedule settings_text q r (no_range a is) (no_setting range us ys w l wanted b out are) = absurd (no_bad_range settings_text range wanted a)
+one_undrawn shape valid batch schedule settings_text q r (invalid range wanted a) (no_range b are) = absurd (no_bad_range settings_text range wanted b)
+one_undrawn shape valid batch schedule settings_text q r (invalid range wanted a) (invalid other want b) = one_invalid shape valid batch schedule q r a b
+one_undrawn shape valid batch schedule settings_text q r (invalid range wanted a) (no_setting other us ys w l want b out are) = absurd (read_right shape valid batch schedule us ys q b.read a)
+one_undrawn shape valid batch schedule settings_text q r (no_setting range ts xs v k wanted a outside is) (no_range b are) = absurd (no_bad_range settings_text range wanted b)
+one_undrawn shape valid batch schedule settings_text q r (no_setting range ts xs v k wanted a outside is) (invalid other want b) = absurd (read_right shape valid batch schedule ts xs r a.read b)
+one_undrawn shape valid batch schedule settings_text q r (no_setting range ts xs v k wanted a outside is) (no_setting other us ys w l want b out are) =
+    is ∙ ap NoSetting (same_outside range (length xs) k l outside (same_missing shape valid batch schedule settings_text range other ts us xs ys v w l wanted want a b out)) ∙ sym are
 
-pub one_drawing : (shape : Extent) → IsShape shape → (batch schedule : List ℕ) (wish : Option (List ℕ)) (p q : Printed) → IsDrawn shape batch schedule wish p → IsDrawn shape batch schedule wish q → q ≡ p
-one_drawing shape valid batch schedule wish p q (drawn a ends) (drawn b stops) = printed_same q p (one_text shape valid batch schedule wish q.text p.text b a) (stops ∙ sym ends)
-one_drawing shape valid batch schedule wish p q (drawn a ends) (undrawn g b is) = absurd (drawn_right shape valid batch schedule wish p.text g a b)
-one_drawing shape valid batch schedule wish p q (undrawn f a is) (drawn b stops) = absurd (drawn_right shape valid batch schedule wish q.text f b a)
-one_drawing shape valid batch schedule wish p q (undrawn f a is) (undrawn g b was) =
-    refused_same (refusal_words g) q p was (subst (λ (r : Refusal). IsRefused (refusal_words r) p) (one_undrawn shape valid batch schedule wish f g a b) is)
+pub one_drawing : (shape : Extent) → IsShape shape → (batch schedule : List ℕ) (settings_text : Option (List ℕ)) (p q : Printed) → IsDrawn shape batch schedule settings_text p → IsDrawn shape batch schedule settings_text q → q ≡ p
+one_drawing shape valid batch schedule settings_text p q (drawn a ends) (drawn b stops) = printed_same q p (one_text shape valid batch schedule settings_text q.text p.text b a) (stops ∙ sym ends)
+one_drawing shape valid batch schedule settings_text p q (drawn a ends) (undrawn g b is) = absurd (drawn_right shape valid batch schedule settings_text p.text g a b)
+one_drawing shape valid batch schedule settings_text p q (undrawn f a is) (drawn b stops) = absurd (drawn_right shape valid batch schedule settings_text q.text f b a)
+one_drawing shape valid batch schedule settings_text p q (undrawn f a is) (undrawn g b was) =
+    refused_same (refusal_words g) q p was (subst (λ (r : Refusal). IsRefused (refusal_words r) p) (one_undrawn shape valid batch schedule settings_text f g a b) is)

@@ -9,7 +9,7 @@ use Rattle.refusals.specs.declared.refusal.Refusal.TheVariants.{Settings, NoSett
 use Rattle.refusals.specs.Refusals.{refusal_words}
 use Rattle.schedule_picture.specs.declared.shown.Shown.{Shown}
 use Rattle.schedule_picture.specs.declared.verdict.Verdict.{Verdict}
-use Rattle.schedule_picture.specs.Picture.{picture_of, whole}
+use Rattle.schedule_picture.specs.Picture.{picture_of, all_shown}
 use Rattle.plan_answers.specs.declared.limits.TheConstants.{DONE}
 use Rattle.plan_answers.specs.declared.setting_range.SettingRange.{SettingRange}
 use Rattle.plan_answers.specs.Refusals.{Printed, IsRefused}
@@ -44,13 +44,13 @@ AreWanted None (Some range) = ⊥
 AreWanted (Some text) None = ⊥
 
 -- a text is given that denotes no range
-abbrev pub IsBadWish : Option (List ℕ) → Type 0
-IsBadWish None = ⊥
-IsBadWish (Some text) = IsBadRange text
+abbrev pub IsBadSettingsText : Option (List ℕ) → Type 0
+IsBadSettingsText None = ⊥
+IsBadSettingsText (Some text) = IsBadRange text
 
 -- of so many settings these are shown: all, or those of the range, which are all there
 abbrev pub AreShown : Option SettingRange → ℕ → Shown → Type 0
-AreShown None settings shown = shown ≡ whole settings
+AreShown None settings shown = shown ≡ all_shown settings
 AreShown (Some range) settings shown =
     (range.last < settings) × (shown.first ≡ range.first)
     × (shown.first + shown.count ≡ range.last + 1)
@@ -64,36 +64,38 @@ IsOutside (Some range) settings k =
 -- ---- the answer
 
 -- the picture of the settings that are wanted of the schedule that the texts say
-pub record IsDrawing (shape : Extent) (batch schedule : List ℕ) (wish : Option (List ℕ))
+pub record IsDrawing (shape : Extent) (batch schedule : List ℕ) (settings_text : Option (List ℕ))
     (text : List ℕ) : Type 0 where
   pub transfers : List Transfer
   pub settings : List (List ℕ)
   pub verdict : Verdict
   pub range : Option SettingRange
   pub shown : Shown
-  pub wanted : AreWanted wish range
+  pub wanted : AreWanted settings_text range
   pub valid : IsValid shape batch schedule transfers settings verdict
   pub are_shown : AreShown range (length settings) shown
   pub drawing : text ≡ picture_of transfers settings verdict shown
 
 -- What is first wrong: the text of the range is looked at first, then the texts of the batch and of
 -- the schedule, then whether that has all settings of the range.
-pub data IsFirstUndrawn (shape : Extent) (batch schedule : List ℕ) (wish : Option (List ℕ))
+pub data IsFirstUndrawn (shape : Extent) (batch schedule : List ℕ) (settings_text : Option (List ℕ))
     (refusal : Refusal) : Type 0 where
-  no_range : IsBadWish wish → refusal ≡ Settings
-      → IsFirstUndrawn shape batch schedule wish refusal
-  invalid : (range : Option SettingRange) → AreWanted wish range
-      → IsInvalid shape batch schedule refusal → IsFirstUndrawn shape batch schedule wish refusal
+  no_range : IsBadSettingsText settings_text → refusal ≡ Settings
+      → IsFirstUndrawn shape batch schedule settings_text refusal
+  invalid : (range : Option SettingRange) → AreWanted settings_text range
+      → IsInvalid shape batch schedule refusal
+      → IsFirstUndrawn shape batch schedule settings_text refusal
   no_setting : (range : Option SettingRange) (transfers : List Transfer)
-      (settings : List (List ℕ)) (verdict : Verdict) (k : ℕ) → AreWanted wish range
+      (settings : List (List ℕ)) (verdict : Verdict) (k : ℕ) → AreWanted settings_text range
       → IsValid shape batch schedule transfers settings verdict
       → IsOutside range (length settings) k → refusal ≡ NoSetting k
-      → IsFirstUndrawn shape batch schedule wish refusal
+      → IsFirstUndrawn shape batch schedule settings_text refusal
 
 -- the picture, or the refusal of what is first wrong, each under its status
-pub data IsDrawn (shape : Extent) (batch schedule : List ℕ) (wish : Option (List ℕ))
+pub data IsDrawn (shape : Extent) (batch schedule : List ℕ) (settings_text : Option (List ℕ))
     (printed : Printed) : Type 0 where
-  drawn : IsDrawing shape batch schedule wish printed.text → printed.status ≡ DONE
-      → IsDrawn shape batch schedule wish printed
-  undrawn : (refusal : Refusal) → IsFirstUndrawn shape batch schedule wish refusal
-      → IsRefused (refusal_words refusal) printed → IsDrawn shape batch schedule wish printed
+  drawn : IsDrawing shape batch schedule settings_text printed.text → printed.status ≡ DONE
+      → IsDrawn shape batch schedule settings_text printed
+  undrawn : (refusal : Refusal) → IsFirstUndrawn shape batch schedule settings_text refusal
+      → IsRefused (refusal_words refusal) printed
+      → IsDrawn shape batch schedule settings_text printed

@@ -27,8 +27,8 @@ DirectedThenPlanned =
     (text : List ℕ) (moves : List Move) (directed planned : Printed) → Denotes text moves
     → IsDirected text directed → IsPlanned widest directed.text planned → TellsFewest moves planned
 
--- The text says a schedule with its certificate, and the answer is `shortest S`, where S is how many
--- settings that schedule has, under its status.
+-- The text says a schedule with its certificate, and the answer is `shortest S`, where S is how
+-- many settings that schedule has, under its status.
 pub record TellsShortest (text : List ℕ) (checked : Printed) : Type 0 where
   pub settings : List (List ℕ)
   pub named : Naming

@@ -49,8 +49,8 @@ pub data IsInvalid (shape : Extent) (batch schedule : List ℕ) (refusal : Refus
       → AreTexts shape batch schedule transfers settings certificate
       → IsUnscheduled transfers settings refusal → IsInvalid shape batch schedule refusal
 
--- the texts are those of a batch and of a schedule of it, and so many settings are enough: as many as
--- the busiest link has transfers
+-- the texts are those of a batch and of a schedule of it, and so many settings are enough: as many
+-- as the busiest link has transfers
 pub record AreEnough (shape : Extent) (batch schedule : List ℕ) (enough : ℕ) : Type 0 where
   pub transfers : List Transfer
   pub settings : List (List ℕ)

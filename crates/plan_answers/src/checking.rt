@@ -49,13 +49,13 @@ fn answer_texts(alloc: Global, texts: &ReadTexts) -> Result<Answer, AllocError>
     }
 }
 
-/// The answer of `exchange check`: `shortest S` where the schedule text says a shortest schedule, of
-/// S settings, of the batch that the batch text denotes, with a certificate that shows it; or the
-/// refusal of what is first wrong.
+/// The answer of `exchange check`: `shortest S` where the schedule text says a shortest schedule,
+/// of S settings, of the batch that the batch text denotes, with a certificate that shows it; or
+/// the refusal of what is first wrong.
 ///
-/// The batch text is looked at first, against the widest shape; then the schedule text; then whether
-/// it has the certificate part; then the faults of [`CheckFault`](link_graph::CheckFault), in their
-/// order. Takes time that grows with the lengths of the texts.
+/// The batch text is looked at first, against the widest shape; then the schedule text; then
+/// whether it has the certificate part; then the faults of [`CheckFault`](link_graph::CheckFault),
+/// in their order. Takes time that grows with the lengths of the texts.
 pub fn answer_check(alloc: Global, batch: &[u8], schedule: &[u8]) -> Result<Answer, AllocError>
     ensures checked { IfOk result (IsChecked widest batch.now schedule.now) }
     ensures one { IfOk result (IsOnly (IsChecked widest batch.now schedule.now)) }

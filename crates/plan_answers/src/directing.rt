@@ -19,12 +19,12 @@ fn refusal_of(fault: BatchFault) -> Refusal
     }
 }
 
-/// The answer of `exchange direct`: the text of a batch that does the moves that the text denotes, in their order, by
-/// directions that need the fewest settings: each link has at most half of the ends of moves at its module, rounded up. Or
-/// the refusal of the text's first fault.
+/// The answer of `exchange direct`: the text of a batch that does the moves that the text denotes,
+/// in their order, by directions that need the fewest settings: each link has at most half of the
+/// ends of moves at its module, rounded up. Or the refusal of the text's first fault.
 ///
-/// That no directions need fewer settings is said by [`move_directions::laws::directions`]. Takes time that grows with the
-/// length of the text.
+/// That no directions need fewer settings is said by [`move_directions::laws::directions`]. Takes
+/// time that grows with the length of the text.
 pub fn answer_direct(alloc: Global, moves: &[u8]) -> Result<Answer, AllocError>
     ensures { IfOk result (IsDirected moves.now) }
 {

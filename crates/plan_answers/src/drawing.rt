@@ -7,7 +7,7 @@ ghost use Rattle.schedule_picture.specs.declared.shown.Shown.{Shown};
 ghost use Rattle.schedule_picture.specs.Picture.{picture_of};
 ghost use Rattle.refusals.specs.declared.refusal.Refusal.TheVariants.{Settings, NoSetting, NoMemory};
 ghost use Rattle.plan_answers.specs.Answers.{IsOnly};
-ghost use Rattle.plan_answers.specs.Drawings.{IsInOrder, AreWanted, IsBadWish, AreShown, IsOutside, IsDrawing, IsFirstUndrawn, IsDrawn};
+ghost use Rattle.plan_answers.specs.Drawings.{IsInOrder, AreWanted, IsBadSettingsText, AreShown, IsOutside, IsDrawing, IsFirstUndrawn, IsDrawn};
 ghost use Rattle.plan_answers.specs.Lent.{bytes_of};
 
 use crate::answer::Answer;
@@ -20,7 +20,7 @@ use std::alloc::{AllocError, Global};
 /// The range of a text, where there is one.
 fn read_range(text: Option<&[u8]>) -> Result<Option<SettingRange>, Refusal>
     ensures some { IfOk result (AreWanted (bytes_of text.entry)) }
-    ensures bad { IfErr result (λ refusal. (refusal ≡ Settings) × IsBadWish (bytes_of text.entry)) }
+    ensures bad { IfErr result (λ refusal. (refusal ≡ Settings) × IsBadSettingsText (bytes_of text.entry)) }
 {
     match text {
         None => Ok(None),
@@ -92,14 +92,14 @@ fn picture(
     draw_range(alloc, &texts, range)
 }
 
-/// The answer of `exchange draw`: the picture of the schedule that the schedule text says, of the batch
-/// that the batch text denotes, as the text of an SVG file; or the refusal of what is first wrong. Where
-/// a range `A..B` is given, the picture has the columns of these settings alone.
+/// The answer of `exchange draw`: the picture of the schedule that the schedule text says, of the
+/// batch that the batch text denotes, as the text of an SVG file; or the refusal of what is first
+/// wrong. Where a range `A..B` is given, the picture has the columns of these settings alone.
 ///
 /// Any schedule of the batch is drawn, whether it is shortest or not, and whether its text has a
-/// certificate or not: the picture says which. The text of the range is looked at first, then the other
-/// texts, and then whether there are all settings of the range. Takes time that grows with the lengths of
-/// the texts and of the picture's.
+/// certificate or not: the picture says which. The text of the range is looked at first, then the
+/// other texts, and then whether there are all settings of the range. Takes time that grows with
+/// the lengths of the texts and of the picture's.
 pub fn answer_draw(
     alloc: Global,
     batch: &[u8],

@@ -2,8 +2,8 @@
 
 ghost use Rattle.plan_answers.specs.Laws.{DirectedThenPlanned, PlannedThenChecked};
 
-/// Where a text denotes moves, `plan` answers to the answer of `direct` with a plan of the fewest settings
-/// that any directions and any schedule of the moves have.
+/// Where a text denotes moves, `plan` answers to the answer of `direct` with a plan of the fewest
+/// settings that any directions and any schedule of the moves have.
 pub fn directed_then_planned()
     ensures { DirectedThenPlanned }
 {}

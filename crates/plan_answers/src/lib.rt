@@ -1,10 +1,10 @@
-//! The answers of the commands that need no rack: from the bytes of their texts to the bytes that are printed, and
-//! the status that the program ends with.
+//! The answers of the commands that need no rack: from the bytes of their texts to the bytes that
+//! are printed, and the status that the program ends with.
 //!
-//! Each `answer_` function reads its texts, does what the command asks for, and gives an [`Answer`]:
-//! what was asked for, or the line of the refusal of what is first wrong. It reads no file and prints
-//! nothing. Only [`answer_plan`] starts threads. [`ScheduleTexts`] are for answers that are made
-//! elsewhere.
+//! Each `answer_` function reads its texts, does what the command asks for, and gives an
+//! [`Answer`]: what was asked for, or the line of the refusal of what is first wrong. It reads no
+//! file and prints nothing. Only [`answer_plan`] starts threads. [`ScheduleTexts`] are for answers
+//! that are made elsewhere.
 #![tactic(auto)]
 
 mod answer;

@@ -13,7 +13,7 @@ use std::thread::Threads;
 use steady_schedule::steady;
 
 /// The answer that says a plan.
-fn tell(planned: &Planned) -> Result<Answer, AllocError>
+fn plan_answer(planned: &Planned) -> Result<Answer, AllocError>
     ensures { IfOk result (TellsCertified planned.now.settings planned.now.named) }
 {
     let text = planned.schedule().write(Some(planned.certificate()))?;
@@ -21,8 +21,8 @@ fn tell(planned: &Planned) -> Result<Answer, AllocError>
 }
 
 /// The answer of `exchange plan`: the text of a shortest schedule for the batch that the text
-/// denotes, with the certificate that shows that none is shorter; or the refusal of the text's first
-/// fault.
+/// denotes, with the certificate that shows that none is shorter; or the refusal of the text's
+/// first fault.
 ///
 /// The batch is read against the widest shape. Planning is given so many workers.
 pub fn answer_plan<R: Threads + Sync>(
@@ -34,7 +34,7 @@ pub fn answer_plan<R: Threads + Sync>(
     ensures { IfOk result (λ answer. IsPlanned widest batch.now answer) }
 {
     match Batch::read(alloc, batch, Shape::WIDEST) {
-        Ok(batch) => tell(&schedule(rt, alloc, batch, workers, &OpenGate)?),
+        Ok(batch) => plan_answer(&schedule(rt, alloc, batch, workers, &OpenGate)?),
         Err(fault) => Answer::refused(alloc, fault.into()),
     }
 }
@@ -44,7 +44,7 @@ pub fn answer_plan_alone(alloc: Global, batch: &[u8]) -> Result<Answer, AllocErr
     ensures { IfOk result (λ answer. IsPlanned widest batch.now answer) }
 {
     match Batch::read(alloc, batch, Shape::WIDEST) {
-        Ok(batch) => tell(&schedule_alone(alloc, batch)?),
+        Ok(batch) => plan_answer(&schedule_alone(alloc, batch)?),
         Err(fault) => Answer::refused(alloc, fault.into()),
     }
 }
@@ -59,6 +59,8 @@ pub fn answer_plan_steady(alloc: Global, batch: &[u8]) -> Result<Answer, AllocEr
     match Batch::read(alloc, batch, Shape::WIDEST) {
         Ok(batch) => {
             let plan = steady(alloc, &batch)?;
+            // An allocator has less to do where large memory goes before the settings' lists.
+            drop(batch);
             let text = plan.schedule().write(Some(plan.certificate()))?;
             Ok(Answer::done(text))
         }

@@ -42,8 +42,9 @@ impl ScheduleTexts {
     /// What the texts of a batch and of a schedule of it say, or what is first wrong.
     ///
     /// The batch text is looked at first, against the widest shape; then the schedule text; then
-    /// faults of its settings, in the order of [`CheckFault`](link_graph::CheckFault). A certificate
-    /// that is missing or wrong is no fault. Takes time that grows with the lengths of the texts.
+    /// faults of its settings, in the order of [`CheckFault`](link_graph::CheckFault). A
+    /// certificate that is missing or wrong is no fault. Takes time that grows with the lengths of
+    /// the texts.
     pub fn read(alloc: Global, batch: &[u8], schedule: &[u8]) -> Result<ScheduleTexts, Refusal>
         ensures valid { IfOk result (λ read.
             IsValid widest batch.now schedule.now read.batch read.settings read.verdict) }

@@ -42,8 +42,8 @@ fn most_uses(batch: &Batch) -> Result<usize, AllocError>
     }
 }
 
-/// What is known of a schedule that `check` refuses so: whether it is one of the batch, and how many
-/// settings are enough then.
+/// What is known of a schedule that `check` refuses so: whether it is one of the batch, and how
+/// many settings are enough then.
 ///
 /// It is [`Validity::Unknown`] where the settings themselves are refused, which tells that they are
 /// no schedule of the batch, and where there is no memory. By the contract it may always be that.

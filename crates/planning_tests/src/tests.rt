@@ -1,4 +1,5 @@
-//! The rows of each crate in a module of its own, and the moments at which planners arrive at a gate.
+//! The rows of each crate in a module of its own, and the moments at which planners arrive at a
+//! gate.
 
 mod alternating_path_rows;
 mod arrivals;

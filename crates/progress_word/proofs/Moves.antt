@@ -10,10 +10,10 @@ use Rattle.atomic_table.proofs.Lists.{at_set, at_snoc, at_longer, set_else}
 use Rattle.progress_word.specs.declared.limits.TheConstants.{ALL_PARTS}
 use Rattle.progress_word.specs.declared.rule.View.{View}
 use Rattle.progress_word.specs.declared.rule.Step.TheVariants.{Make, Load, Raise, Split, Join}
-use Rattle.progress_word.specs.Rule.{whole, spent, progress, all_parts, Stands, IsBelow, IsRaised, HasRule, loaded, raised_to, without_part, newcomer, joined, MakesRule, KeepsRule, HasNoOther}
+use Rattle.progress_word.specs.Rule.{whole_view, absorbed, progress, all_parts, IsViewAt, IsBelow, IsRaised, HasRule, loaded, raised_to, without_part, split_off, joined, MakesRule, KeepsRule, HasNoOther}
 use Rattle.progress_word.specs.Plays.{MeetsRule, HasLoaded, HasRaised}
 
-parts_set : (vs : List View) (j : ℕ) (v w : View) → Stands vs j v → all_parts (set vs j w) + v.parts ≡ all_parts vs + w.parts
+parts_set : (vs : List View) (j : ℕ) (v w : View) → IsViewAt vs j v → all_parts (set vs j w) + v.parts ≡ all_parts vs + w.parts
 parts_set [] j v w e = absurd (some-ne-none v (sym e))
 parts_set (x ∷ xs) zero v w e = omega (arith, ap (λ (s : View). s.parts) (some-injective x v e))
 parts_set (x ∷ xs) (suc j) v w e = omega (arith, parts_set xs j v w e)
@@ -22,35 +22,35 @@ parts_snoc : (vs : List View) (w : View) → all_parts (vs ++ w ∷ []) ≡ all_
 parts_snoc [] w = omega arith
 parts_snoc (x ∷ xs) w = omega (arith, parts_snoc xs w)
 
-part_le : (vs : List View) (j : ℕ) (v : View) → Stands vs j v → v.parts ≤ all_parts vs
+part_le : (vs : List View) (j : ℕ) (v : View) → IsViewAt vs j v → v.parts ≤ all_parts vs
 part_le [] j v e = absurd (some-ne-none v (sym e))
 part_le (x ∷ xs) zero v e = omega (arith, ap (λ (s : View). s.parts) (some-injective x v e))
 part_le (x ∷ xs) (suc j) v e = omega (arith, part_le xs j v e)
 
-here_set : (vs : List View) (j : ℕ) (v w : View) → Stands vs j v → Stands (set vs j w) j w
+here_set : (vs : List View) (j : ℕ) (v w : View) → IsViewAt vs j v → IsViewAt (set vs j w) j w
 here_set [] j v w e = absurd (some-ne-none v (sym e))
 here_set (x ∷ xs) zero v w e = refl
 here_set (x ∷ xs) (suc j) v w e = here_set xs j v w e
 
-two_parts : (vs : List View) (j k : ℕ) (v u : View) → Stands vs j v → k ≢ j → Stands vs k u → v.parts + u.parts ≤ all_parts vs
+two_parts : (vs : List View) (j k : ℕ) (v u : View) → IsViewAt vs j v → k ≢ j → IsViewAt vs k u → v.parts + u.parts ≤ all_parts vs
 two_parts vs j k v u e apart f =
-    let a = parts_set vs j v spent e in
-    let b = part_le (set vs j spent) k u (set_else vs j k spent apart ∙ f) in
+    let a = parts_set vs j v absorbed e in
+    let b = part_le (set vs j absorbed) k u (set_else vs j k absorbed apart ∙ f) in
     omega arith
 
 -- ---- views that are below the word
 
 abbrev AreBelow : ℕ → List View → Type 0
-AreBelow word views = (i : ℕ) (v : View) → Stands views i v → IsBelow word v
+AreBelow word views = (i : ℕ) (v : View) → IsViewAt views i v → IsBelow word v
 
 below : (word : ℕ) (v : View) → v.raised ≤ v.seen → v.seen ≤ word → 0 < v.parts → IsBelow word v
-below word v raised seen part = record { seen = seen; raised = raised; unspent = λ none. absurd (omega arith) }
+below word v raised seen part = record { seen = seen; raised = raised; no_parts = λ none. absurd (omega arith) }
 
-spent_below : (word : ℕ) → IsBelow word spent
-spent_below word = record { seen = omega arith; raised = omega arith; unspent = λ none. refl }
+spent_below : (word : ℕ) → IsBelow word absorbed
+spent_below word = record { seen = omega arith; raised = omega arith; no_parts = λ none. refl }
 
 higher : (m n : ℕ) (v : View) → m ≤ n → IsBelow m v → IsBelow n v
-higher m n v le b = let a = b.seen in record { seen = omega arith; raised = b.raised; unspent = b.unspent }
+higher m n v le b = let a = b.seen in record { seen = omega arith; raised = b.raised; no_parts = b.no_parts }
 
 below_set : (m n : ℕ) (vs : List View) (j : ℕ) (w : View) → m ≤ n → AreBelow m vs → IsBelow n w → AreBelow n (set vs j w)
 below_set m n vs j w le all mine k u e =
@@ -61,13 +61,13 @@ below_set m n vs j w le all mine k u e =
 
 -- ---- who raised the word
 
-raised_at : (word i : ℕ) (views : List View) (v : View) → Stands views i v → v.raised ≡ word → IsRaised word views
+raised_at : (word i : ℕ) (views : List View) (v : View) → IsViewAt views i v → v.raised ≡ word → IsRaised word views
 raised_at word i views v at is = record { number = i; by = v; stands = at; raised = is }
 
-same_view : (vs : List View) (i j : ℕ) (u v : View) → i ≡ j → Stands vs i u → Stands vs j v → u ≡ v
+same_view : (vs : List View) (i j : ℕ) (u v : View) → i ≡ j → IsViewAt vs i u → IsViewAt vs j v → u ≡ v
 same_view vs i j u v same at e = some-injective u v (sym at ∙ ap (get_elem? vs) same ∙ e)
 
-raised_set : (word : ℕ) (vs : List View) (j : ℕ) (v w : View) → IsRaised word vs → Stands vs j v → (v.raised ≡ word → w.raised ≡ word) → IsRaised word (set vs j w)
+raised_set : (word : ℕ) (vs : List View) (j : ℕ) (v w : View) → IsRaised word vs → IsViewAt vs j v → (v.raised ≡ word → w.raised ≡ word) → IsRaised word (set vs j w)
 raised_set word vs j v w r e as_high =
     dite (ℕ_discrete r.number j)
     (λ same. raised_at word j (set vs j w) w (here_set vs j v w e) (as_high (ap (λ (s : View). s.raised) (sym (same_view vs r.number j r.by v same r.stands e)) ∙ r.raised)))
@@ -76,7 +76,7 @@ raised_set word vs j v w r e as_high =
 -- ---- the steps of one view
 
 -- one view changes and keeps its parts
-changed : (m n : ℕ) (vs : List View) (j : ℕ) (v w : View) → HasRule (progress m vs) → Stands vs j v → m ≤ n → w.parts ≡ v.parts → IsBelow n w → IsRaised n (set vs j w) → HasRule (progress n (set vs j w))
+changed : (m n : ℕ) (vs : List View) (j : ℕ) (v w : View) → HasRule (progress m vs) → IsViewAt vs j v → m ≤ n → w.parts ≡ v.parts → IsBelow n w → IsRaised n (set vs j w) → HasRule (progress n (set vs j w))
 changed m n vs j v w h e le parts fit r = record {
   below = below_set m n vs j w le h.below fit;
   raised = r;
@@ -84,14 +84,14 @@ changed m n vs j v w h e le parts fit r = record {
 }
 
 -- who has all parts is alone
-alone : (word : ℕ) (vs : List View) (j k : ℕ) (v u : View) → HasRule (progress word vs) → Stands vs j v → v.parts ≡ ALL_PARTS → k ≢ j → Stands vs k u → u ≡ spent
+alone : (word : ℕ) (vs : List View) (j k : ℕ) (v u : View) → HasRule (progress word vs) → IsViewAt vs j v → v.parts ≡ ALL_PARTS → k ≢ j → IsViewAt vs k u → u ≡ absorbed
 alone word vs j k v u h e all apart there =
     let t = two_parts vs j k v u e apart there in
     let sum = h.parts in
-    (h.below k u there).unspent (omega arith)
+    (h.below k u there).no_parts (omega arith)
 
 -- and has raised the word to what it is
-whole_raised : (word : ℕ) (vs : List View) (j : ℕ) (v : View) → HasRule (progress word vs) → Stands vs j v → v.parts ≡ ALL_PARTS → word ≡ v.raised
+whole_raised : (word : ℕ) (vs : List View) (j : ℕ) (v : View) → HasRule (progress word vs) → IsViewAt vs j v → v.parts ≡ ALL_PARTS → word ≡ v.raised
 whole_raised word vs j v h e all =
     let r = h.raised in
     dite (ℕ_discrete r.number j)
@@ -102,30 +102,30 @@ whole_raised word vs j v h e all =
     let b0 = b.seen in let b1 = b.raised in let r0 = r.raised in
     omega arith)
 
-rule_whole : HasRule (progress 0 (whole ∷ []))
-rule_whole = record { below = one; raised = raised_at 0 0 (whole ∷ []) whole refl refl; parts = refl }
+rule_whole : HasRule (progress 0 (whole_view ∷ []))
+rule_whole = record { below = one; raised = raised_at 0 0 (whole_view ∷ []) whole_view refl refl; parts = refl }
   where
-    one : (i : ℕ) (v : View) → Stands (whole ∷ []) i v → IsBelow 0 v
-    one zero v e = subst (IsBelow 0) (some-injective _ _ e) (below 0 whole (omega arith) (omega arith) (omega arith))
+    one : (i : ℕ) (v : View) → IsViewAt (whole_view ∷ []) i v → IsBelow 0 v
+    one zero v e = subst (IsBelow 0) (some-injective _ _ e) (below 0 whole_view (omega arith) (omega arith) (omega arith))
     one (suc k) v e = absurd (some-ne-none v (sym e))
 
-rule_loaded : (word : ℕ) (vs : List View) (j : ℕ) (v : View) → HasRule (progress word vs) → Stands vs j v → 0 < v.parts → HasRule (progress word (set vs j (loaded word v)))
+rule_loaded : (word : ℕ) (vs : List View) (j : ℕ) (v : View) → HasRule (progress word vs) → IsViewAt vs j v → 0 < v.parts → HasRule (progress word (set vs j (loaded word v)))
 rule_loaded word vs j v h e part =
     let b = h.below j v e in let b0 = b.seen in let b1 = b.raised in
     changed word word vs j v (loaded word v) h e (omega arith) refl (below word (loaded word v) (omega arith) (omega arith) part) (raised_set word vs j v (loaded word v) h.raised e (λ r. r))
 
-raised_low : (word value : ℕ) (vs : List View) (j : ℕ) (v : View) → HasRule (progress word vs) → Stands vs j v → value ≤ word → IsRaised (max word value) (set vs j (raised_to value word v))
+raised_low : (word value : ℕ) (vs : List View) (j : ℕ) (v : View) → HasRule (progress word vs) → IsViewAt vs j v → value ≤ word → IsRaised (max word value) (set vs j (raised_to value word v))
 raised_low word value vs j v h e le =
     let b = h.below j v e in let b0 = b.seen in let b1 = b.raised in
     let same : max word value ≡ word = omega arith in
     subst (λ n. IsRaised n (set vs j (raised_to value word v))) (sym same) (raised_set word vs j v (raised_to value word v) h.raised e (λ is. omega arith))
 
-raised_high : (word value : ℕ) (vs : List View) (j : ℕ) (v : View) → HasRule (progress word vs) → Stands vs j v → word ≤ value → IsRaised (max word value) (set vs j (raised_to value word v))
+raised_high : (word value : ℕ) (vs : List View) (j : ℕ) (v : View) → HasRule (progress word vs) → IsViewAt vs j v → word ≤ value → IsRaised (max word value) (set vs j (raised_to value word v))
 raised_high word value vs j v h e le =
     let b = h.below j v e in let b0 = b.seen in let b1 = b.raised in
     raised_at (max word value) j (set vs j (raised_to value word v)) (raised_to value word v) (here_set vs j v (raised_to value word v) e) (omega arith)
 
-rule_raised : (word value : ℕ) (vs : List View) (j : ℕ) (v : View) → HasRule (progress word vs) → Stands vs j v → 0 < v.parts → HasRule (progress (max word value) (set vs j (raised_to value word v)))
+rule_raised : (word value : ℕ) (vs : List View) (j : ℕ) (v : View) → HasRule (progress word vs) → IsViewAt vs j v → 0 < v.parts → HasRule (progress (max word value) (set vs j (raised_to value word v)))
 rule_raised word value vs j v h e part =
     let b = h.below j v e in let b0 = b.seen in let b1 = b.raised in
     changed word (max word value) vs j v (raised_to value word v) h e (omega arith) refl (below (max word value) (raised_to value word v) (omega arith) (omega arith) part)
@@ -133,10 +133,10 @@ rule_raised word value vs j v h e part =
 
 -- ---- the steps of two views
 
-rule_split : (word : ℕ) (vs : List View) (j : ℕ) (v : View) → HasRule (progress word vs) → Stands vs j v → 1 < v.parts → HasRule (progress word (set vs j (without_part v) ++ newcomer v ∷ []))
+rule_split : (word : ℕ) (vs : List View) (j : ℕ) (v : View) → HasRule (progress word vs) → IsViewAt vs j v → 1 < v.parts → HasRule (progress word (set vs j (without_part v) ++ split_off v ∷ []))
 rule_split word vs j v h e parts =
     let b = h.below j v e in let b0 = b.seen in let b1 = b.raised in
-    let w = without_part v in let n = newcomer v in
+    let w = without_part v in let n = split_off v in
     let first : AreBelow word (set vs j w) = below_set word word vs j w (omega arith) h.below (below word w b1 b0 (omega arith)) in
     let r = raised_set word vs j v w h.raised e (λ is. is) in
     record {
@@ -145,14 +145,14 @@ rule_split word vs j v h e parts =
       parts = let a = parts_set vs j v w e in let c = parts_snoc (set vs j w) n in let all = h.parts in omega arith;
     }
 
-joined_raised : (word : ℕ) (vs : List View) (j k : ℕ) (v u : View) → HasRule (progress word vs) → Stands vs j v → k ≢ j → Stands vs k u → IsRaised word (set (set vs j (joined v u)) k spent)
+joined_raised : (word : ℕ) (vs : List View) (j k : ℕ) (v u : View) → HasRule (progress word vs) → IsViewAt vs j v → k ≢ j → IsViewAt vs k u → IsRaised word (set (set vs j (joined v u)) k absorbed)
 joined_raised word vs j k v u h e apart there =
     let f = h.below j v e in let f0 = f.seen in let f1 = f.raised in
     let g = h.below k u there in let g0 = g.seen in let g1 = g.raised in
     let both = joined v u in
     let r = h.raised in
-    let now = set (set vs j both) k spent in
-    let here : Stands now j both = set_else (set vs j both) k j spent (λ q. apart (sym q)) ∙ here_set vs j v both e in
+    let now = set (set vs j both) k absorbed in
+    let here : IsViewAt now j both = set_else (set vs j both) k j absorbed (λ q. apart (sym q)) ∙ here_set vs j v both e in
     dite (ℕ_discrete r.number k)
     (λ same.
     let high : u.raised ≡ word = ap (λ (s : View). s.raised) (sym (same_view vs r.number k r.by u same r.stands there)) ∙ r.raised in
@@ -161,19 +161,19 @@ joined_raised word vs j k v u h e apart there =
     (λ same.
     let high : v.raised ≡ word = ap (λ (s : View). s.raised) (sym (same_view vs r.number j r.by v same r.stands e)) ∙ r.raised in
     raised_at word j now both here (omega arith))
-    (λ third. raised_at word r.number now r.by (set_else (set vs j both) k r.number spent other ∙ (set_else vs j r.number both third ∙ r.stands)) r.raised))
+    (λ third. raised_at word r.number now r.by (set_else (set vs j both) k r.number absorbed other ∙ (set_else vs j r.number both third ∙ r.stands)) r.raised))
 
-rule_joined : (word : ℕ) (vs : List View) (j k : ℕ) (v u : View) → HasRule (progress word vs) → Stands vs j v → 0 < v.parts → k ≢ j → Stands vs k u → HasRule (progress word (set (set vs j (joined v u)) k spent))
+rule_joined : (word : ℕ) (vs : List View) (j k : ℕ) (v u : View) → HasRule (progress word vs) → IsViewAt vs j v → 0 < v.parts → k ≢ j → IsViewAt vs k u → HasRule (progress word (set (set vs j (joined v u)) k absorbed))
 rule_joined word vs j k v u h e part apart there =
     let f = h.below j v e in let f0 = f.seen in let f1 = f.raised in
     let g = h.below k u there in let g0 = g.seen in let g1 = g.raised in
     let both = joined v u in
-    let still : Stands (set vs j both) k u = set_else vs j k both apart ∙ there in
+    let still : IsViewAt (set vs j both) k u = set_else vs j k both apart ∙ there in
     let first : AreBelow word (set vs j both) = below_set word word vs j both (omega arith) h.below (below word both (omega arith) (omega arith) (omega arith)) in
     record {
-      below = below_set word word (set vs j both) k spent (omega arith) first (spent_below word);
+      below = below_set word word (set vs j both) k absorbed (omega arith) first (spent_below word);
       raised = joined_raised word vs j k v u h e apart there;
-      parts = let a = parts_set vs j v both e in let b = parts_set (set vs j both) k u spent still in let all = h.parts in omega arith;
+      parts = let a = parts_set vs j v both e in let b = parts_set (set vs j both) k u absorbed still in let all = h.parts in omega arith;
     }
 
 -- ---- the law
@@ -193,7 +193,7 @@ has_no_other p i v h e all = (sym (whole_raised p.word p.views i v h e all), λ 
 
 -- ---- the steps on the table
 
-pub begins : MeetsRule (opening (0 ∷ []) [] whole)
+pub begins : MeetsRule (opening (0 ∷ []) [] whole_view)
 begins = (0, refl, rule_whole)
 
 -- the words of a table whose one word is this
@@ -224,10 +224,10 @@ raises slots id value me part s kept homes at small =
       (refl, (let b = (kept.2.below id v at).seen in omega arith)),
     )
 
-pub splits : (id : ℕ) (v : View) → 1 < v.parts → Splits MeetsRule id v (without_part v) (newcomer v)
+pub splits : (id : ℕ) (v : View) → 1 < v.parts → Splits MeetsRule id v (without_part v) (split_off v)
 splits id v parts s kept at = (kept.0, kept.1, rule_split kept.0 s.views id v kept.2 at parts)
 
-pub joins : (id other : ℕ) (v u : View) → 0 < v.parts → Joins MeetsRule id v other u (joined v u) spent
+pub joins : (id other : ℕ) (v u : View) → 0 < v.parts → Joins MeetsRule id v other u (joined v u) absorbed
 joins id other v u part s kept at apart there =
-    let before : Stands s.views other u = sym (set_else s.views id other (joined v u) apart) ∙ there in
+    let before : IsViewAt s.views other u = sym (set_else s.views id other (joined v u) apart) ∙ there in
     (kept.0, kept.1, rule_joined kept.0 s.views id other v u kept.2 at part apart before)

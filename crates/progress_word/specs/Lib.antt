@@ -1,3 +1,3 @@
 pub mod Rule
 pub mod Plays
-pub mod Lookouts
+pub mod Watchers

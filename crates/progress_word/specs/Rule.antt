@@ -11,12 +11,12 @@ abbrev pub view : ℕ → ℕ → ℕ → View
 view seen raised parts = record { seen = seen; raised = raised; parts = parts }
 
 -- the view that the word is made with
-abbrev pub whole : View
-whole = view 0 0 ALL_PARTS
+abbrev pub whole_view : View
+whole_view = view 0 0 ALL_PARTS
 
 -- a view that another has taken in
-abbrev pub spent : View
-spent = view 0 0 0
+abbrev pub absorbed : View
+absorbed = view 0 0 0
 
 -- the word, and all views in the order in which they were made
 pub record Progress : Type 0 where
@@ -27,8 +27,8 @@ abbrev pub progress : ℕ → List View → Progress
 progress word views = record { word = word; views = views }
 
 -- this view has this number
-abbrev pub Stands : List View → ℕ → View → Type 0
-Stands views i v = get_elem? views i ≡ some v
+abbrev pub IsViewAt : List View → ℕ → View → Type 0
+IsViewAt views i v = get_elem? views i ≡ some v
 
 -- the parts of all views together
 abbrev pub all_parts : List View → ℕ
@@ -38,23 +38,23 @@ all_parts (v ∷ views) = v.parts + all_parts views
 -- ---- the rule
 
 -- the word isn't behind what was seen, and what was seen isn't behind what was raised; and a view
--- without a part is spent
+-- without a part is absorbed
 pub record IsBelow (word : ℕ) (v : View) : Type 0 where
   pub seen : v.seen ≤ word
   pub raised : v.raised ≤ v.seen
-  pub unspent : v.parts ≡ 0 → v ≡ spent
+  pub no_parts : v.parts ≡ 0 → v ≡ absorbed
 
 -- the word was raised to this value from some view
 pub record IsRaised (value : ℕ) (views : List View) : Type 0 where
   pub number : ℕ
   pub by : View
-  pub stands : Stands views number by
+  pub stands : IsViewAt views number by
   pub raised : by.raised ≡ value
 
 -- No view has seen more than the word, or raised it above what it has seen; and some view has
--- raised it to what it is. A view without a part is spent, and no part is lost or added.
+-- raised it to what it is. A view without a part is absorbed, and no part is lost or added.
 pub record HasRule (p : Progress) : Type 0 where
-  pub below : (i : ℕ) (v : View) → Stands p.views i v → IsBelow p.word v
+  pub below : (i : ℕ) (v : View) → IsViewAt p.views i v → IsBelow p.word v
   pub raised : IsRaised p.word p.views
   pub parts : all_parts p.views ≡ ALL_PARTS
 
@@ -70,22 +70,23 @@ raised_to value word v = view (max word value) (max v.raised value) v.parts
 abbrev pub without_part : View → View
 without_part v = view v.seen v.raised (v.parts - 1)
 
-abbrev pub newcomer : View → View
-newcomer v = view v.seen 0 1
+-- the new view of a split: it has seen as much as the other, has raised nothing, and has one part
+abbrev pub split_off : View → View
+split_off v = view v.seen 0 1
 
 abbrev pub joined : View → View → View
 joined v w = view (max v.seen w.seen) (max v.raised w.raised) (v.parts + w.parts)
 
 -- who steps has this view, with more parts than that
 pub record CanStep (views : List View) (i : ℕ) (v : View) (few : ℕ) : Type 0 where
-  pub stands : Stands views i v
+  pub stands : IsViewAt views i v
   pub parts : few < v.parts
 
 -- The five kinds of step: the word is made; it is loaded; it is raised to a value, by `fetch_max`;
--- a view is split, and the new one gets a part; and a view takes in another, which is spent. Each
--- changes the view that steps, or the two of a split or a join, and a raise alone the word.
+-- a view is split, and the new one gets a part; and a view takes in another, which is absorbed.
+-- Each changes the view that steps, or the two of a split or a join, and a raise alone the word.
 abbrev pub IsStep : Step → Progress → Progress → Type 0
-IsStep Make p q = q ≡ progress 0 (whole ∷ [])
+IsStep Make p q = q ≡ progress 0 (whole_view ∷ [])
 IsStep (Load i) p q =
     (v : View) × CanStep p.views i v 0
     × (q ≡ progress p.word (slice_set p.views i (loaded p.word v)))
@@ -94,10 +95,10 @@ IsStep (Raise i value) p q =
     × (q ≡ progress (max p.word value) (slice_set p.views i (raised_to value p.word v)))
 IsStep (Split i) p q =
     (v : View) × CanStep p.views i v 1
-    × (q ≡ progress p.word (slice_set p.views i (without_part v) ++ newcomer v ∷ []))
+    × (q ≡ progress p.word (slice_set p.views i (without_part v) ++ split_off v ∷ []))
 IsStep (Join i j) p q =
     (v w : View) × CanStep p.views i v 0 × CanStep p.views j w 0 × (j ≢ i)
-    × (q ≡ progress p.word (slice_set (slice_set p.views i (joined v w)) j spent))
+    × (q ≡ progress p.word (slice_set (slice_set p.views i (joined v w)) j absorbed))
 
 -- ---- the law
 
@@ -112,5 +113,5 @@ KeepsRule = (step : Step) (p q : Progress) → HasRule p → IsStep step p q →
 -- who has all parts is alone, and has raised the word to what it is
 abbrev pub HasNoOther : Type 0
 HasNoOther =
-    (p : Progress) (i : ℕ) (v : View) → HasRule p → Stands p.views i v → v.parts ≡ ALL_PARTS
-    → (v.raised ≡ p.word) × ((j : ℕ) (w : View) → j ≢ i → Stands p.views j w → w ≡ spent)
+    (p : Progress) (i : ℕ) (v : View) → HasRule p → IsViewAt p.views i v → v.parts ≡ ALL_PARTS
+    → (v.raised ≡ p.word) × ((j : ℕ) (w : View) → j ≢ i → IsViewAt p.views j w → w ≡ absorbed)

@@ -1,8 +1,9 @@
 //! A word that only rises, which says how far something has come.
 //!
-//! Some watch the word from lookouts of their own, and each may raise it. A [`Lookout`] knows what it saw of
-//! the word and to what it raised it, and has some of the word's parts. Where one has all parts, no other is
-//! left, and the word is what it was raised to from there. No call waits for another.
+//! Some watch the word from watchers of their own, and each may raise it. A [`Watcher`] knows what
+//! it saw of the word and to what it raised it, and has some of the word's parts. Where one has all
+//! parts, no other is left, and the word is what it was raised to from there. No call waits for
+//! another.
 #![tactic(auto)]
 
 pub mod laws;
@@ -12,4 +13,4 @@ mod word;
 
 pub use limits::ALL_PARTS;
 pub use rule::{Step, View};
-pub use word::{Lookout, ProgressWord};
+pub use word::{ProgressWord, Watcher};

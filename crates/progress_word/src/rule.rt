@@ -2,7 +2,7 @@
 
 use atomic_table::{Join, Play, Split, TableRule};
 
-/// What is known of the word from one lookout. No value of it is made.
+/// What is known of the word from one watcher. No value of it is made.
 pub struct View {
     /// The greatest value that was seen.
     pub seen: u64,
@@ -12,8 +12,8 @@ pub struct View {
     pub parts: u64,
 }
 
-/// The five kinds of atomic step. The numbers are those of the views that step, in the order in which they
-/// were made. No value of it is made.
+/// The five kinds of atomic step. The numbers are those of the views that step, in the order in
+/// which they were made. No value of it is made.
 pub enum Step {
     /// The word is made, with its first view.
     Make,
@@ -32,11 +32,11 @@ pub(crate) struct Rises;
 
 impl TableRule<u8, View, ()> for Rises {
     ghost use Rattle.progress_word.specs.Plays.{MeetsRule};
-    ghost use Rattle.progress_word.specs.Rule.{whole};
+    ghost use Rattle.progress_word.specs.Rule.{whole_view};
 
     ghost holds = { λ _. MeetsRule };
 
-    ghost first = { λ _. whole };
+    ghost first = { λ _. whole_view };
 }
 
 /// A load.
@@ -61,20 +61,20 @@ impl Play<u8, View> for Raises {
 pub(crate) struct OnePart;
 
 impl Split<View> for OnePart {
-    ghost use Rattle.progress_word.specs.Rule.{without_part, newcomer};
+    ghost use Rattle.progress_word.specs.Rule.{without_part, split_off};
 
     ghost left = { without_part };
 
-    ghost right = { newcomer };
+    ghost right = { split_off };
 }
 
 /// A join.
 pub(crate) struct Both;
 
 impl Join<View> for Both {
-    ghost use Rattle.progress_word.specs.Rule.{joined, spent};
+    ghost use Rattle.progress_word.specs.Rule.{joined, absorbed};
 
     ghost both = { joined };
 
-    ghost spent = { spent };
+    ghost spent = { absorbed };
 }

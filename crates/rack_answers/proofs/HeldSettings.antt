@@ -18,7 +18,7 @@ use Rattle.link_graph.specs.Marks.{members}
 use Rattle.module_memory.specs.Core.{setting_of}
 use Rattle.switch_settings.specs.Sending.{started_by, in_order}
 use Rattle.switch_settings.specs.Settings.{joined_pair, setting_pairs}
-use Rattle.steady_schedule.specs.Changes.{join, join_within, join_same}
+use Rattle.steady_schedule.specs.Changes.{are_partners, join_within, join_same}
 use Rattle.rack_answers.specs.Laws.{HeldIsSettled}
 
 -- the pair is among these
@@ -85,7 +85,7 @@ among_in_order p ps low among = among_modules p ps 0 MAX_MODULES (omega arith) (
 
 -- ---- pairs of transfers
 
-among_pairs : (ts : List Transfer) (p : Pair) → join ts p.initiator p.responder ≡ true → Among (map joined_pair ts) p
+among_pairs : (ts : List Transfer) (p : Pair) → are_partners ts p.initiator p.responder ≡ true → Among (map joined_pair ts) p
 among_pairs [] p joined = joined
 among_pairs (x ∷ ts) p joined =
     let same : is_pair p (joined_pair x) ≡ (x.initiator == p.initiator && x.responder == p.responder) = grind (arith, nat_tests) in
@@ -100,7 +100,7 @@ IsLow x = x.initiator < MAX_MODULES
 all_among : (ts us : List Transfer) → AllByRecursion IsLow ts → join_within ts us ≡ true → AllByRecursion (Among (in_order (map joined_pair us))) (map joined_pair ts)
 all_among [] us low within = tt
 all_among (x ∷ ts) us low within =
-    let both = and_parts (join us x.initiator x.responder) (join_within ts us) within in
+    let both = and_parts (are_partners us x.initiator x.responder) (join_within ts us) within in
     (among_in_order (joined_pair x) (map joined_pair us) low.0 (among_pairs us (joined_pair x) both.0), all_among ts us low.1 both.1)
 
 none_left : (ts us : List Transfer) → AllByRecursion IsLow ts → join_within ts us ≡ true → without (in_order (map joined_pair us)) (in_order (map joined_pair ts)) ≡ []

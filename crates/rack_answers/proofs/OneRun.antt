@@ -16,7 +16,7 @@ use Rattle.refusals.specs.Refusals.{refusal_words}
 use Rattle.refusals.specs.Sources.{of_batch, of_image}
 use Rattle.schedule_certificate.specs.Parts.{IsDegree}
 use Rattle.plan_answers.specs.Refusals.{Printed, IsRefused}
-use Rattle.rack_answers.specs.Answers.{Told, IsResult, IsWrongOf, image_wrong, overlapping, IsFirstRunWrong, shape_wrong, batch_wrong, run_wrong, IsRunAnswer, ran, run_refused}
+use Rattle.rack_answers.specs.Answers.{RunText, IsResult, IsWrongOf, image_wrong, overlapping, IsFirstRunWrong, shape_wrong, batch_wrong, run_wrong, IsRunAnswer, ran, run_refused}
 use Rattle.rack_answers.specs.Openings.{IsRightImage}
 use Rattle.rack_answers.proofs.Openings.{one_opening, opening_blocks, right_image, not_wrong, one_wrong}
 use Rattle.plan_answers.proofs.Printing.{printed_same, refused_same}
@@ -33,7 +33,7 @@ one_degree : (batch : List Transfer) (m n : ℕ) → IsDegree batch m → IsDegr
 one_degree batch m n a b = omega (arith, at_most batch m n a b, at_most batch n m b a)
 
 -- what two texts denote, and what a run leaves, is one thing
-same_result : (told : Told) (shape batch : List ℕ) (image : Option (List ℕ)) (p q : List ℕ) → IsResult told shape batch image p → IsResult told shape batch image q → p ≡ q
+same_result : (told : RunText) (shape batch : List ℕ) (image : Option (List ℕ)) (p q : List ℕ) → IsResult told shape batch image p → IsResult told shape batch image q → p ≡ q
 same_result told shape batch image p q a b =
     let extents : a.extent ≡ b.extent = one_shape shape a.extent b.extent a.shape_read b.shape_read in
     let transfers : a.transfers ≡ b.transfers = one_batch a.extent a.shape_read.allowed batch a.transfers b.transfers a.batch_read (rw extents b.batch_read) in
@@ -59,7 +59,7 @@ run_right extent image ts refusal right apart (image_wrong fault wrong is) = not
 run_right extent image ts refusal right apart (overlapping _ found) = apart found.0 found.1 found.2.overlap
 
 -- a batch that is run has nothing wrong
-result_right : (told : Told) (shape batch : List ℕ) (image : Option (List ℕ)) (text : List ℕ) (refusal : Refusal) → IsResult told shape batch image text → IsFirstRunWrong shape batch image refusal → ⊥
+result_right : (told : RunText) (shape batch : List ℕ) (image : Option (List ℕ)) (text : List ℕ) (refusal : Refusal) → IsResult told shape batch image text → IsFirstRunWrong shape batch image refusal → ⊥
 result_right told shape batch image text refusal a (shape_wrong bad is) = bad a.extent a.shape_read
 result_right told shape batch image text refusal a (batch_wrong extent fault says wrong is) =
     apart extent says.allowed batch a.transfers fault (same_extent shape batch extent a.extent a.transfers says a.shape_read a.batch_read) wrong
@@ -91,7 +91,7 @@ one_run_wrong shape batch image q r (run_wrong x ts says tells a) (batch_wrong y
 one_run_wrong shape batch image q r (run_wrong x ts says tells a) (run_wrong y us other tell b) =
     one_of_run x image ts q r a (same_run shape batch image x y ts us r says other tells tell b)
 
-pub one_run : (told : Told) (shape batch : List ℕ) (image : Option (List ℕ)) (p q : Printed) → IsRunAnswer told shape batch image p → IsRunAnswer told shape batch image q → q ≡ p
+pub one_run : (told : RunText) (shape batch : List ℕ) (image : Option (List ℕ)) (p q : Printed) → IsRunAnswer told shape batch image p → IsRunAnswer told shape batch image q → q ≡ p
 one_run told shape batch image p q (ran a ends) (ran b stops) = printed_same q p (same_result told shape batch image q.text p.text b a) (stops ∙ sym ends)
 one_run told shape batch image p q (ran a ends) (run_refused g b is) = absurd (result_right told shape batch image p.text g a b)
 one_run told shape batch image p q (run_refused f a is) (ran b stops) = absurd (result_right told shape batch image q.text f b a)

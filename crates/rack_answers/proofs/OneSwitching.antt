@@ -9,10 +9,10 @@ use Rattle.plan_answers.specs.Validities.{IsScheduleRead}
 use Rattle.plan_answers.proofs.OneDrawing.{read_right, one_invalid}
 use Rattle.plan_answers.proofs.OneReading.{same_texts}
 use Rattle.plan_answers.proofs.Printing.{printed_same, refused_same}
-use Rattle.rack_answers.specs.Switching.{schedule_text, IsSwitchedAs, switched, invalid}
+use Rattle.rack_answers.specs.Switching.{settings_bytes_text, IsSwitchedAs, switched, invalid}
 
-same_text : (shape : Extent) → IsShape shape → (batch schedule : List ℕ) (ts us : List Transfer) (xs ys : List (List ℕ)) → IsScheduleRead shape batch schedule ts xs → IsScheduleRead shape batch schedule us ys → schedule_text ts xs ≡ schedule_text us ys
-same_text shape valid batch schedule ts us xs ys a b = same_texts (λ t x m. schedule_text t x ≡ schedule_text us ys) shape valid batch schedule ts us xs ys a.certificate b.certificate a.texts b.texts refl
+same_text : (shape : Extent) → IsShape shape → (batch schedule : List ℕ) (ts us : List Transfer) (xs ys : List (List ℕ)) → IsScheduleRead shape batch schedule ts xs → IsScheduleRead shape batch schedule us ys → settings_bytes_text ts xs ≡ settings_bytes_text us ys
+same_text shape valid batch schedule ts us xs ys a b = same_texts (λ t x m. settings_bytes_text t x ≡ settings_bytes_text us ys) shape valid batch schedule ts us xs ys a.certificate b.certificate a.texts b.texts refl
 
 pub one_switching : (shape : Extent) → IsShape shape → (batch schedule : List ℕ) (p q : Printed) → IsSwitchedAs shape batch schedule p → IsSwitchedAs shape batch schedule q → q ≡ p
 one_switching shape valid batch schedule p q (switched ts xs a tells) (switched us ys b told) = printed_same q p (told.0 ∙ same_text shape valid batch schedule us ts ys xs b a ∙ sym tells.0) (told.1 ∙ sym tells.1)

@@ -22,17 +22,17 @@ use Rattle.plan_answers.specs.Refusals.{Printed, IsRefused}
 use Rattle.rack_answers.specs.Openings.{IsOfImageOrMarked, IsWrongImage, IsRightImage}
 
 -- what is printed of transfers that were placed in so many settings, and of the store after them
-abbrev pub Told : Type 0
-Told = List Transfer → ℕ → Store → List ℕ
+abbrev pub RunText : Type 0
+RunText = List Transfer → ℕ → Store → List ℕ
 
 -- what `apply` prints: the image of that store
-abbrev pub image_alone : Told
+abbrev pub image_alone : RunText
 image_alone transfers settings placed = image_of placed
 
 -- The texts are those of a shape and of a batch of which no transfers overlap. Over a rack of the
 -- shape, whose words are those of the image, or told where they stood where there is none, the
 -- batch is placed, in as many settings as the busiest link has uses, and this is printed of it.
-pub record IsResult (told : Told) (shape batch : List ℕ) (image : Option (List ℕ))
+pub record IsResult (told : RunText) (shape batch : List ℕ) (image : Option (List ℕ))
     (text : List ℕ) : Type 0 where
   pub extent : Extent
   pub transfers : List Transfer
@@ -49,7 +49,7 @@ pub record IsResult (told : Told) (shape batch : List ℕ) (image : Option (List
 
 -- A run of the plan on a rack of the shape with such words: no transfers overlap, the batch is
 -- placed, and this is printed of it.
-pub record IsResultOf (told : Told) (extent : Extent) (image : Option (List ℕ)) (plan : Plan)
+pub record IsResultOf (told : RunText) (extent : Extent) (image : Option (List ℕ)) (plan : Plan)
     (text : List ℕ) : Type 0 where
   pub opening : Store
   pub placed : Store
@@ -84,7 +84,7 @@ pub data IsFirstRunWrong (shape batch : List ℕ) (image : Option (List ℕ)) (r
       → IsFirstRunWrong shape batch image refusal
 
 -- what is printed of the run, or what is first wrong, each under its status
-pub data IsRunAnswer (told : Told) (shape batch : List ℕ) (image : Option (List ℕ))
+pub data IsRunAnswer (told : RunText) (shape batch : List ℕ) (image : Option (List ℕ))
     (printed : Printed) : Type 0 where
   ran : IsResult told shape batch image printed.text → printed.status ≡ DONE
       → IsRunAnswer told shape batch image printed

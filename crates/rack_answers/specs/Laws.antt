@@ -9,11 +9,11 @@ use Rattle.schedule_certificate.specs.Plans.{Plan}
 use Rattle.switch_settings.specs.Sending.{pairs_at, standing_before, turning}
 use Rattle.steady_schedule.specs.Changes.{join_same}
 use Rattle.steady_schedule.specs.Needs.{setting_at}
-use Rattle.rack_answers.specs.Switching.{schedule_text, switch_text}
+use Rattle.rack_answers.specs.Switching.{settings_bytes_text, switch_text}
 
 -- what is told for a plan is what a run of it sends
 abbrev pub ToldIsSent : Type 0
-ToldIsSent = (plan : Plan) → schedule_text plan.batch plan.settings ≡ switch_text plan
+ToldIsSent = (plan : Plan) → settings_bytes_text plan.batch plan.settings ≡ switch_text plan
 
 -- for a setting that joins the same pairs of modules as the one before, each switch is sent the end
 -- of a sequence alone

@@ -56,14 +56,14 @@ turning_lines batch settings k =
     lines_for (is_wide batch) k (λ wiring. sent_for wiring batch settings k)
 
 -- the lines of all settings, in their order
-abbrev pub schedule_text : List Transfer → List (List ℕ) → List ℕ
-schedule_text batch settings =
+abbrev pub settings_bytes_text : List Transfer → List (List ℕ) → List ℕ
+settings_bytes_text batch settings =
     flat_map (turning_lines batch settings) (range_with_len 0 (length settings))
 
 -- those lines, under their status
 abbrev pub TellsSwitch : List Transfer → List (List ℕ) → Printed → Type 0
 TellsSwitch batch settings printed =
-    (printed.text ≡ schedule_text batch settings) × (printed.status ≡ DONE)
+    (printed.text ≡ settings_bytes_text batch settings) × (printed.status ≡ DONE)
 
 -- those of the schedule that the texts say, or the refusal of what is first wrong, each under its
 -- status

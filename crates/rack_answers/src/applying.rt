@@ -7,7 +7,7 @@ ghost use Rattle.plan_answers.specs.Answers.{IsOnly};
 ghost use Rattle.rack_answers.specs.Answers.{IsResultOf, IsResult, IsOverlapOf, IsWrongOf, IsFirstRunWrong, IsRunAnswer, image_alone};
 ghost use Rattle.refusals.specs.declared.refusal.Refusal.TheVariants.{NoMemory};
 
-use crate::running::{Telling, Unheard, marked_rack, tell};
+use crate::running::{NoNotice, Telling, marked_rack, result_text};
 use batch::{Batch, Shape, laws};
 use crossbar::MemoryPort;
 use exchange_limits::WorkerCount;
@@ -19,8 +19,8 @@ use schedule_certificate::{OpenGate, Planned, schedule_alone};
 use setting_runner::{Outcome, Plant, RunRefusal, run_alone};
 use std::alloc::{AllocError, Global};
 
-/// Runs a plan on a rack, over a port and wires that never fail. Gives the rack as the run leaves it, and
-/// how many settings there were.
+/// Runs a plan on a rack, over a port and wires that never fail. Gives the rack as the run leaves
+/// it, and how many settings there were.
 fn run_plain_alone(alloc: Global, rack: Rack, planned: &Planned) -> Result<(Rack, usize), Refusal>
     requires fits { FitsIn rack.shape planned.now.batch }
     ensures settings { IfOk result (λ ran. ran.1 ≡ length planned.now.settings) }
@@ -35,7 +35,7 @@ fn run_plain_alone(alloc: Global, rack: Rack, planned: &Planned) -> Result<(Rack
         gate: OpenGate,
         workers: WorkerCount::ONE,
     };
-    let (rack, outcome) = run_alone(alloc, rack, &mut plant, planned, &mut Unheard);
+    let (rack, outcome) = run_alone(alloc, rack, &mut plant, planned, &mut NoNotice);
     match outcome {
         Outcome::Completed { settings, .. } => Ok((rack, settings)),
         Outcome::Refused(why) => match why {
@@ -62,7 +62,7 @@ fn apply_plan(
 {
     let rack = marked_rack(alloc, shape, Some(image))?;
     let (rack, settings) = run_plain_alone(alloc, rack, planned)?;
-    Ok(tell(alloc, &rack, planned.batch(), settings, Telling::Image)?)
+    Ok(result_text(alloc, &rack, planned.batch(), settings, Telling::Image)?)
 }
 
 /// The image that a run of the batch leaves, or what is first wrong.
@@ -78,8 +78,8 @@ fn apply_texts(alloc: Global, shape: &[u8], batch: &[u8], image: &[u8]) -> Resul
     apply_plan(alloc, shape, image, &planned)
 }
 
-/// The answer of `exchange apply`, as [`answer_apply`](crate::answer_apply) gives it with one worker. It starts no
-/// thread.
+/// The answer of `exchange apply`, as [`answer_apply`](crate::answer_apply) gives it with one
+/// worker. It starts no thread.
 pub fn answer_apply_alone(
     alloc: Global,
     shape: &[u8],

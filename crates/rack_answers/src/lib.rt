@@ -1,9 +1,11 @@
-//! The answers of `run`, `apply` and `switch`, which a rack or its switches take part in, and no session: from the
-//! bytes of their texts to the bytes that are printed, and the status that the program ends with.
+//! The answers of `run`, `apply` and `switch`, which a rack or its switches take part in, and no
+//! session: from the bytes of their texts to the bytes that are printed, and the status that the
+//! program ends with.
 //!
-//! Each `answer_` function reads its texts, does what the command asks for, and gives an [`Answer`](plan_answers::Answer):
-//! what was asked for, or the line of the refusal of what is first wrong. It reads no file and prints
-//! nothing. Only those that are given workers start threads, and need a handle.
+//! Each `answer_` function reads its texts, does what the command asks for, and gives an
+//! [`Answer`](plan_answers::Answer): what was asked for, or the line of the refusal of what is
+//! first wrong. It reads no file and prints nothing. Only those that are given workers start
+//! threads, and need a handle.
 #![tactic(auto)]
 
 mod applying;

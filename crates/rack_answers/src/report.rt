@@ -75,8 +75,8 @@ fn push_module(
     Ok(())
 }
 
-/// The report of a run that placed the blocks of a batch in so many settings and left the rack: how much
-/// was done, and the words of each block that the batch writes, by module and then by block.
+/// The report of a run that placed the blocks of a batch in so many settings and left the rack: how
+/// much was done, and the words of each block that the batch writes, by module and then by block.
 ///
 /// Takes time that grows with the number of transfers, of blocks, and of words written.
 pub fn report(

@@ -35,9 +35,9 @@ pub(crate) enum Telling {
 
 /// Nobody is told how far a run has come.
 #[derive(Drop)]
-pub(crate) struct Unheard;
+pub(crate) struct NoNotice;
 
-impl Notice for Unheard {
+impl Notice for NoNotice {
     ghost hears = { λ _ _ _. Unit {0} };
 
     fn done(&mut self, _settings: usize) {}
@@ -60,8 +60,8 @@ pub(crate) fn marked_rack(
     Ok(rack)
 }
 
-/// Runs a plan on a rack, over a port and wires that never fail. Gives the rack as the run leaves it, and
-/// how many settings there were.
+/// Runs a plan on a rack, over a port and wires that never fail. Gives the rack as the run leaves
+/// it, and how many settings there were.
 fn run_plain<R: Threads + Sync>(
     rt: &R,
     alloc: Global,
@@ -82,7 +82,7 @@ fn run_plain<R: Threads + Sync>(
         gate: OpenGate,
         workers,
     };
-    let (rack, outcome) = run(rt, alloc, rack, &mut plant, planned, &mut Unheard);
+    let (rack, outcome) = run(rt, alloc, rack, &mut plant, planned, &mut NoNotice);
     match outcome {
         Outcome::Completed { settings, .. } => Ok((rack, settings)),
         Outcome::Refused(why) => match why {
@@ -95,7 +95,7 @@ fn run_plain<R: Threads + Sync>(
 }
 
 /// What is printed of a run of the batch in so many settings that left the rack.
-pub(crate) fn tell(
+pub(crate) fn result_text(
     alloc: Global,
     rack: &Rack,
     batch: &Batch,
@@ -110,8 +110,8 @@ pub(crate) fn tell(
     }
 }
 
-/// What is printed of a run of the plan on a rack of the shape that begins with the image's words, or with marks where
-/// there is no image; or what is wrong.
+/// What is printed of a run of the plan on a rack of the shape that begins with the image's words,
+/// or with marks where there is no image; or what is wrong.
 fn tell_plan<R: Threads + Sync>(
     rt: &R,
     alloc: Global,
@@ -129,7 +129,7 @@ fn tell_plan<R: Threads + Sync>(
 {
     let rack = marked_rack(alloc, shape, image)?;
     let (rack, settings) = run_plain(rt, alloc, rack, planned, workers)?;
-    Ok(tell(alloc, &rack, planned.batch(), settings, telling)?)
+    Ok(result_text(alloc, &rack, planned.batch(), settings, telling)?)
 }
 
 /// What is printed of the run, or what is first wrong.
@@ -174,15 +174,16 @@ fn answer_telling<R: Threads + Sync>(
     }
 }
 
-/// The answer of `exchange run`: the report of a run of the batch that the batch text denotes, on a rack of
-/// the shape that the shape text denotes, whose words are first those of the image or, where there is none, tell
-/// where they stand; or the refusal of what is first wrong.
+/// The answer of `exchange run`: the report of a run of the batch that the batch text denotes, on a
+/// rack of the shape that the shape text denotes, whose words are first those of the image or,
+/// where there is none, tell where they stand; or the refusal of what is first wrong.
 ///
-/// The shape text `MxKxW` is looked at first; then the batch text, against that shape; then whether the image has as many
-/// bytes as the rack's words have, four each; then whether transfers overlap. The report is `ran settings S words X bits Y`,
-/// and the line `block M B` with the words, of eight hexadecimal digits each, of every block that the batch writes, by
-/// module and then by block. Such a run has as few settings as the batch allows, and goes to its end, since its port and
-/// its wires never fail. Planning and the run are given so many workers each.
+/// The shape text `MxKxW` is looked at first; then the batch text, against that shape; then whether
+/// the image has as many bytes as the rack's words have, four each; then whether transfers overlap.
+/// The report is `ran settings S words X bits Y`, and the line `block M B` with the words, of eight
+/// hexadecimal digits each, of every block that the batch writes, by module and then by block. Such
+/// a run has as few settings as the batch allows, and goes to its end, since its port and its wires
+/// never fail. Planning and the run are given so many workers each.
 pub fn answer_run<R: Threads + Sync>(
     rt: &R,
     alloc: Global,
@@ -199,12 +200,13 @@ pub fn answer_run<R: Threads + Sync>(
     answer_telling(rt, alloc, shape, batch, image, workers, Telling::Report)
 }
 
-/// The answer of `exchange apply`: the image with the blocks of the batch placed, by a run on a rack of the shape whose words
-/// are those of the image; or the refusal of what is first wrong, as [`answer_run`] looks at it.
+/// The answer of `exchange apply`: the image with the blocks of the batch placed, by a run on a
+/// rack of the shape whose words are those of the image; or the refusal of what is first wrong, as
+/// [`answer_run`] looks at it.
 ///
-/// An image has all words of a rack, by module, by block and by place, each as four bytes, the least significant first, and
-/// nothing else. The run has as few settings as the batch allows, which isn't printed, and goes to its end. The answer
-/// doesn't depend on the number of workers.
+/// An image has all words of a rack, by module, by block and by place, each as four bytes, the
+/// least significant first, and nothing else. The run has as few settings as the batch allows,
+/// which isn't printed, and goes to its end. The answer doesn't depend on the number of workers.
 pub fn answer_apply<R: Threads + Sync>(
     rt: &R,
     alloc: Global,

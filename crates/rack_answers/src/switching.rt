@@ -43,7 +43,8 @@ fn setting_head(setting: usize) -> Line
     head
 }
 
-/// Puts the line of a setting at the end of the text, with the name of the switch that is sent its bytes.
+/// Puts the line of a setting at the end of the text, with the name of the switch that is sent its
+/// bytes.
 fn push_line(
     text: &mut Vec<u8>,
     setting: usize,
@@ -65,7 +66,8 @@ fn push_line(
     text.extend_from_slice(b"\n")
 }
 
-/// Puts the lines of a setting at the end of the text: one where the rack has one switch, else that of each.
+/// Puts the lines of a setting at the end of the text: one where the rack has one switch, else that
+/// of each.
 fn push_setting(
     text: &mut Vec<u8>,
     wide: bool,
@@ -88,7 +90,7 @@ fn push_setting(
 }
 
 /// The answer that tells what the switches are sent for a schedule of the batch.
-fn tell(alloc: Global, batch: &Batch, schedule: &Schedule) -> Result<Answer, AllocError>
+fn switch_answer(alloc: Global, batch: &Batch, schedule: &Schedule) -> Result<Answer, AllocError>
     requires { IsScheduleOf batch.now schedule.now }
     ensures { IfOk result (TellsSwitch batch.now schedule.now) }
 {
@@ -103,13 +105,14 @@ fn tell(alloc: Global, batch: &Batch, schedule: &Schedule) -> Result<Answer, All
     Ok(Answer::done(text))
 }
 
-/// The answer of `exchange switch`: what a run of a plan of the batch that the text denotes sends over the
-/// configuration link, setting by setting; or the refusal of the text's first fault.
+/// The answer of `exchange switch`: what a run of a plan of the batch that the text denotes sends
+/// over the configuration link, setting by setting; or the refusal of the text's first fault.
 ///
-/// A line is `setting S`, with the bytes behind it as pairs of hexadecimal digits: those of the first setting set a
-/// switch, whatever it was, and those of each later one change the switch of the setting before. Where the batch names
-/// a module above 15, a setting has two lines, `setting S a ..` for the switch of the way forth and `setting S b ..` for
-/// that of the way back. The batch is read against the widest shape. Planning is given so many workers.
+/// A line is `setting S`, with the bytes behind it as pairs of hexadecimal digits: those of the
+/// first setting set a switch, whatever it was, and those of each later one change the switch of
+/// the setting before. Where the batch names a module above 15, a setting has two lines,
+/// `setting S a ..` for the switch of the way forth and `setting S b ..` for that of the way back.
+/// The batch is read against the widest shape. Planning is given so many workers.
 pub fn answer_switch<R: Threads + Sync>(
     rt: &R,
     alloc: Global,
@@ -121,35 +124,36 @@ pub fn answer_switch<R: Threads + Sync>(
     match Batch::read(alloc, batch, Shape::WIDEST) {
         Ok(batch) => {
             let plan = schedule(rt, alloc, batch, workers, &OpenGate)?;
-            tell(alloc, plan.batch(), plan.schedule())
+            switch_answer(alloc, plan.batch(), plan.schedule())
         }
         Err(fault) => Answer::refused(alloc, fault.into()),
     }
 }
 
-/// The answer of `exchange switch`, as [`answer_switch`] gives it with one worker. It starts no thread.
+/// The answer of `exchange switch`, as [`answer_switch`] gives it with one worker. It starts no
+/// thread.
 pub fn answer_switch_alone(alloc: Global, batch: &[u8]) -> Result<Answer, AllocError>
     ensures { IfOk result (λ answer. IsSwitched widest batch.now answer) }
 {
     match Batch::read(alloc, batch, Shape::WIDEST) {
         Ok(batch) => {
             let plan = schedule_alone(alloc, batch)?;
-            tell(alloc, plan.batch(), plan.schedule())
+            switch_answer(alloc, plan.batch(), plan.schedule())
         }
         Err(fault) => Answer::refused(alloc, fault.into()),
     }
 }
 
-/// The answer of `exchange switch --steady`: such lines for a steady plan of the batch that the text
-/// denotes; or the refusal of the text's first fault. Takes time that grows with the length of the
-/// text.
+/// The answer of `exchange switch --steady`: such lines for a steady plan of the batch that the
+/// text denotes; or the refusal of the text's first fault. Takes time that grows with the length of
+/// the text.
 pub fn answer_switch_steady(alloc: Global, batch: &[u8]) -> Result<Answer, AllocError>
     ensures { IfOk result (λ answer. IsSwitchedSteadily widest batch.now answer) }
 {
     match Batch::read(alloc, batch, Shape::WIDEST) {
         Ok(batch) => {
             let plan = steady(alloc, &batch)?;
-            tell(alloc, &batch, plan.schedule())
+            switch_answer(alloc, &batch, plan.schedule())
         }
         Err(fault) => Answer::refused(alloc, fault.into()),
     }
@@ -157,8 +161,8 @@ pub fn answer_switch_steady(alloc: Global, batch: &[u8]) -> Result<Answer, Alloc
 
 /// The answer of `exchange switch --schedule`: such lines for the schedule that the schedule text
 /// says, of the batch that the batch text denotes; or the refusal of what is first wrong, as
-/// [`ScheduleTexts::read`](plan_answers::ScheduleTexts::read) looks at it. Takes time that grows with
-/// the lengths of the texts.
+/// [`ScheduleTexts::read`](plan_answers::ScheduleTexts::read) looks at it. Takes time that grows
+/// with the lengths of the texts.
 pub fn answer_switch_schedule(
     alloc: Global,
     batch: &[u8],
@@ -168,7 +172,7 @@ pub fn answer_switch_schedule(
     ensures one { IfOk result (IsOnly (IsSwitchedAs widest batch.now schedule.now)) }
 {
     match ScheduleTexts::read(alloc, batch, schedule) {
-        Ok(texts) => tell(alloc, texts.batch(), texts.schedule()),
+        Ok(texts) => switch_answer(alloc, texts.batch(), texts.schedule()),
         Err(refusal) => Answer::refused(alloc, refusal),
     }
 }

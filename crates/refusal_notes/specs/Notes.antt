@@ -16,13 +16,15 @@ IsQuoteOf line quote =
     (quote.bytes.now ≡ take MAX_QUOTED line) × (quote.is_cut ≡ nat_lt MAX_QUOTED (length line))
 
 -- the number, the beginning, the line feed and what is wanted are those of this line of the text
-pub record IsOfLine (listing : Listing) (text : List ℕ) (number : ℕ) (note : LineNote) : Type 0 where
+pub record IsOfLine (listing : Listing) (text : List ℕ) (number : ℕ)
+    (note : LineNote) : Type 0 where
   pub number_of : note.number ≡ number
   pub quote_of : IsQuoteOf (line_at text number) note.quote
   pub end_of : note.is_ended ≡ is_ended text number
   pub wanted_of : IsWantedAt listing text number note.wanted
 
--- one of the two modules of the line, one of its two blocks, or what line 1 says is this, and not below the limit
+-- one of the two modules of the line, one of its two blocks, or what line 1 says is this, and not
+-- below the limit
 abbrev pub IsAbove : Limit → List ℕ → ℕ → Type 0
 IsAbove (Modules most) line n = (HasNumber line 1 n ⊎ HasNumber line 3 n) × (most ≤ n)
 IsAbove (Blocks most) line n = (HasNumber line 2 n ⊎ HasNumber line 4 n) × (most ≤ n)

@@ -4,14 +4,15 @@ use Rattle.std.specs.List.{starts_with}
 use Rattle.refusal_notes.specs.Lines.{HasNumber, line_at}
 
 -- the line of a transfer, which is counted from 0
-abbrev pub transfer_at : List ℕ → ℕ → List ℕ
-transfer_at batch t = line_at batch (t + 2)
+abbrev pub transfer_line_at : List ℕ → ℕ → List ℕ
+transfer_line_at batch t = line_at batch (t + 2)
 
--- two words of a setting's line are these transfers, and both name the module in this word of theirs
+-- two words of a setting's line are these transfers, and both name the module in this word of
+-- theirs
 pub record Clashes (batch setting : List ℕ) (place m t u : ℕ) : Type 0 where
   pub first : (j : ℕ) × (k : ℕ) × (j < k) × HasNumber setting j t × HasNumber setting k u
-  pub one : HasNumber (transfer_at batch t) place m
-  pub other : HasNumber (transfer_at batch u) place m
+  pub one : HasNumber (transfer_line_at batch t) place m
+  pub other : HasNumber (transfer_line_at batch u) place m
 
 -- the word of a transfer's line that names the module it writes; the block stands behind it
 abbrev pub written_place : List ℕ → ℕ

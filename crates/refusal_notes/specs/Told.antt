@@ -16,7 +16,8 @@ use Rattle.refusal_notes.specs.Notes.{IsNoteAbove, IsNoteOf}
 abbrev pub IsShapeOf : List ℕ → Extent → Type 0
 IsShapeOf word shape = DenotesShape word shape ⊎ (IsBadShape word × (shape ≡ widest))
 
--- a transfer, on line T + 2 as far as numbers go, names what isn't below a limit of the rack's shape
+-- a transfer, on line T + 2 as far as numbers go, names what isn't below a limit of the rack's
+-- shape
 abbrev pub IsTransferTold : (Extent → Limit) → Texts → ℕ → LineNote → Type 0
 IsTransferTold limit texts t note =
     (shape : Extent) × IsShapeOf texts.shape.now shape

@@ -7,9 +7,11 @@ use Rattle.refusal_notes.specs.declared.wanted.Wanted.{Wanted}
 use Rattle.refusal_notes.specs.declared.wanted.Wanted.TheVariants.{Head, Entry, BusiestLink, Named, End}
 use Rattle.refusal_notes.specs.Lines.{Announces, line_at}
 
--- behind the last setting, counted from 0: a link and the transfers that use it, or that there is none
+-- behind the last setting, counted from 0: a link and the transfers that use it, or that there is
+-- none
 abbrev pub certificate_line : ℕ → Bool → Wanted
-certificate_line k none = if k == 0 then BusiestLink else if (k == 1) && not none then Named else End
+certificate_line k none =
+    if k == 0 then BusiestLink else if (k == 1) && not none then Named else End
 
 -- behind the last entry, counted from 0: nothing, or the certificate of a schedule
 abbrev pub wanted_behind : Listing → ℕ → Bool → Wanted

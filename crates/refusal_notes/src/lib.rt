@@ -1,7 +1,7 @@
 //! What is told of a refusal beside its line: where, what stands there, and what is wanted there.
 //!
-//! [`second_line`] is the one call for a command that was refused, [`session_line`] for a line of a session. They are handed
-//! the refusal itself and the texts that it is of, and change no answer.
+//! [`second_line`] is the one call for a command that was refused, [`session_line`] for a line of a
+//! session. They are handed the refusal itself and the texts that it is of, and change no answer.
 #![tactic(auto)]
 
 mod limit;

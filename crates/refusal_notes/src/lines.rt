@@ -6,8 +6,8 @@ ghost use Rattle.refusal_notes.specs.Lines.{Announces, HasNumber, is_ended as th
 
 use batch::number_from_digits;
 
-/// Piece `n`, counted from 0, of those that this byte ends. Takes time that grows with the number of
-/// bytes before it.
+/// Piece `n`, counted from 0, of those that this byte ends. Takes time that grows with the number
+/// of bytes before it.
 pub(crate) fn piece(bytes: &[u8], end: u8, n: usize) -> Option<&[u8]>
     ensures { option_map (λ piece. piece.now) result ≡ slice_get (pieces end bytes.now) n }
 {

@@ -3,7 +3,7 @@
 ghost use Rattle.std.specs.Prelude.{◌≡◌, ◌≤◌, ◌+◌, IfSome, IsTrue};
 ghost use Rattle.batch.specs.Text.{IsNumber};
 ghost use Rattle.refusal_notes.specs.Lines.{HasNumber};
-ghost use Rattle.refusal_notes.specs.Pairs.{Clashes, Writes, transfer_at, written_place};
+ghost use Rattle.refusal_notes.specs.Pairs.{Clashes, Writes, transfer_line_at, written_place};
 
 use crate::lines::{line_at, number_at};
 use crate::listed::{Listing, is_listed};
@@ -12,7 +12,7 @@ use batch::{MAX_TRANSFERS, number_from_digits};
 /// Whether this word of a transfer's line is this module.
 fn names(batch: &[u8], t: usize, place: usize, module: usize) -> bool
     requires { IsNumber t }
-    ensures { IsTrue result → HasNumber (transfer_at batch.now t) place «module» }
+    ensures { IsTrue result → HasNumber (transfer_line_at batch.now t) place «module» }
 {
     match number_at(line_at(batch, t + 2), place) {
         Some(n) => n == module,
@@ -20,8 +20,8 @@ fn names(batch: &[u8], t: usize, place: usize, module: usize) -> bool
     }
 }
 
-/// The first word of a setting's line, from this one on, that is a transfer which names the module in
-/// this word of its line; and the transfer.
+/// The first word of a setting's line, from this one on, that is a transfer which names the module
+/// in this word of its line; and the transfer.
 fn user_from(
     batch: &[u8],
     setting: &[u8],
@@ -31,7 +31,7 @@ fn user_from(
 ) -> Option<(usize, usize)>
     ensures place { IfSome result (λ x. (from ≤ x.0) × (x.0 ≤ MAX_TRANSFERS)) }
     ensures word { IfSome result (λ x. HasNumber setting.now x.0 x.1) }
-    ensures names { IfSome result (λ x. HasNumber (transfer_at batch.now x.1) place «module») }
+    ensures names { IfSome result (λ x. HasNumber (transfer_line_at batch.now x.1) place «module») }
 {
     for k in from..MAX_TRANSFERS + 1 {
         let t = number_at(setting, k)?;
@@ -90,7 +90,8 @@ pub(crate) fn times_held(schedule: &[u8], t: usize) -> usize {
         .fold(0, |times, line| times.saturating_add(times_in(line, t)))
 }
 
-/// The number of the line, counted from 1, in which a setting holds this transfer once more than so many times.
+/// The number of the line, counted from 1, in which a setting holds this transfer once more than so
+/// many times.
 pub(crate) fn standing(schedule: &[u8], t: usize, times: usize) -> Option<usize> {
     let mut left = times;
     for (above, line) in schedule.split(|b| *b == b'\n').enumerate() {

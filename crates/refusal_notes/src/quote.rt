@@ -46,8 +46,9 @@ fn write_byte<W: Write>(f: &mut Formatter<W>, byte: u8) -> fmt::Result {
     write!(f, "\\x{byte:02x}")
 }
 
-/// A character as it is shown: escaped where a terminal wouldn't show it, but obey it. Beyond ASCII these are control
-/// characters, those of no width, those that turn the direction of a text, and those that break its lines.
+/// A character as it is shown: escaped where a terminal wouldn't show it, but obey it. Beyond ASCII
+/// these are control characters, those of no width, those that turn the direction of a text, and
+/// those that break its lines.
 pub(crate) fn write_shown<W: Write>(f: &mut Formatter<W>, c: char) -> fmt::Result {
     match c {
         '"' => f.write_str("\\\""),

@@ -8,11 +8,12 @@ use refusals::Refusal;
 use std::alloc::Global;
 use std::fmt::Display;
 
-/// The line that is told on standard error beside this refusal, with its line feed: which line of which text, what
-/// stands there, and what is wanted there.
+/// The line that is told on standard error beside this refusal, with its line feed: which line of
+/// which text, what stands there, and what is wanted there.
 ///
-/// There is none of want of memory, nor of a file or a port that can't be opened, of which [`file_line`] tells. There is none
-/// where there is no memory for it. Takes time that grows with the lengths of the texts.
+/// There is none of want of memory, nor of a file or a port that can't be opened, of which
+/// [`file_line`] tells. There is none where there is no memory for it. Takes time that grows with
+/// the lengths of the texts.
 pub fn second_line(alloc: Global, refusal: Refusal, texts: Texts<'_>) -> Option<String>
     ensures text { IfSome result (λ text.
         (words : List ℕ) × (string_bytes text ≡ line_told words)) }
@@ -24,8 +25,8 @@ pub fn second_line(alloc: Global, refusal: Refusal, texts: Texts<'_>) -> Option<
     }
 }
 
-/// The same beside a refusal that a session is told, on a rack of the shape that this word says. What it sent is the line
-/// that was refused, or all lines of its batch with their line feeds.
+/// The same beside a refusal that a session is told, on a rack of the shape that this word says.
+/// What it sent is the line that was refused, or all lines of its batch with their line feeds.
 pub fn session_line<'a>(
     alloc: Global,
     refusal: Refusal,
@@ -48,8 +49,8 @@ pub fn session_line<'a>(
     second_line(alloc, refusal, texts)
 }
 
-/// The line that is told on standard error of a file that can't be read, or opened, for this reason, without the
-/// system's number for it; none where there is no memory for the line.
+/// The line that is told on standard error of a file that can't be read, or opened, for this
+/// reason, without the system's number for it; none where there is no memory for the line.
 pub fn file_line(alloc: Global, name: &str, reason: &str) -> Option<String>
     ensures { IfSome result (λ text. (words : List ℕ) × (string_bytes text ≡ line_told words)) }
 {

@@ -23,7 +23,8 @@ pub struct Named<'a> {
     pub text: &'a [u8],
 }
 
-/// What a command was asked: its texts and words, and what its answer found out. What it hasn't is as in [`Texts::NONE`].
+/// What a command was asked: its texts and words, and what its answer found out. What it hasn't is
+/// as in [`Texts::NONE`].
 #[derive(Clone, Copy)]
 pub struct Texts<'a> {
     /// The batch, or the moves.
@@ -80,8 +81,9 @@ pub(crate) struct Note<'a> {
 }
 
 impl<'a> Note<'a> {
-    /// What is told of the line that the refusal is of: none where it isn't of the form of a line, or of the
-    /// numbers in one. Where there are fewer or more lines than announced, it is the line behind the last.
+    /// What is told of the line that the refusal is of: none where it isn't of the form of a line,
+    /// or of the numbers in one. Where there are fewer or more lines than announced, it is the line
+    /// behind the last.
     pub(crate) fn line(&self) -> Option<LineNote<'a>>
         ensures { IsLineTold self.now.refusal self.now.texts result }
     {

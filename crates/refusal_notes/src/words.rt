@@ -125,7 +125,8 @@ fn is_miscounted(named: Named<'_>, listing: Listing) -> bool {
     listed(listing, named.text) != announced(named.text)
 }
 
-/// Whether a schedule has other than the announced number of settings, and this is the line in which they end, or go on.
+/// Whether a schedule has other than the announced number of settings, and this is the line in
+/// which they end, or go on.
 fn ends_settings(schedule: Named<'_>, line: LineNote<'_>) -> bool {
     let text = line_at(schedule.text, line.number);
     let ends = match line.wanted {
@@ -148,7 +149,8 @@ fn write_counts<W: Write>(f: &mut Formatter<W>, named: Named<'_>, listing: Listi
     write!(f, "{named}: {lines}, and line 1 says {said}")
 }
 
-/// Writes what is told of a word, of how many settings there are, of an image, an overlap, ports, or threads.
+/// Writes what is told of a word, of how many settings there are, of an image, an overlap, ports,
+/// or threads.
 pub(crate) fn write_asked<W: Write>(f: &mut Formatter<W>, note: Note<'_>) -> fmt::Result {
     let (other, shape) = (note.texts.other, note.texts.shape);
     match note.refusal {

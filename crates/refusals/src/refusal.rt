@@ -11,8 +11,8 @@ use std::alloc::AllocError;
 /// Room for the line of a refusal, whatever its numbers are.
 pub const REFUSAL_ROOM: usize = 100;
 
-/// Why a command, or a line of a session, isn't done. The lines in docs/REFUSALS.md and docs/SESSIONS.md, and which of them
-/// comes first, are this project's choice.
+/// Why a command, or a line of a session, isn't done. The lines in docs/REFUSALS.md and
+/// docs/SESSIONS.md, and which of them comes first, are this project's choice.
 ///
 /// A line of a text is counted from 1, a transfer and a setting from 0.
 #[derive(Clone, Copy, Debug, PartialEq, Eq)]
@@ -51,9 +51,10 @@ pub enum Refusal {
     CheckNotTight { settings: usize, named: usize },
     /// `no setting K`: this setting is to be drawn, and is the first that the schedule hasn't.
     NoSetting(usize),
-    /// `shape`: the text isn't that of a shape. A run is refused so too where a transfer of its plan names a module or a block
-    /// that the rack hasn't. No batch that a session sends has one, since it is read for the rack's shape; but one that was
-    /// handed to the exchange otherwise can.
+    /// `shape`: the text isn't that of a shape. A run is refused so too where a transfer of its
+    /// plan names a module or a block that the rack hasn't. No batch that a session sends has one,
+    /// since it is read for the rack's shape; but one that was handed to the exchange otherwise
+    /// can.
     Shape,
     /// `image L W`: the image has so many bytes, and the shape wants another number.
     Image { is: usize, wanted: usize },
@@ -61,7 +62,8 @@ pub enum Refusal {
     Overlap(usize, usize),
     /// `file`: a file, or standard input, can't be read, or a file to be written can't be opened.
     File,
-    /// `ports W`: so many ports are wanted, one for each switch that the batch needs, and another number is named.
+    /// `ports W`: so many ports are wanted, one for each switch that the batch needs, and another
+    /// number is named.
     Ports(usize),
     /// `port a` or `port b`: this port can't be opened.
     Port(PortName),

@@ -92,7 +92,8 @@ few_le n d r s f less = record {
 near : (e p : ℕ) → p + 1 ≤ e → e ≤ p + 2 → (e ≡ p + 1) ⊎ (e ≡ p + 2)
 near e p low high = elim (cases_eq e (p + 1)) [ inl same ↦ inl same | inr apart ↦ inr (omega arith) ]
 
--- two halves of a part of degree d, and a class of d + 1 that is put back where they have more than d colours
+-- two halves of a part of degree d, and a class of d + 1 that is put back where they have more than
+-- d colours
 pub few_halves : (d d₁ d₂ n₁ n₂ r₁ r₂ s : ℕ) → 1 < d → d ≤ d₁ + d₂ → d₁ ≤ (d + 1) / 2 → d₂ ≤ (d + 1) / 2 → AreFew n₁ d₁ r₁ → AreFew n₂ d₂ r₂ → (d + 1) * s ≤ n₁ + n₂ → (d₁ + d₂ ≤ d → s ≡ 0) → AreFew (n₁ + n₂) d (r₁ + r₂ + s)
 few_halves d d₁ d₂ n₁ n₂ r₁ r₂ s high both a_le b_le a b few none = elim (cases_eq (d % 2) 0) [
   | inl even ↦

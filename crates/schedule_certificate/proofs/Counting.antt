@@ -15,7 +15,7 @@ use Rattle.link_graph.specs.Marks.{members}
 use Rattle.euler_split.specs.Split.{uses_among}
 use Rattle.euler_split.proofs.Modules.{known_transfer}
 use Rattle.batch.specs.Overlap.{no_transfer, transfer_at}
-use Rattle.alternating_path.specs.Colouring.{colour_at, IsPlaced}
+use Rattle.alternating_path.specs.Colouring.{colour_at, HasColour}
 use Rattle.alternating_path.specs.Counts.{uses_link, placed_uses}
 use Rattle.alternating_path.specs.Classes.{placed_count}
 use Rattle.alternating_path.proofs.Held.{and_true, and_false, count_below_none, count_below_same, uses_yes}
@@ -96,7 +96,7 @@ uses_counted batch link (t ∷ ts) known =
     omega (arith, ap (λ (xs : List Transfer). uses xs link) more, sum_by-cons one x (members batch ts), sum_by-cons (λ u. one (transfer_at batch u)) t ts, same, uses_counted batch link ts (All-tail (λ u. u < length batch) t ts known))
 
 -- a link of a transfer of the part that isn't placed has fewer placed transfers than uses
-pub part_room : (batch : List Transfer) (part : List ℕ) (colour : List (Option ℕ)) (t : ℕ) (link : Link) → All (λ u. u < length batch) part → ((u : ℕ) → IsPlaced colour u → Contains part u) → Contains part t → colour_at colour t ≡ None → Uses batch t link → placed_uses batch colour link < uses_among batch part link
+pub part_room : (batch : List Transfer) (part : List ℕ) (colour : List (Option ℕ)) (t : ℕ) (link : Link) → All (λ u. u < length batch) part → ((u : ℕ) → HasColour colour u → Contains part u) → Contains part t → colour_at colour t ≡ None → Uses batch t link → placed_uses batch colour link < uses_among batch part link
 unfolding placed_uses
 part_room batch part colour t link known only stands out used =
     let q : ℕ → Bool = λ u. uses_link batch link u && is_some (colour_at colour u) in
@@ -106,7 +106,7 @@ part_room batch part colour t link known only stands out used =
     omega (arith, few, less, uses_counted batch link part known)
 
 -- no more transfers are placed than the part has
-pub placed_few : (part : List ℕ) (colour : List (Option ℕ)) → ((u : ℕ) → IsPlaced colour u → Contains part u) → placed_count colour ≤ length part
+pub placed_few : (part : List ℕ) (colour : List (Option ℕ)) → ((u : ℕ) → HasColour colour u → Contains part u) → placed_count colour ≤ length part
 placed_few part colour only =
     let q : ℕ → Bool = λ u. is_some (colour_at colour u) in
     omega (arith, count_standing part q (length colour) (λ u h. only u h), count_by-le-length q part)

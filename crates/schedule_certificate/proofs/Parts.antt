@@ -19,7 +19,7 @@ use Rattle.link_graph.proofs.Once.{standings, once_from_distinct, stands_from_co
 use Rattle.link_graph.proofs.Sharing.{members_few, matching_from_none_shared, count_from_shared}
 use Rattle.link_graph.proofs.Users.{uses_few}
 use Rattle.euler_split.specs.Split.{uses_among, IsSplit}
-use Rattle.alternating_path.specs.Colouring.{Colouring, colour_at, IsPlaced, PlacesOnly, ArePlacedApart, joined_colour, HasClassMore}
+use Rattle.alternating_path.specs.Colouring.{Colouring, colour_at, HasColour, PlacesOnly, ArePlacedApart, joined_colour, HasClassMore}
 use Rattle.alternating_path.specs.Counts.{uses_link}
 use Rattle.alternating_path.specs.Classes.{without_colour, IsTakenBack}
 use Rattle.alternating_path.proofs.Removed.{without-at}
@@ -28,7 +28,7 @@ use Rattle.alternating_path.proofs.MoreClasses.{some_of}
 use Rattle.schedule_certificate.specs.Reinsertions.{AreFew}
 use Rattle.schedule_certificate.specs.declared.degree.Known.{Known}
 use Rattle.schedule_certificate.specs.declared.degree.Known.TheVariants.{Is, AtMost}
-use Rattle.schedule_certificate.specs.Parts.{IsPart, IsDegree, IsKnown, IsHalf, AreHalves, AreHalvesOfTwo, IsColouredPart, HasRoomFor}
+use Rattle.schedule_certificate.specs.Parts.{IsPart, IsDegree, IsDegreeKnown, IsHalf, AreHalves, AreHalvesOfTwo, IsColouredPart, HasRoomFor}
 use Rattle.schedule_certificate.proofs.Bounds.{few_le, few_halves}
 use Rattle.schedule_certificate.proofs.Counting.{uses_counted, placed_few}
 
@@ -120,7 +120,7 @@ module _ (batch : List Transfer) (whole left right : List ℕ) (part : IsPart ba
     },
   )
 
-  pub known_halves : (d : ℕ) (half : Known) → IsDegree (members batch whole) d → IsHalf d half → IsKnown (members batch left) half × IsKnown (members batch right) half
+  pub known_halves : (d : ℕ) (half : Known) → IsDegree (members batch whole) d → IsHalf d half → IsDegreeKnown (members batch left) half × IsDegreeKnown (members batch right) half
   known_halves d (Is h) degree is = half_degrees d h degree is
   known_halves d (AtMost h) degree is = (λ link. rw is (s.left_uses link d degree), λ link. rw is (s.right_uses link d degree))
 
@@ -254,7 +254,7 @@ module _ (batch : List Transfer) (whole left right : List ℕ) (d : ℕ) (t₁ t
       few_le (length whole) d (t₁.inserted + t₂.inserted + x) r (subst (λ (m : ℕ). AreFew m d (t₁.inserted + t₂.inserted + x)) n f) le
 
   module _ (joined : Colouring) (batch_is : joined.batch ≡ t₁.batch) (colours : joined.colours ≡ t₁.colours + t₂.colours) (classes : (t : ℕ) → colour_at joined.colour t ≡ joined_colour t₁.colours (colour_at t₁.colour t) (colour_at t₂.colour t)) (inserted : joined.inserted ≤ t₁.inserted + t₂.inserted) where
-    all_placed : (t : ℕ) → IsPlaced joined.colour t ↔ Contains whole t
+    all_placed : (t : ℕ) → HasColour joined.colour t ↔ Contains whole t
     all_placed t = (
       λ some. elim (either_placed t₁.colours (colour_at t₁.colour t) (colour_at t₂.colour t) (subst IsSome (classes t) some)) [
         | inl a ↦ from_left batch whole left right part s t ((c₁.placed t).0 a)
@@ -296,7 +296,7 @@ module _ (batch : List Transfer) (whole left right : List ℕ) (d : ℕ) (t₁ t
       table_at : (t : ℕ) → colour_at table.colour t ≡ without_colour taken.c (colour_at joined.colour t)
       table_at t = ap (λ (x : Colouring). colour_at x.colour t) taken.rest ∙ without-at taken.c joined.colour t
 
-      each_placed : (t : ℕ) → Contains whole t ↔ (IsPlaced table.colour t ⊎ Contains class t)
+      each_placed : (t : ℕ) → Contains whole t ↔ (HasColour table.colour t ⊎ Contains class t)
       each_placed t = (
         λ stands. elim (stays_or_had taken.c (colour_at joined.colour t) ((all_placed t).1 stands)) [
           | inl stays ↦ inl (subst IsSome (sym (table_at t)) stays)
@@ -324,7 +324,7 @@ module _ (batch : List Transfer) (whole left right : List ℕ) (d : ℕ) (t₁ t
           let turned : length class * joined.colours ≡ (d + 1) * length class = ap (λ c. length class * c) cols ∙ mul_comm (length class) (d + 1) in
           omega (arith, turned, taken.few, placed_few whole joined.colour (λ u some. (all_placed u).0 some))
 
-      pub put_back_coloured : (new : Colouring) → new.batch ≡ table.batch → new.colours ≡ table.colours → ((t : ℕ) → IsPlaced new.colour t ↔ (IsPlaced table.colour t ⊎ Contains class t)) → new.inserted ≤ table.inserted + length class → IsColouredPart batch whole new
+      pub put_back_coloured : (new : Colouring) → new.batch ≡ table.batch → new.colours ≡ table.colours → ((t : ℕ) → HasColour new.colour t ↔ (HasColour table.colour t ⊎ Contains class t)) → new.inserted ≤ table.inserted + length class → IsColouredPart batch whole new
       put_back_coloured new same colours_same placed count = record {
         degree = d;
         is_degree = degree;

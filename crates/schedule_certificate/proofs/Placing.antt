@@ -11,7 +11,7 @@ use Rattle.batch.proofs.Lists.{one, one_same, one_other, times_into, times_alone
 use Rattle.link_graph.specs.Uses.{AreApart, IsMatching}
 use Rattle.link_graph.specs.Schedules.{times, IsScheduleOf}
 use Rattle.alternating_path.proofs.FirstSeen.{rise_all}
-use Rattle.schedule_certificate.specs.FirstFit.{Places, into, alone, IsBlocked, AllBlocked, IsTaken, IsFirstFit}
+use Rattle.schedule_certificate.specs.FirstFit.{Places, into, alone, IsBlocked, AllBlocked, SharesWithSmaller, IsFirstFit}
 
 -- ---- the transfers below t are placed
 
@@ -44,17 +44,17 @@ rise t setting = All-weaker (λ u. u < t) (λ u. u < t + 1) (λ u lt. omega arit
 not_in_nothing : (x : ℕ) → Contains [] x → ⊥
 not_in_nothing x c = omega (arith, c.1)
 
-grows : (batch : List Transfer) (setting more : List ℕ) (x : ℕ) → IsTaken batch setting x → IsTaken batch (setting ++ more) x
+grows : (batch : List Transfer) (setting more : List ℕ) (x : ℕ) → SharesWithSmaller batch setting x → SharesWithSmaller batch (setting ++ more) x
 grows batch setting more x taken = record { u = taken.u; stands = Contains-append_left setting more taken.u taken.stands; smaller = taken.smaller; share = taken.share }
 
-was_blocked : (batch : List Transfer) (setting : List ℕ) (t : ℕ) → All (λ u. u < t) setting → IsBlocked batch setting t → IsTaken batch setting t
+was_blocked : (batch : List Transfer) (setting : List ℕ) (t : ℕ) → All (λ u. u < t) setting → IsBlocked batch setting t → SharesWithSmaller batch setting t
 was_blocked batch setting t below blocked = record { u = blocked.u; stands = blocked.stands; smaller = All-contains (λ u. u < t) setting blocked.u below blocked.stands; share = blocked.share }
 
-taken_after : (batch : List Transfer) (old : List (List ℕ)) (k t j x : ℕ) → k < length old → IsTaken batch (get_or old j []) x → IsTaken batch (get_or (set old k (get_or old k [] ++ t ∷ [])) j []) x
+taken_after : (batch : List Transfer) (old : List (List ℕ)) (k t j x : ℕ) → k < length old → SharesWithSmaller batch (get_or old j []) x → SharesWithSmaller batch (get_or (set old k (get_or old k [] ++ t ∷ [])) j []) x
 taken_after batch old k t j x lt taken =
     elim (eqb_tells j k) [
-      | inl e ↦ subst (λ (s : List ℕ). IsTaken batch s x) (ap (λ (i : ℕ). get_or old i [] ++ t ∷ []) e.1 ∙ sym (get_or-set_same old k (get_or old k [] ++ t ∷ []) [] lt) ∙ ap (λ (i : ℕ). get_or (set old k (get_or old k [] ++ t ∷ [])) i []) (sym e.1)) (grows batch (get_or old j []) (t ∷ []) x taken)
-      | inr e ↦ subst (λ (s : List ℕ). IsTaken batch s x) (sym (get_or-set_other old k j (get_or old k [] ++ t ∷ []) [] e.1)) taken
+      | inl e ↦ subst (λ (s : List ℕ). SharesWithSmaller batch s x) (ap (λ (i : ℕ). get_or old i [] ++ t ∷ []) e.1 ∙ sym (get_or-set_same old k (get_or old k [] ++ t ∷ []) [] lt) ∙ ap (λ (i : ℕ). get_or (set old k (get_or old k [] ++ t ∷ [])) i []) (sym e.1)) (grows batch (get_or old j []) (t ∷ []) x taken)
+      | inr e ↦ subst (λ (s : List ℕ). SharesWithSmaller batch s x) (sym (get_or-set_other old k j (get_or old k [] ++ t ∷ []) [] e.1)) taken
     ]
 
 fits_into : (batch : List Transfer) (t k : ℕ) (old : List (List ℕ)) → Partial batch t old → k < length old → AllBlocked batch (take k old) t → IsFirstFit batch (set old k (get_or old k [] ++ t ∷ []))
@@ -70,7 +70,7 @@ fits_into batch t k old p lt blocked = record {
           | inl inside ↦ p.fits.first j k x before lt inside
           | inr is ↦
               let there : IsBlocked batch (get_or old j []) t = subst (λ (s : List ℕ). IsBlocked batch s t) (get_or-take k old j [] before) (All-get_or (λ s. IsBlocked batch s t) (take k old) j [] (omega (arith, length-take k old)) blocked) in
-              subst (λ (n : ℕ). IsTaken batch (get_or old j []) n) is (was_blocked batch (get_or old j []) t (All-get_or (All (λ u. u < t)) old j [] (omega arith) p.below) there)
+              subst (λ (n : ℕ). SharesWithSmaller batch (get_or old j []) n) is (was_blocked batch (get_or old j []) t (All-get_or (All (λ u. u < t)) old j [] (omega arith) p.below) there)
         ]
     | inr e ↦ p.fits.first j i x less (omega (arith, within, length-set old k (get_or old k [] ++ t ∷ []))) (subst (λ (s : List ℕ). Contains s x) (get_or-set_other old k i (get_or old k [] ++ t ∷ []) [] e.1) stands)
   ]);
@@ -83,13 +83,13 @@ fits_alone batch t old p blocked = record {
   first = λ j i x less within stands.
       let few : i < length old + 1 = omega (arith, within, length_push old (t ∷ [])) in
       let early : j < length old = omega arith in
-      subst (λ (s : List ℕ). IsTaken batch s x) (sym (get_or_append_left old ((t ∷ []) ∷ []) [] j early)) (elim (cases_lt i (length old)) [
+      subst (λ (s : List ℕ). SharesWithSmaller batch s x) (sym (get_or_append_left old ((t ∷ []) ∷ []) [] j early)) (elim (cases_lt i (length old)) [
         | inl inside ↦ p.fits.first j i x less inside (subst (λ (s : List ℕ). Contains s x) (get_or_append_left old ((t ∷ []) ∷ []) [] i inside) stands)
         | inr last ↦
             let at : Contains (t ∷ []) x = subst (λ (s : List ℕ). Contains s x) (get_or_push old (t ∷ []) [] i (omega arith)) stands in
             elim (Contains-push_cases [] t x at) [
               | inl none ↦ absurd (not_in_nothing x none)
-              | inr is ↦ subst (λ (n : ℕ). IsTaken batch (get_or old j []) n) is (was_blocked batch (get_or old j []) t (All-get_or (All (λ u. u < t)) old j [] early p.below) (All-get_or (λ s. IsBlocked batch s t) old j [] early blocked))
+              | inr is ↦ subst (λ (n : ℕ). SharesWithSmaller batch (get_or old j []) n) is (was_blocked batch (get_or old j []) t (All-get_or (All (λ u. u < t)) old j [] early p.below) (All-get_or (λ s. IsBlocked batch s t) old j [] early blocked))
             ]
       ]);
 }

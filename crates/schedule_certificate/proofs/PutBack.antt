@@ -6,7 +6,7 @@ use Rattle.std.proofs.lemmas.List.{take_more, take_all, get_or-take, get_or_defa
 use Rattle.std.proofs.lemmas.List.Elements.{All-contains, Contains-get_or, Contains-push, Contains-push_cases, Contains-append_left}
 use Rattle.batch.specs.declared.transfer.Transfer.{Transfer}
 use Rattle.euler_split.specs.Split.{uses_among}
-use Rattle.alternating_path.specs.Colouring.{Colouring, colour_at, IsPlaced, PlacesJust}
+use Rattle.alternating_path.specs.Colouring.{Colouring, colour_at, HasColour, PlacesJust}
 use Rattle.alternating_path.specs.Counts.{HasFullLink}
 use Rattle.schedule_certificate.specs.Parts.{HasRoomFor}
 use Rattle.schedule_certificate.proofs.Counting.{part_room}
@@ -14,10 +14,10 @@ use Rattle.schedule_certificate.proofs.Counting.{part_room}
 pub record ArePutBack (old : Colouring) (class : List ℕ) (i : ℕ) (s : Colouring) : Type 0 where
   pub batch : s.batch ≡ old.batch
   pub colours : s.colours ≡ old.colours
-  pub placed : (t : ℕ) → IsPlaced s.colour t ↔ (IsPlaced old.colour t ⊎ Contains (take i class) t)
+  pub placed : (t : ℕ) → HasColour s.colour t ↔ (HasColour old.colour t ⊎ Contains (take i class) t)
   pub inserted : s.inserted ≤ old.inserted + i
 
-pub all_back : (old : Colouring) (class : List ℕ) (i : ℕ) (s : Colouring) → length class ≤ i → ArePutBack old class i s → (t : ℕ) → IsPlaced s.colour t ↔ (IsPlaced old.colour t ⊎ Contains class t)
+pub all_back : (old : Colouring) (class : List ℕ) (i : ℕ) (s : Colouring) → length class ≤ i → ArePutBack old class i s → (t : ℕ) → HasColour s.colour t ↔ (HasColour old.colour t ⊎ Contains class t)
 all_back old class i s past x t = let all : take i class ≡ class = take_all _ _ past in rw all at (x.placed t)
 
 nothing_if : (o : Option ℕ) → (IsSome o → ⊥) → o ≡ None
@@ -60,10 +60,10 @@ module _ (old s : Colouring) (class : List ℕ) (i : ℕ) (room : HasRoomFor old
         room.distinct at.0 i 0 at.1 within at.3
   ])
 
-  pub not_placed : IsPlaced s.colour t → ⊥
+  pub not_placed : HasColour s.colour t → ⊥
   not_placed some = false≢true (sym (ap is_some out_now) ∙ some)
 
-  only : (u : ℕ) → IsPlaced s.colour u → Contains room.whole u
+  only : (u : ℕ) → HasColour s.colour u → Contains room.whole u
   only u some = (room.each u).1 (elim ((x.placed u).0 some) [ inl was ↦ inl was | inr before ↦ inr (of_class u before) ])
 
   pub never_full : HasFullLink s t → ⊥

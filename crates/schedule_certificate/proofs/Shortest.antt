@@ -1,4 +1,5 @@
--- A schedule with no more settings than the busiest link has uses is shortest, as that link's transfers show (König 1916).
+-- A schedule with no more settings than the busiest link has uses is shortest, as that link's
+-- transfers show (König 1916).
 use Rattle.std.proofs.Common.{◌≡◌, ℕ, ◌≤◌, List, [], ◌∷◌, length, Option, Some, None, inl, inr, refl, subst, arith}
 use Rattle.batch.specs.declared.transfer.Transfer.{Transfer}
 use Rattle.batch.specs.Batches.{IsBatch}

@@ -13,7 +13,7 @@ pub record Share (batch : List Transfer) (u t : ℕ) : Type 0 where
   pub second : Uses batch t link
 
 -- a smaller number of the setting has a link in common with t
-pub record IsTaken (batch : List Transfer) (setting : List ℕ) (t : ℕ) : Type 0 where
+pub record SharesWithSmaller (batch : List Transfer) (setting : List ℕ) (t : ℕ) : Type 0 where
   pub u : ℕ
   pub stands : Contains setting u
   pub smaller : u < t
@@ -25,7 +25,7 @@ pub record IsFirstFit (batch : List Transfer) (settings : List (List ℕ)) : Typ
   pub none_empty : All (λ setting. 0 < length setting) settings
   pub ascending : All (AllPairs (λ t u. t < u)) settings
   pub first : (j k t : ℕ) → j < k → k < length settings → Contains (slice_index_or settings k []) t
-      → IsTaken batch (slice_index_or settings j []) t
+      → SharesWithSmaller batch (slice_index_or settings j []) t
 
 -- ---- one step, for the parts of the body
 

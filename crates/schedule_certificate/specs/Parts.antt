@@ -8,7 +8,7 @@ use Rattle.link_graph.specs.Certificates.{AreDistinct}
 use Rattle.link_graph.specs.Counts.{uses, module_at}
 use Rattle.link_graph.specs.Marks.{members}
 use Rattle.euler_split.specs.Split.{uses_among}
-use Rattle.alternating_path.specs.Colouring.{Colouring, colour_at, IsPlaced, PlacesOnly}
+use Rattle.alternating_path.specs.Colouring.{Colouring, colour_at, HasColour, PlacesOnly}
 use Rattle.schedule_certificate.specs.Reinsertions.{AreFew}
 use Rattle.schedule_certificate.specs.declared.degree.Known.{Known}
 use Rattle.schedule_certificate.specs.declared.degree.Known.TheVariants.{Is, AtMost}
@@ -24,9 +24,9 @@ pub record IsDegree (transfers : List Transfer) (d : ℕ) : Type 0 where
   pub reached : (d ≡ 0) ⊎ ((link : Link) × (uses transfers link ≡ d))
 
 -- what is known of the degree holds of it
-abbrev pub IsKnown : List Transfer → Known → Type 0
-IsKnown transfers (Is d) = IsDegree transfers d
-IsKnown transfers (AtMost d) = (link : Link) → uses transfers link ≤ d
+abbrev pub IsDegreeKnown : List Transfer → Known → Type 0
+IsDegreeKnown transfers (Is d) = IsDegree transfers d
+IsDegreeKnown transfers (AtMost d) = (link : Link) → uses transfers link ≤ d
 
 -- half of the degree, or half of an odd one, rounded up
 abbrev pub IsHalf : ℕ → Known → Type 0
@@ -40,7 +40,7 @@ pub record IsWidth (batch : List Transfer) (n : ℕ) : Type 0 where
 
 -- distinct transfers, with what is known of their degree
 abbrev pub IsPartBy : List Transfer → List ℕ → Known → Type 0
-IsPartBy batch part known = IsPart batch part × IsKnown (members batch part) known
+IsPartBy batch part known = IsPart batch part × IsDegreeKnown (members batch part) known
 
 -- The two halves together are the whole in another order. In each a link has at most half of the
 -- whole's degree, rounded up.
@@ -81,7 +81,7 @@ pub record AreColouredHalves (batch : List Transfer) (whole : List ℕ) (d : ℕ
 
 -- the transfers placed now are those placed before and those of the class
 abbrev pub PlacesClass : List (Option ℕ) → List (Option ℕ) → List ℕ → Type 0
-PlacesClass old new class = (t : ℕ) → IsPlaced new t ↔ (IsPlaced old t ⊎ Contains class t)
+PlacesClass old new class = (t : ℕ) → HasColour new t ↔ (HasColour old t ⊎ Contains class t)
 
 -- These transfers aren't placed, and each link has at least as many colours as it is used by them
 -- and the placed ones together.
@@ -89,6 +89,6 @@ pub record HasRoomFor (table : Colouring) (class : List ℕ) : Type 0 where
   pub whole : List ℕ
   pub is_part : IsPart table.batch whole
   pub room : (link : Link) → uses_among table.batch whole link ≤ table.colours
-  pub each : (t : ℕ) → Contains whole t ↔ (IsPlaced table.colour t ⊎ Contains class t)
+  pub each : (t : ℕ) → Contains whole t ↔ (HasColour table.colour t ⊎ Contains class t)
   pub out : (t : ℕ) → Contains class t → colour_at table.colour t ≡ None
   pub distinct : AreDistinct class

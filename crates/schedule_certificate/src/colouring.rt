@@ -14,9 +14,9 @@ use link_graph::LinkGraph;
 use std::alloc::{AllocError, Global};
 use std::thread::{Threads, join};
 
-/// Colours a part as [`colour_alone`] does, with the same contract and the same colours. Two workers or
-/// more colour its halves at once, also where all transfers share one link: [`halve_part`] says why
-/// these get the same colours then.
+/// Colours a part as [`colour_alone`] does, with the same contract and the same colours. Two
+/// workers or more colour its halves at once, also where all transfers share one link:
+/// [`halve_part`] says why these get the same colours then.
 #[cycle(halves)]
 pub(crate) fn colour_part<'a, R: Threads + Sync, G: Gate>(
     rt: &R,
@@ -54,8 +54,8 @@ pub(crate) fn colour_part<'a, R: Threads + Sync, G: Gate>(
     join_halves(left, right, degree)
 }
 
-/// Colours two parts at once. Each is coloured by a copy of it, with a scratch of its own, so that the two
-/// workers change nothing that both hold.
+/// Colours two parts at once. Each is coloured by a copy of it, with a scratch of its own, so that
+/// the two workers change nothing that both hold.
 #[cycle(halves)]
 fn colour_both<'a, R: Threads + Sync, G: Gate>(
     rt: &R,

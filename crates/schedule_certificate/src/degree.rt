@@ -31,7 +31,8 @@ fn modules_at(graph: &LinkGraph, end: End) -> usize
     count
 }
 
-/// A number of links of one end such that each transfer uses one of them: of the end that needs fewer.
+/// A number of links of one end such that each transfer uses one of them: of the end that needs
+/// fewer.
 pub(crate) fn width_of(graph: &LinkGraph) -> usize
     ensures { IsWidth graph.now result }
 {
@@ -79,9 +80,9 @@ fn count_degree(graph: &LinkGraph, part: &[usize]) -> usize
 
 /// How many transfers of a part use the link that most of them use, which may be known.
 ///
-/// All transfers of the graph use one of so many links at one end, its width. If each of these had less
-/// uses than the degree may have at most, a part couldn't have more transfers than all of them together.
-/// Where it has more, the degree is the most that it may be, and nothing is counted.
+/// All transfers of the graph use one of so many links at one end, its width. If each of these had
+/// less uses than the degree may have at most, a part couldn't have more transfers than all of them
+/// together. Where it has more, the degree is the most that it may be, and nothing is counted.
 pub(crate) fn degree_of(graph: &LinkGraph, part: &[usize], known: Known, width: usize) -> usize
     requires part { IsPartBy graph.now part.now known }
     requires width { IsWidth graph.now width }

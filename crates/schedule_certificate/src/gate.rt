@@ -1,5 +1,5 @@
-/// Where workers arrive before they begin their part of the work, so that a test can hold them until
-/// another has begun. Workers share it.
+/// Where workers arrive before they begin their part of the work, so that a test can hold them
+/// until another has begun. Workers share it.
 pub trait Gate: Sync {
     /// The worker of this number, from 1, is about to begin.
     fn arrive(&self, place: usize);

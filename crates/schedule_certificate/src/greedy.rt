@@ -70,9 +70,9 @@ fn place(
 /// The greedy schedule: transfers come by number, and each joins the first setting whose transfers
 /// use other links.
 ///
-/// The schedule has no empty setting, so at most as many settings as the batch has transfers; it may
-/// have more than are needed. A transfer is compared with those before it at most once each, so the
-/// time grows with the square of the number of transfers.
+/// The schedule has no empty setting, so at most as many settings as the batch has transfers; it
+/// may have more than are needed. A transfer is compared with those before it at most once each, so
+/// the time grows with the square of the number of transfers.
 pub fn first_fit(alloc: Global, batch: &Batch) -> Result<Schedule, AllocError>
     ensures schedule { IfOk result (λ schedule. IsScheduleOf batch.now schedule) }
     ensures first_fit { IfOk result (λ schedule. IsFirstFit batch.now schedule) }

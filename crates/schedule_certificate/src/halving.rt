@@ -29,10 +29,10 @@ fn put_back(table: &mut Table<'_>, class: &[usize])
     }
 }
 
-/// Permutes a part so that one of two halves stands in front of the other, and says how many transfers
-/// that has. The uses of each link are halved, but where all transfers share one link, which is enough
-/// for halves of half the degree: these stay in their order, so that they get the same colours from one
-/// worker and from several.
+/// Permutes a part so that one of two halves stands in front of the other, and says how many
+/// transfers that has. The uses of each link are halved, but where all transfers share one link,
+/// which is enough for halves of half the degree: these stay in their order, so that they get the
+/// same colours from one worker and from several.
 pub(crate) fn halve_part(
     graph: &LinkGraph,
     part: &mut [usize],
@@ -52,9 +52,9 @@ pub(crate) fn halve_part(
     split_in_place(graph, part, scratch)
 }
 
-/// The table of a part of this degree, of the tables of its halves. They are joined, and that may be one
-/// colour too many where the degree is odd: then a smallest class is given up, and its transfers are
-/// put into the other colours (Gabow 1976).
+/// The table of a part of this degree, of the tables of its halves. They are joined, and that may
+/// be one colour too many where the degree is odd: then a smallest class is given up, and its
+/// transfers are put into the other colours (Gabow 1976).
 pub(crate) fn join_halves<'a>(
     left: Table<'a>,
     right: Table<'a>,
@@ -75,9 +75,9 @@ pub(crate) fn join_halves<'a>(
     Ok(table)
 }
 
-/// Halves a part in which not all transfers share one link, as [`halve_part`] does. Where the transfers of
-/// each pair of links can be halved, they are dealt to the halves in turn. That needs no walk, and gives
-/// the same halves as walks.
+/// Halves a part in which not all transfers share one link, as [`halve_part`] does. Where the
+/// transfers of each pair of links can be halved, they are dealt to the halves in turn. That needs
+/// no walk, and gives the same halves as walks.
 fn halve_known(
     graph: &LinkGraph,
     part: &mut [usize],
@@ -101,8 +101,8 @@ fn halve_known(
     split_evenly(graph, part, scratch)
 }
 
-/// How many times the transfers of each pair of links of a part can be halved. Where all transfers are
-/// known to share one link, nobody asks, and it is none.
+/// How many times the transfers of each pair of links of a part can be halved. Where all transfers
+/// are known to share one link, nobody asks, and it is none.
 fn times_of(graph: &LinkGraph, part: &[usize], known: Known) -> usize
     requires { IsPartBy graph.now part.now known }
     ensures { CanBeHalved graph.now part.now result }
@@ -113,8 +113,8 @@ fn times_of(graph: &LinkGraph, part: &[usize], known: Known) -> usize
     }
 }
 
-/// The table of a part of degree 2, of its halves: the transfers of each of them get one colour, those of
-/// the left half the first. There is room for this many colours.
+/// The table of a part of degree 2, of its halves: the transfers of each of them get one colour,
+/// those of the left half the first. There is room for this many colours.
 fn colour_two<'a>(
     alloc: Global,
     graph: &'a LinkGraph,
@@ -131,13 +131,14 @@ fn colour_two<'a>(
 }
 
 /// Colours a part with as many colours as its busiest link has uses, its degree, and with one where
-/// that is 0. The degree may be known, and [`degree_of`] says what the width of the graph is for. Room
-/// for this many colours is taken at once, so that others can be joined to these without a move.
+/// that is 0. The degree may be known, and [`degree_of`] says what the width of the graph is for.
+/// Room for this many colours is taken at once, so that others can be joined to these without a
+/// move.
 ///
-/// Where all transfers share one link, each gets a colour of its own, in their order. Else the part is
-/// halved, in place. Its halves are coloured one after the other, and the two tables are joined; where
-/// the degree is 2, each half becomes one class. How often the transfers of all pairs of links can be
-/// halved is counted first, once.
+/// Where all transfers share one link, each gets a colour of its own, in their order. Else the part
+/// is halved, in place. Its halves are coloured one after the other, and the two tables are joined;
+/// where the degree is 2, each half becomes one class. How often the transfers of all pairs of
+/// links can be halved is counted first, once.
 pub(crate) fn colour_alone<'a>(
     alloc: Global,
     graph: &'a LinkGraph,
@@ -157,8 +158,8 @@ pub(crate) fn colour_alone<'a>(
     colour_halves(alloc, graph, part, scratch, known, width, room, times)
 }
 
-/// Colours a part as [`colour_alone`] does. The transfers of each pair of links can be halved so many
-/// times with none left over.
+/// Colours a part as [`colour_alone`] does. The transfers of each pair of links can be halved so
+/// many times with none left over.
 fn colour_halves<'a>(
     alloc: Global,
     graph: &'a LinkGraph,

@@ -10,8 +10,8 @@ use std::marker::Model;
 /// A batch with a shortest schedule of it, and the certificate that shows that none is shorter.
 ///
 /// No setting is empty, so there are at most as many as transfers. Numbers ascend in each setting,
-/// and the settings are in the order of their least numbers. The certificate names the busiest link,
-/// the first in the order of links among equals, and all transfers that use it, ascending.
+/// and the settings are in the order of their least numbers. The certificate names the busiest
+/// link, the first in the order of links among equals, and all transfers that use it, ascending.
 pub struct Planned {
     batch: Batch,
     coloured: Coloured,

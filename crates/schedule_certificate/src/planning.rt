@@ -66,15 +66,15 @@ pub(crate) fn certificate_of(graph: &LinkGraph) -> Result<Certificate, AllocErro
 /// Plans a batch: a schedule with as few settings as any, and its certificate.
 ///
 /// The transfers are coloured with as many colours as the busiest link has uses (König 1916), by
-/// halving them along Euler walks and colouring the halves, and so on; only where a number of uses is
-/// odd, some are put in one by one (Gabow 1976). Takes time that grows with the number of transfers
-/// times the logarithm of that number of uses, and with the transfers that are put in times the
-/// number of uses.
+/// halving them along Euler walks and colouring the halves, and so on; only where a number of uses
+/// is odd, some are put in one by one (Gabow 1976). Takes time that grows with the number of
+/// transfers times the logarithm of that number of uses, and with the transfers that are put in
+/// times the number of uses.
 ///
-/// The workers are numbered from 1. Two halves are coloured at once where two workers or more may do
-/// it, as far as threads can be had: the first half of their numbers, rounded up, goes to the one half
-/// and the others to the other. Each half first lets the least of its numbers arrive at the gate. One
-/// worker alone never does. The batch is dropped where there is no memory.
+/// The workers are numbered from 1. Two halves are coloured at once where two workers or more may
+/// do it, as far as threads can be had: the first half of their numbers, rounded up, goes to the
+/// one half and the others to the other. Each half first lets the least of its numbers arrive at
+/// the gate. One worker alone never does. The batch is dropped where there is no memory.
 pub fn schedule<R: Threads + Sync, G: Gate>(
     rt: &R,
     alloc: Global,

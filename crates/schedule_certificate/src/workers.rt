@@ -3,8 +3,8 @@ ghost use Rattle.exchange_limits.specs.declared.limits.TheConstants.{MAX_WORKERS
 
 use exchange_limits::{MAX_WORKERS, WorkerCount};
 
-/// The workers who may take part in some work: a range of their numbers, which begin at 1 and end at
-/// [`MAX_WORKERS`].
+/// The workers who may take part in some work: a range of their numbers, which begin at 1 and end
+/// at [`MAX_WORKERS`].
 #[derive(Clone, Copy, Debug)]
 pub struct Workers {
     /// The least of the numbers.
@@ -28,8 +28,8 @@ impl Workers {
         }
     }
 
-    /// The first half of the range, rounded up, and the rest, which begins where that half ends. Of one
-    /// worker the rest is none.
+    /// The first half of the range, rounded up, and the rest, which begins where that half ends. Of
+    /// one worker the rest is none.
     pub fn halves(self) -> (Workers, Workers)
         ensures first_least { result.0.least ≡ self.least }
         ensures first_count { result.0.count ≡ (self.count + 1) / 2 }

@@ -1,4 +1,5 @@
--- As many settings as the busiest link has transfers are the fewest, and each schedule with a certificate has just so many.
+-- As many settings as the busiest link has transfers are the fewest, and each schedule with a
+-- certificate has just so many.
 use Rattle.std.proofs.Common.{◌≡◌, ℕ, ◌≤◌, List, [], ◌∷◌, length, All, Option, Some, None, sym, arith, inl, inr}
 use Rattle.std.specs.Prelude.{sum_by, Contains}
 use Rattle.std.specs.List.{AllByRecursion}
@@ -17,7 +18,7 @@ use Rattle.link_graph.proofs.Once.{standings, once_from_distinct, stands_from_co
 use Rattle.link_graph.proofs.Sums.{hit, hit_same, swap, sum_at_most}
 use Rattle.link_graph.proofs.Users.{some_users, all_users}
 use Rattle.schedule_picture.specs.Verdicts.{IsBusiestOf, uses_of}
-use Rattle.schedule_picture.specs.Laws.{TellsFewest}
+use Rattle.schedule_picture.specs.Laws.{VerdictTellsFewest}
 
 -- ---- distinct numbers of a list are no more than there are
 
@@ -84,7 +85,7 @@ few_by : (batch : List Transfer) (settings : List (List ℕ)) (busiest link : Op
 few_by batch settings busiest None named is c = rw c.no_settings (omega arith)
 few_by batch settings busiest (Some link) named is c = omega (arith, c.many, named_few batch link named c.all_use c.distinct, most_used batch busiest link is)
 
-pub tells_fewest : TellsFewest
+pub tells_fewest : VerdictTellsFewest
 tells_fewest batch settings certificate verdict is = record {
   least = λ other s. omega (arith, is.fewest, least_by batch other is.link s);
   certified = λ other named c. omega (arith, is.fewest, least_by batch other is.link c.schedule, few_by batch other is.link named.link named.transfers is.most c.certificate);

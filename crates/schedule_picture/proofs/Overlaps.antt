@@ -1,4 +1,5 @@
--- Cells that overlap are one: columns stand apart by their setting, halves of rows by their link, and a setting uses a link once.
+-- Cells that overlap are one: columns stand apart by their setting, halves of rows by their link,
+-- and a setting uses a link once.
 use Rattle.std.proofs.Common.{◌≡◌, ℕ, zero, suc, ◌+◌, ◌*◌, ◌<◌, inl, inr, Bool, true, false, List, [], Some, slice_get, refl, sym, ap, subst, ◌∙◌, arith}
 use Rattle.std.specs.Prelude.{◌==◌, ◌||◌}
 use Rattle.std.proofs.lemmas.Bool.{cases_eq, cases_lt, eq-eqb}
@@ -15,8 +16,8 @@ use Rattle.schedule_picture.specs.declared.layout.TheConstants.{TOP, ROW, INSET,
 use Rattle.schedule_picture.specs.declared.shown.Shown.{Shown}
 use Rattle.schedule_picture.specs.Places.{takes_part, row_of, row_place, half_place, column_place}
 use Rattle.schedule_picture.specs.Cells.{cell_left}
-use Rattle.schedule_picture.specs.RowsText.{link_of}
-use Rattle.schedule_picture.specs.Laws.{Stands, NothingOverlaps}
+use Rattle.steady_schedule.specs.Bounds.{link_of}
+use Rattle.schedule_picture.specs.Laws.{IsDrawnAt, NothingOverlaps}
 
 same_column : (k l : ℕ) → cell_left k < cell_left l + CELL_WIDTH → cell_left l < cell_left k + CELL_WIDTH → k ≡ l
 unfolding column_place
@@ -84,7 +85,7 @@ matching_at : (batch : List Transfer) (settings : List (List ℕ)) (k : ℕ) (se
 matching_at batch settings k setting here s = subst (λ (q : List ℕ). IsMatching batch q) (get_or_from_slice_get settings k setting [] here) (s.matchings k [] (slice_get_within settings k setting here))
 
 -- cells of one setting in the half of one link stand at one position
-one_cell : (batch : List Transfer) (settings : List (List ℕ)) (shown : Shown) (l i j : ℕ) (x y : Transfer) (e : End) → IsScheduleOf batch settings → Stands batch settings shown l i x → Stands batch settings shown l j y → module_at e x ≡ module_at e y → i ≡ j
+one_cell : (batch : List Transfer) (settings : List (List ℕ)) (shown : Shown) (l i j : ℕ) (x y : Transfer) (e : End) → IsScheduleOf batch settings → IsDrawnAt batch settings shown l i x → IsDrawnAt batch settings shown l j y → module_at e x ≡ module_at e y → i ≡ j
 one_cell batch settings shown l i j x y e s here there same =
     let setting : there.setting ≡ here.setting = cc (here.in_schedule, there.in_schedule) in
     let at = subst (λ (q : List ℕ). slice_get q j ≡ Some there.number) setting there.in_setting in
@@ -97,6 +98,6 @@ overlapping batch settings shown s k i x e l j y f here there over =
     let column = same_column k l over.not_right over.not_left in
     let half = same_half (row_of batch (module_at e x)) (row_of batch (module_at f y)) e f over.not_below over.not_above in
     let same = same_row batch (module_at e x) (module_at f y) (has_row batch here.number x e here.in_batch) (has_row batch there.number y f there.in_batch) half.0 in
-    let there_now = subst (λ (n : ℕ). Stands batch settings shown n j y) (sym column) there in
+    let there_now = subst (λ (n : ℕ). IsDrawnAt batch settings shown n j y) (sym column) there in
     let same_end = subst (λ (g : End). module_at e x ≡ module_at g y) (sym half.1) same in
     (column, one_cell batch settings shown k i j x y e s here there_now same_end, half.1)

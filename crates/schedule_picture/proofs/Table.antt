@@ -3,7 +3,7 @@ use Rattle.std.proofs.Common.{◌≡◌, ℕ, zero, suc, ◌+◌, cond, Bool, fa
 use Rattle.batch.specs.declared.limits.TheConstants.{MAX_MODULES}
 use Rattle.batch.specs.declared.transfer.Transfer.{Transfer}
 use Rattle.link_graph.specs.Counts.{count_below}
-use Rattle.schedule_picture.specs.Places.{rack_modules, AreParts}
+use Rattle.schedule_picture.specs.Places.{rack_modules, TakePart}
 
 none_up : (n k : ℕ) → get_or (replicate n false) k false ≡ false
 none_up zero k = refl
@@ -11,7 +11,7 @@ none_up (suc n) zero = refl
 none_up (suc n) (suc k) = none_up n k
 
 -- before any transfer no module takes part
-pub parts_none : (batch : List Transfer) (n : ℕ) → AreParts (take 0 batch) (replicate n false)
+pub parts_none : (batch : List Transfer) (n : ℕ) → TakePart (take 0 batch) (replicate n false)
 parts_none batch n m below = none_up n m
 
 -- how many there are below one more module

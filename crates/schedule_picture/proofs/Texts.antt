@@ -23,7 +23,8 @@ all_four a b c d e x y v w z p q r s = both a d e ((x ++ y) ++ v) w z (next a c 
 pub all_five : (a b c d e f x y v w u z : List ℕ) → b ≡ a ++ x → c ≡ b ++ y → d ≡ c ++ v → e ≡ d ++ w → f ≡ e ++ u → (((x ++ y) ++ v) ++ w) ++ u ≡ z → f ≡ a ++ z
 all_five a b c d e f x y v w u z p q r s t = all_four a c d e f (x ++ y) v w u z (next a b c x y p q) r s t
 
--- two parts, of which the last may want memory, are together what is wanted; and three, four, five and six
+-- two parts, of which the last may want memory, are together what is wanted; and three, four, five
+-- and six
 pub two : {T E : Type 0} (r : Result T E) (a b c x y z : List ℕ) → b ≡ a ++ x → OnOk r (c ≡ b ++ y) → x ++ y ≡ z → OnOk r (c ≡ a ++ z)
 two r a b c x y z p q e = on_ok_weaker r (λ (h : c ≡ b ++ y). next a b c x y p h ∙ ap (λ (t : List ℕ). a ++ t) e) q
 

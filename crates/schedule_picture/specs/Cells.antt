@@ -1,6 +1,6 @@
--- The cells of a picture. A transfer that is shown has two, in the column of its setting: one in the
--- row of its initiator, in the half of link 0, and one in the row of its responder, in the half of
--- link 3. Each has the number and the colour of the module at the other end.
+-- The cells of a picture. A transfer that is shown has two, in the column of its setting: one in
+-- the row of its initiator, in the half of link 0, and one in the row of its responder, in the half
+-- of link 3. Each has the number and the colour of the module at the other end.
 use Rattle.std.specs.Prelude.{ℕ, ◌+◌, ◌-◌, List, ◌++◌, codes}
 use Rattle.std.specs.Fmt.{decimal}
 use Rattle.std.specs.List.{flat_map}
@@ -17,9 +17,9 @@ use Rattle.schedule_picture.specs.declared.layout.TheConstants.{TOP, INSET, CELL
 use Rattle.schedule_picture.specs.Places.{row_place, half_place, column_place}
 use Rattle.schedule_picture.specs.Elements.{coloured_box, text_start}
 
-abbrev pub word_of : Kind → List ℕ
-word_of Push = codes "push"
-word_of Pull = codes "pull"
+abbrev pub kind_label : Kind → List ℕ
+kind_label Push = codes "push"
+kind_label Pull = codes "pull"
 
 -- a push goes to its responder, a pull fetches from it
 abbrev pub way_of : Kind → List ℕ
@@ -27,17 +27,17 @@ way_of Push = codes " to "
 way_of Pull = codes " from "
 
 -- `module M link E block B`
-unfoldable pub place_text : ℕ → End → ℕ → List ℕ
-place_text m end block =
+unfoldable pub end_label : ℕ → End → ℕ → List ℕ
+end_label m end block =
     codes "module " ++ decimal m ++ codes " link " ++ decimal (end_number end) ++ codes " block "
     ++ decimal block
 
 -- the title: the transfer's number, its word, and both places, the initiator's first
 unfoldable pub title_text : ℕ → Transfer → List ℕ
 title_text t x =
-    codes "<g><title>transfer " ++ decimal t ++ codes ": " ++ word_of x.kind ++ codes " "
-    ++ place_text x.initiator Zero x.own_block ++ way_of x.kind
-    ++ place_text x.responder Three x.far_block ++ codes "</title>"
+    codes "<g><title>transfer " ++ decimal t ++ codes ": " ++ kind_label x.kind ++ codes " "
+    ++ end_label x.initiator Zero x.own_block ++ way_of x.kind
+    ++ end_label x.responder Three x.far_block ++ codes "</title>"
 
 abbrev pub to_partner : List ℕ
 to_partner = codes "&#8594;"

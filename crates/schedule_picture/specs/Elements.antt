@@ -21,8 +21,8 @@ text_start left top =
     codes "<text x='" ++ decimal left ++ codes "' y='" ++ decimal top ++ codes "'>"
 
 -- `link E module M`
-unfoldable pub link_words : Link → List ℕ
-link_words link =
+unfoldable pub link_label : Link → List ℕ
+link_label link =
     codes "link " ++ decimal (end_number link.end) ++ codes " module " ++ decimal link.«module»
 
 -- these bytes were put at the end of a text

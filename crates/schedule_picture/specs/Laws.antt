@@ -16,7 +16,7 @@ use Rattle.schedule_picture.specs.Places.{column_place, panel_place, width_of, l
 use Rattle.schedule_picture.specs.Cells.{half_top, cell_left, cell_top}
 
 -- the transfer stands at position i of the setting of column j
-pub record Stands (batch : List Transfer) (settings : List (List ℕ)) (shown : Shown) (j i : ℕ)
+pub record IsDrawnAt (batch : List Transfer) (settings : List (List ℕ)) (shown : Shown) (j i : ℕ)
     (x : Transfer) : Type 0 where
   pub is_shown : j < shown.count
   pub setting : List ℕ
@@ -27,7 +27,8 @@ pub record Stands (batch : List Transfer) (settings : List (List ℕ)) (shown : 
 
 -- the cell at an end of a transfer in column j has a part in common with that of another in
 -- column l
-pub record Overlap (batch : List Transfer) (j : ℕ) (x : Transfer) (e : End) (l : ℕ) (y : Transfer)
+pub record CellsOverlap (batch : List Transfer) (j : ℕ) (x : Transfer) (e : End) (l : ℕ)
+    (y : Transfer)
     (f : End) : Type 0 where
   pub not_right : cell_left j < cell_left l + CELL_WIDTH
   pub not_left : cell_left l < cell_left j + CELL_WIDTH
@@ -40,8 +41,8 @@ NothingOverlaps =
     (batch : List Transfer) (settings : List (List ℕ)) (shown : Shown)
     → IsScheduleOf batch settings
     → (j i : ℕ) (x : Transfer) (e : End) (l k : ℕ) (y : Transfer) (f : End)
-    → Stands batch settings shown j i x → Stands batch settings shown l k y
-    → Overlap batch j x e l y f → (j ≡ l) × (i ≡ k) × (e ≡ f)
+    → IsDrawnAt batch settings shown j i x → IsDrawnAt batch settings shown l k y
+    → CellsOverlap batch j x e l y f → (j ≡ l) × (i ≡ k) × (e ≡ f)
 
 -- the cell at an end of a transfer in column j of so many stands in the column and in the half of
 -- the row, between the labels of its panel and those of the next one, within the width of the
@@ -61,7 +62,7 @@ pub record IsInView (batch : List Transfer) (columns j : ℕ) (x : Transfer) (e 
 abbrev pub AllIsInView : Type 0
 AllIsInView =
     (batch : List Transfer) (settings : List (List ℕ)) (shown : Shown) → IsBatch batch
-    → (j i : ℕ) (x : Transfer) (e : End) → Stands batch settings shown j i x
+    → (j i : ℕ) (x : Transfer) (e : End) → IsDrawnAt batch settings shown j i x
     → IsInView batch shown.count j x e
 
 -- no schedule of the batch has fewer settings than this, and one that has a certificate has just so
@@ -72,8 +73,8 @@ pub record AreFewest (batch : List Transfer) (fewest : ℕ) : Type 0 where
       → length settings ≡ fewest
 
 -- so it is with what a verdict tells
-abbrev pub TellsFewest : Type 0
-TellsFewest =
+abbrev pub VerdictTellsFewest : Type 0
+VerdictTellsFewest =
     (batch : List Transfer) (settings : List (List ℕ)) (certificate : Option Naming)
     (verdict : Verdict) → IsVerdict batch settings certificate verdict
     → AreFewest batch verdict.fewest

@@ -10,9 +10,10 @@ use Rattle.schedule_picture.specs.declared.verdict.Standing.TheVariants.{Certifi
 use Rattle.schedule_picture.specs.declared.verdict.Verdict.{Verdict}
 use Rattle.schedule_picture.specs.declared.style.TheConstants.{STYLE, EXPLAINED}
 use Rattle.schedule_picture.specs.Places.{rack_modules, legend_place, height_of, width_of}
-use Rattle.schedule_picture.specs.Elements.{link_words}
+use Rattle.schedule_picture.specs.Elements.{link_label}
 use Rattle.schedule_picture.specs.Cells.{column_text}
 use Rattle.schedule_picture.specs.RowsText.{row_text, headings_text}
+use Rattle.steady_schedule.specs.Needs.{setting_at}
 
 -- `, the fewest`, or how many are enough
 unfoldable pub length_words : ℕ → ℕ → List ℕ
@@ -36,7 +37,7 @@ changes_words changes partners =
 -- `busiest link E module M`, or `busiest none` where no link is named
 abbrev pub busiest_words : Option Link → List ℕ
 busiest_words None = codes "busiest none"
-busiest_words (Some link) = codes "busiest " ++ link_words link
+busiest_words (Some link) = codes "busiest " ++ link_label link
 
 -- how the certificate stands
 abbrev pub standing_words : Standing → List ℕ
@@ -107,10 +108,6 @@ closing_text batch =
     codes "<g transform='translate(16," ++ decimal (legend_place batch) ++ codes ")'>\n"
     ++ explained_text ++ codes "</g>\n</svg>\n"
 
--- the transfer numbers of setting k
-abbrev pub setting_at : List (List ℕ) → ℕ → List ℕ
-setting_at settings k = slice_index_or settings k []
-
 -- the rows of the modules that take part, in their order, with so many columns
 unfoldable pub rows_text : List Transfer → ℕ → Option Link → List ℕ
 rows_text batch columns busiest =
@@ -131,5 +128,5 @@ picture_of batch settings verdict shown =
     ++ columns_text batch settings shown ++ closing_text batch
 
 -- all settings
-abbrev pub whole : ℕ → Shown
-whole settings = record { first = 0; count = settings }
+abbrev pub all_shown : ℕ → Shown
+all_shown settings = record { first = 0; count = settings }

@@ -66,5 +66,5 @@ width_of columns = max LEAST (2 * MARGIN + panels_of columns * LABELS + columns 
 -- ---- the table of rows
 
 -- at the place of each module, whether it takes part
-abbrev pub AreParts : List Transfer → List Bool → Type 0
-AreParts batch parts = (m : ℕ) → m < MAX_MODULES → slice_index_or parts m false ≡ takes_part batch m
+abbrev pub TakePart : List Transfer → List Bool → Type 0
+TakePart batch parts = (m : ℕ) → m < MAX_MODULES → slice_index_or parts m false ≡ takes_part batch m

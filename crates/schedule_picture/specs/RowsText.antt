@@ -10,7 +10,8 @@ use Rattle.link_graph.specs.declared.link.Link.{Link}
 use Rattle.link_graph.specs.ScheduleText.{end_number}
 use Rattle.schedule_picture.specs.declared.layout.TheConstants.{TOP, LABELS, HALF}
 use Rattle.schedule_picture.specs.Places.{takes_part, row_place, half_place, panels_of, panel_place, panel_width}
-use Rattle.schedule_picture.specs.Elements.{box_text, coloured_box, text_start, link_words}
+use Rattle.schedule_picture.specs.Elements.{box_text, coloured_box, text_start, link_label}
+use Rattle.steady_schedule.specs.Bounds.{link_of}
 
 -- this is the link that is framed
 abbrev pub marks : Option Link → Link → Bool
@@ -31,7 +32,7 @@ looks_of false = codes "<g class='lane'><title>"
 
 -- its title, before its ground
 unfoldable pub lane_title : Bool → Link → List ℕ
-lane_title marked link = looks_of marked ++ link_words link ++ codes "</title><rect"
+lane_title marked link = looks_of marked ++ link_label link ++ codes "</title><rect"
 
 -- the half of a link, whose row begins at the top: its ground, and the label `link E` before it
 unfoldable pub lane_text : Bool → Link → ℕ → ℕ → ℕ → List ℕ
@@ -39,10 +40,6 @@ lane_text marked link left top width =
     lane_title marked link ++ box_text (left + LABELS) (top + half_place link.end) width HALF
     ++ text_start (left + 104) (top + half_place link.end + 14) ++ codes "link "
     ++ decimal (end_number link.end) ++ codes "</text></g>\n"
-
--- the link of an end and a module
-abbrev pub link_of : End → ℕ → Link
-link_of end m = record { end = end; «module» = m }
 
 -- the half of a link in a panel
 unfoldable pub half_text : List Transfer → ℕ → Option Link → Link → ℕ → List ℕ

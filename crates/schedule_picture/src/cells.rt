@@ -6,7 +6,7 @@ ghost use Rattle.batch.specs.Text.{IsNumber};
 ghost use Rattle.link_graph.specs.declared.link.End.{End};
 ghost use Rattle.link_graph.specs.Counts.{module_at as module_of};
 ghost use Rattle.schedule_picture.specs.Elements.{Adds};
-ghost use Rattle.schedule_picture.specs.Cells.{word_of, way_of, arrow_of, place_text, title_text, cell_text, transfer_cells, column_text};
+ghost use Rattle.schedule_picture.specs.Cells.{kind_label, way_of, arrow_of, end_label, title_text, cell_text, transfer_cells, column_text};
 
 use crate::elements::{push_coloured, push_text_start};
 use crate::layout::{CELL_HEIGHT, CELL_WIDTH, INSET, TOP, column_left, half_below};
@@ -17,7 +17,7 @@ use std::alloc::AllocError;
 
 /// The word of a kind of transfers.
 fn kind_word(kind: Kind) -> &'static str
-    ensures { result.now ≡ word_of kind }
+    ensures { result.now ≡ kind_label kind }
 {
     match kind {
         Kind::Push => "push",
@@ -57,7 +57,7 @@ fn module_at(end: End, transfer: &Transfer) -> usize
 
 /// Puts a place at the end of the text: a module with the link through which its block goes.
 fn push_place(text: &mut String, module: usize, end: End, block: usize) -> Result<(), AllocError>
-    ensures { OnOk result (Adds text.old text.new (place_text «module» end block)) }
+    ensures { OnOk result (Adds text.old text.new (end_label «module» end block)) }
 {
     let link = end.number();
     write!(text, "module {module} link {link} block {block}")
@@ -121,7 +121,8 @@ fn push_transfer(
     push_cell(text, rows, column, number, transfer, End::Three)
 }
 
-/// Puts a column at the end of the text: the number of its setting, and the cells of the setting's transfers.
+/// Puts a column at the end of the text: the number of its setting, and the cells of the setting's
+/// transfers.
 pub(crate) fn push_column(
     text: &mut String,
     rows: &Rows<'_>,

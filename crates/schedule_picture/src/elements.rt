@@ -1,7 +1,7 @@
 //! The elements of SVG that a picture is made of.
 
 ghost use Rattle.std.specs.Prelude.{◌≡◌, OnOk};
-ghost use Rattle.schedule_picture.specs.Elements.{Adds, box_text, coloured_box, text_start, link_words as words_of_link};
+ghost use Rattle.schedule_picture.specs.Elements.{Adds, box_text, coloured_box, text_start, link_label};
 
 use link_graph::Link;
 use std::alloc::AllocError;
@@ -46,7 +46,7 @@ pub(crate) fn push_text_start(text: &mut String, left: usize, top: usize) -> Res
 
 /// Puts the name of a link at the end of the text.
 pub(crate) fn push_link(text: &mut String, link: Link) -> Result<(), AllocError>
-    ensures { OnOk result (Adds text.old text.new (words_of_link link)) }
+    ensures { OnOk result (Adds text.old text.new (link_label link)) }
 {
     let (end, module) = (link.end.number(), link.module);
     write!(text, "link {end} module {module}")

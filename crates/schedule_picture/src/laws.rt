@@ -1,6 +1,6 @@
 //! Laws of pictures. They do nothing.
 
-ghost use Rattle.schedule_picture.specs.Laws.{NothingOverlaps, AllIsInView, TellsFewest, TellsNeededChanges};
+ghost use Rattle.schedule_picture.specs.Laws.{NothingOverlaps, AllIsInView, VerdictTellsFewest, TellsNeededChanges};
 
 /// In the picture of a schedule no cell lies over another, not even in part.
 pub fn nothing_overlaps()
@@ -13,10 +13,10 @@ pub fn all_is_in_view()
     ensures { AllIsInView }
 {}
 
-/// As many settings as a verdict tells are the fewest: no schedule of the batch has fewer, and each that
-/// has a certificate, as a plan has, has just so many.
+/// As many settings as a verdict tells are the fewest: no schedule of the batch has fewer, and each
+/// that has a certificate, as a plan has, has just so many.
 pub fn tells_fewest()
-    ensures { TellsFewest }
+    ensures { VerdictTellsFewest }
 {}
 
 /// As many changes as a verdict tells partners are the fewest: no schedule of the batch, of

@@ -1,5 +1,5 @@
-//! Where the parts of a picture stand, in its units, which are pixels unless it is scaled. All of it is
-//! this project's choice.
+//! Where the parts of a picture stand, in its units, which are pixels unless it is scaled. All of
+//! it is this project's choice.
 
 ghost use Rattle.std.specs.Prelude.{◌≡◌, ◌<◌, ◌≤◌, ◌^◌};
 ghost use Rattle.batch.specs.Text.{IsNumber};

@@ -31,8 +31,8 @@ fn push_length(text: &mut String, settings: usize, fewest: usize) -> Result<(), 
     write!(text, ", where {fewest} are enough")
 }
 
-/// Puts the heading at the end of the text: how many transfers and settings there are, and whether fewer
-/// settings are enough.
+/// Puts the heading at the end of the text: how many transfers and settings there are, and whether
+/// fewer settings are enough.
 fn push_heading(
     text: &mut String,
     transfers: usize,
@@ -236,12 +236,13 @@ fn push_closing(text: &mut String, rows: &Rows<'_>) -> Result<(), AllocError>
 
 /// The picture of some settings of a schedule of the batch: the text of an SVG file.
 ///
-/// The modules that take part in the batch stand in rows, in their order, and the settings that are shown
-/// in columns. A transfer of these has two cells in its setting's column: one in the upper half of its
-/// initiator's row, for link 0, and one in the lower half of its responder's, for link 3. Each has the
-/// number and the colour of the module at the other side, and a title that says the transfer. The half of
-/// the busiest link is marked. The title says what the verdict is, and which settings are shown where
-/// these aren't all. All numbers are whole. Takes time that grows with the length of the text.
+/// The modules that take part in the batch stand in rows, in their order, and the settings that are
+/// shown in columns. A transfer of these has two cells in its setting's column: one in the upper
+/// half of its initiator's row, for link 0, and one in the lower half of its responder's, for link
+/// 3. Each has the number and the colour of the module at the other side, and a title that says the
+/// transfer. The half of the busiest link is marked. The title says what the verdict is, and which
+/// settings are shown where these aren't all. All numbers are whole. Takes time that grows with the
+/// length of the text.
 pub fn draw(
     alloc: Global,
     batch: &Batch,

@@ -3,7 +3,7 @@
 ghost use Rattle.std.specs.Prelude.{◌≡◌, ◌<◌, ◌≤◌, ◌^◌};
 ghost use Rattle.batch.specs.Batches.{IsBatch};
 ghost use Rattle.link_graph.specs.Counts.{count_below};
-ghost use Rattle.schedule_picture.specs.Places.{takes_part, row_of, row_place, legend_place, height_of, AreParts};
+ghost use Rattle.schedule_picture.specs.Places.{takes_part, row_of, row_place, legend_place, height_of, TakePart};
 
 use crate::layout::{LEGEND, ROW, TOP};
 use batch::{Batch, MAX_MODULES, Transfer};
@@ -20,18 +20,18 @@ pub(crate) struct Rows<'a> {
 impl<'a> Model for Rows<'a> {
     ghost use Rattle.std.specs.Prelude.{List};
     ghost use Rattle.batch.specs.declared.transfer.Transfer.{Transfer};
-    ghost use Rattle.schedule_picture.specs.Places.{AreParts};
+    ghost use Rattle.schedule_picture.specs.Places.{TakePart};
 
     ghost Value = { List Transfer };
 
     ghost view = { λ r. r.batch.now };
 
-    ghost invariant = { λ r. AreParts r.batch.now r.parts };
+    ghost invariant = { λ r. TakePart r.batch.now r.parts };
 }
 
 /// Whether each module takes part in one of the transfers.
 fn parts_of(batch: &Batch) -> [bool; MAX_MODULES]
-    ensures parts { AreParts batch.now result }
+    ensures parts { TakePart batch.now result }
     ensures batch { IsBatch batch.now }
 {
     let mut parts = [false; MAX_MODULES];

@@ -46,7 +46,8 @@ fn looks(marked: bool) -> &'static str
     }
 }
 
-/// Puts the beginning of a half of a row at the end of the text: whether it is marked, and its title.
+/// Puts the beginning of a half of a row at the end of the text: whether it is marked, and its
+/// title.
 fn push_lane_title(text: &mut String, marked: bool, link: Link) -> Result<(), AllocError>
     ensures { OnOk result (Adds text.old text.new (lane_title marked link)) }
 {
@@ -55,8 +56,8 @@ fn push_lane_title(text: &mut String, marked: bool, link: Link) -> Result<(), Al
     text.push_str("</title><rect")
 }
 
-/// Puts a half of a row at the end of the text: its ground, as wide as the columns, and the label of
-/// its link.
+/// Puts a half of a row at the end of the text: its ground, as wide as the columns, and the label
+/// of its link.
 fn push_lane(
     text: &mut String,
     marked: bool,

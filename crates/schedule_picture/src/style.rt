@@ -1,8 +1,8 @@
 //! The fixed parts of a picture's text. They are this project's choice.
 
-/// The looks of a picture's parts, with a colour for each module that a rack may have. Text on any of
-/// these colours is black. In a browser that wants dark pages the paper and the grounds are dark, and the
-/// text on the paper is light.
+/// The looks of a picture's parts, with a colour for each module that a rack may have. Text on any
+/// of these colours is black. In a browser that wants dark pages the paper and the grounds are
+/// dark, and the text on the paper is light.
 pub const STYLE: &str = "\
 <style>\n\
 text{font:12px sans-serif;text-anchor:middle}\n\

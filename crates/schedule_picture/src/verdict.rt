@@ -28,7 +28,8 @@ pub enum Standing {
 pub struct Verdict {
     /// How many transfers the busiest link has. No schedule of the batch has fewer settings.
     pub fewest: usize,
-    /// The busiest link, or that of several which a certificate names; none where there is no transfer.
+    /// The busiest link, or that of several which a certificate names; none where there is no
+    /// transfer.
     pub busiest: Option<Link>,
     /// How the certificate stands.
     pub standing: Standing,
@@ -120,12 +121,12 @@ fn partners(graph: &LinkGraph) -> usize
     }
 }
 
-/// The verdict on a schedule of the batch, with the certificate that it has, or what is first wrong with
-/// its settings.
+/// The verdict on a schedule of the batch, with the certificate that it has, or what is first wrong
+/// with its settings.
 ///
-/// A certificate that is wrong, or none, is no fault. The faults are those of
-/// [`check_schedule`], in their order. Takes time that grows with the numbers of transfers, of settings
-/// and of all that stands in the settings and in the certificate.
+/// A certificate that is wrong, or none, is no fault. The faults are those of [`check_schedule`],
+/// in their order. Takes time that grows with the numbers of transfers, of settings and of all that
+/// stands in the settings and in the certificate.
 pub fn verdict_on(
     alloc: Global,
     batch: &Batch,

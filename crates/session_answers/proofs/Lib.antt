@@ -1,4 +1,4 @@
 pub mod Sessions
 pub mod Openings
 pub mod Talks
-pub mod Visits
+pub mod HostedSessions

@@ -20,12 +20,12 @@ use Rattle.batch_book.specs.Seats.{SeatState, IsSameSeat, own}
 use Rattle.batch_book.specs.Values.{greatest}
 use Rattle.client_session.specs.declared.fault.ServeFault.{ServeFault}
 use Rattle.client_session.specs.Seats.{SeatView, seat_view}
-use Rattle.client_session.specs.Sessions.{Passes, HasEnded}
+use Rattle.client_session.specs.Sessions.{GoesThrough, HasEnded}
 use Rattle.session_answers.specs.declared.session.Session.{Session}
 use Rattle.session_answers.specs.Frames.{Transcript, session_text, sessions_text}
 use Rattle.session_answers.specs.Histories.{Part, part_of, IsHistoryOf, HaveOneHistory, HaveAnotherHistory}
 use Rattle.session_answers.specs.Serving.{HasItsScript}
-use Rattle.session_answers.specs.Sessions.{IsAttended}
+use Rattle.session_answers.specs.Sessions.{IsServedSession}
 use Rattle.session_answers.specs.Hosting.{transcript, IsFresh, AreServedAt}
 
 -- ---- lists
@@ -85,8 +85,8 @@ script_at v xs k i x script at lt is text =
 -- what a session from a new seat leaves
 pub its_session : (x : Exchange) (old new : SeatState) (before after held holds : Option (List ℕ)) (fault : Option ServeFault)
     → IsFresh x old → IsSameSeat old new
-    → Passes before after held holds (seat_view x.shape old) (seat_view x.shape new) (HasEnded fault after (seat_view x.shape old) (seat_view x.shape new))
-    → (told : List ℕ) × Appends held holds told × IsAttended x.shape before after (record { part = part_of new; told = told; fault = fault })
+    → GoesThrough before after held holds (seat_view x.shape old) (seat_view x.shape new) (HasEnded fault after (seat_view x.shape old) (seat_view x.shape new))
+    → (told : List ℕ) × Appends held holds told × IsServedSession x.shape before after (record { part = part_of new; told = told; fault = fault })
 its_session x old new before after held holds fault fresh same p =
     let seat : SeatView = seat_view x.shape old in
     let left : SeatView = record seat { log = new.log; seen = new.seen } in
@@ -108,13 +108,13 @@ its_session x old new before after held holds fault fresh same p =
 -- what one of this script leaves
 pub its_script : (shape : Extent) (scripts : List (List ℕ)) (old new : SeatState) (script rest told : List ℕ) (fault : Option ServeFault)
     → IsSameSeat old new → slice_get scripts old.session ≡ Some script
-    → ((w : List ℕ) × Appends (Some []) (Some told) w × IsAttended shape (Some script) (Some rest) (record { part = part_of new; told = w; fault = fault }))
+    → ((w : List ℕ) × Appends (Some []) (Some told) w × IsServedSession shape (Some script) (Some rest) (record { part = part_of new; told = w; fault = fault }))
     → HasItsScript shape scripts (record { part = part_of new; told = told; fault = fault })
 its_script shape scripts old new script rest told fault same at s = (
   script,
   rest,
   ap (slice_get scripts) same.session ∙ at,
-  subst (λ (v : List ℕ). IsAttended shape (Some script) (Some rest) (record { part = part_of new; told = v; fault = fault })) (sym s.1) s.2,
+  subst (λ (v : List ℕ). IsServedSession shape (Some script) (Some rest) (record { part = part_of new; told = v; fault = fault })) (sym s.1) s.2,
 )
 
 -- ---- all sessions

@@ -11,7 +11,7 @@ use Rattle.session_answers.specs.Frames.{Transcript, end_line}
 use Rattle.session_answers.specs.Histories.{part_of, IsClosing}
 use Rattle.session_answers.specs.Hosting.{IsFresh, AreAllSeats}
 use Rattle.plan_answers.specs.Refusals.{Printed}
-use Rattle.session_answers.specs.Sessions.{IsAttended}
+use Rattle.session_answers.specs.Sessions.{IsServedSession}
 use Rattle.session_answers.specs.Talking.{HasTalked}
 
 empty_front : (xs : List SeatState) (x : SeatState) → length (xs ++ x ∷ []) ≡ 1 → xs ≡ []
@@ -57,13 +57,13 @@ all_there x rest old new one same =
 -- what a session from it leaves is what was talked
 pub has_talked : (opening rack : Store) (x : Exchange) (rest : List SeatState) (old new : SeatState) (before after : Option (List ℕ)) (line told : List ℕ) (fault : Option ServeFault) (failed : Bool)
     → IsAlone x rest old → IsSameSeat old new → x.shape ≡ rack.shape → opening ≡ rack → line ≡ end_line fault → failed ≡ is_some fault
-    → IsAttended x.shape before after (record { part = part_of new; told = told; fault = fault })
+    → IsServedSession x.shape before after (record { part = part_of new; told = told; fault = fault })
     → (printed : Printed) (left : Option Store) → IsClosing opening (map part_of (rest ++ new ∷ [])) line failed printed left → HasTalked rack before after told printed left
 has_talked opening rack x rest old new before after line told fault failed one same shape copied said fails session printed left closed =
     let t : Transcript = record { part = part_of new; told = told; fault = fault } in (
       t,
       same.session ∙ one.first,
       refl,
-      subst (λ (s : Extent). IsAttended s before after t) shape session,
+      subst (λ (s : Extent). IsServedSession s before after t) shape session,
       rw (copied, one.nothing, said, fails) at closed,
     )

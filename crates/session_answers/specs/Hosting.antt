@@ -13,8 +13,8 @@ abbrev pub transcript : {L : Type 0} → Session L → Transcript
 transcript s = record { part = part_of s.seat; told = s.told.items; fault = s.fault }
 
 -- what is printed of a session that has ended
-abbrev pub text_of : {L : Type 0} → Session L → List ℕ
-text_of s = session_text (transcript s)
+abbrev pub session_bytes : {L : Type 0} → Session L → List ℕ
+session_bytes s = session_text (transcript s)
 
 -- a seat of this exchange that has asked nothing and seen nothing
 pub record IsFresh (x : Exchange) (seat : SeatState) : Type 0 where
@@ -23,8 +23,8 @@ pub record IsFresh (x : Exchange) (seat : SeatState) : Type 0 where
   pub seen : seat.seen ≡ 0
 
 -- it is that of one of so many clients
-abbrev pub IsReady : Exchange → ℕ → SeatState → Type 0
-IsReady x clients seat = IsFresh x seat × (seat.session < clients)
+abbrev pub IsSeatReady : Exchange → ℕ → SeatState → Type 0
+IsSeatReady x clients seat = IsFresh x seat × (seat.session < clients)
 
 -- these are all seats of this exchange
 pub record AreAllSeats (x : Exchange) (seats : List SeatState) : Type 0 where

@@ -5,5 +5,5 @@ pub mod Racks
 pub mod Serving
 pub mod Hosting
 pub mod Talking
-pub mod Hosts
-pub mod Visits
+pub mod HostAnswers
+pub mod HostedSessions

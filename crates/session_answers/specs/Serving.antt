@@ -8,13 +8,13 @@ use Rattle.refusals.specs.declared.refusal.Refusal.{Refusal}
 use Rattle.session_answers.specs.Frames.{Transcript, sessions_text, has_fault}
 use Rattle.session_answers.specs.Histories.{IsClosing}
 use Rattle.session_answers.specs.Racks.{IsRackOf, IsWrongRack}
-use Rattle.session_answers.specs.Sessions.{IsAttended}
+use Rattle.session_answers.specs.Sessions.{IsServedSession}
 
 -- a session that read a front of the script at its number's place
 abbrev pub HasItsScript : Extent → List (List ℕ) → Transcript → Type 0
 HasItsScript shape scripts t =
     (script rest : List ℕ) × (slice_get scripts t.part.session ≡ Some script)
-    × IsAttended shape (Some script) (Some rest) t
+    × IsServedSession shape (Some script) (Some rest) t
 
 -- each script has its session, in the order of the scripts
 pub record AreSessionsOf (shape : Extent) (scripts : List (List ℕ))

@@ -16,7 +16,8 @@ pub record IsNewSeat (shape : Extent) (session : ℕ) (seat : SeatView) : Type 0
 
 -- A session that began on a new seat, read some bytes of a reader, of which others are left where
 -- they are known, and has ended as a session may. It was told its reply lines.
-pub record IsAttended (shape : Extent) (before after : Option (List ℕ)) (t : Transcript) : Type 0 where
+pub record IsServedSession (shape : Extent) (before after : Option (List ℕ))
+    (t : Transcript) : Type 0 where
   pub seat : SeatView
   pub is_new : IsNewSeat shape t.part.session seat
   pub read : List ℕ

@@ -6,7 +6,7 @@ use Rattle.refusals.specs.declared.refusal.Refusal.{Refusal}
 use Rattle.session_answers.specs.Frames.{Transcript, end_line}
 use Rattle.session_answers.specs.Histories.{IsClosing}
 use Rattle.session_answers.specs.Racks.{IsRackOf, IsWrongRack}
-use Rattle.session_answers.specs.Sessions.{IsAttended}
+use Rattle.session_answers.specs.Sessions.{IsServedSession}
 
 -- the one session of an exchange, whose rack has this store at first, and which was told this; of
 -- its end this is printed, and it leaves these words
@@ -14,7 +14,7 @@ abbrev pub HasTalked : Store → (before after : Option (List ℕ)) → List ℕ
     → Type 0
 HasTalked opening before after told printed left =
     (t : Transcript) × (t.part.session ≡ 0) × (t.told ≡ told)
-    × IsAttended opening.shape before after t
+    × IsServedSession opening.shape before after t
     × IsClosing opening (t.part ∷ []) (end_line t.fault) (is_some t.fault) printed left
 
 -- nothing was read, and nothing told

@@ -2,7 +2,7 @@
 
 ghost use Rattle.std.specs.Prelude.{◌≡◌, ◌++◌, IfOk, OnOk, map};
 ghost use Rattle.session_answers.specs.Frames.{ended_line, end_line, end_text, sessions_text, has_fault};
-ghost use Rattle.session_answers.specs.Hosting.{transcript, text_of};
+ghost use Rattle.session_answers.specs.Hosting.{transcript, session_bytes};
 
 use crate::session::Session;
 use client_session::ServeFault;
@@ -57,7 +57,7 @@ fn push_session<L: Ledger>(
     text: &mut Vec<u8>,
     session: &Session<L>,
 ) -> Result<(), AllocError>
-    ensures { OnOk result (text.new.items ≡ text.old.items ++ text_of session.now) }
+    ensures { OnOk result (text.new.items ≡ text.old.items ++ session_bytes session.now) }
 {
     let number = session.seat.session();
     let heading = format!(in alloc; "session {number}\n")?;
@@ -66,8 +66,8 @@ fn push_session<L: Ledger>(
     push_end(text, session.told.as_slice(), session.fault)
 }
 
-/// What is printed of sessions: for each the line `session I`, what it was told, and where a fault ended it
-/// a line that says so.
+/// What is printed of sessions: for each the line `session I`, what it was told, and where a fault
+/// ended it a line that says so.
 pub fn frame<L: Ledger>(alloc: Global, sessions: &[Session<L>]) -> Result<Vec<u8>, AllocError>
     ensures { IfOk result (λ text. text.items ≡ sessions_text (map transcript sessions.now)) }
 {

@@ -7,18 +7,18 @@ ghost use Rattle.batch_book.specs.Exchanges.{AreNew};
 ghost use Rattle.plan_answers.specs.Lent.{bytes_of};
 ghost use Rattle.plan_answers.specs.Refusals.{Refuses};
 ghost use Rattle.session_answers.specs.Hosting.{IsFresh};
-ghost use Rattle.session_answers.specs.Hosts.{end_of, ending_line, visit_heading, visit_text, has_failed, IsHosting, IsHostAnswer};
-ghost use Rattle.session_answers.specs.Visits.{visit, IsOfSeat, AreVisitsAt};
+ghost use Rattle.session_answers.specs.HostAnswers.{seen_end, ending_line, hosted_heading, hosted_text, has_failed, IsHosting, IsHostAnswer};
+ghost use Rattle.session_answers.specs.HostedSessions.{hosted_session, IsOfSeat, AreHostedSessionsAt};
 
 use crate::all_there::AllThere;
-use crate::attended::{Attended, Ending};
+use crate::client_streams::ClientStreams;
 use crate::closing::Closing;
-use crate::doors::Doors;
+use crate::ended_session::{EndedSession, Ending};
 use crate::frames::end_line;
-use crate::hall::{PlainExchange, attend, finish, open_exchange};
+use crate::plain_exchange::{PlainExchange, finish, open_exchange, serve_client};
 use crate::racks::read_rack;
 use batch_book::Seat;
-use client_session::Unheard;
+use client_session::NoListener;
 use exchange_limits::{MAX_SESSIONS, WorkerCount};
 use module_memory::Rack;
 use plan_answers::Answer;
@@ -47,11 +47,11 @@ pub struct Hosted<C> {
 
 /// What the threads of a host share.
 #[derive(Drop)]
-struct Floor<'a, L: Ledger, R, D> {
+struct HostContext<'a, L: Ledger, R, D> {
     rt: &'a R,
     alloc: Global,
     exchange: &'a PlainExchange<L>,
-    doors: &'a D,
+    streams: &'a D,
     workers: WorkerCount,
     // Decided once: what shows that all threads are there, or that one couldn't be had.
     latch: &'a OnceLock<Option<AllThere>>,
@@ -61,93 +61,96 @@ struct Floor<'a, L: Ledger, R, D> {
 #[derive(Drop)]
 struct OfSeat<'a, L: Ledger, D> {
     exchange: &'a PlainExchange<L>,
-    doors: &'a D,
+    streams: &'a D,
     seat: Snapshot<Seat<L>>,
 }
 
-impl<'a, L: Ledger, D: Doors> Promise<Option<Attended<L, D::Receipt>>> for OfSeat<'a, L, D> {
-    ghost kept_by = { λ p given. IfSome given (IsOfSeat p.exchange.now (D.guests p.doors.now) D.received p.seat.value) };
+impl<'a, L: Ledger, D: ClientStreams> Promise<Option<EndedSession<L, D::Receipt>>>
+    for OfSeat<'a, L, D> {
+    ghost kept_by = { λ p given. IfSome given (IsOfSeat p.exchange.now (D.known p.streams.now) D.received p.seat.value) };
 }
 
 /// The thread of a client's session. It gives none where it wasn't told that all threads are there.
 type SessionThread<'a, L, D> = PromisedHandle<
-    Option<Attended<L, <D as Doors>::Receipt>>,
+    Option<EndedSession<L, <D as ClientStreams>::Receipt>>,
     OfSeat<'a, L, D>,
 >;
 
 /// Serves the client of a seat, once it has opened its files.
-fn host_client<L: Ledger, R: Threads + Wait + Sync, D: Doors>(
-    floor: &Floor<'_, L, R, D>,
+fn host_client<L: Ledger, R: Threads + Wait + Sync, D: ClientStreams>(
+    context: &HostContext<'_, L, R, D>,
     there: AllThere,
     seat: Seat<L>,
-) -> Attended<L, D::Receipt>
-    requires there { there.threads ≡ (D.guests floor.now.doors.now).clients }
-    requires seat { IsFresh floor.now.exchange.now seat }
-    ensures { IsOfSeat floor.now.exchange.now (D.guests floor.now.doors.now) D.received
+) -> EndedSession<L, D::Receipt>
+    requires there { there.threads ≡ (D.known context.now.streams.now).clients }
+    requires seat { IsFresh context.now.exchange.now seat }
+    ensures { IsOfSeat context.now.exchange.now (D.known context.now.streams.now) D.received
         seat result }
 {
-    let Ok((mut reader, mut writer)) = floor.doors.open(there, seat.session()) else {
-        return Attended {
+    let Ok((mut reader, mut writer)) = context.streams.open(there, seat.session()) else {
+        return EndedSession {
             seat,
             ending: Ending::Unopened,
         };
     };
-    let (seat, fault) = attend(
-        floor.rt,
-        floor.alloc,
-        floor.exchange,
+    let (seat, fault) = serve_client(
+        context.rt,
+        context.alloc,
+        context.exchange,
         seat,
         &mut reader,
         &mut writer,
-        &mut Unheard,
-        floor.workers,
+        &mut NoListener,
+        context.workers,
     );
-    let receipt = floor.doors.close(writer);
-    Attended {
+    let receipt = context.streams.close(writer);
+    EndedSession {
         seat,
         ending: Ending::Served { fault, receipt },
     }
 }
 
-/// Serves the client of a seat once all threads are there, or leaves its files closed where they aren't.
-fn wait_and_host<L: Ledger, R: Threads + Wait + Sync, D: Doors>(
-    floor: &Floor<'_, L, R, D>,
+/// Serves the client of a seat once all threads are there, or leaves its files closed where they
+/// aren't.
+fn wait_and_host<L: Ledger, R: Threads + Wait + Sync, D: ClientStreams>(
+    context: &HostContext<'_, L, R, D>,
     seat: Seat<L>,
-) -> Option<Attended<L, D::Receipt>>
-    requires seat { IsFresh floor.now.exchange.now seat }
-    ensures { IfSome result (IsOfSeat floor.now.exchange.now (D.guests floor.now.doors.now)
+) -> Option<EndedSession<L, D::Receipt>>
+    requires seat { IsFresh context.now.exchange.now seat }
+    ensures { IfSome result (IsOfSeat context.now.exchange.now (D.known context.now.streams.now)
         D.received seat) }
 {
-    match *floor.latch.wait(floor.rt) {
-        Some(there) if there.threads() == floor.doors.clients() => {
-            Some(host_client(floor, there, seat))
+    match *context.latch.wait(context.rt) {
+        Some(there) if there.threads() == context.streams.clients() => {
+            Some(host_client(context, there, seat))
         }
         _ => None,
     }
 }
 
-/// Gives each of these seats a thread, which waits for the latch: none where one of them can't be had.
-fn start_all<'s, E, L: Ledger + Send + Sync, R: Threads + Wait + Sync, D: Doors>(
+/// Gives each of these seats a thread, which waits for the latch: none where one of them can't be
+/// had.
+fn start_all<'s, E, L: Ledger + Send + Sync, R: Threads + Wait + Sync, D: ClientStreams>(
     scope: &Scope<'s, E>,
-    floor: &'s Floor<'s, L, R, D>,
+    context: &'s HostContext<'s, L, R, D>,
     seats: Vec<Seat<L>>,
 ) -> Result<Option<Vec<SessionThread<'s, L, D>>>, AllocError>
-    requires { AreNew floor.now.exchange.now.word (D.guests floor.now.doors.now).clients seats.items }
+    requires { AreNew context.now.exchange.now.word (D.known context.now.streams.now).clients seats.items }
     ensures seats { IfOk result (λ started. IfSome started (λ threads.
         map (λ t. t.promise.seat.value) threads.items ≡ seats.items)) }
-    ensures floor { IfOk result (λ started. IfSome started (λ threads. All (λ t.
-        (t.promise.exchange ≡ floor.now.exchange) × (t.promise.doors ≡ floor.now.doors)) threads.items)) }
+    ensures context { IfOk result (λ started. IfSome started (λ threads. All (λ t.
+        (t.promise.exchange ≡ context.now.exchange) × (t.promise.streams ≡ context.now.streams)) threads.items)) }
 {
-    let mut threads = Vec::new(floor.alloc);
+    let mut threads = Vec::new(context.alloc);
     for seat in seats {
         let promise = OfSeat {
-            exchange: floor.exchange,
-            doors: floor.doors,
+            exchange: context.exchange,
+            streams: context.streams,
             seat: Snapshot::of(&seat),
         };
-        let serve = move || -> Option<Attended<L, D::Receipt>>
-            requires { IsFresh floor.now.exchange.now seat }
-        { wait_and_host(floor, seat) };
+        let serve = move || -> Option<EndedSession<L, D::Receipt>>
+            requires { IsFresh context.now.exchange.now seat }
+        { wait_and_host(context, seat) };
         let Ok(thread) = scope.spawn_with(promise, serve) else {
             return Ok(None);
         };
@@ -180,61 +183,62 @@ fn all_of<T: Drop>(alloc: Global, given: Vec<Option<T>>) -> Result<Option<Vec<T>
     Ok(Some(all))
 }
 
-/// Serves the clients of these seats side by side, once each has a thread: none where one of these can't be had.
-fn host_all<'s, E, L: Ledger + Send + Sync, R: Threads + Wait + Sync, D: Doors>(
+/// Serves the clients of these seats side by side, once each has a thread: none where one of these
+/// can't be had.
+fn host_all<'s, E, L: Ledger + Send + Sync, R: Threads + Wait + Sync, D: ClientStreams>(
     scope: &Scope<'s, E>,
-    floor: &'s Floor<'s, L, R, D>,
+    context: &'s HostContext<'s, L, R, D>,
     seats: Vec<Seat<L>>,
-) -> Result<Option<Vec<Attended<L, D::Receipt>>>, AllocError>
-    requires { AreNew floor.now.exchange.now.word (D.guests floor.now.doors.now).clients seats.items }
+) -> Result<Option<Vec<EndedSession<L, D::Receipt>>>, AllocError>
+    requires { AreNew context.now.exchange.now.word (D.known context.now.streams.now).clients seats.items }
     ensures { IfOk result (λ hosted. IfSome hosted (λ sessions.
-        AreVisitsAt floor.now.exchange.now (D.guests floor.now.doors.now) D.received
+        AreHostedSessionsAt context.now.exchange.now (D.known context.now.streams.now) D.received
         sessions.items)) }
 {
-    let started = start_all(scope, floor, seats);
-    let _ = floor.latch.set(floor.rt, all_there(&started));
+    let started = start_all(scope, context, seats);
+    let _ = context.latch.set(context.rt, all_there(&started));
     let Some(threads) = started? else {
         return Ok(None);
     };
-    match thread::join_promised(floor.rt, threads) {
-        Ok(sessions) => all_of(floor.alloc, sessions),
+    match thread::join_promised(context.rt, threads) {
+        Ok(sessions) => all_of(context.alloc, sessions),
         Err(_) => Err(AllocError),
     }
 }
 
 /// The sessions of the clients of these seats.
-fn host_seats<'a, L: Ledger + Send + Sync, R: Threads + Wait + Sync, D: Doors>(
+fn host_seats<'a, L: Ledger + Send + Sync, R: Threads + Wait + Sync, D: ClientStreams>(
     rt: &'a R,
     alloc: Global,
     exchange: &'a PlainExchange<L>,
     seats: Vec<Seat<L>>,
-    doors: &'a D,
+    streams: &'a D,
     workers: WorkerCount,
-) -> Result<Option<Vec<Attended<L, D::Receipt>>>, AllocError>
-    requires { AreNew exchange.now.word (D.guests doors.now).clients seats.items }
+) -> Result<Option<Vec<EndedSession<L, D::Receipt>>>, AllocError>
+    requires { AreNew exchange.now.word (D.known streams.now).clients seats.items }
     ensures { IfOk result (λ hosted. IfSome hosted (λ sessions.
-        AreVisitsAt exchange.now (D.guests doors.now) D.received sessions.items)) }
+        AreHostedSessionsAt exchange.now (D.known streams.now) D.received sessions.items)) }
 {
     let latch = OnceLock::new();
-    let all = Floor {
+    let all = HostContext {
         rt,
         alloc,
         exchange,
-        doors,
+        streams,
         workers,
         latch: &latch,
     };
-    let floor = &all;
+    let context = &all;
     thread::scope(
         thread::scope_env(),
         rt,
-        move |scope| -> Result<Option<Vec<Attended<L, D::Receipt>>>, AllocError>
-            requires { AreNew floor.now.exchange.now.word (D.guests floor.now.doors.now).clients
+        move |scope| -> Result<Option<Vec<EndedSession<L, D::Receipt>>>, AllocError>
+            requires { AreNew context.now.exchange.now.word (D.known context.now.streams.now).clients
                 seats.items }
             ensures { IfOk result (λ hosted. IfSome hosted (λ sessions.
-                AreVisitsAt floor.entry.now.exchange.now (D.guests floor.entry.now.doors.now) D.received
+                AreHostedSessionsAt context.entry.now.exchange.now (D.known context.entry.now.streams.now) D.received
                 sessions.items)) }
-        { host_all(scope, floor, seats) },
+        { host_all(scope, context, seats) },
     )
 }
 
@@ -249,35 +253,35 @@ fn ending_line<C>(ending: &Ending<C>) -> &'static [u8]
 }
 
 /// Puts what is printed of a session at the end of the text.
-fn push_visit<L: Ledger, D: Doors>(
+fn push_hosted<L: Ledger, D: ClientStreams>(
     alloc: Global,
     text: &mut Vec<u8>,
-    doors: &D,
-    session: &Attended<L, D::Receipt>,
+    streams: &D,
+    session: &EndedSession<L, D::Receipt>,
 ) -> Result<(), AllocError>
     ensures { OnOk result (text.new.items
-        ≡ (text.old.items ++ visit_heading (D.guests doors.now) session.now.seat.session)
+        ≡ (text.old.items ++ hosted_heading (D.known streams.now) session.now.seat.session)
         ++ ending_line session.now.ending) }
 {
     let number = session.seat.session();
-    let name = doors.name(number);
+    let name = streams.name(number);
     let heading = format!(in alloc; "session {number} {name}\n")?;
     text.extend_from_slice(heading.as_str().as_bytes())?;
     text.extend_from_slice(ending_line(&session.ending))
 }
 
 /// What is printed of the sessions, one after another.
-fn ends_of<L: Ledger, D: Doors>(
+fn ends_of<L: Ledger, D: ClientStreams>(
     alloc: Global,
-    doors: &D,
-    sessions: &[Attended<L, D::Receipt>],
+    streams: &D,
+    sessions: &[EndedSession<L, D::Receipt>],
 ) -> Result<Vec<u8>, AllocError>
     ensures { IfOk result (λ text.
-        text.items ≡ flat_map (visit_text (D.guests doors.now)) (map (visit D.received) sessions.now)) }
+        text.items ≡ flat_map (hosted_text (D.known streams.now)) (map (hosted_session D.received) sessions.now)) }
 {
     let mut text = Vec::new(alloc);
     for session in sessions {
-        push_visit(alloc, &mut text, doors, session)?;
+        push_hosted(alloc, &mut text, streams, session)?;
     }
     Ok(text)
 }
@@ -293,7 +297,7 @@ fn has_failed<C>(ending: &Ending<C>) -> bool
 }
 
 /// Whether one of the sessions didn't end by itself.
-fn any_failed<L: Ledger, C>(sessions: &[Attended<L, C>]) -> bool
+fn any_failed<L: Ledger, C>(sessions: &[EndedSession<L, C>]) -> bool
     ensures { result ≡ list_any has_failed (map (λ s. s.ending) sessions.now) }
 {
     sessions.iter().any(|session| has_failed(&session.ending))
@@ -302,7 +306,7 @@ fn any_failed<L: Ledger, C>(sessions: &[Attended<L, C>]) -> bool
 /// The seats of sessions, and how these ended.
 fn part<L: Ledger, C: Drop>(
     alloc: Global,
-    sessions: Vec<Attended<L, C>>,
+    sessions: Vec<EndedSession<L, C>>,
 ) -> Result<(Vec<Seat<L>>, Vec<Ending<C>>), AllocError>
     ensures seats { IfOk result (λ p. p.0.items ≡ map (λ s. s.seat) sessions.items) }
     ensures endings { IfOk result (λ p. p.1.items ≡ map (λ s. s.ending) sessions.items) }
@@ -310,7 +314,7 @@ fn part<L: Ledger, C: Drop>(
     let mut seats = Vec::new(alloc);
     let mut endings = Vec::new(alloc);
     for session in sessions {
-        let Attended { seat, ending } = session;
+        let EndedSession { seat, ending } = session;
         seats.push(seat)?;
         endings.push(ending)?;
     }
@@ -332,27 +336,27 @@ fn refused<C>(alloc: Global, refusal: Refusal) -> Result<Hosted<C>, AllocError>
 }
 
 /// What is left of the sessions of the clients on an exchange with this rack.
-fn host<L: Ledger + Send + Sync, R: Threads + Wait + Sync, D: Doors>(
+fn host_clients<L: Ledger + Send + Sync, R: Threads + Wait + Sync, D: ClientStreams>(
     rt: &R,
     alloc: Global,
     blank: Blank,
     rack: Rack,
     workers: WorkerCount,
-    doors: &D,
+    streams: &D,
 ) -> Result<Hosted<D::Receipt>, AllocError>
     requires name { blank.name ≡ L.name }
     requires parts { (blank.parts ≡ L.parts) × (blank.parts ≡ ALL_PARTS) }
-    requires some { 1 ≤ (D.guests doors.now).clients }
-    requires few { (D.guests doors.now).clients ≤ MAX_SESSIONS }
-    ensures { IfOk result (λ hosted. IsHosting rack (D.guests doors.now)
-        (map (end_of D.received) hosted.endings.items) hosted.answer hosted.rack) }
+    requires some { 1 ≤ (D.known streams.now).clients }
+    requires few { (D.known streams.now).clients ≤ MAX_SESSIONS }
+    ensures { IfOk result (λ hosted. IsHosting rack (D.known streams.now)
+        (map (seen_end D.received) hosted.endings.items) hosted.answer hosted.rack) }
 {
     let opening = rack.copy()?;
-    let (exchange, seats) = open_exchange::<L>(alloc, blank, rack, workers, doors.clients())?;
-    let Some(sessions) = host_seats(rt, alloc, &exchange, seats, doors, workers)? else {
+    let (exchange, seats) = open_exchange::<L>(alloc, blank, rack, workers, streams.clients())?;
+    let Some(sessions) = host_seats(rt, alloc, &exchange, seats, streams, workers)? else {
         return refused(alloc, Refusal::Threads);
     };
-    let text = ends_of(alloc, doors, sessions.as_slice())?;
+    let text = ends_of(alloc, streams, sessions.as_slice())?;
     let failed = any_failed(sessions.as_slice());
     let (seats, endings) = part(alloc, sessions)?;
     let Closing { answer, rack } = finish(exchange, seats, &opening, text, failed)?;
@@ -363,41 +367,42 @@ fn host<L: Ledger + Send + Sync, R: Threads + Wait + Sync, D: Doors>(
     })
 }
 
-/// What `exchange host` leaves: the sessions of the doors' clients, 1 to [`MAX_SESSIONS`], on one
+/// What `exchange host` leaves: the sessions of these clients, 1 to [`MAX_SESSIONS`], on one
 /// exchange that has a rack of the shape which the shape text denotes, whose words are first those
 /// of the image or, where there is none, 0; or the refusal of the shape, or else of the image, or
 /// of the threads, before a file is opened.
 ///
-/// Each client is served in a thread of its own, from the files that its doors open there. It waits
-/// for its own files, and while the exchange answers a call of another. Planning and runs are given
-/// so many workers each. Each reply line is written, and the writer flushed, before the client's
-/// next command is read. For each client, in order, comes the line `session I NAME`, and where a
-/// fault ended the session, or its files couldn't be opened, a line `ended ..` that says so, under
-/// the status [`REFUSED`](plan_answers::REFUSED). Under that status too, a last line
+/// Each client is served in a thread of its own, from the files that are opened for it there. It
+/// waits for its own files, and while the exchange answers a call of another. Planning and runs are
+/// given so many workers each. Each reply line is written, and the writer flushed, before the
+/// client's next command is read. For each client, in order, comes the line `session I NAME`, and
+/// where a fault ended the session, or its files couldn't be opened, a line `ended ..` that says
+/// so, under the status [`REFUSED`](plan_answers::REFUSED). Under that status too, a last line
 /// `logs disagree` would say that the sessions' lists aren't those of the exchange's history, or
 /// that this began on another rack. Else the exchange's rack is given back, with the words that the
 /// history leaves.
 ///
-/// Want of memory behind the sessions, for the list of their ends and for what is said of them, is the same error as want of
-/// it before them: how they ended isn't told then, though each client was told its replies.
-pub fn answer_host<R: Threads + Wait + Sync, D: Doors>(
+/// Want of memory behind the sessions, for the list of their ends and for what is said of them, is
+/// the same error as want of it before them: how they ended isn't told then, though each client was
+/// told its replies.
+pub fn answer_host<R: Threads + Wait + Sync, D: ClientStreams>(
     rt: &R,
     alloc: Global,
     shape: &[u8],
     image: Option<&[u8]>,
     workers: WorkerCount,
-    doors: &D,
+    streams: &D,
 ) -> Result<Hosted<D::Receipt>, AllocError>
-    requires some_clients { 1 ≤ (D.guests doors.now).clients }
-    requires few_clients { (D.guests doors.now).clients ≤ MAX_SESSIONS }
+    requires some_clients { 1 ≤ (D.known streams.now).clients }
+    requires few_clients { (D.known streams.now).clients ≤ MAX_SESSIONS }
     ensures { IfOk result (λ hosted. IsHostAnswer shape.now (bytes_of image.entry)
-        (D.guests doors.now) (map (end_of D.received) hosted.endings.items) hosted.answer
+        (D.known streams.now) (map (seen_end D.received) hosted.endings.items) hosted.answer
         hosted.rack) }
 {
     match read_rack(alloc, shape, image) {
         Ok(rack) => {
             let blank = Blank::new(ALL_PARTS as u64);
-            host::<Brand, R, D>(rt, alloc, blank, rack, workers, doors)
+            host_clients::<Brand, R, D>(rt, alloc, blank, rack, workers, streams)
         }
         Err(refusal) => refused(alloc, refusal),
     }

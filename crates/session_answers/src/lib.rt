@@ -1,27 +1,27 @@
-//! The answers of the commands with sessions, `serve`, `host` and `talk`: from the bytes of their texts to the bytes that
-//! are printed, and the status that the program ends with.
+//! The answers of the commands with sessions, `serve`, `host` and `talk`: from the bytes of their
+//! texts to the bytes that are printed, and the status that the program ends with.
 //!
 //! Each `answer_` function opens an exchange, serves its clients, closes it, and gives an
-//! [`Answer`](plan_answers::Answer): what is printed behind the sessions, or the line of the refusal of what is first
-//! wrong. Beside it stands the rack that the sessions leave.
+//! [`Answer`](plan_answers::Answer): what is printed behind the sessions, or the line of the
+//! refusal of what is first wrong. Beside it stands the rack that the sessions leave.
 #![tactic(auto)]
 
 mod all_there;
-mod attended;
+mod client_streams;
 mod closing;
-mod doors;
+mod ended_session;
 mod frames;
-mod hall;
 mod hosting;
+mod plain_exchange;
 mod racks;
 mod serving;
 mod session;
 mod talking;
 
 pub use all_there::AllThere;
-pub use attended::Ending;
+pub use client_streams::ClientStreams;
 pub use closing::Closing;
-pub use doors::Doors;
+pub use ended_session::Ending;
 pub use frames::push_end;
 pub use hosting::{Hosted, answer_host};
 pub use serving::answer_serve;

@@ -11,8 +11,9 @@ use rack_answers::opening_rack;
 use refusals::Refusal;
 use std::alloc::Global;
 
-/// A rack of the shape that the shape text denotes, whose words are those of the image or, where there
-/// is none, 0. The error is what is first wrong: the shape, then the image; or want of memory.
+/// A rack of the shape that the shape text denotes, whose words are those of the image or, where
+/// there is none, 0. The error is what is first wrong: the shape, then the image; or want of
+/// memory.
 pub fn read_rack(alloc: Global, shape: &[u8], image: Option<&[u8]>) -> Result<Rack, Refusal>
     ensures rack { IfOk result (IsRackOf shape.now (bytes_of image.entry)) }
     ensures wrong { IfErr result (λ refusal. refusal ≢ NoMemory

@@ -4,17 +4,17 @@ ghost use Rattle.std.specs.Prelude.{◌≡◌, ◌≤◌, IfOk, length, map};
 ghost use Rattle.progress_word.specs.declared.limits.TheConstants.{ALL_PARTS};
 ghost use Rattle.batch_book.specs.Exchanges.{AreNew};
 ghost use Rattle.batch_book.specs.Seats.{IsSameSeat};
-ghost use Rattle.session_answers.specs.Hosting.{transcript, IsReady, AreServedAt};
+ghost use Rattle.session_answers.specs.Hosting.{transcript, IsSeatReady, AreServedAt};
 ghost use Rattle.plan_answers.specs.Lent.{bytes_of};
 ghost use Rattle.session_answers.specs.Serving.{HasItsScript, AreServed, IsServeAnswer};
 
 use crate::closing::Closing;
 use crate::frames::{frame, has_fault};
-use crate::hall::{PlainExchange, attend, finish, open_exchange};
+use crate::plain_exchange::{PlainExchange, finish, open_exchange, serve_client};
 use crate::racks::read_rack;
 use crate::session::Session;
 use batch_book::Seat;
-use client_session::Unheard;
+use client_session::NoListener;
 use exchange_limits::{MAX_SESSIONS, WorkerCount};
 use module_memory::Rack;
 use progress_word::ALL_PARTS;
@@ -34,28 +34,28 @@ fn serve_script<L: Ledger, R: Threads + Wait + Sync>(
     scripts: &[Vec<u8>],
     workers: WorkerCount,
 ) -> Session<L>
-    requires seat { IsReady exchange.now (length scripts.now) seat }
+    requires seat { IsSeatReady exchange.now (length scripts.now) seat }
     ensures same { IsSameSeat seat result.seat }
     ensures served { HasItsScript exchange.now.shape (map (λ s. s.items) scripts.now)
         (transcript result) }
 {
     let mut reader = scripts[seat.session()].as_slice();
     let mut told = Vec::new(alloc);
-    let (seat, fault) = attend(
+    let (seat, fault) = serve_client(
         rt,
         alloc,
         exchange,
         seat,
         &mut reader,
         &mut told,
-        &mut Unheard,
+        &mut NoListener,
         workers,
     );
     Session { seat, told, fault }
 }
 
-/// Serves the scripts side by side, one thread for each where it can be had. The sessions come in the order
-/// of the scripts.
+/// Serves the scripts side by side, one thread for each where it can be had. The sessions come in
+/// the order of the scripts.
 fn serve_all<L: Ledger + Send + Sync, R: Threads + Wait + Sync>(
     rt: &R,
     alloc: Global,
@@ -69,7 +69,7 @@ fn serve_all<L: Ledger + Send + Sync, R: Threads + Wait + Sync>(
         AreServedAt exchange.now (map (λ s. s.items) scripts.now) sessions.items) }
 {
     let one = |seat: Seat<L>| -> Session<L>
-        requires { IsReady exchange.now (length scripts.now) seat }
+        requires { IsSeatReady exchange.now (length scripts.now) seat }
         ensures same { IsSameSeat seat result.seat }
         ensures served { HasItsScript exchange.entry.now.shape
             (map (λ s. s.items) scripts.entry.now) (transcript result) }
@@ -88,7 +88,7 @@ fn seats_of<L: Ledger>(alloc: Global, sessions: Vec<Session<L>>) -> Result<Vec<S
 }
 
 /// What is left of the scripts' sessions on one exchange with this rack.
-fn host<L: Ledger + Send + Sync, R: Threads + Wait + Sync>(
+fn serve_scripts<L: Ledger + Send + Sync, R: Threads + Wait + Sync>(
     rt: &R,
     alloc: Global,
     blank: Blank,
@@ -141,7 +141,7 @@ pub fn answer_serve<R: Threads + Wait + Sync>(
     match read_rack(alloc, shape, image) {
         Ok(rack) => {
             let blank = Blank::new(ALL_PARTS as u64);
-            host::<Brand, R>(rt, alloc, blank, rack, workers, scripts)
+            serve_scripts::<Brand, R>(rt, alloc, blank, rack, workers, scripts)
         }
         Err(refusal) => Closing::refused(alloc, refusal),
     }

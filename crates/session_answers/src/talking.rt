@@ -11,7 +11,7 @@ ghost use Rattle.session_answers.specs.Talking.{HasTalked, IsTalkAnswer};
 
 use crate::closing::Closing;
 use crate::frames::end_line;
-use crate::hall::{attend, finish, open_exchange};
+use crate::plain_exchange::{finish, open_exchange, serve_client};
 use crate::racks::read_rack;
 use client_session::Listener;
 use exchange_limits::WorkerCount;
@@ -48,7 +48,7 @@ fn talk<L: Ledger, R: Threads + Wait + Sync, I: Read, O: Write, H: Listener>(
         unreachable!()
     };
     let one = WorkerCount::ONE;
-    let (seat, fault) = attend(rt, alloc, &exchange, seat, reader, writer, listener, one);
+    let (seat, fault) = serve_client(rt, alloc, &exchange, seat, reader, writer, listener, one);
     seats.push(seat)?;
     let line = Vec::from_slice(alloc, end_line(fault))?;
     finish(exchange, seats, &opening, line, fault.is_some())

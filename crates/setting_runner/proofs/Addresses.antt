@@ -2,7 +2,7 @@
 use Rattle.std.proofs.Common.{List, [], ◌∷◌, arith, ◌%◌, ℕ, ◌≡◌, ◌<◌, length, get_or, refl, sym, ap, ◌∙◌, Result, Ok}
 use Rattle.batch.specs.Extent.{Extent}
 use Rattle.batch.specs.declared.transfer.Place.{Place}
-use Rattle.module_memory.specs.Lending.{BlockAt, Left, copy_of, found_in, with_word}
+use Rattle.module_memory.specs.Lending.{BlockAt, RestView, copy_of, found_in, with_word}
 use Rattle.module_memory.specs.Store.{block_of}
 use Rattle.module_memory.specs.declared.address.TheConstants.{HOLD_START, WORD_BYTES}
 use Rattle.module_memory.specs.Address.{address_from}
@@ -37,10 +37,10 @@ written_is law start s b t n a j w four e h f g k = ok_same t (with_word b j w) 
 -- ---- what a transfer finds
 
 -- a store of a held block
-pub found_held : (rest : Left) (p : Place) (b : BlockAt) → IsHeldStore rest p b → found_in rest p ≡ b.words
+pub found_held : (rest : RestView) (p : Place) (b : BlockAt) → IsHeldStore rest p b → found_in rest p ≡ b.words
 found_held rest p b h = copy_first (copy_of rest p) (block_of rest.store p) b.words (sym h.1.words_are) h.1.some
 
-pub held_reads : WordsAreRead → (rest : Left) (p : Place) (b : BlockAt) → IsHeldStore rest p b → ReadsFound (held_read b) HOLD_START rest p
+pub held_reads : WordsAreRead → (rest : RestView) (p : Place) (b : BlockAt) → IsHeldStore rest p b → ReadsFound (held_read b) HOLD_START rest p
 held_reads law rest p b h j l =
     ap or_outside (ap (λ (q : Place). block_read HOLD_START b (address_from HOLD_START rest.store.shape q.block j)) (sym h.0) ∙ law HOLD_START rest.store.shape b j refl h.1.all_words l)
     ∙ ap (λ (xs : List ℕ). reads (get_or xs j 0)) (sym (found_held rest p b h))
@@ -49,5 +49,5 @@ window_some : (xs : List ℕ) → 0 < length xs → window_for xs ≡ HOLD_START
 window_some [] l = absurd (omega arith)
 window_some (x ∷ xs) l = refl
 
-pub held_window : (rest : Left) (p : Place) (b : BlockAt) → IsHeldStore rest p b → window_of rest p ≡ HOLD_START
+pub held_window : (rest : RestView) (p : Place) (b : BlockAt) → IsHeldStore rest p b → window_of rest p ≡ HOLD_START
 held_window rest p b h = ap window_for (sym h.1.words_are) ∙ window_some b.words h.1.some

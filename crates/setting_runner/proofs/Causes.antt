@@ -4,30 +4,30 @@ use Rattle.std.specs.Prelude.{All, AllPairs}
 use Rattle.std.proofs.lemmas.List.Elements.{All-cons, All-head}
 use Rattle.link_graph.proofs.Sums.{later, first_with}
 use Rattle.batch.specs.declared.transfer.Transfer.{Transfer}
-use Rattle.module_memory.specs.Lending.{Left, BlockAt}
+use Rattle.module_memory.specs.Lending.{RestView, BlockAt}
 use Rattle.setting_runner.specs.declared.outcome.StopCause.TheVariants.{Wire}
-use Rattle.switch_settings.specs.Answers.{IsSetFault}
-use Rattle.switch_settings.specs.declared.fault.SetFault.{SetFault}
-use Rattle.switch_settings.specs.declared.fault.SetFault.TheVariants as fault
+use Rattle.switch_settings.specs.Answers.{IsConfigureFault}
+use Rattle.switch_settings.specs.declared.fault.ConfigureFault.{ConfigureFault}
+use Rattle.switch_settings.specs.declared.fault.ConfigureFault.TheVariants as fault
 use Rattle.setting_runner.specs.Causes.{cause_of}
 use Rattle.setting_runner.specs.Moves.{HaveMoved, all_moved, AllWhole}
-use Rattle.setting_runner.specs.Runs.{Given, IsStopCause, IsLeastShort, names_of}
+use Rattle.setting_runner.specs.Runs.{RunConditions, IsStopCause, IsLeastShort, names_of}
 
 pub all_zero : (ts : List ℕ) → All (λ (m : ℕ × ℕ). m.1 ≡ 0) (all_moved ts 0)
 all_zero [] = λ k d l. absurd (omega arith)
 all_zero (t ∷ ts) = All-cons (λ (m : ℕ × ℕ). m.1 ≡ 0) (t, 0) (all_moved ts 0) refl (all_zero ts)
 
 -- a switch that can't be set stops the setting before a word has moved
-pub set_fault_stops : (given : Given) (f : SetFault) (ms : List (ℕ × ℕ)) → IsSetFault given.shape.modules given.before given.after given.honest f → All (λ (m : ℕ × ℕ). m.1 ≡ 0) ms → IsStopCause given (cause_of f) ms
+pub set_fault_stops : (given : RunConditions) (f : ConfigureFault) (ms : List (ℕ × ℕ)) → IsConfigureFault given.shape.modules given.before given.after given.honest f → All (λ (m : ℕ × ℕ). m.1 ≡ 0) ms → IsStopCause given (cause_of f) ms
 set_fault_stops given fault.Port ms is z = record { failed = is; unmoved = z }
 set_fault_stops given (fault.SwitchDisagrees output) ms is z = record { dishonest = is.0; known = is.1; unmoved = z; unfailed = is.2 }
 
-pub no_wire : (f : SetFault) (t : ℕ) → cause_of f ≡ Wire t → ⊥
+pub no_wire : (f : ConfigureFault) (t : ℕ) → cause_of f ≡ Wire t → ⊥
 no_wire fault.Port t e = absurd cc
 no_wire (fault.SwitchDisagrees output) t e = absurd cc
 
 -- those whose wires never fail have moved all words
-pub sure_moved : (sure : ℕ → Type 0) (rest : Left) (batch : List Transfer) (ts : List ℕ) (os ns : List BlockAt) (ms : List (ℕ × ℕ)) → HaveMoved sure rest batch ts os ns ms → All (λ (m : ℕ × ℕ). sure m.0 → m.1 ≡ rest.store.shape.words) ms
+pub sure_moved : (sure : ℕ → Type 0) (rest : RestView) (batch : List Transfer) (ts : List ℕ) (os ns : List BlockAt) (ms : List (ℕ × ℕ)) → HaveMoved sure rest batch ts os ns ms → All (λ (m : ℕ × ℕ). sure m.0 → m.1 ≡ rest.store.shape.words) ms
 sure_moved sure rest batch [] [] [] [] a = λ k d l. absurd (omega arith)
 sure_moved sure rest batch (t ∷ ts) (o ∷ os) (n ∷ ns) (m ∷ ms) a =
     All-cons (λ (x : ℕ × ℕ). sure x.0 → x.1 ≡ rest.store.shape.words) m ms (λ h. a.0.all_words (subst sure a.0.named h)) (sure_moved sure rest batch ts os ns ms a.1)
@@ -39,7 +39,7 @@ sure_moved sure rest batch (t ∷ ts) (o ∷ os) [] ms a = absurd a
 sure_moved sure rest batch (t ∷ ts) (o ∷ os) (n ∷ ns) [] a = absurd a
 
 -- the names are the setting's
-pub names_moved : (sure : ℕ → Type 0) (rest : Left) (batch : List Transfer) (ts : List ℕ) (os ns : List BlockAt) (ms : List (ℕ × ℕ)) → HaveMoved sure rest batch ts os ns ms → names_of ms ≡ ts
+pub names_moved : (sure : ℕ → Type 0) (rest : RestView) (batch : List Transfer) (ts : List ℕ) (os ns : List BlockAt) (ms : List (ℕ × ℕ)) → HaveMoved sure rest batch ts os ns ms → names_of ms ≡ ts
 names_moved sure rest batch [] [] [] [] a = refl
 names_moved sure rest batch (t ∷ ts) (o ∷ os) (n ∷ ns) (m ∷ ms) a =
     ap (λ (x : ℕ). x ∷ map (λ (m : ℕ × ℕ). m.0) ms) a.0.named ∙ ap (λ (xs : List ℕ). t ∷ xs) (names_moved sure rest batch ts os ns ms a.1)
@@ -50,7 +50,7 @@ names_moved sure rest batch (t ∷ ts) [] ns ms a = absurd a
 names_moved sure rest batch (t ∷ ts) (o ∷ os) [] ms a = absurd a
 names_moved sure rest batch (t ∷ ts) (o ∷ os) (n ∷ ns) [] a = absurd a
 
-pub most_moved : (sure : ℕ → Type 0) (rest : Left) (batch : List Transfer) (ts : List ℕ) (os ns : List BlockAt) (ms : List (ℕ × ℕ)) → HaveMoved sure rest batch ts os ns ms → All (λ (m : ℕ × ℕ). m.1 ≤ rest.store.shape.words) ms
+pub most_moved : (sure : ℕ → Type 0) (rest : RestView) (batch : List Transfer) (ts : List ℕ) (os ns : List BlockAt) (ms : List (ℕ × ℕ)) → HaveMoved sure rest batch ts os ns ms → All (λ (m : ℕ × ℕ). m.1 ≤ rest.store.shape.words) ms
 most_moved sure rest batch [] [] [] [] a = λ k d l. absurd (omega arith)
 most_moved sure rest batch (t ∷ ts) (o ∷ os) (n ∷ ns) (m ∷ ms) a = All-cons (λ (x : ℕ × ℕ). x.1 ≤ rest.store.shape.words) m ms a.0.at_most (most_moved sure rest batch ts os ns ms a.1)
 most_moved sure rest batch [] [] [] (m ∷ ms) a = absurd a

@@ -10,7 +10,7 @@ use Rattle.batch.specs.Overlap.{transfer_at, source_at, destination_at}
 use Rattle.batch.specs.declared.transfer.Transfer.{Transfer}
 use Rattle.module_memory.specs.Store.{Store, block_of}
 use Rattle.module_memory.specs.Core.{AgreesAtSources, FitsIn, IsComplete, IsMovedFrom, IsReady, IsStepList, setting_of}
-use Rattle.module_memory.specs.Lending.{BlockAt, Left, found_in, bay_in, joined, Rejoins}
+use Rattle.module_memory.specs.Lending.{BlockAt, RestView, found_in, bay_in, store_rejoined, Rejoins}
 use Rattle.module_memory.specs.Bays.{AreBaysOf, AreFound, AreSamePlaces}
 use Rattle.module_memory.specs.Settings.{after_steps, IsRun, IsStoppedRun}
 use Rattle.module_memory.proofs.CoreLaw.{transfer_at-setting_of, unwritten_by_setting}
@@ -25,7 +25,7 @@ use Rattle.crossbar.specs.Chips.{Switches}
 use Rattle.crossbar.specs.Pairs.{AreSwitchesOf, room_of, switch_of}
 use Rattle.crossbar.specs.declared.chip.Wiring.{Wiring}
 use Rattle.crossbar.specs.declared.pair.Pair.{Pair}
-use Rattle.setting_runner.specs.Runs.{AreSettingSwitches, IsPrepared, IsCompleted, IsStopped, HasOwnBays, numbers_of, words_of}
+use Rattle.setting_runner.specs.Runs.{AreSettingSwitches, IsPrepared, IsCompleted, HasStoppedIn, HasOwnBays, numbers_of, words_of}
 use Rattle.switch_settings.specs.Racks.{HasModulesOf}
 use Rattle.switch_settings.specs.Settings.{setting_pairs}
 use Rattle.switch_settings.proofs.Joined.{same_switches}
@@ -37,17 +37,17 @@ use Rattle.batch.proofs.Lists.{concat_more}
 use Rattle.setting_runner.proofs.Schedules.{are_settings, numbers_are_counted}
 
 -- what it has after some settings
-pub record Going (rest : Left) (first bays : List BlockAt) (plan : Plan) (k : ℕ) : Type 0 where
+pub record Going (rest : RestView) (first bays : List BlockAt) (plan : Plan) (k : ℕ) : Type 0 where
   pub places : AreSamePlaces first bays
   pub rejoins : Rejoins rest.store bays
-  pub agrees : AgreesAtSources (joined rest.store first) plan.batch (joined rest.store bays)
-  pub machine : IsRun (joined rest.store first) (joined rest.store first) plan.batch (take k plan.settings) (joined rest.store bays)
+  pub agrees : AgreesAtSources (store_rejoined rest.store first) plan.batch (store_rejoined rest.store bays)
+  pub machine : IsRun (store_rejoined rest.store first) (store_rejoined rest.store first) plan.batch (take k plan.settings) (store_rejoined rest.store bays)
 
-own_bays : (rest : Left) (first bays : List BlockAt) (plan : Plan) (k : ℕ) → IsPrepared rest first plan → Going rest first bays plan k → k < length plan.settings → HasOwnBays rest.store bays plan k
+own_bays : (rest : RestView) (first bays : List BlockAt) (plan : Plan) (k : ℕ) → IsPrepared rest first plan → Going rest first bays plan k → k < length plan.settings → HasOwnBays rest.store bays plan k
 own_bays rest first bays plan k b g h = stay_lent rest.store first bays (length (concat (take k plan.settings))) (setting_of plan.batch (numbers_of plan k)) (b.settings k h) g.places
 
 -- the settings that are still to come are ready
-ready_now : (rest : Left) (first bays : List BlockAt) (plan : Plan) (k : ℕ) → IsPrepared rest first plan → Going rest first bays plan k → k < length plan.settings → IsReady (joined rest.store first) (joined rest.store bays) plan.batch (numbers_of plan k)
+ready_now : (rest : RestView) (first bays : List BlockAt) (plan : Plan) (k : ℕ) → IsPrepared rest first plan → Going rest first bays plan k → k < length plan.settings → IsReady (store_rejoined rest.store first) (store_rejoined rest.store bays) plan.batch (numbers_of plan k)
 ready_now rest first bays plan k b g h = record {
   opening_whole = b.ready.whole;
   whole = g.rejoins.whole;
@@ -59,17 +59,17 @@ ready_now rest first bays plan k b g h = record {
 }
 
 -- what a transfer finds has all words of a block
-found_wide : (rest : Left) (first : List BlockAt) (plan : Plan) (t : ℕ) → IsPrepared rest first plan → t < length plan.batch → length (found_in rest (source_at plan.batch t)) ≡ rest.store.shape.words
+found_wide : (rest : RestView) (first : List BlockAt) (plan : Plan) (t : ℕ) → IsPrepared rest first plan → t < length plan.batch → length (found_in rest (source_at plan.batch t)) ≡ rest.store.shape.words
 found_wide rest first plan t b h =
-    ap (λ (x : List ℕ). length x) (b.found t h) ∙ block_length (joined rest.store first) (source_at plan.batch t) b.ready.whole (b.ready.places t h).0 ∙ ap (λ (x : Extent). x.words) (shape-joined rest.store first)
+    ap (λ (x : List ℕ). length x) (b.found t h) ∙ block_length (store_rejoined rest.store first) (source_at plan.batch t) b.ready.whole (b.ready.places t h).0 ∙ ap (λ (x : Extent). x.words) (shape-joined rest.store first)
 
-pub part_within : (rest : Left) (first bays : List BlockAt) (plan : Plan) (k a n : ℕ) → IsPrepared rest first plan → Going rest first bays plan k → k < length plan.settings → a ≡ length (concat (take k plan.settings)) → n ≡ length (numbers_of plan k) → a + n ≤ length bays
+pub part_within : (rest : RestView) (first bays : List BlockAt) (plan : Plan) (k a n : ℕ) → IsPrepared rest first plan → Going rest first bays plan k → k < length plan.settings → a ≡ length (concat (take k plan.settings)) → n ≡ length (numbers_of plan k) → a + n ≤ length bays
 part_within rest first bays plan k a n b g h ea en =
     let own = own_bays rest first bays plan k b g h in
     omega (arith, own.within, length-map (numbers_of plan k) (transfer_at plan.batch))
 
 -- the transfers of the next setting can move their words into their part of the bays
-pub part_movable : (rest : Left) (first bays : List BlockAt) (plan : Plan) (k a n : ℕ) → IsPrepared rest first plan → Going rest first bays plan k → k < length plan.settings → a ≡ length (concat (take k plan.settings)) → n ≡ length (numbers_of plan k)
+pub part_movable : (rest : RestView) (first bays : List BlockAt) (plan : Plan) (k a n : ℕ) → IsPrepared rest first plan → Going rest first bays plan k → k < length plan.settings → a ≡ length (concat (take k plan.settings)) → n ≡ length (numbers_of plan k)
     → AreMovable rest plan.batch (numbers_of plan k) (take n (drop a bays))
 part_movable rest first bays plan k a n b g h ea en =
     let numbers = numbers_of plan k in
@@ -98,7 +98,7 @@ past_end (x ∷ xs) zero h = absurd (omega arith)
 past_end (x ∷ xs) (suc i) h = past_end xs i (omega arith)
 
 -- no transfer has moved more words than a block has
-few_words : (rest : Left) (batch : List Transfer) (ts : List ℕ) (os ns : List BlockAt) (ms : List (ℕ × ℕ)) (i : ℕ) → HaveMoved none_sure rest batch ts os ns ms → slice_index (words_of ms) i ≤ rest.store.shape.words
+few_words : (rest : RestView) (batch : List Transfer) (ts : List ℕ) (os ns : List BlockAt) (ms : List (ℕ × ℕ)) (i : ℕ) → HaveMoved none_sure rest batch ts os ns ms → slice_index (words_of ms) i ≤ rest.store.shape.words
 few_words rest batch ts os ns ms i moves = elim (cases_lt i (length ms)) [
   | inl l ↦ let most = most_moved none_sure rest batch ts os ns ms moves i (0, 0) l in omega (arith, get_or-map (λ (m : ℕ × ℕ). m.1) ms i (0, 0) 0 l)
   | inr l ↦ omega (arith, past_end (words_of ms) i (omega (arith, length-map ms (λ (m : ℕ × ℕ). m.1))))
@@ -110,10 +110,10 @@ all_at (t ∷ ts) words zero h = refl
 all_at (t ∷ ts) words (suc i) h = all_at ts words i (omega arith)
 
 -- a setting that was worked on
-record Worked (rest : Left) (first bays new : List BlockAt) (plan : Plan) (k : ℕ) (ms : List (ℕ × ℕ)) : Type 0 where
+record Worked (rest : RestView) (first bays new : List BlockAt) (plan : Plan) (k : ℕ) (ms : List (ℕ × ℕ)) : Type 0 where
   places : AreSamePlaces first new
   rejoins : Rejoins rest.store new
-  moved : IsMovedFrom (joined rest.store first) (joined rest.store bays) (setting_of plan.batch (numbers_of plan k)) (slice_index (words_of ms)) (joined rest.store new)
+  moved : IsMovedFrom (store_rejoined rest.store first) (store_rejoined rest.store bays) (setting_of plan.batch (numbers_of plan k)) (slice_index (words_of ms)) (store_rejoined rest.store new)
 
 same_places_twice : (a b c : List BlockAt) → AreSamePlaces a b → AreSamePlaces b c → AreSamePlaces a c
 same_places_twice a b c x y = record {
@@ -124,7 +124,7 @@ same_places_twice a b c x y = record {
 mixed_length : (c : ℕ) (from old : List ℕ) → length from ≡ length old → c ≤ length old → length (take c from ++ drop c old) ≡ length old
 mixed_length c from old e h = omega (arith, length-append (take c from) (drop c old), length-take {A = ℕ}, length-drop {A = ℕ})
 
-worked : (rest : Left) (first bays part : List BlockAt) (plan : Plan) (k a n : ℕ) (ms : List (ℕ × ℕ)) → IsPrepared rest first plan → Going rest first bays plan k → k < length plan.settings → a ≡ length (concat (take k plan.settings)) → n ≡ length (numbers_of plan k)
+worked : (rest : RestView) (first bays part : List BlockAt) (plan : Plan) (k a n : ℕ) (ms : List (ℕ × ℕ)) → IsPrepared rest first plan → Going rest first bays plan k → k < length plan.settings → a ≡ length (concat (take k plan.settings)) → n ≡ length (numbers_of plan k)
     → HaveMoved none_sure rest plan.batch (numbers_of plan k) (take n (drop a bays)) part ms → Worked rest first bays (take a bays ++ (part ++ drop n (drop a bays))) plan k ms
 worked rest first bays part plan k a n ms b g h ea en moves =
     let numbers = numbers_of plan k in
@@ -133,9 +133,9 @@ worked rest first bays part plan k a n ms b g h ea en moves =
     let own = subst (λ (x : ℕ). AreBaysOf rest.store bays x ts) (sym ea) (own_bays rest first bays plan k b g h) in
     let long = length-map numbers (transfer_at plan.batch) in
     let known = (are_settings plan.batch plan.settings k b.schedule h).own.known in
-    let found : AreFound (found_in rest) (joined rest.store first) ts = λ i l.
+    let found : AreFound (found_in rest) (store_rejoined rest.store first) ts = λ i l.
     let below : i < length numbers = omega (arith, long) in
-    subst (λ (t : Transfer). found_in rest (source_of t) ≡ block_of (joined rest.store first) (source_of t)) (sym (transfer_at-setting_of plan.batch numbers i below)) (b.found (get_or numbers i 0) (known i 0 below)) in
+    subst (λ (t : Transfer). found_in rest (source_of t) ≡ block_of (store_rejoined rest.store first) (source_of t)) (sym (transfer_at-setting_of plan.batch numbers i below)) (b.found (get_or numbers i 0) (known i 0 below)) in
     let source_wide : (i : ℕ) → i < length ts → length (found_in rest (source_at ts i)) ≡ rest.store.shape.words = λ i l.
     let below : i < length numbers = omega (arith, long) in
     subst (λ (t : Transfer). length (found_in rest (source_of t)) ≡ rest.store.shape.words) (sym (transfer_at-setting_of plan.batch numbers i below)) (found_wide rest first plan (get_or numbers i 0) b (known i 0 below)) in
@@ -157,7 +157,7 @@ worked rest first bays part plan k a n ms b g h ea en moves =
             ]
           ])
           g.rejoins;
-      moved = hold_the_counts (found_in rest) (joined rest.store first) rest.store bays new a ts (slice_index (words_of ms)) own found filled;
+      moved = hold_the_counts (found_in rest) (store_rejoined rest.store first) rest.store bays new a ts (slice_index (words_of ms)) own found filled;
     }
 
 IsRun-push : (opening s t : Store) (batch : List Transfer) (ss : List (List ℕ)) (numbers steps : List ℕ) → IsRun opening s batch ss t → IsComplete (setting_of batch numbers) t.shape.words steps → IsRun opening s batch (ss ++ numbers ∷ []) (after_steps opening t batch numbers steps).store
@@ -166,8 +166,8 @@ IsRun-push opening s t batch [] numbers steps r done =
 IsRun-push opening s t batch (n ∷ ss) numbers steps r done = (r.0, r.1, IsRun-push opening (after_steps opening s batch n r.0).store t batch ss numbers steps r.2 done)
 
 -- what no transfer of the batch writes stays as it was
-agrees_after : (rest : Left) (first bays new : List BlockAt) (plan : Plan) (k : ℕ) (ms : List (ℕ × ℕ)) → IsPrepared rest first plan → Going rest first bays plan k → k < length plan.settings → Worked rest first bays new plan k ms
-    → AgreesAtSources (joined rest.store first) plan.batch (joined rest.store new)
+agrees_after : (rest : RestView) (first bays new : List BlockAt) (plan : Plan) (k : ℕ) (ms : List (ℕ × ℕ)) → IsPrepared rest first plan → Going rest first bays plan k → k < length plan.settings → Worked rest first bays new plan k ms
+    → AgreesAtSources (store_rejoined rest.store first) plan.batch (store_rejoined rest.store new)
 agrees_after rest first bays new plan k ms b g h w i l none =
     let p = source_at plan.batch i in
     let own = (are_settings plan.batch plan.settings k b.schedule h).own in
@@ -175,12 +175,12 @@ agrees_after rest first bays new plan k ms b g h w i l none =
     ∙ g.agrees i l none
 
 -- one setting more
-pub going_next : (rest : Left) (first bays part : List BlockAt) (plan : Plan) (k a n : ℕ) → IsPrepared rest first plan → Going rest first bays plan k → k < length plan.settings → a ≡ length (concat (take k plan.settings)) → n ≡ length (numbers_of plan k)
+pub going_next : (rest : RestView) (first bays part : List BlockAt) (plan : Plan) (k a n : ℕ) → IsPrepared rest first plan → Going rest first bays plan k → k < length plan.settings → a ≡ length (concat (take k plan.settings)) → n ≡ length (numbers_of plan k)
     → HaveMoved none_sure rest plan.batch (numbers_of plan k) (take n (drop a bays)) part (all_moved (numbers_of plan k) rest.store.shape.words) → Going rest first (take a bays ++ (part ++ drop n (drop a bays))) plan (k + 1)
 going_next rest first bays part plan k a n b g h ea en moves =
     let numbers = numbers_of plan k in
     let ts = setting_of plan.batch numbers in
-    let mid = joined rest.store bays in
+    let mid = store_rejoined rest.store bays in
     let ms = all_moved numbers rest.store.shape.words in
     let new = take a bays ++ (part ++ drop n (drop a bays)) in
     let w = worked rest first bays part plan k a n ms b g h ea en moves in
@@ -188,34 +188,34 @@ going_next rest first bays part plan k a n b g h ea en moves =
     let words : mid.shape.words ≡ rest.store.shape.words = ap (λ (x : Extent). x.words) shape in
     let all = all_at numbers rest.store.shape.words in
     let ready = ready_now rest first bays plan k b g h in
-    let reach = counts_are_reached (joined rest.store first) mid (joined rest.store new) plan.batch numbers (slice_index (words_of ms)) ready (λ i l. omega (arith, all i l)) w.moved in
+    let reach = counts_are_reached (store_rejoined rest.store first) mid (store_rejoined rest.store new) plan.batch numbers (slice_index (words_of ms)) ready (λ i l. omega (arith, all i l)) w.moved in
     let long = length-map numbers (transfer_at plan.batch) in
     let done : IsComplete ts mid.shape.words reach.0 = record { known = reach.1.known; complete = λ i l. omega (arith, reach.2 i (omega arith), all i (omega arith)) } in
     record {
       places = w.places;
       rejoins = w.rejoins;
       agrees = agrees_after rest first bays new plan k ms b g h w;
-      machine = subst (λ (x : List (List ℕ)). IsRun (joined rest.store first) (joined rest.store first) plan.batch x (joined rest.store new)) (sym (take_more plan.settings k [] h))
-          (subst (λ (x : Store). IsRun (joined rest.store first) (joined rest.store first) plan.batch (take k plan.settings ++ numbers ∷ []) x) (sym reach.3) (IsRun-push (joined rest.store first) (joined rest.store first) mid plan.batch (take k plan.settings) numbers reach.0 g.machine done));
+      machine = subst (λ (x : List (List ℕ)). IsRun (store_rejoined rest.store first) (store_rejoined rest.store first) plan.batch x (store_rejoined rest.store new)) (sym (take_more plan.settings k [] h))
+          (subst (λ (x : Store). IsRun (store_rejoined rest.store first) (store_rejoined rest.store first) plan.batch (take k plan.settings ++ numbers ∷ []) x) (sym reach.3) (IsRun-push (store_rejoined rest.store first) (store_rejoined rest.store first) mid plan.batch (take k plan.settings) numbers reach.0 g.machine done));
     }
 
 -- a setting that stops
-pub going_stops : (rest : Left) (first bays part : List BlockAt) (plan : Plan) (k a n : ℕ) (ms : List (ℕ × ℕ)) → IsPrepared rest first plan → Going rest first bays plan k → k < length plan.settings → a ≡ length (concat (take k plan.settings)) → n ≡ length (numbers_of plan k)
+pub going_stops : (rest : RestView) (first bays part : List BlockAt) (plan : Plan) (k a n : ℕ) (ms : List (ℕ × ℕ)) → IsPrepared rest first plan → Going rest first bays plan k → k < length plan.settings → a ≡ length (concat (take k plan.settings)) → n ≡ length (numbers_of plan k)
     → HaveMoved none_sure rest plan.batch (numbers_of plan k) (take n (drop a bays)) part ms
-    → IsStopped (joined rest.store first) plan k ms (joined rest.store (take a bays ++ (part ++ drop n (drop a bays)))) × Rejoins rest.store (take a bays ++ (part ++ drop n (drop a bays)))
+    → HasStoppedIn (store_rejoined rest.store first) plan k ms (store_rejoined rest.store (take a bays ++ (part ++ drop n (drop a bays)))) × Rejoins rest.store (take a bays ++ (part ++ drop n (drop a bays)))
 going_stops rest first bays part plan k a n ms b g h ea en moves =
-    let s = joined rest.store first in
+    let s = store_rejoined rest.store first in
     let numbers = numbers_of plan k in
     let ts = setting_of plan.batch numbers in
-    let mid = joined rest.store bays in
+    let mid = store_rejoined rest.store bays in
     let new = take a bays ++ (part ++ drop n (drop a bays)) in
     let w = worked rest first bays part plan k a n ms b g h ea en moves in
     let words : mid.shape.words ≡ rest.store.shape.words = ap (λ (x : Extent). x.words) (shape-joined rest.store bays) in
     let same : s.shape.words ≡ rest.store.shape.words = ap (λ (x : Extent). x.words) (shape-joined rest.store first) in
     let ready = ready_now rest first bays plan k b g h in
-    let reach = counts_are_reached (joined rest.store first) mid (joined rest.store new) plan.batch numbers (slice_index (words_of ms)) ready (λ i l. omega (arith, few_words rest plan.batch numbers (take n (drop a bays)) part ms i moves)) w.moved in
+    let reach = counts_are_reached (store_rejoined rest.store first) mid (store_rejoined rest.store new) plan.batch numbers (slice_index (words_of ms)) ready (λ i l. omega (arith, few_words rest plan.batch numbers (take n (drop a bays)) part ms i moves)) w.moved in
     let many = HaveMoved-length none_sure rest plan.batch numbers (take n (drop a bays)) part ms moves in
-    let stopped : IsStoppedRun s s plan.batch (take k plan.settings) numbers reach.0 (joined rest.store new) =
+    let stopped : IsStoppedRun s s plan.batch (take k plan.settings) numbers reach.0 (store_rejoined rest.store new) =
     record { before = mid; whole_settings = g.machine; step_list = subst (λ (x : ℕ). IsStepList ts x reach.0) (words ∙ sym same) reach.1; stopped = reach.3 } in
     let upto : IsReady s s plan.batch (concat (take k plan.settings) ++ numbers) =
     record { opening_whole = b.ready.whole; whole = b.ready.whole; same_shape = refl; agrees = b.ready.agrees; places = b.ready.places; apart = b.ready.apart; setting = (are_settings plan.batch plan.settings k b.schedule h).up_to } in (
@@ -226,39 +226,39 @@ going_stops rest first bays part plan k a n ms b g h ea en moves =
         steps = reach.0;
         counted = λ i l. reach.2 i (omega arith);
         machine = stopped;
-        store = stop_is_moved s s (joined rest.store new) plan.batch (take k plan.settings) numbers reach.0 (words_of ms) upto stopped (length-map ms (λ (m : ℕ × ℕ). m.1) ∙ many) (λ i l. sym (reach.2 i l));
+        store = stop_is_moved s s (store_rejoined rest.store new) plan.batch (take k plan.settings) numbers reach.0 (words_of ms) upto stopped (length-map ms (λ (m : ℕ × ℕ). m.1) ∙ many) (λ i l. sym (reach.2 i l));
       },
       w.rejoins,
     )
 
 -- the rack has the modules of the plan's batch
-pub rack_has : (rest : Left) (first : List BlockAt) (plan : Plan) (batch : List Transfer) → IsPrepared rest first plan → batch ≡ plan.batch → HasModulesOf rest.store.shape.modules batch
+pub rack_has : (rest : RestView) (first : List BlockAt) (plan : Plan) (batch : List Transfer) → IsPrepared rest first plan → batch ≡ plan.batch → HasModulesOf rest.store.shape.modules batch
 rack_has rest first plan batch b same =
     subst (HasModulesOf rest.store.shape.modules) (sym same) (has_modules rest.store.shape plan.batch (subst (λ (x : Extent). FitsIn x plan.batch) (shape-joined rest.store first) b.ready.places))
 
 -- switches that are set to pairs which join what those of a setting do are the setting's
-pub setting_switches : (rest : Left) (first : List BlockAt) (plan : Plan) (k : ℕ) (batch : List Transfer) (numbers : List ℕ) (pairs : List Pair) (s : Switches) → IsPrepared rest first plan → batch ≡ plan.batch → numbers ≡ numbers_of plan k
+pub setting_switches : (rest : RestView) (first : List BlockAt) (plan : Plan) (k : ℕ) (batch : List Transfer) (numbers : List ℕ) (pairs : List Pair) (s : Switches) → IsPrepared rest first plan → batch ≡ plan.batch → numbers ≡ numbers_of plan k
     → ((w : Wiring) → rest.store.shape.modules ≤ room_of w → switch_of w pairs ≡ switch_of w (setting_pairs batch numbers)) → AreSwitchesOf rest.store.shape.modules pairs s → AreSettingSwitches rest.store.shape plan k s
 setting_switches rest first plan k batch numbers pairs s b eb en joins is =
-    let modules : (joined rest.store first).shape.modules ≡ rest.store.shape.modules = ap (λ (x : Extent). x.modules) (shape-joined rest.store first) in
+    let modules : (store_rejoined rest.store first).shape.modules ≡ rest.store.shape.modules = ap (λ (x : Extent). x.modules) (shape-joined rest.store first) in
     subst (λ (x : List Transfer). AreSwitchesOf rest.store.shape.modules (setting_pairs x (numbers_of plan k)) s) eb
     (subst (λ (x : List ℕ). AreSwitchesOf rest.store.shape.modules (setting_pairs batch x) s) en
     (same_switches rest.store.shape.modules pairs (setting_pairs batch numbers) s (omega (arith, modules, b.ready.whole.within.few_modules)) joins is))
 
 -- all settings are done
-pub going_completes : (rest : Left) (first bays : List BlockAt) (plan : Plan) (k : ℕ) → IsPrepared rest first plan → Going rest first bays plan k → length plan.settings ≤ k → (words : ℕ) → words ≡ length (concat (take k plan.settings)) * rest.store.shape.words
-    → IsCompleted (joined rest.store first) plan (length plan.settings) words (joined rest.store bays)
+pub going_completes : (rest : RestView) (first bays : List BlockAt) (plan : Plan) (k : ℕ) → IsPrepared rest first plan → Going rest first bays plan k → length plan.settings ≤ k → (words : ℕ) → words ≡ length (concat (take k plan.settings)) * rest.store.shape.words
+    → IsCompleted (store_rejoined rest.store first) plan (length plan.settings) words (store_rejoined rest.store bays)
 going_completes rest first bays plan k b g h words e =
-    let s = joined rest.store first in
+    let s = store_rejoined rest.store first in
     let all = take_all k plan.settings h in
-    let run = subst (λ (x : List (List ℕ)). IsRun s s plan.batch x (joined rest.store bays)) all g.machine in
-    let placed = run_is_placed s s (joined rest.store bays) plan.batch plan.settings b.ready run in
+    let run = subst (λ (x : List (List ℕ)). IsRun s s plan.batch x (store_rejoined rest.store bays)) all g.machine in
+    let placed = run_is_placed s s (store_rejoined rest.store bays) plan.batch plan.settings b.ready run in
     let same : rest.store.shape.words ≡ s.shape.words = sym (ap (λ (x : Extent). x.words) (shape-joined rest.store first)) in
     record {
       all_settings = refl;
       all_moved = e ∙ ap (λ (x : List (List ℕ)). length (concat x) * rest.store.shape.words) all ∙ ap (λ (x : ℕ). x * rest.store.shape.words) (numbers_are_counted plan.batch plan.settings b.schedule) ∙ ap (λ (x : ℕ). length plan.batch * x) same;
       machine = run;
-      placed = whole_batch_is_placed s s (joined rest.store bays) plan.batch (concat plan.settings) b.ready (is_once plan.batch plan.settings b.schedule).every placed;
+      placed = whole_batch_is_placed s s (store_rejoined rest.store bays) plan.batch (concat plan.settings) b.ready (is_once plan.batch plan.settings b.schedule).every placed;
     }
 
 -- where the numbers of the next setting begin

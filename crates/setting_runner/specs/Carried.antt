@@ -7,7 +7,7 @@ use Rattle.batch.specs.declared.transfer.Kind.TheVariants.{Push, Pull}
 use Rattle.batch.specs.declared.transfer.Place.{Place}
 use Rattle.module_memory.specs.declared.address.TheConstants.{HOLD_START, WINDOW_START}
 use Rattle.module_memory.specs.Address.{address_from, address_of}
-use Rattle.module_memory.specs.Lending.{Left, copy_of}
+use Rattle.module_memory.specs.Lending.{RestView, copy_of}
 use Rattle.peek_poke.specs.declared.message.Message.TheVariants.{Peek, Poke}
 use Rattle.peek_poke.specs.Messages.{spell, word_bytes}
 use Rattle.peek_poke.specs.Sending.{IsCut}
@@ -23,7 +23,7 @@ window_for [] = WINDOW_START
 window_for (x ∷ xs) = HOLD_START
 
 -- where the window begins in which a transfer peeks its source
-abbrev pub window_of : Left → Place → ℕ
+abbrev pub window_of : RestView → Place → ℕ
 window_of rest p = window_for (copy_of rest p)
 
 -- or as a peek of its address in the block that is read, in that window, and the bytes of the word

@@ -7,10 +7,11 @@ use Rattle.batch.specs.Places.{HasPlace}
 use Rattle.batch.specs.Overlap.{source_at, destination_at}
 use Rattle.module_memory.specs.Address.{address_from}
 use Rattle.peek_poke.specs.declared.fault.StoreFault.{StoreFault}
-use Rattle.module_memory.specs.Lending.{Left, BlockAt, found_in}
+use Rattle.module_memory.specs.Lending.{RestView, BlockAt, found_in}
 
 -- a transfer of the batch can move its words into a bay
-pub record IsMovable (rest : Left) (batch : List Transfer) (t : ℕ) (bay : BlockAt) : Type 0 where
+pub record IsMovable (rest : RestView) (batch : List Transfer) (t : ℕ)
+    (bay : BlockAt) : Type 0 where
   pub known : t < length batch
   pub source_exists : HasPlace rest.store.shape (source_at batch t)
   pub source_here : length (found_in rest (source_at batch t)) ≡ rest.store.shape.words
@@ -19,7 +20,7 @@ pub record IsMovable (rest : Left) (batch : List Transfer) (t : ℕ) (bay : Bloc
   pub bay_width : length bay.words ≡ rest.store.shape.words
 
 -- each transfer can move its words into its bay
-abbrev pub AreMovable : Left → List Transfer → List ℕ → List BlockAt → Type 0
+abbrev pub AreMovable : RestView → List Transfer → List ℕ → List BlockAt → Type 0
 AreMovable rest batch [] [] = Unit {0}
 AreMovable rest batch (t ∷ numbers) (bay ∷ bays) =
     IsMovable rest batch t bay × AreMovable rest batch numbers bays
@@ -31,14 +32,14 @@ moved_into count words old = take count words ++ drop count old
 
 -- reads of a store give the words that a transfer finds at its source, at the block's addresses in
 -- a window
-abbrev pub ReadsFound : (ℕ → Result ℕ StoreFault) → ℕ → Left → Place → Type 0
+abbrev pub ReadsFound : (ℕ → Result ℕ StoreFault) → ℕ → RestView → Place → Type 0
 ReadsFound reads window rest p =
     (j : ℕ) → j < rest.store.shape.words
     → reads (address_from window rest.store.shape p.block j) ≡ Ok (slice_index (found_in rest p) j)
 
 -- The transfer is named with its words, and its bay begins with as many words of its source. A
 -- transfer whose wire never fails has moved them all.
-pub record HasMoved (sure : ℕ → Type 0) (rest : Left) (batch : List Transfer) (t : ℕ)
+pub record HasMoved (sure : ℕ → Type 0) (rest : RestView) (batch : List Transfer) (t : ℕ)
     (old new : BlockAt) (moved : ℕ × ℕ) : Type 0 where
   pub named : moved.0 ≡ t
   pub at_most : moved.1 ≤ rest.store.shape.words
@@ -47,7 +48,8 @@ pub record HasMoved (sure : ℕ → Type 0) (rest : Left) (batch : List Transfer
   pub all_words : sure t → moved.1 ≡ rest.store.shape.words
 
 -- the same of each transfer, in order
-abbrev pub HaveMoved : (ℕ → Type 0) → Left → List Transfer → List ℕ → List BlockAt → List BlockAt
+abbrev pub HaveMoved : (ℕ → Type 0) → RestView → List Transfer → List ℕ → List BlockAt
+    → List BlockAt
     → List (ℕ × ℕ) → Type 0
 HaveMoved sure rest batch [] [] [] [] = Unit {0}
 HaveMoved sure rest batch (t ∷ numbers) (old ∷ olds) (new ∷ news) (m ∷ moved) =

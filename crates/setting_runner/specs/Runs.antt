@@ -11,7 +11,7 @@ use Rattle.crossbar.specs.Pairs.{AreSwitchesOf}
 use Rattle.module_memory.specs.Store.{Store}
 use Rattle.module_memory.specs.Bays.{AreBaysOf, AreFound, destinations_of}
 use Rattle.module_memory.specs.Core.{FitsIn, IsMoved, IsPlaced, IsReady, setting_of, times}
-use Rattle.module_memory.specs.Lending.{BlockAt, Left, Rejoins, found_in, joined}
+use Rattle.module_memory.specs.Lending.{BlockAt, RestView, Rejoins, found_in, store_rejoined}
 use Rattle.link_graph.specs.Schedules.{IsScheduleOf}
 use Rattle.module_memory.specs.Settings.{IsRun, IsStoppedRun, all_words}
 use Rattle.schedule_certificate.specs.Plans.{Plan}
@@ -52,14 +52,15 @@ abbrev pub plan_destinations : Plan → List Place
 plan_destinations plan = destinations_of plan.batch (concat plan.settings)
 
 -- the bays of all settings are lent, setting by setting, from a rack that is ready for the plan
-pub record IsPrepared (rest : Left) (bays : List BlockAt) (plan : Plan) : Type 0 where
+pub record IsPrepared (rest : RestView) (bays : List BlockAt) (plan : Plan) : Type 0 where
   pub schedule : IsScheduleOf plan.batch plan.settings
   pub ready :
-      IsReady (joined rest.store bays) (joined rest.store bays) plan.batch (concat plan.settings)
+      IsReady (store_rejoined rest.store bays) (store_rejoined rest.store bays) plan.batch
+      (concat plan.settings)
   pub settings : (k : ℕ) → k < length plan.settings → HasOwnBays rest.store bays plan k
   pub rejoins : Rejoins rest.store bays
   -- transfers find what their sources have before the first setting
-  pub found : AreFound (found_in rest) (joined rest.store bays) plan.batch
+  pub found : AreFound (found_in rest) (store_rejoined rest.store bays) plan.batch
 
 -- ---- the memories
 
@@ -74,9 +75,9 @@ pub record IsCompleted (old : Store) (plan : Plan) (settings words : ℕ) (new :
 abbrev pub up_to : Plan → ℕ → List Transfer
 up_to plan k = setting_of plan.batch (concat (take k plan.settings) ++ numbers_of plan k)
 
--- The settings before one were run, and of that one each transfer has moved so many words: the
--- machine has made these steps, and the store is that of the counts.
-pub record IsStopped (old : Store) (plan : Plan) (setting : ℕ) (moved : List (ℕ × ℕ))
+-- The run has stopped in this setting. The settings before it were run, and each transfer of it has
+-- moved so many words. The machine has made these steps, and the store is that of the counts.
+pub record HasStoppedIn (old : Store) (plan : Plan) (setting : ℕ) (moved : List (ℕ × ℕ))
     (new : Store) : Type 0 where
   pub within : setting < length plan.settings
   pub named : names_of moved ≡ numbers_of plan setting
@@ -93,7 +94,7 @@ pub record IsStopped (old : Store) (plan : Plan) (setting : ℕ) (moved : List (
 abbrev pub LeavesMemories : Store → Plan → Outcome → Store → Type 0
 LeavesMemories old plan (Completed settings words) new = IsCompleted old plan settings words new
 LeavesMemories old plan (Refused refusal) new = new ≡ old
-LeavesMemories old plan (Stopped setting cause moved) new = IsStopped old plan setting moved new
+LeavesMemories old plan (Stopped setting cause moved) new = HasStoppedIn old plan setting moved new
 
 -- ---- the causes
 
@@ -110,8 +111,8 @@ IsShortfall words moved (Wire transfer) = IsLeastShort words transfer moved
 IsShortfall words moved Port = ⊥
 IsShortfall words moved (SwitchDisagrees output) = ⊥
 
--- what the causes of a run are judged by
-pub record Given : Type 1 where
+-- what is known of a run beside its outcome: whether a cause is the right one is judged by this
+pub record RunConditions : Type 1 where
   -- the transfers whose wires never fail
   pub sure : ℕ → Type 0
   -- the shape of the rack
@@ -123,31 +124,31 @@ pub record Given : Type 1 where
   pub honest : Bool
 
 -- the port failed, and no word has moved
-pub record IsPortCause (given : Given) (moved : List (ℕ × ℕ)) : Type 0 where
+pub record IsPortCause (given : RunConditions) (moved : List (ℕ × ℕ)) : Type 0 where
   pub failed : given.before < given.after
   pub unmoved : All (λ m. m.1 ≡ 0) moved
 
 -- an output disagreed, at a port that isn't honest and hasn't failed, and no word has moved
-pub record IsSwitchCause (given : Given) (output : ℕ) (moved : List (ℕ × ℕ)) : Type 0 where
+pub record IsSwitchCause (given : RunConditions) (output : ℕ) (moved : List (ℕ × ℕ)) : Type 0 where
   pub dishonest : given.honest ≡ false
   pub known : HasOutput given.shape.modules output
   pub unmoved : All (λ m. m.1 ≡ 0) moved
   pub unfailed : given.after ≡ given.before
 
 -- a wire failed: every transfer whose wire never fails has moved all words
-pub record IsWireCause (given : Given) (transfer : ℕ) (moved : List (ℕ × ℕ)) : Type 0 where
+pub record IsWireCause (given : RunConditions) (transfer : ℕ) (moved : List (ℕ × ℕ)) : Type 0 where
   pub least : IsLeastShort given.shape.words transfer moved
   pub others : All (λ m. given.sure m.0 → m.1 ≡ given.shape.words) moved
   pub unfailed : given.after ≡ given.before
 
 -- why a setting stops: the port has failed just where it is the cause
-abbrev pub IsStopCause : Given → StopCause → List (ℕ × ℕ) → Type 0
+abbrev pub IsStopCause : RunConditions → StopCause → List (ℕ × ℕ) → Type 0
 IsStopCause given Port moved = IsPortCause given moved
 IsStopCause given (SwitchDisagrees output) moved = IsSwitchCause given output moved
 IsStopCause given (Wire transfer) moved = IsWireCause given transfer moved
 
 -- a run that stopped has a cause, and the port has failed in no other
-abbrev pub HasCause : Given → Outcome → Type 0
+abbrev pub HasCause : RunConditions → Outcome → Type 0
 HasCause given (Stopped setting cause moved) = IsStopCause given cause moved
 HasCause given (Completed settings words) = given.after ≡ given.before
 HasCause given (Refused refusal) = given.after ≡ given.before

@@ -3,7 +3,7 @@
 ghost use Rattle.std.specs.Prelude.{◌≡◌, ◌↔◌, ◌≤◌, ◌<◌, ℕ, AllPairs, Some, length, MatchResult, OnOk, IfErr};
 ghost use Rattle.batch.specs.Overlap.{IsApart, IsFirstOverlap};
 ghost use Rattle.crossbar.specs.Pairs.{ArePairs};
-ghost use Rattle.module_memory.specs.Lending.{joined, Rejoins};
+ghost use Rattle.module_memory.specs.Lending.{store_rejoined, Rejoins};
 ghost use Rattle.setting_runner.specs.declared.outcome.RunRefusal.TheVariants.{Overlap, Shape, NoMemory};
 ghost use Rattle.setting_runner.specs.declared.outcome.Outcome.TheVariants.{Refused};
 ghost use Rattle.setting_runner.specs.declared.outcome.StopCause.TheVariants.{Wire};
@@ -27,8 +27,8 @@ use schedule_certificate::Planned;
 use std::alloc::Global;
 use switch_settings::PairList;
 
-/// Runs a plan on a rack, as [`run`](crate::run) does with one worker, and starts no thread: the plant's workers
-/// and its gate take no part.
+/// Runs a plan on a rack, as [`run`](crate::run) does with one worker, and starts no thread: the
+/// plant's workers and its gate take no part.
 pub fn run_alone<P: ConfigPort, W: WireMaker, G, N: Notice>(
     alloc: Global,
     rack: Rack,
@@ -73,7 +73,7 @@ fn run_settings_alone<P: ConfigPort, W: WireMaker, G, N: Notice>(
 
     ensures rejoins { Rejoins rest.now.store bays.new }
     ensures memories { LeavesMemories
-        (joined rest.now.store bays.old) planned.now result (joined rest.now.store bays.new) }
+        (store_rejoined rest.now.store bays.old) planned.now result (store_rejoined rest.now.store bays.new) }
     ensures plant { LeavesPlant P.ConfigPort W.is_sure rest.now.store.shape (Some planned.now)
         result plant.old plant.new }
     ensures told { TellsOutcome N.hears notice.old result notice.new }
@@ -111,8 +111,8 @@ fn run_settings_alone<P: ConfigPort, W: WireMaker, G, N: Notice>(
     }
 }
 
-/// Sets the switches to the pairs of a setting, asks them whether they stand so, and moves the words of the
-/// transfers into their bays.
+/// Sets the switches to the pairs of a setting, asks them whether they stand so, and moves the
+/// words of the transfers into their bays.
 fn run_setting_alone<P: ConfigPort, W: WireMaker, G>(
     plant: &mut Plant<P, W, G>,
     setting: &Setting<'_>,

@@ -12,11 +12,11 @@ const BYTE_BITS: u64 = 13;
 /// The most words that a run can move.
 const MAX_MOVED: u64 = (MAX_TRANSFERS * MAX_WORDS) as u64;
 
-/// How many bits go over the lines, both ways, where so many words are moved, at most as many as a run can
-/// move, 1,048,576: 117 for each word.
+/// How many bits go over the lines, both ways, where so many words are moved, at most as many as a
+/// run can move, 1,048,576: 117 for each word.
 ///
-/// A word takes the nine bytes of a poke, or the five of a peek and the four of its reply. A byte takes eleven
-/// bits, and two for its acknowledge (INMOS IMS T414 data sheet, link protocol).
+/// A word takes the nine bytes of a poke, or the five of a peek and the four of its reply. A byte
+/// takes eleven bits, and two for its acknowledge (INMOS IMS T414 data sheet, link protocol).
 pub fn line_bits(words: u64) -> u64
     requires { words ≤ MAX_MOVED }
     ensures { result ≡ bits_of words }

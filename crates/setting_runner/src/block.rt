@@ -49,7 +49,8 @@ fn address_in(window: u32, shape: Shape, block: usize, word: usize) -> u32
     window + WORD_BYTES * number as u32
 }
 
-/// The words that a transfer finds at its source: those of the copy where the block is held, else the block's.
+/// The words that a transfer finds at its source: those of the copy where the block is held, else
+/// the block's.
 fn found_words(rest: &Rest, source: Place) -> &[u32]
     requires { HasPlace rest.now.store.shape source }
     ensures { result.now ≡ found_in rest.now source }
@@ -93,8 +94,8 @@ fn push_block<W: Wire>(wire: &mut W, rest: &Rest, source: Place, bay: &mut Bay) 
     shape.words()
 }
 
-/// Peeks the words of a block and sets them in a bay until the wire fails, and says how many have moved. A held
-/// block is peeked in the hold window.
+/// Peeks the words of a block and sets them in a bay until the wire fails, and says how many have
+/// moved. A held block is peeked in the hold window.
 fn pull_block<W: Wire>(wire: &mut W, rest: &Rest, source: Place, bay: &mut Bay) -> usize
     requires source_exists { HasPlace rest.now.store.shape source }
     requires source_here { length (found_in rest.now source) ≡ rest.now.store.shape.words }
@@ -119,8 +120,8 @@ fn pull_block<W: Wire>(wire: &mut W, rest: &Rest, source: Place, bay: &mut Bay) 
     pull_words(wire, &mut store, WINDOW_START, rest, source, bay)
 }
 
-/// Peeks the words of a block from a store, in a window that begins at an address, and sets them in a bay until the
-/// wire fails, and says how many have moved.
+/// Peeks the words of a block from a store, in a window that begins at an address, and sets them in
+/// a bay until the wire fails, and says how many have moved.
 fn pull_words<W: Wire, S: WordStore>(
     wire: &mut W,
     store: &mut S,

@@ -1,5 +1,5 @@
-//! A run of a planned batch: the switches are set, setting by setting, and the blocks are moved over the
-//! links.
+//! A run of a planned batch: the switches are set, setting by setting, and the blocks are moved
+//! over the links.
 #![tactic(auto)]
 
 mod alone;

@@ -9,9 +9,9 @@ use std::marker::Model;
 use std::slice;
 use switch_settings::ShortList;
 
-/// The transfers of a setting by ascending number, at most one of each module, each with the number of words
-/// that it has moved, from none to those of a block. Contracts see the list. It has 136 bytes, since a reply may
-/// be one of these.
+/// The transfers of a setting by ascending number, at most one of each module, each with the number
+/// of words that it has moved, from none to those of a block. Contracts see the list. It has 136
+/// bytes, since a reply may be one of these.
 #[derive(Clone, Copy, Debug)]
 pub struct Moved {
     entries: ShortList<(u16, u16)>,
@@ -52,8 +52,8 @@ impl Moved {
         self.as_slice().is_empty()
     }
 
-    /// The transfer at a position, and how many words it has moved. Nothing where the position isn't below the
-    /// number of transfers.
+    /// The transfer at a position, and how many words it has moved. Nothing where the position
+    /// isn't below the number of transfers.
     pub fn get(&self, i: usize) -> Option<(u16, u16)>
         ensures { result ≡ slice_get self.now i }
     {

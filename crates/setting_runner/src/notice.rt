@@ -7,8 +7,8 @@ pub trait Notice {
     /// What becomes of the notice where it is told a number of settings.
     ghost hears: { Self → ℕ → Self → Type 0 };
 
-    /// So many settings of the run are done: 0 before the first of them begins, and then one more each time,
-    /// up to all settings of the plan.
+    /// So many settings of the run are done: 0 before the first of them begins, and then one more
+    /// each time, up to all settings of the plan.
     fn done(&mut self, settings: usize)
         requires { settings ≤ MAX_TRANSFERS }
         ensures { hears self.old settings self.new };

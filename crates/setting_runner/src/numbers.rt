@@ -8,8 +8,8 @@ use batch::MAX_MODULES;
 use schedule_certificate::Planned;
 use switch_settings::numbers_of_setting;
 
-/// The numbers of the transfers of a plan's setting, ascending. The setting has to be below the number of the plan's
-/// settings.
+/// The numbers of the transfers of a plan's setting, ascending. The setting has to be below the
+/// number of the plan's settings.
 pub fn setting_numbers(planned: &Planned, setting: usize) -> &[usize]
     requires { setting < length planned.now.settings }
     ensures numbers { result.now ≡ numbers_of planned.now setting }

@@ -2,7 +2,7 @@
 
 ghost use Rattle.std.specs.Prelude.{◌≡◌, ◌↔◌, ℕ, Some, IfOk, IfErr};
 ghost use Rattle.batch.specs.Overlap.{IsApart, IsFirstOverlap};
-ghost use Rattle.module_memory.specs.Lending.{joined, Rejoins};
+ghost use Rattle.module_memory.specs.Lending.{store_rejoined, Rejoins};
 ghost use Rattle.setting_runner.specs.declared.outcome.RunRefusal.TheVariants.{Overlap, Shape, NoMemory};
 ghost use Rattle.setting_runner.specs.declared.outcome.Outcome.TheVariants.{Refused};
 ghost use Rattle.setting_runner.specs.Refusals.{IsRefusal};
@@ -25,26 +25,27 @@ use switch_settings::PairList;
 
 /// Runs a plan on a rack, and gives the rack back.
 ///
-/// First the plan is tested, and all memory is taken: lists of the blocks that are written and of those that the batch
-/// both reads and writes, and copies of the latter. Their transfers move the words that they had then; no other
-/// block is copied.
+/// First the plan is tested, and all memory is taken: lists of the blocks that are written and of
+/// those that the batch both reads and writes, and copies of the latter. Their transfers move the
+/// words that they had then; no other block is copied.
 ///
-/// Then, setting by setting, the switches are set, whatever they were for the first setting and from the setting
-/// before for each later one. A rack of at most 16 modules has one switch, and a wider one has two. All their outputs
-/// are asked whether they stand so, and the words of the setting's transfers are moved over their wires, by as many
-/// workers as the plant may have. The notice is told 0 before the first setting, and after each setting
-/// how many are done.
+/// Then, setting by setting, the switches are set, whatever they were for the first setting and
+/// from the setting before for each later one. A rack of at most 16 modules has one switch, and a
+/// wider one has two. All their outputs are asked whether they stand so, and the words of the
+/// setting's transfers are moved over their wires, by as many workers as the plant may have. The
+/// notice is told 0 before the first setting, and after each setting how many are done.
 ///
-/// A run is refused where two transfers write one block, where the rack hasn't a block that a transfer names, and
-/// where there is no memory, tested in this order: then the rack is as it was, and neither the port nor the
-/// notice was called. A port that fails, a switch that doesn't stand as set and a wire that fails stop the
-/// run. A wire that fails lets the other transfers of its setting go on. After a run the switches stay as they
-/// were set last.
+/// A run is refused where two transfers write one block, where the rack hasn't a block that a
+/// transfer names, and where there is no memory, tested in this order: then the rack is as it was,
+/// and neither the port nor the notice was called. A port that fails, a switch that doesn't stand
+/// as set and a wire that fails stop the run. A wire that fails lets the other transfers of its
+/// setting go on. After a run the switches stay as they were set last.
 ///
-/// Where a thread can't be had, the worker that wanted it does the work itself. After the notice has been told
-/// 0 the run takes no memory, a thread's start apart. Takes time that grows with the words moved, with the number of
-/// transfers and with that of the blocks; only where two transfers write one block may the search for the first such
-/// pair take time that grows with the square of the number of transfers.
+/// Where a thread can't be had, the worker that wanted it does the work itself. After the notice
+/// has been told 0 the run takes no memory, a thread's start apart. Takes time that grows with the
+/// words moved, with the number of transfers and with that of the blocks; only where two transfers
+/// write one block may the search for the first such pair take time that grows with the square of
+/// the number of transfers.
 pub fn run<R: Threads + Sync, P: ConfigPort, W: WireMaker + Sync, G: Gate + Sync, N: Notice>(
     rt: &R,
     alloc: Global,
@@ -78,8 +79,8 @@ pub fn run<R: Threads + Sync, P: ConfigPort, W: WireMaker + Sync, G: Gate + Sync
     }
 }
 
-/// Tests a plan, and parts the rack for it: all memory of the run is taken here. Where the run is refused the rack
-/// comes back as it was.
+/// Tests a plan, and parts the rack for it: all memory of the run is taken here. Where the run is
+/// refused the rack comes back as it was.
 pub(crate) fn prepare(
     alloc: Global,
     rack: Rack,
@@ -87,7 +88,7 @@ pub(crate) fn prepare(
 ) -> Result<Parted, (Rack, RunRefusal)>
     ensures prepared { IfOk result
         (λ parted. IsPrepared parted.rest parted.bays.items planned.now) }
-    ensures store { IfOk result (λ parted. joined parted.rest.store parted.bays.items ≡ rack) }
+    ensures store { IfOk result (λ parted. store_rejoined parted.rest.store parted.bays.items ≡ rack) }
     ensures shape { IfOk result (λ parted. parted.rest.store.shape ≡ rack.shape) }
     ensures free { IfOk result (λ _. CanMove rack.shape planned.now.batch) }
     ensures unchanged { IfErr result (λ refused. refused.0 ≡ rack) }
@@ -109,7 +110,8 @@ pub(crate) fn prepare(
     };
     match rack.part(places.as_slice(), held.as_slice()) {
         Ok(parted) => Ok(parted),
-        // The blocks that transfers write can be lent where no two overlap: only memory can be wanting.
+        // The blocks that transfers write can be lent where no two overlap: only memory can be
+        // wanting.
         Err((rack, _fault)) => Err((rack, RunRefusal::NoMemory)),
     }
 }
@@ -127,7 +129,7 @@ fn run_settings<R: Threads + Sync, P: ConfigPort, W: WireMaker + Sync, G: Gate +
 
     ensures rejoins { Rejoins rest.now.store bays.new }
     ensures memories { LeavesMemories
-        (joined rest.now.store bays.old) planned.now result (joined rest.now.store bays.new) }
+        (store_rejoined rest.now.store bays.old) planned.now result (store_rejoined rest.now.store bays.new) }
     ensures plant { LeavesPlant P.ConfigPort W.is_sure rest.now.store.shape (Some planned.now)
         result plant.old plant.new }
     ensures told { TellsOutcome N.hears notice.old result notice.new }

@@ -17,7 +17,7 @@ use module_memory::{Bay, Rest};
 use peek_poke::WireMaker;
 use schedule_certificate::{Gate, Workers};
 use std::thread::Threads;
-use switch_settings::{PairList, set_switches};
+use switch_settings::{PairList, configure_switches};
 
 /// Why a setting stopped, and how many words its transfers have moved.
 #[derive(Clone, Copy, Debug)]
@@ -26,8 +26,8 @@ pub struct Stop {
     pub moved: Moved,
 }
 
-/// A setting of a batch: the numbers of its transfers, their pairs, and the pairs that stand on the switches
-/// before it, which are known but for the first setting of a run.
+/// A setting of a batch: the numbers of its transfers, their pairs, and the pairs that stand on the
+/// switches before it, which are known but for the first setting of a run.
 #[derive(Clone, Copy)]
 pub struct Setting<'a> {
     pub batch: &'a Batch,
@@ -36,8 +36,8 @@ pub struct Setting<'a> {
     pub standing: Option<PairList>,
 }
 
-/// Sets the switches to the pairs of a setting, asks them whether they stand so, and moves the words of the
-/// transfers into their bays.
+/// Sets the switches to the pairs of a setting, asks them whether they stand so, and moves the
+/// words of the transfers into their bays.
 pub fn run_setting<R: Threads + Sync, P: ConfigPort, W: WireMaker + Sync, G: Gate + Sync>(
     rt: &R,
     plant: &mut Plant<P, W, G>,
@@ -87,8 +87,8 @@ pub fn run_setting<R: Threads + Sync, P: ConfigPort, W: WireMaker + Sync, G: Gat
     end_setting(moved, rest.shape().words())
 }
 
-/// Begins a setting: sets the switches to its pairs, and asks them whether they stand so. Where they
-/// don't, no word has moved.
+/// Begins a setting: sets the switches to its pairs, and asks them whether they stand so. Where
+/// they don't, no word has moved.
 pub(crate) fn begin_setting<P: ConfigPort, W: WireMaker, G>(
     plant: &mut Plant<P, W, G>,
     setting: &Setting<'_>,
@@ -117,7 +117,12 @@ pub(crate) fn begin_setting<P: ConfigPort, W: WireMaker, G>(
     ensures honesty { P.honest plant.new.port ≡ P.honest plant.old.port }
 {
     let pairs = setting.pairs.as_slice();
-    if let Err(fault) = set_switches(&mut plant.port, shape.modules(), &setting.standing, pairs) {
+    if let Err(fault) = configure_switches(
+        &mut plant.port,
+        shape.modules(),
+        &setting.standing,
+        pairs,
+    ) {
         return Err(Stop {
             cause: fault.into(),
             moved: none_moved(setting.batch, setting.numbers),
@@ -126,8 +131,8 @@ pub(crate) fn begin_setting<P: ConfigPort, W: WireMaker, G>(
     Ok(())
 }
 
-/// Ends a setting whose transfers have moved so many words: where one hasn't moved as many as a block
-/// has, the least of these stops it.
+/// Ends a setting whose transfers have moved so many words: where one hasn't moved as many as a
+/// block has, the least of these stops it.
 pub(crate) fn end_setting(moved: Moved, words: usize) -> Result<(), Stop>
     requires { AllPairs (λ t u. t < u) (names_of moved) }
     ensures whole { OnOk result (AllWhole words moved) }

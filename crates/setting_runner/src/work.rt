@@ -1,5 +1,5 @@
-//! The transfers of a setting are moved by workers, each of which has its bays alone, while all share the
-//! rest of the rack.
+//! The transfers of a setting are moved by workers, each of which has its bays alone, while all
+//! share the rest of the rack.
 
 ghost use Rattle.std.specs.Prelude.{◌≤◌, ◌<◌, length};
 ghost use Rattle.std.specs.Thread.{IsSync};
@@ -14,8 +14,8 @@ use schedule_certificate::{Gate, Workers};
 use std::thread::{Threads, join_mut};
 use switch_settings::transfer_of;
 
-/// What the workers of a setting share: the gate at which they arrive, the maker of their wires, the rest of
-/// the rack, and the batch.
+/// What the workers of a setting share: the gate at which they arrive, the maker of their wires,
+/// the rest of the rack, and the batch.
 #[derive(Clone, Copy)]
 pub struct Work<'a, W, G> {
     pub gate: &'a G,
@@ -24,9 +24,9 @@ pub struct Work<'a, W, G> {
     pub batch: &'a Batch,
 }
 
-/// Moves the words of transfers into their bays, by some workers: they and the bays are split in two until a
-/// part has one worker or one bay. Each part arrives at the gate with the least of its numbers before it does
-/// anything else.
+/// Moves the words of transfers into their bays, by some workers: they and the bays are split in
+/// two until a part has one worker or one bay. Each part arrives at the gate with the least of its
+/// numbers before it does anything else.
 pub fn move_all<R: Threads + Sync, W: WireMaker + Sync, G: Gate + Sync>(
     rt: &R,
     work: &Work<'_, W, G>,

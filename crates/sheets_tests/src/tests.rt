@@ -1,4 +1,5 @@
-//! A module for each crate that is tested here, how values are printed, and racks that the tests share.
+//! A module for each crate that is tested here, how values are printed, and racks that the tests
+//! share.
 
 mod byte_streams_rows;
 mod c004_commands_rows;

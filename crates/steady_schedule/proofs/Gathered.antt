@@ -93,8 +93,8 @@ read_into batch totals slots settings n number x lists low so_far here is = reco
 }
 
 -- a number that is read is below that of the settings
-pub low_number : (totals slots : List ℕ) (settings a b left number : ℕ) → AreSlotsBelow totals slots settings → a < MAX_MODULES → b < MAX_MODULES → 0 < left → left ≤ count_at totals a b → number ≡ slot totals slots a b (left - 1) → number < settings
-low_number totals slots settings a b left number below a_in b_in some few is = omega (arith, is, below a b (left - 1) a_in b_in (omega (arith, some, few)))
+pub low_number : (totals slots : List ℕ) (settings a b remaining number : ℕ) → AreSlotsBelow totals slots settings → a < MAX_MODULES → b < MAX_MODULES → 0 < remaining → remaining ≤ count_at totals a b → number ≡ slot totals slots a b (remaining - 1) → number < settings
+low_number totals slots settings a b remaining number below a_in b_in some few is = omega (arith, is, below a b (remaining - 1) a_in b_in (omega (arith, some, few)))
 
 -- ---- empty lists
 

@@ -1,6 +1,6 @@
--- A full link whose search is in vain: there is no such link. All links near it are seen, and each of these is the partner of
--- a full link all of whose links are seen. So these full links, one more than the links that are seen, have more transfers than
--- the links that are seen may have.
+-- A full link whose search is in vain: there is no such link. All links near it are seen, and each
+-- of these is the partner of a full link all of whose links are seen. So these full links, one more
+-- than the links that are seen, have more transfers than the links that are seen may have.
 use Rattle.std.proofs.Common.{◌≡◌, ◌≢◌, ℕ, ◌<◌, ◌≤◌, List, get_or, Bool, true, false, not, cond, Option, Some, None, refl, sym, ap, ◌∙◌, inl, inr, arith}
 use Rattle.std.proofs.lemmas.Bool.{cases_Bool, cases_lt, lt-ltb}
 use Rattle.std.proofs.lemmas.Option.{none-some, same_Some}

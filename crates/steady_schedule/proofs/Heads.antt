@@ -1,4 +1,5 @@
--- The changes of a schedule are at most the heads of its steps, and these at most the pairs and links in use.
+-- The changes of a schedule are at most the heads of its steps, and these at most the pairs and
+-- links in use.
 use Rattle.std.proofs.Common.{◌≡◌, ◌==◌, ℕ, zero, suc, ◌+◌, ◌-◌, ◌<◌, ◌≤◌, ◌⊎◌, List, [], ◌∷◌, length, get_or, slice_get, Bool, true, false, ◌&&◌, ◌||◌, Some, refl, sym, ap, ◌∙◌, subst, inl, inr, eq-eqb, arith}
 use Rattle.std.specs.Prelude.{Contains, count_by, nat_lt}
 use Rattle.std.specs.List.{list_any}
@@ -17,12 +18,12 @@ use Rattle.link_graph.specs.Marks.{members}
 use Rattle.link_graph.specs.Schedules.{times}
 use Rattle.link_graph.proofs.Once.{stands_from_count}
 use Rattle.steady_schedule.specs.Bounds.{link_of, in_use, most_changes}
-use Rattle.steady_schedule.specs.Changes.{join, join_within, join_same, changes_after, changes}
+use Rattle.steady_schedule.specs.Changes.{are_partners, join_within, join_same, changes_after, changes}
 use Rattle.steady_schedule.specs.Gathered.{AreGathered}
 use Rattle.steady_schedule.specs.Partners.{joins_to, partners}
 use Rattle.steady_schedule.specs.Potentials.{has_any_at, has_any, low_at, potential}
 use Rattle.steady_schedule.specs.Slots.{JoinsAs, HaveHeads}
-use Rattle.steady_schedule.specs.Waiting.{sum_below, count_at, waiting, AreCounted}
+use Rattle.steady_schedule.specs.Waiting.{sum_below, count_at, waiting, ArePairCounts}
 use Rattle.steady_schedule.proofs.Joined.{within_from}
 use Rattle.steady_schedule.proofs.NeedChanges.{bit, count_within, count_none, count_one}
 use Rattle.steady_schedule.proofs.Sums.{sum_most}
@@ -75,12 +76,12 @@ module _ (batch : List Transfer) (numbers : List ℕ) (settings : List (List ℕ
   abbrev setting_at : ℕ → List Transfer
   setting_at d = members batch (get_or settings d [])
 
-  pub joins_in : (d u v : ℕ) → JoinsAs batch numbers d u v → join (setting_at d) u v ≡ true
+  pub joins_in : (d u v : ℕ) → JoinsAs batch numbers d u v → are_partners (setting_at d) u v ≡ true
   joins_in d u v j =
       let stands = subst (λ (k : ℕ). Contains (get_or settings k []) j.t) j.number (stands_at j.t (slice_get_within batch j.t j.x j.here)) in
       member_any batch (get_or settings d []) (λ y. y.initiator == u && y.responder == v) j.t j.x stands j.here (and_from (j.x.initiator == u) (j.x.responder == v) (eq-eqb j.x.initiator u j.zero_is) (eq-eqb j.x.responder v j.three_is))
 
-  pub joins_out : (d u v : ℕ) → join (setting_at d) u v ≡ true → JoinsAs batch numbers d u v
+  pub joins_out : (d u v : ℕ) → are_partners (setting_at d) u v ≡ true → JoinsAs batch numbers d u v
   joins_out d u v any =
       let m = any_member batch (get_or settings d []) (λ y. y.initiator == u && y.responder == v) any in
       let both = and_parts (m.1.initiator == u) (m.1.responder == v) m.4 in
@@ -160,7 +161,7 @@ counted_any p (x ∷ xs) some = elim (cases_Bool (p x)) [
   | inr none ↦ or_right (p x) (list_any p xs) (counted_any p xs (omega (arith, some, ap bit none, sum_by-cons (λ y. bit (p y)) x xs)))
 ]
 
-module _ (batch : List Transfer) (totals : List ℕ) (most : ℕ) (fits : IsBatch batch) (c : AreCounted batch totals) where
+module _ (batch : List Transfer) (totals : List ℕ) (most : ℕ) (fits : IsBatch batch) (c : ArePairCounts batch totals) where
   pair_used : (u v : ℕ) → u < MAX_MODULES → v < MAX_MODULES → has_any_at totals u v ≤ bit (list_any (joins_to (link_of Zero u) v) batch)
   pair_used u v u_in v_in = elim (cases_lt 0 (count_at totals u v)) [
     | inr none ↦ rw (le-ltb 0 (count_at totals u v) none) (omega arith)

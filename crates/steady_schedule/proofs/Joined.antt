@@ -20,8 +20,8 @@ use Rattle.link_graph.specs.Uses.{IsMatching, start_link}
 use Rattle.link_graph.specs.Counts.{uses}
 use Rattle.link_graph.proofs.Sharing.{some_more, shared_from_count, shared_no_matching}
 use Rattle.link_graph.proofs.Users.{made, uses_push, use_yes}
-use Rattle.steady_schedule.specs.Changes.{join, join_within, join_same, changes_after, changes}
-use Rattle.steady_schedule.specs.Joined.{AreJoined}
+use Rattle.steady_schedule.specs.Changes.{are_partners, join_within, join_same, changes_after, changes}
+use Rattle.steady_schedule.specs.Joined.{HaveResponders}
 use Rattle.steady_schedule.proofs.NeedChanges.{meets, meets_within, partners_few}
 use Rattle.steady_schedule.proofs.PartnerMasks.{any_push, count_some}
 
@@ -32,37 +32,37 @@ none_there zero u = refl
 none_there (suc n) zero = refl
 none_there (suc n) (suc u) = none_there n u
 
-pub none_joined : AreJoined [] (replicate MAX_MODULES None)
+pub none_joined : HaveResponders [] (replicate MAX_MODULES None)
 none_joined = record {
   sized = length-replicate {A = Option ℕ} MAX_MODULES None;
   just = λ u v. (λ e. absurd (none-some v (sym (none_there MAX_MODULES u) ∙ e)), λ t. absurd (false≢true t));
 }
 
-module _ (xs : List Transfer) (x : Transfer) (joined : List (Option ℕ)) (a b : ℕ) (so_far : AreJoined xs joined) (start : a ≡ x.initiator) (answer : b ≡ x.responder) (low : a < MAX_MODULES) (fresh : (v : ℕ) → join xs a v ≡ false) where
+module _ (xs : List Transfer) (x : Transfer) (joined : List (Option ℕ)) (a b : ℕ) (so_far : HaveResponders xs joined) (start : a ≡ x.initiator) (answer : b ≡ x.responder) (low : a < MAX_MODULES) (fresh : (v : ℕ) → are_partners xs a v ≡ false) where
   abbrev now : List (Option ℕ)
   now = set joined a (Some b)
 
-  pushed : (u v : ℕ) → join (xs ++ x ∷ []) u v ≡ (join xs u v || (x.initiator == u && x.responder == v))
+  pushed : (u v : ℕ) → are_partners (xs ++ x ∷ []) u v ≡ (are_partners xs u v || (x.initiator == u && x.responder == v))
   pushed u v = any_push (λ (y : Transfer). y.initiator == u && y.responder == v) xs x
 
-  at_place : (v : ℕ) → get_or now a None ≡ Some v → join (xs ++ x ∷ []) a v ≡ true
+  at_place : (v : ℕ) → get_or now a None ≡ Some v → are_partners (xs ++ x ∷ []) a v ≡ true
   at_place v e =
       let same : b ≡ v = same_Some b v (sym (get_or-set_same joined a (Some b) None (omega (arith, so_far.sized))) ∙ e) in
       rw (pushed a v, fresh v) (and_from (x.initiator == a) (x.responder == v) (eq-eqb x.initiator a (sym start)) (eq-eqb x.responder v (omega arith)))
 
-  from_place : (v : ℕ) → join (xs ++ x ∷ []) a v ≡ true → get_or now a None ≡ Some v
+  from_place : (v : ℕ) → are_partners (xs ++ x ∷ []) a v ≡ true → get_or now a None ≡ Some v
   from_place v t =
       let both = and_parts (x.initiator == a) (x.responder == v) (rw (pushed a v, fresh v) at t) in
       get_or-set_same joined a (Some b) None (omega (arith, so_far.sized)) ∙ ap (λ (n : ℕ). Some n) (answer ∙ eqb-true x.responder v both.1)
 
-  elsewhere : (u v : ℕ) → a ≢ u → join (xs ++ x ∷ []) u v ≡ join xs u v
+  elsewhere : (u v : ℕ) → a ≢ u → are_partners (xs ++ x ∷ []) u v ≡ are_partners xs u v
   elsewhere u v ne = grind (arith, nat_tests, pushed u v)
 
-  pub joined_more : AreJoined (xs ++ x ∷ []) now
+  pub joined_more : HaveResponders (xs ++ x ∷ []) now
   joined_more = record {
     sized = length-set joined a (Some b) ∙ so_far.sized;
     just = λ u v. elim (eqb_tells a u) [
-      | inl p ↦ subst (λ (w : ℕ). (get_or now w None ≡ Some v → join (xs ++ x ∷ []) w v ≡ true) × (join (xs ++ x ∷ []) w v ≡ true → get_or now w None ≡ Some v)) p.1 (at_place v, from_place v)
+      | inl p ↦ subst (λ (w : ℕ). (get_or now w None ≡ Some v → are_partners (xs ++ x ∷ []) w v ≡ true) × (are_partners (xs ++ x ∷ []) w v ≡ true → get_or now w None ≡ Some v)) p.1 (at_place v, from_place v)
       | inr p ↦
           let other = get_or-set_other joined a u (Some b) None (λ e. p.1 (sym e)) in
           (λ e. elsewhere u v p.1 ∙ (so_far.just u v).0 (sym other ∙ e), λ t. other ∙ (so_far.just u v).1 (sym (elsewhere u v p.1) ∙ t))
@@ -81,10 +81,10 @@ matching-take batch n setting matching i j d lt within =
     length-take-le' (suc n) (x ∷ xs) = let r = length-take-le' n xs in (omega (arith, r.0), omega (arith, r.1))
 
 -- no transfer before it in the setting has its link 0
-pub fresh_module : (batch : List Transfer) (setting : List ℕ) (i v : ℕ) (x : Transfer) → i < length setting → slice_get batch (get_or setting i 0) ≡ Some x → IsMatching batch setting → join (members batch (take i setting)) x.initiator v ≡ false
+pub fresh_module : (batch : List Transfer) (setting : List ℕ) (i v : ℕ) (x : Transfer) → i < length setting → slice_get batch (get_or setting i 0) ≡ Some x → IsMatching batch setting → are_partners (members batch (take i setting)) x.initiator v ≡ false
 fresh_module batch setting i v x lt here matching =
     let before : List Transfer = members batch (take i setting) in
-    elim (cases_Bool (join before x.initiator v)) [
+    elim (cases_Bool (are_partners before x.initiator v)) [
       | inr none ↦ none
       | inl some ↦
           let used = count_some (v + 1) v (meets (start_link x) before) (omega arith) some in
@@ -101,28 +101,28 @@ one_less batch setting place x lt here = ap (members batch) (drop_more setting p
 abbrev pub same_start : Transfer → Transfer → Bool
 same_start x y = x.initiator == y.initiator
 
-not_joined : (x : Transfer) (v : ℕ) (xs : List Transfer) → AllByRecursion (λ y. same_start x y ≡ false) xs → join xs x.initiator v ≡ false
+not_joined : (x : Transfer) (v : ℕ) (xs : List Transfer) → AllByRecursion (λ y. same_start x y ≡ false) xs → are_partners xs x.initiator v ≡ false
 not_joined x v [] others = refl
 not_joined x v (y ∷ ys) others = grind (arith, nat_tests, others.0, not_joined x v ys others.1)
 
-module _ (xs : List Transfer) (x : Transfer) (joined : List (Option ℕ)) (a : ℕ) (so_far : AreJoined (x ∷ xs) joined) (start : a ≡ x.initiator) (low : a < MAX_MODULES) (others : AllByRecursion (λ y. same_start x y ≡ false) xs) where
+module _ (xs : List Transfer) (x : Transfer) (joined : List (Option ℕ)) (a : ℕ) (so_far : HaveResponders (x ∷ xs) joined) (start : a ≡ x.initiator) (low : a < MAX_MODULES) (others : AllByRecursion (λ y. same_start x y ≡ false) xs) where
   abbrev less : List (Option ℕ)
   less = set joined a None
 
   taken : get_or less a None ≡ None
   taken = get_or-set_same joined a None None (omega (arith, so_far.sized))
 
-  gone : (v : ℕ) → join xs a v ≡ false
+  gone : (v : ℕ) → are_partners xs a v ≡ false
   gone v = rw start (not_joined x v xs others)
 
-  kept : (u v : ℕ) → a ≢ u → join (x ∷ xs) u v ≡ join xs u v
+  kept : (u v : ℕ) → a ≢ u → are_partners (x ∷ xs) u v ≡ are_partners xs u v
   kept u v ne = grind (arith, nat_tests)
 
-  pub joined_less : AreJoined xs less
+  pub joined_less : HaveResponders xs less
   joined_less = record {
     sized = length-set joined a None ∙ so_far.sized;
     just = λ u v. elim (eqb_tells a u) [
-      | inl p ↦ subst (λ (w : ℕ). (get_or less w None ≡ Some v → join xs w v ≡ true) × (join xs w v ≡ true → get_or less w None ≡ Some v)) p.1 (λ e. absurd (none-some v (sym taken ∙ e)), λ t. absurd (false≢true (sym (gone v) ∙ t)))
+      | inl p ↦ subst (λ (w : ℕ). (get_or less w None ≡ Some v → are_partners xs w v ≡ true) × (are_partners xs w v ≡ true → get_or less w None ≡ Some v)) p.1 (λ e. absurd (none-some v (sym taken ∙ e)), λ t. absurd (false≢true (sym (gone v) ∙ t)))
       | inr p ↦
           let other = get_or-set_other joined a u None None (λ e. p.1 (sym e)) in
           (λ e. sym (kept u v p.1) ∙ (so_far.just u v).0 (sym other ∙ e), λ t. other ∙ (so_far.just u v).1 (kept u v p.1 ∙ t))
@@ -146,7 +146,7 @@ none_apart : IsDistinct same_start []
 unfolding IsDistinct
 none_apart = tt
 
-not_started : (xs : List Transfer) (x : Transfer) → ((v : ℕ) → join xs x.initiator v ≡ false) → list_any (same_start x) xs ≡ false
+not_started : (xs : List Transfer) (x : Transfer) → ((v : ℕ) → are_partners xs x.initiator v ≡ false) → list_any (same_start x) xs ≡ false
 not_started [] x fresh = refl
 not_started (y ∷ ys) x fresh = grind (arith, nat_tests, fresh y.responder, not_started ys x (λ v. grind (arith, nat_tests, fresh v)))
 
@@ -174,27 +174,27 @@ starts_of batch setting known matching = subst (AreStarts batch) (take_all (leng
 
 -- ---- pairs that stand among others
 
-within_each : (xs ys : List Transfer) → ((x : Transfer) → join xs x.initiator x.responder ≡ true → join ys x.initiator x.responder ≡ true) → join_within xs ys ≡ true
+within_each : (xs ys : List Transfer) → ((x : Transfer) → are_partners xs x.initiator x.responder ≡ true → are_partners ys x.initiator x.responder ≡ true) → join_within xs ys ≡ true
 within_each xs ys implied =
-    list_all-from_AllPass (λ x. join ys x.initiator x.responder) xs (λ k d lt.
+    list_all-from_AllPass (λ x. are_partners ys x.initiator x.responder) xs (λ k d lt.
     let x : Transfer = get_or xs k d in
     implied x (list_any_at (λ (y : Transfer). y.initiator == x.initiator && y.responder == x.responder) xs k d lt (and_from (x.initiator == x.initiator) (x.responder == x.responder) (eq-eqb x.initiator x.initiator refl) (eq-eqb x.responder x.responder refl))))
 
-pub within_from : (xs ys : List Transfer) → ((u v : ℕ) → join xs u v ≡ true → join ys u v ≡ true) → join_within xs ys ≡ true
+pub within_from : (xs ys : List Transfer) → ((u v : ℕ) → are_partners xs u v ≡ true → are_partners ys u v ≡ true) → join_within xs ys ≡ true
 within_from xs ys implied = within_each xs ys (λ x. implied x.initiator x.responder)
 
-join_met : (xs ys : List Transfer) (u v : ℕ) → join_within xs ys ≡ true → join xs u v ≡ true → join ys u v ≡ true
+join_met : (xs ys : List Transfer) (u v : ℕ) → join_within xs ys ≡ true → are_partners xs u v ≡ true → are_partners ys u v ≡ true
 join_met xs ys u v within some = meets_within (made Zero u) xs ys v within some
 
 -- a transfer with its own pair
-joined_start : (q : Transfer) (v : ℕ) (ys : List Transfer) → join ys q.initiator v ≡ true → list_any (same_start q) ys ≡ true
+joined_start : (q : Transfer) (v : ℕ) (ys : List Transfer) → are_partners ys q.initiator v ≡ true → list_any (same_start q) ys ≡ true
 joined_start q v [] some = some
 joined_start q v (y ∷ ys) some = elim (cases_Bool (same_start q y)) [
   | inl same ↦ rw same refl
   | inr other ↦ rw other (joined_start q v ys (grind (arith, nat_tests)))
 ]
 
-started_join : (q : Transfer) (xs : List Transfer) → list_any (same_start q) xs ≡ true → (v : ℕ) × (join xs q.initiator v ≡ true)
+started_join : (q : Transfer) (xs : List Transfer) → list_any (same_start q) xs ≡ true → (v : ℕ) × (are_partners xs q.initiator v ≡ true)
 started_join q xs some =
     let one = Any-from_list_any (same_start q) xs some in
     let x : Transfer = one.1 in
@@ -209,18 +209,18 @@ no_more : (xs ys : List Transfer) → IsDistinct same_start xs → join_within x
 no_more xs ys apart within = length-le_from_is_member same_start_laws xs ys apart (λ q some. started_within xs ys q within some)
 
 -- as many pairs are all of them
-all_within : (xs ys : List Transfer) (joined : List (Option ℕ)) → AreJoined ys joined → IsDistinct same_start xs → length xs ≡ length ys → join_within xs ys ≡ true → join_within ys xs ≡ true
+all_within : (xs ys : List Transfer) (joined : List (Option ℕ)) → HaveResponders ys joined → IsDistinct same_start xs → length xs ≡ length ys → join_within xs ys ≡ true → join_within ys xs ≡ true
 all_within xs ys joined are apart as_many within = within_each ys xs (λ y some. elim (cases_Bool (list_any (same_start y) xs)) [
   | inl met ↦
       let w = started_join y xs met in
       let same : w.0 ≡ y.responder = same_Some w.0 y.responder (sym ((are.just y.initiator w.0).1 (join_met xs ys y.initiator w.0 within w.1)) ∙ (are.just y.initiator y.responder).1 some) in
-      subst (λ (n : ℕ). join xs y.initiator n ≡ true) same w.1
+      subst (λ (n : ℕ). are_partners xs y.initiator n ≡ true) same w.1
   | inr none ↦
       let more = length-le_from_is_member same_start_laws (xs ++ y ∷ []) ys (IsDistinct-push same_start_laws xs y apart none) (λ q stands. elim (cases_Bool (list_any (same_start q) xs)) [
         | inl met ↦ started_within xs ys q within met
         | inr other ↦
             let is : same_start q y ≡ true = rw (any_push (same_start q) xs y, other) at stands in
-            joined_start q y.responder ys (subst (λ (n : ℕ). join ys n y.responder ≡ true) (sym (eqb-true q.initiator y.initiator is)) some)
+            joined_start q y.responder ys (subst (λ (n : ℕ). are_partners ys n y.responder ≡ true) (sym (eqb-true q.initiator y.initiator is)) some)
       ]) in
       absurd (omega (arith, more, length_push xs y, as_many))
 ])
@@ -233,24 +233,24 @@ option_decides (Some x) (Some y) = (λ t. ap (λ (n : ℕ). Some n) (eqb-true x 
 
 -- ---- settings that join the same pairs
 
-test_is : (others : List Transfer) (joined : List (Option ℕ)) (x : Transfer) (a b : ℕ) → AreJoined others joined → a ≡ x.initiator → b ≡ x.responder → option_eq ◌==◌ (get_or joined a None) (Some b) ≡ join others x.initiator x.responder
+test_is : (others : List Transfer) (joined : List (Option ℕ)) (x : Transfer) (a b : ℕ) → HaveResponders others joined → a ≡ x.initiator → b ≡ x.responder → option_eq ◌==◌ (get_or joined a None) (Some b) ≡ are_partners others x.initiator x.responder
 test_is others joined x a b are start answer =
     rw (start, answer)
-    (same_from_decides (option_eq ◌==◌ (get_or joined x.initiator None) (Some x.responder)) (join others x.initiator x.responder) (option_decides (get_or joined x.initiator None) (Some x.responder)) (λ t. (are.just x.initiator x.responder).1 t, λ e. (are.just x.initiator x.responder).0 e))
+    (same_from_decides (option_eq ◌==◌ (get_or joined x.initiator None) (Some x.responder)) (are_partners others x.initiator x.responder) (option_decides (get_or joined x.initiator None) (Some x.responder)) (λ t. (are.just x.initiator x.responder).1 t, λ e. (are.just x.initiator x.responder).0 e))
 
 not_not : (b : Bool) → not (not b) ≡ b
 not_not true = refl
 not_not false = refl
 
 -- the pair of a transfer stands among others just where the table has it
-pub stands : (others : List Transfer) (joined : List (Option ℕ)) (x : Transfer) (a b : ℕ) (differ : Bool) → AreJoined others joined → a ≡ x.initiator → b ≡ x.responder → differ ≡ not (option_eq ◌==◌ (get_or joined a None) (Some b)) → join others x.initiator x.responder ≡ not differ
+pub stands : (others : List Transfer) (joined : List (Option ℕ)) (x : Transfer) (a b : ℕ) (differ : Bool) → HaveResponders others joined → a ≡ x.initiator → b ≡ x.responder → differ ≡ not (option_eq ◌==◌ (get_or joined a None) (Some b)) → are_partners others x.initiator x.responder ≡ not differ
 stands others joined x a b differ are start answer test =
     sym (test_is others joined x a b are start answer) ∙ (sym (not_not (option_eq ◌==◌ (get_or joined a None) (Some b))) ∙ ap not (sym test))
 
-pub within_less : (batch others : List Transfer) (setting : List ℕ) (place : ℕ) (x : Transfer) → place < length setting → slice_get batch (get_or setting place 0) ≡ Some x → join_within (members batch (drop place setting)) others ≡ (join others x.initiator x.responder && join_within (members batch (drop (place + 1) setting)) others)
+pub within_less : (batch others : List Transfer) (setting : List ℕ) (place : ℕ) (x : Transfer) → place < length setting → slice_get batch (get_or setting place 0) ≡ Some x → join_within (members batch (drop place setting)) others ≡ (are_partners others x.initiator x.responder && join_within (members batch (drop (place + 1) setting)) others)
 within_less batch others setting place x lt here = ap (λ (xs : List Transfer). join_within xs others) (one_less batch setting place x lt here)
 
-pub same_from_within : (batch : List Transfer) (one other : List ℕ) (joined : List (Option ℕ)) (all : Bool) → AreStarts batch one → AreStarts batch other → AreJoined (members batch one) joined → length other ≡ length one → all ≡ join_within (members batch other) (members batch one) → all ≡ join_same batch one other
+pub same_from_within : (batch : List Transfer) (one other : List ℕ) (joined : List (Option ℕ)) (all : Bool) → AreStarts batch one → AreStarts batch other → HaveResponders (members batch one) joined → length other ≡ length one → all ≡ join_within (members batch other) (members batch one) → all ≡ join_same batch one other
 same_from_within batch one other joined all one_is other_is are as_many test = elim (cases_Bool all) [
   | inl same ↦
       let within : join_within (members batch other) (members batch one) ≡ true = sym test ∙ same in
@@ -268,7 +268,7 @@ differ_from_length batch one other one_is other_is differ = elim (cases_Bool (jo
 ]
 
 -- so the table of one is that of the other
-pub joined_same : (batch : List Transfer) (one other : List ℕ) (joined : List (Option ℕ)) → join_same batch one other ≡ true → AreJoined (members batch one) joined → AreJoined (members batch other) joined
+pub joined_same : (batch : List Transfer) (one other : List ℕ) (joined : List (Option ℕ)) → join_same batch one other ≡ true → HaveResponders (members batch one) joined → HaveResponders (members batch other) joined
 joined_same batch one other joined same are =
     let both = and_parts (join_within (members batch one) (members batch other)) (join_within (members batch other) (members batch one)) same in
     record {

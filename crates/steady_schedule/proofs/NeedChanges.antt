@@ -1,4 +1,5 @@
--- Each partner of a link wants a change of its own: a setting joins the link to one partner at most.
+-- Each partner of a link wants a change of its own: a setting joins the link to one partner at
+-- most.
 use Rattle.std.proofs.Common.{◌≡◌, ◌==◌, ℕ, zero, suc, ◌+◌, ◌<◌, ◌≤◌, List, [], ◌∷◌, Bool, true, false, not, ◌&&◌, ◌||◌, cond, All, Some, slice_get, subst, refl, ap, ◌∙◌, inl, inr, arith}
 use Rattle.std.specs.List.{list_any}
 use Rattle.std.proofs.lemmas.Bool.{cases_lt, cases_Bool, and_parts, or_left, or_right}
@@ -21,7 +22,7 @@ use Rattle.link_graph.proofs.Sharing.{shared_from_count, shared_no_matching}
 use Rattle.link_graph.proofs.Sums.{hit, hit_other}
 use Rattle.link_graph.proofs.Once.{standings}
 use Rattle.link_graph.proofs.Users.{use_of}
-use Rattle.steady_schedule.specs.Changes.{join, join_within, join_same, changes_after, changes}
+use Rattle.steady_schedule.specs.Changes.{are_partners, join_within, join_same, changes_after, changes}
 use Rattle.steady_schedule.specs.Partners.{joins_to, partners}
 
 -- ---- counts
@@ -92,7 +93,7 @@ module _ (link : Link) where
   meets_within xs ys m within some =
       let one = Any-from_list_any (joins_to link m) xs some in
       let x : Transfer = one.1 in
-      let also : join ys x.initiator x.responder ≡ true = subst (λ (z : Transfer). join ys z.initiator z.responder ≡ true) one.3 (AllPass-from_list_all (λ z. join ys z.initiator z.responder) xs within one.0 x one.2) in
+      let also : are_partners ys x.initiator x.responder ≡ true = subst (λ (z : Transfer). are_partners ys z.initiator z.responder ≡ true) one.3 (AllPass-from_list_all (λ z. are_partners ys z.initiator z.responder) xs within one.0 x one.2) in
       let other = Any-from_list_any (λ y. y.initiator == x.initiator && y.responder == x.responder) ys also in
       let y : Transfer = other.1 in
       let joined : joins_to link m y ≡ true = rw (same_modules link.end x y other.4, same_modules (other_end link.end) x y other.4) one.4 in

@@ -10,17 +10,17 @@ use Rattle.link_graph.specs.declared.link.End.TheVariants.{Zero, Three}
 use Rattle.link_graph.specs.declared.link.Link.{Link}
 use Rattle.link_graph.specs.Marks.{members}
 use Rattle.link_graph.proofs.Users.{made, at_used}
-use Rattle.steady_schedule.specs.Changes.{join}
+use Rattle.steady_schedule.specs.Changes.{are_partners}
 use Rattle.steady_schedule.specs.Gathered.{AreGathered}
 use Rattle.steady_schedule.specs.Matchings.{partner, AreMatched}
 use Rattle.steady_schedule.specs.Needs.{IsUsed, IsOver, ChangesAtNeed}
 use Rattle.steady_schedule.specs.Needs.IsOver.{pair_done as pair_over, link_needed as link_over}
-use Rattle.steady_schedule.specs.Slots.{HasNumber, AreNumberedFrom, KeepNumbers, LinkHas, IsOverAt, AreAtNeed, JoinsAs, UsesAs, IsOverAs, HaveNeeds, AreNumbered, AreReadTo}
+use Rattle.steady_schedule.specs.Slots.{StandsIn, AreNumberedFrom, KeepNumbers, LinkHas, IsOverAt, AreAtNeed, JoinsAs, UsesAs, IsOverAs, HaveNeeds, AreNumbered, AreReadTo}
 use Rattle.steady_schedule.specs.Slots.IsOverAt.{pair_done as pair_at, link_needed as link_at}
 use Rattle.steady_schedule.specs.Slots.IsOverAs.{pair_done as pair_as, link_needed as link_as}
 use Rattle.steady_schedule.specs.Steps.{CanHold, AreTaken, IsTight}
 use Rattle.steady_schedule.specs.Steps.IsTight.{all, by_pair, by_zero, by_three}
-use Rattle.steady_schedule.specs.Waiting.{count_at, waiting, HaveMost, AreCounted}
+use Rattle.steady_schedule.specs.Waiting.{count_at, waiting, HaveMost, ArePairCounts}
 use Rattle.steady_schedule.proofs.Heads.{stands_at, joins_in, joins_out, same_joined}
 use Rattle.steady_schedule.proofs.Matchings.{has_low}
 use Rattle.steady_schedule.proofs.Potential.{full_joined}
@@ -30,66 +30,66 @@ use Rattle.steady_schedule.proofs.Sums.{partner_cases}
 
 -- ---- one step more
 
-pub none_over : (totals left slots : List ℕ) (settings : ℕ) → AreAtNeed totals left slots settings 0
-none_over totals left slots settings d lt = absurd (omega arith)
+pub none_over : (totals remaining slots : List ℕ) (settings : ℕ) → AreAtNeed totals remaining slots settings 0
+none_over totals remaining slots settings d lt = absurd (omega arith)
 
-module _ (totals left slots left_now slots_now : List ℕ) (zeros threes : List (Option ℕ)) (m : AreMatched zeros threes) (settings first k : ℕ) (first_in : first ≤ settings) (taken : AreTaken zeros k MAX_MODULES left left_now) (h : HaveMost left (settings - first)) (can : CanHold left zeros threes (settings - first) k) (kept : KeepNumbers totals first left slots left_now slots_now) (now : AreNumberedFrom zeros first MAX_MODULES totals left_now slots_now (first + k)) where
-  kept_link : (d : ℕ) (end : End) (x : ℕ) → d < first → LinkHas totals left slots d end x → LinkHas totals left_now slots_now d end x
+module _ (totals remaining slots remaining_now slots_now : List ℕ) (zeros threes : List (Option ℕ)) (m : AreMatched zeros threes) (settings first k : ℕ) (first_in : first ≤ settings) (taken : AreTaken zeros k MAX_MODULES remaining remaining_now) (h : HaveMost remaining (settings - first)) (can : CanHold remaining zeros threes (settings - first) k) (kept : KeepNumbers totals first remaining slots remaining_now slots_now) (now : AreNumberedFrom zeros first MAX_MODULES totals remaining_now slots_now (first + k)) where
+  kept_link : (d : ℕ) (end : End) (x : ℕ) → d < first → LinkHas totals remaining slots d end x → LinkHas totals remaining_now slots_now d end x
   kept_link d Zero x lt has = (has.0, kept.old x has.0 d lt has.1)
   kept_link d Three x lt has = (has.0, kept.old has.0 x d lt has.1)
 
-  only_link : (d : ℕ) (end : End) (x : ℕ) → d < first → LinkHas totals left_now slots_now d end x → LinkHas totals left slots d end x
+  only_link : (d : ℕ) (end : End) (x : ℕ) → d < first → LinkHas totals remaining_now slots_now d end x → LinkHas totals remaining slots d end x
   only_link d Zero x lt has = (has.0, kept.only x has.0 d lt has.1)
   only_link d Three x lt has = (has.0, kept.only has.0 x d lt has.1)
 
   -- a pair that has a number of the step is joined
-  joined_now : (d u v : ℕ) → first ≤ d → HasNumber totals left_now slots_now d u v → partner zeros u ≡ Some v
+  joined_now : (d u v : ℕ) → first ≤ d → StandsIn totals remaining_now slots_now d u v → partner zeros u ≡ Some v
   joined_now d u v from has = (now.recent u v has.0 has.1 (omega (arith, from, has.2))).1
 
   -- a full link has each number of the step
-  full_has : (d : ℕ) (end : End) (x : ℕ) → x < MAX_MODULES → waiting left end x ≡ settings - first → first ≤ d → d < first + k → LinkHas totals left_now slots_now d end x
-  full_has d Zero x x_in full from to = partner_cases (partner zeros x) (LinkHas totals left_now slots_now d Zero x)
+  full_has : (d : ℕ) (end : End) (x : ℕ) → x < MAX_MODULES → waiting remaining end x ≡ settings - first → first ≤ d → d < first + k → LinkHas totals remaining_now slots_now d end x
+  full_has d Zero x x_in full from to = partner_cases (partner zeros x) (LinkHas totals remaining_now slots_now d Zero x)
       (λ none. absurd (omega (arith, (can.each x x_in).zero_out none, full, can.some)))
       (λ y joined. (y, now.each x y d x_in joined from to))
-  full_has d Three y y_in full from to = partner_cases (partner threes y) (LinkHas totals left_now slots_now d Three y)
+  full_has d Three y y_in full from to = partner_cases (partner threes y) (LinkHas totals remaining_now slots_now d Three y)
       (λ none. absurd (omega (arith, (can.each y y_in).three_out none, full, can.some)))
       (λ x back.
       let joined = (m.each_other x y).1 back in
       (x, now.each x y d (has_low zeros x y m.sized joined) joined from to))
 
   -- what was over is over
-  still_over : (d : ℕ) → d < first → IsOverAt totals left slots settings first d → IsOverAt totals left_now slots_now settings (first + k) d
+  still_over : (d : ℕ) → d < first → IsOverAt totals remaining slots settings first d → IsOverAt totals remaining_now slots_now settings (first + k) d
   still_over d lt (pair_at u v has none gone) = pair_at u v (kept.old u v d lt has)
       (λ e later has_now. elim (cases_lt e first) [
         | inl before ↦ none e later (kept.only u v e before has_now)
         | inr from ↦ absurd (omega (arith, can.some, gone, (can.each u has.1.zero_in).pair v (joined_now e u v from has_now)))
       ])
-      (omega (arith, gone, fewer zeros threes m k left left_now taken u v has.1.zero_in has.1.three_in))
+      (omega (arith, gone, fewer zeros threes m k remaining remaining_now taken u v has.1.zero_in has.1.three_in))
   still_over d lt (link_at end x x_in unused used full) =
-      let full_now : waiting left end x ≡ settings - first = omega (arith, full) in
+      let full_now : waiting remaining end x ≡ settings - first = omega (arith, full) in
       link_at end x x_in (λ has. unused (only_link d end x lt has))
       (λ e later to. elim (cases_lt e first) [
         | inl before ↦ kept_link e end x before (used e later before)
         | inr from ↦ full_has e end x x_in full_now from to
       ])
-      (omega (arith, full, full_joined totals left left_now zeros threes m (settings - first) k taken h can end x x_in full_now))
+      (omega (arith, full, full_joined totals remaining remaining_now zeros threes m (settings - first) k taken h can end x x_in full_now))
 
   -- something is over with the last number of the step
-  step_over : (d : ℕ) → d + 1 ≡ first + k → d + 1 < settings → IsTight left zeros threes (settings - first) k → IsOverAt totals left_now slots_now settings (first + k) d
+  step_over : (d : ℕ) → d + 1 ≡ first + k → d + 1 < settings → IsTight remaining zeros threes (settings - first) k → IsOverAt totals remaining_now slots_now settings (first + k) d
   step_over d last lt (all is) = absurd (omega (arith, last, lt, is, first_in))
   step_over d last lt (by_pair x y joined is) = pair_at x y (now.each x y d (has_low zeros x y m.sized joined) joined (omega (arith, last, can.some)) (omega (arith, last)))
       (λ e later has. absurd (omega (arith, last, later, has.2, now.numbered.below x y has.0 has.1)))
-      (omega (arith, is, at_pair zeros threes m k left left_now taken x y joined))
+      (omega (arith, is, at_pair zeros threes m k remaining remaining_now taken x y joined))
   step_over d last lt (by_zero x x_in none is) = link_at Zero x x_in
       (λ has. none-some has.0 (sym none ∙ joined_now d x has.0 (omega (arith, last, can.some)) has.1))
       (λ e later to. absurd (omega (arith, last, later, to)))
-      (omega (arith, is, first_in, zero_free zeros threes m k left left_now taken x x_in none))
+      (omega (arith, is, first_in, zero_free zeros threes m k remaining remaining_now taken x x_in none))
   step_over d last lt (by_three y y_in none is) = link_at Three y y_in
       (λ has. none-some has.0 (sym none ∙ (m.each_other has.0 y).0 (joined_now d has.0 y (omega (arith, last, can.some)) has.1)))
       (λ e later to. absurd (omega (arith, last, later, to)))
-      (omega (arith, is, first_in, three_free zeros threes m k left left_now taken y y_in none))
+      (omega (arith, is, first_in, three_free zeros threes m k remaining remaining_now taken y y_in none))
 
-  pub still_needed : AreAtNeed totals left slots settings first → AreAtNeed totals left_now slots_now settings (first + k)
+  pub still_needed : AreAtNeed totals remaining slots settings first → AreAtNeed totals remaining_now slots_now settings (first + k)
   still_needed so_far d lt within = elim (cases_lt d first) [
     | inl before ↦ elim (so_far d before within) [
       | inl same ↦ inl (
@@ -115,14 +115,14 @@ module _ (totals left slots left_now slots_now : List ℕ) (zeros threes : List 
 
 -- ---- the numbers as they are read
 
-module _ (batch : List Transfer) (totals left slots numbers : List ℕ) (settings : ℕ) (counted : AreCounted batch totals) (done : (u v : ℕ) → u < MAX_MODULES → v < MAX_MODULES → count_at left u v ≡ 0) (n : AreNumbered totals left slots settings) (read : AreReadTo batch totals slots numbers (length batch)) (low : (t : ℕ) (x : Transfer) → slice_get batch t ≡ Some x → (x.initiator < MAX_MODULES) × (x.responder < MAX_MODULES)) where
-  from_slots : (d u v : ℕ) → HasNumber totals left slots d u v → JoinsAs batch numbers d u v
-  from_slots = joins_to_number batch totals left slots numbers settings counted done n read low
+module _ (batch : List Transfer) (totals remaining slots numbers : List ℕ) (settings : ℕ) (counted : ArePairCounts batch totals) (done : (u v : ℕ) → u < MAX_MODULES → v < MAX_MODULES → count_at remaining u v ≡ 0) (n : AreNumbered totals remaining slots settings) (read : AreReadTo batch totals slots numbers (length batch)) (low : (t : ℕ) (x : Transfer) → slice_get batch t ≡ Some x → (x.initiator < MAX_MODULES) × (x.responder < MAX_MODULES)) where
+  from_slots : (d u v : ℕ) → StandsIn totals remaining slots d u v → JoinsAs batch numbers d u v
+  from_slots = joins_to_number batch totals remaining slots numbers settings counted done n read low
 
-  to_slots : (d u v : ℕ) → JoinsAs batch numbers d u v → HasNumber totals left slots d u v
-  to_slots = joins_from batch totals left slots numbers settings counted done n read low
+  to_slots : (d u v : ℕ) → JoinsAs batch numbers d u v → StandsIn totals remaining slots d u v
+  to_slots = joins_from batch totals remaining slots numbers settings counted done n read low
 
-  uses_from : (d : ℕ) (end : End) (x : ℕ) → LinkHas totals left slots d end x → UsesAs batch numbers d (made end x)
+  uses_from : (d : ℕ) (end : End) (x : ℕ) → LinkHas totals remaining slots d end x → UsesAs batch numbers d (made end x)
   uses_from d Zero x has =
       let j = from_slots d x has.0 has.1 in
       record { t = j.t; used = (j.x, j.here, inl (ap (made Zero) (sym j.zero_is))); number = j.number }
@@ -130,15 +130,15 @@ module _ (batch : List Transfer) (totals left slots numbers : List ℕ) (setting
       let j = from_slots d has.0 x has.1 in
       record { t = j.t; used = (j.x, j.here, inr (ap (made Three) (sym j.three_is))); number = j.number }
 
-  uses_to : (d : ℕ) (end : End) (x : ℕ) → UsesAs batch numbers d (made end x) → LinkHas totals left slots d end x
+  uses_to : (d : ℕ) (end : End) (x : ℕ) → UsesAs batch numbers d (made end x) → LinkHas totals remaining slots d end x
   uses_to d Zero x u = (u.used.0.responder, to_slots d x u.used.0.responder (record { t = u.t; x = u.used.0; here = u.used.1; zero_is = at_used batch u.t (made Zero x) u.used.0 u.used.1 u.used; three_is = refl; number = u.number }))
   uses_to d Three x u = (u.used.0.initiator, to_slots d u.used.0.initiator x (record { t = u.t; x = u.used.0; here = u.used.1; zero_is = refl; three_is = at_used batch u.t (made Three x) u.used.0 u.used.1 u.used; number = u.number }))
 
-  over_read : (d : ℕ) → IsOverAt totals left slots settings settings d → IsOverAs batch settings numbers d
+  over_read : (d : ℕ) → IsOverAt totals remaining slots settings settings d → IsOverAs batch settings numbers d
   over_read d (pair_at u v has none gone) = pair_as u v (from_slots d u v has) (λ e later j. none e later (to_slots e u v j))
   over_read d (link_at end x x_in unused used full) = link_as (made end x) (λ u. unused (uses_to d end x u)) (λ e later to. uses_from e end x (used e later to))
 
-  pub needs_read : AreAtNeed totals left slots settings settings → HaveNeeds batch settings numbers
+  pub needs_read : AreAtNeed totals remaining slots settings settings → HaveNeeds batch settings numbers
   needs_read needs d lt = elim (needs d (omega arith) lt) [
     | inl same ↦ inl (λ u v. (λ j. from_slots (d + 1) u v ((same.1 u v).0 (to_slots d u v j)), λ j. from_slots d u v ((same.1 u v).1 (to_slots (d + 1) u v j))))
     | inr is ↦ inr (over_read d is)
@@ -147,8 +147,8 @@ module _ (batch : List Transfer) (totals left slots numbers : List ℕ) (setting
 -- ---- the settings
 
 module _ (batch : List Transfer) (numbers : List ℕ) (settings : List (List ℕ)) (count : ℕ) (sized : length numbers ≡ length batch) (g : AreGathered numbers count settings) where
-  joined_no_more : (d u v : ℕ) → (JoinsAs batch numbers d u v → ⊥) → join (members batch (get_or settings d [])) u v ≡ false
-  joined_no_more d u v none = elim (cases_Bool (join (members batch (get_or settings d [])) u v)) [
+  joined_no_more : (d u v : ℕ) → (JoinsAs batch numbers d u v → ⊥) → are_partners (members batch (get_or settings d [])) u v ≡ false
+  joined_no_more d u v none = elim (cases_Bool (are_partners (members batch (get_or settings d [])) u v)) [
     | inl some ↦ absurd (none (joins_out batch numbers settings count sized g d u v some))
     | inr is ↦ is
   ]

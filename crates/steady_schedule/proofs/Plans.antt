@@ -1,4 +1,5 @@
--- What follows from a shortest schedule: no setting is empty. And it changes once a setting at most.
+-- What follows from a shortest schedule: no setting is empty. And it changes once a setting at
+-- most.
 use Rattle.std.proofs.Common.{◌≡◌, ℕ, ◌<◌, ◌≤◌, List, [], ◌∷◌, length, get_or, take, drop, suc, cond, Bool, true, false, Option, Some, None, All, refl, ap, ◌∙◌, inl, inr, arith, sym}
 use Rattle.std.specs.List.{remove}
 use Rattle.std.proofs.lemmas.Bool.{cases_lt}

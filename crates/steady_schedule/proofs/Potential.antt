@@ -1,5 +1,5 @@
--- Each step has as a pair has no transfers left, or as one more link is full: so the steps are at most the pairs and links that
--- have transfers at first.
+-- Each step has as a pair has no transfers left, or as one more link is full: so the steps are at
+-- most the pairs and links that have transfers at first.
 use Rattle.std.proofs.Common.{◌≡◌, ℕ, zero, suc, ◌+◌, ◌-◌, ◌<◌, ◌≤◌, List, cond, Option, Some, refl, ap, inl, inr, arith}
 use Rattle.std.specs.Prelude.{nat_lt}
 use Rattle.std.proofs.lemmas.Bool.{cases_eq, cases_lt, lt-ltb, le-ltb}
@@ -11,7 +11,7 @@ use Rattle.steady_schedule.specs.Matchings.{partner, AreMatched}
 use Rattle.steady_schedule.specs.Waiting.{sum_below, count_at, waiting, HaveMost}
 use Rattle.steady_schedule.specs.Steps.{CanHold, AreTaken, IsTight}
 use Rattle.steady_schedule.specs.Steps.IsTight.{all, by_pair, by_zero, by_three}
-use Rattle.steady_schedule.specs.Potentials.{has_any, pairs_left, has_any_at, low_at, links_low, potential, IsReached}
+use Rattle.steady_schedule.specs.Potentials.{has_any, pairs_remaining, has_any_at, low_at, links_low, potential, IsReached}
 use Rattle.steady_schedule.proofs.Matchings.{has_low, partner_low}
 use Rattle.steady_schedule.proofs.NeedChanges.{bit}
 use Rattle.steady_schedule.proofs.Steps.{at_pair, fewer, zero_free, three_free, waits_now}
@@ -53,7 +53,7 @@ module _ (totals old new : List ℕ) (zeros threes : List (Option ℕ)) (m : Are
   rows_most : (u : ℕ) → u < MAX_MODULES → has_any new u ≤ has_any old u
   rows_most u u_in = sum_most MAX_MODULES (λ v. has_any_at new u v) (λ v. has_any_at old u v) (λ v v_in. pairs_most u v u_in v_in)
 
-  all_pairs_most : pairs_left new ≤ pairs_left old
+  all_pairs_most : pairs_remaining new ≤ pairs_remaining old
   all_pairs_most = sum_most MAX_MODULES (has_any new) (has_any old) rows_most
 
   link_most : (end : End) (x : ℕ) → x < MAX_MODULES → low_at totals new (most - k) end x ≤ low_at totals old most end x
@@ -66,7 +66,7 @@ module _ (totals old new : List ℕ) (zeros threes : List (Option ℕ)) (m : Are
   links_most end = sum_most MAX_MODULES (low_at totals new (most - k) end) (low_at totals old most end) (link_most end)
 
   -- a pair has no transfers left
-  pair_out : (x y : ℕ) → partner zeros x ≡ Some y → k ≡ count_at old x y → pairs_left new < pairs_left old
+  pair_out : (x y : ℕ) → partner zeros x ≡ Some y → k ≡ count_at old x y → pairs_remaining new < pairs_remaining old
   pair_out x y joined is =
       let x_in = has_low zeros x y m.sized joined in
       let y_in = partner_low zeros threes x y m joined in
@@ -74,11 +74,11 @@ module _ (totals old new : List ℕ) (zeros threes : List (Option ℕ)) (m : Are
       let less : has_any_at new x y < has_any_at old x y = rw (gone, lt-ltb 0 (count_at old x y) (omega (arith, can.some, is))) (omega arith) in
       sum_less MAX_MODULES x (has_any new) (has_any old) x_in rows_most (sum_less MAX_MODULES y (λ v. has_any_at new x v) (λ v. has_any_at old x v) y_in (λ v v_in. pairs_most x v x_in v_in) less)
 
-  joined_full : (end : End) (x : ℕ) → x < MAX_MODULES → waiting old end x ≡ most → k ≡ most → pairs_left new < pairs_left old
-  joined_full Zero x x_in full is = partner_cases (partner zeros x) (pairs_left new < pairs_left old)
+  joined_full : (end : End) (x : ℕ) → x < MAX_MODULES → waiting old end x ≡ most → k ≡ most → pairs_remaining new < pairs_remaining old
+  joined_full Zero x x_in full is = partner_cases (partner zeros x) (pairs_remaining new < pairs_remaining old)
       (λ none. absurd (omega (arith, (can.each x x_in).zero_out none, full, can.some)))
       (λ y joined. pair_out x y joined (omega (arith, is, full, (can.each x x_in).pair y joined, at_most_sum MAX_MODULES y (λ v. count_at old x v) (partner_low zeros threes x y m joined))))
-  joined_full Three y y_in full is = partner_cases (partner threes y) (pairs_left new < pairs_left old)
+  joined_full Three y y_in full is = partner_cases (partner threes y) (pairs_remaining new < pairs_remaining old)
       (λ none. absurd (omega (arith, (can.each y y_in).three_out none, full, can.some)))
       (λ x back.
       let joined = (m.each_other x y).1 back in
@@ -97,7 +97,7 @@ module _ (totals old new : List ℕ) (zeros threes : List (Option ℕ)) (m : Are
     used_still Zero x x_in = sum_most MAX_MODULES (λ v. count_at old x v) (λ v. count_at totals x v) (λ v v_in. within x v x_in v_in)
     used_still Three x x_in = sum_most MAX_MODULES (λ u. count_at old u x) (λ u. count_at totals u x) (λ u u_in. within u x u_in x_in)
 
-    by_pairs : pairs_left new < pairs_left old → potential totals new (most - k) < potential totals old most
+    by_pairs : pairs_remaining new < pairs_remaining old → potential totals new (most - k) < potential totals old most
     by_pairs less = omega (arith, less, links_most Zero, links_most Three)
 
     by_link : (end : End) (x : ℕ) → x < MAX_MODULES → waiting new end x ≡ waiting old end x → waiting old end x + k ≡ most → potential totals new (most - k) < potential totals old most

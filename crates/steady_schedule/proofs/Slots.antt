@@ -14,8 +14,8 @@ use Rattle.link_graph.specs.Counts.{module_at}
 use Rattle.link_graph.specs.Uses.{AreApart}
 use Rattle.link_graph.proofs.Users.{at_used}
 use Rattle.steady_schedule.specs.Matchings.{partner, AreMatched, AreBelow}
-use Rattle.steady_schedule.specs.Waiting.{sum_below, pair_count, place_of, count_at, HaveMost, AreCounted}
-use Rattle.steady_schedule.specs.Slots.{slot, IsWritten, AreOneOrApart, AreNumbered, AreNumberedFrom, AreWritten, AreReadTo, AreProper, HasNumber, KeepNumbers, AreSteps, JoinsAs, HaveHeads, AreFewSteps}
+use Rattle.steady_schedule.specs.Waiting.{sum_below, pair_count, pair_index, count_at, HaveMost, ArePairCounts}
+use Rattle.steady_schedule.specs.Slots.{slot, IsWritten, AreOneOrApart, AreNumbered, AreNumberedFrom, AreSlotsFilled, AreReadTo, AreProper, StandsIn, KeepNumbers, AreSteps, JoinsAs, HaveHeads, AreFewSteps}
 use Rattle.steady_schedule.proofs.Matchings.{has_low, partner_low}
 use Rattle.steady_schedule.proofs.NeedChanges.{bit}
 use Rattle.steady_schedule.proofs.Sums.{at_most_sum}
@@ -39,15 +39,15 @@ one_place p q i j f i_in j_in same = elim (cases_order p q) [
 
 module _ (totals : List ℕ) where
   abbrev start : ℕ → ℕ → ℕ
-  start u v = sum_below (place_of u v) (slice_index totals)
+  start u v = sum_below (pair_index u v) (slice_index totals)
 
   pub same_slot : (u v i w x j : ℕ) → v < MAX_MODULES → x < MAX_MODULES → i < count_at totals u v → j < count_at totals w x → start u v + i ≡ start w x + j → (u ≡ w) × (v ≡ x)
-  same_slot u v i w x j v_in x_in i_in j_in same = same_place u v w x v_in x_in (one_place (place_of u v) (place_of w x) i j (slice_index totals) i_in j_in same)
+  same_slot u v i w x j v_in x_in i_in j_in same = same_place u v w x v_in x_in (one_place (pair_index u v) (pair_index w x) i j (slice_index totals) i_in j_in same)
 
   pub slot_inside : (u v i : ℕ) → u < MAX_MODULES → v < MAX_MODULES → i ≤ count_at totals u v → start u v + i ≤ sum_below (MAX_MODULES * MAX_MODULES) (slice_index totals)
   slot_inside u v i u_in v_in le =
-      let low : place_of u v < MAX_MODULES * MAX_MODULES = omega arith in
-      omega (arith, le, prefix_less (place_of u v) (MAX_MODULES * MAX_MODULES) (slice_index totals) low)
+      let low : pair_index u v < MAX_MODULES * MAX_MODULES = omega arith in
+      omega (arith, le, prefix_less (pair_index u v) (MAX_MODULES * MAX_MODULES) (slice_index totals) low)
 
 -- ---- nothing is written
 
@@ -62,15 +62,15 @@ none_numbered totals slots sized = record {
 
 -- ---- the numbers of one step
 
-pub begun : (totals left slots : List ℕ) (zeros : List (Option ℕ)) (first k : ℕ) → AreNumbered totals left slots first → AreNumberedFrom zeros first 0 totals left slots (first + k)
-begun totals left slots zeros first k a = record {
+pub begun : (totals remaining slots : List ℕ) (zeros : List (Option ℕ)) (first k : ℕ) → AreNumbered totals remaining slots first → AreNumberedFrom zeros first 0 totals remaining slots (first + k)
+begun totals remaining slots zeros first k a = record {
   numbered = record { sized = a.sized; within = a.within; below = λ u v i w. omega (arith, a.below u v i w); falling = a.falling; apart = a.apart };
   recent = λ u v i w le. absurd (omega (arith, le, a.below u v i w));
   each = λ u v d u_in. absurd (omega arith);
 }
 
-pub not_joined : (totals left slots : List ℕ) (zeros : List (Option ℕ)) (first n next : ℕ) → partner zeros n ≡ None → AreNumberedFrom zeros first n totals left slots next → AreNumberedFrom zeros first (n + 1) totals left slots next
-not_joined totals left slots zeros first n next none a = record {
+pub not_joined : (totals remaining slots : List ℕ) (zeros : List (Option ℕ)) (first n next : ℕ) → partner zeros n ≡ None → AreNumberedFrom zeros first n totals remaining slots next → AreNumberedFrom zeros first (n + 1) totals remaining slots next
+not_joined totals remaining slots zeros first n next none a = record {
   numbered = a.numbered;
   recent = λ u v i w le. let r = a.recent u v i w le in (omega (arith, r.0), r.1);
   each = λ u v d u_in joined. elim (cases_eq u n) [
@@ -80,14 +80,14 @@ not_joined totals left slots zeros first n next none a = record {
 }
 
 -- joined pairs of the first n modules are all, where no other has a partner
-pub all_numbered : (totals left slots : List ℕ) (zeros : List (Option ℕ)) (first n next : ℕ) → n ≤ MAX_MODULES → AreBelow zeros n → AreNumberedFrom zeros first n totals left slots next → AreNumberedFrom zeros first MAX_MODULES totals left slots next
-all_numbered totals left slots zeros first n next within low a = record {
+pub all_numbered : (totals remaining slots : List ℕ) (zeros : List (Option ℕ)) (first n next : ℕ) → n ≤ MAX_MODULES → AreBelow zeros n → AreNumberedFrom zeros first n totals remaining slots next → AreNumberedFrom zeros first MAX_MODULES totals remaining slots next
+all_numbered totals remaining slots zeros first n next within low a = record {
   numbered = a.numbered;
   recent = λ u v i w le. let r = a.recent u v i w le in (omega (arith, r.0, within), r.1);
   each = λ u v d u_in joined. a.each u v d (low u v joined) joined;
 }
 
-module _ (totals left slots after : List ℕ) (zero three : List (Option ℕ)) (first k n y : ℕ) (m : AreMatched zero three) (joined : partner zero n ≡ Some y) (so_far : AreNumberedFrom zero first n totals left slots (first + k)) (places : length left ≡ MAX_MODULES * MAX_MODULES) (k_there : k ≤ count_at left n y) (w : AreWritten (sum_below (place_of n y) (slice_index totals) + (count_at left n y - k)) first k slots after) where
+module _ (totals remaining slots after : List ℕ) (zero three : List (Option ℕ)) (first k n y : ℕ) (m : AreMatched zero three) (joined : partner zero n ≡ Some y) (so_far : AreNumberedFrom zero first n totals remaining slots (first + k)) (places : length remaining ≡ MAX_MODULES * MAX_MODULES) (k_there : k ≤ count_at remaining n y) (w : AreSlotsFilled (sum_below (pair_index n y) (slice_index totals) + (count_at remaining n y - k)) first k slots after) where
   n_in : n < MAX_MODULES
   n_in = has_low zero n y m.sized joined
 
@@ -95,10 +95,10 @@ module _ (totals left slots after : List ℕ) (zero three : List (Option ℕ)) (
   y_in = partner_low zero three n y m joined
 
   abbrev c : ℕ
-  c = count_at left n y
+  c = count_at remaining n y
 
   abbrev less : List ℕ
-  less = set left (place_of n y) (c - k)
+  less = set remaining (pair_index n y) (c - k)
 
   within_old : c ≤ count_at totals n y
   within_old = so_far.numbered.within n y n_in y_in
@@ -107,7 +107,7 @@ module _ (totals left slots after : List ℕ) (zero three : List (Option ℕ)) (
   IsNew u v i = (u ≡ n) × (v ≡ y) × (i < c) × (slot totals after u v i + i + 1 ≡ first + c)
 
   abbrev IsOld : ℕ → ℕ → ℕ → Type 0
-  IsOld u v i = IsWritten totals left u v i × (slot totals after u v i ≡ slot totals slots u v i)
+  IsOld u v i = IsWritten totals remaining u v i × (slot totals after u v i ≡ slot totals slots u v i)
 
   here : (i : ℕ) → c - k ≤ i → i < count_at totals n y → IsNew n y i ⊎ IsOld n y i
   here i done there = elim (cases_lt i c) [
@@ -118,7 +118,7 @@ module _ (totals left slots after : List ℕ) (zero three : List (Option ℕ)) (
       inr_new : (slot totals after n y i + i + 1 ≡ first + c) × (i < c) → IsNew n y i ⊎ IsOld n y i
       inr_new p = inl (refl, refl, p.1, p.0)
 
-  elsewhere : (u v i : ℕ) → (n ≡ u → y ≡ v → ⊥) → IsWritten totals left u v i → slot totals after u v i ≡ slot totals slots u v i
+  elsewhere : (u v i : ℕ) → (n ≡ u → y ≡ v → ⊥) → IsWritten totals remaining u v i → slot totals after u v i ≡ slot totals slots u v i
   elsewhere u v i other is =
       let at : ℕ = start totals n y + (c - k) in
       let p : ℕ = start totals u v + i in
@@ -136,8 +136,8 @@ module _ (totals left slots after : List ℕ) (zero three : List (Option ℕ)) (
   new_or_old u v i is = elim (cases_eq n u) [
     | inl e ↦ elim (cases_eq y v) [
       | inl f ↦
-          let place : place_of n y ≡ place_of u v = omega (arith, e, f) in
-          let done : c - k ≤ i = omega (arith, is.done, count_here left n y (c - k) places n_in y_in, ap (λ (q : ℕ). get_or less q 0) place) in
+          let place : pair_index n y ≡ pair_index u v = omega (arith, e, f) in
+          let done : c - k ≤ i = omega (arith, is.done, count_here remaining n y (c - k) places n_in y_in, ap (λ (q : ℕ). get_or less q 0) place) in
           subst (λ (a : ℕ). IsNew a v i ⊎ IsOld a v i) e (subst (λ (b : ℕ). IsNew n b i ⊎ IsOld n b i) f (here i done (subst (λ (b : ℕ). i < count_at totals n b) (sym f) (subst (λ (a : ℕ). i < count_at totals a v) (sym e) is.there))))
       | inr ne ↦ old u v i is (λ _ f. ne f)
     ]
@@ -146,11 +146,11 @@ module _ (totals left slots after : List ℕ) (zero three : List (Option ℕ)) (
     where
       old : (u v i : ℕ) → IsWritten totals less u v i → (n ≡ u → y ≡ v → ⊥) → IsNew u v i ⊎ IsOld u v i
       old u v i is other =
-          let was : IsWritten totals left u v i = record { zero_in = is.zero_in; three_in = is.three_in; done = omega (arith, is.done, count_other left n y (c - k) places n_in y_in u v is.three_in other); there = is.there } in
+          let was : IsWritten totals remaining u v i = record { zero_in = is.zero_in; three_in = is.three_in; done = omega (arith, is.done, count_other remaining n y (c - k) places n_in y_in u v is.three_in other); there = is.there } in
           inr (was, elsewhere u v i other was)
 
   -- numbers of the pair that were written before are less
-  old_less : (i : ℕ) → IsWritten totals left n y i → slot totals slots n y i < first
+  old_less : (i : ℕ) → IsWritten totals remaining n y i → slot totals slots n y i < first
   old_less i is = elim (cases_lt (slot totals slots n y i) first) [ inl lt ↦ lt | inr le ↦ absurd (omega (arith, (so_far.recent n y i is le).0)) ]
 
   falls : (u v i j : ℕ) → IsWritten totals less u v i → i < j → j < count_at totals u v → slot totals after u v j < slot totals after u v i
@@ -160,12 +160,12 @@ module _ (totals left slots after : List ℕ) (zero three : List (Option ℕ)) (
         | inl new ↦ elim (new_or_old u v j later) [
           | inl new_too ↦ omega (arith, new.3, new_too.3, lt)
           | inr old ↦
-              let less_old : slot totals slots u v j < first = subst (λ (a : ℕ). slot totals slots a v j < first) (sym new.0) (subst (λ (b : ℕ). slot totals slots n b j < first) (sym new.1) (old_less j (subst (λ (b : ℕ). IsWritten totals left n b j) new.1 (subst (λ (a : ℕ). IsWritten totals left a v j) new.0 old.0)))) in
+              let less_old : slot totals slots u v j < first = subst (λ (a : ℕ). slot totals slots a v j < first) (sym new.0) (subst (λ (b : ℕ). slot totals slots n b j < first) (sym new.1) (old_less j (subst (λ (b : ℕ). IsWritten totals remaining n b j) new.1 (subst (λ (a : ℕ). IsWritten totals remaining a v j) new.0 old.0)))) in
               omega (arith, less_old, old.1, new.2, new.3)
         ]
         | inr old ↦ elim (new_or_old u v j later) [
           | inl new ↦
-              let done : c ≤ i = subst (λ (b : ℕ). count_at left n b ≤ i) new.1 (subst (λ (a : ℕ). count_at left a v ≤ i) new.0 old.0.done) in
+              let done : c ≤ i = subst (λ (b : ℕ). count_at remaining n b ≤ i) new.1 (subst (λ (a : ℕ). count_at remaining a v ≤ i) new.0 old.0.done) in
               absurd (omega (arith, done, new.2, lt))
           | inr old_too ↦ omega (arith, old.1, old_too.1, so_far.numbered.falling u v i j old.0 lt there)
         ]
@@ -193,18 +193,18 @@ module _ (totals left slots after : List ℕ) (zero three : List (Option ℕ)) (
     ]
   ]
 
-  still_written : (u v i : ℕ) → IsWritten totals left u v i → IsWritten totals less u v i
+  still_written : (u v i : ℕ) → IsWritten totals remaining u v i → IsWritten totals less u v i
   still_written u v i is = record {
     zero_in = is.zero_in;
     three_in = is.three_in;
     done = elim (cases_eq n u) [
       | inl e ↦ elim (cases_eq y v) [
         | inl f ↦
-            let place : place_of n y ≡ place_of u v = omega (arith, e, f) in
-            omega (arith, is.done, count_here left n y (c - k) places n_in y_in, ap (λ (q : ℕ). get_or less q 0) place, ap (λ (q : ℕ). get_or left q 0) place)
-        | inr ne ↦ omega (arith, is.done, count_other left n y (c - k) places n_in y_in u v is.three_in (λ _ f. ne f))
+            let place : pair_index n y ≡ pair_index u v = omega (arith, e, f) in
+            omega (arith, is.done, count_here remaining n y (c - k) places n_in y_in, ap (λ (q : ℕ). get_or less q 0) place, ap (λ (q : ℕ). get_or remaining q 0) place)
+        | inr ne ↦ omega (arith, is.done, count_other remaining n y (c - k) places n_in y_in u v is.three_in (λ _ f. ne f))
       ]
-      | inr ne ↦ omega (arith, is.done, count_other left n y (c - k) places n_in y_in u v is.three_in (λ e _. ne e))
+      | inr ne ↦ omega (arith, is.done, count_other remaining n y (c - k) places n_in y_in u v is.three_in (λ e _. ne e))
     ];
     there = is.there;
   }
@@ -215,10 +215,10 @@ module _ (totals left slots after : List ℕ) (zero three : List (Option ℕ)) (
       sized = w.sized ∙ so_far.numbered.sized;
       within = λ u v u_in v_in. elim (cases_eq n u) [
         | inl e ↦ elim (cases_eq y v) [
-          | inl f ↦ subst (λ (a : ℕ). count_at less a v ≤ count_at totals a v) e (subst (λ (b : ℕ). count_at less n b ≤ count_at totals n b) f (omega (arith, count_here left n y (c - k) places n_in y_in, within_old)))
-          | inr ne ↦ omega (arith, count_other left n y (c - k) places n_in y_in u v v_in (λ _ f. ne f), so_far.numbered.within u v u_in v_in)
+          | inl f ↦ subst (λ (a : ℕ). count_at less a v ≤ count_at totals a v) e (subst (λ (b : ℕ). count_at less n b ≤ count_at totals n b) f (omega (arith, count_here remaining n y (c - k) places n_in y_in, within_old)))
+          | inr ne ↦ omega (arith, count_other remaining n y (c - k) places n_in y_in u v v_in (λ _ f. ne f), so_far.numbered.within u v u_in v_in)
         ]
-        | inr ne ↦ omega (arith, count_other left n y (c - k) places n_in y_in u v v_in (λ e _. ne e), so_far.numbered.within u v u_in v_in)
+        | inr ne ↦ omega (arith, count_other remaining n y (c - k) places n_in y_in u v v_in (λ e _. ne e), so_far.numbered.within u v u_in v_in)
       ];
       below = λ u v i is. elim (new_or_old u v i is) [
         | inl new ↦ omega (arith, new.3, new_done u v i is new, k_there)
@@ -234,7 +234,7 @@ module _ (totals left slots after : List ℕ) (zero three : List (Option ℕ)) (
     each = λ u v d u_in own from to. elim (cases_eq u n) [
       | inl e ↦
           let same : y ≡ v = same_Some y v (sym joined ∙ subst (λ (a : ℕ). partner zero a ≡ Some v) e own) in
-          subst (λ (a : ℕ). HasNumber totals less after d a v) (sym e) (subst (λ (b : ℕ). HasNumber totals less after d n b) same (new_has d from to))
+          subst (λ (a : ℕ). StandsIn totals less after d a v) (sym e) (subst (λ (b : ℕ). StandsIn totals less after d n b) same (new_has d from to))
       | inr ne ↦
           let has = so_far.each u v d (omega arith) own from to in
           let is = still_written u v has.0 has.1 in
@@ -244,25 +244,25 @@ module _ (totals left slots after : List ℕ) (zero three : List (Option ℕ)) (
     where
       new_done : (u v i : ℕ) → IsWritten totals less u v i → IsNew u v i → c - k ≤ i
       new_done u v i is new =
-          let place : place_of u v ≡ place_of n y = omega (arith, new.0, new.1) in
-          omega (arith, is.done, count_here left n y (c - k) places n_in y_in, ap (λ (q : ℕ). get_or less q 0) place)
+          let place : pair_index u v ≡ pair_index n y = omega (arith, new.0, new.1) in
+          omega (arith, is.done, count_here remaining n y (c - k) places n_in y_in, ap (λ (q : ℕ). get_or less q 0) place)
 
-      new_has : (d : ℕ) → first ≤ d → d < first + k → HasNumber totals less after d n y
+      new_has : (d : ℕ) → first ≤ d → d < first + k → StandsIn totals less after d n y
       new_has d from to =
           let i : ℕ = c - 1 - (d - first) in
           let in_c : i < c = omega (arith, from, to, k_there) in
           let done : c - k ≤ i = omega (arith, from, to, k_there) in (
             i,
-            record { zero_in = n_in; three_in = y_in; done = omega (arith, done, count_here left n y (c - k) places n_in y_in); there = omega (arith, in_c, within_old) },
+            record { zero_in = n_in; three_in = y_in; done = omega (arith, done, count_here remaining n y (c - k) places n_in y_in); there = omega (arith, in_c, within_old) },
             omega (arith, from, to, k_there, w.here (start totals n y + i) (omega (arith, done)) (omega (arith, in_c, k_there))),
           )
 
   -- the numbers before it stay
-  pub joined_keeps : KeepNumbers totals first left slots less after
+  pub joined_keeps : KeepNumbers totals first remaining slots less after
   joined_keeps = record {
     old = λ u v d lt has. elim (new_or_old u v has.0 (still_written u v has.0 has.1)) [
       | inl new ↦
-          let done : c ≤ has.0 = subst (λ (b : ℕ). count_at left n b ≤ has.0) new.1 (subst (λ (a : ℕ). count_at left a v ≤ has.0) new.0 has.1.done) in
+          let done : c ≤ has.0 = subst (λ (b : ℕ). count_at remaining n b ≤ has.0) new.1 (subst (λ (a : ℕ). count_at remaining a v ≤ has.0) new.0 has.1.done) in
           absurd (omega (arith, done, new.2))
       | inr old ↦ (has.0, still_written u v has.0 has.1, old.1 ∙ has.2)
     ];
@@ -272,29 +272,29 @@ module _ (totals left slots after : List ℕ) (zero three : List (Option ℕ)) (
     ];
   }
 
-pub keep_all : (totals : List ℕ) (first : ℕ) (left slots : List ℕ) → KeepNumbers totals first left slots left slots
-keep_all totals first left slots = record { old = λ u v d lt has. has; only = λ u v d lt has. has }
+pub keep_all : (totals : List ℕ) (first : ℕ) (remaining slots : List ℕ) → KeepNumbers totals first remaining slots remaining slots
+keep_all totals first remaining slots = record { old = λ u v d lt has. has; only = λ u v d lt has. has }
 
-pub keep_both : (totals : List ℕ) (first : ℕ) (left slots left_now slots_now left_then slots_then : List ℕ) → KeepNumbers totals first left slots left_now slots_now → KeepNumbers totals first left_now slots_now left_then slots_then → KeepNumbers totals first left slots left_then slots_then
-keep_both totals first left slots left_now slots_now left_then slots_then one other = record {
+pub keep_both : (totals : List ℕ) (first : ℕ) (remaining slots remaining_now slots_now remaining_then slots_then : List ℕ) → KeepNumbers totals first remaining slots remaining_now slots_now → KeepNumbers totals first remaining_now slots_now remaining_then slots_then → KeepNumbers totals first remaining slots remaining_then slots_then
+keep_both totals first remaining slots remaining_now slots_now remaining_then slots_then one other = record {
   old = λ u v d lt has. other.old u v d lt (one.old u v d lt has);
   only = λ u v d lt has. one.only u v d lt (other.only u v d lt has);
 }
 
 -- ---- one step more
 
-pub no_steps : (totals left slots : List ℕ) → AreSteps totals left slots 0 []
-no_steps totals left slots d lt = absurd (omega arith)
+pub no_steps : (totals remaining slots : List ℕ) → AreSteps totals remaining slots 0 []
+no_steps totals remaining slots d lt = absurd (omega arith)
 
-module _ (totals left slots left_now slots_now : List ℕ) (zeros : List (Option ℕ)) (first k : ℕ) (heads : List ℕ) (so_far : AreSteps totals left slots first heads) (kept : KeepNumbers totals first left slots left_now slots_now) (now : AreNumberedFrom zeros first MAX_MODULES totals left_now slots_now (first + k)) where
+module _ (totals remaining slots remaining_now slots_now : List ℕ) (zeros : List (Option ℕ)) (first k : ℕ) (heads : List ℕ) (so_far : AreSteps totals remaining slots first heads) (kept : KeepNumbers totals first remaining slots remaining_now slots_now) (now : AreNumberedFrom zeros first MAX_MODULES totals remaining_now slots_now (first + k)) where
   -- just the joined pairs have a number of the step
-  on_step : (d u v : ℕ) → first ≤ d → d < first + k → HasNumber totals left_now slots_now d u v → partner zeros u ≡ Some v
+  on_step : (d u v : ℕ) → first ≤ d → d < first + k → StandsIn totals remaining_now slots_now d u v → partner zeros u ≡ Some v
   on_step d u v from to has = (now.recent u v has.0 has.1 (omega (arith, from, has.2))).1
 
-  same_on_step : (d e : ℕ) → first ≤ d → d < first + k → first ≤ e → e < first + k → (u v : ℕ) → HasNumber totals left_now slots_now d u v → HasNumber totals left_now slots_now e u v
+  same_on_step : (d e : ℕ) → first ≤ d → d < first + k → first ≤ e → e < first + k → (u v : ℕ) → StandsIn totals remaining_now slots_now d u v → StandsIn totals remaining_now slots_now e u v
   same_on_step d e d_from d_to e_from e_to u v has = now.each u v e has.1.zero_in (on_step d u v d_from d_to has) e_from e_to
 
-  pub one_step : AreSteps totals left_now slots_now (first + k) (first ∷ heads)
+  pub one_step : AreSteps totals remaining_now slots_now (first + k) (first ∷ heads)
   one_step d lt = elim (cases_lt d first) [
     | inl before ↦ elim (so_far d before) [
       | inl head ↦ inl (suc head.0, omega (arith, head.1), head.2)
@@ -362,7 +362,7 @@ find_behind (x ∷ xs) u v i lt =
       ]
     ]
 
-module _ (batch : List Transfer) (totals left slots numbers : List ℕ) (settings : ℕ) (counted : AreCounted batch totals) (done : (u v : ℕ) → u < MAX_MODULES → v < MAX_MODULES → count_at left u v ≡ 0) (n : AreNumbered totals left slots settings) (read : AreReadTo batch totals slots numbers (length batch)) (low : (t : ℕ) (x : Transfer) → slice_get batch t ≡ Some x → (x.initiator < MAX_MODULES) × (x.responder < MAX_MODULES)) where
+module _ (batch : List Transfer) (totals remaining slots numbers : List ℕ) (settings : ℕ) (counted : ArePairCounts batch totals) (done : (u v : ℕ) → u < MAX_MODULES → v < MAX_MODULES → count_at remaining u v ≡ 0) (n : AreNumbered totals remaining slots settings) (read : AreReadTo batch totals slots numbers (length batch)) (low : (t : ℕ) (x : Transfer) → slice_get batch t ≡ Some x → (x.initiator < MAX_MODULES) × (x.responder < MAX_MODULES)) where
   -- how many of a pair stand behind transfer t
   abbrev behind : ℕ → ℕ → ℕ → ℕ
   behind t u v = pair_count (drop (t + 1) batch) u v
@@ -370,7 +370,7 @@ module _ (batch : List Transfer) (totals left slots numbers : List ℕ) (setting
   known : (t : ℕ) → t < length batch → (x : Transfer) × (slice_get batch t ≡ Some x)
   known t t_in = elim (slice_get_cases batch t).1 [ inl p ↦ (p.0, p.2) | inr p ↦ absurd (omega (arith, p.0)) ]
 
-  own_written : (t : ℕ) (x : Transfer) → slice_get batch t ≡ Some x → IsWritten totals left x.initiator x.responder (behind t x.initiator x.responder)
+  own_written : (t : ℕ) (x : Transfer) → slice_get batch t ≡ Some x → IsWritten totals remaining x.initiator x.responder (behind t x.initiator x.responder)
   own_written t x here =
       let is_low = low t x here in record {
         zero_in = is_low.0;
@@ -384,7 +384,7 @@ module _ (batch : List Transfer) (totals left slots numbers : List ℕ) (setting
   same_pair t u x y less here there one same =
       let moved : slot totals slots y.initiator y.responder (behind u y.initiator y.responder) ≡ slot totals slots x.initiator x.responder (behind u x.initiator x.responder) = rw (one.0, one.1) refl in
       let fewer : behind u x.initiator x.responder < behind t x.initiator x.responder = rw (one.0, one.1) (later_fewer batch t u y less there) in
-      let at_u : IsWritten totals left x.initiator x.responder (behind u x.initiator x.responder) = rw (one.0, one.1) (own_written u y there) in
+      let at_u : IsWritten totals remaining x.initiator x.responder (behind u x.initiator x.responder) = rw (one.0, one.1) (own_written u y there) in
       omega (arith, same, moved, n.falling x.initiator x.responder (behind u x.initiator x.responder) (behind t x.initiator x.responder) at_u fewer (own_written t x here).there)
 
   apart_transfers : (t u : ℕ) (x y : Transfer) → slice_get batch t ≡ Some x → slice_get batch u ≡ Some y → (x.initiator ≢ y.initiator) × (x.responder ≢ y.responder) → AreApart batch t u
@@ -411,13 +411,13 @@ module _ (batch : List Transfer) (totals left slots numbers : List ℕ) (setting
   }
 
   -- just the pairs that have a number of slots have one of transfers
-  pub joins_from : (d u v : ℕ) → JoinsAs batch numbers d u v → HasNumber totals left slots d u v
+  pub joins_from : (d u v : ℕ) → JoinsAs batch numbers d u v → StandsIn totals remaining slots d u v
   joins_from d u v j =
       let is = own_written j.t j.x j.here in
       let at = read.at j.t j.x (slice_get_within batch j.t j.x j.here) j.here in
-      subst (λ (a : ℕ). HasNumber totals left slots d a v) j.zero_is (subst (λ (b : ℕ). HasNumber totals left slots d j.x.initiator b) j.three_is (behind j.t j.x.initiator j.x.responder, is, sym at ∙ j.number))
+      subst (λ (a : ℕ). StandsIn totals remaining slots d a v) j.zero_is (subst (λ (b : ℕ). StandsIn totals remaining slots d j.x.initiator b) j.three_is (behind j.t j.x.initiator j.x.responder, is, sym at ∙ j.number))
 
-  pub joins_to_number : (d u v : ℕ) → HasNumber totals left slots d u v → JoinsAs batch numbers d u v
+  pub joins_to_number : (d u v : ℕ) → StandsIn totals remaining slots d u v → JoinsAs batch numbers d u v
   joins_to_number d u v has =
       let is = has.1 in
       let f = find_behind batch u v has.0 (omega (arith, is.there, counted.at u v is.zero_in is.three_in)) in
@@ -428,7 +428,7 @@ module _ (batch : List Transfer) (totals left slots numbers : List ℕ) (setting
       let moved : slot totals slots f.1.initiator f.1.responder (behind f.0 f.1.initiator f.1.responder) ≡ slot totals slots u v (behind f.0 u v) = rw (a, b) refl in
       record { t = f.0; x = f.1; here = f.2; zero_is = a; three_is = b; number = at ∙ (moved ∙ (ap (slot totals slots u v) f.4 ∙ has.2)) }
 
-  pub heads_read : (spare most : ℕ) → AreFewSteps totals left slots settings spare most → HaveHeads batch settings most numbers
+  pub heads_read : (spare most : ℕ) → AreFewSteps totals remaining slots settings spare most → HaveHeads batch settings most numbers
   heads_read spare most f = record {
     heads = f.heads;
     few = omega (arith, f.few);
@@ -457,38 +457,38 @@ at_end xs y i e = get_or_push xs y 0 i (sym e)
 
 -- ---- one pair at a time
 
-pub all_taken : (left : List ℕ) → HaveMost left 0 → (u v : ℕ) → u < MAX_MODULES → v < MAX_MODULES → count_at left u v ≡ 0
-all_taken left most u v u_in v_in = omega (arith, most Zero u u_in, at_most_sum MAX_MODULES v (λ w. count_at left u w) v_in)
+pub all_taken : (remaining : List ℕ) → HaveMost remaining 0 → (u v : ℕ) → u < MAX_MODULES → v < MAX_MODULES → count_at remaining u v ≡ 0
+all_taken remaining most u v u_in v_in = omega (arith, most Zero u u_in, at_most_sum MAX_MODULES v (λ w. count_at remaining u w) v_in)
 
-pub counted_less : (batch : List Transfer) (t : ℕ) (x : Transfer) (left : List ℕ) (a b : ℕ) → AreCounted (drop t batch) left → slice_get batch t ≡ Some x → a ≡ x.initiator → b ≡ x.responder → a < MAX_MODULES → b < MAX_MODULES → AreCounted (drop (t + 1) batch) (set left (place_of a b) (count_at left a b - 1))
-counted_less batch t x left a b c here start answer a_in b_in = record {
-  places = length-set left (place_of a b) (count_at left a b - 1) ∙ c.places;
+pub counted_less : (batch : List Transfer) (t : ℕ) (x : Transfer) (remaining : List ℕ) (a b : ℕ) → ArePairCounts (drop t batch) remaining → slice_get batch t ≡ Some x → a ≡ x.initiator → b ≡ x.responder → a < MAX_MODULES → b < MAX_MODULES → ArePairCounts (drop (t + 1) batch) (set remaining (pair_index a b) (count_at remaining a b - 1))
+counted_less batch t x remaining a b c here start answer a_in b_in = record {
+  places = length-set remaining (pair_index a b) (count_at remaining a b - 1) ∙ c.places;
   at = λ u v u_in v_in.
       let split = pair_behind batch t x u v here in
       elim (cases_eq a u) [
         | inl e ↦ elim (cases_eq b v) [
           | inl f ↦
-              let place : place_of u v ≡ place_of a b = omega (arith, e, f) in
+              let place : pair_index u v ≡ pair_index a b = omega (arith, e, f) in
               let one : bit (hits u v x) ≡ 1 = rw (eq-eqb x.initiator u (omega (arith, e, start)), eq-eqb x.responder v (omega (arith, f, answer))) refl in
-              omega (arith, split, one, c.at u v u_in v_in, count_here left a b (count_at left a b - 1) c.places a_in b_in, ap (λ (p : ℕ). get_or (set left (place_of a b) (count_at left a b - 1)) p 0) place, ap (λ (p : ℕ). get_or left p 0) place)
+              omega (arith, split, one, c.at u v u_in v_in, count_here remaining a b (count_at remaining a b - 1) c.places a_in b_in, ap (λ (p : ℕ). get_or (set remaining (pair_index a b) (count_at remaining a b - 1)) p 0) place, ap (λ (p : ℕ). get_or remaining p 0) place)
           | inr ne ↦
               let none : bit (hits u v x) ≡ 0 = no_hit u v x (λ _ g. ne (answer ∙ g)) in
-              omega (arith, split, none, c.at u v u_in v_in, count_other left a b (count_at left a b - 1) c.places a_in b_in u v v_in (λ _ g. ne g))
+              omega (arith, split, none, c.at u v u_in v_in, count_other remaining a b (count_at remaining a b - 1) c.places a_in b_in u v v_in (λ _ g. ne g))
         ]
         | inr ne ↦
             let none : bit (hits u v x) ≡ 0 = no_hit u v x (λ g _. ne (start ∙ g)) in
-            omega (arith, split, none, c.at u v u_in v_in, count_other left a b (count_at left a b - 1) c.places a_in b_in u v v_in (λ g _. ne g))
+            omega (arith, split, none, c.at u v u_in v_in, count_other remaining a b (count_at remaining a b - 1) c.places a_in b_in u v v_in (λ g _. ne g))
       ];
 }
 
 -- the transfer waits
-pub own_waits : (batch : List Transfer) (t : ℕ) (x : Transfer) (left : List ℕ) (a b : ℕ) → AreCounted (drop t batch) left → slice_get batch t ≡ Some x → a ≡ x.initiator → b ≡ x.responder → a < MAX_MODULES → b < MAX_MODULES → count_at left a b ≡ 1 + pair_count (drop (t + 1) batch) a b
-own_waits batch t x left a b c here start answer a_in b_in =
+pub own_waits : (batch : List Transfer) (t : ℕ) (x : Transfer) (remaining : List ℕ) (a b : ℕ) → ArePairCounts (drop t batch) remaining → slice_get batch t ≡ Some x → a ≡ x.initiator → b ≡ x.responder → a < MAX_MODULES → b < MAX_MODULES → count_at remaining a b ≡ 1 + pair_count (drop (t + 1) batch) a b
+own_waits batch t x remaining a b c here start answer a_in b_in =
     let one : bit (hits a b x) ≡ 1 = rw (eq-eqb x.initiator a (sym start), eq-eqb x.responder b (sym answer)) refl in
     omega (arith, c.at a b a_in b_in, pair_behind batch t x a b here, one)
 
-pub few_left : (batch : List Transfer) (t : ℕ) (totals left : List ℕ) (a b : ℕ) → AreCounted batch totals → AreCounted (drop t batch) left → a < MAX_MODULES → b < MAX_MODULES → count_at left a b ≤ count_at totals a b
-few_left batch t totals left a b all c a_in b_in = omega (arith, all.at a b a_in b_in, c.at a b a_in b_in, pair_drop batch t a b)
+pub few_left : (batch : List Transfer) (t : ℕ) (totals remaining : List ℕ) (a b : ℕ) → ArePairCounts batch totals → ArePairCounts (drop t batch) remaining → a < MAX_MODULES → b < MAX_MODULES → count_at remaining a b ≤ count_at totals a b
+few_left batch t totals remaining a b all c a_in b_in = omega (arith, all.at a b a_in b_in, c.at a b a_in b_in, pair_drop batch t a b)
 
 pub read_more : (batch : List Transfer) (totals slots numbers : List ℕ) (n number : ℕ) (x : Transfer) → AreReadTo batch totals slots numbers n → slice_get batch n ≡ Some x → number ≡ slot totals slots x.initiator x.responder (pair_count (drop (n + 1) batch) x.initiator x.responder) → AreReadTo batch totals slots (numbers ++ number ∷ []) (n + 1)
 read_more batch totals slots numbers n number x r here is = record {
@@ -504,16 +504,16 @@ read_more batch totals slots numbers n number x r here is = record {
   ];
 }
 
-pub own_number : (batch : List Transfer) (totals slots : List ℕ) (t : ℕ) (x : Transfer) (left : List ℕ) (a b : ℕ) → AreCounted (drop t batch) left → slice_get batch t ≡ Some x → a ≡ x.initiator → b ≡ x.responder → a < MAX_MODULES → b < MAX_MODULES → slot totals slots a b (count_at left a b - 1) ≡ slot totals slots x.initiator x.responder (pair_count (drop (t + 1) batch) x.initiator x.responder)
-own_number batch totals slots t x left a b c here start answer a_in b_in =
-    let i : count_at left a b - 1 ≡ pair_count (drop (t + 1) batch) a b = omega (arith, own_waits batch t x left a b c here start answer a_in b_in) in
+pub own_number : (batch : List Transfer) (totals slots : List ℕ) (t : ℕ) (x : Transfer) (remaining : List ℕ) (a b : ℕ) → ArePairCounts (drop t batch) remaining → slice_get batch t ≡ Some x → a ≡ x.initiator → b ≡ x.responder → a < MAX_MODULES → b < MAX_MODULES → slot totals slots a b (count_at remaining a b - 1) ≡ slot totals slots x.initiator x.responder (pair_count (drop (t + 1) batch) x.initiator x.responder)
+own_number batch totals slots t x remaining a b c here start answer a_in b_in =
+    let i : count_at remaining a b - 1 ≡ pair_count (drop (t + 1) batch) a b = omega (arith, own_waits batch t x remaining a b c here start answer a_in b_in) in
     ap (λ (k : ℕ). slot totals slots a b k) i ∙ (ap (λ (u : ℕ). slot totals slots u b (pair_count (drop (t + 1) batch) u b)) start ∙ ap (λ (v : ℕ). slot totals slots x.initiator v (pair_count (drop (t + 1) batch) x.initiator v)) answer)
 
-pub counts_few : (batch : List Transfer) (counts : List ℕ) (most : ℕ) → AreCounted batch counts → length batch ≤ most → All (λ count. count ≤ most) counts
+pub counts_few : (batch : List Transfer) (counts : List ℕ) (most : ℕ) → ArePairCounts batch counts → length batch ≤ most → All (λ count. count ≤ most) counts
 counts_few batch counts most c few = All-from_get_or (λ count. count ≤ most) counts 0 (λ k lt.
     let u : ℕ = k / MAX_MODULES in
     let v : ℕ = k % MAX_MODULES in
-    let place : place_of u v ≡ k = omega arith in
+    let place : pair_index u v ≡ k = omega arith in
     let u_in : u < MAX_MODULES = omega (arith, c.places) in
     omega (arith, few, ap (λ (p : ℕ). get_or counts p 0) place, c.at u v u_in (omega arith), count_by-le-length (hits u v) batch))
 

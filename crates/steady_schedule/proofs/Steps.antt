@@ -11,7 +11,7 @@ use Rattle.steady_schedule.specs.Masks.{has_pair}
 use Rattle.steady_schedule.specs.Matchings.{partner, AreMatched, AreBelow}
 use Rattle.steady_schedule.specs.Searches.{AreNear}
 use Rattle.steady_schedule.specs.Covers.{IsSide}
-use Rattle.steady_schedule.specs.Waiting.{place_of, count_at, waiting, AreTold, HaveMost, NoneWait}
+use Rattle.steady_schedule.specs.Waiting.{pair_index, count_at, waiting, AreTold, HaveMost, NoneWait}
 use Rattle.steady_schedule.specs.Steps.{CanHoldAt, CanHold, is_partner, AreTaken, IsTight}
 use Rattle.steady_schedule.specs.Steps.IsTight.{all, by_pair, by_zero, by_three}
 use Rattle.steady_schedule.proofs.Matchings.{has_low, partner_low}
@@ -165,11 +165,11 @@ module _ (zero : List (Option ℕ)) (k n : ℕ) (old now : List ℕ) (so_far : A
     ];
   }
 
-  pub joined_taken : (y : ℕ) → y < MAX_MODULES → partner zero n ≡ Some y → AreTaken zero k (n + 1) old (set now (place_of n y) (count_at now n y - k))
+  pub joined_taken : (y : ℕ) → y < MAX_MODULES → partner zero n ≡ Some y → AreTaken zero k (n + 1) old (set now (pair_index n y) (count_at now n y - k))
   joined_taken y y_in joined =
-      let after : List ℕ = set now (place_of n y) (count_at now n y - k) in
+      let after : List ℕ = set now (pair_index n y) (count_at now n y - k) in
       record {
-        places = length-set now (place_of n y) (count_at now n y - k) ∙ so_far.places;
+        places = length-set now (pair_index n y) (count_at now n y - k) ∙ so_far.places;
         at = λ u v u_in v_in. elim (cases_eq u n) [
           | inl e ↦ subst (λ (x : ℕ). count_at after x v ≡ cond (nat_lt x (n + 1) && is_partner (partner zero x) v) (count_at old x v - k) (count_at old x v)) (sym e)
               (elim (cases_eq v y) [

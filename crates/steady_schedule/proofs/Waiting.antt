@@ -17,16 +17,16 @@ use Rattle.link_graph.specs.declared.link.End.TheVariants.{Zero, Three}
 use Rattle.link_graph.specs.Counts.{uses}
 use Rattle.link_graph.proofs.Users.{made, use_of, uses_few}
 use Rattle.steady_schedule.specs.Masks.{has_bit, has_pair}
-use Rattle.steady_schedule.specs.Waiting.{sum_below, pair_count, place_of, count_at, waiting, AreCounted, AreTold}
+use Rattle.steady_schedule.specs.Waiting.{sum_below, pair_count, pair_index, count_at, waiting, ArePairCounts, AreTold}
 use Rattle.steady_schedule.proofs.NeedChanges.{bit}
 use Rattle.steady_schedule.proofs.Sums.{sum_same, sum_none, sum_both, sum_changed, at_most_sum}
 
 -- ---- places
 
-place_low : (u v : ℕ) → u < MAX_MODULES → v < MAX_MODULES → place_of u v < MAX_MODULES * MAX_MODULES
+place_low : (u v : ℕ) → u < MAX_MODULES → v < MAX_MODULES → pair_index u v < MAX_MODULES * MAX_MODULES
 place_low u v u_in v_in = omega arith
 
-pub same_place : (a b u v : ℕ) → b < MAX_MODULES → v < MAX_MODULES → place_of a b ≡ place_of u v → (a ≡ u) × (b ≡ v)
+pub same_place : (a b u v : ℕ) → b < MAX_MODULES → v < MAX_MODULES → pair_index a b ≡ pair_index u v → (a ≡ u) × (b ≡ v)
 same_place a b u v b_in v_in e = same_from_place a b u v MAX_MODULES b_in v_in e
 
 -- the module of a pair at an end
@@ -38,13 +38,13 @@ end_of a b Three = b
 
 module _ (counts : List ℕ) (a b k : ℕ) (places : length counts ≡ MAX_MODULES * MAX_MODULES) (a_in : a < MAX_MODULES) (b_in : b < MAX_MODULES) where
   abbrev now : List ℕ
-  now = set counts (place_of a b) k
+  now = set counts (pair_index a b) k
 
   pub count_here : count_at now a b ≡ k
-  count_here = get_or-set_same counts (place_of a b) k 0 (omega (arith, places, place_low a b a_in b_in))
+  count_here = get_or-set_same counts (pair_index a b) k 0 (omega (arith, places, place_low a b a_in b_in))
 
   pub count_other : (u v : ℕ) → v < MAX_MODULES → (a ≡ u → b ≡ v → ⊥) → count_at now u v ≡ count_at counts u v
-  count_other u v v_in other = get_or-set_other counts (place_of a b) (place_of u v) k 0 (λ e. let same = same_place a b u v b_in v_in (sym e) in other same.0 same.1)
+  count_other u v v_in other = get_or-set_other counts (pair_index a b) (pair_index u v) k 0 (λ e. let same = same_place a b u v b_in v_in (sym e) in other same.0 same.1)
 
   pub waiting_here : (end : End) → waiting now end (end_of a b end) + count_at counts a b ≡ waiting counts end (end_of a b end) + k
   waiting_here Zero = omega (arith, count_here, sum_changed MAX_MODULES b (λ v. count_at counts a v) (λ v. count_at now a v) b_in (λ v v_in ne. count_other a v v_in (λ _ e. ne (sym e))))
@@ -73,7 +73,7 @@ module _ (counts : List ℕ) (a b k : ℕ) (places : length counts ≡ MAX_MODUL
 
   pub told_now : (zn zu tn tu : List ℕ) (wz uz wt ut : ℕ) → AreTold counts zn zu tn tu → ((m : ℕ) → m < MAX_MODULES → has_bit wz m ≡ cond (b == m) (nat_lt 0 k) (has_pair zn a m)) → ((m : ℕ) → m < MAX_MODULES → has_bit wt m ≡ cond (a == m) (nat_lt 0 k) (has_pair tn b m)) → uz + count_at counts a b ≡ get_or zu a 0 + k → ut + count_at counts a b ≡ get_or tu b 0 + k → AreTold now (set zn a wz) (set zu a uz) (set tn b wt) (set tu b ut)
   told_now zn zu tn tu wz uz wt ut t bits_z bits_t uz_is ut_is = record {
-    places = length-set counts (place_of a b) k ∙ places;
+    places = length-set counts (pair_index a b) k ∙ places;
     near_zero_sized = length-set zn a wz ∙ t.near_zero_sized;
     near_three_sized = length-set tn b wt ∙ t.near_three_sized;
     uses_zero_sized = length-set zu a uz ∙ t.uses_zero_sized;
@@ -104,29 +104,29 @@ none_told =
       near_three_sized = length-replicate {A = ℕ} MAX_MODULES 0;
       uses_zero_sized = length-replicate {A = ℕ} MAX_MODULES 0;
       uses_three_sized = length-replicate {A = ℕ} MAX_MODULES 0;
-      near_zero = λ u v u_in v_in. no_mask MAX_MODULES u v ∙ ap (nat_lt 0) (sym (none_at n (place_of u v)));
-      near_three = λ u v u_in v_in. no_mask MAX_MODULES v u ∙ ap (nat_lt 0) (sym (none_at n (place_of u v)));
-      uses_zero = λ m m_in. none_at MAX_MODULES m ∙ sym (none_waits MAX_MODULES (λ v. count_at (replicate n 0) m v) (λ v. none_at n (place_of m v)));
-      uses_three = λ m m_in. none_at MAX_MODULES m ∙ sym (none_waits MAX_MODULES (λ u. count_at (replicate n 0) u m) (λ u. none_at n (place_of u m)));
+      near_zero = λ u v u_in v_in. no_mask MAX_MODULES u v ∙ ap (nat_lt 0) (sym (none_at n (pair_index u v)));
+      near_three = λ u v u_in v_in. no_mask MAX_MODULES v u ∙ ap (nat_lt 0) (sym (none_at n (pair_index u v)));
+      uses_zero = λ m m_in. none_at MAX_MODULES m ∙ sym (none_waits MAX_MODULES (λ v. count_at (replicate n 0) m v) (λ v. none_at n (pair_index m v)));
+      uses_three = λ m m_in. none_at MAX_MODULES m ∙ sym (none_waits MAX_MODULES (λ u. count_at (replicate n 0) u m) (λ u. none_at n (pair_index u m)));
     }
 
-pub none_counted : AreCounted [] (replicate (MAX_MODULES * MAX_MODULES) 0)
-none_counted = record { places = length-replicate {A = ℕ} (MAX_MODULES * MAX_MODULES) 0; at = λ u v u_in v_in. none_at (MAX_MODULES * MAX_MODULES) (place_of u v) }
+pub none_counted : ArePairCounts [] (replicate (MAX_MODULES * MAX_MODULES) 0)
+none_counted = record { places = length-replicate {A = ℕ} (MAX_MODULES * MAX_MODULES) 0; at = λ u v u_in v_in. none_at (MAX_MODULES * MAX_MODULES) (pair_index u v) }
 
 -- ---- one transfer more
 
 abbrev hits : ℕ → ℕ → Transfer → Bool
 hits u v x = x.initiator == u && x.responder == v
 
-pub counted_more : (xs : List Transfer) (x : Transfer) (counts : List ℕ) (a b : ℕ) → AreCounted xs counts → a ≡ x.initiator → b ≡ x.responder → a < MAX_MODULES → b < MAX_MODULES → AreCounted (xs ++ x ∷ []) (set counts (place_of a b) (count_at counts a b + 1))
+pub counted_more : (xs : List Transfer) (x : Transfer) (counts : List ℕ) (a b : ℕ) → ArePairCounts xs counts → a ≡ x.initiator → b ≡ x.responder → a < MAX_MODULES → b < MAX_MODULES → ArePairCounts (xs ++ x ∷ []) (set counts (pair_index a b) (count_at counts a b + 1))
 counted_more xs x counts a b c start answer a_in b_in = record {
-  places = length-set counts (place_of a b) (count_at counts a b + 1) ∙ c.places;
+  places = length-set counts (pair_index a b) (count_at counts a b + 1) ∙ c.places;
   at = λ u v u_in v_in.
       let pushed = sum_by_push (λ y. bit (hits u v y)) xs x in
       elim (eqb_tells x.initiator u) [
         | inl p ↦ elim (eqb_tells x.responder v) [
           | inl q ↦
-              let same : count_at (set counts (place_of a b) (count_at counts a b + 1)) u v ≡ count_at counts a b + 1 = ap (λ (i : ℕ). get_or (set counts (place_of a b) (count_at counts a b + 1)) i 0) (omega (arith, p.1, q.1, start, answer)) ∙ count_here counts a b (count_at counts a b + 1) c.places a_in b_in in
+              let same : count_at (set counts (pair_index a b) (count_at counts a b + 1)) u v ≡ count_at counts a b + 1 = ap (λ (i : ℕ). get_or (set counts (pair_index a b) (count_at counts a b + 1)) i 0) (omega (arith, p.1, q.1, start, answer)) ∙ count_here counts a b (count_at counts a b + 1) c.places a_in b_in in
               let old : count_at counts a b ≡ count_at counts u v = ap (λ (i : ℕ). get_or counts i 0) (omega (arith, p.1, q.1, start, answer)) in
               let one : bit (hits u v x) ≡ 1 = rw (p.0, q.0) refl in
               omega (arith, pushed, same, old, one, c.at u v u_in v_in)
@@ -175,17 +175,17 @@ pair_uses (x ∷ xs) Three m low =
     let split = sum_same MAX_MODULES (λ u. pair_count (x ∷ xs) u m) (λ u. bit (hits u m x) + pair_count xs u m) (λ u u_in. sum_by-cons (λ y. bit (hits u m y)) x xs) in
     omega (arith, split, sum_both MAX_MODULES (λ u. bit (hits u m x)) (λ u. pair_count xs u m), sum_right MAX_MODULES x.initiator (x.responder == m) x_low.0, pair_uses xs Three m (All-tail IsLow x xs low), sum_by-cons (use_of (made Three m)) x xs)
 
-pub waiting_uses : (xs : List Transfer) (counts : List ℕ) (end : End) (m : ℕ) → AreCounted xs counts → All IsLow xs → m < MAX_MODULES → waiting counts end m ≡ uses xs (made end m)
+pub waiting_uses : (xs : List Transfer) (counts : List ℕ) (end : End) (m : ℕ) → ArePairCounts xs counts → All IsLow xs → m < MAX_MODULES → waiting counts end m ≡ uses xs (made end m)
 waiting_uses xs counts Zero m c low m_in = sum_same MAX_MODULES (λ v. count_at counts m v) (λ v. pair_count xs m v) (λ v v_in. c.at m v m_in v_in) ∙ pair_uses xs Zero m low
 waiting_uses xs counts Three m c low m_in = sum_same MAX_MODULES (λ u. count_at counts u m) (λ u. pair_count xs u m) (λ u u_in. c.at u m u_in m_in) ∙ pair_uses xs Three m low
 
-pub waiting_few : (xs : List Transfer) (counts : List ℕ) (end : End) (m : ℕ) → AreCounted xs counts → All IsLow xs → m < MAX_MODULES → waiting counts end m ≤ length xs
+pub waiting_few : (xs : List Transfer) (counts : List ℕ) (end : End) (m : ℕ) → ArePairCounts xs counts → All IsLow xs → m < MAX_MODULES → waiting counts end m ≤ length xs
 waiting_few xs counts end m c low m_in = omega (arith, waiting_uses xs counts end m c low m_in, uses_few xs (made end m))
 
 pub all_low : (batch : List Transfer) → IsBatch batch → All IsLow batch
 all_low batch fits k d lt = (fits.within k d lt).0
 
-pub few_wait : (batch : List Transfer) (counts : List ℕ) (t : ℕ) → IsBatch batch → t < length batch → AreCounted (take t batch) counts → (end : End) (m : ℕ) → m < MAX_MODULES → waiting counts end m < MAX_TRANSFERS
+pub few_wait : (batch : List Transfer) (counts : List ℕ) (t : ℕ) → IsBatch batch → t < length batch → ArePairCounts (take t batch) counts → (end : End) (m : ℕ) → m < MAX_MODULES → waiting counts end m < MAX_TRANSFERS
 few_wait batch counts t fits t_in c end m m_in =
     omega (arith, waiting_few (take t batch) counts end m c (All-take IsLow t batch (all_low batch fits)) m_in, length-take-le t batch (omega arith), fits.few, t_in)
 
@@ -222,7 +222,7 @@ module _ (counts zn zu tn tu : List ℕ) (a b : ℕ) (t : AreTold counts zn zu t
   has_near some = (t.near_zero a b a_in b_in ∙ lt-ltb 0 (count_at counts a b) some, t.near_three a b a_in b_in ∙ lt-ltb 0 (count_at counts a b) some)
 
   -- some of the pair's transfers are left
-  pub told_some : (k uz ut : ℕ) → 0 < k → 0 < count_at counts a b → uz + count_at counts a b ≡ get_or zu a 0 + k → ut + count_at counts a b ≡ get_or tu b 0 + k → AreTold (set counts (place_of a b) k) zn (set zu a uz) tn (set tu b ut)
+  pub told_some : (k uz ut : ℕ) → 0 < k → 0 < count_at counts a b → uz + count_at counts a b ≡ get_or zu a 0 + k → ut + count_at counts a b ≡ get_or tu b 0 + k → AreTold (set counts (pair_index a b) k) zn (set zu a uz) tn (set tu b ut)
   told_some k uz ut some had uz_is ut_is =
       let near = has_near had in
       let told = told_now counts a b k t.places a_in b_in zn zu tn tu (get_or zn a 0) uz (get_or tn b 0) ut t (kept_bits (get_or zn a 0) b k some near.0) (kept_bits (get_or tn b 0) a k some near.1) uz_is ut_is in

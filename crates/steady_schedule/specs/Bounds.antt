@@ -1,5 +1,6 @@
--- How often a steady schedule changes the switch at most: once for each pair of links in use together,
--- and once for each link in use. Each step uses a pair up, or makes a link full that stays full.
+-- How often a steady schedule changes the switch at most: once for each pair of links in use
+-- together, and once for each link in use. Each step uses a pair up, or makes a link full that
+-- stays full.
 use Rattle.std.specs.Prelude.{◌≡◌, ℕ, ◌<◌, ◌+◌, List, cond, nat_lt}
 use Rattle.batch.specs.declared.limits.TheConstants.{MAX_MODULES}
 use Rattle.batch.specs.declared.transfer.Transfer.{Transfer}

@@ -5,12 +5,12 @@ use Rattle.batch.specs.declared.transfer.Transfer.{Transfer}
 use Rattle.link_graph.specs.Marks.{members}
 
 -- whether one of the transfers joins link 0 of module u to link 3 of module v
-abbrev pub join : List Transfer → ℕ → ℕ → Bool
-join transfers u v = list_any (λ x. x.initiator == u && x.responder == v) transfers
+abbrev pub are_partners : List Transfer → ℕ → ℕ → Bool
+are_partners transfers u v = list_any (λ x. x.initiator == u && x.responder == v) transfers
 
 -- whether each pair of modules that these transfers join is one that the others join too
 abbrev pub join_within : List Transfer → List Transfer → Bool
-join_within transfers others = list_all (λ x. join others x.initiator x.responder) transfers
+join_within transfers others = list_all (λ x. are_partners others x.initiator x.responder) transfers
 
 -- whether two settings join the same pairs of modules
 abbrev pub join_same : List Transfer → List ℕ → List ℕ → Bool

@@ -4,7 +4,7 @@ use Rattle.batch.specs.declared.transfer.Transfer.{Transfer}
 use Rattle.link_graph.specs.declared.link.Link.{Link}
 use Rattle.link_graph.specs.Marks.{members}
 use Rattle.link_graph.specs.Uses.{Uses}
-use Rattle.steady_schedule.specs.Changes.{join, join_same}
+use Rattle.steady_schedule.specs.Changes.{are_partners, join_same}
 
 -- setting k
 abbrev pub setting_at : List (List ℕ) → ℕ → List ℕ
@@ -17,9 +17,9 @@ IsUsed batch setting link = (t : ℕ) × Contains setting t × Uses batch t link
 -- Something is over with setting k: it joins link 0 of a module u to link 3 of a module v, and no
 -- later setting does; or it doesn't use some link, and each later setting does.
 pub data IsOver (batch : List Transfer) (settings : List (List ℕ)) (k : ℕ) : Type 0 where
-  pair_done : (u v : ℕ) → join (members batch (setting_at settings k)) u v ≡ true
+  pair_done : (u v : ℕ) → are_partners (members batch (setting_at settings k)) u v ≡ true
       → ((later : ℕ) → k < later → later < length settings
-      → join (members batch (setting_at settings later)) u v ≡ false)
+      → are_partners (members batch (setting_at settings later)) u v ≡ false)
       → IsOver batch settings k
   link_needed : (link : Link) → (IsUsed batch (setting_at settings k) link → ⊥)
       → ((later : ℕ) → k < later → later < length settings

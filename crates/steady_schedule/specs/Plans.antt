@@ -32,7 +32,8 @@ NamesBusiest batch None transfers = (batch ≡ []) × (transfers ≡ [])
 NamesBusiest batch (Some link) transfers =
     IsBusiest batch link × AreUsers batch link transfers × (length transfers ≡ uses batch link)
 
--- a link with the most partners, the first of these, and how many these are; an empty batch has none
+-- a link with the most partners, the first of these, and how many these are; an empty batch has
+-- none
 abbrev pub IsDemanding : List Transfer → Option (Link × ℕ) → Type 0
 IsDemanding batch None = batch ≡ []
 IsDemanding batch (Some (link, count)) =

@@ -1,5 +1,5 @@
--- What falls from step to step: how many pairs of links have transfers that wait, and how many links
--- that had some aren't full.
+-- What falls from step to step: how many pairs of links have transfers that wait, and how many
+-- links that had some aren't full.
 use Rattle.std.specs.Prelude.{◌≡◌, ℕ, ◌+◌, ◌<◌, List, cond, nat_lt}
 use Rattle.batch.specs.declared.limits.TheConstants.{MAX_MODULES}
 use Rattle.link_graph.specs.declared.link.End.{End}
@@ -15,8 +15,8 @@ abbrev pub has_any : List ℕ → ℕ → ℕ
 has_any counts u = sum_below MAX_MODULES (λ v. has_any_at counts u v)
 
 -- how many pairs have transfers that wait
-abbrev pub pairs_left : List ℕ → ℕ
-pairs_left counts = sum_below MAX_MODULES (has_any counts)
+abbrev pub pairs_remaining : List ℕ → ℕ
+pairs_remaining counts = sum_below MAX_MODULES (has_any counts)
 
 -- 1 where the link had transfers, and has fewer that wait than settings are left
 abbrev pub low_at : List ℕ → List ℕ → ℕ → End → ℕ → ℕ
@@ -30,7 +30,8 @@ links_low totals counts most end = sum_below MAX_MODULES (low_at totals counts m
 -- the pairs and the links together
 abbrev pub potential : List ℕ → List ℕ → ℕ → ℕ
 potential totals counts most =
-    pairs_left counts + (links_low totals counts most Zero + links_low totals counts most Three)
+    pairs_remaining counts
+    + (links_low totals counts most Zero + links_low totals counts most Three)
 
 -- some link is full
 pub record IsReached (counts : List ℕ) (most : ℕ) : Type 0 where

@@ -29,8 +29,9 @@ pub record IsInVain (near : List ℕ) (full unseen now : ℕ)
   pub stuck : (y : ℕ) → has_bit unseen y ≡ true → has_bit now y ≡ false
       → IsStuck near full now back_now y
 
--- A search that found a partner for x. Whoever had one at the other end, or is full at this one, has
--- one now. Those that were free are free, and those that had been seen have the partners they had.
+-- A search that found a partner for x. Whoever had one at the other end, or is full at this one,
+-- has one now. Those that were free are free, and those that had been seen have the partners they
+-- had.
 pub record IsFound (near : List ℕ) (full unseen x : ℕ)
     (of of_now back back_now : List (Option ℕ)) : Type 0 where
   pub found : IsSome (partner of_now x)

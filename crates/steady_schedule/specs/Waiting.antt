@@ -1,5 +1,5 @@
--- How many transfers of each pair of links wait for a setting. Those of link 0 of module u and link 3
--- of module v stand at the place `u * MAX_MODULES + v`.
+-- How many transfers of each pair of links wait for a setting. Those of link 0 of module u and link
+-- 3 of module v stand at the place `u * MAX_MODULES + v`.
 use Rattle.std.specs.Prelude.{◌≡◌, ℕ, zero, suc, ◌+◌, ◌*◌, ◌<◌, ◌≤◌, List, length, ◌==◌, ◌&&◌, count_by, nat_lt, slice_index}
 use Rattle.batch.specs.declared.limits.TheConstants.{MAX_MODULES}
 use Rattle.batch.specs.declared.transfer.Transfer.{Transfer}
@@ -17,12 +17,12 @@ abbrev pub pair_count : List Transfer → ℕ → ℕ → ℕ
 pair_count batch u v = count_by (λ x. x.initiator == u && x.responder == v) batch
 
 -- the place of a pair
-abbrev pub place_of : ℕ → ℕ → ℕ
-place_of u v = u * MAX_MODULES + v
+abbrev pub pair_index : ℕ → ℕ → ℕ
+pair_index u v = u * MAX_MODULES + v
 
 -- how many transfers of the pair wait
 abbrev pub count_at : List ℕ → ℕ → ℕ → ℕ
-count_at counts u v = slice_index counts (place_of u v)
+count_at counts u v = slice_index counts (pair_index u v)
 
 -- how many of a link wait
 abbrev pub waiting : List ℕ → End → ℕ → ℕ
@@ -30,7 +30,7 @@ waiting counts Zero m = sum_below MAX_MODULES (λ v. count_at counts m v)
 waiting counts Three m = sum_below MAX_MODULES (λ u. count_at counts u m)
 
 -- just the transfers of the batch wait
-pub record AreCounted (batch : List Transfer) (counts : List ℕ) : Type 0 where
+pub record ArePairCounts (batch : List Transfer) (counts : List ℕ) : Type 0 where
   pub places : length counts ≡ MAX_MODULES * MAX_MODULES
   pub at : (u v : ℕ) → u < MAX_MODULES → v < MAX_MODULES
       → count_at counts u v ≡ pair_count batch u v

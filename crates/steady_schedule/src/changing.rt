@@ -7,7 +7,7 @@ ghost use Rattle.link_graph.specs.Marks.{members};
 ghost use Rattle.link_graph.specs.Schedules.{IsScheduleOf};
 ghost use Rattle.link_graph.specs.Uses.{IsMatching};
 ghost use Rattle.steady_schedule.specs.Changes.{join_within, join_same, changes};
-ghost use Rattle.steady_schedule.specs.Joined.{AreJoined};
+ghost use Rattle.steady_schedule.specs.Joined.{HaveResponders};
 
 use batch::{MAX_MODULES, MAX_TRANSFERS};
 use link_graph::{LinkGraph, Schedule};
@@ -20,8 +20,8 @@ fn put_in(joined: &mut Joined, graph: &LinkGraph, setting: &[usize])
     requires batch { IsBatch graph.now }
     requires known { All (λ t. t < length graph.now) setting.now }
     requires matching { IsMatching graph.now setting.now }
-    requires none { AreJoined [] joined.old }
-    ensures { AreJoined (members graph.now setting.now) joined.new }
+    requires none { HaveResponders [] joined.old }
+    ensures { HaveResponders (members graph.now setting.now) joined.new }
 {
     for place in 0..setting.len() {
         let (start, answer) = graph.ends_of(setting[place]);
@@ -34,8 +34,8 @@ fn take_out(joined: &mut Joined, graph: &LinkGraph, setting: &[usize])
     requires batch { IsBatch graph.now }
     requires known { All (λ t. t < length graph.now) setting.now }
     requires matching { IsMatching graph.now setting.now }
-    requires joined { AreJoined (members graph.now setting.now) joined.old }
-    ensures { AreJoined [] joined.new }
+    requires joined { HaveResponders (members graph.now setting.now) joined.old }
+    ensures { HaveResponders [] joined.new }
 {
     for place in 0..setting.len() {
         let (start, _) = graph.ends_of(setting[place]);
@@ -47,7 +47,7 @@ fn take_out(joined: &mut Joined, graph: &LinkGraph, setting: &[usize])
 fn stand_in(joined: &Joined, graph: &LinkGraph, setting: &[usize]) -> bool
     requires batch { IsBatch graph.now }
     requires known { All (λ t. t < length graph.now) setting.now }
-    ensures { (others : List Transfer) → AreJoined others joined.now
+    ensures { (others : List Transfer) → HaveResponders others joined.now
         → result ≡ join_within (members graph.now setting.now) others }
 {
     for place in 0..setting.len() {
@@ -67,7 +67,7 @@ fn join_same(joined: &Joined, graph: &LinkGraph, before: &[usize], setting: &[us
     requires matching_before { IsMatching graph.now before.now }
     requires known { All (λ t. t < length graph.now) setting.now }
     requires matching { IsMatching graph.now setting.now }
-    requires joined { AreJoined (members graph.now before.now) joined.now }
+    requires joined { HaveResponders (members graph.now before.now) joined.now }
     ensures { result ≡ join_same graph.now before.now setting.now }
 {
     setting.len() == before.len() && stand_in(joined, graph, setting)

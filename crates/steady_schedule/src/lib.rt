@@ -22,13 +22,13 @@
 mod changing;
 mod gathering;
 pub mod laws;
-mod left;
 mod masks;
 mod matching;
 mod numbering;
 mod partners;
 mod plan;
 mod planning;
+mod remaining;
 mod stepping;
 #[cfg(test)]
 mod tests;

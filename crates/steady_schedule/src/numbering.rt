@@ -10,13 +10,13 @@ ghost use Rattle.steady_schedule.specs.Matchings.{partner, AreBelow};
 ghost use Rattle.steady_schedule.specs.Bounds.{most_changes, IsReachedBy};
 ghost use Rattle.steady_schedule.specs.Potentials.{potential, IsReached};
 ghost use Rattle.steady_schedule.specs.Searches.{AreNear};
-ghost use Rattle.steady_schedule.specs.Slots.{slot, AreStarts, AreWithin, IsHeld, IsHeldAs, AreNumbered, AreNumberedFrom, KeepNumbers, AreFewSteps, AreWritten, AreReadInto, AreSlotsBelow, AreAtNeed, AreNumberedSettings};
+ghost use Rattle.steady_schedule.specs.Slots.{slot, AreFirstSlots, AreSlotsOf, IsKeptFor, IsHeldAs, AreNumbered, AreNumberedFrom, KeepNumbers, AreFewSteps, AreSlotsFilled, AreReadInto, AreSlotsBelow, AreAtNeed, AreNumberedSettings};
 ghost use Rattle.steady_schedule.specs.Steps.{AreTaken};
-ghost use Rattle.steady_schedule.specs.Waiting.{sum_below, place_of, count_at, AreCounted, HaveMost};
+ghost use Rattle.steady_schedule.specs.Waiting.{sum_below, pair_index, count_at, ArePairCounts, HaveMost};
 
 use crate::gathering::{empty_lists, push_into};
-use crate::left::{Left, PAIRS};
 use crate::matching::part;
+use crate::remaining::{PAIRS, Remaining};
 use crate::stepping::{Matching, next_step};
 use batch::{MAX_MODULES, MAX_TRANSFERS};
 use link_graph::LinkGraph;
@@ -29,7 +29,7 @@ struct Places {
     starts: [usize; PAIRS],
     /// How many slots there are.
     room: usize,
-    ghost placed: { AreStarts totals starts room },
+    ghost placed: { AreFirstSlots totals starts room },
 }
 
 impl Places {
@@ -56,7 +56,7 @@ impl Places {
         requires zero_in { zero < MAX_MODULES }
         requires three_in { three < MAX_MODULES }
         requires there { i ≤ count_at self.now.totals zero three }
-        ensures { result ≡ sum_below (place_of zero three) (slice_index self.now.totals) + i }
+        ensures { result ≡ sum_below (pair_index zero three) (slice_index self.now.totals) + i }
     {
         self.starts[zero * MAX_MODULES + three] + i
     }
@@ -66,7 +66,7 @@ impl Places {
 fn write_pair(slots: &mut [usize], at: usize, first: usize, settings: usize)
     requires room { at + settings ≤ length slots.old }
     requires few { first + settings ≤ MAX_TRANSFERS }
-    ensures { AreWritten at first settings slots.old slots.new }
+    ensures { AreSlotsFilled at first settings slots.old slots.new }
 {
     let end = at + settings;
     for place in at..end {
@@ -77,7 +77,7 @@ fn write_pair(slots: &mut [usize], at: usize, first: usize, settings: usize)
 /// Holds the pair of a link 0, where it is joined, for some settings: takes as many of its
 /// transfers, and writes the numbers of the settings for them. Parts it where none is left.
 fn hold_one(
-    left: &mut Left,
+    remaining: &mut Remaining,
     matching: &mut Matching,
     places: &Places,
     slots: &mut [usize],
@@ -88,24 +88,24 @@ fn hold_one(
     requires zero_in { zero < MAX_MODULES }
     requires some { 0 < settings }
     requires there { (y : ℕ) → partner matching.old.zero zero ≡ Some y
-        → settings ≤ count_at left.old.counts zero y }
+        → settings ≤ count_at remaining.old.counts zero y }
     requires few { first + settings ≤ MAX_TRANSFERS }
-    requires within { AreWithin places.now.totals left.old.counts slots.old }
+    requires within { AreSlotsOf places.now.totals remaining.old.counts slots.old }
     ensures free { partner matching.old.zero zero ≡ None
-        → IsHeldAs left.old.counts slots.old left.new.counts slots.new }
+        → IsHeldAs remaining.old.counts slots.old remaining.new.counts slots.new }
     ensures joined { (y : ℕ) → partner matching.old.zero zero ≡ Some y
-        → IsHeld places.now.totals zero y first settings
-        left.old.counts slots.old left.new.counts slots.new }
+        → IsKeptFor places.now.totals zero y first settings
+        remaining.old.counts slots.old remaining.new.counts slots.new }
     ensures rest { (y : ℕ) → partner matching.new.zero zero ≡ Some y
-        → 0 < count_at left.new.counts zero y }
+        → 0 < count_at remaining.new.counts zero y }
     ensures others { (x : ℕ) → x ≢ zero
         → partner matching.new.zero x ≡ partner matching.old.zero x }
 {
     let Some(three) = matching.zero[zero] else {
         return;
     };
-    left.take(zero, three, settings);
-    let rest = left.count(zero, three);
+    remaining.take(zero, three, settings);
+    let rest = remaining.count(zero, three);
     let at = places.slot(zero, three, rest);
     write_pair(slots, at, first, settings);
     if rest == 0 {
@@ -116,7 +116,7 @@ fn hold_one(
 /// Holds the matching for some settings, and parts the pairs of which no transfer is left. Links 0
 /// of the modules from `modules` on are free.
 fn hold(
-    left: &mut Left,
+    remaining: &mut Remaining,
     matching: &mut Matching,
     places: &Places,
     slots: &mut [usize],
@@ -128,48 +128,56 @@ fn hold(
     requires within { modules ≤ MAX_MODULES }
     requires low { AreBelow matching.old.zero modules }
     requires there { (x y : ℕ) → partner matching.old.zero x ≡ Some y
-        → settings ≤ count_at left.old.counts x y }
+        → settings ≤ count_at remaining.old.counts x y }
     requires few { first + settings ≤ MAX_TRANSFERS }
-    requires numbered { AreNumbered places.now.totals left.old.counts slots.old first }
+    requires numbered { AreNumbered places.now.totals remaining.old.counts slots.old first }
     ensures taken { AreTaken matching.old.zero settings MAX_MODULES
-        left.old.counts left.new.counts }
-    ensures near { AreNear left.new.zero.near matching.new.zero }
+        remaining.old.counts remaining.new.counts }
+    ensures near { AreNear remaining.new.zero.near matching.new.zero }
     ensures numbered { AreNumberedFrom matching.old.zero first MAX_MODULES
-        places.now.totals left.new.counts slots.new (first + settings) }
+        places.now.totals remaining.new.counts slots.new (first + settings) }
     ensures kept { KeepNumbers places.now.totals first
-        left.old.counts slots.old left.new.counts slots.new }
+        remaining.old.counts slots.old remaining.new.counts slots.new }
 {
     for zero in 0..modules {
-        hold_one(left, matching, places, slots, zero, first, settings);
+        hold_one(remaining, matching, places, slots, zero, first, settings);
     }
 }
 
 /// Writes the numbers of their settings for all transfers that wait.
-fn fill(left: &mut Left, places: &Places, slots: &mut [usize], settings: usize)
-    requires most { HaveMost left.old.counts settings }
-    requires reached { IsReached left.old.counts settings }
+fn fill(remaining: &mut Remaining, places: &Places, slots: &mut [usize], settings: usize)
+    requires most { HaveMost remaining.old.counts settings }
+    requires reached { IsReached remaining.old.counts settings }
     requires few { settings ≤ MAX_TRANSFERS }
-    requires numbered { AreNumbered places.now.totals left.old.counts slots.old 0 }
+    requires numbered { AreNumbered places.now.totals remaining.old.counts slots.old 0 }
     ensures done { (u v : ℕ) → u < MAX_MODULES → v < MAX_MODULES
-        → count_at left.new.counts u v ≡ 0 }
-    ensures numbered { AreNumbered places.now.totals left.new.counts slots.new settings }
-    ensures steps { AreFewSteps places.now.totals left.new.counts slots.new settings 0
-        (potential places.now.totals left.old.counts settings) }
-    ensures needs { AreAtNeed places.now.totals left.new.counts slots.new settings settings }
+        → count_at remaining.new.counts u v ≡ 0 }
+    ensures numbered { AreNumbered places.now.totals remaining.new.counts slots.new settings }
+    ensures steps { AreFewSteps places.now.totals remaining.new.counts slots.new settings 0
+        (potential places.now.totals remaining.old.counts settings) }
+    ensures needs { AreAtNeed places.now.totals remaining.new.counts slots.new settings settings }
 {
-    let modules = left.modules();
+    let modules = remaining.modules();
     let mut matching = Matching::none();
     let mut first = 0;
     'steps: while first < settings {
-        let held = next_step(left, &mut matching, settings - first, modules);
-        hold(left, &mut matching, places, slots, first, held, modules);
+        let held = next_step(remaining, &mut matching, settings - first, modules);
+        hold(
+            remaining,
+            &mut matching,
+            places,
+            slots,
+            first,
+            held,
+            modules,
+        );
         first += held;
     }
 }
 
 /// The number of a pair's next transfer: that of its last slot that is left.
 fn next_number(
-    left: &mut [usize; PAIRS],
+    remaining: &mut [usize; PAIRS],
     places: &Places,
     slots: &[usize],
     zero: usize,
@@ -177,18 +185,18 @@ fn next_number(
 ) -> usize
     requires zero_in { zero < MAX_MODULES }
     requires three_in { three < MAX_MODULES }
-    requires some { 0 < count_at left.old zero three }
-    requires there { count_at left.old zero three ≤ count_at places.now.totals zero three }
+    requires some { 0 < count_at remaining.old zero three }
+    requires there { count_at remaining.old zero three ≤ count_at places.now.totals zero three }
     requires room { length slots.now
         ≡ sum_below (MAX_MODULES * MAX_MODULES) (slice_index places.now.totals) }
-    ensures left { left.new
-        ≡ set left.old (place_of zero three) (count_at left.old zero three - 1) }
+    ensures remaining { remaining.new
+        ≡ set remaining.old (pair_index zero three) (count_at remaining.old zero three - 1) }
     ensures number { result
-        ≡ slot places.now.totals slots.now zero three (count_at left.old zero three - 1) }
+        ≡ slot places.now.totals slots.now zero three (count_at remaining.old zero three - 1) }
 {
     let place = zero * MAX_MODULES + three;
-    left[place] -= 1;
-    slots[places.slot(zero, three, left[place])]
+    remaining[place] -= 1;
+    slots[places.slot(zero, three, remaining[place])]
 }
 
 /// The settings, in which each transfer stands by its number. Numbers of transfers ascend in each.
@@ -200,7 +208,7 @@ fn read_all(
     settings: usize,
 ) -> Result<Vec<Vec<usize>>, AllocError>
     requires batch { IsBatch graph.now }
-    requires counted { AreCounted graph.now places.now.totals }
+    requires counted { ArePairCounts graph.now places.now.totals }
     requires room { length slots.now
         ≡ sum_below (MAX_MODULES * MAX_MODULES) (slice_index places.now.totals) }
     requires below { AreSlotsBelow places.now.totals slots.now settings }
@@ -209,10 +217,10 @@ fn read_all(
 {
     let room = MAX_MODULES.min(2 * graph.len() / settings.max(1));
     let mut lists = empty_lists(alloc, settings, room)?;
-    let mut left = places.totals;
+    let mut remaining = places.totals;
     for t in 0..graph.len() {
         let (start, answer) = graph.ends_of(t);
-        let number = next_number(&mut left, places, slots, start.module, answer.module);
+        let number = next_number(&mut remaining, places, slots, start.module, answer.module);
         push_into(&mut lists, number, t)?;
     }
     Ok(lists)
@@ -223,22 +231,22 @@ fn settings_by(
     alloc: Global,
     graph: &LinkGraph,
     settings: usize,
-    left: &mut Left,
+    remaining: &mut Remaining,
     places: &Places,
     slots: &mut [usize],
 ) -> Result<Vec<Vec<usize>>, AllocError>
     requires batch { IsBatch graph.now }
-    requires counted { AreCounted graph.now places.now.totals }
-    requires whole { left.old.counts ≡ places.now.totals }
-    requires most { HaveMost left.old.counts settings }
-    requires reached { IsReached left.old.counts settings }
+    requires counted { ArePairCounts graph.now places.now.totals }
+    requires whole { remaining.old.counts ≡ places.now.totals }
+    requires most { HaveMost remaining.old.counts settings }
+    requires reached { IsReached remaining.old.counts settings }
     requires few { settings ≤ MAX_TRANSFERS }
     requires room { length slots.old
         ≡ sum_below (MAX_MODULES * MAX_MODULES) (slice_index places.now.totals) }
     ensures { IfOk result (λ lists.
         AreNumberedSettings graph.now settings (most_changes graph.now) (lists_of lists.items)) }
 {
-    fill(left, places, slots, settings);
+    fill(remaining, places, slots, settings);
     read_all(alloc, graph, places, slots, settings)
 }
 
@@ -255,8 +263,8 @@ pub(crate) fn settings_of(
     ensures { IfOk result (λ lists.
         AreNumberedSettings graph.now settings (most_changes graph.now) (lists_of lists.items)) }
 {
-    let mut left = Left::of(graph);
-    let places = Places::of(&left.counts);
+    let mut remaining = Remaining::of(graph);
+    let places = Places::of(&remaining.counts);
     let mut slots = vec![in alloc; 0; places.room]?;
-    settings_by(alloc, graph, settings, &mut left, &places, &mut slots)
+    settings_by(alloc, graph, settings, &mut remaining, &places, &mut slots)
 }

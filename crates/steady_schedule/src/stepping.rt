@@ -10,9 +10,9 @@ ghost use Rattle.steady_schedule.specs.Searches.{AreNear};
 ghost use Rattle.steady_schedule.specs.Steps.{CanHold};
 ghost use Rattle.steady_schedule.specs.Waiting.{count_at, waiting, HaveMost, NoneWait};
 
-use crate::left::{Left, Side};
 use crate::masks::{lowest, with_module, without_module};
 use crate::matching::{Partners, augment, join};
+use crate::remaining::{Remaining, Side};
 use batch::MAX_MODULES;
 
 /// The links that are joined.
@@ -118,19 +118,19 @@ fn free(partners: &Partners, modules: usize) -> u32
 
 /// One of the free links that has transfers with this one. It finds one that has the most; no
 /// contract says so.
-fn best_free(left: &Left, zero: usize, free: u32) -> Option<usize>
+fn best_free(remaining: &Remaining, zero: usize, free: u32) -> Option<usize>
     requires { zero < MAX_MODULES }
     ensures free { IfSome result (λ three. has_bit free three ≡ true) }
     ensures low { IfSome result (λ three. three < MAX_MODULES) }
-    ensures some { IfSome result (λ three. 0 < count_at left.now.counts zero three) }
+    ensures some { IfSome result (λ three. 0 < count_at remaining.now.counts zero three) }
 {
     let mut best = None;
     let mut most = 0;
-    let mut rest = left.zero.near[zero] & free;
+    let mut rest = remaining.zero.near[zero] & free;
     'search: while rest != 0 {
         let three = lowest(rest);
         rest = without_module(rest, three);
-        let count = left.count(zero, three);
+        let count = remaining.count(zero, three);
         if count > most {
             best = Some(three);
             most = count;
@@ -141,11 +141,11 @@ fn best_free(left: &Left, zero: usize, free: u32) -> Option<usize>
 
 /// Joins a link that is free to one of these that are free, where it finds one that it has
 /// transfers with.
-fn join_one(left: &Left, matching: &mut Matching, zero: usize, free: &mut u32)
+fn join_one(remaining: &Remaining, matching: &mut Matching, zero: usize, free: &mut u32)
     requires low { zero < MAX_MODULES }
     requires free { AreFree matching.old.three free.old }
-    ensures near { AreNear left.now.zero.near matching.old.zero
-        → AreNear left.now.zero.near matching.new.zero }
+    ensures near { AreNear remaining.now.zero.near matching.old.zero
+        → AreNear remaining.now.zero.near matching.new.zero }
     ensures zero { KeepsPartners matching.old.zero matching.new.zero }
     ensures three { KeepsPartners matching.old.three matching.new.three }
     ensures free { AreFree matching.new.three free.new }
@@ -153,7 +153,7 @@ fn join_one(left: &Left, matching: &mut Matching, zero: usize, free: &mut u32)
     if matching.zero[zero].is_some() {
         return;
     }
-    let Some(three) = best_free(left, zero, *free) else {
+    let Some(three) = best_free(remaining, zero, *free) else {
         return;
     };
     join(&mut matching.zero, &mut matching.three, zero, three);
@@ -162,71 +162,71 @@ fn join_one(left: &Left, matching: &mut Matching, zero: usize, free: &mut u32)
 
 /// Joins links that are free and have transfers with each other, as far as it finds them: no
 /// contract says that it joins any. Those that have partners still have some.
-fn join_free(left: &Left, matching: &mut Matching, modules: usize)
+fn join_free(remaining: &Remaining, matching: &mut Matching, modules: usize)
     requires within { modules ≤ MAX_MODULES }
-    requires near { AreNear left.now.zero.near matching.old.zero }
-    ensures near { AreNear left.now.zero.near matching.new.zero }
+    requires near { AreNear remaining.now.zero.near matching.old.zero }
+    ensures near { AreNear remaining.now.zero.near matching.new.zero }
     ensures zero { KeepsPartners matching.old.zero matching.new.zero }
     ensures three { KeepsPartners matching.old.three matching.new.three }
 {
     let mut free = free(&matching.three, modules);
     for zero in 0..modules {
-        join_one(left, matching, zero, &mut free);
+        join_one(remaining, matching, zero, &mut free);
     }
 }
 
 /// For how many settings a link 0 can be as it is: no longer than its pair has transfers, or so
 /// long that it has no more of them than there are settings left.
-fn zero_room(left: &Left, matching: &Matching, most: usize, module: usize) -> usize
+fn zero_room(remaining: &Remaining, matching: &Matching, most: usize, module: usize) -> usize
     requires low { «module» < MAX_MODULES }
-    requires most { HaveMost left.now.counts most }
-    requires near { AreNear left.now.zero.near matching.now.zero }
-    requires covered { AreCovered left.now.zero.uses most MAX_MODULES matching.now.zero }
+    requires most { HaveMost remaining.now.counts most }
+    requires near { AreNear remaining.now.zero.near matching.now.zero }
+    requires covered { AreCovered remaining.now.zero.uses most MAX_MODULES matching.now.zero }
     ensures some { 0 < result }
     ensures pair { (y : ℕ) → partner matching.now.zero «module» ≡ Some y
-        → result ≡ count_at left.now.counts «module» y }
+        → result ≡ count_at remaining.now.counts «module» y }
     ensures out { partner matching.now.zero «module» ≡ None
-        → waiting left.now.counts Zero «module» + result ≡ most }
+        → waiting remaining.now.counts Zero «module» + result ≡ most }
 {
     match matching.zero[module] {
-        Some(three) => left.count(module, three),
-        None => most - left.zero.uses[module] as usize,
+        Some(three) => remaining.count(module, three),
+        None => most - remaining.zero.uses[module] as usize,
     }
 }
 
 /// The same of a link 3, whose pair counts at its link 0.
-fn three_room(left: &Left, matching: &Matching, most: usize, module: usize) -> usize
+fn three_room(remaining: &Remaining, matching: &Matching, most: usize, module: usize) -> usize
     requires low { «module» < MAX_MODULES }
     requires some { 0 < most }
-    requires most { HaveMost left.now.counts most }
-    requires covered { AreCovered left.now.three.uses most MAX_MODULES matching.now.three }
+    requires most { HaveMost remaining.now.counts most }
+    requires covered { AreCovered remaining.now.three.uses most MAX_MODULES matching.now.three }
     ensures some { 0 < result }
     ensures pair { (y : ℕ) → partner matching.now.three «module» ≡ Some y → result ≡ most }
     ensures out { partner matching.now.three «module» ≡ None
-        → waiting left.now.counts Three «module» + result ≡ most }
+        → waiting remaining.now.counts Three «module» + result ≡ most }
 {
     match matching.three[module] {
         Some(_) => most,
-        None => most - left.three.uses[module] as usize,
+        None => most - remaining.three.uses[module] as usize,
     }
 }
 
 /// For how many settings the matching can be held at most.
-fn longest(left: &Left, matching: &Matching, most: usize, modules: usize) -> usize
+fn longest(remaining: &Remaining, matching: &Matching, most: usize, modules: usize) -> usize
     requires some { 0 < most }
-    requires most { HaveMost left.now.counts most }
+    requires most { HaveMost remaining.now.counts most }
     requires within { modules ≤ MAX_MODULES }
-    requires none { NoneWait left.now.counts modules }
-    requires near { AreNear left.now.zero.near matching.now.zero }
-    requires zero { AreCovered left.now.zero.uses most MAX_MODULES matching.now.zero }
-    requires three { AreCovered left.now.three.uses most MAX_MODULES matching.now.three }
-    ensures { CanHold left.now.counts matching.now.zero matching.now.three most result }
+    requires none { NoneWait remaining.now.counts modules }
+    requires near { AreNear remaining.now.zero.near matching.now.zero }
+    requires zero { AreCovered remaining.now.zero.uses most MAX_MODULES matching.now.zero }
+    requires three { AreCovered remaining.now.three.uses most MAX_MODULES matching.now.three }
+    ensures { CanHold remaining.now.counts matching.now.zero matching.now.three most result }
 {
     let mut settings = most;
     for module in 0..modules {
         settings = settings
-            .min(zero_room(left, matching, most, module))
-            .min(three_room(left, matching, most, module));
+            .min(zero_room(remaining, matching, most, module))
+            .min(three_room(remaining, matching, most, module));
     }
     settings
 }
@@ -234,30 +234,35 @@ fn longest(left: &Left, matching: &Matching, most: usize, modules: usize) -> usi
 /// Makes the next matching, and says for how many of the settings that are left it can be held, and
 /// no longer. Only the first `modules` have transfers that wait. It begins with what is left of the
 /// one before; no contract says so.
-pub(crate) fn next_step(left: &Left, matching: &mut Matching, most: usize, modules: usize) -> usize
+pub(crate) fn next_step(
+    remaining: &Remaining,
+    matching: &mut Matching,
+    most: usize,
+    modules: usize,
+) -> usize
     requires some { 0 < most }
     requires few { most ≤ MAX_TRANSFERS }
-    requires most { HaveMost left.now.counts most }
+    requires most { HaveMost remaining.now.counts most }
     requires within { modules ≤ MAX_MODULES }
-    requires none { NoneWait left.now.counts modules }
-    requires near { AreNear left.now.zero.near matching.old.zero }
-    ensures can { CanHold left.now.counts matching.new.zero matching.new.three most result }
+    requires none { NoneWait remaining.now.counts modules }
+    requires near { AreNear remaining.now.zero.near matching.old.zero }
+    ensures can { CanHold remaining.now.counts matching.new.zero matching.new.three most result }
     ensures low { AreBelow matching.new.zero modules }
 {
     cover(
-        &left.zero,
+        &remaining.zero,
         most,
         modules,
         &mut matching.zero,
         &mut matching.three,
     );
     cover(
-        &left.three,
+        &remaining.three,
         most,
         modules,
         &mut matching.three,
         &mut matching.zero,
     );
-    join_free(left, matching, modules);
-    longest(left, matching, most, modules)
+    join_free(remaining, matching, modules);
+    longest(remaining, matching, most, modules)
 }

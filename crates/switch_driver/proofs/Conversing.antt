@@ -4,14 +4,14 @@ use Rattle.std.proofs.lemmas.List.{length-take-le, length-drop, length-append, l
 use Rattle.c004_commands.proofs.Readings.{longer_text, one_reading}
 use Rattle.c004_commands.specs.Commands.{row, text, AreCommands, Spells}
 use Rattle.c004_commands.specs.declared.command.Command.{Command}
-use Rattle.crossbar.proofs.Carrying.{nothing_come, enquiries-append, fewer_enquiries, spells_exchange}
-use Rattle.crossbar.specs.Port.{IsExchange}
+use Rattle.crossbar.proofs.Carrying.{nothing_come, enquiries-append, fewer_enquiries, spells_conversation}
+use Rattle.crossbar.specs.Port.{IsConversation}
 use Rattle.crossbar.specs.Switch.{enquiries}
 use Rattle.crossbar.specs.Traffic.{sent_byte, sent_to, heard_from, conversed, HaveConversed, BreaksOff}
 use Rattle.crossbar.specs.declared.chip.Chip.{Chip}
 use Rattle.crossbar.specs.declared.traffic.Passing.{Passing}
 use Rattle.switch_driver.proofs.Streams.{carried_none, carried_then}
-use Rattle.switch_driver.specs.Streams.{HasCarried, HasAsked, HasAskedInVain}
+use Rattle.switch_driver.specs.Streams.{StreamCarries, HasAsked, HasAskedInVain}
 use Rattle.switch_driver.specs.declared.stream.SwitchStream.{SwitchStream}
 
 -- ---- conversations one behind another
@@ -41,7 +41,7 @@ pub record SoFar {I O : Type 0} (contents : O → Option (List ℕ)) (remaining 
   pub spells : Spells come commands reader
   pub count : heard ≡ enquiries commands
   pub room : heard ≤ length replies
-  pub carried : HasCarried contents remaining old new before after (conversed chip commands (take heard replies))
+  pub carried : StreamCarries contents remaining old new before after (conversed chip commands (take heard replies))
 
 pub none_so_far : {I O : Type 0} (contents : O → Option (List ℕ)) (remaining : I → Option (List ℕ)) (chip : Chip) (replies : List ℕ) (stream : SwitchStream I O) (before : List Passing) → SoFar contents remaining chip [] [] replies 0 stream stream before before
 none_so_far contents remaining chip replies stream before = record {
@@ -72,7 +72,7 @@ asked_more contents remaining chip command come more reader left replies reply f
   spells = spells;
   count = omega (arith, count, h.count, asked.count, enquiries-append h.commands (command ∷ []));
   room = room;
-  carried = subst (HasCarried contents remaining old new before after)
+  carried = subst (StreamCarries contents remaining old new before after)
       (ap (λ (ps : List Passing). conversed chip h.commands (take heard replies) ++ ps) (sym (conversed_one chip command reply asked.count))
       ∙ sym (conversed-append chip h.commands (command ∷ []) (take heard replies) reply (length-take-le heard replies h.room ∙ h.count))
       ∙ ap (conversed chip (h.commands ++ command ∷ [])) (sym filling))
@@ -81,24 +81,24 @@ asked_more contents remaining chip command come more reader left replies reply f
 
 -- the replies of the commands so far and of the next have room
 pub fits : {I O : Type 0} (contents : O → Option (List ℕ)) (remaining : I → Option (List ℕ)) (chip : Chip) (command : Command) (bytes come more later reader left replies : List ℕ) (heard number : ℕ) (old new : SwitchStream I O) (before after : List Passing) → more ++ later ≡ bytes
-    → (h : SoFar contents remaining chip come reader replies heard old new before after) → Spells more (h.commands ++ command ∷ []) left → IsExchange bytes number → heard + enquiries (command ∷ []) ≤ number
-fits contents remaining chip command bytes come more later reader left replies heard number old new before after are h spells exchange =
-    let fewer = fewer_enquiries more later (h.commands ++ command ∷ []) exchange.commands left [] spells (subst (λ (b : List ℕ). Spells b exchange.commands []) (sym are) (spells_exchange bytes number exchange)) in
-    omega (arith, fewer, enquiries-append h.commands (command ∷ []), h.count, exchange.count)
+    → (h : SoFar contents remaining chip come reader replies heard old new before after) → Spells more (h.commands ++ command ∷ []) left → IsConversation bytes number → heard + enquiries (command ∷ []) ≤ number
+fits contents remaining chip command bytes come more later reader left replies heard number old new before after are h spells conversation =
+    let fewer = fewer_enquiries more later (h.commands ++ command ∷ []) conversation.commands left [] spells (subst (λ (b : List ℕ). Spells b conversation.commands []) (sym are) (spells_conversation bytes number conversation)) in
+    omega (arith, fewer, enquiries-append h.commands (command ∷ []), h.count, conversation.count)
 
 -- ---- its end
 
 spells_all : (bytes : List ℕ) (commands : List Command) → AreCommands commands → bytes ≡ text commands → Spells bytes commands []
-spells_all bytes commands ports whole = spells_exchange bytes (enquiries commands) (record { commands = commands; ports = ports; whole = whole; count = refl })
+spells_all bytes commands ports whole = spells_conversation bytes (enquiries commands) (record { commands = commands; ports = ports; whole = whole; count = refl })
 
 -- all commands were sent, and replied to
 pub all_conversed : {I O : Type 0} (contents : O → Option (List ℕ)) (remaining : I → Option (List ℕ)) (chip : Chip) (come bytes reader replies : List ℕ) (heard number : ℕ) (old new : SwitchStream I O) (before after : List Passing)
-    → SoFar contents remaining chip come reader replies heard old new before after → come ≡ bytes → IsExchange bytes number → length replies ≡ number → HaveConversed chip bytes replies (Some before) (Some after)
-all_conversed contents remaining chip come bytes reader replies heard number old new before after h all exchange len commands ports whole =
+    → SoFar contents remaining chip come reader replies heard old new before after → come ≡ bytes → IsConversation bytes number → length replies ≡ number → HaveConversed chip bytes replies (Some before) (Some after)
+all_conversed contents remaining chip come bytes reader replies heard number old new before after h all conversation len commands ports whole =
     let spells = spells_all bytes commands ports whole in
     let same = (one_reading bytes h.commands commands reader [] (subst (λ (b : List ℕ). Spells b h.commands reader) all h.spells) spells).0 in
-    let given = (one_reading bytes exchange.commands commands [] [] (spells_exchange bytes number exchange) spells).0 in
-    let filled : length replies ≤ heard = omega (arith, ap enquiries same, ap enquiries given, h.count, exchange.count, len) in
+    let given = (one_reading bytes conversation.commands commands [] [] (spells_conversation bytes number conversation) spells).0 in
+    let filled : length replies ≤ heard = omega (arith, ap enquiries same, ap enquiries given, h.count, conversation.count, len) in
     h.carried.noted ∙ ap₂ (λ (cs : List Command) (rs : List ℕ). before ++ conversed chip cs rs) same (take_all heard replies filled)
 
 -- it broke off within a command

@@ -9,7 +9,7 @@ use Rattle.c004_commands.specs.declared.command.Command.{Command}
 use Rattle.crossbar.specs.Traffic.{sent_to}
 use Rattle.crossbar.specs.declared.chip.Chip.{Chip}
 use Rattle.crossbar.specs.declared.traffic.Passing.{Passing}
-use Rattle.switch_driver.specs.Streams.{where_sent, where_heard, bytes_sent, bytes_heard, HasCarried, HasWritten, HasWrittenFront, HasAskedInVain}
+use Rattle.switch_driver.specs.Streams.{where_sent, where_heard, bytes_sent, bytes_heard, StreamCarries, HasWritten, HasWrittenFront, HasAskedInVain}
 use Rattle.switch_driver.specs.declared.stream.SwitchStream.{SwitchStream}
 
 -- what holds at the error of a call that was left by `?`
@@ -45,15 +45,15 @@ written_front chip bytes i held holds before after h = record {
 
 -- ---- one after another
 
-pub carried_none : {I O : Type 0} (contents : O → Option (List ℕ)) (remaining : I → Option (List ℕ)) (stream : SwitchStream I O) (before : List Passing) → HasCarried contents remaining stream stream before before []
+pub carried_none : {I O : Type 0} (contents : O → Option (List ℕ)) (remaining : I → Option (List ℕ)) (stream : SwitchStream I O) (before : List Passing) → StreamCarries contents remaining stream stream before before []
 carried_none contents remaining stream before = record {
   written = appends_none (contents stream.writer);
   read = consumes_none (remaining stream.reader);
   noted = sym (append-nil before);
 }
 
-pub carried_then : {I O : Type 0} (contents : O → Option (List ℕ)) (remaining : I → Option (List ℕ)) (old mid new : SwitchStream I O) (before now after xs ys : List Passing) → HasCarried contents remaining old mid before now xs → HasCarried contents remaining mid new now after ys
-    → HasCarried contents remaining old new before after (xs ++ ys)
+pub carried_then : {I O : Type 0} (contents : O → Option (List ℕ)) (remaining : I → Option (List ℕ)) (old mid new : SwitchStream I O) (before now after xs ys : List Passing) → StreamCarries contents remaining old mid before now xs → StreamCarries contents remaining mid new now after ys
+    → StreamCarries contents remaining old new before after (xs ++ ys)
 carried_then contents remaining old mid new before now after xs ys p q = record {
   written = rw (bytes_sent-append xs ys) (appends_then _ _ _ _ _ p.written q.written);
   read = rw (bytes_heard-append xs ys) (consumes_then _ _ _ _ _ p.read q.read);
@@ -64,7 +64,7 @@ carried_then contents remaining old mid new before now after xs ys p q = record 
 
 -- what was written is carried
 carried_sent : {I O : Type 0} (contents : O → Option (List ℕ)) (remaining : I → Option (List ℕ)) (chip : Chip) (bytes : List ℕ) (reader : I) (writer wrote : O) (before after : List Passing) → HasWritten chip bytes (contents writer) (contents wrote) before after
-    → HasCarried {I = I} {O = O} contents remaining (record { reader = reader; writer = writer }) (record { reader = reader; writer = wrote }) before after (sent_to chip bytes)
+    → StreamCarries {I = I} {O = O} contents remaining (record { reader = reader; writer = writer }) (record { reader = reader; writer = wrote }) before after (sent_to chip bytes)
 carried_sent contents remaining chip bytes reader writer wrote before after h = record {
   written = rw (sent_of_sent chip bytes) h.written;
   read = rw (heard_of_sent chip bytes) (consumes_none (remaining reader));

@@ -6,7 +6,7 @@ use Rattle.byte_streams.proofs.Carrying.{appends_none, appends_then}
 use Rattle.crossbar.specs.declared.traffic.Passing.{Passing}
 use Rattle.switch_settings.specs.Settings.{numbers_in}
 use Rattle.switch_driver.specs.Driving.{HaveStood, IsDriven}
-use Rattle.switch_driver.specs.Lines.{setting_line, HasToldLine, TellsLine}
+use Rattle.switch_driver.specs.Lines.{stage_line, HasToldLine, TellsLine}
 use Rattle.switch_driver.specs.declared.driving.Driven.{Driven}
 use Rattle.switch_driver.specs.declared.driving.Driven.TheVariants.{Completed, Stopped, Left, Untold}
 use Rattle.switch_driver.specs.declared.lines.Lines.{Lines}
@@ -25,7 +25,7 @@ stood_lines {I} {O} remaining contents modules batch settings zero old told new 
 stood_lines {I} {O} remaining contents modules batch settings (suc k) old told new tells (mid, telling, before, stood, said) =
     let so_far = stood_lines remaining contents modules batch settings k old told mid telling before in
     record {
-      text = so_far.text ++ setting_line k (numbers_in settings k);
+      text = so_far.text ++ stage_line k (numbers_in settings k);
       appended = appends_then _ _ _ _ _ so_far.appended said.0;
       loan = said.1 ∙ so_far.loan;
       is = (mid, so_far.text, so_far.is, stood, refl);
@@ -43,7 +43,7 @@ driven_lines {I} {O} remaining contents modules batch settings (Stopped k fault)
 driven_lines {I} {O} remaining contents modules batch settings (Left k) old told new tells h =
     let before = stood_lines remaining contents modules batch settings k old told h.mid h.telling h.before in
     record {
-      text = before.text ++ setting_line k (numbers_in settings k);
+      text = before.text ++ stage_line k (numbers_in settings k);
       appended = appends_then _ _ _ _ _ before.appended h.said.0;
       loan = h.said.1 ∙ before.loan;
       is = record { within = h.within; mid = h.mid; telling = before.text; before = before.is; stood = h.stood; said = refl };

@@ -1,15 +1,15 @@
 -- What passes while the settings of a schedule are put on the switches of a rack, and what is told
--- meanwhile. The order is this project's choice: a setting is told where all outputs have replied as
--- it calls for, and not before.
+-- meanwhile. The order is this project's choice: a setting is told where all outputs have replied
+-- as it calls for, and not before.
 use Rattle.std.specs.Prelude.{◌≡◌, ◌<◌, ◌+◌, ℕ, zero, suc, List, length, Option}
 use Rattle.batch.specs.declared.transfer.Transfer.{Transfer}
 use Rattle.crossbar.specs.declared.port.ConfigPort.{Ghosts}
 use Rattle.crossbar.specs.declared.traffic.Passing.{Passing}
-use Rattle.switch_settings.specs.Answers.{AreSetTo, IsSetFault}
+use Rattle.switch_settings.specs.Answers.{AreSetTo, IsConfigureFault}
 use Rattle.switch_settings.specs.Asking.{HaveReplied, HavePassedFor}
 use Rattle.switch_settings.specs.Sending.{pairs_at, standing_before}
 use Rattle.switch_settings.specs.Settings.{numbers_in}
-use Rattle.switch_settings.specs.declared.fault.SetFault.{SetFault}
+use Rattle.switch_settings.specs.declared.fault.ConfigureFault.{ConfigureFault}
 use Rattle.switch_driver.specs.declared.driving.Driven.{Driven}
 use Rattle.switch_driver.specs.declared.driving.Driven.TheVariants.{Completed, Stopped, Left, Untold as UntoldAt}
 use Rattle.switch_driver.specs.declared.stage.Cue.{Cue}
@@ -21,8 +21,8 @@ abbrev pub Stood : ℕ → List Transfer → List (List ℕ) → ℕ → Option 
 Stood modules batch settings k old new =
     HaveReplied modules (standing_before batch settings k) (pairs_at batch settings k) old new
 
--- The first settings stood, so many of them, one after another. Each was told once it stood, and the
--- next one came when it was wanted.
+-- The first settings stood, so many of them, one after another. Each was told once it stood, and
+-- the next one came when it was wanted.
 abbrev pub HaveStood : {S : Type 0} → (S → ℕ → List ℕ → Cue → S → Type 0) → ℕ → List Transfer
     → List (List ℕ) → ℕ → Option (List Passing) → S → Option (List Passing) → S → Type 0
 HaveStood {S} hears modules batch settings zero old told new tells = (new ≡ old) × (tells ≡ told)
@@ -45,7 +45,8 @@ pub record EndsWith {S : Type 0} (hears : S → ℕ → List ℕ → Cue → S �
   pub said : hears telling k (numbers_in settings k) cue tells
 
 -- The settings before this one stood. This one couldn't be set, and nothing was told of it.
-pub record StopsAt {S : Type 0} (hears : S → ℕ → List ℕ → Cue → S → Type 0) (fault : SetFault)
+pub record StopsDriving {S : Type 0} (hears : S → ℕ → List ℕ → Cue → S → Type 0)
+    (fault : ConfigureFault)
     (modules : ℕ) (batch : List Transfer) (settings : List (List ℕ)) (k : ℕ)
     (old : Option (List Passing)) (told : S) (new : Option (List Passing)) (tells : S)
     : Type 0 where
@@ -63,7 +64,7 @@ IsDriven {S} hears modules batch settings (Completed count) old told new tells =
     (count ≡ length settings)
     × HaveStood hears modules batch settings count old told new tells
 IsDriven {S} hears modules batch settings (Stopped k fault) old told new tells =
-    StopsAt hears fault modules batch settings k old told new tells
+    StopsDriving hears fault modules batch settings k old told new tells
 IsDriven {S} hears modules batch settings (Left k) old told new tells =
     EndsWith hears Leave modules batch settings k old told new tells
 IsDriven {S} hears modules batch settings (UntoldAt k) old told new tells =
@@ -79,14 +80,15 @@ AreOfSetting {P} seen modules batch settings k old new =
 
 -- The port failed just where that is the cause, and an honest port has the switches of the setting
 -- that stood last.
-abbrev pub HasCause : {P : Type 0} → Ghosts P → ℕ → List Transfer → List (List ℕ) → Driven → P → P
+abbrev pub HasDriveCause : {P : Type 0} → Ghosts P → ℕ → List Transfer → List (List ℕ) → Driven → P
+    → P
     → Type 0
-HasCause {P} seen modules batch settings (Completed count) old new =
+HasDriveCause {P} seen modules batch settings (Completed count) old new =
     (seen.failures new ≡ seen.failures old)
     × ((k : ℕ) → k + 1 ≡ count → AreOfSetting seen modules batch settings k old new)
-HasCause {P} seen modules batch settings (Stopped k fault) old new =
-    IsSetFault modules (seen.failures old) (seen.failures new) (seen.honest old) fault
-HasCause {P} seen modules batch settings (Left k) old new =
+HasDriveCause {P} seen modules batch settings (Stopped k fault) old new =
+    IsConfigureFault modules (seen.failures old) (seen.failures new) (seen.honest old) fault
+HasDriveCause {P} seen modules batch settings (Left k) old new =
     (seen.failures new ≡ seen.failures old) × AreOfSetting seen modules batch settings k old new
-HasCause {P} seen modules batch settings (UntoldAt k) old new =
+HasDriveCause {P} seen modules batch settings (UntoldAt k) old new =
     (seen.failures new ≡ seen.failures old) × AreOfSetting seen modules batch settings k old new

@@ -1,4 +1,5 @@
--- What is told of a setting that stands, and what is waited for. The texts are this project's choice.
+-- What is told of a setting that stands, and what is waited for. The texts are this project's
+-- choice.
 use Rattle.std.specs.Prelude.{◌≡◌, ℕ, Bool, true, false, IsTrue, List, [], ◌∷◌, ◌++◌, codes, Option}
 use Rattle.std.specs.Fmt.{decimal}
 use Rattle.std.specs.List.{flat_map}
@@ -13,14 +14,14 @@ abbrev pub number_word : ℕ → List ℕ
 number_word t = codes " " ++ decimal t
 
 -- `setting K`, and behind it the numbers of its transfers
-abbrev pub setting_line : ℕ → List ℕ → List ℕ
-setting_line setting numbers =
+abbrev pub stage_line : ℕ → List ℕ → List ℕ
+stage_line setting numbers =
     codes "setting " ++ decimal setting ++ flat_map number_word numbers ++ codes "\n"
 
 -- bytes were read, and where it went well, a line feed was the last of them
-pub record HasWaited (had has : Option (List ℕ)) (well : Bool) : Type 0 where
+pub record HasWaited (input_before input_after : Option (List ℕ)) (well : Bool) : Type 0 where
   pub came : List ℕ
-  pub read : Consumes had has came
+  pub read : Consumes input_before input_after came
   pub ends : IsTrue well → (front : List ℕ) × (came ≡ front ++ 10 ∷ [])
 
 -- The line of a setting was told, and where one was waited for, a line was read or none came any
@@ -28,19 +29,19 @@ pub record HasWaited (had has : Option (List ℕ)) (well : Bool) : Type 0 where
 abbrev pub HasToldLine : {I O : Type 0} → (I → Option (List ℕ)) → (O → Option (List ℕ)) → ℕ → List ℕ
     → Cue → Lines I O → Lines I O → Type 0
 HasToldLine {I} {O} remaining contents setting numbers GoOn old new =
-    Appends (contents old.out.now) (contents new.out.now) (setting_line setting numbers)
+    Appends (contents old.out.now) (contents new.out.now) (stage_line setting numbers)
     × (new.out.ghost_name ≡ old.out.ghost_name)
     × (IsTrue old.waits → HasWaited (remaining old.input.now) (remaining new.input.now) true)
     × (old.waits ≡ false → new.input ≡ old.input)
     × (new.waits ≡ old.waits)
 HasToldLine {I} {O} remaining contents setting numbers Leave old new =
-    Appends (contents old.out.now) (contents new.out.now) (setting_line setting numbers)
+    Appends (contents old.out.now) (contents new.out.now) (stage_line setting numbers)
     × (new.out.ghost_name ≡ old.out.ghost_name)
     × IsTrue old.waits
     × HasWaited (remaining old.input.now) (remaining new.input.now) false
     × (new.waits ≡ old.waits)
 HasToldLine {I} {O} remaining contents setting numbers Untold old new =
-    IsCutShort (contents old.out.now) (contents new.out.now) (setting_line setting numbers)
+    IsCutShort (contents old.out.now) (contents new.out.now) (stage_line setting numbers)
     × (new.out.ghost_name ≡ old.out.ghost_name)
     × (new.input ≡ old.input)
     × (new.waits ≡ old.waits)
@@ -48,7 +49,7 @@ HasToldLine {I} {O} remaining contents setting numbers Untold old new =
 -- what that is where the stage is the text that was told: the line of a setting stands behind the
 -- others, or, where it couldn't be told, a front of it
 abbrev pub TellsLine : List ℕ → ℕ → List ℕ → Cue → List ℕ → Type 0
-TellsLine old setting numbers GoOn new = new ≡ old ++ setting_line setting numbers
-TellsLine old setting numbers Leave new = new ≡ old ++ setting_line setting numbers
+TellsLine old setting numbers GoOn new = new ≡ old ++ stage_line setting numbers
+TellsLine old setting numbers Leave new = new ≡ old ++ stage_line setting numbers
 TellsLine old setting numbers Untold new =
-    (front left : List ℕ) × (setting_line setting numbers ≡ front ++ left) × (new ≡ old ++ front)
+    (front left : List ℕ) × (stage_line setting numbers ≡ front ++ left) × (new ≡ old ++ front)

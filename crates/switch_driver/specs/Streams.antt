@@ -32,9 +32,9 @@ bytes_sent passed = flat_map (λ p. where_sent p.direction p.byte) passed
 abbrev pub bytes_heard : List Passing → List ℕ
 bytes_heard passed = flat_map (λ p. where_heard p.direction p.byte) passed
 
--- This passed over a stream, and was noted in the traffic: what was sent was written behind what its
--- writer held, and what was heard was read of what its reader had.
-pub record HasCarried {I O : Type 0} (contents : O → Option (List ℕ))
+-- This passed over a stream, and was noted in the traffic: what was sent was written behind what
+-- its writer held, and what was heard was read of what its reader had.
+pub record StreamCarries {I O : Type 0} (contents : O → Option (List ℕ))
     (remaining : I → Option (List ℕ)) (old new : SwitchStream I O) (before after : List Passing)
     (more : List Passing) : Type 0 where
   pub written : Appends (contents old.writer) (contents new.writer) (bytes_sent more)
@@ -45,7 +45,7 @@ pub record HasCarried {I O : Type 0} (contents : O → Option (List ℕ))
 abbrev pub HasPassed : {I O : Type 0} → (O → Option (List ℕ)) → (I → Option (List ℕ))
     → SwitchStream I O → SwitchStream I O → List Passing → List Passing → Type 0
 HasPassed contents remaining old new before after =
-    (more : List Passing) × HasCarried contents remaining old new before after more
+    (more : List Passing) × StreamCarries contents remaining old new before after more
 
 -- the same of the second stream, where there is one; else nothing passed
 abbrev pub HasPassedSecond : {I O : Type 0} → (O → Option (List ℕ)) → (I → Option (List ℕ))
@@ -56,8 +56,8 @@ HasPassedSecond contents remaining None None before after = after ≡ before
 HasPassedSecond contents remaining (Some old) None before after = ⊥
 HasPassedSecond contents remaining None (Some new) before after = ⊥
 
--- what an exchange with a chip leaves of the streams: something passed over that of the chip, and the
--- other is as it was
+-- what a conversation with a chip leaves of the streams: something passed over that of the chip,
+-- and the other is as it was
 abbrev pub HasTried : {I O : Type 0} → (O → Option (List ℕ)) → (I → Option (List ℕ)) → Chip
     → StreamPort I O → StreamPort I O → Type 0
 HasTried contents remaining A old new =
@@ -68,31 +68,31 @@ HasTried contents remaining B old new =
 -- ---- a command
 
 -- these bytes were written to the writer of a chip, and noted
-pub record HasWritten (chip : Chip) (bytes : List ℕ) (held holds : Option (List ℕ))
+pub record HasWritten (chip : Chip) (bytes : List ℕ) (out_before out_after : Option (List ℕ))
     (before after : List Passing) : Type 0 where
-  pub written : Appends held holds bytes
+  pub written : Appends out_before out_after bytes
   pub noted : after ≡ before ++ sent_to chip bytes
 
 -- these were read from its reader, and noted
-pub record HasRead (chip : Chip) (bytes : List ℕ) (had has : Option (List ℕ))
+pub record HasHeard (chip : Chip) (bytes : List ℕ) (input_before input_after : Option (List ℕ))
     (before after : List Passing) : Type 0 where
-  pub read : Consumes had has bytes
+  pub read : Consumes input_before input_after bytes
   pub noted : after ≡ before ++ heard_from chip bytes
 
 -- a front of the bytes was written
-pub record HasWrittenFront (chip : Chip) (bytes : List ℕ) (held holds : Option (List ℕ))
+pub record HasWrittenFront (chip : Chip) (bytes : List ℕ) (out_before out_after : Option (List ℕ))
     (before after : List Passing) : Type 0 where
   pub front : List ℕ
   pub left : List ℕ
   pub bytes_are : bytes ≡ front ++ left
-  pub went : HasWritten chip front held holds before after
+  pub went : HasWritten chip front out_before out_after before after
 
 -- a command was sent over a stream, and the reply was heard if it is an enquiry
 pub record HasAsked {I O : Type 0} (contents : O → Option (List ℕ))
     (remaining : I → Option (List ℕ)) (chip : Chip) (command : Command) (reply : List ℕ)
     (old new : SwitchStream I O) (before after : List Passing) : Type 0 where
   pub carried :
-      HasCarried contents remaining old new before after
+      StreamCarries contents remaining old new before after
       (sent_to chip (row command) ++ heard_from chip reply)
   pub count : length reply ≡ enquiries (command ∷ [])
 
@@ -103,4 +103,4 @@ pub record HasAskedInVain {I O : Type 0} (contents : O → Option (List ℕ))
   pub front : List ℕ
   pub left : List ℕ
   pub bytes_are : row command ≡ front ++ left
-  pub carried : HasCarried contents remaining old new before after (sent_to chip front)
+  pub carried : StreamCarries contents remaining old new before after (sent_to chip front)

@@ -4,25 +4,34 @@ ghost use Rattle.std.specs.Prelude.{◌≤◌};
 ghost use Rattle.c004_commands.specs.declared.port.TheConstants.{PORTS};
 ghost use Rattle.link_graph.specs.Schedules.{IsScheduleOf};
 ghost use Rattle.switch_settings.specs.Racks.{HasModulesOf};
-ghost use Rattle.switch_driver.specs.Driving.{IsDriven, HasCause};
+ghost use Rattle.switch_driver.specs.Driving.{IsDriven, HasDriveCause};
 
 use crate::stage::{Cue, Stage};
 use batch::Batch;
 use crossbar::ConfigPort;
 use link_graph::Schedule;
-use switch_settings::{PairList, SetFault, numbers_of_setting, set_switches};
+use switch_settings::{ConfigureFault, PairList, configure_switches, numbers_of_setting};
 
 /// How the settings of a schedule were put on the switches. Settings are counted from 0.
 #[derive(Clone, Copy, Debug, PartialEq, Eq)]
 pub enum Driven {
     /// All settings stood, one after another.
-    Completed { settings: usize },
+    Completed {
+        settings: usize,
+    },
     /// The switches couldn't be set to this setting.
-    Stopped { setting: usize, fault: SetFault },
+    Stopped {
+        setting: usize,
+        fault: ConfigureFault,
+    },
     /// This setting stands, and no other is wanted.
-    Left { setting: usize },
+    Left {
+        setting: usize,
+    },
     /// This setting stands, and couldn't be told.
-    Untold { setting: usize },
+    Untold {
+        setting: usize,
+    },
 }
 
 /// Puts the settings of a schedule on the switches of a rack of so many modules, one after another:
@@ -43,7 +52,7 @@ pub fn drive<P: ConfigPort, S: Stage>(
     requires schedule { IsScheduleOf batch.now schedule.now }
     ensures driven { IsDriven S.hears modules batch.now schedule.now result
         (P.passed port.old) stage.old (P.passed port.new) stage.new }
-    ensures cause { HasCause P.ConfigPort modules batch.now schedule.now result port.old port.new }
+    ensures cause { HasDriveCause P.ConfigPort modules batch.now schedule.now result port.old port.new }
 {
     // Asked for its contract alone: the batch is one.
     let _batch = batch.as_slice();
@@ -52,7 +61,7 @@ pub fn drive<P: ConfigPort, S: Stage>(
     for setting in 0..settings {
         let numbers = numbers_of_setting(batch, schedule, setting);
         let pairs = PairList::of_setting(batch, numbers);
-        if let Err(fault) = set_switches(port, modules, &standing, pairs.as_slice()) {
+        if let Err(fault) = configure_switches(port, modules, &standing, pairs.as_slice()) {
             return Driven::Stopped { setting, fault };
         }
         match stage.stands(setting, numbers) {

@@ -2,7 +2,7 @@
 
 ghost use Rattle.std.specs.Prelude.{◌≡◌, ◌≤◌, length};
 ghost use Rattle.batch.specs.declared.limits.TheConstants.{MAX_MODULES};
-ghost use Rattle.switch_driver.specs.Lines.{setting_line, HasWaited};
+ghost use Rattle.switch_driver.specs.Lines.{stage_line, HasWaited};
 
 use crate::stage::{Cue, Stage};
 use byte_streams::{read_byte, write_bytes};
@@ -41,7 +41,7 @@ impl<'a, I, O> Lines<'a, I, O> {
 /// The line of a setting of these transfers.
 fn line_of(setting: usize, numbers: &[usize]) -> Line
     requires { length numbers.now ≤ MAX_MODULES }
-    ensures { result ≡ setting_line setting numbers.now }
+    ensures { result ≡ stage_line setting numbers.now }
 {
     let mut line = Line::new();
     line.put(b"setting ");

@@ -1,7 +1,7 @@
 //! The port over streams.
 
 ghost use Rattle.std.specs.Prelude.{◌≡◌, ◌+◌, [], Some, length, IsTrue, OnOk, OnErr};
-ghost use Rattle.crossbar.specs.Port.{IsExchange};
+ghost use Rattle.crossbar.specs.Port.{IsConversation};
 ghost use Rattle.crossbar.specs.Traffic.{HaveConversed, BreaksOff};
 ghost use Rattle.switch_driver.specs.Streams.{HasTried};
 
@@ -52,8 +52,8 @@ impl<I: Drop, O: Drop> StreamPort<I, O> {
 
 impl<I: Read, O: Write> StreamPort<I, O> {
     /// Sends the commands to a chip, hears the replies, and says whether all went well.
-    fn try_exchange(&mut self, chip: Chip, bytes: &[u8], replies: &mut [u8]) -> bool
-        requires { IsExchange bytes.now (length replies.old) }
+    fn try_converse(&mut self, chip: Chip, bytes: &[u8], replies: &mut [u8]) -> bool
+        requires { IsConversation bytes.now (length replies.old) }
         ensures tried { HasTried O.contents I.remaining chip self.old self.new }
         ensures went { IsTrue result → HaveConversed chip bytes.now replies.new
             (Some self.old.traffic) (Some self.new.traffic) }
@@ -82,8 +82,8 @@ impl<I: Read, O: Write> ConfigPort for StreamPort<I, O> {
     ghost passed = { λ port. Some port.traffic };
 
     /// Writes and reads byte by byte, and takes no memory. It waits for each reply.
-    fn exchange(&mut self, chip: Chip, bytes: &[u8], replies: &mut [u8]) -> Result<(), PortFault>
-        requires { IsExchange bytes.now (length replies.old) }
+    fn converse(&mut self, chip: Chip, bytes: &[u8], replies: &mut [u8]) -> Result<(), PortFault>
+        requires { IsConversation bytes.now (length replies.old) }
         ensures tried { HasTried O.contents I.remaining chip self.old self.new }
         ensures passed { OnOk result (HaveConversed chip bytes.now replies.new
             (Some self.old.traffic) (Some self.new.traffic)) }
@@ -92,7 +92,7 @@ impl<I: Read, O: Write> ConfigPort for StreamPort<I, O> {
         ensures fault { OnErr result (self.new.failed ≡ self.old.failed + 1) }
         ensures unfailed { OnOk result (self.new.failed ≡ self.old.failed) }
     {
-        if self.try_exchange(chip, bytes, replies) {
+        if self.try_converse(chip, bytes, replies) {
             return Ok(());
         }
         self.failed.raise();

@@ -3,9 +3,9 @@
 ghost use Rattle.std.specs.Prelude.{◌≡◌, ◌++◌, ◌∷◌, [], List, length, Some, OnOk, OnErr, IfOk};
 ghost use Rattle.std.specs.Option.{option_to_list};
 ghost use Rattle.c004_commands.specs.Commands.{row};
-ghost use Rattle.crossbar.specs.Port.{IsExchange};
+ghost use Rattle.crossbar.specs.Port.{IsConversation};
 ghost use Rattle.crossbar.specs.Traffic.{HaveConversed, BreaksOff};
-ghost use Rattle.switch_driver.specs.Streams.{HasPassed, HasWritten, HasWrittenFront, HasRead, HasAsked, HasAskedInVain};
+ghost use Rattle.switch_driver.specs.Streams.{HasPassed, HasWritten, HasWrittenFront, HasHeard, HasAsked, HasAskedInVain};
 
 use byte_streams::{read_byte, write_byte};
 use c004_commands::{Command, CommandReader, LONGEST_COMMAND, write};
@@ -65,9 +65,9 @@ fn send<O: Write>(
 
 /// Reads a reply, and notes it. Where none comes, that is the error.
 fn hear<I: Read>(chip: Chip, reader: &mut I, traffic: &mut Traffic) -> io::Result<u8>
-    ensures heard { IfOk result (λ reply. HasRead chip (reply ∷ []) (I.remaining reader.old)
+    ensures heard { IfOk result (λ reply. HasHeard chip (reply ∷ []) (I.remaining reader.old)
         (I.remaining reader.new) traffic.old traffic.new) }
-    ensures silent { OnErr result (HasRead chip [] (I.remaining reader.old)
+    ensures silent { OnErr result (HasHeard chip [] (I.remaining reader.old)
         (I.remaining reader.new) traffic.old traffic.new) }
 {
     let Some(byte) = read_byte(reader)? else {
@@ -112,7 +112,7 @@ pub(crate) fn converse<I: Read, O: Write>(
     stream: &mut SwitchStream<I, O>,
     traffic: &mut Traffic,
 ) -> io::Result<()>
-    requires { IsExchange bytes.now (length replies.old) }
+    requires { IsConversation bytes.now (length replies.old) }
     ensures carried { HasPassed O.contents I.remaining stream.old stream.new
         traffic.old traffic.new }
     ensures whole { OnOk result

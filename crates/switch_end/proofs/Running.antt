@@ -3,7 +3,7 @@ use Rattle.std.proofs.Common.{◌≡◌, ◌∷◌, [], ℕ, List, Option, Some,
 use Rattle.std.specs.Option.{option_to_list}
 use Rattle.std.specs.Io.KnownBytes.{Consumes}
 use Rattle.switch_end.specs.End.{EndState, HasTaken}
-use Rattle.switch_end.specs.Attending.{Handles, takes}
+use Rattle.switch_end.specs.Answering.{Handles, takes}
 
 pub took : (place byte : ℕ) (old new : EndState) (given reply : Option ℕ) → given ≡ reply → HasTaken old byte (option_to_list given) new → Handles place old byte (option_to_list reply) [] new
 took place byte old new given reply is has = takes (option_to_list reply) new (subst (λ (o : Option ℕ). HasTaken old byte (option_to_list o) new) is has)

@@ -8,7 +8,7 @@ use Rattle.c004_commands.proofs.Faults.{not_fault}
 use Rattle.crossbar.proofs.Carrying.{after_all-append, answers-append, nothing_come}
 use Rattle.crossbar.specs.Switch.{after_all, answers}
 use Rattle.switch_end.specs.End.{EndState, HasTaken}
-use Rattle.switch_end.specs.Attending.{HasRun, begins, goes_on, takes, refuses}
+use Rattle.switch_end.specs.Answering.{HasRun, begins, goes_on, takes, refuses}
 use Rattle.switch_end.specs.Laws.{AnswersText}
 
 -- the commands that have come were carried out and answered, and nothing was told

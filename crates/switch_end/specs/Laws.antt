@@ -4,7 +4,7 @@ use Rattle.c004_commands.specs.Commands.{Spells}
 use Rattle.c004_commands.specs.declared.command.Command.{Command}
 use Rattle.crossbar.specs.Switch.{after_all, answers}
 use Rattle.switch_end.specs.End.{EndState}
-use Rattle.switch_end.specs.Attending.{HasRun}
+use Rattle.switch_end.specs.Answering.{HasRun}
 
 -- An end at rest that is handed commands and less than a whole one: its replies are those of all
 -- the commands, its switch is as they leave it, what is left has come of the next, and nothing is

@@ -1,4 +1,4 @@
 pub mod End
 pub mod Told
-pub mod Attending
+pub mod Answering
 pub mod Laws

@@ -1,4 +1,4 @@
--- What passes over several exchanges with the switches, one after another.
+-- What passes over several conversations with the switches, one after another.
 use Rattle.std.proofs.Common.{◌≡◌, ◌++◌, ◌<◌, ◌≤◌, ℕ, List, [], ◌∷◌, length, refl, Option, Some, None, Result, Ok, Err, arith, inl, inr}
 use Rattle.std.proofs.lemmas.Grind.{common_steps}
 use Rattle.std.specs.Prelude.{OnOk, IfErr}
@@ -13,8 +13,8 @@ use Rattle.c004_commands.specs.declared.port.TheConstants.{PORTS}
 use Rattle.switch_settings.specs.Answers.{AllAgree, IsMisset}
 use Rattle.switch_settings.specs.Asking.{turned, asked, set_both, HaveReplied, HavePassedFor}
 use Rattle.switch_settings.specs.Pairs.{all_enquiries}
-use Rattle.switch_settings.specs.declared.fault.SetFault.{SetFault}
-use Rattle.switch_settings.specs.declared.fault.SetFault.TheVariants.{Port, SwitchDisagrees}
+use Rattle.switch_settings.specs.declared.fault.ConfigureFault.{ConfigureFault}
+use Rattle.switch_settings.specs.declared.fault.ConfigureFault.TheVariants.{Port, SwitchDisagrees}
 
 pub no_items : (xs : List ℕ) → length xs ≡ 0 → xs ≡ []
 no_items [] e = refl
@@ -27,7 +27,7 @@ passes_then (Some a) (Some b) None xs ys p q = absurd q
 passes_then (Some a) (Some b) (Some c) xs ys p q = grind (arith, common_steps)
 
 -- the fault that the one switch's replies are judged to be
-pub one_differs : {T : Type 0} (result : Result T SetFault) (modules : ℕ) (standing : Option (List Pair)) (pairs : List Pair) (replies : List ℕ) (o a b : Option (List Passing)) → modules ≤ JOINED_MODULES → length replies ≡ PORTS
+pub one_differs : {T : Type 0} (result : Result T ConfigureFault) (modules : ℕ) (standing : Option (List Pair)) (pairs : List Pair) (replies : List ℕ) (o a b : Option (List Passing)) → modules ≤ JOINED_MODULES → length replies ≡ PORTS
     → IfErr result (λ fault. IsMisset A (switch_of Both pairs) replies fault) → Passes o a (turned A Both standing pairs) → Passes a b (asked A replies) → IfErr result (λ fault. HavePassedFor modules fault standing pairs o b)
 one_differs (Ok x) modules standing pairs replies o a b few all differs p q = tt
 one_differs (Err (SwitchDisagrees number)) modules standing pairs replies o a b few all differs p q = (
@@ -50,7 +50,7 @@ both_replied (Ok x) modules standing pairs of_a of_b o d wide la lb agree_a agre
 }
 
 -- the fault that A's replies are judged to be
-pub a_differs : (fault : SetFault) (modules : ℕ) (standing : Option (List Pair)) (pairs : List Pair) (of_a of_b : List ℕ) (o d : Option (List Passing)) → JOINED_MODULES < modules → length of_a ≡ PORTS → length of_b ≡ PORTS
+pub a_differs : (fault : ConfigureFault) (modules : ℕ) (standing : Option (List Pair)) (pairs : List Pair) (of_a of_b : List ℕ) (o d : Option (List Passing)) → JOINED_MODULES < modules → length of_a ≡ PORTS → length of_b ≡ PORTS
     → IsMisset A (switch_of Forth pairs) of_a fault → Passes o d (set_both standing pairs of_a of_b) → HavePassedFor modules fault standing pairs o d
 a_differs (SwitchDisagrees number) modules standing pairs of_a of_b o d wide la lb differs passed = (
   λ few. absurd (omega arith),
@@ -59,7 +59,7 @@ a_differs (SwitchDisagrees number) modules standing pairs of_a of_b o d wide la 
 a_differs Port modules standing pairs of_a of_b o d wide la lb differs passed = absurd differs
 
 -- the fault that B's replies are judged to be
-pub b_differs : {T : Type 0} (result : Result T SetFault) (modules : ℕ) (standing : Option (List Pair)) (pairs : List Pair) (of_a of_b : List ℕ) (o d : Option (List Passing)) → JOINED_MODULES < modules → length of_a ≡ PORTS → length of_b ≡ PORTS
+pub b_differs : {T : Type 0} (result : Result T ConfigureFault) (modules : ℕ) (standing : Option (List Pair)) (pairs : List Pair) (of_a of_b : List ℕ) (o d : Option (List Passing)) → JOINED_MODULES < modules → length of_a ≡ PORTS → length of_b ≡ PORTS
     → AllAgree (switch_of Forth pairs) of_a → IfErr result (λ fault. IsMisset B (switch_of Back pairs) of_b fault) → Passes o d (set_both standing pairs of_a of_b) → IfErr result (λ fault. HavePassedFor modules fault standing pairs o d)
 b_differs (Ok x) modules standing pairs of_a of_b o d wide la lb agree differs passed = tt
 b_differs (Err (SwitchDisagrees number)) modules standing pairs of_a of_b o d wide la lb agree differs passed = (
@@ -69,7 +69,7 @@ b_differs (Err (SwitchDisagrees number)) modules standing pairs of_a of_b o d wi
 b_differs (Err Port) modules standing pairs of_a of_b o d wide la lb agree differs passed = absurd differs
 
 -- the port failed while B was asked
-pub b_breaks : (fault : SetFault) (modules : ℕ) (standing : Option (List Pair)) (pairs : List Pair) (of_a : List ℕ) (o a b c d : Option (List Passing)) → JOINED_MODULES < modules → fault ≡ Port → length of_a ≡ PORTS → Passes o a (turned A Forth standing pairs)
+pub b_breaks : (fault : ConfigureFault) (modules : ℕ) (standing : Option (List Pair)) (pairs : List Pair) (of_a : List ℕ) (o a b c d : Option (List Passing)) → JOINED_MODULES < modules → fault ≡ Port → length of_a ≡ PORTS → Passes o a (turned A Forth standing pairs)
     → Passes a b (turned B Back standing pairs) → Passes b c (asked A of_a) → PassesFront B all_enquiries c d → HavePassedFor modules fault standing pairs o d
 b_breaks fault modules standing pairs of_a o a b c d wide port la p q r s = rw port (
   λ few. absurd (omega arith),

@@ -1,4 +1,5 @@
--- The pairs of a setting in the order of their initiators: as a table has them, and as the list of its transfers has.
+-- The pairs of a setting in the order of their initiators: as a table has them, and as the list of
+-- its transfers has.
 use Rattle.std.proofs.Common.{◌≡◌, ◌<◌, ◌+◌, inl, inr, ℕ, suc, List, [], ◌∷◌, ◌++◌, length, get_or, refl, sym, ap, ◌∙◌, subst, arith, Option, Some, None, eq-eqb}
 use Rattle.std.specs.Prelude.{All}
 use Rattle.std.specs.List.{flat_map, range_with_len}

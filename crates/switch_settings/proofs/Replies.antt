@@ -6,7 +6,7 @@ use Rattle.std.specs.Prelude.{◌↔◌}
 use Rattle.std.proofs.Common.{eqb, not, is_some, eq-eqb}
 use Rattle.std.proofs.lemmas.Bool.{eqb-true, false≢true}
 use Rattle.c004_commands.specs.Answers.{IsAnswer}
-use Rattle.c004_commands.specs.declared.answer.Answer.TheVariants.{Connected}
+use Rattle.c004_commands.specs.declared.answer.OutputState.TheVariants.{Connected}
 use Rattle.std.specs.FinMap as finmap
 use Rattle.c004_commands.specs.declared.command.Command.TheVariants.{Enquire}
 use Rattle.c004_commands.specs.Commands.{AreCommands, text}

@@ -52,7 +52,8 @@ tabled_first batch ts (suc k) n le =
 tabled : (batch : List Transfer) (ts : List ℕ) → Numbers batch ts → Tabled batch ts
 tabled batch ts n = subst (Tabled batch) (take_all (length ts) ts (omega arith)) (tabled_first batch ts (length ts) n (omega arith))
 
--- in a rack that has the batch's modules they are pairs of that rack, and join what the setting's transfers want joined
+-- in a rack that has the batch's modules they are pairs of that rack, and join what the setting's
+-- transfers want joined
 ordered_pairs : (m : ℕ) (batch : List Transfer) (ts : List ℕ) → Numbers batch ts → HasModulesOf m batch → ArePairs m (in_order (setting_pairs batch ts))
 ordered_pairs m batch ts n has =
     let t = tabled batch ts n in

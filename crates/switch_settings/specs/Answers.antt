@@ -3,7 +3,7 @@
 use Rattle.std.specs.Prelude.{◌≡◌, ◌<◌, ◌+◌, ◌*◌, ◌⊎◌, ℕ, Bool, false, slice_index, IsTrue, IfSome, List, Option, Some, None}
 use Rattle.std.specs.FinMap as map
 use Rattle.c004_commands.specs.Answers.{answer_byte, IsAnswer}
-use Rattle.c004_commands.specs.declared.answer.Answer.TheVariants.{Loose}
+use Rattle.c004_commands.specs.declared.answer.OutputState.TheVariants.{Loose}
 use Rattle.c004_commands.specs.declared.port.TheConstants.{PORTS}
 use Rattle.crossbar.specs.Switch.{Switch}
 use Rattle.crossbar.specs.Chips.{Switches, switch_at}
@@ -14,8 +14,8 @@ use Rattle.crossbar.specs.declared.chip.Wiring.{Wiring}
 use Rattle.crossbar.specs.declared.switch.TheConstants.{JOINED_MODULES}
 use Rattle.crossbar.specs.declared.pair.Pair.{Pair}
 use Rattle.switch_settings.specs.Pairs.{Turns}
-use Rattle.switch_settings.specs.declared.fault.SetFault.{SetFault}
-use Rattle.switch_settings.specs.declared.fault.SetFault.TheVariants.{Port, SwitchDisagrees}
+use Rattle.switch_settings.specs.declared.fault.ConfigureFault.{ConfigureFault}
+use Rattle.switch_settings.specs.declared.fault.ConfigureFault.TheVariants.{Port, SwitchDisagrees}
 
 -- The reply says that the output has this input, or none. Of a reply whose top bit is 0 nothing
 -- else is read.
@@ -79,13 +79,13 @@ HasOutput modules number = (number < PORTS) ⊎ ((JOINED_MODULES < modules) × (
 
 -- why a switch isn't taken for that of the pairs: the output of this number is the first that
 -- doesn't answer what they call for
-abbrev pub IsMisset : Chip → Switch → List ℕ → SetFault → Type 0
+abbrev pub IsMisset : Chip → Switch → List ℕ → ConfigureFault → Type 0
 IsMisset chip switch replies (SwitchDisagrees number) = IsDisagreementAt chip switch replies number
 IsMisset chip switch replies Port = ⊥
 
 -- why switches can't be set: a failure that was counted, or a port that isn't honest and hasn't
 -- failed
-abbrev pub IsSetFault : ℕ → ℕ → ℕ → Bool → SetFault → Type 0
-IsSetFault modules before after honest Port = before < after
-IsSetFault modules before after honest (SwitchDisagrees number) =
+abbrev pub IsConfigureFault : ℕ → ℕ → ℕ → Bool → ConfigureFault → Type 0
+IsConfigureFault modules before after honest Port = before < after
+IsConfigureFault modules before after honest (SwitchDisagrees number) =
     (honest ≡ false) × HasOutput modules number × (after ≡ before)

@@ -15,8 +15,8 @@ use Rattle.crossbar.specs.declared.traffic.Passing.{Passing}
 use Rattle.switch_settings.specs.Answers.{AllAgree, IsDisagreementAt}
 use Rattle.switch_settings.specs.Pairs.{all_enquiries}
 use Rattle.switch_settings.specs.Sending.{turning}
-use Rattle.switch_settings.specs.declared.fault.SetFault.{SetFault}
-use Rattle.switch_settings.specs.declared.fault.SetFault.TheVariants.{Port, SwitchDisagrees}
+use Rattle.switch_settings.specs.declared.fault.ConfigureFault.{ConfigureFault}
+use Rattle.switch_settings.specs.declared.fault.ConfigureFault.TheVariants.{Port, SwitchDisagrees}
 
 -- a switch is sent what turns it from the pairs that stand, where they are known, to the pairs
 abbrev pub turned : Chip → Wiring → Option (List Pair) → List Pair → List Passing
@@ -102,11 +102,12 @@ BothBreakOff standing pairs old new =
     × Passes old mid (turned A Forth standing pairs ++ turned B Back standing pairs)
     × PassesFront A all_enquiries mid new)
     ⊎ ((mid : Option (List Passing)) × (of_a : List ℕ) × (length of_a ≡ PORTS)
-    × Passes old mid (turned A Forth standing pairs ++ (turned B Back standing pairs ++ asked A of_a))
+    × Passes old mid (turned A Forth standing pairs
+    ++ (turned B Back standing pairs ++ asked A of_a))
     × PassesFront B all_enquiries mid new)))
 
 -- what passed where the switches of a rack of so many modules couldn't be set for this cause
-abbrev pub HavePassedFor : ℕ → SetFault → Option (List Pair) → List Pair
+abbrev pub HavePassedFor : ℕ → ConfigureFault → Option (List Pair) → List Pair
     → Option (List Passing) → Option (List Passing) → Type 0
 HavePassedFor modules Port standing pairs old new =
     (modules ≤ JOINED_MODULES → OneBreaksOff standing pairs old new)

@@ -12,16 +12,16 @@ ghost use Rattle.switch_settings.specs.Pairs.{command_of, commands_of, one_way_c
 use c004_commands::{Command, LONGEST_COMMAND, PORTS, PortNo, write};
 use crossbar::{Chip, JOINED_MODULES, Pair, Wiring, laws};
 
-/// How many bytes the longest change has where one switch joins all modules, 97: three for each pair that goes,
-/// three for each pair that comes, and one for the end of the sequence.
+/// How many bytes the longest change has where one switch joins all modules, 97: three for each
+/// pair that goes, three for each pair that comes, and one for the end of the sequence.
 pub const CHANGE_BYTES: usize = 2 * LONGEST_COMMAND * (JOINED_MODULES as usize) + 1;
 
-/// How many bytes the longest setting of a switch of a wider rack has, 98: three for each pair, one for the reset,
-/// and one for the end of the sequence.
+/// How many bytes the longest setting of a switch of a wider rack has, 98: three for each pair, one
+/// for the reset, and one for the end of the sequence.
 pub const WIDE_SETTING_BYTES: usize = LONGEST_COMMAND * (PORTS as usize) + 2;
 
-/// How many bytes the longest change of a switch of a wider rack has, 161: two for each pair that goes, three for
-/// each pair that comes, and one for the end of the sequence.
+/// How many bytes the longest change of a switch of a wider rack has, 161: two for each pair that
+/// goes, three for each pair that comes, and one for the end of the sequence.
 pub const WIDE_CHANGE_BYTES: usize = (2 + LONGEST_COMMAND) * (PORTS as usize) + 1;
 
 /// How many bytes the enquiries of all outputs have, 64.
@@ -34,12 +34,13 @@ enum Way {
     Cut,
 }
 
-/// Writes the bytes that set the one switch of a rack to the pairs, whatever it was, and gives their number, at
-/// most 50: a reset, the joins of the pairs in their order, and the end of the sequence (INMOS IMS C004 data sheet,
-/// configuration messages): `04`, a row `01 I 16+R` a pair, `03`. What stands in `out` behind them isn't said.
+/// Writes the bytes that set the one switch of a rack to the pairs, whatever it was, and gives
+/// their number, at most 50: a reset, the joins of the pairs in their order, and the end of the
+/// sequence (INMOS IMS C004 data sheet, configuration messages): `04`, a row `01 I 16+R` a pair,
+/// `03`. What stands in `out` behind them isn't said.
 ///
-/// The initiators have to ascend, the responders to be distinct, and all to be below 16. Takes time by the
-/// number of pairs.
+/// The initiators have to ascend, the responders to be distinct, and all to be below 16. Takes time
+/// by the number of pairs.
 pub fn setting_bytes(pairs: &[Pair], out: &mut [u8; CHANGE_BYTES]) -> usize
     requires { ArePairs JOINED_MODULES pairs.now }
     ensures bytes { take result out.new ≡ text (setting Both pairs.now) }
@@ -49,13 +50,14 @@ pub fn setting_bytes(pairs: &[Pair], out: &mut [u8; CHANGE_BYTES]) -> usize
     put_setting(Wiring::Both, pairs, out)
 }
 
-/// Writes the bytes that set the one switch of a rack from the old pairs to the new ones, and gives their number, at
-/// most 97: the cuts of the pairs that go, the joins of those that come, each in their order, and the end of the
-/// sequence (INMOS IMS C004 data sheet, configuration messages): a row `06 I 16+R` a cut, a row `01 I 16+R` a
-/// join, `03`. What stands in `out` behind them isn't said.
+/// Writes the bytes that set the one switch of a rack from the old pairs to the new ones, and gives
+/// their number, at most 97: the cuts of the pairs that go, the joins of those that come, each in
+/// their order, and the end of the sequence (INMOS IMS C004 data sheet, configuration messages): a
+/// row `06 I 16+R` a cut, a row `01 I 16+R` a join, `03`. What stands in `out` behind them isn't
+/// said.
 ///
-/// Of both, the initiators have to ascend, the responders to be distinct, and all to be below 16. The time
-/// grows with the product of the numbers of pairs.
+/// Of both, the initiators have to ascend, the responders to be distinct, and all to be below 16.
+/// The time grows with the product of the numbers of pairs.
 pub fn change_bytes(old: &[Pair], new: &[Pair], out: &mut [u8; CHANGE_BYTES]) -> usize
     requires old { ArePairs JOINED_MODULES old.now }
     requires new { ArePairs JOINED_MODULES new.now }
@@ -66,13 +68,13 @@ pub fn change_bytes(old: &[Pair], new: &[Pair], out: &mut [u8; CHANGE_BYTES]) ->
     put_change(Wiring::Both, old, new, out)
 }
 
-/// Writes the bytes that set a switch of a wider rack to the pairs, whatever it was, and gives their number, at most
-/// 98: a reset, a connection of each pair in their order, and the end of the sequence (INMOS IMS C004 data sheet,
-/// configuration messages): `04`, a row `00 I R` a pair for `A` or `00 R I` for `B`, `03`. What stands in `out`
-/// behind them isn't said.
+/// Writes the bytes that set a switch of a wider rack to the pairs, whatever it was, and gives
+/// their number, at most 98: a reset, a connection of each pair in their order, and the end of the
+/// sequence (INMOS IMS C004 data sheet, configuration messages): `04`, a row `00 I R` a pair for
+/// `A` or `00 R I` for `B`, `03`. What stands in `out` behind them isn't said.
 ///
-/// The initiators have to ascend, the responders to be distinct, and all to be below 32. Takes time by the
-/// number of pairs.
+/// The initiators have to ascend, the responders to be distinct, and all to be below 32. Takes time
+/// by the number of pairs.
 pub fn wide_bytes(chip: Chip, pairs: &[Pair], out: &mut [u8; WIDE_SETTING_BYTES]) -> usize
     requires { ArePairs PORTS pairs.now }
     ensures bytes { take result out.new ≡ text (setting (wide_wiring chip) pairs.now) }
@@ -83,13 +85,14 @@ pub fn wide_bytes(chip: Chip, pairs: &[Pair], out: &mut [u8; WIDE_SETTING_BYTES]
     put_setting(Wiring::of_wide(chip), pairs, out)
 }
 
-/// Writes the bytes that set a switch of a wider rack from the old pairs to the new ones, and gives their number, at
-/// most 161: the cuts of the pairs that go, the connections of those that come, each in their order, and the end of
-/// the sequence (INMOS IMS C004 data sheet, configuration messages): a row `05 R` a cut for `A` or `05 I` for `B`, a
-/// row `00 I R` a connection for `A` or `00 R I` for `B`, `03`. What stands in `out` behind them isn't said.
+/// Writes the bytes that set a switch of a wider rack from the old pairs to the new ones, and gives
+/// their number, at most 161: the cuts of the pairs that go, the connections of those that come,
+/// each in their order, and the end of the sequence (INMOS IMS C004 data sheet, configuration
+/// messages): a row `05 R` a cut for `A` or `05 I` for `B`, a row `00 I R` a connection for `A` or
+/// `00 R I` for `B`, `03`. What stands in `out` behind them isn't said.
 ///
-/// Of both, the initiators have to ascend, the responders to be distinct, and all to be below 32. The time
-/// grows with the product of the numbers of pairs.
+/// Of both, the initiators have to ascend, the responders to be distinct, and all to be below 32.
+/// The time grows with the product of the numbers of pairs.
 pub fn wide_change(
     chip: Chip,
     old: &[Pair],
@@ -106,7 +109,8 @@ pub fn wide_change(
     put_change(Wiring::of_wide(chip), old, new, out)
 }
 
-/// Puts the bytes that set a switch of this wiring to the pairs, whatever it was, and says how many they are.
+/// Puts the bytes that set a switch of this wiring to the pairs, whatever it was, and says how many
+/// they are.
 pub fn put_setting(wiring: Wiring, pairs: &[Pair], out: &mut [u8]) -> usize
     requires pairs { ArePairs (room_of wiring) pairs.now }
     requires room { longest_setting wiring ≤ length out.old }
@@ -120,7 +124,8 @@ pub fn put_setting(wiring: Wiring, pairs: &[Pair], out: &mut [u8]) -> usize
     put(out, joined, Command::Settle)
 }
 
-/// Puts the bytes that set a switch of this wiring from the old pairs to the new ones, and says how many they are.
+/// Puts the bytes that set a switch of this wiring from the old pairs to the new ones, and says how
+/// many they are.
 pub fn put_change(wiring: Wiring, old: &[Pair], new: &[Pair], out: &mut [u8]) -> usize
     requires old { ArePairs (room_of wiring) old.now }
     requires new { ArePairs (room_of wiring) new.now }
@@ -135,8 +140,8 @@ pub fn put_change(wiring: Wiring, old: &[Pair], new: &[Pair], out: &mut [u8]) ->
     put(out, changed, Command::Settle)
 }
 
-/// The bytes that enquire every output, in order: `02 n` for n from 0 to 31 (INMOS IMS C004 data sheet,
-/// configuration messages). The switch answers each by a byte.
+/// The bytes that enquire every output, in order: `02 n` for n from 0 to 31 (INMOS IMS C004 data
+/// sheet, configuration messages). The switch answers each by a byte.
 pub fn enquiry_bytes() -> [u8; ENQUIRY_BYTES]
     ensures { result ≡ text all_enquiries }
 {
@@ -149,8 +154,8 @@ pub fn enquiry_bytes() -> [u8; ENQUIRY_BYTES]
     bytes
 }
 
-/// Puts the commands of those pairs that aren't among others behind the bytes that stand, and says how many
-/// stand then.
+/// Puts the commands of those pairs that aren't among others behind the bytes that stand, and says
+/// how many stand then.
 fn put_pairs(
     out: &mut [u8],
     stand: usize,

@@ -1,6 +1,6 @@
-//! What a setting of a batch's schedule is to the switches of a rack: the pairs of modules that its transfers
-//! want joined, the bytes that set the switches to them, and the conversation in which they are set and asked
-//! whether they stand so.
+//! What a setting of a batch's schedule is to the switches of a rack: the pairs of modules that its
+//! transfers want joined, the bytes that set the switches to them, and the conversation in which
+//! they are set and asked whether they stand so.
 #![tactic(auto)]
 
 mod bytes;
@@ -17,9 +17,9 @@ pub use bytes::{
     enquiry_bytes, setting_bytes, wide_bytes, wide_change,
 };
 pub use crossbar::{Chip, Pair, Wiring};
-pub use fault::SetFault;
+pub use fault::ConfigureFault;
 pub use numbers::{numbers_of_setting, transfer_of};
 pub use pair_list::PairList;
 pub use rack::is_wide;
 pub use short_list::{Blank, ShortList};
-pub use switching::{bytes_for, set_switches};
+pub use switching::{bytes_for, configure_switches};

@@ -17,8 +17,8 @@ pub fn transfer_of(batch: &Batch, number: usize) -> Transfer
     batch.as_slice()[number]
 }
 
-/// The numbers of the transfers of a setting, as the schedule has them: at most 32. The schedule has
-/// to be one of the batch, and the setting below the number of its settings.
+/// The numbers of the transfers of a setting, as the schedule has them: at most 32. The schedule
+/// has to be one of the batch, and the setting below the number of its settings.
 pub fn numbers_of_setting<'a>(batch: &Batch, schedule: &'a Schedule, setting: usize) -> &'a [usize]
     requires schedule { IsScheduleOf batch.now schedule.now }
     requires within { setting < length schedule.now }

@@ -29,7 +29,8 @@ impl Blank for Pair {
     }
 }
 
-/// The pairs of a setting by ascending initiators, at most one of each module. Contracts see the list.
+/// The pairs of a setting by ascending initiators, at most one of each module. Contracts see the
+/// list.
 #[derive(Clone, Copy, Debug)]
 pub struct PairList {
     pairs: ShortList<Pair>,
@@ -105,15 +106,15 @@ impl PairList {
     /// The pairs of the transfers of a setting, by their initiators: what [`crate::setting_bytes`],
     /// [`crate::wide_bytes`] and their changes take.
     ///
-    /// The numbers have to be those of transfers of the batch, of which no two want one end of a module's
-    /// link, as those of each setting of a schedule. Takes time by their number.
+    /// The numbers have to be those of transfers of the batch, of which no two want one end of a
+    /// module's link, as those of each setting of a schedule. Takes time by their number.
     pub fn of_setting(batch: &Batch, numbers: &[usize]) -> PairList
         requires batch { IsBatch batch.now }
         requires known { All (λ t. t < length batch.now) numbers.now }
         requires matching { IsMatching batch.now numbers.now }
         ensures members { result ≡ in_order (setting_pairs batch.now numbers.now) }
-        // In a rack that has the batch's modules they are pairs of that rack, and a switch to which all
-        // of these can be wired joins by them what the transfers want joined.
+        // In a rack that has the batch's modules they are pairs of that rack, and a switch to which
+        // all of these can be wired joins by them what the transfers want joined.
         ensures pairs { (modules : ℕ) → HasModulesOf modules batch.now → ArePairs modules result }
         ensures switch { (modules : ℕ) (wiring : Wiring) → HasModulesOf modules batch.now →
             modules ≤ room_of wiring →

@@ -5,46 +5,46 @@ ghost use Rattle.std.specs.FinMap as map;
 ghost use Rattle.std.specs.Ordering.{nat_cmp};
 ghost use Rattle.c004_commands.specs.Commands.{text};
 ghost use Rattle.crossbar.specs.Chips.{put_switch, switch_at};
-ghost use Rattle.crossbar.specs.Port.{IsExchange};
+ghost use Rattle.crossbar.specs.Port.{IsConversation};
 ghost use Rattle.crossbar.specs.Pairs.{ArePairs, room_of, ends, switch_of};
 ghost use Rattle.crossbar.specs.Traffic.{Passes, PassesFront};
 ghost use Rattle.crossbar.specs.declared.chip.Wiring.TheVariants.{Both};
-ghost use Rattle.switch_settings.specs.Answers.{Agrees, AllAgree, IsFirstDisagreement, IsDisagreementAt, IsMisset, AreSetTo, IsSetFault, IsStandingAt, AreStanding, TurnFrom};
+ghost use Rattle.switch_settings.specs.Answers.{Agrees, AllAgree, IsFirstDisagreement, IsDisagreementAt, IsMisset, AreSetTo, IsConfigureFault, IsStandingAt, AreStanding, TurnFrom};
 ghost use Rattle.switch_settings.specs.Asking.{turned, asked, HaveReplied, HavePassedFor};
 ghost use Rattle.switch_settings.specs.Pairs.{longest_change, all_enquiries};
 ghost use Rattle.switch_settings.specs.Sending.{turning};
-ghost use Rattle.switch_settings.specs.declared.fault.SetFault.TheVariants.{Port};
+ghost use Rattle.switch_settings.specs.declared.fault.ConfigureFault.TheVariants.{Port};
 
 use crate::bytes::{WIDE_CHANGE_BYTES, enquiry_bytes, put_change, put_setting};
-use crate::fault::SetFault;
+use crate::fault::ConfigureFault;
 use crate::pair_list::PairList;
-use c004_commands::{Answer, PORTS};
+use c004_commands::{OutputState, PORTS};
 use crossbar::{Chip, ConfigPort, JOINED_MODULES, Pair, Wiring};
 
 /// How many outputs a switch has to ask.
 const OUTPUTS: usize = PORTS as usize;
 
-/// Sets the switches of a rack of so many modules to the pairs, from the pairs that stand if they are known, and
-/// asks all outputs whether they are so set. This is the one place that knows how many switches a rack has: what
-/// fits on one goes to the first alone, in both directions, and else the first has the way forth and the second
-/// the way back.
-pub fn set_switches<P: ConfigPort>(
+/// Sets the switches of a rack of so many modules to the pairs, from the pairs that stand if they
+/// are known, and asks all outputs whether they are so set. This is the one place that knows how
+/// many switches a rack has: what fits on one goes to the first alone, in both directions, and else
+/// the first has the way forth and the second the way back.
+pub fn configure_switches<P: ConfigPort>(
     port: &mut P,
     modules: usize,
     standing: &Option<PairList>,
     pairs: &[Pair],
-) -> Result<(), SetFault>
+) -> Result<(), ConfigureFault>
     requires few { modules ≤ PORTS }
     requires pairs { ArePairs modules pairs.now }
     requires standing { AreStanding modules (P.honest port.old) (P.switches port.old) standing.now }
     ensures set { OnOk result (AreSetTo modules (P.honest port.old) (P.switches port.new) pairs.now) }
     ensures fault { IfErr result
-        (λ fault. IsSetFault modules (P.failures port.old) (P.failures port.new) (P.honest port.old) fault) }
+        (λ fault. IsConfigureFault modules (P.failures port.old) (P.failures port.new) (P.honest port.old) fault) }
     ensures counted { P.failures port.old ≤ P.failures port.new }
     ensures unfailed { OnOk result (P.failures port.new ≡ P.failures port.old) }
     ensures honesty { P.honest port.new ≡ P.honest port.old }
-    // Each switch was sent its bytes whole, and then replied at all outputs as the pairs call for; else what had
-    // passed as it stopped, and why.
+    // Each switch was sent its bytes whole, and then replied at all outputs as the pairs call for;
+    // else what had passed as it stopped, and why.
     ensures replied { OnOk result
         (HaveReplied modules standing.now pairs.now (P.passed port.old) (P.passed port.new)) }
     ensures vain { IfErr result (λ fault.
@@ -70,7 +70,7 @@ fn send<P: ConfigPort>(
     wiring: Wiring,
     standing: &Option<PairList>,
     pairs: &[Pair],
-) -> Result<(), SetFault>
+) -> Result<(), ConfigureFault>
     requires pairs { ArePairs (room_of wiring) pairs.now }
     requires standing { IsStandingAt chip wiring (P.honest port.old) (P.switches port.old) standing.now }
     ensures set { OnOk result (IsTrue (P.honest port.old) →
@@ -86,14 +86,14 @@ fn send<P: ConfigPort>(
 {
     let mut bytes = [0; WIDE_CHANGE_BYTES];
     let number = bytes_for(wiring, standing, pairs, &mut bytes);
-    if port.exchange(chip, &bytes[..number], &mut []).is_err() {
-        return Err(SetFault::Port);
+    if port.converse(chip, &bytes[..number], &mut []).is_err() {
+        return Err(ConfigureFault::Port);
     }
     Ok(())
 }
 
 /// Asks all outputs of a switch, and gives their replies in order.
-fn enquire<P: ConfigPort>(port: &mut P, chip: Chip) -> Result<[u8; OUTPUTS], SetFault>
+fn enquire<P: ConfigPort>(port: &mut P, chip: Chip) -> Result<[u8; OUTPUTS], ConfigureFault>
     ensures replies { IfOk result (λ replies. IsTrue (P.honest port.old) →
         AllAgree (switch_at chip (P.switches port.old)) replies) }
     ensures unmoved { OnOk result (IsTrue (P.honest port.old) → P.switches port.new ≡ P.switches port.old) }
@@ -109,33 +109,34 @@ fn enquire<P: ConfigPort>(port: &mut P, chip: Chip) -> Result<[u8; OUTPUTS], Set
 {
     let enquiries = enquiry_bytes();
     let mut replies = [0; OUTPUTS];
-    if port.exchange(chip, &enquiries, &mut replies).is_err() {
-        return Err(SetFault::Port);
+    if port.converse(chip, &enquiries, &mut replies).is_err() {
+        return Err(ConfigureFault::Port);
     }
     Ok(replies)
 }
 
-/// Whether all outputs of a switch reply what the pairs call for. If not, the fault names the first that doesn't.
+/// Whether all outputs of a switch reply what the pairs call for. If not, the fault names the first
+/// that doesn't.
 fn judge(
     chip: Chip,
     wiring: Wiring,
     pairs: &[Pair],
     replies: &[u8; OUTPUTS],
-) -> Result<(), SetFault>
+) -> Result<(), ConfigureFault>
     requires { ArePairs (room_of wiring) pairs.now }
     ensures agreed { OnOk result (AllAgree (switch_of wiring pairs.now) replies.now) }
     ensures fault { IfErr result (λ fault. IsMisset chip (switch_of wiring pairs.now) replies.now fault) }
 {
     match disagreement(chip, wiring, pairs, replies) {
-        Some(number) => Err(SetFault::SwitchDisagrees(number)),
+        Some(number) => Err(ConfigureFault::SwitchDisagrees(number)),
         None => Ok(()),
     }
 }
 
-/// Writes the bytes that [`set_switches`] sends to a switch of this wiring to set it to the pairs, and
-/// gives their number: the change from the pairs that stand if they are known
-/// ([`change_bytes`](crate::change_bytes) and [`wide_change`](crate::wide_change) say which these are),
-/// else the setting of any switch ([`setting_bytes`](crate::setting_bytes),
+/// Writes the bytes that [`configure_switches`] sends to a switch of this wiring to set it to the
+/// pairs, and gives their number: the change from the pairs that stand if they are known
+/// ([`change_bytes`](crate::change_bytes) and [`wide_change`](crate::wide_change) say which these
+/// are), else the setting of any switch ([`setting_bytes`](crate::setting_bytes),
 /// [`wide_bytes`](crate::wide_bytes)). What stands in `out` behind them isn't said.
 ///
 /// Of both, the initiators have to ascend, the responders to be distinct, and all to be below the
@@ -151,7 +152,7 @@ pub fn bytes_for(
     requires standing { IfSome standing.now (λ old. ArePairs (room_of wiring) old) }
     requires room { longest_change wiring ≤ length out.old }
     ensures bytes { take result out.new ≡ text (turning wiring standing.now pairs.now) }
-    ensures quiet { IsExchange (take result out.new) 0 }
+    ensures quiet { IsConversation (take result out.new) 0 }
     ensures sets { TurnFrom wiring standing.now (take result out.new) pairs.now }
     ensures room { result ≤ length out.new }
 {
@@ -161,8 +162,8 @@ pub fn bytes_for(
     }
 }
 
-/// The number of the first output of a switch whose reply isn't what the pairs call for. The outputs of the second
-/// switch are numbered behind those of the first.
+/// The number of the first output of a switch whose reply isn't what the pairs call for. The
+/// outputs of the second switch are numbered behind those of the first.
 fn disagreement(chip: Chip, wiring: Wiring, pairs: &[Pair], replies: &[u8; OUTPUTS]) -> Option<u8>
     requires { ArePairs (room_of wiring) pairs.now }
     ensures { MatchOption result
@@ -197,12 +198,12 @@ fn agrees(wiring: Wiring, pairs: &[Pair], output: u8, reply: u8) -> bool
     ensures { IsTrue result ↔ Agrees (switch_of wiring pairs.now) output reply }
 {
     let source = source_for(wiring, pairs, output);
-    let Ok(answer) = Answer::read(reply) else {
+    let Ok(answer) = OutputState::read(reply) else {
         return false;
     };
     match answer {
-        Answer::Connected(input) => source == Some(input.get()),
-        Answer::Loose => source.is_none(),
+        OutputState::Connected(input) => source == Some(input.get()),
+        OutputState::Loose => source.is_none(),
     }
 }
 

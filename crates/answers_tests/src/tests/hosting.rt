@@ -2,12 +2,12 @@
 
 ghost use Rattle.std.specs.Prelude.{◌≤◌, IfOk, None, Some, codes, length, map};
 ghost use Rattle.exchange_limits.specs.declared.limits.TheConstants.{MAX_SESSIONS};
-ghost use Rattle.session_answers.specs.Hosts.{end_of, IsHostAnswer};
-ghost use Rattle.answers_tests.specs.Known.{known_guests};
+ghost use Rattle.session_answers.specs.HostAnswers.{seen_end, IsHostAnswer};
+ghost use Rattle.answers_tests.specs.Known.{known_clients};
 
 use exchange_limits::WorkerCount;
 use module_memory::Rack;
-use session_answers::{AllThere, Doors, Ending, Hosted, answer_host};
+use session_answers::{AllThere, ClientStreams, Ending, Hosted, answer_host};
 use std::alloc::{AllocError, Global};
 use std::io;
 use std::io::ErrorKind;
@@ -16,14 +16,14 @@ use std::thread::Threads;
 
 /// Clients each of whom says what is here, and whose replies are kept.
 #[derive(Drop)]
-struct KnownDoors<'a> {
+struct KnownStreams<'a> {
     alloc: Global,
     said: &'a [&'a [u8]],
 }
 
-impl<'a> Doors for KnownDoors<'a> {
+impl<'a> ClientStreams for KnownStreams<'a> {
     ghost use Rattle.std.specs.Prelude.{Some};
-    ghost use Rattle.answers_tests.specs.Known.{known_guests};
+    ghost use Rattle.answers_tests.specs.Known.{known_clients};
 
     type Reader = &'a [u8];
 
@@ -31,7 +31,7 @@ impl<'a> Doors for KnownDoors<'a> {
 
     type Receipt = Vec<u8>;
 
-    ghost guests = { λ d. known_guests d.said.now };
+    ghost known = { λ d. known_clients d.said.now };
 
     ghost received = { λ told. Some told.items };
 
@@ -63,12 +63,12 @@ fn host_known<R: Threads + Wait + Sync>(
 ) -> Result<Hosted<Vec<u8>>, AllocError>
     requires some { 1 ≤ length said.now }
     requires few { length said.now ≤ MAX_SESSIONS }
-    ensures { IfOk result (λ hosted. IsHostAnswer (codes "1x1x2") None (known_guests said.now)
-        (map (end_of (λ told. Some told.items)) hosted.endings.items) hosted.answer
+    ensures { IfOk result (λ hosted. IsHostAnswer (codes "1x1x2") None (known_clients said.now)
+        (map (seen_end (λ told. Some told.items)) hosted.endings.items) hosted.answer
         hosted.rack) }
 {
-    let doors = KnownDoors { alloc, said };
-    answer_host(rt, alloc, b"1x1x2", None, WorkerCount::ONE, &doors)
+    let streams = KnownStreams { alloc, said };
+    answer_host(rt, alloc, b"1x1x2", None, WorkerCount::ONE, &streams)
 }
 
 /// Whether a session ended by itself, and its client was told this.

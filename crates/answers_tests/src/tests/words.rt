@@ -1,7 +1,7 @@
 //! What the words of the command line say of workers and of schedules, which no row can show.
 
 use clap::error::ErrorKind;
-use command_words::{Job, Planning, ScheduleSource, WordsFault, read_words};
+use command_words::{ArgumentsFault, Job, Planning, ScheduleSource, read_arguments};
 use std::alloc::{AllocError, Global};
 
 /// What words say of how their schedule is made, or why they are refused.
@@ -68,10 +68,10 @@ fn said_by(job: &Job) -> Said<'_> {
 
 /// Whether words say this.
 fn are_read_as(alloc: Global, words: &[String], said: &Said<'_>) -> bool {
-    match read_words(alloc, words) {
+    match read_arguments(alloc, words) {
         Ok(request) => said_by(&request.job) == *said,
-        Err(WordsFault::Clap(error)) => Said::Refused(error.kind()) == *said,
-        Err(WordsFault::NoMemory) => false,
+        Err(ArgumentsFault::Clap(error)) => Said::Refused(error.kind()) == *said,
+        Err(ArgumentsFault::NoMemory) => false,
     }
 }
 

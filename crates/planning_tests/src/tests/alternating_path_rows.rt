@@ -98,8 +98,8 @@ fn joins_to_row(alloc: Global, graph: &LinkGraph) -> bool
     }
 }
 
-/// Whether the table of `0 2` with one class more, `1 3`, has the settings `0 2` and `1 3`, none of them
-/// inserted.
+/// Whether the table of `0 2` with one class more, `1 3`, has the settings `0 2` and `1 3`, none of
+/// them inserted.
 fn has_class_more(alloc: Global, graph: &LinkGraph) -> Result<bool, AllocError>
     requires known { 3 < length graph.now }
     requires left { AreApart graph.now 0 2 }
@@ -132,8 +132,8 @@ fn gives_back(alloc: Global, graph: &LinkGraph) -> Result<bool, AllocError>
     Ok(is_taken_back(&table, class.as_slice()))
 }
 
-/// Whether the row is met by insertions, by halves that are joined, by a class that is added, and by what is
-/// taken back of the joined halves.
+/// Whether the row is met by insertions, by halves that are joined, by a class that is added, and
+/// by what is taken back of the joined halves.
 fn meets_row(alloc: Global) -> bool {
     match graph_of_four(alloc) {
         Some(graph) => {

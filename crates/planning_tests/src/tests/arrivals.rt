@@ -127,7 +127,8 @@ fn arrivals_of_parts(rt: HostRuntime) {
     assert!(rt; all_come(&rt, APART, NO_LEVEL));
 }
 
-/// Eight uses of a link by as many transfers: three levels of halves, of four transfers, two and one.
+/// Eight uses of a link by as many transfers: three levels of halves, of four transfers, two and
+/// one.
 const THREE_LEVELS: &[Arrivals] = &[
     (1, &[]),
     (2, &[1, 2]),
@@ -137,8 +138,9 @@ const THREE_LEVELS: &[Arrivals] = &[
     (64, &[1, 1, 1, 9, 17, 17, 25, 33, 33, 33, 41, 49, 49, 57]),
 ];
 
-/// As many uses as workers: six levels, down to one worker and one transfer. On each level the halves begin with those whose numbers stand
-/// in a line: the halves have 32 workers, 16, 8, 4, 2 and 1.
+/// As many uses as workers: six levels, down to one worker and one transfer. On each level the
+/// halves begin with those whose numbers stand in a line: the halves have 32 workers, 16, 8, 4, 2
+/// and 1.
 const SIX_LEVELS: &[Arrivals] = &[(
     64,
     &[

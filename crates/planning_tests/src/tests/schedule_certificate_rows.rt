@@ -34,8 +34,8 @@ const PLAN_OF_FOUR: Plan = Plan {
     reinserted: 0,
 };
 
-/// Each of five modules pushes a block to each of them. A half of these transfers may have links with three uses, and is then halved once
-/// more, into two halves that have four colours together.
+/// Each of five modules pushes a block to each of them. A half of these transfers may have links
+/// with three uses, and is then halved once more, into two halves that have four colours together.
 const FIVE_BY_FIVE: &str = "\
 batch 25
 push 0 5 0 0
@@ -71,7 +71,8 @@ fn put_back_as_many<R: AllocGlobal + Threads + Sync>(rt: &R, workers: usize) -> 
     by_one.is_some() && plan_at(rt, FIVE_BY_FIVE, workers, &OpenGate) == by_one
 }
 
-/// Whether the plan of a batch text by one worker has so many settings, and at most so many transfers were put back.
+/// Whether the plan of a batch text by one worker has so many settings, and at most so many
+/// transfers were put back.
 fn put_back_at_most<R: AllocGlobal + Threads + Sync>(
     rt: &R,
     text: &str,

@@ -1,7 +1,7 @@
 ghost use Rattle.std.specs.Prelude.{◌≡◌, ◌∷◌, [], codes};
 ghost use Rattle.batch.specs.Rows.{pull, three_transfers};
 ghost use Rattle.link_graph.specs.declared.link.End.TheVariants.{Zero, Three};
-ghost use Rattle.schedule_picture.specs.Picture.{changes_words, note_text, whole};
+ghost use Rattle.schedule_picture.specs.Picture.{changes_words, note_text, all_shown};
 ghost use Rattle.schedule_picture.specs.Cells.{arrow_of, partner_of, to_partner, from_partner};
 ghost use Rattle.schedule_picture.specs.Places.{row_of, takes_part};
 ghost use Rattle.std.specs.Prelude.{false};
@@ -13,8 +13,8 @@ use link_graph::Schedule;
 use schedule_picture::verdict_on;
 use std::alloc::Global;
 
-/// Modules 0 to 2 of the row take part, and 3 does not. Where modules 3 and 31 alone take part, theirs
-/// are the first row and the second.
+/// Modules 0 to 2 of the row take part, and 3 does not. Where modules 3 and 31 alone take part,
+/// theirs are the first row and the second.
 fn the_definitions_give_rows()
     ensures third { row_of three_transfers 2 ≡ 2 }
     ensures none { takes_part three_transfers 3 ≡ false }
@@ -22,7 +22,8 @@ fn the_definitions_give_rows()
     ensures second { row_of (pull 3 0 31 5 ∷ []) 31 ≡ 1 }
 {}
 
-/// A push moves words from its initiator, at link 0, to its responder, at link 3; a pull the other way.
+/// A push moves words from its initiator, at link 0, to its responder, at link 3; a pull the other
+/// way.
 fn the_definitions_give_cells()
     ensures pushes { arrow_of Push Zero ≡ to_partner }
     ensures is_pushed { arrow_of Push Three ≡ from_partner }
@@ -37,9 +38,9 @@ fn the_definitions_give_cells()
 fn the_definitions_say_changes()
     ensures fewest { changes_words 2 2 ≡ codes "changes 2, the fewest" }
     ensures more { changes_words 3 2 ≡ codes "changes 3" }
-    ensures note { note_text 2 of_three_transfers (whole 2)
+    ensures note { note_text 2 of_three_transfers (all_shown 2)
         ≡ codes "changes 2, the fewest, busiest link 0 module 0, certified" }
-    ensures empty_batch { note_text 0 of_empty_batch (whole 0)
+    ensures empty_batch { note_text 0 of_empty_batch (all_shown 0)
         ≡ codes "changes 0, the fewest, busiest none, no certificate" }
 {}
 

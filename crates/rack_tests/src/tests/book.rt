@@ -1,5 +1,5 @@
-//! Calls and readings of an exchange: what a seat is answered, readings during runs, seats in threads, two workers, and named sizes and
-//! texts.
+//! Calls and readings of an exchange: what a seat is answered, readings during runs, seats in
+//! threads, two workers, and named sizes and texts.
 
 mod days;
 mod exchange;

@@ -1,4 +1,5 @@
-//! What tests of each kind need: row two-pushes, plans and racks of texts, plants, and a notice that is kept.
+//! What tests of each kind need: row two-pushes, plans and racks of texts, plants, and a notice
+//! that is kept.
 
 use batch::{Batch, Shape};
 use crossbar::MemoryPort;

@@ -4,7 +4,7 @@ ghost use Rattle.std.specs.Prelude.{◌≡◌, Some};
 ghost use Rattle.progress_word.specs.declared.limits.TheConstants.{ALL_PARTS};
 
 use crate::tests::common::{batch, plan};
-use batch_book::{BatchState, Call, Closed, Refusal, Reply, Seat, Shared};
+use batch_book::{BatchState, BookRefusal, Call, Closed, Reply, Seat, Shared};
 use crossbar::{ConfigPort, MemoryPort};
 use module_memory::Rack;
 use peek_poke::WireMaker;
@@ -37,7 +37,7 @@ pub enum Said {
     Discarded,
     Word(u32),
     Poked,
-    Refused(Refusal),
+    Refused(BookRefusal),
     /// The call couldn't be made, for want of memory or since its text is none of a batch.
     NotAsked,
 }
@@ -176,7 +176,8 @@ impl<L: Ledger, W: WireMaker + Sync, G: Gate + Sync> Pair<L, W, G> {
         answer(rt, &self.shared, &mut self.second, ask)
     }
 
-    /// The first of these rows in which the first seat is answered otherwise. Those behind it aren't asked.
+    /// The first of these rows in which the first seat is answered otherwise. Those behind it
+    /// aren't asked.
     pub fn first_wrong<R: AllocGlobal + Threads + Wait + Sync>(
         &mut self,
         rt: &R,

@@ -13,7 +13,8 @@ use std::thread::Threads;
 /// Row three-transfers: transfers 0 and 2 in setting 0, and transfer 1 in setting 1.
 pub const THREE_TRANSFERS: &str = "batch 3\npush 0 0 1 0\npush 0 1 2 0\npush 1 1 2 1\n";
 
-/// Each module of the widest rack sends its block 0 into block 1 of the module that lies as far from the other end.
+/// Each module of the widest rack sends its block 0 into block 1 of the module that lies as far
+/// from the other end.
 pub const TURNED_ROUND: &str = "\
 batch 32\n\
 push 0 0 31 1\n\
@@ -65,7 +66,8 @@ pub const FORMS: [Form; 2] = [Form::Workers, Form::Alone];
 pub enum End<'a> {
     /// At its end, with so many settings and words.
     Completed(usize, usize),
-    /// In this setting, for this cause, with these transfers, each of which has moved so many words.
+    /// In this setting, for this cause, with these transfers, each of which has moved so many
+    /// words.
     Stopped(usize, StopCause, &'a [(u16, u16)]),
     Refused(RunRefusal),
 }
@@ -107,7 +109,8 @@ impl End<'_> {
 /// A block, by its module and its number, and the words that it is to have behind a run.
 pub type Block<'a> = (usize, usize, &'a [u32]);
 
-/// A run of a batch text on a marked rack, how it is to end, and the words that some blocks are to have behind it.
+/// A run of a batch text on a marked rack, how it is to end, and the words that some blocks are to
+/// have behind it.
 #[derive(Clone, Copy)]
 pub struct Case<'a> {
     pub shape: &'a str,
@@ -145,8 +148,8 @@ fn run_in_form<R: AllocGlobal + Threads + Sync, P: ConfigPort, W: WireMaker + Sy
     }
 }
 
-/// Whether a run of the case's plan on this rack ends as it says, leaves the words, and tells its notice as often as such a run does, in
-/// order.
+/// Whether a run of the case's plan on this rack ends as it says, leaves the words, and tells its
+/// notice as often as such a run does, in order.
 fn ends_on<R: AllocGlobal + Threads + Sync, P: ConfigPort, W: WireMaker + Sync, G: Gate + Sync>(
     rt: &R,
     form: Form,
@@ -178,8 +181,8 @@ pub fn ends<R: AllocGlobal + Threads + Sync, P: ConfigPort, W: WireMaker + Sync,
     }
 }
 
-/// Whether a run in this form with this plant ends as the case says, leaves the words, and tells its notice as often as such a run does, in
-/// order. How often it was told is counted here.
+/// Whether a run in this form with this plant ends as the case says, leaves the words, and tells
+/// its notice as often as such a run does, in order. How often it was told is counted here.
 pub fn ends_so<R: AllocGlobal + Threads + Sync, P: ConfigPort, W: WireMaker + Sync, G: Gate + Sync>(
     rt: &R,
     form: Form,

@@ -1,5 +1,5 @@
-//! Reply lines that no program prints, and sessions: over readers and writers that fail, that record when they are called, or that wait
-//! for one another, and over wires with a fuse.
+//! Reply lines that no program prints, and sessions: over readers and writers that fail, that
+//! record when they are called, or that wait for one another, and over wires with a fuse.
 
 mod beside;
 mod ends;

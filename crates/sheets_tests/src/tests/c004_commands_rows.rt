@@ -2,8 +2,8 @@
 
 use super::prints::prints;
 use c004_commands::{
-    Answer, AnswerFormat, CONNECTED, Command, CommandFault, CommandReader, LONGEST_COMMAND, PORTS,
-    PortNo, write,
+    AnswerFormat, CONNECTED, Command, CommandFault, CommandReader, LONGEST_COMMAND, OutputState,
+    PORTS, PortNo, write,
 };
 
 /// Whether a reader gives this command at a byte, and is at rest then.
@@ -68,7 +68,7 @@ fn named_sizes(rt: HostRuntime) {
 /// Whether all these bytes answer that an output is loose.
 fn are_loose(bytes: &[u8]) -> bool {
     for byte in bytes {
-        if Answer::read(*byte) != Ok(Answer::Loose) {
+        if OutputState::read(*byte) != Ok(OutputState::Loose) {
             return false;
         }
     }
@@ -78,7 +78,7 @@ fn are_loose(bytes: &[u8]) -> bool {
 /// Whether none of these bytes is an answer.
 fn are_refused(bytes: &[u8]) -> bool {
     for byte in bytes {
-        if Answer::read(*byte) != Err(AnswerFormat::BadAnswer) {
+        if OutputState::read(*byte) != Err(AnswerFormat::BadAnswer) {
             return false;
         }
     }
@@ -88,7 +88,7 @@ fn are_refused(bytes: &[u8]) -> bool {
 #[test]
 fn answers(rt: HostRuntime) {
     let input = PortNo::new(17).unwrap();
-    assert!(rt; Answer::read(0x91) == Ok(Answer::Connected(input)));
+    assert!(rt; OutputState::read(0x91) == Ok(OutputState::Connected(input)));
     assert!(rt; are_loose(&[0x00, 0x60]));
     assert!(rt; are_refused(&[0xa0, 0xc0]));
 }

@@ -1,4 +1,5 @@
-//! The worked rows of the switch and of two, and a printed fault. What ports carry out, and fuses, are tested in `rack_tests`.
+//! The worked rows of the switch and of two, and a printed fault. What ports carry out, and fuses,
+//! are tested in `rack_tests`.
 
 use super::prints::prints;
 use c004_commands::{CommandFault, CommandReader, PortNo};
@@ -21,7 +22,8 @@ fn feed_all(
     Ok(answer)
 }
 
-/// What comes of some bytes: what their last command is answered, and whether the switch is ready then.
+/// What comes of some bytes: what their last command is answered, and whether the switch is ready
+/// then.
 type Row<'a> = (&'a [u8], Option<u8>, bool);
 
 /// Whether the bytes make this of a new switch.
@@ -55,7 +57,8 @@ fn join_and_enquire(rt: HostRuntime) {
     assert!(rt; hold(&rows));
 }
 
-/// Whether the switch of these bytes joins module 0 to module 1 and not 1 to 0, and input 0 feeds output 17.
+/// Whether the switch of these bytes joins module 0 to module 1 and not 1 to 0, and input 0 feeds
+/// output 17.
 fn join_0_to_1(bytes: &[u8]) -> bool {
     let mut crossbar = Crossbar::new();
     let output = PortNo::new(JOINED_MODULES + 1).unwrap();
@@ -97,8 +100,8 @@ fn bad_commands(rt: HostRuntime) {
     assert!(rt; is_begun(&mut reader, &mut crossbar));
 }
 
-/// Row connect-and-cut, up to the connection. One input feeds two outputs, and the last input of an output is the one that
-/// feeds it.
+/// Row connect-and-cut, up to the connection. One input feeds two outputs, and the last input of an
+/// output is the one that feeds it.
 #[test]
 fn an_input_feeds_an_output(rt: HostRuntime) {
     let rows: [Row<'_>; 5] = [
@@ -119,8 +122,8 @@ fn an_input_feeds_an_output(rt: HostRuntime) {
     assert!(rt; hold(&rows));
 }
 
-/// Row connect-and-cut, behind the connection. To cut output 3 isn't to cut what input 3 feeds, nor is what the same input
-/// feeds.
+/// Row connect-and-cut, behind the connection. To cut output 3 isn't to cut what input 3 feeds, nor
+/// is what the same input feeds.
 #[test]
 fn an_output_is_cut(rt: HostRuntime) {
     let rows: [Row<'_>; 5] = [

@@ -1,5 +1,5 @@
-//! Places that aren't lent, named sizes and printed faults. What images and racks hold, and which addresses have a fault, is shown by what
-//! `apply`, `run` and `serve` print.
+//! Places that aren't lent, named sizes and printed faults. What images and racks hold, and which
+//! addresses have a fault, is shown by what `apply`, `run` and `serve` print.
 
 use super::prints::prints;
 use super::racks::{marked_rack, place};

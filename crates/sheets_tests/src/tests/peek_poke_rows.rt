@@ -1,4 +1,5 @@
-//! The worked rows of messages, named sizes and printed faults. What goes over wires is tested in `rack_tests`.
+//! The worked rows of messages, named sizes and printed faults. What goes over wires is tested in
+//! `rack_tests`.
 
 use super::prints::prints;
 use super::racks::{marked_rack, place};
@@ -79,8 +80,8 @@ fn poke_then_peek(rt: HostRuntime) {
     assert!(rt; rack_has_poked_word(rt.alloc()));
 }
 
-/// That just these bytes go over a wire, and for a pull those of the word behind them, is in the contracts of `push_word` and
-/// `pull_word`.
+/// That just these bytes go over a wire, and for a pull those of the word behind them, is in the
+/// contracts of `push_word` and `pull_word`.
 #[test]
 fn words_go_as_messages(rt: HostRuntime) {
     assert!(rt; poke_bytes(0x8000_0804, 0x1234_5678) == [0, 4, 8, 0, 0x80, 0x78, 0x56, 0x34, 0x12]);
@@ -95,7 +96,8 @@ fn refuses_to_boot(store: &mut Window) -> bool {
         && !answerer.at_rest()
 }
 
-/// Whether the second word of a module `1x1x2` is poked, and what lies behind it or between the two is refused.
+/// Whether the second word of a module `1x1x2` is poked, and what lies behind it or between the two
+/// is refused.
 fn faults_are_answered(store: &mut Window) -> bool {
     takes(&mut Answerer::new(), store, &[0, 4, 8, 0, 0x80, 1, 0, 0, 0])
         && refuses(store, &[0, 8, 8, 0, 0x80, 1, 0, 0], 0, AnswerFault::Outside)

@@ -6,7 +6,7 @@ use c004_commands::CommandFault;
 use std::alloc::Global;
 use std::io::{Error, ErrorKind};
 use std::sync::atomic::{AtomicUsize, Ordering};
-use switch_end::{EndFault, SwitchEnd, attend};
+use switch_end::{EndFault, SwitchEnd, answer_commands};
 
 /// Enquiries of output 17 before and behind a join, a byte that begins no command, and an enquiry
 /// of output 0: each byte with the number of replies that are due before it.
@@ -27,9 +27,9 @@ const SENT: [(u8, usize); 11] = [
 /// What is told of the byte that begins no command.
 const TOLD: &str = "exchange: standard input: byte 8 is 2a; commands begin with 00 to 06\n";
 
-/// Attends a new end, where the reader fails at a byte and the writer takes so many: whether no byte
-/// was read before all replies that were due had been flushed, what is told beside the replies,
-/// these, with zeros behind them, and how it ended.
+/// Attends a new end, where the reader fails at a byte and the writer takes so many: whether no
+/// byte was read before all replies that were due had been flushed, what is told beside the
+/// replies, these, with zeros behind them, and how it ended.
 fn attends(
     alloc: Global,
     flushed: &AtomicUsize,
@@ -40,7 +40,7 @@ fn attends(
     reader.fails_at = fails_at;
     let mut writer = Taker::of(room, flushed);
     let (mut end, mut told) = (SwitchEnd::new(), Vec::new(alloc));
-    let ended = attend(&mut end, &mut reader, &mut writer, &mut told);
+    let ended = answer_commands(&mut end, &mut reader, &mut writer, &mut told);
     let (replies, _) = writer.taken();
     (reader.is_in_order(), told, replies, ended)
 }
@@ -74,7 +74,7 @@ fn a_write_fails(rt: HostRuntime) {
 fn answers(alloc: Global, bytes: &[u8], replies: &[u8], told: &str) -> bool {
     let (mut end, mut input) = (SwitchEnd::new(), bytes);
     let (mut out, mut err) = (Vec::new(alloc), Vec::new(alloc));
-    attend(&mut end, &mut input, &mut out, &mut err).is_ok()
+    answer_commands(&mut end, &mut input, &mut out, &mut err).is_ok()
         && out.as_slice() == replies
         && err.as_slice() == told.as_bytes()
 }

@@ -15,16 +15,16 @@ loop-i-preserved g c =
     record {
       left = λ k d below. grind (arith, common_steps, i.left k d, i.here k d, e.seat);
       here = λ k d above. grind (arith, common_steps, i.here k d);
-      word = rw j.lookout refl;
+      word = rw j.watcher refl;
       parts = grind (arith, common_steps, i.parts, j.parts, e.parts);
       amount = grind (arith, common_steps, i.amount, j.amount, e.amount);
-      seen = λ k d below. rw j.lookout (grind (arith, common_steps, i.seen k d, i.here k d, e.seen));
+      seen = λ k d below. rw j.watcher (grind (arith, common_steps, i.seen k d, i.here k d, e.seen));
       raised = λ n all.
           let a = i.raised n (λ k d below. all k d (omega arith)) in
           let s = c.index-seats-i.result in
-          let b : c.leave-access.result.lookout.raised ≤ n =
+          let b : c.leave-access.result.watcher.raised ≤ n =
           subst (λ m. m ≤ n) (sym (e.raised ∙ ap (λ (x : SeatState). greatest x.log) (i.here c.loop-i.i s (omega arith)))) (all c.loop-i.i s (omega arith)) in
-          rw j.lookout (omega (arith, a, b));
+          rw j.watcher (omega (arith, a, b));
     }
 
 pub returns-clause-seats : goal.returns-clause-seats

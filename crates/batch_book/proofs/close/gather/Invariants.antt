@@ -9,9 +9,9 @@ abbrev pub invariant-loop-i : goal.invariant-loop-i
 invariant-loop-i g l = record {
   left : (k : ℕ) (d : SeatState) → k < l.i → get_or l.seats k d ≡ closed (get_or l.fn.seats k d);
   here : (k : ℕ) (d : SeatState) → l.i ≤ k → get_or l.seats k d ≡ get_or l.fn.seats k d;
-  word : l.all.lookout.word ≡ l.word;
+  word : l.all.watcher.word ≡ l.word;
   parts : l.all.parts ≡ parts_of (take l.i l.fn.seats);
   amount : l.all.share.amount ≡ entries_of (take l.i l.fn.seats);
-  seen : (k : ℕ) (d : SeatState) → k < l.i → (get_or l.fn.seats k d).seen ≤ l.all.lookout.seen;
-  raised : (n : ℕ) → ((k : ℕ) (d : SeatState) → k < l.i → greatest (get_or l.fn.seats k d).log ≤ n) → l.all.lookout.raised ≤ n;
+  seen : (k : ℕ) (d : SeatState) → k < l.i → (get_or l.fn.seats k d).seen ≤ l.all.watcher.seen;
+  raised : (n : ℕ) → ((k : ℕ) (d : SeatState) → k < l.i → greatest (get_or l.fn.seats k d).log ≤ n) → l.all.watcher.raised ≤ n;
 }

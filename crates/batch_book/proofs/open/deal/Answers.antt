@@ -1,7 +1,7 @@
 use Rattle.std.proofs.Common.{◌≡◌, ℕ, ◌+◌, ◌-◌, ◌≤◌, List, [], ap, ap₂, sym, ◌∙◌, subst, arith}
 use Rattle.std.proofs.lemmas.Grind.{common_steps}
 use Rattle.progress_word.specs.declared.limits.TheConstants.{ALL_PARTS}
-use Rattle.progress_word.specs.Lookouts.{LookoutView, lookout_view}
+use Rattle.progress_word.specs.Watchers.{WatcherView, watcher_view}
 use Rattle.batch_book.specs.Seats.{SeatState, open_seat}
 use Rattle.batch_book.specs.Exchanges.{new_seat}
 use Rattle.batch_book.proofs.Dealing.{AreDealt, none_dealt, dealt_more, all_dealt}
@@ -10,11 +10,11 @@ use Rattle.batch_book.proofs.open.deal.Goals as goal
 pub loop-session-init : goal.loop-session-init
 loop-session-init g c =
     let word = c.args.word.now in
-    let parts : ALL_PARTS ≡ c.args.first.parts = omega (arith, ap (λ (o : LookoutView). o.parts) c.requires.first, c.args.first.of_word) in
+    let parts : ALL_PARTS ≡ c.args.first.parts = omega (arith, ap (λ (o : WatcherView). o.parts) c.requires.first, c.args.first.of_word) in
     record {
       room = c.requires.room;
       parts = omega (arith, parts);
-      lookout = c.requires.first ∙ ap (λ (n : ℕ). lookout_view word 0 0 n) parts;
+      watcher = c.requires.first ∙ ap (λ (n : ℕ). watcher_view word 0 0 n) parts;
       amount = c.requires.amount;
       dealt = subst (λ (l : List SeatState). AreDealt word 1 l) (sym c.requires.empty) (none_dealt word);
     }
@@ -26,16 +26,16 @@ loop-session-preserved g c =
     let inv = c.loop-session.invariant in
     let split = c.split.ensures in
     let less : c.loop-session.first.parts - 1 ≡ c.split.new.self.parts = omega (arith, split.parts.0) in
-    let kept = rw inv.lookout at split.kept in
-    let given = rw inv.lookout at split.given in
+    let kept = rw inv.watcher at split.kept in
+    let given = rw inv.watcher at split.given in
     record {
       room = grind (arith, common_steps);
       parts = omega (arith, split.parts.0, inv.parts);
-      lookout = kept ∙ ap (λ (n : ℕ). lookout_view word 0 0 n) less;
+      watcher = kept ∙ ap (λ (n : ℕ). watcher_view word 0 0 n) less;
       amount = split.amount ∙ inv.amount;
       dealt = dealt_more word session c.loop-session.seats.items c.push.new.self.items c.new-seat.result
           (rw c.unwrap.ensures at c.push.ensures.items)
-          (c.new-seat.ensures ∙ ap₂ (λ (o : LookoutView) (n : ℕ). open_seat o session [] n) given split.parts.1)
+          (c.new-seat.ensures ∙ ap₂ (λ (o : WatcherView) (n : ℕ). open_seat o session [] n) given split.parts.1)
           inv.dealt;
     }
 
@@ -49,7 +49,7 @@ returns g c =
     let few : sessions ≤ ALL_PARTS = omega (arith, c.requires.few) in
     all_dealt word sessions c.loop-session.seats.items c.insert.new.self.items c.new-seat-2.result
     (rw c.unwrap-2.ensures at c.insert.ensures.items)
-    (c.new-seat-2.ensures ∙ ap (λ (o : LookoutView). open_seat o 0 [] c.loop-session.first.parts) inv.lookout ∙ ap (λ (n : ℕ). new_seat word 0 n) left)
+    (c.new-seat-2.ensures ∙ ap (λ (o : WatcherView). open_seat o 0 [] c.loop-session.first.parts) inv.watcher ∙ ap (λ (n : ℕ). new_seat word 0 n) left)
     few (subst (λ (n : ℕ). AreDealt word n c.loop-session.seats.items) end inv.dealt)
 
 pub unwrap-requires-2 : goal.unwrap-requires-2

@@ -1,6 +1,6 @@
 use Rattle.std.proofs.Common.{◌≡◌, ◌+◌, ◌≤◌, vec_capacity}
 use Rattle.progress_word.specs.declared.limits.TheConstants.{ALL_PARTS}
-use Rattle.progress_word.specs.Lookouts.{lookout_view}
+use Rattle.progress_word.specs.Watchers.{watcher_view}
 use Rattle.batch_book.proofs.Dealing.{AreDealt}
 use Rattle.batch_book.proofs.open.deal.Given as goal
 
@@ -8,7 +8,7 @@ abbrev pub invariant-loop-session : goal.invariant-loop-session
 invariant-loop-session g l = record {
   room : l.sessions ≤ vec_capacity l.seats;
   parts : l.first.parts + l.session ≡ ALL_PARTS + 1;
-  lookout : l.first.lookout ≡ lookout_view l.word 0 0 l.first.parts;
+  watcher : l.first.watcher ≡ watcher_view l.word 0 0 l.first.parts;
   amount : l.first.share.amount ≡ 0;
   dealt : AreDealt l.word l.session l.seats.items;
 }

@@ -1,5 +1,5 @@
 use Rattle.std.proofs.Common.{◌≡◌, codes, inl, refl, Some, rules}
-use Rattle.client_session.specs.declared.command.Command.TheVariants.{Batch, Progress, Bye}
+use Rattle.client_session.specs.declared.command.SessionCommand.TheVariants.{Batch, Progress, Bye}
 use Rattle.refusals.specs.declared.refusal.Refusal.TheVariants as refusal
 use Rattle.refusals.specs.Refusals.{refusal_line}
 use Rattle.client_session.specs.Replies.{with_feed}

@@ -7,7 +7,7 @@ use Rattle.clap.specs.declared.parser.matches.Found.{Found}
 use Rattle.clap.proofs.WalkLemmas.{one_text-rows}
 use Rattle.std.specs.contracts.prelude.UsizeFromStr.TheImpl.{from_str_gives-value}
 use Rattle.exchange_limits.specs.declared.limits.TheConstants.{MAX_WORKERS}
-use Rattle.command_words.specs.Jobs.{HasSome, HasWorkers, IsRead}
+use Rattle.command_words.specs.Jobs.{HasSome, HasWorkers, IsReading}
 use Rattle.command_words.specs.declared.reading.Lack.{Lack}
 use Rattle.command_words.proofs.ReadText.{read_text, read_number}
 use Rattle.command_words.proofs.reading.workers_of.Goals as goal
@@ -20,7 +20,7 @@ read found r n reads has =
 
 -- what is within the bounds is taken, and nothing else
 taken : (rows : List Row) (n : ℕ) (o : Option ℕ) (r : Result ℕ Lack) → (IsSome o ↔ ((1 ≤ n) × (n ≤ MAX_WORKERS))) → IfSome o (λ w. w ≡ n) → o ≡ result_ok r
-    → ((1 ≤ n) → (n ≤ MAX_WORKERS) → HasWorkers rows n) → (HasSome (HasWorkers rows) → (1 ≤ n) × (n ≤ MAX_WORKERS)) → IsRead (HasWorkers rows) r
+    → ((1 ≤ n) → (n ≤ MAX_WORKERS) → HasWorkers rows n) → (HasSome (HasWorkers rows) → (1 ≤ n) × (n ≤ MAX_WORKERS)) → IsReading (HasWorkers rows) r
 taken rows n None (Ok v) some same is has within = absurd (let bad : None ≡ Some v = is in cc)
 taken rows n (Some w) (Ok v) some same is has within =
     let number : v ≡ n = cc in

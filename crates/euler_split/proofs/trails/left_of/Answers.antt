@@ -11,4 +11,4 @@ pub loop-start-preserved : goal.loop-start-preserved
 loop-start-preserved c = c.walk_all_from.ensures (has_pair c.args.pairs.now.zero) c.loop-start.invariant
 
 pub returns : goal.returns
-returns c = halved c.args.pairs.now.zero c.loop-start.pairs.zero c.loop-start.turns c.loop-start.start (omega arith) c.loop-start.invariant
+returns c = halved c.args.pairs.now.zero c.loop-start.pairs.zero c.loop-start.left_half c.loop-start.start (omega arith) c.loop-start.invariant

@@ -1,6 +1,6 @@
 use Rattle.euler_split.specs.Masks.{has_pair}
-use Rattle.euler_split.specs.Trails.{AreEven, level}
+use Rattle.euler_split.specs.Trails.{AreEven, no_surplus}
 use Rattle.euler_split.proofs.trails.left_of.Given as goal
 
 abbrev pub invariant-loop-start : goal.invariant-loop-start
-invariant-loop-start l = AreEven (has_pair l.initial.pairs.zero) l.start l.pairs.zero l.turns level
+invariant-loop-start l = AreEven (has_pair l.initial.pairs.zero) l.start l.pairs.zero l.left_half no_surplus

@@ -4,10 +4,10 @@ use Rattle.euler_split.proofs.Masks.{none_zero, none_three}
 use Rattle.euler_split.proofs.Steps.{ended}
 use Rattle.euler_split.proofs.trails.walk.Goals as goal
 
-pub returns-then-left-three-eq0-clause-walked : goal.returns-then-left-three-eq0-clause-walked
-returns-then-left-three-eq0-clause-walked c all x =
+pub returns-then-untaken-three-eq0-clause-walked : goal.returns-then-untaken-three-eq0-clause-walked
+returns-then-untaken-three-eq0-clause-walked c all x =
     let across = c.take.ensures.walked all c.args.first_left c.args.start Zero refl (c.steps.invariant.even all x) in
-    ended all _ _ c.args.start c.args.first_left Three c.lowest-three.result across (none_three _ _ _ c.take.new.left.mirrored c.if-left-three-eq0.true)
+    ended all _ _ c.args.start c.args.first_left Three c.lowest-three.result across (none_three _ _ _ c.take.new.untaken.mirrored c.if-untaken-three-eq0.true)
 
 pub returns-clause-walked : goal.returns-clause-walked
 returns-clause-walked c all x = ended all _ _ c.args.start c.args.first_left Zero c.steps.zero (c.steps.invariant.even all x) (none_zero _ _ (omega (arith, c.steps-test.false)))

@@ -1,6 +1,6 @@
 use Rattle.std.proofs.Common.{rules}
 use Rattle.exchange.specs.Drives.{IsDriveBy}
-use Rattle.exchange.proofs.Held.{schedule_held_later}
+use Rattle.exchange.proofs.Contents.{schedule_held_later}
 use Rattle.exchange.proofs.Told.{same_answer}
 use Rattle.exchange.proofs.driving.drive.Goals as goal
 

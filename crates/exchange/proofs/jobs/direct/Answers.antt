@@ -7,4 +7,4 @@ use Rattle.exchange.proofs.jobs.direct.Goals as goal
 pub returns-clause-answer : goal.returns-clause-answer
 returns-clause-answer g c =
     same_answer (IsSomeDirect (g.I.Read.remaining c.args.input.now) c.args.moves.now) _ _ c.with_note.ensures.answer
-    (c.in_ok-held.held.items, c.in_ok-held.ensures.held, subst (λ (x : List ℕ). IsDirected x c.in_ok-answer.answer) c.as_slice-text.ensures.value c.in_ok-answer.ensures)
+    (c.in_ok-content.content.items, c.in_ok-content.ensures.content, subst (λ (x : List ℕ). IsDirected x c.in_ok-answer.answer) c.as_slice-text.ensures.value c.in_ok-answer.ensures)

@@ -11,7 +11,7 @@ returns-clause-answer g c =
       same_answer (λ p. IsSomeHost (g.I.Read.remaining c.args.input.now) rack c.args.clients.now p left) _ _ c.closed.ensures.answer (
         option_map (λ file. file.items) c.in_ok-words.words,
         _,
-        c.in_ok-words.ensures.held,
+        c.in_ok-words.ensures.content,
         rw (c.as_bytes-shape.ensures.value, c.as_str.ensures, c.as_slice-clients.ensures, c.slice_of-words.ensures) at c.in_ok-hosted.ensures,
       ),
       c.closed.ensures.kept,

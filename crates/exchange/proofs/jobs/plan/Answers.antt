@@ -12,7 +12,7 @@ returns-clause-answer g c =
     let is_answer = IsAnswerTo (g.I.Read.remaining c.args.input.now) (Plan c.args.file.now c.args.planning) in
     let answer = c.in_ok-answer.answer in
     let planned : is_answer answer = elim c.match-planning.branch [
-      | in-Workers w ↦ rw w.in-Workers.is (c.in_ok-held.held.items, c.in_ok-held.ensures.held, subst (λ (x : List ℕ). IsPlanned widest x answer) c.as_slice-text.ensures.value (chosen _ _ _ _ w.branch'-is c.in_ok-answer.was w.answer_plan.ensures))
-      | in-Steady w ↦ rw w.in-Steady.is (c.in_ok-held.held.items, c.in_ok-held.ensures.held, subst (λ (x : List ℕ). IsSteadilyPlanned widest x answer) c.as_slice-text.ensures.value (chosen _ _ _ _ w.branch'-is c.in_ok-answer.was w.answer_plan_steady.ensures))
+      | in-Workers w ↦ rw w.in-Workers.is (c.in_ok-content.content.items, c.in_ok-content.ensures.content, subst (λ (x : List ℕ). IsPlanned widest x answer) c.as_slice-text.ensures.value (chosen _ _ _ _ w.branch'-is c.in_ok-answer.was w.answer_plan.ensures))
+      | in-Steady w ↦ rw w.in-Steady.is (c.in_ok-content.content.items, c.in_ok-content.ensures.content, subst (λ (x : List ℕ). IsSteadilyPlanned widest x answer) c.as_slice-text.ensures.value (chosen _ _ _ _ w.branch'-is c.in_ok-answer.was w.answer_plan_steady.ensures))
     ] in
     same_answer is_answer _ _ c.with_note.ensures.answer planned

@@ -1,7 +1,7 @@
 use Rattle.std.proofs.Common.{List, ℕ, [], ◌∷◌, arith}
 use Rattle.std.specs.Prelude.{option_map}
 use Rattle.exchange.specs.Responses.{IsSomeRun}
-use Rattle.exchange.proofs.Held.{held_later, image_is_other}
+use Rattle.exchange.proofs.Contents.{content_later, image_is_other}
 use Rattle.exchange.proofs.Told.{same_answer}
 use Rattle.exchange.proofs.jobs.run.Goals as goal
 
@@ -10,11 +10,11 @@ returns-clause-answer g c =
     let old = g.I.Read.remaining c.args.input.now in
     let now = g.I.Read.remaining c.read_image.new.input in
     let names : List (List ℕ) = c.args.batch.now ∷ [] in
-    let batch = held_later old now c.args.batch.now c.in_ok-held.held.items (λ is. c.read_image.ensures.unread (image_is_other c.args.image.now names 0 c.requires.input (omega arith) is)) c.in_ok-held.ensures.held in
+    let batch = content_later old now c.args.batch.now c.in_ok-content.content.items (λ is. c.read_image.ensures.unread (image_is_other c.args.image.now names 0 c.requires.input (omega arith) is)) c.in_ok-content.ensures.content in
     same_answer (IsSomeRun old c.args.shape.now c.args.batch.now c.args.image.now) _ _ c.with_note.ensures.answer (
-      c.in_ok-held.held.items,
+      c.in_ok-content.content.items,
       option_map (λ file. file.items) c.in_ok-words.words,
       batch,
-      c.in_ok-words.ensures.held,
-      rw (c.as_bytes.ensures.value, c.as_str-shape.ensures, c.as_slice-held.ensures.value, c.slice_of-words.ensures) at c.in_ok-answer.ensures.ran,
+      c.in_ok-words.ensures.content,
+      rw (c.as_bytes.ensures.value, c.as_str-shape.ensures, c.as_slice-content.ensures.value, c.slice_of-words.ensures) at c.in_ok-answer.ensures.ran,
     )

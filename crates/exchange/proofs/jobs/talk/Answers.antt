@@ -5,7 +5,7 @@ use Rattle.client_session.proofs.Listening.{tells_nothing}
 use Rattle.session_answers.specs.Talking.{IsTalkAnswer}
 use Rattle.command_words.specs.Jobs.{input_name}
 use Rattle.exchange.specs.Responses.{IsSomeTalk}
-use Rattle.exchange.proofs.Held.{image_is_other}
+use Rattle.exchange.proofs.Contents.{image_is_other}
 use Rattle.exchange.proofs.Told.{same_answer}
 use Rattle.exchange.proofs.jobs.talk.Goals as goal
 
@@ -27,4 +27,4 @@ returns-clause-answer g c =
     let other : rack.image ≢ Some input_name = image_is_other rack.image (input_name ∷ []) 0 c.requires.input (omega arith) refl in
     let unread : now ≡ old = c.read_image.ensures.unread other in
     let answer : IsTalkAnswer rack.shape image now after t.0 c.in_ok-closing.closing.answer left = rw (c.as_bytes-shape.ensures.value, c.as_str.ensures, c.slice_of-words.ensures) at t.2 in
-    (t.0, t.1, (left, same_answer (λ p. IsSomeTalk old rack t.0 p left) _ _ c.closed.ensures.answer (image, after, c.in_ok-words.ensures.held, subst (λ (before : Option (List ℕ)). IsTalkAnswer rack.shape image before after t.0 c.in_ok-closing.closing.answer left) unread answer), c.closed.ensures.kept))
+    (t.0, t.1, (left, same_answer (λ p. IsSomeTalk old rack t.0 p left) _ _ c.closed.ensures.answer (image, after, c.in_ok-words.ensures.content, subst (λ (before : Option (List ℕ)). IsTalkAnswer rack.shape image before after t.0 c.in_ok-closing.closing.answer left) unread answer), c.closed.ensures.kept))

@@ -1,9 +1,9 @@
 use Rattle.std.proofs.Common.{Err, inl, inr, refl}
 use Rattle.std.proofs.KnownBytes.{Appends-nil}
-use Rattle.command_words.specs.declared.jobs.WordsFault.TheVariants as words_fault
-use Rattle.exchange.specs.Outcomes.{IsMissed}
-use Rattle.exchange.specs.declared.notes.Missed.TheVariants.{Refused}
-use Rattle.exchange.proofs.Told.{answered, asked, faulty, not_answered, wordless}
+use Rattle.command_words.specs.declared.jobs.ArgumentsFault.TheVariants as arguments_fault
+use Rattle.exchange.specs.Outcomes.{IsNoAnswer}
+use Rattle.exchange.specs.declared.notes.NoAnswer.TheVariants.{Refused}
+use Rattle.exchange.proofs.Told.{answered, asked, faulty, not_answered, without_arguments}
 use Rattle.exchange.proofs.responding.print_response.Goals as goal
 
 pub returns-in-Ok-answer_to : goal.returns-in-Ok-answer_to
@@ -15,26 +15,26 @@ returns-in-Ok-answer_to g c =
 pub returns-in-Err-Refused : goal.returns-in-Err-Refused
 returns-in-Err-Refused g c =
     let t = c.in-Err-Refused.ensures.response in
-    let note : IsMissed (Refused c.in-Err-Refused.why c.in-Err-Refused.note) = rw c.in-Err-Refused.field-0-is at t.4 in
+    let note : IsNoAnswer (Refused c.in-Err-Refused.why c.in-Err-Refused.note) = rw c.in-Err-Refused.field-0-is at t.4 in
     asked c.refuse_noted.result _ _ c.in-Ok.request _ c.in-Ok.ensures.request
     (not_answered c.refuse_noted.result _ c.in-Ok.request t.0 c.in-Err-Refused.why c.in-Err-Refused.note _ _ _ _ _ _ t.1 t.2 note c.in-Err-Refused.ensures.beside c.refuse_noted.ensures.printed c.refuse_noted.ensures.told)
 
 pub returns-in-Err-NoMemory : goal.returns-in-Err-NoMemory
-returns-in-Err-NoMemory g c = faulty c.refuse.result _ _ words_fault.NoMemory _ tt (wordless c.refuse.result (g.I.Read.remaining c.args.input.now) (g.O.Write.contents c.args.out.now) (g.O.Write.contents c.refuse.new.out) (g.E.Write.contents c.args.err.now) c.refuse.ensures)
+returns-in-Err-NoMemory g c = faulty c.refuse.result _ _ arguments_fault.NoMemory _ tt (without_arguments c.refuse.result (g.I.Read.remaining c.args.input.now) (g.O.Write.contents c.args.out.now) (g.O.Write.contents c.refuse.new.out) (g.E.Write.contents c.args.err.now) c.refuse.ensures)
 
 pub returns-in_ok-write-in-Err-Clap : goal.returns-in_ok-write-in-Err-Clap
 returns-in_ok-write-in-Err-Clap g c =
     let fault = c.use_stderr.ensures.0 c.if-use_stderr.true in (
-      Err (words_fault.Clap c.in-Err-Clap.error),
+      Err (arguments_fault.Clap c.in-Err-Clap.error),
       tt,
-      rw (c.in-Err-Clap.is, c.in-Err-Clap.field-0-is) at c.read_words.ensures.fault,
+      rw (c.in-Err-Clap.is, c.in-Err-Clap.field-0-is) at c.read_arguments.ensures.fault,
       ((λ help. elim help [ inl is ↦ absurd (fault.0 is) | inr is ↦ absurd (fault.1 is) ]), (λ other. (refl, refl))),
     )
 
 pub returns-in_ok-write_help-in-Err-Clap-2 : goal.returns-in_ok-write_help-in-Err-Clap-2
 returns-in_ok-write_help-in-Err-Clap-2 g c = (
-  Err (words_fault.Clap c.in-Err-Clap.error),
+  Err (arguments_fault.Clap c.in-Err-Clap.error),
   tt,
-  rw (c.in-Err-Clap.is, c.in-Err-Clap.field-0-is) at c.read_words.ensures.fault,
+  rw (c.in-Err-Clap.is, c.in-Err-Clap.field-0-is) at c.read_arguments.ensures.fault,
   ((λ help. (refl, Appends-nil _)), (λ other. absurd (let yes = c.use_stderr.ensures.1 ((λ e. other (inl e)), (λ e. other (inr e))) in let no = c.if-use_stderr.false in cc))),
 )

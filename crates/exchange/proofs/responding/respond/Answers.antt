@@ -1,15 +1,15 @@
 use Rattle.std.proofs.Common.{ℕ, List, Option}
 use Rattle.command_words.specs.Jobs.{texts_of}
-use Rattle.exchange.specs.Ends.{IsEndForWords, IsEndWithoutWords, streams_of}
+use Rattle.exchange.specs.Ends.{IsEndForArguments, IsEndWithoutArguments, streams_of}
 use Rattle.exchange.proofs.Told.{ended}
 use Rattle.exchange.proofs.responding.respond.Goals as goal
 
-pub returns-in-Ok-clause-words : goal.returns-in-Ok-clause-words
-returns-in-Ok-clause-words g c =
-    rw c.in-Ok.is (ended c.print_response.result _ (λ (e : Option (List ℕ)) (code : ℕ). IsEndForWords (texts_of c.in-Ok.words.items) (g.I.Read.remaining c.args.input.now) (streams_of (g.O.Write.contents c.args.out.now) (g.O.Write.contents c.print_response.new.out) (g.E.Write.contents c.args.err.now) e) code) _ _
+pub returns-in-Ok-clause-arguments : goal.returns-in-Ok-clause-arguments
+returns-in-Ok-clause-arguments g c =
+    rw c.in-Ok.is (ended c.print_response.result _ (λ (e : Option (List ℕ)) (code : ℕ). IsEndForArguments (texts_of c.in-Ok.arguments.items) (g.I.Read.remaining c.args.input.now) (streams_of (g.O.Write.contents c.args.out.now) (g.O.Write.contents c.print_response.new.out) (g.E.Write.contents c.args.err.now) e) code) _ _
     (rw c.as_slice.ensures.value at c.print_response.ensures) c.status_of.ensures.done c.status_of.ensures.unwritten)
 
 pub returns-in-Err-clause-none : goal.returns-in-Err-clause-none
 returns-in-Err-clause-none g c =
-    rw c.in-Err.is (ended c.print_without_words.result _ (λ (e : Option (List ℕ)) (code : ℕ). IsEndWithoutWords (g.O.Write.contents c.args.out.now) (g.O.Write.contents c.print_without_words.new.out) code) _ _
-    c.print_without_words.ensures c.status_of-in-Err.ensures.done c.status_of-in-Err.ensures.unwritten)
+    rw c.in-Err.is (ended c.print_without_arguments.result _ (λ (e : Option (List ℕ)) (code : ℕ). IsEndWithoutArguments (g.O.Write.contents c.args.out.now) (g.O.Write.contents c.print_without_arguments.new.out) code) _ _
+    c.print_without_arguments.ensures c.status_of-in-Err.ensures.done c.status_of-in-Err.ensures.unwritten)

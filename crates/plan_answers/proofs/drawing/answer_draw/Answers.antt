@@ -24,7 +24,7 @@ returns-in-Err-clause-drawn c =
 
 pub returns-in-Err-clause-one : goal.returns-in-Err-clause-one
 returns-in-Err-clause-one c =
-    let wish = bytes_of c.args.settings in
-    let Is = IsDrawn widest c.args.batch.now c.args.schedule.now wish in
+    let settings_text = bytes_of c.args.settings in
+    let Is = IsDrawn widest c.args.batch.now c.args.schedule.now settings_text in
     IfOk-weaker c.refused.result Is (IsOnly Is)
-    (λ p is other. one_drawing widest widest_fits c.args.batch.now c.args.schedule.now wish p other is) (returns-in-Err-clause-drawn c)
+    (λ p is other. one_drawing widest widest_fits c.args.batch.now c.args.schedule.now settings_text p other is) (returns-in-Err-clause-drawn c)

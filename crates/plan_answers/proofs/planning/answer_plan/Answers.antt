@@ -10,8 +10,8 @@ pub returns-in_ok-schedule-in-Ok : goal.returns-in_ok-schedule-in-Ok
 returns-in_ok-schedule-in-Ok g c =
     let plan = c.in_ok-schedule-in-Ok.field-0 in
     let its = c.in_ok-schedule-in-Ok.ensures in
-    IfOk-weaker c.tell.result (TellsCertified plan.settings plan.named) (IsPlanned widest c.args.batch.now)
-    (λ p tells. planned plan (rw its.batch c.in-Ok.ensures.batch) its.plan its.reinserted tells.0 tells.1) c.tell.ensures
+    IfOk-weaker c.plan_answer.result (TellsCertified plan.settings plan.named) (IsPlanned widest c.args.batch.now)
+    (λ p tells. planned plan (rw its.batch c.in-Ok.ensures.batch) its.plan its.reinserted tells.0 tells.1) c.plan_answer.ensures
 
 pub returns-in-Err : goal.returns-in-Err
 returns-in-Err g c =

@@ -28,5 +28,5 @@ returns-clause-result c = record {
   apart = c.in_ok-rack-2.ensures.apart;
   is_opening = c.in_ok-rack.ensures.rack;
   is_placed = c.in_ok-rack-2.ensures.placed;
-  printed = c.in_ok-tell.ensures;
+  printed = c.in_ok-result_text.ensures;
 }

@@ -29,5 +29,5 @@ returns-clause-result g c = record {
   apart = c.in_ok-rack-2.ensures.apart;
   is_opening = c.in_ok-rack.ensures.rack;
   is_placed = c.in_ok-rack-2.ensures.placed;
-  printed = rw (sym c.batch.ensures.batch, sym c.in_ok-rack-2.ensures.settings) c.in_ok-tell.ensures;
+  printed = rw (sym c.batch.ensures.batch, sym c.in_ok-rack-2.ensures.settings) c.in_ok-result_text.ensures;
 }

@@ -10,8 +10,8 @@ pub returns-in_ok-plan-in-Ok : goal.returns-in_ok-plan-in-Ok
 returns-in_ok-plan-in-Ok g c =
     let plan = c.in_ok-plan-in-Ok.plan in
     let its = c.in_ok-plan-in-Ok.ensures in
-    let tells = rw (c.batch.ensures.batch, c.schedule-in-Ok.ensures.schedule) at c.tell.ensures in
-    IfOk-weaker c.tell.result (TellsSwitch plan.batch plan.settings) (IsSwitched widest c.args.batch.now)
+    let tells = rw (c.batch.ensures.batch, c.schedule-in-Ok.ensures.schedule) at c.switch_answer.ensures in
+    IfOk-weaker c.switch_answer.result (TellsSwitch plan.batch plan.settings) (IsSwitched widest c.args.batch.now)
     (λ p tells. switched plan (rw its.batch c.in-Ok.ensures.batch) its.plan its.reinserted tells) tells
 
 pub returns-in-Err : goal.returns-in-Err

@@ -10,14 +10,14 @@ use Rattle.rack_answers.proofs.switching.answer_switch_schedule.Goals as goal
 pub returns-in-Ok-clause-switched : goal.returns-in-Ok-clause-switched
 returns-in-Ok-clause-switched c =
     let texts = c.in-Ok.texts in
-    let tells = rw (c.batch.ensures, c.schedule.ensures.schedule) at c.tell.ensures in
-    IfOk-weaker c.tell.result (TellsSwitch texts.batch texts.settings) (IsSwitchedAs widest c.args.batch.now c.args.schedule.now)
+    let tells = rw (c.batch.ensures, c.schedule.ensures.schedule) at c.switch_answer.ensures in
+    IfOk-weaker c.switch_answer.result (TellsSwitch texts.batch texts.settings) (IsSwitchedAs widest c.args.batch.now c.args.schedule.now)
     (λ p told. switched texts.batch texts.settings c.in-Ok.ensures.valid.read told) tells
 
 pub returns-in-Ok-clause-one : goal.returns-in-Ok-clause-one
 returns-in-Ok-clause-one c =
     let Is = IsSwitchedAs widest c.args.batch.now c.args.schedule.now in
-    IfOk-weaker c.tell.result Is (IsOnly Is)
+    IfOk-weaker c.switch_answer.result Is (IsOnly Is)
     (λ p is other. one_switching widest widest_fits c.args.batch.now c.args.schedule.now p other is) (returns-in-Ok-clause-switched c)
 
 pub returns-in-Err-clause-switched : goal.returns-in-Err-clause-switched

@@ -41,7 +41,8 @@ fn session<L: Ledger, R: AllocGlobal + Threads + Wait + Sync>(
     seat
 }
 
-/// How many entries a closed exchange has in its history, where each of its seats has as many as it peeked.
+/// How many entries a closed exchange has in its history, where each of its seats has as many as it
+/// peeked.
 fn entries_of<L: Ledger>(closed: &Closed<L, MemoryPort, PlainWires, OpenGate>) -> Option<usize> {
     for seat in closed.seats.iter() {
         if seat.log().len() != PEEKS {

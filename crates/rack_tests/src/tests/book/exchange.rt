@@ -5,7 +5,7 @@ ghost use Rattle.progress_word.specs.declared.limits.TheConstants.{ALL_PARTS};
 
 use crate::tests::common::{marked, with_wires};
 use crate::tests::office::{Ask, FIRST, PUSH, Pair, Row, Said, close, open_pair};
-use batch_book::{BatchState, Closed, MAX_ENTRIES, Refusal, Shared, SharedFault, Unclosed};
+use batch_book::{BatchState, BookRefusal, Closed, MAX_ENTRIES, Shared, SharedFault, Unclosed};
 use crossbar::MemoryPort;
 use module_memory::Rack;
 use peek_poke::PlainWires;
@@ -39,14 +39,15 @@ const OTHER: &str = "batch 1\npush 1 0 0 0\n";
 /// A transfer to a module that a rack of two hasn't.
 const FAR: &str = "batch 1\npush 0 0 5 0\n";
 
-const UNKNOWN: Said = Said::Refused(Refusal::Unknown);
+const UNKNOWN: Said = Said::Refused(BookRefusal::Unknown);
 
-const STRANGER: Said = Said::Refused(Refusal::Stranger);
+const STRANGER: Said = Said::Refused(BookRefusal::Stranger);
 
-const ALREADY: Said = Said::Refused(Refusal::Already);
+const ALREADY: Said = Said::Refused(BookRefusal::Already);
 
-/// Calls that no session makes stand among others: a plan is handed in for a batch that isn't there, or for another batch, also where the
-/// batch has come further. The rack is the one that was handed in.
+/// Calls that no session makes stand among others: a plan is handed in for a batch that isn't
+/// there, or for another batch, also where the batch has come further. The rack is the one that was
+/// handed in.
 const CALLS: [Row; 16] = [
     (Ask::Peek(1, FIRST), Said::Word(0x0001_0000)),
     (Ask::Poke(0, FIRST, 7), Said::Poked),
@@ -66,8 +67,8 @@ const CALLS: [Row; 16] = [
     (Ask::Settle(1, PUSH), UNKNOWN),
 ];
 
-/// A session's batches are those of the rack, so that none is refused for its shape. Such a run leaves its batch planned, and takes no
-/// number.
+/// A session's batches are those of the rack, so that none is refused for its shape. Such a run
+/// leaves its batch planned, and takes no number.
 const SHAPES: [Row; 9] = [
     (Ask::Submit(FAR), Said::Accepted(1)),
     (Ask::Settle(1, FAR), Said::Settled(1)),
@@ -80,15 +81,16 @@ const SHAPES: [Row; 9] = [
     (Ask::Run(2), Said::Ran(1, 1, 1)),
 ];
 
-/// Row book-limits up to the first batch that has its plan. The stranger's plan comes before its own.
+/// Row book-limits up to the first batch that has its plan. The stranger's plan comes before its
+/// own.
 const LIMITS: [Row; 3] = [
     (Ask::Submit(PUSH), Said::Accepted(1)),
     (Ask::Settle(1, OTHER), STRANGER),
     (Ask::Settle(1, PUSH), Said::Settled(1)),
 ];
 
-/// Whether a closed exchange has as many entries in its history and in the list of its first seat, which is the last here, as there may be,
-/// and the first word is still 0.
+/// Whether a closed exchange has as many entries in its history and in the list of its first seat,
+/// which is the last here, as there may be, and the first word is still 0.
 fn is_full<L: Ledger>(closed: &Closed<L, MemoryPort, PlainWires, OpenGate>) -> bool {
     let listed = match closed.seats.last() {
         Some(seat) => seat.log().len(),
@@ -111,13 +113,14 @@ fn fills<L: Ledger, R: AllocGlobal + Threads + Wait + Sync>(
     let poked = pair.ask(rt, Ask::Poke(0, FIRST, 1));
     match close(rt.alloc(), pair) {
         Some(closed) => {
-            zeros == peeks && poked == Said::Refused(Refusal::HistoryFull) && is_full(&closed)
+            zeros == peeks && poked == Said::Refused(BookRefusal::HistoryFull) && is_full(&closed)
         }
         None => false,
     }
 }
 
-/// Whether the batch of [`PUSH`] is accepted under each number from 2 to 256, and then the book is full.
+/// Whether the batch of [`PUSH`] is accepted under each number from 2 to 256, and then the book is
+/// full.
 fn fills_book<L: Ledger, R: AllocGlobal + Threads + Wait + Sync>(
     rt: &R,
     pair: &mut Two<L>,
@@ -127,10 +130,11 @@ fn fills_book<L: Ledger, R: AllocGlobal + Threads + Wait + Sync>(
             return false;
         }
     }
-    pair.ask(rt, Ask::Submit(PUSH)) == Said::Refused(Refusal::BookFull)
+    pair.ask(rt, Ask::Submit(PUSH)) == Said::Refused(BookRefusal::BookFull)
 }
 
-/// Whether that is so behind the first rows, which leaves 259 entries, so that 65,277 more peeks fill the history.
+/// Whether that is so behind the first rows, which leaves 259 entries, so that 65,277 more peeks
+/// fill the history.
 fn meets_limits<L: Ledger, R: AllocGlobal + Threads + Wait + Sync>(rt: &R, pair: Two<L>) -> bool
     requires { L.parts ≡ ALL_PARTS }
 {
@@ -141,8 +145,8 @@ fn meets_limits<L: Ledger, R: AllocGlobal + Threads + Wait + Sync>(rt: &R, pair:
         && fills(rt, pair, 65277)
 }
 
-/// Tries to close the exchange with the first seat alone, and gives the pair back where that is refused for the
-/// seat that is missing.
+/// Tries to close the exchange with the first seat alone, and gives the pair back where that is
+/// refused for the seat that is missing.
 fn close_without_second<L: Ledger>(alloc: Global, pair: Two<L>) -> Option<Two<L>>
     requires { L.parts ≡ ALL_PARTS }
 {
@@ -166,7 +170,8 @@ fn close_without_second<L: Ledger>(alloc: Global, pair: Two<L>) -> Option<Two<L>
     })
 }
 
-/// Whether an exchange isn't closed without its second seat, which is answered then, and is closed with both.
+/// Whether an exchange isn't closed without its second seat, which is answered then, and is closed
+/// with both.
 fn goes_on<L: Ledger, R: AllocGlobal + Threads + Wait + Sync>(rt: &R, pair: Two<L>) -> bool
     requires { L.parts ≡ ALL_PARTS }
 {

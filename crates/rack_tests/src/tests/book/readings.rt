@@ -19,7 +19,8 @@ use std::thread::{Threads, join, yield_now};
 /// How long a thread waits for the other.
 const TURNS: usize = 10_000_000;
 
-/// A run of a batch, of which this transfer waits until the other thread has read this, and what is read behind the run.
+/// A run of a batch, of which this transfer waits until the other thread has read this, and what is
+/// read behind the run.
 #[derive(Clone, Copy)]
 struct Watched {
     text: &'static str,
@@ -167,7 +168,8 @@ fn run_and_look<
     ran
 }
 
-/// Whether a run on this rack, of which a transfer waits for a reading, comes to its end, and is read then.
+/// Whether a run on this rack, of which a transfer waits for a reading, comes to its end, and is
+/// read then.
 fn is_read<L: Ledger + Send + Sync, R: AllocGlobal + Threads + Wait + Sync>(
     rt: &R,
     blank: Blank,

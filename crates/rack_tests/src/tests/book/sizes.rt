@@ -1,6 +1,6 @@
 //! The number behind each named size, and what faults are told as.
 
-use batch_book::{ALL_PARTS, MAX_BATCHES, MAX_ENTRIES, RUN_STEP, Refusal, SharedFault};
+use batch_book::{ALL_PARTS, BookRefusal, MAX_BATCHES, MAX_ENTRIES, RUN_STEP, SharedFault};
 use module_memory::MemoryFault;
 use std::alloc::Global;
 use std::fmt::Display;
@@ -21,18 +21,18 @@ fn is_told<F: Display>(alloc: Global, fault: &F, want: &str) -> bool {
     }
 }
 
-const TOLD: [(Refusal, &str); 8] = [
-    (Refusal::HistoryFull, "history full"),
-    (Refusal::BookFull, "book full"),
-    (Refusal::Unknown, "unknown"),
-    (Refusal::Unplanned, "unplanned"),
-    (Refusal::Stranger, "stranger"),
-    (Refusal::Already, "already"),
+const TOLD: [(BookRefusal, &str); 8] = [
+    (BookRefusal::HistoryFull, "history full"),
+    (BookRefusal::BookFull, "book full"),
+    (BookRefusal::Unknown, "unknown"),
+    (BookRefusal::Unplanned, "unplanned"),
+    (BookRefusal::Stranger, "stranger"),
+    (BookRefusal::Already, "already"),
     (
-        Refusal::Memory(MemoryFault::NoModule),
+        BookRefusal::Memory(MemoryFault::NoModule),
         "memory: no such module",
     ),
-    (Refusal::NoMemory, "no memory"),
+    (BookRefusal::NoMemory, "no memory"),
 ];
 
 #[test]

@@ -1,4 +1,5 @@
-//! Runs are made by as many workers as the plant has, and the exchange gives back the plant that it was made with.
+//! Runs are made by as many workers as the plant has, and the exchange gives back the plant that it
+//! was made with.
 
 ghost use Rattle.std.specs.Prelude.{◌≡◌};
 ghost use Rattle.progress_word.specs.declared.limits.TheConstants.{ALL_PARTS};

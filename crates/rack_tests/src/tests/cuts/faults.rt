@@ -33,8 +33,8 @@ const WORD_BYTES: usize = 9;
 
 const WIRE_BYTES: usize = 18;
 
-/// How many faults there are: of the port for each number of bytes and some more, and so of each wire; and each byte as the answer of each
-/// output.
+/// How many faults there are: of the port for each number of bytes and some more, and so of each
+/// wire; and each byte as the answer of each output.
 pub fn count_of_faults(is_wide: bool) -> usize {
     if is_wide { 186 + 2 * 8192 } else { 186 + 8192 }
 }
@@ -70,8 +70,8 @@ impl ConfigPort for FaultyPort {
 
     ghost failures = { λ p. p.memory.failures };
 
-    fn exchange(&mut self, chip: Chip, bytes: &[u8], replies: &mut [u8]) -> Result<(), PortFault> {
-        self.memory.exchange(chip, bytes, replies)?;
+    fn converse(&mut self, chip: Chip, bytes: &[u8], replies: &mut [u8]) -> Result<(), PortFault> {
+        self.memory.converse(chip, bytes, replies)?;
         if let Fault::Answer(lying, output, reply) = self.fault {
             if chip == lying && usize::from(output) < replies.len() {
                 replies[usize::from(output)] = reply;
@@ -181,8 +181,8 @@ fn input_of(is_wide: bool, chip: Chip, output: u8) -> Option<u8> {
     }
 }
 
-/// Whether the row's setting calls for this answer: the input with the top bit, or of an output that nothing feeds any byte without
-/// the top bit.
+/// Whether the row's setting calls for this answer: the input with the top bit, or of an output
+/// that nothing feeds any byte without the top bit.
 fn is_called_for(is_wide: bool, chip: Chip, output: u8, reply: u8) -> bool {
     match input_of(is_wide, chip, output) {
         Some(input) => reply == 0x80 | input,

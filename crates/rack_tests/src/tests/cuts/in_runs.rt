@@ -32,8 +32,8 @@ fn ends_rightly<R: AllocGlobal + Threads + Sync>(
         && fault.is_set_rightly(is_wide, &plant.port)
 }
 
-/// Whether runs in both forms do, and those by two workers. Of answers, a run by the plant's workers on a rack with one switch, and alone
-/// on one with two.
+/// Whether runs in both forms do, and those by two workers. Of answers, a run by the plant's
+/// workers on a rack with one switch, and alone on one with two.
 fn is_right<R: AllocGlobal + Threads + Sync>(
     rt: &R,
     planned: &Planned,
@@ -82,8 +82,8 @@ fn disagrees(is_wide: bool, answer: (Chip, u8, u8), number: u8) -> bool {
     Fault::Answer(chip, output, reply).cause(is_wide) == Some(StopCause::SwitchDisagrees(number))
 }
 
-/// A loose output's answer counts by its top bit alone, and an input is one of 32. The outputs of the second switch are numbered behind
-/// those of the first.
+/// A loose output's answer counts by its top bit alone, and an input is one of 32. The outputs of
+/// the second switch are numbered behind those of the first.
 #[test]
 fn named_answers(rt: HostRuntime) {
     assert!(rt; disagrees(false, (Chip::A, 18, 0xa1), 18));

@@ -8,7 +8,7 @@ use super::faults::{Fault, FaultyPort, blocks_of, count_of_faults, fault_of};
 use crate::tests::common::{marked, two};
 use crate::tests::running::has_blocks;
 use batch_book::{Closed, Seat, Shared};
-use client_session::{ServeFault, Unheard, serve};
+use client_session::{NoListener, ServeFault, serve};
 use exchange_limits::WorkerCount;
 use module_memory::Rack;
 use peek_poke::FuseWires;
@@ -114,7 +114,8 @@ fn back<L: Ledger>(ended: Result<Seat<L>, (Seat<L>, ServeFault)>) -> (Seat<L>, b
     }
 }
 
-/// Serves the session from a seat, which comes back. Whether it ends by itself, and is told what it should be.
+/// Serves the session from a seat, which comes back. Whether it ends by itself, and is told what it
+/// should be.
 fn session<L: Ledger, R: AllocGlobal + Threads + Wait + Sync>(
     rt: &R,
     exchange: &Faulty<L>,
@@ -133,7 +134,7 @@ fn session<L: Ledger, R: AllocGlobal + Threads + Wait + Sync>(
         seat,
         &mut reader,
         &mut told,
-        &mut Unheard,
+        &mut NoListener,
         WorkerCount::ONE,
     ));
     (
@@ -142,7 +143,8 @@ fn session<L: Ledger, R: AllocGlobal + Threads + Wait + Sync>(
     )
 }
 
-/// Whether an exchange has just the entries of the session, the words that the run leaves, and those that it was opened with.
+/// Whether an exchange has just the entries of the session, the words that the run leaves, and
+/// those that it was opened with.
 fn is_left<L: Ledger>(closed: &Closed<L, FaultyPort, FuseWires, OpenGate>, fault: Fault) -> bool {
     let [seat] = closed.seats.as_slice() else {
         return false;
@@ -154,7 +156,8 @@ fn is_left<L: Ledger>(closed: &Closed<L, FaultyPort, FuseWires, OpenGate>, fault
         && fault.is_set_rightly(false, &closed.plant.port)
 }
 
-/// Whether the session is told what it should be from the one seat of an exchange, which is left as it should be.
+/// Whether the session is told what it should be from the one seat of an exchange, which is left as
+/// it should be.
 fn is_right<L: Ledger, R: AllocGlobal + Threads + Wait + Sync>(
     rt: &R,
     exchange: Faulty<L>,

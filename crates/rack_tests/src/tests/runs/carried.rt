@@ -6,8 +6,9 @@ use peek_poke::{PlainWire, Wire, WireFault, WireMaker};
 use std::sync::atomic::{AtomicBool, AtomicUsize, Ordering};
 use std::thread::Threads;
 
-/// What the wires of a run have carried: how many bytes were those that were expected, whether others were, how many wires there were, and
-/// whether one was made too early or too late. And how often the run's notice was told.
+/// What the wires of a run have carried: how many bytes were those that were expected, whether
+/// others were, how many wires there were, and whether one was made too early or too late. And how
+/// often the run's notice was told.
 #[derive(Drop)]
 struct Carried {
     right: AtomicUsize,
@@ -69,8 +70,8 @@ impl<'a> Wire for ComparedLine<'a> {
 /// The setting of a transfer, and the bytes that its wire carries.
 type Carrying = (usize, &'static [u8]);
 
-/// Gives each transfer a line of which its bytes are expected, and sees that those of setting k are made when the notice was told k, and k
-/// + 1 wasn't.
+/// Gives each transfer a line of which its bytes are expected, and sees that those of setting k are
+/// made when the notice was told k, and k + 1 wasn't.
 #[derive(Clone, Copy)]
 struct ComparedLines<'a> {
     expected: &'static [Carrying],
@@ -100,7 +101,8 @@ impl<'a> WireMaker for ComparedLines<'a> {
     }
 }
 
-/// Whether a run in this form ends as the case says, where each transfer's wire carries just these bytes, 18 each, and is made in time.
+/// Whether a run in this form ends as the case says, where each transfer's wire carries just these
+/// bytes, 18 each, and is made in time.
 fn carries_in<R: AllocGlobal + Threads + Sync>(
     rt: &R,
     form: Form,
@@ -131,8 +133,9 @@ fn carries<R: AllocGlobal + Threads + Sync>(
     true
 }
 
-/// Held blocks are peeked at 80010808 and 8001080c hex, in the hold window, and another block at 80000800 and 80000804.
-/// Nothing of the copying is seen on a wire. The third transfer has a link of each of the others, so it is in setting 1.
+/// Held blocks are peeked at 80010808 and 8001080c hex, in the hold window, and another block at
+/// 80000800 and 80000804. Nothing of the copying is seen on a wire. The third transfer has a link
+/// of each of the others, so it is in setting 1.
 #[test]
 fn held_blocks_are_peeked_in_the_hold_window(rt: HostRuntime) {
     let case = Case {
@@ -171,8 +174,8 @@ fn held_blocks_are_peeked_in_the_hold_window(rt: HostRuntime) {
     assert!(rt; carries(&rt, &case, expected));
 }
 
-/// The words of held blocks are poked where their destinations stand, at 80000808 and 8000080c hex. The copying uses no
-/// line.
+/// The words of held blocks are poked where their destinations stand, at 80000808 and 8000080c hex.
+/// The copying uses no line.
 #[test]
 fn held_blocks_are_poked_into_the_window(rt: HostRuntime) {
     let case = Case {

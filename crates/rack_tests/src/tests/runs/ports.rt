@@ -41,7 +41,8 @@ enum Manner {
     Silent(usize),
     /// From that call on it answers each enquiry by 0, and before it rightly.
     SilentFrom(usize),
-    /// In the call that has so many before it, it answers the enquiry of this output by this byte, and else rightly.
+    /// In the call that has so many before it, it answers the enquiry of this output by this byte,
+    /// and else rightly.
     Answers(usize, u8, u8),
 }
 
@@ -65,8 +66,8 @@ impl Manner {
     }
 }
 
-/// A port to switches in memory, which does as it pleases. It knows what it is to be sent, counts its calls, and keeps whether one of them
-/// was another.
+/// A port to switches in memory, which does as it pleases. It knows what it is to be sent, counts
+/// its calls, and keeps whether one of them was another.
 #[derive(Drop)]
 struct KnowingPort {
     memory: MemoryPort,
@@ -107,7 +108,7 @@ impl ConfigPort for KnowingPort {
 
     ghost failures = { λ p. p.failed };
 
-    fn exchange(&mut self, chip: Chip, bytes: &[u8], replies: &mut [u8]) -> Result<(), PortFault> {
+    fn converse(&mut self, chip: Chip, bytes: &[u8], replies: &mut [u8]) -> Result<(), PortFault> {
         let before = self.calls;
         self.calls = before.saturating_add(1);
         self.is_wrong = self.is_wrong || !self.is_due(before, chip, bytes);
@@ -115,13 +116,14 @@ impl ConfigPort for KnowingPort {
             self.failed.raise();
             return Err(PortFault);
         }
-        let _ = self.memory.exchange(chip, bytes, replies);
+        let _ = self.memory.converse(chip, bytes, replies);
         self.manner.twist(before, replies);
         Ok(())
     }
 }
 
-/// A run with such a port: what the port does, what it is to be sent, and how often it is to be called.
+/// A run with such a port: what the port does, what it is to be sent, and how often it is to be
+/// called.
 #[derive(Clone, Copy)]
 struct Row {
     case: Case<'static>,
@@ -242,7 +244,8 @@ const NO_ROOM: Case<'static> = Case {
     blocks: &[(0, 0, &[0]), (1, 0, &[0x0001_0000])],
 };
 
-/// Rows part-refusals, switch-stops, recorded-change and five-settings, and row wide_rack of 16 modules, which have one switch.
+/// Rows part-refusals, switch-stops, recorded-change and five-settings, and row wide_rack of 16
+/// modules, which have one switch.
 #[test]
 fn ports_are_sent_settings(rt: HostRuntime) {
     let rows = [
@@ -363,7 +366,8 @@ fn ports_are_sent_wide_settings(rt: HostRuntime) {
     assert!(rt; wrong == rows.len(), "row {wrong}");
 }
 
-/// A run of a case that stops before a word has moved, at this output, by a port of this manner that was sent all and asked for all.
+/// A run of a case that stops before a word has moved, at this output, by a port of this manner
+/// that was sent all and asked for all.
 fn stop_at(
     case: Case<'static>,
     blocks: &'static [Block<'static>],
@@ -384,8 +388,8 @@ fn stop_at(
     }
 }
 
-/// A run of row three-transfers that stops in this setting for this cause, by a port of this manner that is called so often: in setting 1
-/// transfers 0 and 2 have moved, and transfer 1 hasn't.
+/// A run of row three-transfers that stops in this setting for this cause, by a port of this manner
+/// that is called so often: in setting 1 transfers 0 and 2 have moved, and transfer 1 hasn't.
 fn three_stop(
     shape: &'static str,
     manner: Manner,
@@ -431,8 +435,9 @@ fn second_stop(shape: &'static str, manner: Manner, calls: usize, output: u8) ->
     three_stop(shape, manner, calls, 1, StopCause::SwitchDisagrees(output))
 }
 
-/// Rows switch-stops and switch-answers: a port that answers nothing, and one that in setting 1 alone answers another input, none, and an
-/// input where there is to be none. Each byte in place of each output's answer is tried in `cuts`.
+/// Rows switch-stops and switch-answers: a port that answers nothing, and one that in setting 1
+/// alone answers another input, none, and an input where there is to be none. Each byte in place of
+/// each output's answer is tried in `cuts`.
 #[test]
 fn ports_answer_wrongly(rt: HostRuntime) {
     let unmoved: &[Block<'_>] = &[
@@ -449,8 +454,9 @@ fn ports_answer_wrongly(rt: HostRuntime) {
     assert!(rt; wrong == rows.len(), "row {wrong}");
 }
 
-/// Row wide_rack. Where both switches disagree, A is told. The outputs of B are numbered behind those of A. In setting 1 of three-transfers
-/// A feeds output 2 by input 0 and no other, and B output 0 by input 2.
+/// Row wide_rack. Where both switches disagree, A is told. The outputs of B are numbered behind
+/// those of A. In setting 1 of three-transfers A feeds output 2 by input 0 and no other, and B
+/// output 0 by input 2.
 #[test]
 fn wide_ports_answer_wrongly(rt: HostRuntime) {
     let unmoved: &[Block<'_>] = &[(0, 0, &[0]), (0, 1, &[0x0100])];
@@ -485,7 +491,8 @@ fn wide_ports_answer_wrongly(rt: HostRuntime) {
     assert!(rt; wrong == rows.len(), "row {wrong}");
 }
 
-/// Row failed-calls. A setting makes two calls, and four where there are two switches: all are set, and then all are asked.
+/// Row failed-calls. A setting makes two calls, and four where there are two switches: all are set,
+/// and then all are asked.
 #[test]
 fn a_failed_port_is_not_called_again(rt: HostRuntime) {
     for before in 0..4 {

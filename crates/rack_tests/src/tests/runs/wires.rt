@@ -35,7 +35,8 @@ impl Wire for HoledLine {
     }
 }
 
-/// Gives transfer 0 a line that carries so many bytes, fails once and then works, the others lines that don't fail, and counts the lines.
+/// Gives transfer 0 a line that carries so many bytes, fails once and then works, the others lines
+/// that don't fail, and counts the lines.
 #[derive(Clone, Copy)]
 struct HoledLines<'a> {
     bytes: usize,
@@ -62,8 +63,9 @@ impl<'a> WireMaker for HoledLines<'a> {
     }
 }
 
-/// Whether a run in this form of so many transfers ends as the case says, where the wire of transfer 0 carries so many bytes and fails
-/// then, for good or once, and no wire is made a second time.
+/// Whether a run in this form of so many transfers ends as the case says, where the wire of
+/// transfer 0 carries so many bytes and fails then, for good or once, and no wire is made a second
+/// time.
 fn stops_in<R: AllocGlobal + Threads + Sync>(
     rt: &R,
     form: Form,
@@ -81,7 +83,8 @@ fn stops_in<R: AllocGlobal + Threads + Sync>(
         && made.load(Ordering::SeqCst) == transfers
 }
 
-/// Whether runs in both forms do, which stop in setting 0 at that wire, with so many words of each transfer moved.
+/// Whether runs in both forms do, which stop in setting 0 at that wire, with so many words of each
+/// transfer moved.
 fn stops<R: AllocGlobal + Threads + Sync>(
     rt: &R,
     shape: &str,
@@ -130,7 +133,8 @@ fn overlaps_and_fuses_pull(rt: HostRuntime) {
     assert!(rt; stops(&rt, "2x1x2", pull, 11, &[(0, 1)], &one));
 }
 
-/// Row swap with a wire that carries one word and five bytes of the next, and row two-pushes with one that carries one word.
+/// Row swap with a wire that carries one word and five bytes of the next, and row two-pushes with
+/// one that carries one word.
 #[test]
 fn a_failed_wire_lets_the_others_go_on(rt: HostRuntime) {
     let swap = "batch 2\npush 0 0 1 0\npush 1 0 0 0\n";

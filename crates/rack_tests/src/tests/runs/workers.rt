@@ -30,14 +30,15 @@ fn two_pushes_meet_at_the_gate(rt: HostRuntime) {
     assert!(rt; two_pushes_meet(&rt));
 }
 
-/// What is seen of the workers of a run: how often each has arrived, how many wires have begun, whether one has waited for the others for
-/// too long, and whether one was made, or carried a byte, before its worker had arrived.
+/// What is seen of the workers of a run: how often each has arrived, how many wires have begun,
+/// whether one has waited for the others for too long, and whether one was made, or carried a byte,
+/// before its worker had arrived.
 #[derive(Drop)]
 struct Watch {
     /// A count for each number, and for 0, which no worker has.
     arrived: Vec<AtomicUsize>,
-    /// How many wires wait for one another in their first byte, each of which is carried by the worker of the transfer's number and 1.
-    /// Without it none waits.
+    /// How many wires wait for one another in their first byte, each of which is carried by the
+    /// worker of the transfer's number and 1. Without it none waits.
     held: Option<usize>,
     begun: AtomicUsize,
     gave_up: AtomicBool,
@@ -177,9 +178,9 @@ impl<'a> WireMaker for WatchedLines<'a> {
     }
 }
 
-/// A run of a batch of one setting by so many workers, what it leaves in block 1 of module 1 of a rack of 32 modules whose blocks have one
-/// word, and how often each worker who arrives does. Where it is held, there is a worker for each transfer, and all wires wait for one
-/// another.
+/// A run of a batch of one setting by so many workers, what it leaves in block 1 of module 1 of a
+/// rack of 32 modules whose blocks have one word, and how often each worker who arrives does. Where
+/// it is held, there is a worker for each transfer, and all wires wait for one another.
 #[derive(Clone, Copy)]
 struct Row {
     text: &'static str,
@@ -232,8 +233,8 @@ const FOUR_PUSHES: &str = "batch 4\npush 0 0 1 1\npush 1 0 2 1\npush 2 0 3 1\npu
 /// Two transfers of one setting.
 const TWO_TO_THREE: &str = "batch 2\npush 0 0 1 1\npush 1 0 2 1\n";
 
-/// How often each of 32 workers arrives at the widest setting: a worker arrives at each of the five forks at which its part
-/// begins with it, 17 at each as 1 does.
+/// How often each of 32 workers arrives at the widest setting: a worker arrives at each of the five
+/// forks at which its part begins with it, 17 at each as 1 does.
 const EACH_OF_32: [(usize, usize); 32] = [
     (1, 5),
     (2, 1),
@@ -325,12 +326,14 @@ fn workers_arrive(rt: HostRuntime) {
         ..FOUR
     };
     let rows = [
-        // One worker doesn't fork. A half that is one worker doesn't. Of three and of five workers the first half has one more than the other.
+        // One worker doesn't fork. A half that is one worker doesn't. Of three and of five workers
+        // the first half has one more than the other.
         FOUR,
         by(FOUR, 2, &[(1, 1), (2, 1)]),
         by(FOUR, 3, &[(1, 2), (2, 1), (3, 1)]),
         by(FOUR, 5, &[(1, 2), (3, 1), (4, 2), (5, 1)]),
-        // Workers beyond the transfers are halved like all others: of sixteen the second half begins with worker 9, of 64 with 33.
+        // Workers beyond the transfers are halved like all others: of sixteen the second half
+        // begins with worker 9, of 64 with 33.
         by(FOUR, 16, &[(1, 2), (5, 1), (9, 2), (13, 1)]),
         by(TWO, 16, &[(1, 1), (9, 1)]),
         by(TWO, 64, &[(1, 1), (33, 1)]),
@@ -359,8 +362,8 @@ fn workers_arrive(rt: HostRuntime) {
     }
 }
 
-/// As many workers as transfers, whose wires wait for one another, and are made when their workers have arrived. Four workers fork twice:
-/// 1 and 2 from 3 and 4, and then each from the other.
+/// As many workers as transfers, whose wires wait for one another, and are made when their workers
+/// have arrived. Four workers fork twice: 1 and 2 from 3 and 4, and then each from the other.
 #[test]
 fn all_wires_are_held(rt: HostRuntime) {
     let pushes = Row {

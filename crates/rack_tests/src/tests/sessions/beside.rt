@@ -15,7 +15,8 @@ pub struct Beside<'a> {
     rest: &'static [u8],
     hears: &'static [u8],
     flushed: &'a AtomicUsize,
-    /// How many commands were heard, whether the last of them was `bye`, and whether it was refused.
+    /// How many commands were heard, whether the last of them was `bye`, and whether it was
+    /// refused.
     heard: usize,
     is_over: bool,
     is_refused: bool,
@@ -36,8 +37,9 @@ impl<'a> Beside<'a> {
         }
     }
 
-    /// Whether it heard each command, in their order and once the replies before were flushed; and was told, behind each
-    /// reply line that is a refusal, once that was flushed, of this refusal, and of no other. The session ended so.
+    /// Whether it heard each command, in their order and once the replies before were flushed; and
+    /// was told, behind each reply line that is a refusal, once that was flushed, of this refusal,
+    /// and of no other. The session ended so.
     pub fn is_right(&self, fault: Option<ServeFault>) -> bool {
         let flushed = self.flushed.load(Ordering::SeqCst);
         let is_told = match fault {
@@ -50,7 +52,8 @@ impl<'a> Beside<'a> {
         !self.is_wrong && is_told
     }
 
-    /// Whether so many commands were heard, and the last was refused just where its reply is a refusal.
+    /// Whether so many commands were heard, and the last was refused just where its reply is a
+    /// refusal.
     fn is_told_of(&self, replies: usize) -> bool {
         let is_refusal = match reply_at(self.hears, replies) {
             Some(reply) => reply.starts_with(b"refused "),
@@ -105,8 +108,8 @@ const COMMANDS: [(&str, Refusal); 3] = [
     ("show 1\n", Refusal::Unknown),
 ];
 
-/// Whether a listener is right beside whom these come to pass: `h`, the next command is heard; `s`, it isn't; `f`, a reply is
-/// flushed; and `r`, the refusal of the command that came last is told.
+/// Whether a listener is right beside whom these come to pass: `h`, the next command is heard; `s`,
+/// it isn't; `f`, a reply is flushed; and `r`, the refusal of the command that came last is told.
 fn is_right_behind(events: &str) -> bool {
     let says = "hello\nprogress\nshow 1\n";
     let hears = "refused line\nprogress run 0 done 0\nrefused unknown\n";
@@ -134,7 +137,8 @@ fn is_right_behind(events: &str) -> bool {
     beside.is_right(None)
 }
 
-/// Three commands are to be heard, and not two, each before its refusal, which is to be told once, behind its reply.
+/// Three commands are to be heard, and not two, each before its refusal, which is to be told once,
+/// behind its reply.
 #[test]
 fn a_listener_sees_what_it_is_not_told(rt: HostRuntime) {
     assert!(rt; is_right_behind("hfrhfhfr"));

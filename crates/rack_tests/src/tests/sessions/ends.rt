@@ -16,7 +16,8 @@ const TWO_LINES: &str = "peek 0 80000800\nhello\n";
 
 const TWO_REPLIES: &str = "word 00000000\nrefused line\n";
 
-/// A text, behind how many of its bytes the reader fails, what is heard, and how many entries there are.
+/// A text, behind how many of its bytes the reader fails, what is heard, and how many entries there
+/// are.
 const MUTE: [(&str, usize, &str, usize); 6] = [
     ("", 0, "", 0),
     (TWO_LINES, 15, "", 0),
@@ -26,7 +27,8 @@ const MUTE: [(&str, usize, &str, usize); 6] = [
     ("batch 1\npush 0 0 0 0\n", 10, "", 0),
 ];
 
-/// The reader hands out a byte a call. The end of the text is its 23rd call. Behind `bye` it isn't asked.
+/// The reader hands out a byte a call. The end of the text is its 23rd call. Behind `bye` it isn't
+/// asked.
 #[test]
 fn session_ends_by_its_reader(rt: HostRuntime) {
     for (says, fails_at, hears, entries) in MUTE {

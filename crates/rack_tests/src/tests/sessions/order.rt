@@ -6,8 +6,9 @@ use client_session::ServeFault;
 use std::sync::Wait;
 use std::thread::Threads;
 
-/// Whether a client who says this and hears that has each reply flushed before a line is read behind it, by a writer that takes so many
-/// bytes a call. The list says how many replies were flushed at each `read`, of which each gives a line.
+/// Whether a client who says this and hears that has each reply flushed before a line is read
+/// behind it, by a writer that takes so many bytes a call. The list says how many replies were
+/// flushed at each `read`, of which each gives a line.
 fn is_flushed_first<R: AllocGlobal + Threads + Wait + Sync>(
     rt: &R,
     script: Script,
@@ -59,8 +60,8 @@ fn a_reply_is_flushed_before_the_end_is_asked_for(rt: HostRuntime) {
     assert!(rt; is_flushed_first(&rt, peek, &[0, 1], 5));
 }
 
-/// All lines are pending from the first on. That no reply is begun before those in front of it were flushed, and that each is flushed in
-/// the end, is seen of each session.
+/// All lines are pending from the first on. That no reply is begun before those in front of it were
+/// flushed, and that each is flushed in the end, is seen of each session.
 #[test]
 fn a_reply_is_flushed_before_the_next_is_begun(rt: HostRuntime) {
     let script = Script::of(
@@ -81,7 +82,8 @@ fn the_reply_to_bye_is_flushed(rt: HostRuntime) {
     assert!(rt; is_served(&rt, &script));
 }
 
-/// Whether a client is served so on the smallest rack, and another behind it from the seat that came back.
+/// Whether a client is served so on the smallest rack, and another behind it from the seat that
+/// came back.
 fn are_served_from_one_seat<R: AllocGlobal + Threads + Wait + Sync>(
     rt: &R,
     one: Script,
@@ -96,7 +98,8 @@ fn are_served_from_one_seat<R: AllocGlobal + Threads + Wait + Sync>(
     is_so(rt, &plan)
 }
 
-/// The reader gives a byte a `read`, so the session has read a million bytes: 166,666 lines and four bytes more.
+/// The reader gives a byte a `read`, so the session has read a million bytes: 166,666 lines and
+/// four bytes more.
 #[test]
 fn a_reader_without_end_is_asked_a_million_times(rt: HostRuntime) {
     let mut reading = AT_ONCE;
@@ -113,13 +116,15 @@ fn a_reader_without_end_is_asked_a_million_times(rt: HostRuntime) {
     assert!(rt; are_served_from_one_seat(&rt, hello, peek));
 }
 
-/// Whether a session that hands in an empty batch and ends so is followed by another from the seat that came back, which has that batch.
+/// Whether a session that hands in an empty batch and ends so is followed by another from the seat
+/// that came back, which has that batch.
 fn goes_on_behind<R: AllocGlobal + Threads + Wait + Sync>(rt: &R, script: Script) -> bool {
     let show = Script::of("show 1\n", "batch 1 transfers 0 waiting\n", 1);
     are_served_from_one_seat(rt, script, show)
 }
 
-/// An empty batch, and then one of whose two lines the first is whole, and 81 letters stand in the second.
+/// An empty batch, and then one of whose two lines the first is whole, and 81 letters stand in the
+/// second.
 const TOO_LONG: &str =
     "batch 0\nbatch 2\npush 0 0 0 0\naaaaaaaaaaaaaaaaaaaaaaaaaaaaaaaaaaaaaaaaaaaaaaaaaaaaaaaaaaaaaaaaaaaaaaaaaaaaaaaaa";
 

@@ -1,4 +1,5 @@
-//! A session plans outside the exchange's lock, so that others are answered meanwhile. Its batch is the largest.
+//! A session plans outside the exchange's lock, so that others are answered meanwhile. Its batch is
+//! the largest.
 
 ghost use Rattle.std.specs.Prelude.{◌≡◌, ◌≤◌, length, take};
 ghost use Rattle.progress_word.specs.declared.limits.TheConstants.{ALL_PARTS};
@@ -23,10 +24,12 @@ use std::thread::{Threads, yield_now};
 /// How long a client waits for the other.
 const TURNS: usize = 10_000_000;
 
-/// How often the batch is planned. The first time settles it, and each later one is refused behind its planning.
+/// How often the batch is planned. The first time settles it, and each later one is refused behind
+/// its planning.
 const PLANS: usize = 10;
 
-/// How often the other client peeks at most while the batch is planned once, so that the history has room.
+/// How often the other client peeks at most while the batch is planned once, so that the history
+/// has room.
 const PEEKS: usize = 4000;
 
 /// Row largest-batch: 4096 times `push 0 0 1 0`.
@@ -38,8 +41,8 @@ fn largest_batch(alloc: Global) -> Result<String, AllocError> {
     Ok(text)
 }
 
-/// How far two clients have come: whether the one who peeks is there, how often the other has asked for a plan, and whether
-/// it has ended.
+/// How far two clients have come: whether the one who peeks is there, how often the other has asked
+/// for a plan, and whether it has ended.
 #[derive(Drop)]
 struct Watch {
     is_there: AtomicBool,
@@ -66,7 +69,8 @@ impl Watch {
         }
     }
 
-    /// Waits until the other has asked more often than that, and says how often. Nothing where it has ended.
+    /// Waits until the other has asked more often than that, and says how often. Nothing where it
+    /// has ended.
     fn wait_for_more(&self, seen: usize) -> Option<usize> {
         self.is_there.store(true, Ordering::SeqCst);
         for _ in 0..TURNS {
@@ -92,7 +96,8 @@ fn put(buf: &mut [u8], bytes: &[u8]) -> usize
     count
 }
 
-/// Hands out the text of a batch, and then, once the other client is there, asks so often for its plan.
+/// Hands out the text of a batch, and then, once the other client is there, asks so often for its
+/// plan.
 #[derive(Drop)]
 struct Planner<'a> {
     text: &'a [u8],

@@ -5,7 +5,7 @@ ghost use Rattle.batch.specs.declared.limits.TheConstants.{MAX_MODULES};
 ghost use Rattle.client_session.specs.Steps.{CanBeTold};
 
 use batch::BatchFault;
-use batch_book::{Reading, Refusal, Reply};
+use batch_book::{BookRefusal, Reading, Reply};
 use client_session::reply_line::{ReplyLine, put_stopped};
 use line_words::Line;
 use refusals::Refusal as Refused;
@@ -28,8 +28,8 @@ fn is_batch_fault(fault: BatchFault, want: &str) -> bool {
 /// These have no memory, or a cause that a session doesn't meet.
 #[test]
 fn refusals(rt: HostRuntime) {
-    assert!(rt; is_told(Reply::Refused(Refusal::Stranger), "refused stranger\n"));
-    assert!(rt; is_told(Reply::Refused(Refusal::NoMemory), "refused no memory\n"));
+    assert!(rt; is_told(Reply::Refused(BookRefusal::Stranger), "refused stranger\n"));
+    assert!(rt; is_told(Reply::Refused(BookRefusal::NoMemory), "refused no memory\n"));
     assert!(rt; is_told(Reply::RunRefused(RunRefusal::Shape), "refused shape\n"));
     assert!(rt; is_batch_fault(BatchFault::Count, "refused count\n"));
     assert!(rt; is_batch_fault(BatchFault::NoMemory, "refused no memory\n"));
@@ -75,8 +75,8 @@ fn stops(rt: HostRuntime) {
     assert!(rt; is_stopped(1, StopCause::SwitchDisagrees(63), &moved, want));
 }
 
-/// As many transfers with numbers of four digits as a setting may have, of which one has moved no word and the others
-/// a whole block.
+/// As many transfers with numbers of four digits as a setting may have, of which one has moved no
+/// word and the others a whole block.
 const LONGEST: [(u16, u16); 32] = [
     (1000, 256),
     (1234, 256),

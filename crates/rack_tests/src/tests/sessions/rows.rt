@@ -1,4 +1,5 @@
-//! Worked rows of two clients, one after the other: over wires with a fuse, and over shared words and runs.
+//! Worked rows of two clients, one after the other: over wires with a fuse, and over shared words
+//! and runs.
 
 use super::served::{Day, NO_FUSE, is_so};
 use super::streams::Script;
@@ -23,8 +24,8 @@ fn are_served<R: AllocGlobal + Threads + Wait + Sync>(
     is_so(rt, &plan)
 }
 
-/// The wire of transfer 0 carries 14 bytes. Nine bytes move a word, so that the second word is cut. The run takes a number, and its batch
-/// can be let go.
+/// The wire of transfer 0 carries 14 bytes. Nine bytes move a word, so that the second word is cut.
+/// The run takes a number, and its batch can be let go.
 #[test]
 fn a_wire_that_fails(rt: HostRuntime) {
     let wires = FuseWires {
@@ -75,7 +76,8 @@ fn a_stop_of_sixteen_transfers(rt: HostRuntime) {
     assert!(rt; are_served(&rt, "16x2x256", wires, one, other));
 }
 
-/// The two clients of row one-script, of whom the second looks at the first one's words and progress too, and hands in a batch.
+/// The two clients of row one-script, of whom the second looks at the first one's words and
+/// progress too, and hands in a batch.
 #[test]
 fn one_script(rt: HostRuntime) {
     let one = Script::of(

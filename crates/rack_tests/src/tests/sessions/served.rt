@@ -9,7 +9,7 @@ use super::streams::{Listener, Script, Speaker};
 use crate::tests::common::{with_wires, zeros};
 use crate::tests::office::{Pair, close, open_pair};
 use batch_book::{Seat, Shared};
-use client_session::{CountedReader, ServeFault, Unheard, serve};
+use client_session::{CountedReader, NoListener, ServeFault, serve};
 use contract_data::FailureCount;
 use crossbar::MemoryPort;
 use exchange_limits::WorkerCount;
@@ -45,7 +45,8 @@ fn back<L: Ledger>(ended: Result<Seat<L>, (Seat<L>, ServeFault)>) -> (Seat<L>, O
     }
 }
 
-/// Plays a script from a seat, which comes back. Whether all was heard, read and ended as the script says.
+/// Plays a script from a seat, which comes back. Whether all was heard, read and ended as the
+/// script says.
 fn play<L: Ledger, R: AllocGlobal + Threads + Wait + Sync>(
     rt: &R,
     shared: &Exchange<L>,
@@ -152,7 +153,8 @@ pub struct Saying<I> {
     pub hears: &'static str,
 }
 
-/// Serves such a client from a seat, which comes back, over a reader that counts how often it is asked. Whether it hears that.
+/// Serves such a client from a seat, which comes back, over a reader that counts how often it is
+/// asked. Whether it hears that.
 fn hear<L: Ledger, R: AllocGlobal + Threads + Wait + Sync, I: Read + Drop>(
     rt: &R,
     shared: &Exchange<L>,
@@ -176,7 +178,7 @@ fn hear<L: Ledger, R: AllocGlobal + Threads + Wait + Sync, I: Read + Drop>(
         seat,
         &mut reader,
         &mut listener,
-        &mut Unheard,
+        &mut NoListener,
         WorkerCount::ONE,
     ));
     (seat, fault.is_none() && listener.is_right())
@@ -192,7 +194,8 @@ pub struct Day {
     pub scripts: [Script; 2],
 }
 
-/// Plays both scripts at an exchange that is closed then. Whether all is as they say, and the history has just their entries.
+/// Plays both scripts at an exchange that is closed then. Whether all is as they say, and the
+/// history has just their entries.
 fn is_played<L: Ledger, R: AllocGlobal + Threads + Wait + Sync>(
     rt: &R,
     office: Office<L>,

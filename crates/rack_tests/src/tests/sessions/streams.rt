@@ -75,8 +75,8 @@ pub struct Script {
 }
 
 impl Script {
-    /// A client that says this, is to hear that, and adds so many entries. Its session ends by itself, over a reader and a writer that
-    /// don't fail.
+    /// A client that says this, is to hear that, and adds so many entries. Its session ends by
+    /// itself, over a reader and a writer that don't fail.
     pub fn of(says: &'static str, hears: &'static str, entries: usize) -> Script {
         Script {
             says,
@@ -207,7 +207,8 @@ impl<'a> Listener<'a> {
         }
     }
 
-    /// Whether it has heard what it was to hear, and no line was begun before those in front of it were flushed.
+    /// Whether it has heard what it was to hear, and no line was begun before those in front of it
+    /// were flushed.
     pub fn is_right(&self) -> bool {
         !self.is_wrong && self.rest.is_empty() && self.writing.times <= 1
     }

@@ -1,4 +1,5 @@
-//! Two sessions at once whose lines come in one order, so that each reading comes behind what the other did.
+//! Two sessions at once whose lines come in one order, so that each reading comes behind what the
+//! other did.
 
 ghost use Rattle.std.specs.Prelude.{◌≡◌};
 ghost use Rattle.progress_word.specs.declared.limits.TheConstants.{ALL_PARTS};
@@ -20,7 +21,8 @@ use std::thread::{Threads, yield_now};
 /// How long a client waits for the other.
 const TURNS: usize = 10_000_000;
 
-/// The lines of two clients in one order, each with the client that says it, and how many of them were answered.
+/// The lines of two clients in one order, each with the client that says it, and how many of them
+/// were answered.
 #[derive(Drop)]
 struct Talk {
     lines: &'static [(usize, &'static str)],
@@ -126,7 +128,8 @@ fn hear<R: AllocGlobal + Threads + Wait + Sync>(
         && !talk.gave_up.load(Ordering::SeqCst)
 }
 
-/// The second client reads before any run and behind each of three runs of the first, which have 0, 1 and 2 settings.
+/// The second client reads before any run and behind each of three runs of the first, which have 0,
+/// 1 and 2 settings.
 const READINGS: [(usize, &str); 13] = [
     (1, "progress\n"),
     (0, "batch 0\n"),

@@ -1,6 +1,6 @@
 use Rattle.std.proofs.Common.{◌<◌, ◌+◌, ◌*◌, List, ℕ, max, length, arith, rules}
 use Rattle.link_graph.specs.Marks.{members}
-use Rattle.schedule_certificate.specs.Parts.{IsPart, IsKnown, AreHalves}
+use Rattle.schedule_certificate.specs.Parts.{IsPart, IsDegreeKnown, AreHalves}
 use Rattle.schedule_certificate.proofs.Parts.{single_matching, left_part, right_part, both_less, known_halves}
 use Rattle.schedule_certificate.proofs.colouring.+halves.Goals as goal
 
@@ -22,8 +22,8 @@ colour_part-colour_both-requires g t c κs within =
     let left : IsPart batch front = left_part batch whole front back c.requires.part.0 halves in
     let right : IsPart batch back = right_part batch whole front back c.requires.part.0 halves in
     let known = known_halves batch whole front back c.requires.part.0 halves d c.half_of-half.result c.degree_of-degree.ensures c.half_of-half.ensures in
-    let left_known : IsKnown (members batch front) c.half_of-half.result = known.0 in
-    let right_known : IsKnown (members batch back) c.half_of-half.result = known.1 in
+    let left_known : IsDegreeKnown (members batch front) c.half_of-half.result = known.0 in
+    let right_known : IsDegreeKnown (members batch back) c.half_of-half.result = known.1 in
     let falls : 4 * max (length front) (length back) + 3 < 4 * length whole = omega arith in
     search rules
 

@@ -1,7 +1,7 @@
 use Rattle.std.proofs.Common.{◌≡◌, ◌-◌, ◌≤◌, ◌<◌, List, ℕ, length, arith, rules}
 use Rattle.link_graph.specs.Marks.{members}
 use Rattle.euler_split.specs.Evenness.{CanBeHalved}
-use Rattle.schedule_certificate.specs.Parts.{IsPart, IsKnown, AreHalves}
+use Rattle.schedule_certificate.specs.Parts.{IsPart, IsDegreeKnown, AreHalves}
 use Rattle.schedule_certificate.proofs.Parts.{single_matching, left_part, right_part, both_less, known_halves}
 use Rattle.schedule_certificate.proofs.halving.+colour_halves.Goals as goal
 
@@ -21,7 +21,7 @@ colour_halves-requires t c =
     let front_less : length front < length whole = less.0 in
     let left : IsPart batch front = left_part batch whole front back c.requires.part.0 halves in
     let known = known_halves batch whole front back c.requires.part.0 halves d c.half_of-half.result c.degree_of-degree.ensures c.half_of-half.ensures in
-    let left_known : IsKnown (members batch front) c.half_of-half.result = known.0 in
+    let left_known : IsDegreeKnown (members batch front) c.half_of-half.result = known.0 in
     let room : c.halve_known-middle.new.scratch ≡ c.args.scratch.now = c.halve_known-middle.ensures.places in
     let less : c.saturating_sub-times.result ≡ c.args.times - 1 = omega (arith, c.saturating_sub-times.ensures) in
     let even : CanBeHalved batch front c.saturating_sub-times.result = rw (less, c.split_at_mut-left.ensures.front) c.halve_known-middle.ensures.left_times in
@@ -41,7 +41,7 @@ colour_halves-requires-2 t c =
     let back_less : length back < length whole = less.1 in
     let right : IsPart batch back = right_part batch whole front back c.requires.part.0 halves in
     let known = known_halves batch whole front back c.requires.part.0 halves d c.half_of-half.result c.degree_of-degree.ensures c.half_of-half.ensures in
-    let right_known : IsKnown (members batch back) c.half_of-half.result = known.1 in
+    let right_known : IsDegreeKnown (members batch back) c.half_of-half.result = known.1 in
     let room : c.halve_known-middle.new.scratch ≡ c.args.scratch.now = c.halve_known-middle.ensures.places in
     let kept : c.colour_halves.new.scratch ≡ c.halve_known-middle.new.scratch = c.colour_halves.ensures.places in
     let less : c.saturating_sub-times.result ≡ c.args.times - 1 = omega (arith, c.saturating_sub-times.ensures) in

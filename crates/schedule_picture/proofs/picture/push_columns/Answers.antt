@@ -2,7 +2,8 @@ use Rattle.std.proofs.Common.{◌≡◌, ◌+◌, ◌++◌, [], sym, ap, ◌∙�
 use Rattle.std.specs.List.{flat_map, range_with_len}
 use Rattle.std.proofs.lemmas.Option.{get_or_from_slice_get}
 use Rattle.schedule_picture.specs.Cells.{column_text}
-use Rattle.schedule_picture.specs.Picture.{setting_at, columns_text}
+use Rattle.schedule_picture.specs.Picture.{columns_text}
+use Rattle.steady_schedule.specs.Needs.{setting_at}
 use Rattle.batch.proofs.Lists.{more_parts}
 use Rattle.schedule_picture.proofs.picture.push_columns.Goals as goal
 

@@ -1,7 +1,7 @@
 use Rattle.std.proofs.Common.{◌≡◌, ◌+◌, ◌++◌, string_bytes}
 use Rattle.std.specs.List.{flat_map, range_with_len}
 use Rattle.schedule_picture.specs.Cells.{column_text}
-use Rattle.schedule_picture.specs.Picture.{setting_at}
+use Rattle.steady_schedule.specs.Needs.{setting_at}
 use Rattle.schedule_picture.proofs.picture.push_columns.Given as goal
 
 abbrev pub invariant-loop-j : goal.invariant-loop-j

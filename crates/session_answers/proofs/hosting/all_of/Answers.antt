@@ -1,6 +1,6 @@
 use Rattle.std.proofs.Common.{◌≡◌, ◌∷◌, Some, sym}
 use Rattle.std.specs.Vec.Iter.{into_iter_items}
-use Rattle.session_answers.proofs.Visits.{one_more_thread}
+use Rattle.session_answers.proofs.HostedSessions.{one_more_thread}
 use Rattle.session_answers.proofs.hosting.all_of.Goals as goal
 
 pub loop-one-preserved : goal.loop-one-preserved

@@ -1,12 +1,12 @@
 use Rattle.std.proofs.Common.{◌≡◌, [], IfOk, refl}
 use Rattle.std.proofs.lemmas.Result.{IfOk-weaker}
 use Rattle.plan_answers.specs.Refusals.{Refuses}
-use Rattle.session_answers.specs.Hosts.{opened, refused}
+use Rattle.session_answers.specs.HostAnswers.{opened, refused}
 use Rattle.session_answers.proofs.Sessions.{both}
 use Rattle.session_answers.proofs.hosting.answer_host.Goals as goal
 
 pub returns-in-Ok : goal.returns-in-Ok
-returns-in-Ok g c = IfOk-weaker c.host.result _ _ (λ h is. opened c.in-Ok.rack c.in-Ok.ensures.rack is) c.host.ensures
+returns-in-Ok g c = IfOk-weaker c.host_clients.result _ _ (λ h is. opened c.in-Ok.rack c.in-Ok.ensures.rack is) c.host_clients.ensures
 
 pub returns-in-Err : goal.returns-in-Err
 returns-in-Err g c =

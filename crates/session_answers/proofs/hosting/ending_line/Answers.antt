@@ -1,5 +1,5 @@
 use Rattle.std.proofs.Common.{sym, ap}
-use Rattle.session_answers.specs.Hosts.{ending_line}
+use Rattle.session_answers.specs.HostAnswers.{ending_line}
 use Rattle.session_answers.proofs.hosting.ending_line.Goals as goal
 
 pub returns-in-Unopened : goal.returns-in-Unopened

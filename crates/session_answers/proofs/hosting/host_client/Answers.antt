@@ -1,7 +1,7 @@
-use Rattle.session_answers.proofs.Visits.{was_served}
+use Rattle.session_answers.proofs.HostedSessions.{was_served}
 use Rattle.session_answers.proofs.hosting.host_client.Goals as goal
 
 pub returns : goal.returns
 returns g c =
-    was_served c.args.floor.now.exchange.now (g.D.Doors.guests c.args.floor.now.doors.now) g.D.Doors.received c.args.seat c.attend-seat.result.0 _ _ _ _ _ _ c.close-receipt.result
-    c.session.ensures c.in-Ok.ensures.reader c.in-Ok.ensures.writer c.close-receipt.ensures c.attend-seat.ensures.same c.attend-seat.ensures.session
+    was_served c.args.context.now.exchange.now (g.D.ClientStreams.known c.args.context.now.streams.now) g.D.ClientStreams.received c.args.seat c.serve_client-seat.result.0 _ _ _ _ _ _ c.close-receipt.result
+    c.session.ensures c.in-Ok.ensures.reader c.in-Ok.ensures.writer c.close-receipt.ensures c.serve_client-seat.ensures.same c.serve_client-seat.ensures.session

@@ -1,6 +1,6 @@
 use Rattle.std.proofs.Common.{◌≡◌, ◌∷◌, refl}
 use Rattle.std.specs.Vec.Iter.{into_iter_items}
-use Rattle.session_answers.proofs.Visits.{one_more_taken}
+use Rattle.session_answers.proofs.HostedSessions.{one_more_taken}
 use Rattle.session_answers.proofs.hosting.part.Goals as goal
 
 pub loop-session-preserved : goal.loop-session-preserved

@@ -8,5 +8,5 @@ invariant-loop-seat g l =
     (goal.iterator-loop-seat g).can_next l.seat-iterator ×
     (goal.iterator-loop-seat g).is_finite l.seat-iterator ×
     (map (λ t. t.promise.seat.value) l.threads.items ++ into_iter_items l.seat-iterator ≡ l.fn.seats.items) ×
-    All (λ t. (t.promise.exchange ≡ l.fn.floor.exchange) × (t.promise.doors ≡ l.fn.floor.doors)) l.threads.items ×
-    All (IsFresh l.fn.floor.exchange.now) (into_iter_items l.seat-iterator)
+    All (λ t. (t.promise.exchange ≡ l.fn.context.exchange) × (t.promise.streams ≡ l.fn.context.streams)) l.threads.items ×
+    All (IsFresh l.fn.context.exchange.now) (into_iter_items l.seat-iterator)

@@ -1,4 +1,4 @@
 use Rattle.session_answers.proofs.serving.answer_serve.Given as goal
 
-abbrev pub ghosts-host : goal.ghosts-host
-ghosts-host g a = record { name = a.blank.name; parts = a.blank.parts }
+abbrev pub ghosts-serve_scripts : goal.ghosts-serve_scripts
+ghosts-serve_scripts g a = record { name = a.blank.name; parts = a.blank.parts }

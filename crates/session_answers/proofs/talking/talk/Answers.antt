@@ -11,30 +11,30 @@ pub finish-requires-clause-seats : goal.finish-requires-clause-seats
 finish-requires-clause-seats g c =
     let x = c.in_ok-exchange.exchange in
     let rest = c.pop.new.self.items in
-    let back = c.attend-seat.result.0 in
+    let back = c.serve_client-seat.result.0 in
     let one = alone x c.in_ok-exchange.seats.items rest c.in-Some.seat c.in_ok-exchange.ensures.seats c.in-Some.ensures.items in
     let pushed : c.push.new.self.items ≡ rest ++ back ∷ [] = search rules in
-    subst (AreAllSeats x) (sym pushed) (all_there x rest c.in-Some.seat back one c.attend-seat.ensures.same)
+    subst (AreAllSeats x) (sym pushed) (all_there x rest c.in-Some.seat back one c.serve_client-seat.ensures.same)
 
 pub returns-clause-session : goal.returns-clause-session
 returns-clause-session g c =
     let x = c.in_ok-exchange.exchange in
     let opening = c.in_ok-opening.opening in
     let rest = c.pop.new.self.items in
-    let back = c.attend-seat.result.0 in
-    let fault = c.attend-seat.result.1 in
+    let back = c.serve_client-seat.result.0 in
+    let fault = c.serve_client-seat.result.1 in
     let line = c.in_ok-line.line.items in
     let failed = c.is_some.result in
-    let s = c.attend-seat.ensures.session in
+    let s = c.serve_client-seat.ensures.session in
     let one = alone x c.in_ok-exchange.seats.items rest c.in-Some.seat c.in_ok-exchange.ensures.seats c.in-Some.ensures.items in
     let pushed : c.push.new.self.items ≡ rest ++ back ∷ [] = search rules in
     let fails : failed ≡ is_some fault = search rules in (
       s.0,
       s.1,
       IfOk-weaker c.finish.result (λ closing. IsClosing opening (map part_of c.push.new.self.items) line failed closing.answer closing.rack)
-          (λ closing. HasTalked c.args.rack (g.I.Read.remaining c.args.reader.now) (g.I.Read.remaining c.attend-seat.new.reader) s.0 closing.answer closing.rack)
+          (λ closing. HasTalked c.args.rack (g.I.Read.remaining c.args.reader.now) (g.I.Read.remaining c.serve_client-seat.new.reader) s.0 closing.answer closing.rack)
           (λ closing closed.
-          has_talked opening c.args.rack x rest c.in-Some.seat back _ _ line s.0 fault failed one c.attend-seat.ensures.same c.in_ok-exchange.ensures.shape c.in_ok-opening.ensures (c.in_ok-line.ensures.items ∙ c.end_line.ensures) fails s.2 closing.answer closing.rack (rw pushed at closed)) c.finish.ensures,
+          has_talked opening c.args.rack x rest c.in-Some.seat back _ _ line s.0 fault failed one c.serve_client-seat.ensures.same c.in_ok-exchange.ensures.shape c.in_ok-opening.ensures (c.in_ok-line.ensures.items ∙ c.end_line.ensures) fails s.2 closing.answer closing.rack (rw pushed at closed)) c.finish.ensures,
     )
 
 pub returns-in_err-opening-clause-session : goal.returns-in_err-opening-clause-session
@@ -44,7 +44,7 @@ pub returns-in_err-exchange-clause-session : goal.returns-in_err-exchange-clause
 returns-in_err-exchange-clause-session g c = ([], Appends-nil _, search rules)
 
 pub returns-in_err-push-clause-session : goal.returns-in_err-push-clause-session
-returns-in_err-push-clause-session g c = let s = c.attend-seat.ensures.session in (s.0, s.1, search rules)
+returns-in_err-push-clause-session g c = let s = c.serve_client-seat.ensures.session in (s.0, s.1, search rules)
 
 pub returns-in_err-line-clause-session : goal.returns-in_err-line-clause-session
-returns-in_err-line-clause-session g c = let s = c.attend-seat.ensures.session in (s.0, s.1, search rules)
+returns-in_err-line-clause-session g c = let s = c.serve_client-seat.ensures.session in (s.0, s.1, search rules)

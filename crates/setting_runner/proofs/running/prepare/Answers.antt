@@ -9,7 +9,7 @@ use Rattle.batch.specs.declared.transfer.Place.{Place}
 use Rattle.batch.specs.declared.transfer.Transfer.{Transfer}
 use Rattle.module_memory.specs.Bays.{AreFound}
 use Rattle.module_memory.specs.Core.{FitsIn, IsReady}
-use Rattle.module_memory.specs.Lending.{AreLendable, BlockAt, bays_of, found_in, joined, without}
+use Rattle.module_memory.specs.Lending.{AreLendable, BlockAt, bays_of, found_in, store_rejoined, without}
 use Rattle.module_memory.specs.Store.{Store}
 use Rattle.module_memory.proofs.PartLaws.{shape-without}
 use Rattle.module_memory.proofs.PartedSettings.{destinations_lendable, sources_are_found}
@@ -43,7 +43,7 @@ returns-in-Ok-part-clause-prepared c =
     let ready : IsReady c.args.rack c.args.rack plan.batch (concat plan.settings) = record { opening_whole = c.shape.ensures.whole; whole = c.shape.ensures.whole; same_shape = refl; agrees = λ i l none. refl; places = fits; apart = apart; setting = all_settings plan.batch plan.settings schedule } in
     let rest = c.in-Ok-part.parted.rest in
     let lent = c.in-Ok-part.parted.bays.items in
-    let store : joined rest.store lent ≡ c.args.rack = c.in-Ok-part.ensures.store in
+    let store : store_rejoined rest.store lent ≡ c.args.rack = c.in-Ok-part.ensures.store in
     let places : c.as_slice.result.now ≡ plan_destinations plan = c.as_slice.ensures.value ∙ c.in-Ok.ensures.places in
     let left : rest.store ≡ without c.args.rack (plan_destinations plan) = c.in-Ok-part.ensures.rest ∙ ap (without c.args.rack) places in
     let held : AreHeldSources plan.batch c.as_slice-2.result.now = subst (AreHeldSources plan.batch) (sym c.as_slice-2.ensures.value) (subst (λ (ts : List Transfer). AreHeldSources ts c.in-Ok-held_sources.held.items) c.batch-batch.ensures.batch c.in-Ok-held_sources.ensures.held) in

@@ -2,7 +2,7 @@ use Rattle.std.proofs.Common.{◌≡◌, ◌<◌, ◌≤◌, ◌+◌, ◌-◌, �
 use Rattle.std.proofs.Math.Nat.{mul-le-mul_left}
 use Rattle.batch.specs.declared.limits.TheConstants.{MAX_TRANSFERS, MAX_WORDS}
 use Rattle.batch.specs.declared.transfer.Transfer.{Transfer}
-use Rattle.module_memory.specs.Lending.{joined}
+use Rattle.module_memory.specs.Lending.{store_rejoined}
 use Rattle.setting_runner.specs.Moves.{AreMovable, HaveMoved, none_sure, all_moved}
 use Rattle.setting_runner.specs.Runs.{numbers_of, AreSettingSwitches, ToldUpTo, IsCompleted}
 use Rattle.setting_runner.proofs.Going.{rack_has, setting_switches, going_next, going_stops, going_completes, next_begins, part_movable}
@@ -140,7 +140,7 @@ returns-clause-memories g c =
     let done : length plan.settings ≤ c.loop-number.number = omega (arith, c.settings-number-end.ensures, ap (length {A = List ℕ}) c.schedule-schedule.ensures.schedule) in
     let wide : c.words.result ≡ c.args.rest.now.store.shape.words = search rules in
     let completed = going_completes c.args.rest.now c.args.bays.now c.loop-number.bays plan c.loop-number.number begun c.loop-number.invariant.going done (c.loop-number.from * c.words.result) (ap₂ (λ (x y : ℕ). x * y) c.loop-number.invariant.from wide) in
-    subst (λ (x : ℕ). IsCompleted (joined c.args.rest.now.store c.args.bays.now) plan x (c.loop-number.from * c.words.result) (joined c.args.rest.now.store c.loop-number.bays)) size completed
+    subst (λ (x : ℕ). IsCompleted (store_rejoined c.args.rest.now.store c.args.bays.now) plan x (c.loop-number.from * c.words.result) (store_rejoined c.args.rest.now.store c.loop-number.bays)) size completed
 
 pub returns-clause-plant : goal.returns-clause-plant
 returns-clause-plant g c =

@@ -2,7 +2,7 @@ use Rattle.std.proofs.Common.{◌≡◌, ◌<◌, ℕ, List, refl, sym, subst, r
 use Rattle.std.specs.Prelude.{AllPairs, OnOk, IfErr}
 use Rattle.std.proofs.lemmas.Result.{err_from_is_err_and}
 use Rattle.setting_runner.specs.Moves.{HaveMoved, none_sure, AllWhole}
-use Rattle.setting_runner.specs.Runs.{Given, IsShortfall}
+use Rattle.setting_runner.specs.Runs.{RunConditions, IsShortfall}
 use Rattle.setting_runner.proofs.Moves.{AreMovable-known, none_have_moved}
 use Rattle.setting_runner.proofs.Causes.{names_moved}
 use Rattle.setting_runner.proofs.Ending.{ended, ended_cause}
@@ -32,7 +32,7 @@ returns-clause-cause g c =
     let e : c.words.result ≡ c.args.rest.now.store.shape.words = search rules in
     let port = g.P.ConfigPort in
     let old = c.args.plant.now in
-    let given : Given = record { sure = g.W.WireMaker.is_sure old.wires; shape = c.args.rest.now.store.shape; before = port.failures old.port; after = port.failures c.begin_setting.new.plant.port; honest = port.honest old.port } in
+    let given : RunConditions = record { sure = g.W.WireMaker.is_sure old.wires; shape = c.args.rest.now.store.shape; before = port.failures old.port; after = port.failures c.begin_setting.new.plant.port; honest = port.honest old.port } in
     let same : c.begin_setting.new.plant.wires ≡ old.wires = search rules in
     ended_cause _ given _ _ _ _ _ _ refl (rw same at c.move_all-moved.ensures) c.end_setting.ensures.moved (subst (λ (w : ℕ). IfErr c.end_setting.result (λ stop. IsShortfall w c.move_all-moved.result stop.cause)) e c.end_setting.ensures.short)
     c.in_ok-begin_setting.ensures.unfailed

@@ -1,7 +1,7 @@
 use Rattle.std.proofs.Common.{◌≡◌, ◌+◌, ◌-◌, ◌∙◌, List, [], ℕ, get_or, slice_get, Some, refl, sym, ap, subst, arith}
 use Rattle.link_graph.specs.Marks.{members}
 use Rattle.steady_schedule.specs.Changes.{join_same}
-use Rattle.steady_schedule.specs.Joined.{AreJoined}
+use Rattle.steady_schedule.specs.Joined.{HaveResponders}
 use Rattle.steady_schedule.proofs.Joined.{started, none_joined, change, counted_more, at_setting, joined_same}
 use Rattle.steady_schedule.proofs.changing.count_changes.Goals as goal
 use Rattle.steady_schedule.proofs.changing.count_changes.Goals.{then-not-join_same, else-not-join_same}
@@ -17,7 +17,7 @@ loop-k-init c =
       counted = s.0;
       few = omega arith;
       before = sym s.1;
-      joined = subst (λ (x : List ℕ). AreJoined (members c.args.graph.now x) c.put_in.new.joined) (sym s.1) c.put_in.ensures;
+      joined = subst (λ (x : List ℕ). HaveResponders (members c.args.graph.now x) c.put_in.new.joined) (sym s.1) c.put_in.ensures;
     }
 
 pub loop-k-preserved : goal.loop-k-preserved
@@ -32,7 +32,7 @@ loop-k-preserved c =
       | then-not-join_same w ↦ omega (arith, w.count-is, ap change w.if-not-join_same.true)
       | else-not-join_same w ↦ omega (arith, w.count-is, ap change w.if-not-join_same.false)
     ] in
-    let joined : AreJoined (members batch setting) c.if-not-join_same.joined = elim c.if-not-join_same.branch [
+    let joined : HaveResponders (members batch setting) c.if-not-join_same.joined = elim c.if-not-join_same.branch [
       | then-not-join_same w ↦ rw w.joined-is w.put_in-then-not-join_same.ensures
       | else-not-join_same w ↦ rw w.joined-is (joined_same batch (get_or settings (k - 1) []) setting c.loop-k.joined (sym same ∙ w.if-not-join_same.false) c.loop-k.invariant.joined)
     ] in

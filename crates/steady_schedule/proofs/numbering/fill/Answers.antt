@@ -16,7 +16,7 @@ pub steps-init : goal.steps-init
 steps-init c =
     let whole : c.args.settings - 0 ≡ c.args.settings = omega arith in
     let totals = c.args.places.now.totals in
-    let counts = c.args.left.now.counts in
+    let counts = c.args.remaining.now.counts in
     record {
       few = omega arith;
       most = subst (HaveMost counts) (sym whole) c.requires.most;
@@ -35,23 +35,23 @@ steps-preserved c =
     let totals = c.args.places.now.totals in
     let most = c.args.settings - c.steps.first in
     let k = c.next_step-held.result in
-    let after = c.hold.new.left.counts in
+    let after = c.hold.new.remaining.counts in
     let rest : most - k ≡ c.args.settings - (c.steps.first + k) = omega arith in
-    let less = falls totals c.steps.left.counts after m.zero m.three m.matched most k c.hold.ensures.taken c.steps.invariant.most can c.steps.invariant.numbered.within c.steps.invariant.reached in
-    let less_rest : potential totals after (c.args.settings - (c.steps.first + k)) < potential totals c.steps.left.counts most = subst (λ (n : ℕ). potential totals after n < potential totals c.steps.left.counts most) rest less in
+    let less = falls totals c.steps.remaining.counts after m.zero m.three m.matched most k c.hold.ensures.taken c.steps.invariant.most can c.steps.invariant.numbered.within c.steps.invariant.reached in
+    let less_rest : potential totals after (c.args.settings - (c.steps.first + k)) < potential totals c.steps.remaining.counts most = subst (λ (n : ℕ). potential totals after n < potential totals c.steps.remaining.counts most) rest less in
     record {
       few = omega (arith, can.few);
-      most = subst (HaveMost after) rest (less_waits m.zero m.three m.matched k c.steps.left.counts after c.hold.ensures.taken most c.steps.invariant.most can);
-      reached = subst (IsReached after) rest (reached_now totals c.steps.left.counts after m.zero m.three m.matched most k c.hold.ensures.taken c.steps.invariant.most can c.steps.invariant.reached);
+      most = subst (HaveMost after) rest (less_waits m.zero m.three m.matched k c.steps.remaining.counts after c.hold.ensures.taken most c.steps.invariant.most can);
+      reached = subst (IsReached after) rest (reached_now totals c.steps.remaining.counts after m.zero m.three m.matched most k c.hold.ensures.taken c.steps.invariant.most can c.steps.invariant.reached);
       numbered = c.hold.ensures.numbered.numbered;
       steps = record {
         heads = c.steps.first ∷ c.steps.invariant.steps.heads;
         few = omega (arith, c.steps.invariant.steps.few, less_rest);
-        steps = one_step totals c.steps.left.counts c.steps.slots after c.hold.new.slots m.zero c.steps.first k c.steps.invariant.steps.heads c.steps.invariant.steps.steps c.hold.ensures.kept c.hold.ensures.numbered;
+        steps = one_step totals c.steps.remaining.counts c.steps.slots after c.hold.new.slots m.zero c.steps.first k c.steps.invariant.steps.heads c.steps.invariant.steps.steps c.hold.ensures.kept c.hold.ensures.numbered;
       };
-      none = none_wait m.zero m.three m.matched k c.steps.left.counts after c.hold.ensures.taken most c.steps.invariant.most can c.modules-modules.result c.steps.invariant.none;
+      none = none_wait m.zero m.three m.matched k c.steps.remaining.counts after c.hold.ensures.taken most c.steps.invariant.most can c.modules-modules.result c.steps.invariant.none;
       near = c.hold.ensures.near;
-      needs = still_needed totals c.steps.left.counts c.steps.slots after c.hold.new.slots m.zero m.three m.matched c.args.settings c.steps.first k c.steps.invariant.few c.hold.ensures.taken c.steps.invariant.most can c.hold.ensures.kept c.hold.ensures.numbered c.steps.invariant.needs;
+      needs = still_needed totals c.steps.remaining.counts c.steps.slots after c.hold.new.slots m.zero m.three m.matched c.args.settings c.steps.first k c.steps.invariant.few c.hold.ensures.taken c.steps.invariant.most can c.hold.ensures.kept c.hold.ensures.numbered c.steps.invariant.needs;
     }
 
 pub returns : goal.returns
@@ -59,7 +59,7 @@ returns c =
     let none : c.args.settings - c.steps.first ≡ 0 = omega arith in
     let all : c.steps.first ≡ c.args.settings = omega (arith, c.steps.invariant.few) in
     record {
-      done = all_taken c.steps.left.counts (subst (HaveMost c.steps.left.counts) none c.steps.invariant.most);
+      done = all_taken c.steps.remaining.counts (subst (HaveMost c.steps.remaining.counts) none c.steps.invariant.most);
       numbered = rw all at c.steps.invariant.numbered;
       steps = record { heads = c.steps.invariant.steps.heads; few = omega (arith, c.steps.invariant.steps.few); steps = rw all at c.steps.invariant.steps.steps };
       needs = rw all at c.steps.invariant.needs;

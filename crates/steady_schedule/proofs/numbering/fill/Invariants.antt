@@ -8,13 +8,13 @@ use Rattle.steady_schedule.proofs.numbering.fill.Given as goal
 abbrev pub invariant-steps : goal.invariant-steps
 invariant-steps l = record {
   few : l.first ≤ l.settings;
-  most : HaveMost l.left.counts (l.settings - l.first);
-  reached : IsReached l.left.counts (l.settings - l.first);
-  numbered : AreNumbered l.places.totals l.left.counts l.slots l.first;
-  steps : AreFewSteps l.places.totals l.left.counts l.slots l.first (potential l.places.totals l.left.counts (l.settings - l.first)) (potential l.places.totals l.initial.left.counts l.settings);
-  none : NoneWait l.left.counts l.modules;
-  near : AreNear l.left.zero.near l.matching.zero;
-  needs : AreAtNeed l.places.totals l.left.counts l.slots l.settings l.first;
+  most : HaveMost l.remaining.counts (l.settings - l.first);
+  reached : IsReached l.remaining.counts (l.settings - l.first);
+  numbered : AreNumbered l.places.totals l.remaining.counts l.slots l.first;
+  steps : AreFewSteps l.places.totals l.remaining.counts l.slots l.first (potential l.places.totals l.remaining.counts (l.settings - l.first)) (potential l.places.totals l.initial.remaining.counts l.settings);
+  none : NoneWait l.remaining.counts l.modules;
+  near : AreNear l.remaining.zero.near l.matching.zero;
+  needs : AreAtNeed l.places.totals l.remaining.counts l.slots l.settings l.first;
 }
 
 abbrev pub decreases-steps : goal.decreases-steps

@@ -16,18 +16,18 @@ pub hold_one-requires-clause-there : goal.hold_one-requires-clause-there
 hold_one-requires-clause-there c y now =
     let m = c.args.matching.now in
     let joined : partner m.zero c.loop-zero.zero ≡ Some y = sym (c.loop-zero.invariant.ahead c.loop-zero.zero (omega arith)) ∙ now in
-    omega (arith, c.requires.there c.loop-zero.zero y joined, untouched m.zero c.args.settings c.loop-zero.zero c.args.left.now.counts c.loop-zero.left.counts c.loop-zero.invariant.taken (omega (arith, c.loop-zero-test.true, c.requires.within)) y (partner_low m.zero m.three c.loop-zero.zero y m.matched joined))
+    omega (arith, c.requires.there c.loop-zero.zero y joined, untouched m.zero c.args.settings c.loop-zero.zero c.args.remaining.now.counts c.loop-zero.remaining.counts c.loop-zero.invariant.taken (omega (arith, c.loop-zero-test.true, c.requires.within)) y (partner_low m.zero m.three c.loop-zero.zero y m.matched joined))
 
 pub hold_one-requires-clause-within : goal.hold_one-requires-clause-within
 hold_one-requires-clause-within c = record { sized = c.loop-zero.invariant.numbered.numbered.sized; within = c.loop-zero.invariant.numbered.numbered.within }
 
 pub loop-zero-init : goal.loop-zero-init
 loop-zero-init c = record {
-  taken = none_taken c.args.matching.now.zero c.args.settings c.args.left.now.counts c.args.left.now.told.places;
-  numbered = begun c.args.places.now.totals c.args.left.now.counts c.args.slots.now c.args.matching.now.zero c.args.first c.args.settings c.requires.numbered;
+  taken = none_taken c.args.matching.now.zero c.args.settings c.args.remaining.now.counts c.args.remaining.now.told.places;
+  numbered = begun c.args.places.now.totals c.args.remaining.now.counts c.args.slots.now c.args.matching.now.zero c.args.first c.args.settings c.requires.numbered;
   ahead = λ x le. refl;
   behind = λ x y lt. absurd (omega arith);
-  kept = keep_all c.args.places.now.totals c.args.first c.args.left.now.counts c.args.slots.now;
+  kept = keep_all c.args.places.now.totals c.args.first c.args.remaining.now.counts c.args.slots.now;
 }
 
 pub loop-zero-preserved : goal.loop-zero-preserved
@@ -37,13 +37,13 @@ loop-zero-preserved c =
     let first = c.args.first in
     let k = c.args.settings in
     let totals = c.args.places.now.totals in
-    let start = c.args.left.now.counts in
-    let counts = c.loop-zero.left.counts in
+    let start = c.args.remaining.now.counts in
+    let counts = c.loop-zero.remaining.counts in
     let slots = c.loop-zero.slots in
     let so_far = c.loop-zero.invariant in
     let old = c.loop-zero.matching in
     let now = c.hold_one.new.matching in
-    let after = c.hold_one.new.left.counts in
+    let after = c.hold_one.new.remaining.counts in
     let n_in : n < MAX_MODULES = omega (arith, c.loop-zero-test.true, c.requires.within) in
     let here = so_far.ahead n (omega arith) in
     let ahead : (x : ℕ) → n + 1 ≤ x → partner now.zero x ≡ partner m.zero x = λ x le. c.hold_one.ensures.others x (λ e. omega (arith, e, le)) ∙ so_far.ahead x (omega (arith, le)) in
@@ -62,7 +62,7 @@ loop-zero-preserved c =
     let h = c.hold_one.ensures.joined y (here ∙ joined) in
     let y_in = partner_low m.zero m.three n y m.matched joined in
     let there : k ≤ count_at counts n y = omega (arith, c.requires.there n y joined, untouched m.zero k n start counts so_far.taken n_in y y_in) in
-    let places = c.loop-zero.left.told.places in
+    let places = c.loop-zero.remaining.told.places in
     record {
       taken = rw h.taken (joined_taken m.zero k n start counts so_far.taken n_in y y_in joined);
       ahead = ahead;
@@ -76,15 +76,15 @@ returns c =
     let all : c.loop-zero.zero ≡ c.args.modules = omega arith in
     let so_far = c.loop-zero.invariant in
     let zero = c.args.matching.now.zero in
-    let start = c.args.left.now.counts in
-    let left = c.loop-zero.left in
+    let start = c.args.remaining.now.counts in
+    let remaining = c.loop-zero.remaining in
     let now = c.loop-zero.matching in
-    let counts = left.counts in
+    let counts = remaining.counts in
     let totals = c.args.places.now.totals in
     let next = c.args.first + c.args.settings in
     record {
       taken = all_taken zero c.args.settings c.args.modules start counts c.requires.within c.requires.low (subst (λ (n : ℕ). AreTaken zero c.args.settings n start counts) all so_far.taken);
-      near = λ x y joined. near_from_counts counts left.zero.near left.zero.uses left.three.near left.three.uses left.told now.zero now.three now.matched x y joined
+      near = λ x y joined. near_from_counts counts remaining.zero.near remaining.zero.uses remaining.three.near remaining.three.uses remaining.told now.zero now.three now.matched x y joined
           (elim (cases_lt x c.args.modules) [
             | inl lt ↦ so_far.behind x y (omega arith) joined
             | inr le ↦ absurd (omega (arith, c.requires.low x y (sym (so_far.ahead x (omega (arith, all, le))) ∙ joined), le))

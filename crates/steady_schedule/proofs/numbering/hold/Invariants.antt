@@ -7,9 +7,9 @@ use Rattle.steady_schedule.proofs.numbering.hold.Given as goal
 
 abbrev pub invariant-loop-zero : goal.invariant-loop-zero
 invariant-loop-zero l = record {
-  taken : AreTaken l.initial.matching.zero l.settings l.zero l.initial.left.counts l.left.counts;
+  taken : AreTaken l.initial.matching.zero l.settings l.zero l.initial.remaining.counts l.remaining.counts;
   ahead : (x : ℕ) → l.zero ≤ x → partner l.matching.zero x ≡ partner l.initial.matching.zero x;
-  behind : (x y : ℕ) → x < l.zero → partner l.matching.zero x ≡ Some y → 0 < count_at l.left.counts x y;
-  numbered : AreNumberedFrom l.initial.matching.zero l.first l.zero l.places.totals l.left.counts l.slots (l.first + l.settings);
-  kept : KeepNumbers l.places.totals l.first l.initial.left.counts l.initial.slots l.left.counts l.slots;
+  behind : (x y : ℕ) → x < l.zero → partner l.matching.zero x ≡ Some y → 0 < count_at l.remaining.counts x y;
+  numbered : AreNumberedFrom l.initial.matching.zero l.first l.zero l.places.totals l.remaining.counts l.slots (l.first + l.settings);
+  kept : KeepNumbers l.places.totals l.first l.initial.remaining.counts l.initial.slots l.remaining.counts l.slots;
 }

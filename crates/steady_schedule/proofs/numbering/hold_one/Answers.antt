@@ -1,8 +1,8 @@
 use Rattle.std.proofs.Common.{◌≡◌, ◌+◌, ◌-◌, ◌*◌, ◌<◌, List, length, set, slice_index, sym, ap, ◌∙◌, subst, ℕ, arith}
 use Rattle.batch.specs.declared.limits.TheConstants.{MAX_MODULES}
 use Rattle.std.proofs.lemmas.Option.{same_Some}
-use Rattle.steady_schedule.specs.Waiting.{sum_below, place_of, count_at}
-use Rattle.steady_schedule.specs.Slots.{AreWritten, IsHeld}
+use Rattle.steady_schedule.specs.Waiting.{sum_below, pair_index, count_at}
+use Rattle.steady_schedule.specs.Slots.{AreSlotsFilled, IsKeptFor}
 use Rattle.steady_schedule.proofs.Matchings.{partner_low}
 use Rattle.steady_schedule.proofs.Slots.{slot_inside}
 use Rattle.steady_schedule.proofs.Waiting.{count_here}
@@ -20,26 +20,26 @@ count-rest-requires-clause-three_in c = partner_low c.args.matching.now.zero c.a
 pub slot-at-requires-clause-three_in : goal.slot-at-requires-clause-three_in
 slot-at-requires-clause-three_in c = partner_low c.args.matching.now.zero c.args.matching.now.three c.args.zero c.in-Some.three c.args.matching.now.matched c.in-Some.is
 
-module _ (totals left after : List ℕ) (u v k count : ℕ) (places : length left ≡ MAX_MODULES * MAX_MODULES) (u_in : u < MAX_MODULES) (v_in : v < MAX_MODULES) (taken : after ≡ set left (place_of u v) (count_at left u v - k)) (counted : count ≡ count_at after u v) where
-  is_less : count ≡ count_at left u v - k
-  is_less = counted ∙ (ap (λ (xs : List ℕ). count_at xs u v) taken ∙ count_here left u v (count_at left u v - k) places u_in v_in)
+module _ (totals remaining after : List ℕ) (u v k count : ℕ) (places : length remaining ≡ MAX_MODULES * MAX_MODULES) (u_in : u < MAX_MODULES) (v_in : v < MAX_MODULES) (taken : after ≡ set remaining (pair_index u v) (count_at remaining u v - k)) (counted : count ≡ count_at after u v) where
+  is_less : count ≡ count_at remaining u v - k
+  is_less = counted ∙ (ap (λ (xs : List ℕ). count_at xs u v) taken ∙ count_here remaining u v (count_at remaining u v - k) places u_in v_in)
 
-  held : (slots slots_now : List ℕ) (first at : ℕ) → at ≡ sum_below (place_of u v) (slice_index totals) + count → AreWritten at first k slots slots_now → IsHeld totals u v first k left slots after slots_now
+  held : (slots slots_now : List ℕ) (first at : ℕ) → at ≡ sum_below (pair_index u v) (slice_index totals) + count → AreSlotsFilled at first k slots slots_now → IsKeptFor totals u v first k remaining slots after slots_now
   held slots slots_now first at at_is written = record {
     taken = taken;
-    written = subst (λ (p : ℕ). AreWritten p first k slots slots_now) (at_is ∙ ap (λ (n : ℕ). sum_below (place_of u v) (slice_index totals) + n) is_less) written;
+    written = subst (λ (p : ℕ). AreSlotsFilled p first k slots slots_now) (at_is ∙ ap (λ (n : ℕ). sum_below (pair_index u v) (slice_index totals) + n) is_less) written;
   }
 
 pub slot-at-requires-clause-there : goal.slot-at-requires-clause-there
 slot-at-requires-clause-there c =
-    let l = c.args.left.now in
+    let l = c.args.remaining.now in
     let m = c.args.matching.now in
     let v_in = partner_low m.zero m.three c.args.zero c.in-Some.three m.matched c.in-Some.is in
     omega (arith, is_less c.args.places.now.totals l.counts c.take.new.self.counts c.args.zero c.in-Some.three c.args.settings c.count-rest.result l.told.places c.requires.zero_in v_in c.take.ensures c.count-rest.ensures, c.requires.within.within c.args.zero c.in-Some.three c.requires.zero_in v_in)
 
 pub write_pair-requires-clause-room : goal.write_pair-requires-clause-room
 write_pair-requires-clause-room c =
-    let l = c.args.left.now in
+    let l = c.args.remaining.now in
     let m = c.args.matching.now in
     let totals = c.args.places.now.totals in
     let v_in = partner_low m.zero m.three c.args.zero c.in-Some.three m.matched c.in-Some.is in
@@ -48,18 +48,18 @@ write_pair-requires-clause-room c =
 
 pub returns-then-rest-eq0-clause-joined : goal.returns-then-rest-eq0-clause-joined
 returns-then-rest-eq0-clause-joined c y e =
-    let l = c.args.left.now in
+    let l = c.args.remaining.now in
     let m = c.args.matching.now in
     let totals = c.args.places.now.totals in
     let v_in = partner_low m.zero m.three c.args.zero c.in-Some.three m.matched c.in-Some.is in
-    subst (λ (z : ℕ). IsHeld totals c.args.zero z c.args.first c.args.settings l.counts c.args.slots.now c.take.new.self.counts c.write_pair.new.slots) (same_Some c.in-Some.three y (sym c.in-Some.is ∙ e))
+    subst (λ (z : ℕ). IsKeptFor totals c.args.zero z c.args.first c.args.settings l.counts c.args.slots.now c.take.new.self.counts c.write_pair.new.slots) (same_Some c.in-Some.three y (sym c.in-Some.is ∙ e))
     (held totals l.counts c.take.new.self.counts c.args.zero c.in-Some.three c.args.settings c.count-rest.result l.told.places c.requires.zero_in v_in c.take.ensures c.count-rest.ensures c.args.slots.now c.write_pair.new.slots c.args.first c.slot-at.result c.slot-at.ensures c.write_pair.ensures)
 
 pub returns-else-rest-eq0-clause-joined : goal.returns-else-rest-eq0-clause-joined
 returns-else-rest-eq0-clause-joined c y e =
-    let l = c.args.left.now in
+    let l = c.args.remaining.now in
     let m = c.args.matching.now in
     let totals = c.args.places.now.totals in
     let v_in = partner_low m.zero m.three c.args.zero c.in-Some.three m.matched c.in-Some.is in
-    subst (λ (z : ℕ). IsHeld totals c.args.zero z c.args.first c.args.settings l.counts c.args.slots.now c.take.new.self.counts c.write_pair.new.slots) (same_Some c.in-Some.three y (sym c.in-Some.is ∙ e))
+    subst (λ (z : ℕ). IsKeptFor totals c.args.zero z c.args.first c.args.settings l.counts c.args.slots.now c.take.new.self.counts c.write_pair.new.slots) (same_Some c.in-Some.three y (sym c.in-Some.is ∙ e))
     (held totals l.counts c.take.new.self.counts c.args.zero c.in-Some.three c.args.settings c.count-rest.result l.told.places c.requires.zero_in v_in c.take.ensures c.count-rest.ensures c.args.slots.now c.write_pair.new.slots c.args.first c.slot-at.result c.slot-at.ensures c.write_pair.ensures)

@@ -19,13 +19,13 @@ pub returns : goal.returns
 returns c =
     let batch = c.args.graph.now in
     let totals = c.args.places.now.totals in
-    let counts = c.fill.new.left.counts in
+    let counts = c.fill.new.remaining.counts in
     let slots = c.fill.new.slots in
     let settings = c.args.settings in
     let done = c.fill.ensures.done in
     let numbered = c.fill.ensures.numbered in
     let low = modules_low batch c.requires.batch in
-    let most : potential totals c.args.left.now.counts settings ≤ most_changes batch = rw c.requires.whole (potential_most batch totals settings c.requires.batch c.requires.counted) in
+    let most : potential totals c.args.remaining.now.counts settings ≤ most_changes batch = rw c.requires.whole (potential_most batch totals settings c.requires.batch c.requires.counted) in
     IfOk-weaker c.read_all.result _ _
     (λ lists into. record {
       numbers = into.numbers;

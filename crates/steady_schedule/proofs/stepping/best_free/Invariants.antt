@@ -10,7 +10,7 @@ invariant-search l = record {
   within : (m : ℕ) → has_bit l.rest m ≡ true → has_bit l.free m ≡ true;
   free : IfSome l.best (λ three. has_bit l.free three ≡ true);
   low : IfSome l.best (λ three. three < MAX_MODULES);
-  some : IfSome l.best (λ three. 0 < count_at l.left.counts l.zero three);
+  some : IfSome l.best (λ three. 0 < count_at l.remaining.counts l.zero three);
 }
 
 abbrev pub decreases-search : goal.decreases-search

@@ -4,7 +4,7 @@ use Rattle.steady_schedule.proofs.stepping.join_free.Given as goal
 
 abbrev pub invariant-loop-zero : goal.invariant-loop-zero
 invariant-loop-zero l = record {
-  near : AreNear l.left.zero.near l.matching.zero;
+  near : AreNear l.remaining.zero.near l.matching.zero;
   zero : KeepsPartners l.initial.matching.zero l.matching.zero;
   three : KeepsPartners l.initial.matching.three l.matching.three;
   free : AreFree l.matching.three l.free;

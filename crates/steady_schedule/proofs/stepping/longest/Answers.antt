@@ -11,7 +11,7 @@ loop-module-init c = record { some = c.requires.some; few = omega arith; each = 
 
 pub loop-module-preserved : goal.loop-module-preserved
 loop-module-preserved c =
-    let counts = c.args.left.now.counts in
+    let counts = c.args.remaining.now.counts in
     let m = c.args.matching.now in
     let k = c.min-settings.result in
     let t = c.three_room.result in
@@ -35,7 +35,7 @@ loop-module-preserved c =
 
 pub returns : goal.returns
 returns c =
-    let l = c.args.left.now in
+    let l = c.args.remaining.now in
     let m = c.args.matching.now in
     let so_far = c.loop-module.invariant in
     record {

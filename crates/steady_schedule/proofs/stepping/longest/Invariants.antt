@@ -6,6 +6,6 @@ abbrev pub invariant-loop-module : goal.invariant-loop-module
 invariant-loop-module l = record {
   some : 0 < l.settings;
   few : l.settings ≤ l.most;
-  each : (x : ℕ) → x < l.«module» → CanHoldAt l.left.counts l.matching.zero l.matching.three l.most l.settings x;
-  tight : IsTight l.left.counts l.matching.zero l.matching.three l.most l.settings;
+  each : (x : ℕ) → x < l.«module» → CanHoldAt l.remaining.counts l.matching.zero l.matching.three l.most l.settings x;
+  tight : IsTight l.remaining.counts l.matching.zero l.matching.three l.most l.settings;
 }

@@ -22,7 +22,7 @@ loop-setting-preserved g c =
       known = known_next batch settings n pairs are;
       standing = (
         c.of_setting-pairs.ensures.pairs c.args.modules c.requires.modules,
-        λ h. subst (λ (ps : List Pair). AreSwitchesOf c.args.modules ps (g.P.ConfigPort.switches c.set_switches.new.port)) c.as_slice.ensures.pairs (given.set (subst IsTrue given.honesty h)),
+        λ h. subst (λ (ps : List Pair). AreSwitchesOf c.args.modules ps (g.P.ConfigPort.switches c.configure_switches.new.port)) c.as_slice.ensures.pairs (given.set (subst IsTrue given.honesty h)),
       );
       unfailed = given.unfailed ∙ invariant.unfailed;
       honesty = given.honesty ∙ invariant.honesty;

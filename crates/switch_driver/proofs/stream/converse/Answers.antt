@@ -1,6 +1,6 @@
 use Rattle.std.proofs.Common.{◌≡◌, ◌<◌, ◌+◌, ◌++◌, ◌∷◌, [], List, ℕ, length, take, drop, get_or, sym, ap, ◌∙◌, arith, rules}
 use Rattle.std.proofs.lemmas.List.{take-append-drop, take_all, take_more_set}
-use Rattle.crossbar.proofs.Carrying.{take_more, goes_on, spells_exchange}
+use Rattle.crossbar.proofs.Carrying.{take_more, goes_on, spells_conversation}
 use Rattle.switch_driver.proofs.Conversing.{none_so_far, quiet_more, asked_more, fits, all_conversed, broke_within, broke_behind}
 use Rattle.switch_driver.proofs.Streams.{at_err}
 use Rattle.switch_driver.proofs.stream.converse.Goals.{in-Some-2, in_default-2}
@@ -17,7 +17,7 @@ unreachable-requires g c =
     let i = c.loop-byte.byte-index in
     let bytes = c.args.bytes.now in
     let so_far = c.loop-byte.invariant in
-    let ok = c.feed.ensures.taken (take i bytes) (drop (i + 1) bytes) [] so_far.commands c.requires.commands so_far.spells (goes_on bytes i c.requires.commands [] c.loop-byte-test.true (spells_exchange bytes _ c.requires)) in
+    let ok = c.feed.ensures.taken (take i bytes) (drop (i + 1) bytes) [] so_far.commands c.requires.commands so_far.spells (goes_on bytes i c.requires.commands [] c.loop-byte-test.true (spells_conversation bytes _ c.requires)) in
     search rules
 
 pub loop-byte-preserved-in_default-given : goal.loop-byte-preserved-in_default-given

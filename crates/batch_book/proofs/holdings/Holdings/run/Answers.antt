@@ -10,7 +10,7 @@ use Rattle.batch_book.proofs.holdings.Holdings.run.Goals as goal
 
 pub returns-clause-step : goal.returns-clause-step
 returns-clause-step g c =
-    let own : batch_of c.args.self.now c.args.session c.args.id ≡ Some c.in-Some.found.now = rw (← c.self.view_is) (sym c.held_by.ensures ∙ ap option_copied c.in-Some.is) in
+    let own : batch_of c.args.self.now c.args.session c.args.id ≡ Some c.in-Some.found.now = rw (← c.self.view_is) (sym c.owned_by.ensures ∙ ap option_copied c.in-Some.is) in
     let same : c.args.self.now.store ≡ c.in-Some-take.rack = rw (← c.self.view_is) (ap (λ r. unwrap_or r no_store) (sym c.take.ensures.value ∙ c.in-Some-take.is)) in
     let refusals : AreRefusals c.args.self.now.store.shape c.in-Planned.planned.batch c.run-rack.result.1 = rw same (record { overlap = c.run-rack.ensures.overlap; shape = c.run-rack.ensures.shape; free = c.run-rack.ensures.free }) in
     ran_step c.args.self.now c.args.session c.args.id c.in-Some.found.now c.in-Planned.planned c.end.result c.end.new.self own c.in-Planned.is
@@ -21,7 +21,7 @@ returns-in-Waiting-clause-step g c = search rules
 
 pub returns-clause-plant : goal.returns-clause-plant
 returns-clause-plant g c =
-    let own : batch_of c.args.self.now c.args.session c.args.id ≡ Some c.in-Some.found.now = rw (← c.self.view_is) (sym c.held_by.ensures ∙ ap option_copied c.in-Some.is) in
+    let own : batch_of c.args.self.now c.args.session c.args.id ≡ Some c.in-Some.found.now = rw (← c.self.view_is) (sym c.owned_by.ensures ∙ ap option_copied c.in-Some.is) in
     let same : c.args.self.now.store ≡ c.in-Some-take.rack = rw (← c.self.view_is) (ap (λ r. unwrap_or r no_store) (sym c.take.ensures.value ∙ c.in-Some-take.is)) in
     let ran : plan_in (batch_of c.args.self.now c.args.session c.args.id) ≡ Some c.in-Planned.planned = ap plan_in own ∙ ap plan_at c.in-Planned.is in
     let seen = g.P.ConfigPort in

@@ -10,7 +10,7 @@ use Rattle.batch_book.proofs.holdings.Holdings.submit.Goals as goal
 pub returns-clause-step : goal.returns-clause-step
 returns-clause-step c =
     let id = c.self.inside.given + 1 in
-    let es = c.self.inside.held.entries in
+    let es = c.self.inside.batches.entries in
     let fresh : lookup (nat_eq id) c.reserve.new.self.entries ≡ None = rw c.in_ok-reserve.ensures.entries (c.self.invariant.free id (omega arith)) in
     let last = on_ok _ _ _ c.unwrap.ensures c.insert.ensures.entries ∙ goes_last c.reserve.new.self es id _ c.in_ok-reserve.ensures.entries fresh in
     let few : length es < MAX_BATCHES = omega arith in

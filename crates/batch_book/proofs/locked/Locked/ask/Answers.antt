@@ -20,18 +20,18 @@ returns-clause-history g c = λ logged.
 pub returns-clause-reply : goal.returns-clause-reply
 returns-clause-reply g c = replied c.args.self.now.book c.args.session c.args.call c.apply-reply.result _ c.next_run.ensures.sound c.apply-reply.ensures.grown
 
-pub returns-clause-lookout : goal.returns-clause-lookout
-returns-clause-lookout g c =
-    heard (λ (r : Raise). r.lookout) (λ (r : Raise). r.run) _ c.apply-reply.new.notice c.args.self.now.book _ _ c.apply-reply.result _
+pub returns-clause-watcher : goal.returns-clause-watcher
+returns-clause-watcher g c =
+    heard (λ (r : Raise). r.watcher) (λ (r : Raise). r.run) _ c.apply-reply.new.notice c.args.self.now.book _ _ c.apply-reply.result _
     c.next_run.ensures.sound c.next_run.ensures.number c.apply-reply.ensures.grown c.apply-reply.ensures.told
 
 pub returns-clause-quiet : goal.returns-clause-quiet
-returns-clause-quiet g c = unheard (λ (r : Raise). r.lookout) (λ (r : Raise). r.run) _ c.apply-reply.new.notice c.args.self.now.book _ _ c.apply-reply.result _
+returns-clause-quiet g c = unheard (λ (r : Raise). r.watcher) (λ (r : Raise). r.run) _ c.apply-reply.new.notice c.args.self.now.book _ _ c.apply-reply.result _
     c.next_run.ensures.sound c.apply-reply.ensures.grown c.apply-reply.ensures.told
 
 pub invariant_of-access : goal.invariant_of-access
 invariant_of-access g c =
-    let r = heard (λ (r : Raise). r.lookout) (λ (r : Raise). r.run) _ c.apply-reply.new.notice c.args.self.now.book _ _ c.apply-reply.result _
+    let r = heard (λ (r : Raise). r.watcher) (λ (r : Raise). r.run) _ c.apply-reply.new.notice c.args.self.now.book _ _ c.apply-reply.result _
     c.next_run.ensures.sound c.next_run.ensures.number c.apply-reply.ensures.grown c.apply-reply.ensures.told in
     let t = c.args.access in
     let parts : c.if-is_logged.share.parts ≡ t.parts = elim c.if-is_logged.branch [ then-is_logged w ↦ omega (arith, ap (λ s. s.parts) w.share-is, w.add.ensures.parts, t.of_ledger) | else-is_logged w ↦ omega (arith, ap (λ s. s.parts) w.share-is, t.of_ledger) ] in

@@ -14,18 +14,18 @@ returns-clause-list g c = λ logged. rw (← c.seat.view_is)
 pub invariant_of-seat-2 : goal.invariant_of-seat-2
 invariant_of-seat-2 g c =
     let es = c.seat.inside.log.items in
-    let before : (c.in-Some.access.share.amount ≡ length es) × (c.in-Some.access.lookout.raised ≡ greatest es) =
-    subst (λ o. IfSome o (λ t. (t.share.amount ≡ length es) × (t.lookout.raised ≡ greatest es))) (sym c.in-Some.ensures.value) c.seat.invariant in
-    entered es c.prepare.new.log.items c.list.new.log.items _ _ c.ask-reply.result.0 c.in-Some.access.share.amount _ c.in-Some.access.lookout.raised _
-    c.list.ensures c.prepare.ensures.items c.ask-reply.ensures.amount c.ask-reply.ensures.lookout.raised before.0 before.1
+    let before : (c.in-Some.access.share.amount ≡ length es) × (c.in-Some.access.watcher.raised ≡ greatest es) =
+    subst (λ o. IfSome o (λ t. (t.share.amount ≡ length es) × (t.watcher.raised ≡ greatest es))) (sym c.in-Some.ensures.value) c.seat.invariant in
+    entered es c.prepare.new.log.items c.list.new.log.items _ _ c.ask-reply.result.0 c.in-Some.access.share.amount _ c.in-Some.access.watcher.raised _
+    c.list.ensures c.prepare.ensures.items c.ask-reply.ensures.amount c.ask-reply.ensures.watcher.raised before.0 before.1
 
 pub returns-clause-raised : goal.returns-clause-raised
 returns-clause-raised g c =
     let es = c.seat.inside.log.items in
-    let before : (c.in-Some.access.share.amount ≡ length es) × (c.in-Some.access.lookout.raised ≡ greatest es) =
-    subst (λ o. IfSome o (λ t. (t.share.amount ≡ length es) × (t.lookout.raised ≡ greatest es))) (sym c.in-Some.ensures.value) c.seat.invariant in
-    (entered es c.prepare.new.log.items c.list.new.log.items _ _ c.ask-reply.result.0 c.in-Some.access.share.amount _ c.in-Some.access.lookout.raised _
-    c.list.ensures c.prepare.ensures.items c.ask-reply.ensures.amount c.ask-reply.ensures.lookout.raised before.0 before.1).1
+    let before : (c.in-Some.access.share.amount ≡ length es) × (c.in-Some.access.watcher.raised ≡ greatest es) =
+    subst (λ o. IfSome o (λ t. (t.share.amount ≡ length es) × (t.watcher.raised ≡ greatest es))) (sym c.in-Some.ensures.value) c.seat.invariant in
+    (entered es c.prepare.new.log.items c.list.new.log.items _ _ c.ask-reply.result.0 c.in-Some.access.share.amount _ c.in-Some.access.watcher.raised _
+    c.list.ensures c.prepare.ensures.items c.ask-reply.ensures.amount c.ask-reply.ensures.watcher.raised before.0 before.1).1
 
 pub returns-clause-unlogged : goal.returns-clause-unlogged
 returns-clause-unlogged g c = λ u.
@@ -34,7 +34,7 @@ returns-clause-unlogged g c = λ u.
     let session = c.seat.inside.session in
     let log_is : c.list.new.log.items ≡ es = unlisted _ c.prepare.new.log.items c.list.new.log.items _ u c.list.ensures ∙ c.prepare.ensures.items in
     let quiet = c.ask-reply.ensures.quiet (unlogged_value r u) in
-    let of : Option (ExchangeAccess g.row.L.Denot) → SeatState = λ o. record { exchange = option_map (λ t. t.lookout.word) o; session = session; log = es; seen = option_map_or (λ t. t.lookout.seen) o 0; raised = option_map_or (λ t. t.lookout.raised) o 0; parts = option_map_or (λ t. t.parts) o 0 } in
+    let of : Option (ExchangeAccess g.row.L.Denot) → SeatState = λ o. record { exchange = option_map (λ t. t.watcher.word) o; session = session; log = es; seen = option_map_or (λ t. t.watcher.seen) o 0; raised = option_map_or (λ t. t.watcher.raised) o 0; parts = option_map_or (λ t. t.parts) o 0 } in
     (c.ask-reply.ensures.unlogged u, (λ i. open_seat (quiet i) session (log_is i) (c.ask-reply.ensures.parts i)) ∙ (ap of c.in-Some.ensures.value ∙ c.seat.view_is))
 
 pub returns-clause-history : goal.returns-clause-history

@@ -17,9 +17,9 @@ returns-then-agree g c =
     let len = ap length ns ∙ length-map items closed in
     let agrees : All (LogAgrees h) items = subst (λ l. All (LogAgrees h) l) c.as_slice-2.ensures.value (subst (λ x. All (LogAgrees x) c.as_slice-2.result.now) c.history.ensures.history (c.agree-agree.ensures.0 c.if-agree.true)) in
     let high : All (λ (s : SeatState). greatest s.log ≤ greatest h) items = λ k d below. subst (λ l. greatest l ≤ greatest h) (sym (agrees k d below)) (own_below _ h) in
-    let raised : all.lookout.raised ≤ greatest h = e.raised (greatest h) (subst (λ l. All (λ (s : SeatState). greatest s.log ≤ greatest h) l) (sym same) high) in
-    let seen : All (λ (s : SeatState). s.seen ≤ all.lookout.seen) items = subst (λ l. All (λ (s : SeatState). s.seen ≤ all.lookout.seen) l) same e.seen in
-    let value : c.load.result ≡ all.lookout.raised = c.load.ensures.whole (all.of_word ∙ e.parts) in
+    let raised : all.watcher.raised ≤ greatest h = e.raised (greatest h) (subst (λ l. All (λ (s : SeatState). greatest s.log ≤ greatest h) l) (sym same) high) in
+    let seen : All (λ (s : SeatState). s.seen ≤ all.watcher.seen) items = subst (λ l. All (λ (s : SeatState). s.seen ≤ all.watcher.seen) l) same e.seen in
+    let value : c.load.result ≡ all.watcher.raised = c.load.ensures.whole (all.of_word ∙ e.parts) in
     let total = c.audit.ensures.whole (all.of_ledger ∙ e.parts ∙ sym c.requires.parts) in (
       record {
         all_parts = ap parts_of (sym same) ∙ e.total;

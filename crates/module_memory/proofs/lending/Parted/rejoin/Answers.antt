@@ -1,7 +1,7 @@
 use Rattle.std.proofs.Common.{◌≡◌, ◌∷◌, ◌∙◌, sym, ap, subst, suc, List, All, arith}
 use Rattle.std.specs.Vec.Iter.{into_iter_items}
 use Rattle.batch.specs.Places.{HasPlace}
-use Rattle.module_memory.specs.Lending.{Left, BlockAt, joined}
+use Rattle.module_memory.specs.Lending.{RestView, BlockAt, store_rejoined}
 use Rattle.module_memory.proofs.lending.Parted.rejoin.Goals as goal
 
 pub loop-bay-preserved : goal.loop-bay-preserved
@@ -12,7 +12,7 @@ loop-bay-preserved c =
     let all : All (λ (b : BlockAt). HasPlace c.args.self.rest.store.shape b.place) (bay ∷ more) = subst (λ (xs : List BlockAt). All (λ (b : BlockAt). HasPlace c.args.self.rest.store.shape b.place) xs) e c.loop-bay.invariant.4 in (
       tt,
       tt,
-      ap (λ (s : Left). joined s.store more) c.take_back.ensures ∙ (ap (λ (xs : List BlockAt). joined c.loop-bay.rest.store xs) (sym e) ∙ c.loop-bay.invariant.2),
-      ap (λ (s : Left). s.store.shape) c.take_back.ensures ∙ c.loop-bay.invariant.3,
+      ap (λ (s : RestView). store_rejoined s.store more) c.take_back.ensures ∙ (ap (λ (xs : List BlockAt). store_rejoined c.loop-bay.rest.store xs) (sym e) ∙ c.loop-bay.invariant.2),
+      ap (λ (s : RestView). s.store.shape) c.take_back.ensures ∙ c.loop-bay.invariant.3,
       λ k d l. all (suc k) d (omega arith),
     )

@@ -6,7 +6,7 @@ use Rattle.batch.specs.declared.transfer.Place.{Place}
 use Rattle.batch.specs.Places.{HasPlace}
 use Rattle.module_memory.specs.Store.{IsWhole, Store, set_block, block_of}
 use Rattle.module_memory.specs.Bays.{AreLent}
-use Rattle.module_memory.specs.Lending.{Left, AreCopies, BlockAt, AreLendable, place_in, bays_of, without, joined, Rejoins}
+use Rattle.module_memory.specs.Lending.{RestView, AreCopies, BlockAt, AreLendable, place_in, bays_of, without, store_rejoined, Rejoins}
 use Rattle.module_memory.proofs.PartLaws.{AreLent-parted, shape-without, without_push, block_of-without, off_earlier, joined-without, Rejoins-parted}
 use Rattle.module_memory.proofs.rack.Rack.part.Goals as goal
 
@@ -41,8 +41,8 @@ loop-place-preserved c =
           ∙ ap₂ (λ (xs : List BlockAt) (x : BlockAt). xs ++ x ∷ []) inv.bays bay
           ∙ sym (map_push (λ (q : Place). bay_with q (block_of s q)) front p)
           ∙ ap (bays_of s) (sym next);
-      held = subst (λ (x : Left). AreCopies s c.args.held.now x.held) (sym c.lend.ensures.rest) inv.held;
-      rest = ap (λ (x : Left). x.store) c.lend.ensures.rest
+      held = subst (λ (x : RestView). AreCopies s c.args.held.now x.held) (sym c.lend.ensures.rest) inv.held;
+      rest = ap (λ (x : RestView). x.store) c.lend.ensures.rest
           ∙ ap (λ (t : Store). set_block t p []) inv.rest
           ∙ sym (without_push s front p)
           ∙ ap (without s) (sym next);
@@ -57,7 +57,7 @@ returns-clause-store c =
     let i = c.loop-place.place-index in
     let ps = c.args.places.now in
     let all : take i ps ≡ ps = take_all i ps (omega arith) in
-    ap₂ joined (inv.rest ∙ ap (without c.args.self) all) (inv.bays ∙ ap (bays_of c.args.self) all) ∙ joined-without c.args.self ps h
+    ap₂ store_rejoined (inv.rest ∙ ap (without c.args.self) all) (inv.bays ∙ ap (bays_of c.args.self) all) ∙ joined-without c.args.self ps h
 
 pub returns-clause-rejoins : goal.returns-clause-rejoins
 returns-clause-rejoins c =

@@ -1,6 +1,6 @@
 use Rattle.std.proofs.Common.{refl}
 use Rattle.std.specs.Fmt.{digits}
-use Rattle.schedule_picture.specs.Elements.{link_words}
+use Rattle.schedule_picture.specs.Elements.{link_label}
 use Rattle.schedule_picture.specs.Picture.{changes_words, note_text, shown_words}
 use Rattle.planning_tests.proofs.tests.schedule_picture_rows.the_definitions_say_changes.Goals as goal
 
@@ -13,9 +13,9 @@ unfolding digits changes_words
 returns-clause-more c = refl
 
 pub returns-clause-note : goal.returns-clause-note
-unfolding digits link_words changes_words shown_words note_text
+unfolding digits link_label changes_words shown_words note_text
 returns-clause-note c = refl
 
 pub returns-clause-empty_batch : goal.returns-clause-empty_batch
-unfolding digits link_words changes_words shown_words note_text
+unfolding digits link_label changes_words shown_words note_text
 returns-clause-empty_batch c = refl

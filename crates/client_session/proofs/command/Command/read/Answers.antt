@@ -1,5 +1,0 @@
-use Rattle.std.proofs.Common.{rules}
-use Rattle.client_session.proofs.command.Command.read.Goals as goal
-
-pub returns-in-Some-number_behind-2 : goal.returns-in-Some-number_behind-2
-returns-in-Some-number_behind-2 c = search rules

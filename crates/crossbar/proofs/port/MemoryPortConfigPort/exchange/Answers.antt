@@ -1,5 +1,0 @@
-use Rattle.std.proofs.Common.{rules}
-use Rattle.crossbar.proofs.port.MemoryPortConfigPort.exchange.Goals as goal
-
-pub returns-clause-never_fails : goal.returns-clause-never_fails
-returns-clause-never_fails c = search rules

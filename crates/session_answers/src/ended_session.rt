@@ -1,0 +1,26 @@
+use batch_book::Seat;
+use client_session::ServeFault;
+use std::sync::ledger::Ledger;
+
+/// How the session of a client at a host ended.
+#[derive(Drop)]
+pub enum Ending<C> {
+    /// It didn't begin, since its files couldn't be opened.
+    Unopened,
+    /// It was served.
+    Served {
+        /// The fault that ended it, where one did.
+        fault: Option<ServeFault>,
+        /// What is left of its writer.
+        receipt: C,
+    },
+}
+
+/// A session at a host that has ended.
+#[derive(Drop)]
+pub struct EndedSession<L: Ledger, C> {
+    /// Its seat, which has the list of its calls.
+    pub seat: Seat<L>,
+    /// How it ended.
+    pub ending: Ending<C>,
+}

@@ -1,0 +1,125 @@
+//! The transfers of each pair of links that wait for a setting.
+
+ghost use Rattle.std.specs.Prelude.{◌≡◌, ℕ, ◌+◌, ◌-◌, ◌<◌, ◌≤◌, [], set};
+ghost use Rattle.batch.specs.Batches.{IsBatch};
+ghost use Rattle.batch.specs.declared.limits.TheConstants.{MAX_MODULES, MAX_TRANSFERS};
+ghost use Rattle.link_graph.specs.declared.link.End.{End};
+ghost use Rattle.steady_schedule.specs.Waiting.{pair_index, count_at, waiting, ArePairCounts, AreTold, NoneWait};
+
+use crate::masks::{Masks, with_module, without_module};
+use batch::MAX_MODULES;
+use link_graph::LinkGraph;
+
+/// How many pairs of a link 0 and a link 3 there are.
+pub(crate) const PAIRS: usize = MAX_MODULES * MAX_MODULES;
+
+/// The links of one end.
+#[derive(Drop)]
+pub(crate) struct Side {
+    /// For each link those of the other end with which it has transfers that wait.
+    pub(crate) near: Masks,
+    /// How many transfers of each link wait.
+    pub(crate) uses: [u32; MAX_MODULES],
+}
+
+/// How many transfers of each pair of links wait for a setting.
+#[derive(Drop)]
+pub(crate) struct Remaining {
+    /// Those of link 0 of module u and link 3 of module v are at the place `u * MAX_MODULES + v`.
+    pub(crate) counts: [usize; PAIRS],
+    pub(crate) zero: Side,
+    pub(crate) three: Side,
+    ghost told: { AreTold counts zero.near zero.uses three.near three.uses },
+}
+
+impl Remaining {
+    /// No transfers.
+    fn none() -> Remaining
+        ensures { ArePairCounts [] result.counts }
+    {
+        Remaining {
+            counts: [0; PAIRS],
+            zero: Side {
+                near: [0; MAX_MODULES],
+                uses: [0; MAX_MODULES],
+            },
+            three: Side {
+                near: [0; MAX_MODULES],
+                uses: [0; MAX_MODULES],
+            },
+        }
+    }
+
+    /// All transfers of a graph.
+    pub(crate) fn of(graph: &LinkGraph) -> Remaining
+        requires { IsBatch graph.now }
+        ensures { ArePairCounts graph.now result.counts }
+    {
+        let mut remaining = Remaining::none();
+        for t in 0..graph.len() {
+            let (start, answer) = graph.ends_of(t);
+            remaining.add(start.module, answer.module);
+        }
+        remaining
+    }
+
+    /// How many modules count: no transfer of those from there on waits.
+    pub(crate) fn modules(&self) -> usize
+        ensures within { result ≤ MAX_MODULES }
+        ensures none { NoneWait self.now.counts result }
+    {
+        let mut modules = 0;
+        for module in 0..MAX_MODULES {
+            if self.zero.uses[module] > 0 || self.three.uses[module] > 0 {
+                modules = module + 1;
+            }
+        }
+        modules
+    }
+
+    /// How many transfers of a pair wait.
+    pub(crate) fn count(&self, zero: usize, three: usize) -> usize
+        requires zero_in { zero < MAX_MODULES }
+        requires three_in { three < MAX_MODULES }
+        ensures { result ≡ count_at self.now.counts zero three }
+    {
+        self.counts[zero * MAX_MODULES + three]
+    }
+
+    /// One transfer more waits.
+    fn add(&mut self, zero: usize, three: usize)
+        requires zero_in { zero < MAX_MODULES }
+        requires three_in { three < MAX_MODULES }
+        requires few { (end : End) (m : ℕ) → m < MAX_MODULES
+            → waiting self.old.counts end m < MAX_TRANSFERS }
+        ensures { self.new.counts ≡ set self.old.counts (pair_index zero three)
+            (count_at self.old.counts zero three + 1) }
+    {
+        self.counts[zero * MAX_MODULES + three] += 1;
+        self.zero.uses[zero] += 1;
+        self.three.uses[three] += 1;
+        self.zero.near[zero] = with_module(self.zero.near[zero], three);
+        self.three.near[three] = with_module(self.three.near[three], zero);
+    }
+
+    /// Some transfers of a pair wait no more.
+    pub(crate) fn take(&mut self, zero: usize, three: usize, count: usize)
+        requires zero_in { zero < MAX_MODULES }
+        requires three_in { three < MAX_MODULES }
+        requires some { 0 < count }
+        requires few { count ≤ MAX_TRANSFERS }
+        requires there { count ≤ count_at self.old.counts zero three }
+        ensures { self.new.counts ≡ set self.old.counts (pair_index zero three)
+            (count_at self.old.counts zero three - count) }
+    {
+        let place = zero * MAX_MODULES + three;
+        self.counts[place] -= count;
+        self.zero.uses[zero] -= count as u32;
+        self.three.uses[three] -= count as u32;
+        if self.counts[place] > 0 {
+            return;
+        }
+        self.zero.near[zero] = without_module(self.zero.near[zero], three);
+        self.three.near[three] = without_module(self.three.near[three], zero);
+    }
+}
