@@ -58,12 +58,11 @@ declare -A greatest=(
     [three_by_three]=1.08 [four_by_two]=1.08 [sixteen_by_three]=1.07 [thirty_two_by_two]=1.09
 )
 greatest_growth=5
-# About an eighth more than was estimated, since these were counted without the command line. Where each transfer has a
-# setting of its own, both make and write as many settings, and that is most of the work
+# About an eighth more than was counted last, but no more than a plan. Of a few transfers of one link a steady plan costs more
 declare -A greatest_steady=(
-    [scrambled]=0.58 [scrambled-1024]=0.77 [one_link]=1.08 [one_link-1024]=1.08 [odd]=0.69 [star]=1.08 [two_by_two]=0.61 [part]=1.08
-    [wide]=0.66 [three_by_three]=0.43 [four_by_two]=0.50 [sixteen_by_three]=0.46 [thirty_two_by_two]=0.53 [all_to_all]=0.62
-    [in_rounds]=0.62 [halo]=0.90 [random_16]=0.57 [random_32]=0.67 [random_256]=1.03 [sixty_pairs]=0.60 [gather]=1.06 [butterfly]=0.72
+    [scrambled]=0.53 [scrambled-1024]=0.71 [one_link]=1.00 [one_link-1024]=1.08 [odd]=0.62 [star]=1.00 [two_by_two]=0.53 [part]=1.00
+    [wide]=0.60 [three_by_three]=0.36 [four_by_two]=0.43 [sixteen_by_three]=0.38 [thirty_two_by_two]=0.45 [all_to_all]=0.56
+    [in_rounds]=0.56 [halo]=0.84 [random_16]=0.50 [random_32]=0.60 [random_256]=0.96 [sixty_pairs]=0.54 [gather]=1.00 [butterfly]=0.64
 )
 greatest_steady_growth=4
 
