@@ -28,7 +28,10 @@ impl Unwritten {
             Unwritten::Answer(error) => {
                 let _ = err.writeln(format_args!("exchange: the answer can't be written: {error}"));
             }
-            Unwritten::Setting => tell(b"exchange: a setting that stands can't be told\n", err),
+            Unwritten::Setting => tell_line(
+                b"exchange: a setting that stands can't be told\n",
+                err,
+            ),
             Unwritten::Image(Some(line)) => tell_line(line.as_str().as_bytes(), err),
             Unwritten::Image(None) => {}
         }
