@@ -18,7 +18,7 @@ returns-in-Some-Port-clause-answer g c =
     let t = c.answer_lines.ensures in
     let driven : IsDriveBy c.args.source.now batch schedule c.args.ports t.0 c.in_ok-answer.answer = rw (c.as_slice-text.ensures.value, c.as_slice-schedule.ensures.value) at (rw c.in_ok-answer.was at t.2) in
     let held = schedule_held_later old now c.args.batch.now c.args.source.now c.args.goes_on schedule c.requires c.read_file.ensures.unread c.in_ok-file.ensures.content in
-    (t.0, t.1, (batch, schedule, c.in_ok-held.ensures.held, held, same_answer (λ p. IsDriveBy c.args.source.now batch schedule c.args.ports t.0 p) _ _ c.with_reason.ensures.answer driven))
+    (t.0, t.1, (batch, schedule, c.in_ok-held.ensures.content, held, same_answer (λ p. IsDriveBy c.args.source.now batch schedule c.args.ports t.0 p) _ _ c.with_reason.ensures.answer driven))
 
 pub returns-clause-answer : goal.returns-clause-answer
 returns-clause-answer g c =
@@ -29,4 +29,4 @@ returns-clause-answer g c =
     let t = c.answer_lines.ensures in
     let driven : IsDriveBy c.args.source.now batch schedule c.args.ports t.0 c.in_ok-answer.answer = rw (c.as_slice-text.ensures.value, c.as_slice-schedule.ensures.value) at (rw c.in_ok-answer.was at t.2) in
     let held = schedule_held_later old now c.args.batch.now c.args.source.now c.args.goes_on schedule c.requires c.read_file.ensures.unread c.in_ok-file.ensures.content in
-    (t.0, t.1, (batch, schedule, c.in_ok-held.ensures.held, held, same_answer (λ p. IsDriveBy c.args.source.now batch schedule c.args.ports t.0 p) _ _ c.with_texts.ensures.answer driven))
+    (t.0, t.1, (batch, schedule, c.in_ok-held.ensures.content, held, same_answer (λ p. IsDriveBy c.args.source.now batch schedule c.args.ports t.0 p) _ _ c.with_texts.ensures.answer driven))
