@@ -8,7 +8,7 @@ sys.path.insert(0, f"{TOP}/tools/hostile")
 
 import switching  # noqa: E402
 
-ENQUIRE = 2
+ENQUIRE, RESET = 2, 4
 PORTS = {**switching.PORTS, ENQUIRE: 1}
 
 # The commands that join and cut.

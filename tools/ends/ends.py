@@ -15,7 +15,7 @@ import subprocess
 import sys
 import time
 
-from chip import ENQUIRE, PORTS, TOP, Chip
+from chip import ENQUIRE, PORTS, RESET, TOP, TURNS, Chip
 from far import Far, Pipes, Pty, Tee
 
 sys.path.insert(0, f"{TOP}/tools/hosts")
@@ -170,6 +170,135 @@ def a_pty_and_c004():
     yield heard, wanted
 
 
+# ---- a board of another wiring
+
+
+# The wiring that the help of `switch` and docs/SWITCHES.md show.
+BOARD = "wiring 3\nmodule 0 link 0 at 4 link 3 at 21\nmodule 1 link 0 at 5 link 3 at 22\nmodule 2 link 0 at 11 link 3 at 0\n"
+
+
+def write_board(text=BOARD):
+    """Writes a wiring, and gives the words that name it."""
+    with open("board", "w") as file:
+        file.write(text)
+    return "--wiring", "board"
+
+
+def board_text(links):
+    """The wiring of modules that are on these links, two each."""
+    lines = [f"module {m} link 0 at {link0} link 3 at {link3}\n" for m, (link0, link3) in enumerate(links)]
+    return f"wiring {len(links)}\n{''.join(lines)}"
+
+
+def sent_by(wiring, batch):
+    """What the switch of a board is to be sent, by the second implementation, for each setting."""
+    transfers, settings = plan_of(batch)
+    return [bytes(sent) + ASKED for _, _, [(_, sent)] in switching.told(transfers, settings, wiring)]
+
+
+def touched(sent):
+    """The links that commands join or cut behind the first, which is a reset. Another reset cuts all."""
+    links, left = set(), list(sent[1:])
+    while left:
+        byte = left.pop(0)
+        named = [left.pop(0) for _ in range(PORTS[byte])]
+        links |= set(range(32) if byte == RESET else named if byte in TURNS else [])
+    return links
+
+
+def boards():
+    """Each example that one switch does for, on a board whose modules are on links in some order."""
+    chance = random.Random(52)
+    for batch in batches():
+        transfers, settings = plan_of(batch)
+        if switching.switches_for(transfers) != [""]:
+            continue
+        modules = 1 + max((it for transfer in transfers for it in (transfer[1], transfer[3])), default=0)
+        links = chance.sample(range(32), 2 * chance.randint(modules, 16))
+        wiring = list(zip(links[::2], links[1::2]))
+        options = write_board(board_text(wiring))
+        wanted = sent_by(wiring, batch)
+        chip = Far(Pipes("port"))
+        yield (batch, drive(batch, "port", *options, "--go-on")), (batch, all_driven(lines_for(batch)))
+        yield (batch, chip.heard()), (batch, (b"".join(wanted), []))
+        yield (batch, sent_for(batch, *options)), (batch, [wanted])
+        put_away("port")
+
+
+def a_board_at_c004():
+    """The board of the documents, with `c004` behind pipes and behind a pty, by each kind of schedule."""
+    options = write_board()
+    for make in Pipes, Pty:
+        for more in (), ("--steady",), ("--schedule", f"{EXAMPLES}/one-at-a-time.plan.txt"):
+            (ended, heard), wanted = driven_at_c004(THREE, "--go-on", *options, *more, make=make)
+            lines = [f"setting {n} {n}" for n in range(3)] if "--schedule" in more else lines_for(THREE, *more)
+            yield (more, ended), (more, all_driven(lines))
+            yield (more, heard), (more, wanted)
+            yield touched(heard[0][0]) <= {4, 21, 5, 22, 11, 0}, True
+            put_away("port0")
+
+
+def the_usual_board():
+    """The usual wiring, written as one: the bytes are those without it, and so is where a switch that
+    lies is found out."""
+    options = write_board(board_text(switching.USUAL))
+    for batch in THREE, f"{EXAMPLES}/patterns/halo.txt":
+        yield sent_for(batch, *options), sent_for(batch)
+        chip = Far(Pipes("port"))
+        yield drive(batch, "port", *options, "--go-on"), all_driven(lines_for(batch))
+        yield chip.heard(), (b"".join(sent_for(batch)[0]), [])
+        put_away("port")
+
+
+def lies_on_a_board():
+    """A switch of a board that lies once: the output that is named is the switch's, also one that no
+    module is on."""
+    yield from lies_at(THREE, *write_board())
+
+
+def left_alone():
+    """Outputs that no module is on: what they had before is reset at first, and nothing turns them
+    later. What feeds one then stops the setting behind."""
+    options = write_board()
+    chip = Far(Pipes("port"))
+    chip.chip.switch.obey(1, [9, 30])
+    yield drive(THREE, "port", *options, "--go-on"), all_driven(lines_for(THREE))
+    yield touched(chip.heard()[0]) <= {4, 21, 5, 22, 11, 0}, True
+    yield chip.chip.switch.inputs, {0: 4, 4: 0}
+    put_away("port")
+    chip = Far(Pipes("port"))
+    process = start_drive(THREE, "port", *options)
+    yield process.stdout.readline(), b"setting 0 0 2\n"
+    chip.chip.switch.obey(0, [3, 30])
+    yield end_of(process, b"\n"), (["stopped setting 1 switch 30"], 1)
+
+
+def refuses_boards():
+    """Wirings that are refused, as by `switch`, and batches that name a module without one. A board has
+    one switch, so two ports are refused, also where both could be opened: nothing is sent, and pipes
+    with nobody at their other ends aren't opened. Nothing is made."""
+    for text in "", "wiring 0\n", "wiring 17\n", BOARD[:-1], BOARD.replace("22", "5"), BOARD.replace("22", "32"), BOARD + "\n":
+        options = write_board(text)
+        line, status = first_line(THREE, "none", *options)
+        yield (line.startswith("refused wiring line "), status), (True, 1)
+        yield (text, (line, status)), (text, first_of(ask("switch", THREE, *options)))
+    options = write_board("wiring 2\nmodule 0 link 0 at 4 link 3 at 21\nmodule 1 link 0 at 5 link 3 at 22\n")
+    yield first_line(THREE, "none", *options), ("refused no module 1", 1)
+    yield first_line(WIDE, "none", "none", *options), ("refused no module 0", 1)
+    options = write_board()
+    for name in "one", "two":
+        open(name, "wb").close()
+    yield first_line(THREE, "one", "two", *options), ("refused ports 1", 1)
+    yield [os.path.getsize(name) for name in ("one", "two")], [0, 0]
+    ways = Pipes("port"), Pipes("port_b")
+    yield first_line(THREE, *(way.port for way in ways), *options), ("refused ports 1", 1)
+    put_away("one", "two", *(way.port for way in ways))
+    yield first_line(THREE, "none", *options), ("refused port a", 1)
+    yield drive(THREE, "none", "--wiring", "-")[1], 2
+    yield drive(THREE, "none", "--wiring", "nowhere", "--go-on")[0][0], "refused file"
+    yield sorted(os.listdir(".")), ["board"]
+
+
 # ---- lines of input
 
 
@@ -212,6 +341,29 @@ def input_ends():
         yield (given, drive(THREE, "port", given=given)), (given, ended)
         yield (given, chip.heard()), (given, (sent, []))
         put_away("port")
+
+
+def no_line_comes():
+    """Input that has no line and doesn't end: nothing is sent or told for two seconds, whatever
+    comes without a line feed. Then it is killed."""
+    chip = Far(Pipes("port"))
+    first = sent_for(THREE)[0][0]
+    process = start_drive(THREE, "port")
+    yield process.stdout.readline(), b"setting 0 0 2\n"
+    for _ in range(20):
+        process.stdin.write(b"no line feed " * 200)
+        process.stdin.flush()
+        time.sleep(0.1)
+        yield bytes(chip.sent), first
+        yield process.poll(), None
+    yield stopped_waiting(process), ([], -signal.SIGKILL)
+    yield chip.heard(), (first, [])
+
+
+def stopped_waiting(process):
+    """The lines that a program has printed that waits and is killed, and how it ended."""
+    process.kill()
+    return end_of(process)
 
 
 def batch_on_input():
@@ -295,30 +447,53 @@ def stopped(batch, number, why):
     return lines_for(batch)[:number] + [f"stopped setting {number} {why}"], 1
 
 
-def true_answers(batch):
-    """What a switch answers to each enquiry of the settings of a batch."""
-    chip, answers = Chip(), []
-    for byte in b"".join(sent_for(batch)[0]):
-        answer = chip.take(byte)
-        if answer is not None:
-            answers.append(answer)
-    return answers
+def true_answers(sent):
+    """What a switch answers to each enquiry of what it is sent for each setting."""
+    chip = Chip()
+    return [it for it in map(chip.take, b"".join(sent)) if it is not None]
+
+
+def lie_for(number, answer):
+    """Another answer to the enquiry of this number: of a loose output that it has an input, or what
+    no switch says; of another that it is loose, or that it has another input."""
+    if answer < 0x80:
+        return [0x80 | number % 32, 0xFF, 0xA0][number % 3]
+    return [0x00, answer & 0x1F, answer ^ 1, answer | 0x20][number % 4]
+
+
+def wide_batch():
+    """A batch of two settings for two switches."""
+    write_batch("wide", [(16, 0), (16, 1), (2, 17)])
+    return "wide"
+
+
+def lies_at(batch, *options):
+    """A switch that lies once, at each output of each setting, and of two each in turn."""
+    wanted = sent_for(batch, *options)
+    for which, sent in enumerate(wanted):
+        for number, answer in enumerate(true_answers(sent)):
+            lie = {number: lie_for(number, answer)}
+            chips = [Far(Pipes(f"port{n}"), lies=lie if n == which else None) for n in range(len(wanted))]
+            ended = drive(batch, *(chip.way.port for chip in chips), *options, "--go-on")
+            output = number % 32 + 32 * which
+            yield (which, number, ended), (which, number, stopped(batch, number // 32, f"switch {output}"))
+            yield [chip.heard()[1] for chip in chips], [[] for _ in wanted]
+            put_away("port0", "port1")
 
 
 def lies():
-    """A switch that lies once, at each output of each setting: of a loose one that it has an input,
-    or what no switch says; of another that it is loose, or that it has another input."""
-    for number, answer in enumerate(true_answers(THREE)):
-        lie = [0x80 | number % 32, 0xFF, 0xA0][number % 3] if answer < 0x80 else [0x00, answer & 0x1F, answer ^ 1, answer | 0x20][number % 4]
-        chip = Far(Pipes("port"), lies={number: lie})
-        yield (number, drive(THREE, "port", "--go-on")), (number, stopped(THREE, number // 32, f"switch {number % 32}"))
-        yield chip.heard()[1], []
-        put_away("port")
+    """One switch."""
+    yield from lies_at(THREE)
+
+
+def two_lie():
+    """Two switches."""
+    yield from lies_at(wide_batch())
 
 
 def is_loose():
     """Of an answer whose top bit is 0 nothing else is read: the output is loose."""
-    loose = [number for number, answer in enumerate(true_answers(THREE)) if answer < 0x80]
+    loose = [number for number, answer in enumerate(true_answers(sent_for(THREE)[0])) if answer < 0x80]
     chip = Far(Pipes("port"), lies={number: 1 + 2 * number for number in loose})
     yield drive(THREE, "port", "--go-on"), all_driven(lines_for(THREE))
     yield chip.heard()[1], []
@@ -332,6 +507,25 @@ def dies_at_pipes():
         yield (count, drive(THREE, "port", "--go-on")), (count, stopped(THREE, int(count > len(first)), "port"))
         yield chip.heard(), ((first + second)[:count], [])
         put_away("port")
+
+
+def one_of_two_dies():
+    """The same with two switches, each in turn. The other one has heard no byte of a later setting."""
+    batch = wide_batch()
+    wanted = sent_for(batch)
+    for which, (first, second) in enumerate(wanted):
+        for count in range(len(first + second) + 1):
+            chips = [Far(Pipes(f"port{n}"), dies=count if n == which else None) for n in range(2)]
+            number = int(count > len(first))
+            yield (which, count, drive(batch, "port0", "port1", "--go-on")), (which, count, stopped(batch, number, "port"))
+            heard, early = chips[which].heard()
+            yield (heard, early), ((first + second)[:count], [])
+            heard, early = chips[1 - which].heard()
+            before = b"".join(wanted[1 - which][:number])
+            yield heard[: len(before)], before
+            yield b"".join(wanted[1 - which][: number + 1]).startswith(heard), True
+            yield early, []
+            put_away("port0", "port1")
 
 
 def dies_at_a_pty():
@@ -364,9 +558,38 @@ def at_a_pty():
 def is_silent():
     """A switch that answers nothing, at a pty whose reads end by themselves: it is sent one
     enquiry."""
-    chip = Far(Pty("port", ["min", "0", "time", "2"]), is_silent=True)
+    chip = Far(Pty("port", ["raw", "-echo", "min", "0", "time", "2"]), is_silent=True)
     yield drive(THREE, "port", "--go-on"), stopped(THREE, 0, "port")
     yield chip.heard(), (sent_for(THREE)[0][0][:10], [])
+
+
+def keeps_lines():
+    """A pty that keeps what comes until a line feed, with and without sending it back to the
+    switch, and with reads that would end if it were raw: `drive` waits, as docs/SWITCHES.md says. It
+    has sent one enquiry and told nothing, and is killed."""
+    asked = sent_for(THREE)[0][0][:10]
+    for modes, sent in [
+        (["echo"], asked + b"\x91"),
+        (["-echo"], asked),
+        (["-echo", "min", "0", "time", "2"], asked),
+    ]:
+        chip = Far(Pty("port", modes))
+        process = start_drive(THREE, "port", "--go-on")
+        time.sleep(1)
+        yield process.poll(), None
+        yield bytes(chip.sent), sent
+        yield stopped_waiting(process), ([], -signal.SIGKILL)
+        yield chip.heard()[0], sent
+        put_away("port")
+
+
+def alters_bytes():
+    """A pty that is raw but for a carriage return that it puts before each line feed, which byte 0a
+    is: the switch joins output 13 in place of 10, and is asked for that."""
+    write_batch("batch", [(10, 0)])
+    chip = Far(Pty("port", ["raw", "-echo", "opost", "onlcr"]))
+    yield drive("batch", "port", "--go-on"), stopped("batch", 0, "switch 10")
+    yield chip.heard()[0], sent_for("batch")[0][0].replace(b"\x0a", b"\x0d\x0a")
 
 
 def at_a_file():
@@ -435,29 +658,72 @@ def output_is_full():
     yield chip.heard(), (sent_for(THREE)[0][0], [])
 
 
-def no_memory():
-    """Each growth of memory refused in turn, alone and with all later ones: nothing is sent, or all
-    is as ever."""
-    wanted, sent = all_driven(lines_for(THREE)), b"".join(sent_for(THREE)[0])
+def refusing(which):
+    """The environment in which these growths of memory are refused, as refuse.c reads it."""
+    return {"LD_PRELOAD": os.environ["REFUSE_SO"], "REFUSE": which, "REFUSE_LOG": "log"}
+
+
+def were_refused():
+    """Whether one was refused."""
+    with open("log") as file:
+        return int(file.read().split()[1]) > 0
+
+
+def growths():
+    """Each growth in turn, alone and with all later ones, until none is refused."""
     for later in "", "+":
-        number, found, refused = 0, [], 1
-        while refused:
+        number, is_refused = 0, True
+        while is_refused:
             number += 1
-            chip = Far(Pipes("port"))
-            env = {"LD_PRELOAD": os.environ["REFUSE_SO"], "REFUSE": f"{number}{later}", "REFUSE_LOG": "log"}
-            ended = end_of(start([EXCHANGE, "drive", THREE, "port", "--go-on"], stdin=subprocess.DEVNULL, env=env))
-            with open("log") as file:
-                refused = int(file.read().split()[1])
-            if ended == wanted:
-                found.append("as ever")
-                yield chip.heard(), (sent, [])
-            else:
-                found.append("no memory")
-                yield ended, (["refused no memory"], 1)
-                yield bytes(chip.sent), b""
-            put_away("port")
-        yield found[0], "no memory"
-        yield found[-1], "as ever"
+            yield refusing(f"{number}{later}")
+            is_refused = were_refused()
+
+
+def drives_without_memory(batch, lines, *options):
+    """A `drive` with each growth of memory refused in turn: nothing is sent, or all is as ever."""
+    wanted, found = all_driven(lines), []
+    sent = [b"".join(settings) for settings in sent_for(batch, *options)]
+    for env in growths():
+        chips = [Far(Pipes(f"port{n}")) for n in range(len(sent))]
+        words = [EXCHANGE, "drive", batch, *(chip.way.port for chip in chips), *options, "--go-on"]
+        ended = end_of(start(words, stdin=subprocess.DEVNULL, env=env))
+        if ended == wanted:
+            found.append("as ever")
+            yield [chip.heard() for chip in chips], [(it, []) for it in sent]
+        else:
+            found.append("no memory")
+            yield ended, (["refused no memory"], 1)
+            yield [chip.heard_of_nobody() for chip in chips], [(b"", []) for _ in sent]
+        put_away("port0", "port1")
+    yield found[0], "no memory"
+    yield found[-1], "as ever"
+
+
+def no_memory():
+    """Of a plan."""
+    yield from drives_without_memory(THREE, lines_for(THREE))
+
+
+def no_memory_steady():
+    """Of a steady plan."""
+    yield from drives_without_memory(THREE, lines_for(THREE, "--steady"), "--steady")
+
+
+def no_memory_schedule():
+    """Of a schedule that a file has."""
+    options = "--schedule", f"{EXAMPLES}/one-at-a-time.plan.txt"
+    yield from drives_without_memory(THREE, [f"setting {n} {n}" for n in range(3)], *options)
+
+
+def no_memory_on_a_board():
+    """Of a board."""
+    yield from drives_without_memory(THREE, lines_for(THREE), *write_board())
+
+
+def no_memory_two_ports():
+    """Of two switches."""
+    batch = wide_batch()
+    yield from drives_without_memory(batch, lines_for(batch))
 
 
 # ---- `c004`
@@ -495,6 +761,21 @@ def chip_ends():
 
 def drive_status(*words):
     return ask(*words)[1]
+
+
+def c004_no_memory():
+    """A `c004` with each growth of memory refused in turn: it answers nothing, or all as ever."""
+    text, wanted, found = b"\x01\x03\x11\x02\x11\x2a\x02\x03", (b"\x83\x91", 0), []
+    told = b"exchange: standard input: byte 6 is 2a; commands begin with 00 to 06\n"
+    for env in growths():
+        run = subprocess.run([EXCHANGE, "c004"], input=text, capture_output=True, timeout=10, env=env)
+        found.append("as ever" if (run.stdout, run.returncode) == wanted else "no memory")
+        if found[-1] == "as ever":
+            yield run.stderr, told
+        else:
+            yield (run.stdout, run.stderr, run.returncode), (b"refused no memory\n", b"", 1)
+    yield found[0], "no memory"
+    yield found[-1], "as ever"
 
 
 def command(chance):
@@ -539,9 +820,11 @@ def texts():
 
 
 CASES = [
-    examples, many_settings, other_schedules, a_pty_and_c004, hears_in_order, input_ends, batch_on_input, is_late, forgets, lies, is_loose,
-    dies_at_pipes, dies_at_a_pty, says_too_much, at_a_pty, is_silent, at_a_file, refuses, output_is_full, no_memory, answers_at_once, chip_ends,
-    texts,
+    examples, many_settings, other_schedules, a_pty_and_c004, hears_in_order, input_ends, no_line_comes, batch_on_input, is_late, forgets,
+    lies, two_lie, is_loose, dies_at_pipes, one_of_two_dies, dies_at_a_pty, says_too_much, at_a_pty, is_silent, keeps_lines, alters_bytes,
+    at_a_file, refuses, output_is_full, no_memory, no_memory_steady, no_memory_schedule, no_memory_two_ports, no_memory_on_a_board,
+    answers_at_once, chip_ends,
+    c004_no_memory, texts, boards, a_board_at_c004, the_usual_board, lies_on_a_board, left_alone, refuses_boards,
 ]  # fmt: skip
 
 

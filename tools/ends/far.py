@@ -36,14 +36,14 @@ class Pipes:
 
 
 class Pty:
-    """A pty that is set raw by `stty`. `modes` are more of its words."""
+    """A pty that is set by `stty` with these words, which make it raw where none are given."""
 
-    def __init__(self, name, modes=()):
+    def __init__(self, name, modes=("raw", "-echo")):
         self.far, near = os.openpty()
         self.near = [near]
         os.symlink(os.ttyname(near), name)
         self.port = name
-        subprocess.run(["stty", "-F", name, "raw", "-echo", *modes], check=True)
+        subprocess.run(["stty", "-F", name, *modes], check=True)
 
     def open(self):
         self.read = self.write = self.far
@@ -80,10 +80,12 @@ class Far(threading.Thread):
         self.chip.forgets = forgets
         self.lies, self.dies, self.waits, self.adds, self.is_silent, self.piece = lies or {}, dies, waits, adds or {}, is_silent, piece
         self.sent, self.enquiries, self.early = bytearray(), 0, []
+        self.is_open = threading.Event()
         self.start()
 
     def run(self):
         self.way.open()
+        self.is_open.set()
         try:
             while self.dies is None or len(self.sent) < self.dies:
                 most = self.piece if self.dies is None else self.dies - len(self.sent)
@@ -124,6 +126,15 @@ class Far(threading.Thread):
         self.way.finish()
         self.join(10)
         return bytes(self.sent), self.early
+
+    def heard_of_nobody(self):
+        """The same of named pipes whose other ends nobody may have opened: they are opened and
+        closed here, so that the switch comes to its end."""
+        ends = [os.open(f"{self.way.port}.{way}", os.O_RDWR) for way in ("in", "out")]
+        self.is_open.wait(10)
+        for end in ends:
+            os.close(end)
+        return self.heard()
 
 
 class Tee(threading.Thread):

@@ -1,11 +1,11 @@
 #!/usr/bin/env python3
-"""Sixteen clients at once on one exchange, and its history judged afterwards.
+"""Sixteen clients at once on one exchange, and its record judged afterwards.
 
     clients.py [ROUNDS]         so many rounds, 200 where it isn't said
 
-In each round sixteen random scripts are served side by side, and the history of the closed exchange is printed. A second exchange,
-plain Python, replays it and has to give each reply. Each session has to have been told the replies of its own entries, in order, and
-each reading lies between what its seat had seen and what the history allows at that place.
+In each round sixteen random scripts are served side by side, with a record and the image that they leave. Plain Python replays the record,
+and has to come to the image; so has `replay`. Each session has to have been told the replies of its own entries, in order, and each reading
+lies between what its seat had seen and what the record allows at that place.
 """
 
 import multiprocessing
@@ -18,94 +18,46 @@ from collections import Counter
 import plain
 import spoil
 from plain import Refused
-from program import TOP, ask
+from program import ask
+from records import Replay
 from sessions import COMMANDS, Exchange, Session
 
-CALLS = f"{TOP}/crates/hostile_use/out/hostile_use"
 CLIENTS = 16
 STEP = 8192
-
-
-def transfers_of(words):
-    """The transfers that words spell, five to each."""
-    return [(words[at], *(int(n) for n in words[at + 1 : at + 5])) for at in range(0, len(words), 5)]
-
-
-def spelled(transfers):
-    return "".join(" {} {} {} {} {}".format(*transfer) for transfer in transfers)
-
-
-def replayed(exchange, session, words):
-    """The reply that an exchange gives to a call of the history."""
-    what, rest = words[0], words[1:]
-    if what == "submit":
-        return f"accepted {exchange.submit(session, transfers_of(rest))}"
-    if what == "peek":
-        return f"word {exchange.peek(int(rest[0]), int(rest[1], 16)):08x}"
-    if what == "poke":
-        exchange.poke(int(rest[0]), int(rest[1], 16), int(rest[2], 16))
-        return "poked"
-    number = int(rest[0])
-    if what == "run":
-        return "ran {} {} {}".format(*exchange.run(session, number))
-    batch = exchange.batch(session, number)
-    if what == "fetch":
-        return f"fetched{spelled(batch['transfers'])}"
-    if what == "show":
-        return f"shown {len(batch['transfers'])} {batch['state']}"
-    if what == "drop":
-        del exchange.batches[number]
-        return "dropped"
-    if transfers_of(rest[1:]) != batch["transfers"]:
-        raise Refused("stranger")
-    if batch["state"] != "waiting":
-        raise Refused("already")
-    batch["state"] = "planned"
-    return f"settled {len(plain.busiest(batch['transfers'])[1])}"
 
 
 def value_of(reply):
     """What the progress word is at least behind a reply: that of a run which completed."""
     words = reply.split()
-    return STEP * int(words[1]) + int(words[2]) if words[0] == "ran" else 0
+    return STEP * int(words[3]) + int(words[5]) if words[0] == "ran" else 0
 
 
 class History:
-    """The entries of a history, each (session, words of the call, reply), which have been replayed."""
+    """The entries of a record, each (session, the call's text, reply), and how far its runs had come before each."""
 
-    def __init__(self, shape, lines):
-        exchange, self.entries = Exchange(shape), []
-        for line in lines:
-            asked, _, reply = line.partition(" -> ")
-            session, *words = asked.split()
-            try:
-                wanted = replayed(exchange, int(session), words)
-            except Refused as why:
-                wanted = f"refused {why}"
-            if wanted != reply:
-                raise AssertionError(f"the history has {line!r}, where {wanted!r} is to be replied")
-            self.entries.append((int(session), words, reply))
-        values = [value_of(reply) for _, _, reply in self.entries]
+    def __init__(self, entries):
+        self.entries = entries
+        values = [value_of(reply) for _, _, reply in entries]
         self.greatest = [max([0, *values[:at]]) for at in range(len(values) + 1)]
 
     def of(self, session):
-        """The entries of a session, each with its place in the history."""
-        return [(at, words, reply) for at, (owner, words, reply) in enumerate(self.entries) if owner == session]
+        """The entries of a session, each with its place in the record."""
+        return [(at, call, reply) for at, (owner, call, reply) in enumerate(self.entries) if owner == session]
 
 
 class Part:
-    """What a session was told, beside its part of the history."""
+    """What a session was told, beside its part of the record."""
 
     def __init__(self, history, number, shape, script, told):
         self.history, self.left, self.told = history, history.of(number), told
         self.reader = Session(Exchange(shape), number, script)
         self.shape, self.seen, self.readings = shape, 0, 0
 
-    def entry(self, *words):
+    def entry(self, call):
         """The reply of the session's next entry, which is that of this call."""
         _, found, reply = self.left.pop(0)
-        if found[: len(words)] != list(words):
-            raise AssertionError(f"the history has {found}, and the session asked {words}")
+        if found != call:
+            raise AssertionError(f"the record has {found!r}, and the session asked {call!r}")
         self.seen = max(self.seen, value_of(reply))
         return reply
 
@@ -137,18 +89,9 @@ class Part:
         if words[0] == "batch":
             return self.batch(words[1])
         if words[0] == "plan":
-            fetched = self.entry("fetch", words[1])
-            if fetched.startswith("refused "):
-                return fetched
-            settled = self.entry("settle", words[1])
-            return settled if settled.startswith("refused ") else f"planned {words[1]} settings {settled.split()[1]}"
-        reply = self.entry(*words)
-        rest = reply.split()
-        if rest[0] == "ran":
-            return f"ran {words[1]} run {rest[1]} settings {rest[2]} words {rest[3]} bits {117 * int(rest[3])}"
-        if rest[0] == "shown":
-            return f"batch {words[1]} transfers {rest[1]} {rest[2]}"
-        return f"dropped {words[1]}" if rest[0] == "dropped" else reply
+            fetched = self.entry(f"fetch {words[1]}\n")
+            return self.entry(f"settle {words[1]}\n") if fetched == "fetched" else fetched
+        return self.entry(" ".join(words) + "\n")
 
     def batch(self, count):
         if int(count) > plain.TRANSFERS:
@@ -156,11 +99,12 @@ class Part:
         lines = [self.reader.line(True) for _ in range(int(count))]
         if None in lines:
             return None
+        text = b"".join(line + b"\n" for line in [b"batch " + count.encode(), *lines])
         try:
-            transfers = plain.read_batch(b"".join(line + b"\n" for line in [b"batch " + count.encode(), *lines]), self.shape)
+            plain.read_batch(text, self.shape)
         except Refused as why:
             return f"refused {why}"
-        return self.entry("submit", *spelled(transfers).split())
+        return self.entry(text.decode())
 
     def judge(self):
         """Compares all that the session was told with what it read and with its entries."""
@@ -182,15 +126,35 @@ class Part:
 
 
 def parts_of(text):
-    """What each session was told, by its number, and the lines of the history."""
-    told, history = text.split("history\n", 1)
+    """What each session was told, by its number."""
     parts = {}
-    for line in told.splitlines():
+    for line in text.splitlines():
         if line.startswith("session "):
             lines = parts.setdefault(int(line.split()[1]), [])
         else:
             lines.append(line)
-    return parts, history.splitlines()
+    return parts
+
+
+def read(name):
+    with open(name, "rb") as file:
+        return file.read()
+
+
+def judge_round(shape, scripts, answer, room):
+    """Judges what the sessions were told, their record and their image: the entries, and how many readings there were."""
+    replay = Replay(shape, read(f"{room}/record"))
+    if replay.exchange.image() != read(f"{room}/left"):
+        raise AssertionError("the record leads to another image")
+    again = ask("replay", "{}x{}x{}".format(*shape), f"{room}/record")
+    if (again.out, again.status) != (read(f"{room}/left"), 0):
+        raise AssertionError(f"`replay` leads to another image: {again.err!r}, status {again.status}")
+    told, history, readings = parts_of(answer.out.decode()), History(replay.entries), 0
+    for session, script in enumerate(scripts):
+        part = Part(history, session, shape, script, told[session])
+        part.judge()
+        readings += part.readings
+    return replay.entries, readings
 
 
 def try_round(number):
@@ -203,19 +167,13 @@ def try_round(number):
         for name, script in zip(names, scripts):
             with open(name, "wb") as file:
                 file.write(script)
-        answer = ask("clients", "{}x{}x{}".format(*shape), *names, program=CALLS)
-    replies, readings = Counter(), 0
-    try:
-        told, lines = parts_of(answer.out.decode())
-        history = History(shape, lines)
-        replies.update(reply.split()[0] for _, _, reply in history.entries)
-        for session, script in enumerate(scripts):
-            part = Part(history, session, shape, script, told[session])
-            part.judge()
-            readings += part.readings
-    except Exception as why:
-        return replies, readings, f"round {number}: {why!r}: {answer.err!r}, status {answer.status}"
-    return replies, readings, None
+        kept = ["--record", f"{room}/record", "--image-out", f"{room}/left", "--workers", "2"]
+        answer = ask("serve", "{}x{}x{}".format(*shape), *names, *kept)
+        try:
+            entries, readings = judge_round(shape, scripts, answer, room)
+        except Exception as why:
+            return Counter(), 0, f"round {number}: {why!r}: {answer.err!r}, status {answer.status}"
+    return Counter(reply.split()[0] for _, _, reply in entries), readings, None
 
 
 def main():

@@ -7,8 +7,9 @@ Command lines: the Nth growth of a whole run of the program is refused, and then
 meets no refusal. Each time the program prints what it prints with memory, which the rows hold, or the one line `refused no memory`; a
 session is told `refused no memory`, and all else as if that command weren't. The line on standard error beside a refusal may be left out, or
 what it says of how many settings are enough. A help may say that the program is in this folder, where it is called by its name alone. Then each start of a thread is refused, which changes no
-answer. Of `host` a session may also end for want of memory, and without threads nobody is served, and no file is made. A file is the
-standard input. Beside command lines stands which calls of the libraries they make.
+answer. Of `host` a session may also end for want of memory, and without threads nobody is served, and no file is made. An image that is left is
+that of the words behind what sessions were told, or its file is as it was. A file is the standard input. Beside command lines stands which
+calls of the libraries they make.
 
 Calls: `hostile_use NAME` makes a call that the program doesn't make, or that is handed a rack, on its worked row, between two marks. The same is
 done with the growths between them. Each time the answer is want of memory, with all that was lent as before, or the row's own answer. A call whose
@@ -22,6 +23,8 @@ import sys
 import tempfile
 from collections import Counter, namedtuple
 
+import plain
+import records
 import sessions
 from program import EXCHANGE, TOP, ask
 
@@ -40,10 +43,20 @@ REFUSALS = (
     "plan 1\nbatch 1\npush 0 0 1 0\nrun 1\nplan 1\nplan 1\nshow 1\nrun 1\nrun 1\ndrop 1\nshow 1\n"
     "peek 2 80000800\npeek 0 80000801\npeek 0 80000000\nhello\n"
 )
+RECORD = (
+    "record 8\n0 poke 1 80000808 000000ff\npoked\n0 batch 1\npull 0 0 1 1\naccepted 1\n0 fetch 1\nfetched\n0 settle 1\nplanned 1 settings 1\n"
+    "0 run 1\nran 1 run 1 settings 1 words 2 bits 234\n0 peek 0 80000800\nword 000000ff\n1 show 1\nrefused unknown\n"
+    "1 peek 1 80000800\nword 00000000\n"
+)
 PUSHES = TWO_PUSHES + "plan 1\nrun 1\nprogress\npeek 1 80000804\npeek 2 80000800\n"
 # An image of 3x2x2, and moves that are directed both ways.
 IMAGE = "".join(map(chr, range(48)))
 MOVES = "moves 3\nmove 0 0 1 0\nmove 0 1 1 1\nmove 1 2 1 3\n"
+# Wirings: of three modules, and of two.
+BOARD = "wiring 3\nmodule 0 link 0 at 4 link 3 at 21\nmodule 1 link 0 at 5 link 3 at 22\nmodule 2 link 0 at 11 link 3 at 0\n"
+SMALL = "wiring 2\nmodule 0 link 0 at 4 link 3 at 21\nmodule 1 link 0 at 5 link 3 at 22\n"
+# What stands in a file before an image goes there.
+OLDER = b"older words"
 # What a session sees of the words that two pushes write, of batch 1 and of runs.
 LOOK = "peek 1 80000800\npeek 1 80000804\npeek 2 80000800\npeek 2 80000804\nshow 1\nprogress\n"
 # Each call of a book and its exchange, as the command that makes it, and how many calls that command makes before it.
@@ -75,8 +88,9 @@ def asked_twice():
 FILES = {
     "three": THREE_TRANSFERS, "two": TWO_PUSHES, "nine": NINE, "schedule": SCHEDULE, "long": LONG, "each": EACH, "wrong": "batch 01\n",
     "script": SCRIPT, "other": "show 1\n", "refusals": REFUSALS,
-    "pushes": PUSHES, "swap": SWAP, "wide": WIDE, "image": IMAGE, "moves": MOVES, "twice": asked_twice(),
-    "caller.in": "batch 1\npush 0 0 1 0\nplan 1\nrun 1\n",
+    "pushes": PUSHES, "swap": SWAP, "wide": WIDE, "image": IMAGE, "moves": MOVES, "twice": asked_twice(), "board": BOARD, "small": SMALL,
+    "record": RECORD, "spoilt": RECORD.replace("000000ff\n1", "000000fe\n1"),
+    "caller.in": "batch 1\npush 0 0 1 0\nplan 1\nrun 1\n", "keeper.in": "batch 1\npush 0 0 1 0\nplan 1\nrun 1\n",
 }  # fmt: skip
 # The one that is standard input.
 INPUT = "three"
@@ -93,6 +107,10 @@ COMMANDS = [
     ["switch", "wrong"], ["switch", "-"], ["switch", "three", "--steady"], ["switch", "wide", "--steady"], ["switch", "wrong", "--steady"],
     ["switch", "three", "--schedule", "schedule"], ["switch", "three", "--schedule", "long"], ["switch", "three", "--schedule", "three"],
     ["switch", "wide", "--schedule", "each"], ["switch", "-", "--schedule", "schedule"], ["switch", "two", "--schedule", "-"],
+    # The same for a board's wiring, whose reading takes no memory.
+    ["switch", "three", "--wiring", "board"], ["switch", "three", "--wiring", "board", "--workers", "2"],
+    ["switch", "three", "--wiring", "board", "--steady"], ["switch", "three", "--wiring", "board", "--schedule", "schedule"],
+    ["switch", "three", "--wiring", "small"], ["switch", "three", "--wiring", "wrong"], ["switch", "two", "--wiring", "-"],
     # `Schedule::read`, `check_schedule` and `answer_check`.
     # What `answer_check` finds out of a schedule that it refuses, and `second_line`.
     ["check", "three", "schedule"], ["check", "three", "three"], ["check", "three", "long"], ["check", "-", "schedule"], ["check", "-", "-"],
@@ -108,6 +126,12 @@ COMMANDS = [
     # `Book::apply` and `Shared::call` of each call, over words that all differ; `Planned::copy` and `Coloured::copy` too, for a plan that is
     # settled.
     ["serve", "3x2x2", "twice", "--image", "image"], ["serve", "3x2x2", "twice", "--image", "image", "--workers", "2"],
+    # `Rack::image` of the rack that is left.
+    ["serve", "2x2x2", "script", "other", "--image-out", "left-0"], ["serve", "2x2x2", "--image-out", "left-1", "script", "other", "--workers", "2"],
+    ["serve", "3x2x2", "pushes", "--image", "image", "--image-out", "left-2"], ["serve", "2x2", "script", "--image-out", "left-3"],
+    # `write_record`, `read_entry`, `replay` and `answer_replay`.
+    ["serve", "2x1x1", "refusals", "--record", "left-4"], ["serve", "2x2x2", "script", "--record", "left-5"],
+    ["replay", "2x2x2", "record"], ["replay", "3x2x2", "record", "--image", "image"], ["replay", "2x2x2", "-"], ["replay", "2x2x2", "spoilt"],
     # `Batch::write`.
     ["direct", "moves"], ["direct", "wrong"], ["direct", "-"],
     ["apply", "3x2x2", "two", "image"], ["apply", "3x2x2", "two", "image", "--workers", "2"], ["apply", "3x2x2", "swap", "image"],
@@ -191,8 +215,69 @@ def is_served(words, ended):
     """Whether sessions were told of the want of memory: each up to there as ever, and from there on as if that command weren't."""
     shape, scripts, image = served(words)
     status = int(b"\nended " in ended.out)
-    well = sessions.is_told_without_memory(shape, scripts, ended.out, image)
+    well = sessions.told_without_memory(shape, scripts, ended.out, image) is not None
     return well and ended.status == status and ended.err == b""
+
+
+def images_behind(words, told):
+    """The images that may be left behind what sessions were told: none where it is a refusal."""
+    shape, scripts, image = served(words)
+    if told.startswith(b"refused "):
+        return []
+    exchanges = [sessions.told_without_memory(shape, scripts, told, image, is_done) for is_done in (False, True)]
+    return [exchange.image() for exchange in exchanges if exchange]
+
+
+def image_file(words):
+    """The file for the image that is left, where one is named."""
+    return words[words.index("--image-out") + 1] if "--image-out" in words else None
+
+
+def put_older(file):
+    with open(file, "wb") as older:
+        older.write(OLDER)
+
+
+def judge_of_image(words, judge, behind):
+    """A judge of what is answered and of the image that is left, where `behind` gives those that may be left behind what was told. Where there
+    is no memory for it, its file is as before, the status 3, and a line may say so."""
+    name = image_file(words)
+    put_older(name)
+
+    def judge_both(ended, refused):
+        with open(name, "rb") as file:
+            left = file.read()
+        put_older(name)
+        images = behind(words, ended.out)
+        if refused and ended.status == 3 and images:
+            is_told = ended.err == b"" or ended.err.startswith(f"exchange: {name}: ".encode()) and ended.err.count(b"\n") == 1
+            return "no image" if is_told and left == OLDER else f"WRONG {ended}, {left}"
+        return judge(ended, refused) if left in (images or [OLDER]) else f"WRONG image {left} of {ended}"
+
+    return judge_both
+
+
+def judge_of_record(words, judge):
+    """A judge of what is answered and of the record, which has to be one of what was told, also where some growths were refused. Where there is
+    no memory for it, its file is as before, the status 3, and a line may say so."""
+    name = words[words.index("--record") + 1]
+    put_older(name)
+
+    def judge_both(ended, refused):
+        with open(name, "rb") as file:
+            record = file.read()
+        put_older(name)
+        if record == OLDER and not ended.out.startswith(b"refused "):
+            is_told = ended.err == b"" or ended.err.startswith(f"exchange: {name}: ".encode()) and ended.err.count(b"\n") == 1
+            return "no record" if refused and ended.status == 3 and is_told else f"WRONG {ended}, and no record"
+        if record != OLDER:
+            told = ended.out.decode().splitlines()
+            replies = [reply for _, _, reply in records.Replay(plain.read_shape(words[1].encode()), record).entries if reply != "fetched"]
+            if [line for line in told if line in replies] != [reply for reply in replies if reply in told]:
+                return f"WRONG record {record} of {ended}"
+        return judge(ended, refused)
+
+    return judge_both
 
 
 def sweep_call(name):
@@ -216,7 +301,12 @@ def sweep_closing(words):
 
 def sweep_command(words):
     wanted = ask(*words, given=INPUT)
-    swept = sweep(" ".join(["exchange", *words]), EXCHANGE, words, False, judge_of_command(words, wanted))
+    judge = judge_of_command(words, wanted)
+    if image_file(words):
+        judge = judge_of_image(words, judge, images_behind)
+    if "--record" in words:
+        judge = judge_of_record(words, judge)
+    swept = sweep(" ".join(["exchange", *words]), EXCHANGE, words, False, judge)
     if words[:1] == ["serve"] and (wanted.out, wanted.status) != sessions.answer_serve(*served(words)):
         swept.found["WRONG: told otherwise with memory"] += 1
     if not swept.found["no memory"] or words[-2:] == ["--workers", "2"] and not swept.unstarted:
@@ -238,24 +328,27 @@ def sweep_help_by_name():
     return swept
 
 
-def sweep_host():
-    """The same for a live client, over plain files. The first run starts no thread, so that no file is made."""
-    words = ["host", "2x1x1", "caller"]
+def sweep_host(client, *options):
+    """The same for a live client, over plain files. The first run starts no thread, so that no file is made. No client writes a word that isn't
+    0."""
+    words = ["host", "2x1x1", client, *options]
     note = b"exchange: no thread could be had for each client; fewer clients may do\n"
     no_threads = (b"refused threads\n", note, 1)
     alone, _, _, unstarted = run("T", EXCHANGE, words, False)
-    is_made = os.path.exists("caller.out")
+    is_made = os.path.exists(f"{client}.out")
     wanted = ask(*words, given=INPUT)
 
     def judge(ended, refused):
         if ended in (no_threads, (b"refused threads\n", b"", 1)):
             return "no threads"
-        if refused and ended[1:] == (b"", 1) and re.fullmatch(rb"session 0 caller\nended (open|no memory|write)\n", ended.out):
+        if refused and ended[1:] == (b"", 1) and re.fullmatch(rb"session 0 %s\nended (open|no memory|write)\n" % client.encode(), ended.out):
             return "a session ended"
         return judge_of_command(words, wanted)(ended, refused)
 
+    if options:
+        judge = judge_of_image(words, judge, lambda _, told: [] if told.startswith(b"refused ") else [bytes(8)])
     swept = sweep(" ".join(["exchange", *words]), EXCHANGE, words, False, judge)
-    if alone != no_threads or is_made or not unstarted or wanted != (b"session 0 caller\n", b"", 0) or not swept.found["no memory"]:
+    if alone != no_threads or is_made or not unstarted or wanted != (f"session 0 {client}\n".encode(), b"", 0) or not swept.found["no memory"]:
         swept.found["WRONG: served without threads, or told otherwise with memory"] += 1
     return swept
 
@@ -280,10 +373,10 @@ def main():
             told = [tell(it) for it in pool.imap(sweep_call, names)]
             told.append(tell(sweep_closing(["clients", "2x2x2", "script"])))
             told += [tell(it) for it in pool.imap(sweep_command, COMMANDS)]
-        told += [tell(sweep_help_by_name()), tell(sweep_host())]
+        told += [tell(it) for it in [sweep_help_by_name(), sweep_host("caller"), sweep_host("keeper", "--image-out", "host-left")]]
         os.chdir("/")
     wrong = sum(it[1] for it in told)
-    print(f"growths: {len(names) + 1} calls, {len(COMMANDS) + 2} command lines, {sum(it[0] for it in told)} runs, {wrong} wrong")
+    print(f"growths: {len(names) + 1} calls, {len(COMMANDS) + 3} command lines, {sum(it[0] for it in told)} runs, {wrong} wrong")
     return 1 if wrong or not names else 0
 
 

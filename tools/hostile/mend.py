@@ -6,13 +6,25 @@ This is plain Python that shares no code with the product, as plain.py.
 import re
 
 import notes
+import plain
 
 # A line of each form that a second line may say is wanted, by what it says of the form first. The entries of a text are counted in its line 1.
 RIGHT = {
     '"batch N"': "batch {}", '"push I b R c"': "push 0 0 0 0", '"moves N"': "moves {}", '"move M b N c"': "move 0 0 0 0",
-    '"settings S"': "settings {}", '"setting T U .."': "setting", '"busiest link E module M"': "busiest link 0 module 0", '"named T U .."': "named 0",
+    '"wiring N"': "wiring {}", '"module M link 0 at A link 3 at B"': "module {} link 0 at {} link 3 at {}", '"settings S"': "settings {}", '"setting T U .."': "setting", '"busiest link E module M"': "busiest link 0 module 0", '"named T U .."': "named 0",
 }  # fmt: skip
 FIRST = {"batch": "batch {}", "moves": "moves {}", "schedule": "settings {}"}
+
+
+def numbers_for(kind, lines, number, entries):
+    """The numbers that a line has where it is mended: how many entries there are, in the first line. In the line of a module they are its
+    number and two links of the switch that no line above has."""
+    if kind != "wiring":
+        return [entries]
+    if number == 1:
+        return [min(max(entries, 1), plain.JOINED)]
+    taken = {int(it) for line in lines[1 : number - 1] for it in re.findall(rb" at (\d+)", line)}
+    return [number - 2, *[it for it in range(plain.PORTS) if it not in taken][:2]]
 
 
 def mended_text(kind, text, number, told):
@@ -25,16 +37,18 @@ def mended_text(kind, text, number, told):
     else:
         wanted = re.split(r" is(?:n't)? (?=\")", told)[-1]
         right = next(right for form, right in RIGHT.items() if wanted.startswith(form))
-    return b"\n".join([*lines[: number - 1], right.format(entries).encode(), *(lines[number:] or [b""])])
+    right = right.format(*numbers_for(kind, lines, number, entries))
+    return b"\n".join([*lines[: number - 1], right.encode(), *(lines[number:] or [b""])])
 
 
 def mended(asked, refusal):
     """What is asked, with its text mended; None where the refusal is of no line's form."""
-    found = re.fullmatch(rb"refused (?:(batch|moves|schedule) line (\d+)|count|too many)\n?", refusal)
+    found = re.fullmatch(rb"refused (?:(batch|moves|schedule|wiring) line (\d+)|count|too many)\n?", refusal)
     if not found:
         return None
-    kind = "schedule" if found[1] == b"schedule" else asked.kind
-    name, text = asked.other if kind == "schedule" else asked.list
+    kind = found[1].decode() if found[1] in (b"schedule", b"wiring") else asked.kind
+    part = {"schedule": "other", "wiring": "wiring"}.get(kind, "list")
+    name, text = getattr(asked, part)
     number = int(found[2]) if found[2] else notes.announced(text) + 2
     text = mended_text(kind, text, number, notes.told(asked, refusal).decode())
-    return asked._replace(other=(name, text)) if kind == "schedule" else asked._replace(list=(name, text))
+    return asked._replace(**{part: (name, text)})

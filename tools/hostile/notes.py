@@ -22,6 +22,10 @@ KINDS = {
         '"settings S", where S counts the settings', '"setting T U ..", where T, U .. are transfers, or "setting" alone',
         '"busiest link E module M", where E is 0 or 3 and M 0 to 31, or "busiest none"', '"named T U ..", where T, U .. are transfers, one at least',
     ]),
+    "wiring": ("module", rb"module ", [
+        '"wiring N", where N counts the modules, 1 to 16',
+        '"module M link 0 at A link 3 at B", where M counts up from 0, and A and B are 0 to 31 and stand nowhere else',
+    ]),
 }  # fmt: skip
 # What is told of a line of a session, and of a word, behind its quote.
 QUOTES = {
@@ -40,7 +44,7 @@ QUOTES = {
 }  # fmt: skip
 # What a command was asked. `kind` is `moves` for `direct` alone. A text is its name, as it is told, and its bytes; what `talk` was sent has no
 # name. `valid` says whether the schedule is one of the batch, and `enough` how many settings are enough then, where that is known.
-Asked = namedtuple("Asked", "kind list other shape range valid enough", defaults=[("", b""), ("", b""), b"", b"", None, None])
+Asked = namedtuple("Asked", "kind list other shape range valid enough wiring", defaults=[("", b""), ("", b""), b"", b"", None, None, ("", b"")])
 
 
 def shown(name):
@@ -82,7 +86,7 @@ def of_line(kind, name, text, number):
     listed, behind = len(re.findall(rb"(?m)^" + begins, text)), number - count - 1
     ends = kind == "schedule" and behind < 1 and (not line or line.startswith(b"busiest "))
     goes_on = behind == 1 and (kind != "schedule" or re.match(begins, line))
-    if number > 1 and listed != count and (ends or goes_on):
+    if number > 1 and listed != count and (ends or goes_on) and kind != "wiring":
         return f"{name}: {many(listed, entry + ' line')}, and line 1 says {count}"
     form = 0 if number == 1 else 1 + max(behind, 0)
     if form >= len(wanted) or behind == 2 and line_of(text, number - 1) == b"busiest none":
@@ -132,10 +136,16 @@ def of_text(asked, what, t=0, u=0):
         return of_line(asked.kind, name, text, announced(text) + 2 if what == "count" else t)
     if what == "schedule line":
         return of_line("schedule", other, more, t)
+    if what == "wiring line":
+        return of_line("wiring", *asked.wiring, t)
     shape = modules, blocks, words = plain.read_shape(asked.shape) if word and what != "shape" else plain.WIDEST
     if what in QUOTES:
         line = {"settings": asked.range, "shape": asked.shape}.get(what, line_of(text, 1))
         return f"{quoted(line)} " + QUOTES[what].format(modules=numbered(modules, "module"), last=0x800007FC + 4 * blocks * words)
+    if what == "no module" and asked.wiring[0]:
+        board, modules = asked.wiring[0], len(plain.read_wiring(asked.wiring[1]))
+        n = next(int(it) for it in line_of(text, t + 2).split(b" ")[1::2] if int(it) >= modules)
+        return f"{place_of(name, t + 2)}: module {n}; {board} has {numbered(modules, 'module')}"
     if what in ("no module", "no block"):
         at, owner = (1, "a rack") if what == "no module" else (2, "a module in a rack" if word else "a module")
         n = next(int(it) for it in line_of(text, t + 2).split(b" ")[at::2] if int(it) >= shape[at - 1])

@@ -9,6 +9,8 @@ from collections import Counter
 
 MODULES, BLOCKS, WORDS, TRANSFERS = 32, 64, 256, 4096
 WIDEST = (MODULES, BLOCKS, WORDS)
+# The links of a switch, and the modules that one switch joins.
+PORTS, JOINED = 32, 16
 
 NUMBER = rb"(0|[1-9][0-9]{0,8})"
 SHAPE = re.compile(NUMBER + rb"x" + NUMBER + rb"x" + NUMBER)
@@ -19,6 +21,8 @@ MOVE = re.compile(rb"(move) " + rb" ".join([NUMBER] * 4))
 SETTINGS = re.compile(rb"settings " + NUMBER)
 SETTING = re.compile(rb"setting((?: (?:0|[1-9][0-9]{0,8}))*)")
 BUSIEST = re.compile(rb"busiest link ([03]) module " + NUMBER)
+WIRING = re.compile(rb"wiring " + NUMBER)
+WIRED = re.compile(rb"module " + NUMBER + rb" link 0 at " + NUMBER + rb" link 3 at " + NUMBER)
 NAMED = re.compile(rb"named((?: (?:0|[1-9][0-9]{0,8}))+)")
 
 
@@ -114,6 +118,31 @@ def read_schedule(text):
     if at != len(text):
         raise Refused(f"schedule line {number + 1}")
     return settings, certificate
+
+
+def read_wiring(text):
+    """The wiring that a text says: of each module the two links of the switch that its link 0 and its link 3 are on."""
+    line, at = line_at(text, 0)
+    found = line is not None and WIRING.fullmatch(line)
+    if not found or not 1 <= int(found[1]) <= JOINED:
+        raise Refused("wiring line 1")
+    wiring, taken = [], []
+    for module in range(int(found[1])):
+        line, at = line_at(text, at)
+        found = line is not None and WIRED.fullmatch(line)
+        number, *links = (int(n) for n in found.groups()) if found else (None,)
+        taken += links
+        if number != module or max(links) >= PORTS or len(set(taken)) < len(taken):
+            raise Refused(f"wiring line {module + 2}")
+        wiring.append(tuple(links))
+    if at != len(text):
+        raise Refused(f"wiring line {len(wiring) + 2}")
+    return wiring
+
+
+def extent(wiring):
+    """The shape that a batch has to fit for a board of this wiring, or for racks of the usual one, where there is none."""
+    return WIDEST if wiring is None else (len(wiring), BLOCKS, WORDS)
 
 
 def links_of(transfer):

@@ -7,7 +7,7 @@ import time
 from collections import namedtuple
 
 TOP = os.path.dirname(os.path.dirname(os.path.dirname(os.path.abspath(__file__))))
-EXCHANGE = f"{TOP}/crates/exchange/out/exchange"
+EXCHANGE = os.path.abspath(os.environ.get("EXCHANGE") or f"{TOP}/crates/exchange/out/exchange")
 
 # What came on standard output and on standard error, and the status; below 0 the signal that ended it, and None where it had to be killed.
 Ended = namedtuple("Ended", "out err status")

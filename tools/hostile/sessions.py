@@ -22,6 +22,12 @@ class Exchange:
         self.entries = self.given = self.runs = 0
         self.reading = (0, 0)
 
+    def image(self):
+        """The words of the rack, as an image."""
+        modules, blocks, words = self.shape
+        places = [(m, b, j) for m in range(modules) for b in range(blocks) for j in range(words)]
+        return b"".join(self.words.get(place, 0).to_bytes(4, "little") for place in places)
+
     def enter(self):
         """Makes room for a call in the history."""
         if self.entries >= MOST_ENTRIES:
@@ -99,9 +105,10 @@ class Exchange:
 class Session:
     """A session that reads a script. Each refusal is kept with what was sent: a line, or a batch with its lines."""
 
-    def __init__(self, exchange, number, script):
+    def __init__(self, exchange, number, script, is_done_unwritten=False):
         self.exchange, self.number, self.script, self.at = exchange, number, script, 0
         self.written, self.refused, self.ended = [], [], None
+        self.is_done_unwritten = is_done_unwritten
 
     def line(self, is_inside):
         """The next line, or None at the end, where it is kept how the session ended."""
@@ -121,7 +128,8 @@ class Session:
         """The bytes that the session writes, and behind them how it ended, if that was by a fault.
 
         Where the lines are handed in that a session was told, each `refused no memory` among them is taken as it is: that command
-        has no effect. So is `ended no memory` in a batch. Of a session that `ended write` its last lines are taken as they are.
+        has no effect. So is `ended no memory` in a batch. Of a session that `ended write` its last lines are taken as they are: the
+        command whose reply couldn't be kept is done or not, as was said when the session was made.
         """
         told = iter(told) if told is not None else None
         while True:
@@ -142,6 +150,8 @@ class Session:
         """The reply to a line: want of memory where that is what was told, and nothing else can be wrong with it."""
         is_command = any(form.fullmatch(line) for form, _ in COMMANDS)
         if is_command and told in ("refused no memory", "ended no memory", "ended write"):
+            if told == "ended write" and self.is_done_unwritten:
+                return self.do_unwritten(line)
             taken = self.take_lines(line)
             if told.startswith("ended"):
                 self.ended = told.removeprefix("ended ")
@@ -150,6 +160,14 @@ class Session:
             return self.reply(line)
         except Refused as why:
             return f"refused {why}"
+
+    def do_unwritten(self, line):
+        """Does what a line asks for, to which no reply is kept."""
+        try:
+            self.reply(line)
+        except Refused:
+            pass
+        self.ended = "write"
 
     def take_lines(self, line):
         """Takes the lines of a batch, where the line announces one. Whether they are all there."""
@@ -239,17 +257,18 @@ def answer_talk(shape, script):
     return text.encode(), int(session.ended is not None), session.refused
 
 
-def is_told_without_memory(shape, scripts, text, image=None):
-    """Whether `serve` may print this of such scripts where some of its growths were refused."""
+def told_without_memory(shape, scripts, text, image=None, is_done_unwritten=False):
+    """The exchange that is left where `serve` prints this of such scripts while some of its growths are refused; None where it may not. A command
+    whose reply couldn't be kept is done or not, as is said."""
     exchange = Exchange(plain.read_shape(shape), image)
     rest = text.decode()
     for number, script in enumerate(scripts):
         head = f"session {number}\n"
         if not rest.startswith(head):
-            return False
+            return None
         part, _, behind = rest.removeprefix(head).partition(f"session {number + 1}\n")
         rest = f"session {number + 1}\n{behind}" if number + 1 < len(scripts) else behind
-        wanted = Session(exchange, number, script).serve(part.splitlines())
+        wanted = Session(exchange, number, script, is_done_unwritten).serve(part.splitlines())
         if part != wanted:
-            return False
-    return rest == ""
+            return None
+    return exchange if rest == "" else None

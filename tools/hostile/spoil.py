@@ -6,7 +6,7 @@ All is drawn from a random.Random that is handed in, so that a seed gives the sa
 import itertools
 import re
 
-from plain import MODULES, TRANSFERS
+from plain import JOINED, MODULES, PORTS, TRANSFERS
 
 EDGES = [0, 1, 2, 3, 9, 10, 15, 16, 17, 31, 32, 33, 63, 64, 65, 255, 256, 257, 4095, 4096, 4097, 999999999, 1000000000, 2**32, 2**64]
 ODD = [b"", b"01", b"00", b"+1", b"-1", b"1.0", b"0x1", b"x", b" ", b"9" * 40]
@@ -105,6 +105,14 @@ def moves(draw, modules, most):
     count = draw.randint(0, most)
     lines = [f"move {draw.randrange(modules)} {draw.randrange(64)} {draw.randrange(modules)} {draw.randrange(64)}\n" for _ in range(count)]
     return f"moves {count}\n{''.join(lines)}".encode()
+
+
+def wiring(draw):
+    """A wiring of some modules, most of which are few or as many as there may be."""
+    count = draw.choice([1, 2, 3, 8, JOINED, draw.randint(1, JOINED)])
+    links = draw.sample(range(PORTS), 2 * count)
+    lines = [f"module {m} link 0 at {links.pop()} link 3 at {links.pop()}\n" for m in range(count)]
+    return f"wiring {count}\n{''.join(lines)}".encode()
 
 
 def image(draw, shape):

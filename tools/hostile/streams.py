@@ -21,6 +21,8 @@ from program import EXCHANGE, Ended, ask, end, start
 THREE_TRANSFERS = b"batch 3\npush 0 0 1 0\npush 0 1 2 0\npush 1 1 2 1\n"
 PLAN = b"settings 2\nsetting 0 2\nsetting 1\nbusiest link 0 module 0\nnamed 0 1\n"
 SWITCHED = b"setting 0 04 01 00 11 01 01 12 03\nsetting 1 06 00 11 06 01 12 01 00 12 03\n"
+BOARD = b"wiring 3\nmodule 0 link 0 at 4 link 3 at 21\nmodule 1 link 0 at 5 link 3 at 22\nmodule 2 link 0 at 11 link 3 at 0\n"
+SWITCHED_THERE = b"setting 0 04 01 04 16 01 05 00 03\nsetting 1 06 04 16 06 05 00 01 04 00 03\n"
 SWAP = b"batch 2\npush 0 0 1 0\npush 1 0 0 0\n"
 IMAGE, SWAPPED = bytes([1, 2, 3, 4, 5, 6, 7, 8]), bytes([5, 6, 7, 8, 1, 2, 3, 4])
 MOVES = b"moves 1\nmove 0 0 1 0\n"
@@ -92,9 +94,11 @@ def unreadable_files(room):
     for what, name in files(room):
         for words in [
             ("plan", name), ("plan", name, "--steady"), ("switch", name), ("switch", name, "--steady"), ("switch", name, "--schedule", "plan"),
-            ("switch", "three", "--schedule", name), ("check", name, "plan"), ("check", "three", name), ("draw", name, "plan"), ("draw", "three", name),
+            ("switch", "three", "--schedule", name), ("switch", "three", "--wiring", name), ("drive", "three", "missing", "--wiring", name),
+            ("drive", name, "missing"), ("check", name, "plan"), ("check", "three", name), ("draw", name, "plan"), ("draw", "three", name),
             ("run", "3x2x2", name), ("run", "0", name), ("serve", "2x2x2", "script", name), ("serve", "0", name), ("apply", "2x1x1", name, "image"),
             ("apply", "0", "three", name), ("run", "0", "three", "--image", name), ("serve", "0", "script", "--image", name), ("direct", name),
+            ("replay", "0", name), ("replay", "0", "three", "--image", name),
         ]:  # fmt: skip
             expect(f"{what}: {words[0]}", ask(*words, seconds=LIMIT), refused_file(name, reason_of(name)))
 
@@ -119,7 +123,8 @@ def endless_files():
         ("plan", "/dev/zero"), ("switch", "/dev/zero"), ("switch", "three", "--schedule", "/dev/zero"), ("check", "/dev/zero", "plan"),
         ("check", "three", "/dev/zero"), ("draw", "/dev/zero", "plan"), ("draw", "three", "/dev/zero"), ("run", "3x2x2", "/dev/zero"),
         ("serve", "2x2x2", "script", "/dev/zero"), ("apply", "2x1x1", "swap", "/dev/zero"), ("run", "2x1x1", "swap", "--image", "/dev/zero"),
-        ("direct", "/dev/zero"),
+        ("direct", "/dev/zero"), ("switch", "three", "--wiring", "/dev/zero"), ("drive", "three", "missing", "--wiring", "/dev/zero"),
+        ("replay", "2x2x2", "/dev/zero"),
     ]:  # fmt: skip
         expect(f"an endless file: {words[0]}", under(limit, *words), NO_MEMORY)
     with open("large", "wb") as file:
@@ -180,6 +185,9 @@ INPUTS = [
     (("switch", "-", "--steady"), "three", switching.answer_switch(THREE_TRANSFERS, STEADY_PLAN)),
     (("switch", "-", "--schedule", "plan"), "three", SWITCHED),
     (("switch", "three", "--schedule", "-"), "plan", SWITCHED),
+    (("switch", "-", "--wiring", "board"), "three", SWITCHED_THERE),
+    (("switch", "three", "--wiring", "-"), "board", SWITCHED_THERE),
+    (("switch", "three", "--schedule", "-", "--wiring", "board"), "plan", SWITCHED_THERE),
     (("check", "-", "plan"), "three", b"shortest 2\n"),
     (("check", "three", "-"), "plan", b"shortest 2\n"),
     (("draw", "-", "plan"), "three", picture.answer_draw(THREE_TRANSFERS, PLAN)),
@@ -245,7 +253,7 @@ def inputs_named_twice():
     for words in [
         ("check", "-", "-"), ("draw", "-", "-"), ("switch", "-", "--schedule", "-"), ("serve", "2x2x2", "-", "-"),
         ("serve", "0", "-", "script", "-", "missing"), ("apply", "2x1x1", "-", "-"), ("run", "2x1x1", "-", "--image", "-"),
-        ("serve", "2x1x1", "-", "--image", "-"),
+        ("serve", "2x1x1", "-", "--image", "-"), ("switch", "-", "--wiring", "-"), ("drive", "-", "missing", "--wiring", "-", "--go-on"),
     ]:  # fmt: skip
         line = " ".join(words)
         expect(f"{line}: twice", ask(*words, given="three", seconds=LIMIT), is_misused)
@@ -290,6 +298,7 @@ COMMANDS = {
     "a switch's bytes": ("switch", "three"),
     "a steady plan's bytes": ("switch", "three", "--steady"),
     "a schedule's bytes": ("switch", "three", "--schedule", "plan"),
+    "a board's bytes": ("switch", "three", "--wiring", "board"),
     "a long list of bytes": ("switch", "settings", "--schedule", "settings.plan"),
     "a help": ("--help",),
     "a session": ("serve", "2x2x2", "script"),
@@ -367,7 +376,7 @@ def main():
         many = [f"push {m} {b} {(m + 1) % 16} {b + 32}\n" for m in range(16) for b in range(32)]
         many = f"batch {len(many)}\n{''.join(many)}".encode()
         texts = [("three", THREE_TRANSFERS), ("plan", PLAN), ("many", many), ("script", b"peek 0 80000800\nbye\n")]
-        texts += [("swap", SWAP), ("image", IMAGE), ("zeros", bytes(1 << 20)), ("moves", MOVES), ("other", b"peek 0 80000800\n")]
+        texts += [("board", BOARD), ("swap", SWAP), ("image", IMAGE), ("zeros", bytes(1 << 20)), ("moves", MOVES), ("other", b"peek 0 80000800\n")]
         texts.append(("behind", b"a line that the shell reads\n" + THREE_TRANSFERS))
         for name, text in texts + list(zip(("settings", "settings.plan"), many_settings())):
             with open(name, "wb") as file:

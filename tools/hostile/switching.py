@@ -3,8 +3,9 @@ docs/SWITCHES.md and docs/DECISIONS.md state them, and from the commands of the 
 
 import plain
 
-# The modules that one switch joins.
-JOINED = 16
+# The usual wiring of the modules that one switch joins: of each the links of the switch that its link 0 and its link 3 are on. A board may
+# have another one.
+USUAL = [(module, plain.JOINED + module) for module in range(plain.JOINED)]
 # How many ports follow each command byte that sets something.
 PORTS = {0: 2, 1: 2, 3: 0, 4: 0, 5: 1, 6: 2}
 
@@ -12,7 +13,7 @@ PORTS = {0: 2, 1: 2, 3: 0, 4: 0, 5: 1, 6: 2}
 def switches_for(transfers):
     """The names of the switches of a rack that has the modules of these transfers: one, which has no name, or A, on the way from links 0
     to links 3, and B, on the way back."""
-    is_wide = any(module >= JOINED for transfer in transfers for module in (transfer[1], transfer[3]))
+    is_wide = any(module >= plain.JOINED for transfer in transfers for module in (transfer[1], transfer[3]))
     return ["a", "b"] if is_wide else [""]
 
 
@@ -21,40 +22,46 @@ def pairs_of(transfers, setting):
     return sorted((transfers[t][1], transfers[t][3]) for t in setting)
 
 
-def join(switch, initiator, responder):
+def join(switch, pair, wiring):
     """The bytes that join link 0 of a module and link 3 of another: on one switch both ways at once, on two one way on each."""
-    return {"": [1, initiator, JOINED + responder], "a": [0, initiator, responder], "b": [0, responder, initiator]}[switch]
+    initiator, responder = pair
+    if switch:
+        return {"a": [0, initiator, responder], "b": [0, responder, initiator]}[switch]
+    return [1, wiring[initiator][0], wiring[responder][1]]
 
 
-def cut(switch, initiator, responder):
+def cut(switch, pair, wiring):
     """The bytes that part them: on one switch the two links, on two the output of the way."""
-    return {"": [6, initiator, JOINED + responder], "a": [5, responder], "b": [5, initiator]}[switch]
+    initiator, responder = pair
+    if switch:
+        return {"a": [5, responder], "b": [5, initiator]}[switch]
+    return [6, wiring[initiator][0], wiring[responder][1]]
 
 
-def sent(switch, before, pairs):
+def sent(switch, before, pairs, wiring):
     """The bytes that set a switch to pairs. Where none are known to have stood before they are a reset and the joins, else the cuts of
     the pairs that go and the joins of those that come; then the sequence ends."""
     if before is None:
-        commands = [[4]] + [join(switch, *pair) for pair in pairs]
+        commands = [[4]] + [join(switch, pair, wiring) for pair in pairs]
     else:
-        commands = [cut(switch, *pair) for pair in before if pair not in pairs]
-        commands += [join(switch, *pair) for pair in pairs if pair not in before]
+        commands = [cut(switch, pair, wiring) for pair in before if pair not in pairs]
+        commands += [join(switch, pair, wiring) for pair in pairs if pair not in before]
     return [byte for command in [*commands, [3]] for byte in command]
 
 
-def told(transfers, settings):
+def told(transfers, settings, wiring=None):
     """What is told of a batch's settings, in order: of each its number, its pairs, and the name and the bytes of each switch."""
     switches, before = switches_for(transfers), None
     for number, setting in enumerate(settings):
         pairs = pairs_of(transfers, setting)
-        yield number, pairs, [(switch, sent(switch, before, pairs)) for switch in switches]
+        yield number, pairs, [(switch, sent(switch, before, pairs, wiring or USUAL)) for switch in switches]
         before = pairs
 
 
-def switch_text(transfers, settings):
+def switch_text(transfers, settings, wiring=None):
     """The text of it: for each setting a line, or two where there are two switches."""
     lines = []
-    for number, _, switches in told(transfers, settings):
+    for number, _, switches in told(transfers, settings, wiring):
         for switch, sent_bytes in switches:
             name = f" {switch}" if switch else ""
             lines.append(f"setting {number}{name} {bytes(sent_bytes).hex(' ')}\n")
@@ -87,37 +94,55 @@ class Switch:
         self.is_ready = command in (3, 4) or self.is_ready and command not in (0, 1)
 
 
-def wanted_inputs(switch, pairs):
+def wanted_inputs(switch, pairs, wiring=None):
     """The input of each output where just these pairs are joined."""
     forth = {responder: initiator for initiator, responder in pairs}
     back = {initiator: responder for initiator, responder in pairs}
     if switch:
         return {"a": forth, "b": back}[switch]
-    return {JOINED + output: it for output, it in forth.items()} | {output: JOINED + it for output, it in back.items()}
+    joined = [((wiring or USUAL)[initiator][0], (wiring or USUAL)[responder][1]) for initiator, responder in pairs]
+    return dict(joined) | {other: one for one, other in joined}
 
 
-def are_set(transfers, settings):
+def are_set(transfers, settings, wiring=None):
     """Whether these bytes set switches that stood anyhow to the pairs of each setting in turn, ready, and to nothing else."""
     chips = {switch: Switch() for switch in switches_for(transfers)}
-    for _, pairs, switches in told(transfers, settings):
+    for _, pairs, switches in told(transfers, settings, wiring):
         for switch, sent_bytes in switches:
             chips[switch].send(sent_bytes)
-            if not chips[switch].is_ready or chips[switch].inputs != wanted_inputs(switch, pairs):
+            if not chips[switch].is_ready or chips[switch].inputs != wanted_inputs(switch, pairs, wiring):
                 return False
     return True
 
 
-def answer_switch(batch, schedule):
-    """What `switch` answers to the texts of a batch and of a schedule. A certificate isn't looked at."""
+def read_texts(batch, board):
+    """What the texts of a batch and of a board's wiring say, where there is one: the wiring is looked at first."""
+    wiring = None if board is None else plain.read_wiring(board)
+    return plain.read_batch(batch, plain.extent(wiring)), wiring
+
+
+def refusal(batch, board):
+    """The refusal of these texts, or None where a schedule is to be made."""
     try:
-        transfers, (settings, _) = plain.read_batch(batch, plain.WIDEST), plain.read_schedule(schedule)
+        read_texts(batch, board)
+    except plain.Refused as why:
+        return f"refused {why}\n".encode()
+    return None
+
+
+def answer_switch(batch, schedule, board=None):
+    """What `switch` answers to the texts of a batch, of a schedule and of a wiring. A certificate isn't looked at."""
+    try:
+        transfers, wiring = read_texts(batch, board)
+        settings, _ = plain.read_schedule(schedule)
         plain.check_settings(transfers, settings)
-        return switch_text(transfers, settings)
+        return switch_text(transfers, settings, wiring)
     except plain.Refused as why:
         return f"refused {why}\n".encode()
 
 
-def is_switched(batch, schedule, answer):
+def is_switched(batch, schedule, answer, board=None):
     """Whether `switch` has to answer so, by a schedule of a batch, and these bytes set the switches."""
-    transfers, (settings, _) = plain.read_batch(batch, plain.WIDEST), plain.read_schedule(schedule)
-    return answer == answer_switch(batch, schedule) and are_set(transfers, settings)
+    transfers, wiring = read_texts(batch, board)
+    settings, _ = plain.read_schedule(schedule)
+    return answer == answer_switch(batch, schedule, board) and are_set(transfers, settings, wiring)

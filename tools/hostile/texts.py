@@ -1,8 +1,8 @@
 #!/usr/bin/env python3
 """Spoilt texts: what the program answers to them, and what the plain implementation does.
 
-    texts.py [COUNT]        COUNT texts of each kind, 10000 where it isn't said; of patterns for several workers, of schedules for `switch` and of
-                            scripts for `talk` a quarter, of scripts side by side a twentieth
+    texts.py [COUNT]        COUNT texts of each kind, 10000 where it isn't said; of patterns for several workers, of schedules and of wirings for
+                            `switch` and of scripts for `talk` a quarter, of scripts side by side a twentieth
 
 Text number n of a kind is the same each time. A plan isn't the only one of its batch, so `plan` is judged by what a plan is, or a steady one,
 and `switch` by the plan that `plan` gives; all other answers are compared byte by byte. Of a pattern several workers have to give the plan of
@@ -23,6 +23,7 @@ import mend
 import notes
 import picture
 import plain
+import records
 import sessions
 import spoil
 import steady
@@ -32,7 +33,7 @@ from program import ask
 SCRIPTS = 16
 
 # Options that stand before a file.
-OPTIONS = ("--image", "--schedule")
+OPTIONS = ("--image", "--schedule", "--wiring")
 
 # The most bytes that a word of the command line has here. The system has another limit, a little above.
 MOST_OF_A_WORD = 130000
@@ -52,7 +53,7 @@ Answer = namedtuple("Answer", "out err status given is_quiet names")
 def ask_of(draw, words, files):
     """Runs the program with these words and then these files, one of which may be standard input, and some of which have an odd name; and
     with some number of workers, if it is a command that has them."""
-    is_alone = words[0] in ("check", "draw", "direct") or "--steady" in words or "--schedule" in files
+    is_alone = words[0] in ("check", "draw", "direct", "replay") or "--steady" in words or "--schedule" in files
     workers = [] if is_alone else workers_of(draw)
     given = draw.choice([it for it in files if it not in OPTIONS]) if draw.random() < 0.25 else os.devnull
     quiet = ["--quiet"] if draw.random() < 0.1 else []
@@ -298,6 +299,38 @@ def try_switch_by(draw):
     return well, wanted if is_told else kind_of_bytes(wanted), [batch, text], answer
 
 
+def try_wiring(draw):
+    """A board's wiring, spoilt in half of the cases, put to `switch`. The batch fits the board mostly. Its schedule is a plan, or in half of
+    the cases one that is spoilt."""
+    board = spoil.wiring(draw)
+    modules = len(plain.read_wiring(board)) + draw.choice([0, 0, 0, 0, 0, 1])
+    batch, schedule = spoilt_schedule(draw, (modules, plain.BLOCKS, plain.WORDS), draw.choice([3, 10, 40]), plain.busiest)
+    if draw.random() < 0.5:
+        board = spoil.spoil(draw, board)
+    files = [keep("batch", batch), "--wiring", keep("board", board)]
+    if draw.random() < 0.5:
+        answer = ask_of(draw, ["switch"], [*files, "--schedule", keep("schedule", schedule)])
+        refusal = switching.answer_switch(batch, schedule, board)
+        refusal = refusal if refusal.startswith(b"refused ") else None
+    else:
+        options = steadiness_of(draw)
+        answer, refusal = ask_of(draw, ["switch", *options], files), switching.refusal(batch, board)
+        schedule = None if refusal else ask("plan", *options, "batch").out
+    if refusal:
+        return is_answer(answer, refusal) and is_wiring_told(answer, batch, schedule, board, refusal), refusal, [batch, schedule, board], answer
+    well = is_answer(answer, answer.out) and answer.err == b"" and switching.is_switched(batch, schedule, answer.out, board)
+    return well, kind_of_bytes(answer.out), [batch, schedule, board], answer
+
+
+def is_wiring_told(answer, batch, schedule, board, refusal):
+    """Whether the line beside a refusal is the one that belongs there, where a wiring is given."""
+    asked = notes.Asked("batch", named(answer, "batch", batch), wiring=named(answer, "board", board))
+    if schedule is None:
+        return is_well_told(answer, asked, refusal, lambda it: switching.refusal(it.list[1], it.wiring[1]))
+    asked = asked._replace(other=named(answer, "schedule", schedule))
+    return is_well_told(answer, asked, refusal, lambda it: switching.answer_switch(it.list[1], it.other[1], it.wiring[1]))
+
+
 def range_text(draw, count):
     """For half of the runs the text of a range of about so many settings."""
     if draw.random() < 0.5:
@@ -394,12 +427,25 @@ def try_scripts(draw):
     return is_served(answer, wanted, status, asked), b"sessions side by side", [words.encode(), *scripts], answer
 
 
+def try_record(draw):
+    """A spoilt record, put to `replay`."""
+    shape = (draw.randint(1, 4), draw.randint(1, 4), draw.randint(1, 3))
+    text = records.spoilt(draw, records.made(draw, shape, draw.randint(1, 3), draw.randint(1, 40)))
+    words = "{}x{}x{}".format(*shape)
+    answer = ask_of(draw, ["replay", words], [keep("record", text)])
+    wanted, status = records.answer_replay(words.encode(), text)
+    told = b"" if answer.is_quiet else records.note(named(answer, "record", text)[0], shape, text)
+    well = (answer.out, answer.status, answer.err) == (wanted, status, told)
+    return well, b"an image" if status == 0 else wanted, [words.encode(), text], answer
+
+
 KINDS = {
     "batches to plan": try_plan,
     "patterns to plan": try_pattern,
     "patterns to plan steadily": try_steady,
     "batches to switch": try_switch,
     "schedules to switch by": try_switch_by,
+    "wirings to switch by": try_wiring,
     "batches to run": try_run,
     "images to apply a batch to": try_apply,
     "moves to direct": try_direct,
@@ -409,6 +455,7 @@ KINDS = {
     "scripts to serve": try_script,
     "scripts to talk": try_talk,
     "sixteen scripts side by side": try_scripts,
+    "records to replay": try_record,
 }
 
 
@@ -438,7 +485,7 @@ def try_some(share):
 
 def main():
     count = int(sys.argv[1]) if len(sys.argv) > 1 else 10000
-    parts = {try_pattern: 4, try_switch_by: 4, try_talk: 4, try_scripts: 20}
+    parts = {try_pattern: 4, try_switch_by: 4, try_wiring: 4, try_talk: 4, try_scripts: 20}
     counts = {kind: count // parts.get(try_it, 1) for kind, try_it in KINDS.items()}
     shares = [(kind, range(at, min(at + 250, most))) for kind, most in counts.items() for at in range(0, most, 250)]
     classes, wrong = {kind: Counter() for kind in KINDS}, []

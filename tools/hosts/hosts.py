@@ -3,7 +3,7 @@
 
 Each case starts a host in a folder of its own, with a pipe for each way of each client, and is all of its clients. A client says a line only
 when it has heard the reply to the one before, unless the case says otherwise. At the end the host has to print a line for each client, and
-how its session ended where it didn't by itself. A case has LIMIT seconds. What the walk of docs/GUIDE.md shows is run in two shells, and the
+how its session ended where it didn't by itself. Its record has to be replayed to the image that it leaves. A case has LIMIT seconds. What the walk of docs/GUIDE.md shows is run in two shells, and the
 clients of examples/all-reduce.py are run too.
 """
 
@@ -113,15 +113,25 @@ class Host:
         for name in names:
             os.mkfifo(f"{name}.in")
             os.mkfifo(f"{name}.out")
-        self.process = start([EXCHANGE, "host", shape, *names, *options], stdin=subprocess.DEVNULL)
+        self.shape = shape
+        kept = ["--record", "record", "--image-out", "left"]
+        self.process = start([EXCHANGE, "host", shape, *names, *options, *kept], stdin=subprocess.DEVNULL)
 
     def is_there(self):
         return self.process.poll() is None
 
     def end(self):
-        """What it printed, and its status."""
-        printed = self.process.communicate()[0]
-        return printed.decode().splitlines(), self.process.returncode
+        """What it printed, and its status; and a line more where what it recorded isn't replayed to the image that it left."""
+        printed = self.process.communicate()[0].decode().splitlines()
+        if not self.is_replayed():
+            printed.append("the record isn't replayed")
+        return printed, self.process.returncode
+
+    def is_replayed(self):
+        """Whether its record is replayed to its image."""
+        with open("left", "rb") as left:
+            replayed = start([EXCHANGE, "replay", self.shape, "record"], stdin=subprocess.DEVNULL)
+            return replayed.communicate()[0] == left.read()
 
 
 def numbers():

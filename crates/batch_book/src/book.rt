@@ -1,10 +1,11 @@
 //! The book, and its history.
 
+ghost use Rattle.std.specs.Option.{option_copied};
 ghost use Rattle.std.specs.Prelude.{◌+◌, ◌≡◌, ◌↔◌, ◌≤◌, ◌<◌, ◌++◌, ◌∷◌, [], ℕ, true, false, IfOk, IfErr, OnOk, OnErr, length, vec_len, vec_capacity};
 ghost use Rattle.setting_runner.specs.Plants.{LeavesPlant};
 ghost use Rattle.setting_runner.specs.Runs.{TellsOutcome};
-ghost use Rattle.batch_book.specs.Holdings.{spare_of};
-ghost use Rattle.batch_book.specs.Machine.{opened};
+ghost use Rattle.batch_book.specs.Holdings.{batch_in, spare_of};
+ghost use Rattle.batch_book.specs.Machine.{opened, batch_of};
 ghost use Rattle.batch_book.specs.Running.{plan_to_run};
 ghost use Rattle.batch_book.specs.Replies.{is_logged, outcome_of, outcome_in};
 ghost use Rattle.batch_book.specs.History.{new_account, IsReplay, IsLegal, IsFull, IsGrown, IsSound};
@@ -15,6 +16,7 @@ use crate::holdings::Holdings;
 use crate::limits::MAX_ENTRIES;
 use crate::refusal::BookRefusal;
 use crate::reply::Reply;
+use batch::Batch;
 use crossbar::ConfigPort;
 use module_memory::Rack;
 use peek_poke::WireMaker;
@@ -80,8 +82,16 @@ impl Book {
         ensures history { result.now ≡ self.now.history }
         ensures replay { IsReplay (opened self.now.opening) self.now.history self.now.machine }
         ensures legal { IsLegal self.now.opening self.now.history }
+        ensures few { length self.now.history ≤ MAX_ENTRIES }
     {
         self.history.as_slice()
+    }
+
+    /// The session's batch of this number, where it has one.
+    pub fn batch(&self, session: usize, id: usize) -> Option<&Batch>
+        ensures { option_copied result ≡ batch_in (batch_of self.now.machine session id) }
+    {
+        self.holdings.batch(session, id)
     }
 
     /// The rack, with the words that the history leaves.

@@ -7,7 +7,7 @@ ghost use Rattle.crossbar.specs.Switch.{Switch};
 ghost use Rattle.module_memory.specs.Store.{Store};
 ghost use Rattle.setting_runner.specs.Plants.{LeavesPlant};
 ghost use Rattle.setting_runner.specs.Runs.{TellsOutcome};
-ghost use Rattle.batch_book.specs.Holdings.{EndsRun, spare_of};
+ghost use Rattle.batch_book.specs.Holdings.{EndsRun, batch_in, spare_of};
 ghost use Rattle.batch_book.specs.Machine.{Machine, opened, owned, batch_of, set_stage, Gives, submit, fetch, settle, show, discard, peek, poke, run_to, IsRunStep, IsMachineStep};
 ghost use Rattle.batch_book.specs.Running.{plan_in, plan_to_run};
 ghost use Rattle.batch_book.specs.Replies.{TellsNoRun, outcome_of, outcome_in};
@@ -128,6 +128,16 @@ impl Holdings {
         match rack {
             Some(rack) => rack,
             None => unreachable!(),
+        }
+    }
+
+    /// The session's batch of this number, where it has one.
+    pub fn batch(&self, session: usize, id: usize) -> Option<&Batch>
+        ensures { option_copied result ≡ batch_in (batch_of self.now session id) }
+    {
+        match owned_by(&self.batches, session, id) {
+            Some(found) => Some(&found.batch),
+            None => None,
         }
     }
 

@@ -3,7 +3,7 @@ use Rattle.std.proofs.Common.{◌≡◌, ◌∙◌, ◌<◌, ℕ, List, length, 
 use Rattle.std.specs.Prelude.{Option, Some, find}
 use Rattle.std.specs.Str.{bytes_eq}
 use Rattle.command_words.specs.declared.commands.CommandName.{CommandName}
-use Rattle.command_words.specs.declared.commands.CommandName.TheVariants.{Plan, Check, Draw, Switch, Drive, C004, Direct, Apply, Run, Serve, Host, Talk}
+use Rattle.command_words.specs.declared.commands.CommandName.TheVariants.{Plan, Check, Draw, Switch, Drive, C004, Direct, Apply, Run, Serve, Host, Talk, Replay}
 use Rattle.command_words.specs.Program.{commands, command_word}
 
 -- what holds of each in the list holds of all
@@ -20,6 +20,7 @@ every_command P each Run = each 8 (omega arith)
 every_command P each Serve = each 9 (omega arith)
 every_command P each Host = each 10 (omega arith)
 every_command P each Talk = each 11 (omega arith)
+every_command P each Replay = each 12 (omega arith)
 
 -- the command that a word calls
 abbrev called_by : List ℕ → Option CommandName
@@ -38,6 +39,7 @@ calls Run = refl
 calls Serve = refl
 calls Host = refl
 calls Talk = refl
+calls Replay = refl
 
 -- no word calls two
 pub same_word : (a b : CommandName) → command_word a ≡ command_word b → a ≡ b

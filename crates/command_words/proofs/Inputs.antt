@@ -1,10 +1,11 @@
 -- Names of files, of which one at most stands for standard input.
-use Rattle.std.proofs.Common.{◌≡◌, ◌<◌, ◌+◌, ℕ, zero, suc, ◌↔◌, Bool, true, false, not, IsTrue, refl, Option, Some, None, List, [], ◌∷◌, ◌++◌, length, take, get_or, sym, ap, ◌∙◌, subst, arith}
+use Rattle.std.proofs.Common.{◌≡◌, ◌<◌, ◌+◌, ℕ, zero, suc, ◌↔◌, Bool, true, false, append-nil, Option, Some, None, List, [], ◌∷◌, ◌++◌, length, take, get_or, sym, ap, ◌∙◌, subst, arith}
 use Rattle.std.specs.Prelude.{◌≢◌, All, option_to_list}
-use Rattle.std.proofs.lemmas.List.{take_more}
+use Rattle.std.proofs.Math.Seq.{get_or-append_seam}
+use Rattle.std.proofs.lemmas.List.{get_or_append_left, length-append, take_more}
 use Rattle.std.proofs.lemmas.List.Quantifiers.{all_pairs_push}
 use Rattle.clap.specs.Words.{Text}
-use Rattle.command_words.specs.Jobs.{NameInputOnce, input_name}
+use Rattle.command_words.specs.Jobs.{NameInputOnce, cue_files, input_name}
 
 -- not both names stand for standard input
 abbrev pub NotBoth : Text → Text → Type 0
@@ -40,12 +41,19 @@ behind_other None names other = (λ once. once, λ once. once)
 behind_other (Some first) names other =
     (λ once. with_first first names once (λ e. absurd (other (ap Some e))), behind_first first names)
 
--- two names before that of standard input: of neither may it be
-pub neither_is_input : (one other : Text) (first second : Bool) → (IsTrue first ↔ (one ≡ input_name)) → (IsTrue second ↔ (other ≡ input_name)) → first ≡ false → IsTrue (not second) ↔ NameInputOnce (one ∷ other ∷ input_name ∷ [])
-neither_is_input one other first true is other_is off =
-    (λ yes. absurd cc, λ once. absurd (once 1 2 one (omega arith) (omega arith) (other_is.0 refl) refl))
-neither_is_input one other first false is other_is off =
-    let alone : NameInputOnce (input_name ∷ []) = λ i j d lt within. absurd (omega (arith, lt, within)) in
-    let differs : one ≢ input_name = λ e. (let bad : true ≡ false = sym (is.1 e) ∙ off in cc) in
-    let other_differs : other ≢ input_name = λ e. (let bad : false ≡ true = other_is.1 e in cc) in
-    (λ _. with_first one (other ∷ input_name ∷ []) (with_first other (input_name ∷ []) alone (λ e. absurd (other_differs e))) (λ e. absurd (differs e)), λ _. refl)
+-- names before that of standard input: of none may it be
+pub none_before_input : (names : List Text) → All (λ name. name ≢ input_name) names ↔ NameInputOnce (names ++ input_name ∷ [])
+none_before_input names = (
+  λ none. all_pairs_push NotBoth names input_name (λ i j d lt within e. none j d within) (λ k d within e. absurd (none k d within e)),
+  λ once k d within is. once k (length names) d within (omega (arith, length-append names (input_name ∷ []))) (get_or_append_left names (input_name ∷ []) d k within ∙ is) (get_or-append_seam names input_name [] d),
+)
+
+-- names before those of what `drive` waits for
+pub once_where_goes_on : (names : List Text) (goes_on : Bool) → goes_on ≡ true → NameInputOnce names ↔ NameInputOnce (names ++ cue_files goes_on)
+once_where_goes_on names true is =
+    (subst NameInputOnce (sym (append-nil names)), subst NameInputOnce (append-nil names))
+once_where_goes_on names false is = absurd cc
+
+pub none_where_waits : (names : List Text) (goes_on : Bool) → goes_on ≡ false → All (λ name. name ≢ input_name) names ↔ NameInputOnce (names ++ cue_files goes_on)
+none_where_waits names true is = absurd cc
+none_where_waits names false is = none_before_input names

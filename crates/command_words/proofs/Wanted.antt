@@ -8,12 +8,12 @@ use Rattle.clap.specs.declared.parser.matches.ValueSource.TheVariants.{CommandLi
 use Rattle.command_words.specs.declared.commands.CommandName.{CommandName}
 use Rattle.command_words.specs.declared.commands.CommandName.TheVariants as name
 use Rattle.command_words.specs.declared.jobs.Job.{Job}
-use Rattle.command_words.specs.declared.jobs.Job.TheVariants.{Plan, Check, Draw, Switch, Drive, C004, Direct, Apply, Run, Serve, Host, Talk}
+use Rattle.command_words.specs.declared.jobs.Job.TheVariants.{Plan, Check, Draw, Switch, Drive, C004, Direct, Apply, Run, Serve, Host, Talk, Replay}
 use Rattle.command_words.specs.declared.jobs.Request.{Request}
 use Rattle.command_words.specs.declared.jobs.ScheduleSource.{ScheduleSource}
 use Rattle.command_words.specs.declared.jobs.ScheduleSource.TheVariants as source
 use Rattle.command_words.specs.Program.{command_word}
-use Rattle.command_words.specs.Jobs.{HasJob, HasSome, HasSource, IsNoInput, IsJob, IsReading, IsRequest, IsWithinLimits, HasWanted, AreClientNames, IsOfNone, MayBeDone, NameInputOnce, clients_of, cue_files, files_of, input_name, name_of, output_of, schedule_files}
+use Rattle.command_words.specs.Jobs.{AreTwo, HasJob, HasSome, HasSource, IsNoInput, IsJob, IsReading, IsRequest, IsWithinLimits, HasWanted, AreClientNames, IsOfNone, MayBeDone, NameInputOnce, clients_of, cue_files, files_of, input_name, name_of, output_of, record_of, schedule_files, switched_files}
 use Rattle.command_words.specs.declared.reading.Lack.{Lack}
 use Rattle.command_words.specs.declared.reading.Lack.TheVariants.{Memory}
 use Rattle.command_words.proofs.CommandNames.{same_word}
@@ -28,8 +28,8 @@ wanted : (rows : List Row) (job : Job) → HasJob rows job → HasWanted (name_o
 wanted rows (Plan file planning) has = ((file, has.0), (planning, has.1))
 wanted rows (Check batch schedule) has = ((batch, has.0), (schedule, has.1))
 wanted rows (Draw batch schedule settings) has = ((batch, has.0), (schedule, has.1))
-wanted rows (Switch batch source) has = ((batch, has.0), (source, has.1))
-wanted rows (Drive batch port port_b source goes_on) has =
+wanted rows (Switch batch source wiring) has = ((batch, has.0), (source, has.1))
+wanted rows (Drive batch port port_b source wiring goes_on) has =
     ((batch, has.0), (port, has.1), (source, has.3))
 wanted rows C004 has = tt
 wanted rows (Direct moves) has = (moves, has)
@@ -38,6 +38,7 @@ wanted rows (Run shape batch image workers) has = ((shape, has.0), (batch, has.1
 wanted rows (Serve rack scripts workers) has = ((rack, has.0), (scripts, has.1), (workers, has.2))
 wanted rows (Host rack clients workers) has = ((rack, has.0), (clients, has.1), (workers, has.2))
 wanted rows (Talk rack) has = (rack, has)
+wanted rows (Replay shape recorded image) has = ((shape, has.0), (recorded, has.1))
 
 -- and so of the command that the word calls
 pub wanted_by : (by : CommandName) (word : Text) (rows : List Row) (job : Job) → command_word by ≡ word → IsJob word rows job → HasWanted by rows
@@ -74,14 +75,18 @@ same_flag (Some DefaultValue) true given = absurd (let bad : Some DefaultValue �
 same_flag None false given = refl
 same_flag (Some DefaultValue) false given = refl
 
+-- the names of the files of `switch`
+abbrev switched_in : List Row → List Text
+switched_in rows =
+    text_in (codes "BATCH") rows ∷ (option_to_list (first_of (codes "schedule") rows) ++ option_to_list (first_of (codes "wiring") rows))
+
 -- the names of the files of a command
 abbrev files_in : CommandName → List Row → List Text
 files_in name.Plan rows = text_in (codes "FILE") rows ∷ []
 files_in name.Check rows = text_in (codes "BATCH") rows ∷ text_in (codes "SCHEDULE") rows ∷ []
 files_in name.Draw rows = text_in (codes "BATCH") rows ∷ text_in (codes "SCHEDULE") rows ∷ []
-files_in name.Switch rows = text_in (codes "BATCH") rows ∷ option_to_list (first_of (codes "schedule") rows)
-files_in name.Drive rows =
-    text_in (codes "BATCH") rows ∷ option_to_list (first_of (codes "schedule") rows) ++ cue_files (given_in (codes "go-on") rows)
+files_in name.Switch rows = switched_in rows
+files_in name.Drive rows = switched_in rows ++ cue_files (given_in (codes "go-on") rows)
 files_in name.C004 rows = input_name ∷ []
 files_in name.Direct rows = text_in (codes "MOVES") rows ∷ []
 files_in name.Apply rows = text_in (codes "BATCH") rows ∷ text_in (codes "IMAGE") rows ∷ []
@@ -89,21 +94,24 @@ files_in name.Run rows = option_to_list (first_of (codes "image") rows) ++ text_
 files_in name.Serve rows = option_to_list (first_of (codes "image") rows) ++ unwrap_or (all_of (codes "SCRIPT") rows) []
 files_in name.Host rows = option_to_list (first_of (codes "image") rows)
 files_in name.Talk rows = option_to_list (first_of (codes "image") rows) ++ input_name ∷ []
+files_in name.Replay rows = option_to_list (first_of (codes "image") rows) ++ text_in (codes "RECORD") rows ∷ []
 
 scheduled : (rows : List Row) (source : ScheduleSource) → HasSource rows source → schedule_files source ≡ option_to_list (first_of (codes "schedule") rows)
 scheduled rows (source.Plan workers) has = rw has.0 refl
 scheduled rows source.Steady has = rw has.0 refl
 scheduled rows (source.File schedule) has = rw has.0 refl
 
+switched_are : (rows : List Row) (batch : Text) (source : ScheduleSource) (wiring : Option Text) → HasJob rows (Switch batch source wiring) → switched_files batch source wiring ≡ switched_in rows
+switched_are rows batch source wiring has = rw (has.0, scheduled rows source has.1, has.2) refl
+
 files_are : (rows : List Row) (job : Job) → HasJob rows job → files_of job ≡ files_in (name_of job) rows
 files_are rows (Plan file planning) has = rw has.0 refl
 files_are rows (Check batch schedule) has = rw (has.0, has.1) refl
 files_are rows (Draw batch schedule settings) has = rw (has.0, has.1) refl
-files_are rows (Switch batch source) has = rw (has.0, scheduled rows source has.1) refl
-files_are rows (Drive batch port port_b source goes_on) has =
-    let flag = same_flag (option_and_then (λ row. row.source) (find (λ row. bytes_eq row.id (codes "go-on")) rows)) goes_on has.4 in
-    ap₂ (λ (name : Text) (more : List Text). name ∷ more) (sym (ap (λ (o : Option Text). unwrap_or o []) has.0))
-    (ap₂ (λ (front more : List Text). front ++ more) (scheduled rows source has.3) (ap cue_files flag))
+files_are rows (Switch batch source wiring) has = switched_are rows batch source wiring has
+files_are rows (Drive batch port port_b source wiring goes_on) has =
+    let flag = same_flag (option_and_then (λ row. row.source) (find (λ row. bytes_eq row.id (codes "go-on")) rows)) goes_on has.5 in
+    ap₂ (λ (front more : List Text). front ++ more) (switched_are rows batch source wiring (has.0, has.3, has.4)) (ap cue_files flag)
 files_are rows C004 has = refl
 files_are rows (Direct moves) has = rw has refl
 files_are rows (Apply shape batch image workers) has = rw (has.1, has.2) refl
@@ -111,6 +119,7 @@ files_are rows (Run shape batch image workers) has = rw (has.1, has.2) refl
 files_are rows (Serve rack scripts workers) has = rw (has.0.image, has.1.0) refl
 files_are rows (Host rack clients workers) has = rw has.0.image refl
 files_are rows (Talk rack) has = rw has.image refl
+files_are rows (Replay shape recorded image) has = rw (has.1, has.2) refl
 
 -- where the image of a command's job goes
 abbrev output_in : CommandName → List Row → Option Text
@@ -124,6 +133,19 @@ output_is rows (Serve rack scripts workers) has = sym has.0.out
 output_is rows (Host rack clients workers) has = sym has.0.out
 output_is rows (Talk rack) has = sym has.out
 output_is rows job has = refl
+
+-- where its record goes
+abbrev record_in : CommandName → List Row → Option Text
+record_in name.Serve rows = first_of (codes "record") rows
+record_in name.Host rows = first_of (codes "record") rows
+record_in name.Talk rows = first_of (codes "record") rows
+record_in other rows = None
+
+record_is : (rows : List Row) (job : Job) → HasJob rows job → record_of job ≡ record_in (name_of job) rows
+record_is rows (Serve rack scripts workers) has = sym has.0.recorded
+record_is rows (Host rack clients workers) has = sym has.0.recorded
+record_is rows (Talk rack) has = sym has.recorded
+record_is rows job has = refl
 
 -- the names of the clients of a command
 abbrev clients_in : CommandName → List Row → List Text
@@ -143,6 +165,15 @@ same_done (Some p) a b one other done =
     let files = files_are p.1 a.job one.job.1 ∙ ap (λ (n : CommandName). files_in n p.1) same ∙ sym (files_are p.1 b.job other.job.1) in
     let output = output_is p.1 a.job one.job.1 ∙ ap (λ (n : CommandName). output_in n p.1) same ∙ sym (output_is p.1 b.job other.job.1) in
     let clients = clients_are p.1 a.job one.job.1 ∙ ap (λ (n : CommandName). clients_in n p.1) same ∙ sym (clients_are p.1 b.job other.job.1) in
-    let out = subst (λ (o : Option Text). IsNoInput o (files_of b.job)) output (subst (IsNoInput (output_of a.job)) files done.output) in
-    let kept = subst (λ (names : List Text). IfSome (output_of b.job) (IsOfNone names)) clients (subst (λ (o : Option Text). IfSome o (IsOfNone (clients_of a.job))) output done.client_files) in
-    record { input = subst NameInputOnce files done.input; output = out; client_files = kept; clients = subst AreClientNames clients done.clients }
+    let recorded = record_is p.1 a.job one.job.1 ∙ ap (λ (n : CommandName). record_in n p.1) same ∙ sym (record_is p.1 b.job other.job.1) in
+    let apart : (o u : Option Text) → o ≡ u → IsNoInput o (files_of a.job) → IsNoInput u (files_of b.job) =
+    λ o u same is. subst (λ (x : Option Text). IsNoInput x (files_of b.job)) same (subst (IsNoInput o) files is) in
+    let kept : (o u : Option Text) → o ≡ u → IfSome o (IsOfNone (clients_of a.job)) → IfSome u (IsOfNone (clients_of b.job)) =
+    λ o u same is. subst (λ (names : List Text). IfSome u (IsOfNone names)) clients (subst (λ (x : Option Text). IfSome x (IsOfNone (clients_of a.job))) same is) in
+    record {
+      input = subst NameInputOnce files done.input;
+      output = (apart _ _ recorded done.output.0, apart _ _ output done.output.1);
+      outputs = subst (λ (o : Option Text). AreTwo o (output_of b.job)) recorded (subst (AreTwo (record_of a.job)) output done.outputs);
+      client_files = (kept _ _ recorded done.client_files.0, kept _ _ output done.client_files.1);
+      clients = subst AreClientNames clients done.clients;
+    }

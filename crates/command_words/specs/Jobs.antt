@@ -11,7 +11,7 @@ use Rattle.clap.specs.declared.error.kind.ErrorKind.TheVariants.{DisplayHelp, Di
 use Rattle.exchange_limits.specs.declared.limits.TheConstants.{MAX_WORKERS}
 use Rattle.command_words.specs.declared.limits.TheConstants.{MAX_CLIENTS}
 use Rattle.command_words.specs.declared.jobs.Job.{Job}
-use Rattle.command_words.specs.declared.jobs.Job.TheVariants.{Plan, Check, Draw, Switch, Drive, C004, Direct, Apply, Run, Serve, Host, Talk}
+use Rattle.command_words.specs.declared.jobs.Job.TheVariants.{Plan, Check, Draw, Switch, Drive, C004, Direct, Apply, Run, Serve, Host, Talk, Replay}
 use Rattle.command_words.specs.declared.jobs.Planning.{Planning}
 use Rattle.command_words.specs.declared.jobs.Planning.TheVariants as planning
 use Rattle.command_words.specs.declared.jobs.Request.{Request}
@@ -75,10 +75,12 @@ HasSource rows (source.File file) =
     HasOption (codes "schedule") rows (Some file) × (IsGiven (codes "steady") rows → ⊥)
     × (IsGiven (codes "workers") rows → ⊥)
 
--- the rack of an exchange: its shape, the image with which it begins, and where its image goes
+-- the rack of an exchange: its shape, the image with which it begins, and where the record of its
+-- sessions and its image go
 pub record HasRack (rows : List Row) (rack : SharedRack) : Type 0 where
   pub shape : HasText (codes "SHAPE") rows rack.shape
   pub image : HasOption (codes "image") rows rack.image
+  pub recorded : HasOption (codes "record") rows rack.record_out
   pub out : HasOption (codes "image-out") rows rack.image_out
 
 -- the command of a job
@@ -86,8 +88,8 @@ abbrev pub name_of : Job → CommandName
 name_of (Plan file planning) = name.Plan
 name_of (Check batch schedule) = name.Check
 name_of (Draw batch schedule settings) = name.Draw
-name_of (Switch batch source) = name.Switch
-name_of (Drive batch port port_b source goes_on) = name.Drive
+name_of (Switch batch source wiring) = name.Switch
+name_of (Drive batch port port_b source wiring goes_on) = name.Drive
 name_of C004 = name.C004
 name_of (Direct moves) = name.Direct
 name_of (Apply shape batch image workers) = name.Apply
@@ -95,6 +97,7 @@ name_of (Run shape batch image workers) = name.Run
 name_of (Serve rack scripts workers) = name.Serve
 name_of (Host rack clients workers) = name.Host
 name_of (Talk rack) = name.Talk
+name_of (Replay shape recorded image) = name.Replay
 
 -- what the arguments and options of its command say of a job
 abbrev pub HasJob : List Row → Job → Type 0
@@ -104,11 +107,13 @@ HasJob rows (Check batch schedule) =
 HasJob rows (Draw batch schedule settings) =
     HasText (codes "BATCH") rows batch × HasText (codes "SCHEDULE") rows schedule
     × HasOption (codes "settings") rows settings
-HasJob rows (Switch batch source) = HasText (codes "BATCH") rows batch × HasSource rows source
-HasJob rows (Drive batch port port_b source goes_on) =
+HasJob rows (Switch batch source wiring) =
+    HasText (codes "BATCH") rows batch × HasSource rows source
+    × HasOption (codes "wiring") rows wiring
+HasJob rows (Drive batch port port_b source wiring goes_on) =
     HasText (codes "BATCH") rows batch × HasText (codes "PORT") rows port
     × HasOption (codes "PORT_B") rows port_b × HasSource rows source
-    × (IsTrue goes_on ↔ IsGiven (codes "go-on") rows)
+    × HasOption (codes "wiring") rows wiring × (IsTrue goes_on ↔ IsGiven (codes "go-on") rows)
 HasJob rows C004 = ⊤
 HasJob rows (Direct moves) = HasText (codes "MOVES") rows moves
 HasJob rows (Apply shape batch image workers) =
@@ -122,6 +127,9 @@ HasJob rows (Serve rack scripts workers) =
 HasJob rows (Host rack clients workers) =
     HasRack rows rack × HasServed (codes "CLIENT") rows clients × HasWorkers rows workers
 HasJob rows (Talk rack) = HasRack rows rack
+HasJob rows (Replay shape recorded image) =
+    HasText (codes "SHAPE") rows shape × HasText (codes "RECORD") rows recorded
+    × HasOption (codes "image") rows image
 
 -- the job of the command that this word calls
 abbrev pub IsJob : Text → List Row → Job → Type 0
@@ -169,13 +177,18 @@ abbrev pub schedule_files : ScheduleSource → List Text
 schedule_files (source.File schedule) = schedule ∷ []
 schedule_files source = []
 
+-- those of `switch`: the wiring is read last, where a file has one
+abbrev pub switched_files : Text → ScheduleSource → Option Text → List Text
+switched_files batch source wiring = batch ∷ (schedule_files source ++ option_to_list wiring)
+
 -- where a driver hears that it may go on, unless it goes on at once: standard input
 abbrev pub cue_files : Bool → List Text
 cue_files true = []
 cue_files false = input_name ∷ []
 
-abbrev pub driven_files : Text → ScheduleSource → Bool → List Text
-driven_files batch source goes_on = batch ∷ schedule_files source ++ cue_files goes_on
+abbrev pub driven_files : Text → ScheduleSource → Option Text → Bool → List Text
+driven_files batch source wiring goes_on =
+    switched_files batch source wiring ++ cue_files goes_on
 
 -- the names of the files that a job reads itself, in this order; the client of `talk` is standard
 -- input, and so is the link of `c004`
@@ -183,8 +196,9 @@ abbrev pub files_of : Job → List Text
 files_of (Plan file planning) = file ∷ []
 files_of (Check batch schedule) = batch ∷ schedule ∷ []
 files_of (Draw batch schedule settings) = batch ∷ schedule ∷ []
-files_of (Switch batch source) = batch ∷ schedule_files source
-files_of (Drive batch port port_b source goes_on) = driven_files batch source goes_on
+files_of (Switch batch source wiring) = switched_files batch source wiring
+files_of (Drive batch port port_b source wiring goes_on) =
+    driven_files batch source wiring goes_on
 files_of C004 = input_name ∷ []
 files_of (Direct moves) = moves ∷ []
 files_of (Apply shape batch image workers) = batch ∷ image ∷ []
@@ -192,10 +206,18 @@ files_of (Run shape batch image workers) = option_to_list image ++ batch ∷ []
 files_of (Serve rack scripts workers) = option_to_list rack.image ++ scripts
 files_of (Host rack clients workers) = option_to_list rack.image
 files_of (Talk rack) = option_to_list rack.image ++ input_name ∷ []
+files_of (Replay shape recorded image) = option_to_list image ++ recorded ∷ []
 
 -- no two of these names stand for standard input
 abbrev pub NameInputOnce : List Text → Type 0
 NameInputOnce names = AllPairs (λ name later. name ≡ input_name → later ≢ input_name) names
+
+-- the file to which the record of a job's sessions goes, where it goes to one
+abbrev pub record_of : Job → Option Text
+record_of (Serve rack scripts workers) = rack.record_out
+record_of (Host rack clients workers) = rack.record_out
+record_of (Talk rack) = rack.record_out
+record_of job = None
 
 -- the file to which the image goes that a job leaves, where it goes to one
 abbrev pub output_of : Job → Option Text
@@ -213,7 +235,16 @@ IsNoInput out names = IfSome out (IsOther names)
 
 -- what a job writes goes to no file that it reads
 abbrev pub KeepsInputs : Job → Type 0
-KeepsInputs job = IsNoInput (output_of job) (files_of job)
+KeepsInputs job =
+    IsNoInput (record_of job) (files_of job) × IsNoInput (output_of job) (files_of job)
+
+-- two files that are written are apart, where there are two
+abbrev pub AreTwo : Option Text → Option Text → Type 0
+AreTwo out later = IfSome out (λ out. All (λ name. name ≢ out) (option_to_list later))
+
+-- the record and the image go to two files
+abbrev pub KeepsRecord : Job → Type 0
+KeepsRecord job = AreTwo (record_of job) (output_of job)
 
 -- the names of a job's live clients; `host` has some
 abbrev pub clients_of : Job → List Text
@@ -229,7 +260,9 @@ IsOfNone clients file = All (λ client. IsFileOf client file → ⊥) clients
 
 -- what a job writes goes to none of its clients' files
 abbrev pub KeepsClientFiles : Job → Type 0
-KeepsClientFiles job = IfSome (output_of job) (IsOfNone (clients_of job))
+KeepsClientFiles job =
+    IfSome (record_of job) (IsOfNone (clients_of job))
+    × IfSome (output_of job) (IsOfNone (clients_of job))
 
 -- the byte that ends a line
 abbrev pub line_feed : ℕ
@@ -245,10 +278,11 @@ pub record AreClientNames (names : List Text) : Type 0 where
   pub apart : AllPairs (λ name later. name ≢ later) names
 
 -- a job may be done: one of its files at most is standard input, what it writes goes to no file
--- that it reads, nor to one of a client's, and its clients can be told apart
+-- that it reads, nor to one of a client's, nor to one file, and its clients can be told apart
 pub record MayBeDone (job : Job) : Type 0 where
   pub input : NameInputOnce (files_of job)
   pub output : KeepsInputs job
+  pub outputs : KeepsRecord job
   pub client_files : KeepsClientFiles job
   pub clients : AreClientNames (clients_of job)
 
@@ -318,6 +352,8 @@ HasWanted name.Serve rows =
 HasWanted name.Host rows =
     HasSome (HasRack rows) × HasSome (HasServed (codes "CLIENT") rows) × HasSome (HasWorkers rows)
 HasWanted name.Talk rows = HasSome (HasRack rows)
+HasWanted name.Replay rows =
+    HasSome (HasText (codes "SHAPE") rows) × HasSome (HasText (codes "RECORD") rows)
 
 -- what is read of the rows: something of which this is so; or what is lacking, which is memory
 -- where there is something to read

@@ -9,9 +9,9 @@ use Rattle.clap.specs.declared.builder.action.ArgAction.TheVariants.{SetTrue}
 use Rattle.clap.specs.declared.builder.value_parser.ValueParser.TheVariants as parser
 use Rattle.exchange_limits.specs.declared.limits.TheConstants.{MAX_WORKERS}
 use Rattle.command_words.specs.declared.commands.Argument.{Argument}
-use Rattle.command_words.specs.declared.commands.Argument.TheVariants.{Shape, File, Batch, Schedule, Port, PortB, Moves, Image, Scripts, Clients, ImageOption, ImageOut, Settings, ScheduleOption, Steady, GoOn, Workers, Quiet}
+use Rattle.command_words.specs.declared.commands.Argument.TheVariants.{Shape, File, Batch, Schedule, Port, PortB, Moves, Image, Record, Scripts, Clients, ImageOption, RecordOut, ImageOut, Settings, ScheduleOption, WiringOption, Steady, GoOn, Workers, Quiet}
 use Rattle.command_words.specs.declared.commands.CommandName.{CommandName}
-use Rattle.command_words.specs.declared.commands.CommandName.TheVariants.{Plan, Check, Draw, Switch, Drive, C004, Direct, Apply, Run, Serve, Host, Talk}
+use Rattle.command_words.specs.declared.commands.CommandName.TheVariants.{Plan, Check, Draw, Switch, Drive, C004, Direct, Apply, Run, Serve, Host, Talk, Replay}
 use Rattle.command_words.specs.declared.limits.TheConstants.{MAX_CLIENTS}
 
 -- ---- what a command takes
@@ -56,12 +56,15 @@ rule_for Port = one_argument (codes "PORT")
 rule_for PortB = spare_word (codes "PORT_B")
 rule_for Moves = one_argument (codes "MOVES")
 rule_for Image = one_argument (codes "IMAGE")
+rule_for Record = one_argument (codes "RECORD")
 rule_for Scripts = client_arguments (codes "SCRIPT")
 rule_for Clients = client_arguments (codes "CLIENT")
 rule_for ImageOption = option (codes "image")
+rule_for RecordOut = option (codes "record")
 rule_for ImageOut = option (codes "image-out")
 rule_for Settings = option (codes "settings")
 rule_for ScheduleOption = option (codes "schedule")
+rule_for WiringOption = option (codes "wiring")
 rule_for Steady = flag (codes "steady")
 rule_for GoOn = flag (codes "go-on")
 rule_for Workers = workers
@@ -72,25 +75,34 @@ rule_for Quiet = flag (codes "quiet")
 -- all of them, in their order
 abbrev pub commands : List CommandName
 commands =
-    Plan ∷ Check ∷ Draw ∷ Switch ∷ Drive ∷ C004 ∷ Direct ∷ Apply ∷ Run ∷ Serve ∷ Host ∷ Talk ∷ []
+    Plan ∷ Check ∷ Draw ∷ Switch ∷ Drive ∷ C004 ∷ Direct ∷ Apply ∷ Run ∷ Serve ∷ Host ∷ Talk
+    ∷ Replay ∷ []
 
 -- the word that calls a command, and what it takes, in this order
 abbrev pub sheet_of : CommandName → List ℕ × List Argument
 sheet_of Plan = (codes "plan", File ∷ Steady ∷ Workers ∷ Quiet ∷ [])
 sheet_of Check = (codes "check", Batch ∷ Schedule ∷ Quiet ∷ [])
 sheet_of Draw = (codes "draw", Batch ∷ Schedule ∷ Settings ∷ Quiet ∷ [])
-sheet_of Switch = (codes "switch", Batch ∷ ScheduleOption ∷ Steady ∷ Workers ∷ Quiet ∷ [])
+sheet_of Switch =
+    (codes "switch", Batch ∷ ScheduleOption ∷ Steady ∷ Workers ∷ WiringOption ∷ Quiet ∷ [])
 sheet_of Drive = (
   codes "drive",
-  Batch ∷ Port ∷ PortB ∷ ScheduleOption ∷ Steady ∷ Workers ∷ GoOn ∷ Quiet ∷ [],
+  Batch ∷ Port ∷ PortB ∷ ScheduleOption ∷ Steady ∷ Workers ∷ WiringOption ∷ GoOn ∷ Quiet ∷ [],
 )
 sheet_of C004 = (codes "c004", Quiet ∷ [])
 sheet_of Direct = (codes "direct", Moves ∷ Quiet ∷ [])
 sheet_of Apply = (codes "apply", Shape ∷ Batch ∷ Image ∷ Workers ∷ Quiet ∷ [])
 sheet_of Run = (codes "run", Shape ∷ Batch ∷ ImageOption ∷ Workers ∷ Quiet ∷ [])
-sheet_of Serve = (codes "serve", Shape ∷ Scripts ∷ ImageOption ∷ ImageOut ∷ Workers ∷ Quiet ∷ [])
-sheet_of Host = (codes "host", Shape ∷ Clients ∷ ImageOption ∷ ImageOut ∷ Workers ∷ Quiet ∷ [])
-sheet_of Talk = (codes "talk", Shape ∷ ImageOption ∷ ImageOut ∷ Quiet ∷ [])
+sheet_of Serve = (
+  codes "serve",
+  Shape ∷ Scripts ∷ ImageOption ∷ RecordOut ∷ ImageOut ∷ Workers ∷ Quiet ∷ [],
+)
+sheet_of Host = (
+  codes "host",
+  Shape ∷ Clients ∷ ImageOption ∷ RecordOut ∷ ImageOut ∷ Workers ∷ Quiet ∷ [],
+)
+sheet_of Talk = (codes "talk", Shape ∷ ImageOption ∷ RecordOut ∷ ImageOut ∷ Quiet ∷ [])
+sheet_of Replay = (codes "replay", Shape ∷ Record ∷ ImageOption ∷ Quiet ∷ [])
 
 abbrev pub command_word : CommandName → List ℕ
 command_word name = (sheet_of name).0

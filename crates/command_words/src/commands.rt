@@ -19,6 +19,7 @@ pub(crate) enum CommandName {
     Serve,
     Host,
     Talk,
+    Replay,
 }
 
 /// What a command may take: arguments in capitals, which have to be there, and options, which may
@@ -41,18 +42,24 @@ pub(crate) enum Argument {
     Moves,
     /// `IMAGE`.
     Image,
+    /// `RECORD`.
+    Record,
     /// `SCRIPT..`, from 1 to [`MAX_CLIENTS`](crate::MAX_CLIENTS) arguments.
     Scripts,
     /// `CLIENT..`, as many.
     Clients,
     /// `--image FILE`.
     ImageOption,
+    /// `--record FILE`.
+    RecordOut,
     /// `--image-out FILE`.
     ImageOut,
     /// `--settings A..B`.
     Settings,
     /// `--schedule FILE`.
     ScheduleOption,
+    /// `--wiring FILE`.
+    WiringOption,
     /// `--steady`.
     Steady,
     /// `--go-on`.
@@ -65,7 +72,7 @@ pub(crate) enum Argument {
 
 impl CommandName {
     /// All commands, in the order in which the program's help lists them.
-    pub(crate) const ALL: [CommandName; 12] = [
+    pub(crate) const ALL: [CommandName; 13] = [
         CommandName::Plan,
         CommandName::Check,
         CommandName::Draw,
@@ -78,6 +85,7 @@ impl CommandName {
         CommandName::Serve,
         CommandName::Host,
         CommandName::Talk,
+        CommandName::Replay,
     ];
 
     /// The command that this word calls, if one does.
@@ -100,13 +108,17 @@ impl CommandName {
     {
         use Argument::{
             Batch, Clients, File, GoOn, Image, ImageOption, ImageOut, Moves, Port, PortB, Quiet,
-            Schedule, ScheduleOption, Scripts, Settings, Shape, Steady, Workers,
+            Record, RecordOut, Schedule, ScheduleOption, Scripts, Settings, Shape, Steady,
+            WiringOption, Workers,
         };
         match self {
             CommandName::Plan => ("plan", &[File, Steady, Workers, Quiet]),
             CommandName::Check => ("check", &[Batch, Schedule, Quiet]),
             CommandName::Draw => ("draw", &[Batch, Schedule, Settings, Quiet]),
-            CommandName::Switch => ("switch", &[Batch, ScheduleOption, Steady, Workers, Quiet]),
+            CommandName::Switch => (
+                "switch",
+                &[Batch, ScheduleOption, Steady, Workers, WiringOption, Quiet],
+            ),
             CommandName::Drive => {
                 (
                     "drive",
@@ -117,6 +129,7 @@ impl CommandName {
                         ScheduleOption,
                         Steady,
                         Workers,
+                        WiringOption,
                         GoOn,
                         Quiet,
                     ],
@@ -128,13 +141,30 @@ impl CommandName {
             CommandName::Run => ("run", &[Shape, Batch, ImageOption, Workers, Quiet]),
             CommandName::Serve => (
                 "serve",
-                &[Shape, Scripts, ImageOption, ImageOut, Workers, Quiet],
+                &[
+                    Shape,
+                    Scripts,
+                    ImageOption,
+                    RecordOut,
+                    ImageOut,
+                    Workers,
+                    Quiet,
+                ],
             ),
             CommandName::Host => (
                 "host",
-                &[Shape, Clients, ImageOption, ImageOut, Workers, Quiet],
+                &[
+                    Shape,
+                    Clients,
+                    ImageOption,
+                    RecordOut,
+                    ImageOut,
+                    Workers,
+                    Quiet,
+                ],
             ),
-            CommandName::Talk => ("talk", &[Shape, ImageOption, ImageOut, Quiet]),
+            CommandName::Talk => ("talk", &[Shape, ImageOption, RecordOut, ImageOut, Quiet]),
+            CommandName::Replay => ("replay", &[Shape, Record, ImageOption, Quiet]),
         }
     }
 }

@@ -54,13 +54,13 @@ pub(crate) fn named_twice(alloc: Global) -> ArgumentsFault
     misused(alloc, ErrorKind::ArgumentConflict, message)
 }
 
-/// The fault of arguments whose image would be written over what is read, over a client's file, or
-/// to standard output.
+/// The fault of arguments whose record or image would be written over what is read, over a client's
+/// file, over one another, or to standard output.
 pub(crate) fn overwritten(alloc: Global) -> ArgumentsFault
     ensures { IsMistake result }
 {
     let message =
-        "the file of `--image-out` can't be `-`, nor one that is read, nor one of a client's";
+        "the files of `--record` and `--image-out` can't be `-`, nor one that is read, nor one of a client's, nor the same";
     misused(alloc, ErrorKind::ArgumentConflict, message)
 }
 

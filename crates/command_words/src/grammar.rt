@@ -6,12 +6,7 @@ ghost use Rattle.clap.specs.Words.{app_of, new_app};
 ghost use Rattle.command_words.specs.Program.{IsArgument, IsCommand, IsLocal, command as command_app, flag, option, program, rule_for, spare_word, top, with_arguments, with_command, one_argument, client_arguments, workers};
 
 use crate::commands::{Argument, CommandName};
-use crate::help::{
-    BATCH_HELP, CLIENT_HELP, CommandHelp, GO_ON_HELP, IMAGE_HELP, IMAGE_OPTION_HELP,
-    IMAGE_OUT_HELP, MOVES_HELP, PORT_B_HELP, PORT_HELP, PROGRAM, QUIET_HELP, SCHEDULE_HELP,
-    SCHEDULE_OPTION_HELP, SCRIPT_HELP, SETTINGS_HELP, SHAPE_HELP, STEADY_HELP, WORKERS_HELP,
-    help_of,
-};
+use crate::help::{CommandHelp, PROGRAM, help_of, help_on};
 use crate::jobs::ArgumentsFault;
 use crate::limits::{MAX_CLIENTS, VERSION};
 use clap::{Arg, ArgAction, ArgMatches, Command, value_parser};
@@ -47,10 +42,10 @@ fn option<'a>(alloc: Global, id: &'a str, value: &'a str, help: &'a str) -> Arg<
 }
 
 /// `--workers N`.
-fn workers<'a>(alloc: Global) -> Arg<'a>
+fn workers<'a>(alloc: Global, help: &'a str) -> Arg<'a>
     ensures { IsArgument workers result }
 {
-    option(alloc, "workers", "1..64", WORKERS_HELP)
+    option(alloc, "workers", "1..64", help)
         .value_parser(value_parser!(u8).range(1..=MAX_WORKERS as i64))
         .default_value("1")
 }
@@ -69,25 +64,29 @@ fn flag<'a>(alloc: Global, id: &'a str, help: &'a str) -> Arg<'a>
 fn arg_of<'a>(alloc: Global, argument: Argument) -> Arg<'a>
     ensures { IsArgument (rule_for argument) result }
 {
+    let help: &'a str = help_on(argument);
     match argument {
-        Argument::Shape => one_argument(alloc, "SHAPE", SHAPE_HELP),
-        Argument::File => one_argument(alloc, "FILE", BATCH_HELP),
-        Argument::Batch => one_argument(alloc, "BATCH", BATCH_HELP),
-        Argument::Schedule => one_argument(alloc, "SCHEDULE", SCHEDULE_HELP),
-        Argument::Port => one_argument(alloc, "PORT", PORT_HELP),
-        Argument::PortB => spare_word(alloc, "PORT_B", PORT_B_HELP),
-        Argument::Moves => one_argument(alloc, "MOVES", MOVES_HELP),
-        Argument::Image => one_argument(alloc, "IMAGE", IMAGE_HELP),
-        Argument::Scripts => client_arguments(alloc, "SCRIPT", SCRIPT_HELP),
-        Argument::Clients => client_arguments(alloc, "CLIENT", CLIENT_HELP),
-        Argument::ImageOption => option(alloc, "image", "FILE", IMAGE_OPTION_HELP),
-        Argument::ImageOut => option(alloc, "image-out", "FILE", IMAGE_OUT_HELP),
-        Argument::Settings => option(alloc, "settings", "A..B", SETTINGS_HELP),
-        Argument::ScheduleOption => option(alloc, "schedule", "FILE", SCHEDULE_OPTION_HELP),
-        Argument::Steady => flag(alloc, "steady", STEADY_HELP),
-        Argument::GoOn => flag(alloc, "go-on", GO_ON_HELP),
-        Argument::Workers => workers(alloc),
-        Argument::Quiet => flag(alloc, "quiet", QUIET_HELP),
+        Argument::Shape => one_argument(alloc, "SHAPE", help),
+        Argument::File => one_argument(alloc, "FILE", help),
+        Argument::Batch => one_argument(alloc, "BATCH", help),
+        Argument::Schedule => one_argument(alloc, "SCHEDULE", help),
+        Argument::Port => one_argument(alloc, "PORT", help),
+        Argument::PortB => spare_word(alloc, "PORT_B", help),
+        Argument::Moves => one_argument(alloc, "MOVES", help),
+        Argument::Image => one_argument(alloc, "IMAGE", help),
+        Argument::Record => one_argument(alloc, "RECORD", help),
+        Argument::Scripts => client_arguments(alloc, "SCRIPT", help),
+        Argument::Clients => client_arguments(alloc, "CLIENT", help),
+        Argument::ImageOption => option(alloc, "image", "FILE", help),
+        Argument::RecordOut => option(alloc, "record", "FILE", help),
+        Argument::ImageOut => option(alloc, "image-out", "FILE", help),
+        Argument::Settings => option(alloc, "settings", "A..B", help),
+        Argument::ScheduleOption => option(alloc, "schedule", "FILE", help),
+        Argument::WiringOption => option(alloc, "wiring", "FILE", help),
+        Argument::Steady => flag(alloc, "steady", help),
+        Argument::GoOn => flag(alloc, "go-on", help),
+        Argument::Workers => workers(alloc, help),
+        Argument::Quiet => flag(alloc, "quiet", help),
     }
 }
 

@@ -2,7 +2,7 @@
 //! rows hold the words, and what lies on both sides of the limit; how many modules one switch joins
 //! is of the chip, and a row holds the words.
 
-use crate::commands::CommandName;
+use crate::commands::{Argument, CommandName};
 
 /// What help says of a command.
 pub(crate) struct CommandHelp {
@@ -29,6 +29,7 @@ pub(crate) fn help_of(name: CommandName) -> &'static CommandHelp {
         CommandName::Serve => &SERVE,
         CommandName::Host => &HOST,
         CommandName::Talk => &TALK,
+        CommandName::Replay => &REPLAY,
     }
 }
 
@@ -172,11 +173,19 @@ m on link m of each, and each setting has two lines:
   setting S b ..    the switch of the way back
 A run has two switches where its rack has more than 16 modules, whatever BATCH
 names. Behind each setting it also enquires all outputs, which isn't told here.
+With --wiring the links are those of a board with one switch. FILE has a line
+for each of its N modules, from 0 on, and one before them:
+  wiring N
+  module M link 0 at A link 3 at B   link 0 of module M is on link A of the
+                                     switch, and link 3 on link B
+with N from 1 to 16, and links from 0 to 31, each of them once.
 Whether two transfers write one block, which a run refuses, isn't looked at.
 
 Else it is the first of these that is wrong. The files are read first:
   refused file            a file can't be read
-  refused ..              BATCH, as `exchange plan --help` shows
+  refused wiring line N   line N of the wiring, from 1, is wrong or missing
+  refused ..              BATCH, as `exchange plan --help` shows; with --wiring
+                          it may name no module that isn't wired
   refused schedule line N line N of FILE, as `exchange check --help` shows
   refused check ..        the same, where FILE has no schedule of BATCH
 
@@ -194,7 +203,7 @@ Example: a driver and a switch of this program, with two pipes between them:
   ./exchange drive examples/three-transfers.txt board --go-on",
     notes: "\
 BATCH is a batch text, in the form that `exchange plan --help` shows. Which
-schedule of it is driven, and where there are two switches,
+schedule of it is driven, where there are two switches, and what --wiring is,
 `exchange switch --help` tells. PORT is the way to the only switch, or to switch
 a, and PORT_B that to switch b: a device of a link adaptor, which is opened to
 read and write; or, where PORT.in and PORT.out are there, two named pipes, of
@@ -219,8 +228,8 @@ raw alters bytes and may hold them. Both are settled before, for a device:
   stty -F PORT raw -echo min 0 time 20
 
 Else nothing is sent, and the answer is the first of these that is wrong:
-  refused file            BATCH or FILE can't be read
-  refused ..              BATCH or FILE, as `exchange switch --help` shows
+  refused file            a file can't be read
+  refused ..              a file, as `exchange switch --help` shows
   refused ports W         W ports are wanted: 2 where BATCH names a module above
                           15, else 1
   refused port a          PORT can't be opened; `port b`: PORT_B can't
@@ -406,21 +415,23 @@ With `host` there is `ended open` too, for a client whose files can't be opened.
 The line `logs disagree` at the end would say that what the sessions did isn't
 what the exchange's history has of them, or that it began on another rack.
 
-With --image-out the words of the rack when all sessions have ended are written
-to FILE, in the form that `exchange apply --help` shows. It is opened before the
-first session, made where it isn't there, and emptied only then. It can't be
-`-`, nor one that is read, nor one of a client's. Nothing is written where the
-logs disagree.
+With --record each call of all sessions, in the order in which the exchange met
+them, and its reply are written to FILE when all sessions have ended, in the
+form that `exchange replay --help` shows. With --image-out the words of the rack
+are then written to FILE, in the form that `exchange apply --help` shows. Each
+FILE is opened before the first session, made where it isn't there, and emptied
+only then. It can't be `-`, nor one that is read, nor one of a client's, nor the
+other's. Nothing is written where the logs disagree.
 
 Else nothing is served, and the answer is the first of these that is wrong:
   refused file               the image or a SCRIPT can't be read, or the FILE of
-                             --image-out can't be opened
+                             --record or --image-out can't be opened
   refused shape              SHAPE is no shape
   refused image L W          the image has L bytes, and the shape wants W
 
 Status: 0 each session ended with its script or by `bye`, 1 one of them didn't,
 or the logs disagree, or nothing was served, or there was no memory, 2 the words
-fit no command, 3 the answer or the image couldn't be written.",
+fit no command, 3 the answer, the record or the image couldn't be written.",
 };
 
 /// What help says of `host`.
@@ -460,19 +471,21 @@ shows, and here they mean:
   ended cut     the client went away within a line or within a batch
   ended read    CLIENT.in can't be read any further
   ended write   the client reads its replies no more
-The last line may be `logs disagree`, as with `serve`. Of --image-out
-`exchange serve --help` tells.
+The last line may be `logs disagree`, as with `serve`. Of --record and
+--image-out `exchange serve --help` tells.
 
 Else nobody is served and no pipe is opened, and the answer is the first of
 these that is wrong:
-  refused file       the image can't be read, or that of --image-out not opened
+  refused file       the image can't be read, or the FILE of --record or
+                     --image-out can't be opened
   refused shape      SHAPE is no shape
   refused image L W  the image has L bytes, and the shape wants W
   refused threads    the system has no thread for each client
 
 Status: 0 each session ended with its CLIENT.in or by `bye`, 1 one of them
 didn't, or the logs disagree, or nobody was served, or there was no memory, 2
-the words fit no command, 3 the answer or the image couldn't be written.",
+the words fit no command, 3 the answer, the record or the image couldn't be
+written.",
 };
 
 /// What help says of `talk`.
@@ -491,16 +504,59 @@ before the next is read. So the image can't be `-`. The lines are
 `exchange serve --help` says what each does, and what it is answered by.
 
 The session ends with the input or by `bye`; where it doesn't, its last line is
-`ended ..`, as `exchange serve --help` shows, which also tells of --image-out.
+`ended ..`, as `exchange serve --help` shows, which also tells of --record and
+--image-out.
 
 Else nothing is read, and the answer is the first of these that is wrong:
-  refused file       the image can't be read, or that of --image-out not opened
+  refused file       the image can't be read, or the FILE of --record or
+                     --image-out can't be opened
   refused shape      SHAPE is no shape
   refused image L W  the image has L bytes, and the shape wants W
 
 Status: 0 the session ended with its input or by `bye`, 1 it didn't, or it was
-refused, or there was no memory, 2 the words fit no command, 3 the answer or the
-image couldn't be written.",
+refused, or there was no memory, 2 the words fit no command, 3 the answer, the
+record or the image couldn't be written.",
+};
+
+/// What help says of `replay`.
+const REPLAY: CommandHelp = CommandHelp {
+    about: "Replays a record: makes its calls again, compares each reply, and prints the image left",
+    example: "\
+Example:
+  ./exchange replay 2x2x2 examples/two-clients.record.txt > after.img",
+    notes: "\
+SHAPE is MxKxW, in the form that `exchange run --help` shows. RECORD is what
+--record of `exchange serve` wrote, or of `host` or `talk`: the line `record N`,
+with N up to 65536, and then N entries. An entry is
+  S CALL   what session S, from 0, asked: a line of a session, as
+           `exchange serve --help` shows, and behind `batch N` its N lines
+  REPLY    the line that it was answered by
+But `plan ID` is two calls: `fetch ID`, which is answered by `fetched`, and
+`settle ID`, which is answered as `plan ID` is. `progress` and `bye` are none,
+nor is a line or a batch that was refused for its form.
+
+The calls are made again, one after the other, on a rack whose words are at
+first 0, or those of the image where there is one. Each reply is compared with
+the record's. Where `settle ID` stands the batch is planned again: no plan is in
+a record, and no reply depends on which it was. The answer is the image of the
+words that are left, in the form that `exchange apply --help` shows, and it is
+what --image-out wrote beside RECORD.
+
+Else the answer is the first of these that is wrong. The files are read first:
+  refused file            RECORD or the image can't be read
+  refused shape           SHAPE is no shape
+  refused image L W       the image has L bytes, and the shape wants W
+  refused record head     the first line isn't `record N`
+  refused record call E   E entries are right, and no call stands behind them
+  refused record reply E  E entries are right, and the call behind them is
+                          answered by another line
+  refused record more     something stands behind the N entries
+The line on standard error says what stands there, and what is due. The first E
+entries behind a line `record E` are a record too: cut one, and look at the
+words that it leaves.
+
+Status: 0 the image was printed, 1 the record was refused or there was no
+memory, 2 the words fit no command, 3 the answer couldn't be written.",
 };
 
 /// What help says of the program, below the commands too.
@@ -525,58 +581,32 @@ or a session that ended badly, 2 the words fit no command, 3 the answer couldn't
 be written.",
 };
 
-/// What is said of the shape of a rack.
-pub(crate) const SHAPE_HELP: &str = "The shape of the rack, as 3x2x2";
-
-/// What is said of a batch's file.
-pub(crate) const BATCH_HELP: &str = "The file of the batch, or - for standard input";
-
-/// What is said of a file of moves.
-pub(crate) const MOVES_HELP: &str = "The file of the moves, or - for standard input";
-
-/// What is said of a schedule's file.
-pub(crate) const SCHEDULE_HELP: &str = "The file of the schedule, or - for standard input";
-
-/// What is said of `--settings`.
-pub(crate) const SETTINGS_HELP: &str = "The settings to draw, A to B, counted from 0";
-
-/// What is said of `--schedule`.
-pub(crate) const SCHEDULE_OPTION_HELP: &str = "The file of its schedule, or - for standard input";
-
-/// What is said of `--steady`.
-pub(crate) const STEADY_HELP: &str = "Plan so that the switch changes seldom";
-
-/// What is said of an image's file.
-pub(crate) const IMAGE_HELP: &str = "The file of the words before, or - for standard input";
-
-/// What is said of `--image`.
-pub(crate) const IMAGE_OPTION_HELP: &str =
-    "The file of the words before, an image as `exchange apply --help` shows";
-
-/// What is said of `--image-out`.
-pub(crate) const IMAGE_OUT_HELP: &str = "The file for the image of the words behind all sessions";
-
-/// What is said of a port.
-pub(crate) const PORT_HELP: &str = "The device of the switch, or the pipes PORT.in and PORT.out";
-
-/// What is said of the second port.
-pub(crate) const PORT_B_HELP: &str = "That of switch b, where there are two";
-
-/// What is said of `--go-on`.
-pub(crate) const GO_ON_HELP: &str = "Wait for no line of standard input behind a setting";
-
-/// What is said of a script.
-pub(crate) const SCRIPT_HELP: &str = "A file of session lines, or - for standard input";
-
-/// What is said of a client's name.
-pub(crate) const CLIENT_HELP: &str =
-    "The name of a client, whose files are CLIENT.in and CLIENT.out";
-
-/// What is said of `--workers`.
-pub(crate) const WORKERS_HELP: &str = "\
+/// What help says of an argument.
+pub(crate) fn help_on(argument: Argument) -> &'static str {
+    match argument {
+        Argument::Shape => "The shape of the rack, as 3x2x2",
+        Argument::File | Argument::Batch => "The file of the batch, or - for standard input",
+        Argument::Schedule => "The file of the schedule, or - for standard input",
+        Argument::Port => "The device of the switch, or the pipes PORT.in and PORT.out",
+        Argument::PortB => "That of switch b, where there are two",
+        Argument::Moves => "The file of the moves, or - for standard input",
+        Argument::Image => "The file of the words before, or - for standard input",
+        Argument::Record => "The file of the record, or - for standard input",
+        Argument::Scripts => "A file of session lines, or - for standard input",
+        Argument::Clients => "The name of a client, whose files are CLIENT.in and CLIENT.out",
+        Argument::ImageOption =>
+            "The file of the words before, an image as `exchange apply --help` shows",
+        Argument::RecordOut => "The file for the record of all sessions' calls",
+        Argument::ImageOut => "The file for the image of the words behind all sessions",
+        Argument::Settings => "The settings to draw, A to B, counted from 0",
+        Argument::ScheduleOption => "The file of its schedule, or - for standard input",
+        Argument::WiringOption => "The file of the board's wiring, or - for standard input",
+        Argument::Steady => "Plan so that the switch changes seldom",
+        Argument::GoOn => "Wait for no line of standard input behind a setting",
+        Argument::Workers => "\
 How many workers there may be, from 1 to 64. One is quickest here:
 wires of this program never wait. More are for wires that do, as an
-emulator's own, through the library";
-
-/// What is said of `--quiet`.
-pub(crate) const QUIET_HELP: &str = "Tell nothing on standard error beside a refusal";
+emulator's own, through the library",
+        Argument::Quiet => "Tell nothing on standard error beside a refusal",
+    }
+}

@@ -1,7 +1,7 @@
 //! Which files are standard input.
 
 ghost use Rattle.std.specs.Prelude.{◌≡◌, ◌≢◌, ◌↔◌, ◌++◌, ◌∷◌, [], All, IsTrue, Some, option_to_list};
-ghost use Rattle.command_words.specs.Jobs.{NameInputOnce, driven_files, files_of, input_name};
+ghost use Rattle.command_words.specs.Jobs.{NameInputOnce, driven_files, files_of, input_name, switched_files};
 
 use crate::jobs::{Job, ScheduleSource};
 use crate::text::Text;
@@ -55,23 +55,60 @@ pub(crate) fn name_input_once_behind(first: &Option<Text>, names: &[Text]) -> bo
     name_input_once(names)
 }
 
-/// Whether neither of these names stands for standard input.
-fn are_no_input(one: &Text, other: &Text) -> bool
-    ensures { IsTrue result ↔ NameInputOnce (one.now ∷ other.now ∷ input_name ∷ []) }
+/// Whether at most one of two names stands for standard input, where there may be no second.
+fn is_one_input(name: &Text, other: &Option<Text>) -> bool
+    ensures { IsTrue result ↔ NameInputOnce (name.now ∷ option_to_list other.now) }
 {
-    !one.is_input() && !other.is_input()
+    match other {
+        Some(other) => !(name.is_input() && other.is_input()),
+        None => true,
+    }
 }
 
-/// Whether standard input is at most one of the batch, the schedule's file, and what `drive` waits
-/// for.
-fn drives_by_one_input(batch: &Text, source: &ScheduleSource, goes_on: bool) -> bool
-    ensures { IsTrue result ↔ NameInputOnce (driven_files batch.now source.now goes_on) }
+/// Whether neither of two names stands for standard input, where there may be no second.
+fn is_no_input(name: &Text, other: &Option<Text>) -> bool
+    ensures { IsTrue result ↔
+        All (λ name. name ≢ input_name) (name.now ∷ option_to_list other.now) }
+{
+    !name.is_input() && !is_input(other)
+}
+
+/// Whether standard input is at most one of the batch, the schedule's file and the wiring's.
+fn switches_by_one_input(batch: &Text, source: &ScheduleSource, wiring: &Option<Text>) -> bool
+    ensures { IsTrue result ↔ NameInputOnce (switched_files batch.now source.now wiring.now) }
 {
     match source {
-        ScheduleSource::File(schedule) if goes_on => !(batch.is_input() && schedule.is_input()),
-        ScheduleSource::File(schedule) => are_no_input(batch, schedule),
-        _ => goes_on || !batch.is_input(),
+        ScheduleSource::File(schedule) if batch.is_input() => is_no_input(schedule, wiring),
+        ScheduleSource::File(schedule) => is_one_input(schedule, wiring),
+        _ => is_one_input(batch, wiring),
     }
+}
+
+/// Whether standard input is none of the batch, the schedule's file and the wiring's.
+fn switches_by_no_input(batch: &Text, source: &ScheduleSource, wiring: &Option<Text>) -> bool
+    ensures { IsTrue result ↔
+        All (λ name. name ≢ input_name) (switched_files batch.now source.now wiring.now) }
+{
+    match source {
+        ScheduleSource::File(schedule) => !batch.is_input() && is_no_input(schedule, wiring),
+        _ => is_no_input(batch, wiring),
+    }
+}
+
+/// Whether standard input is at most one of those, and of what `drive` waits for.
+fn drives_by_one_input(
+    batch: &Text,
+    source: &ScheduleSource,
+    wiring: &Option<Text>,
+    goes_on: bool,
+) -> bool
+    ensures { IsTrue result ↔
+        NameInputOnce (driven_files batch.now source.now wiring.now goes_on) }
+{
+    if goes_on {
+        return switches_by_one_input(batch, source, wiring);
+    }
+    switches_by_no_input(batch, source, wiring)
 }
 
 /// Whether at most one of a job's files is standard input.
@@ -85,25 +122,31 @@ pub(crate) fn reads_input_once(job: &Job) -> bool
             schedule,
             ..
         }
-        | Job::Switch {
-            batch,
-            source: ScheduleSource::File(schedule),
-        }
         | Job::Apply {
             batch,
             image: schedule,
             ..
         } => !(batch.is_input() && schedule.is_input()),
+        Job::Switch {
+            batch,
+            source,
+            wiring,
+        } => switches_by_one_input(batch, source, wiring),
         Job::Drive {
             batch,
             source,
+            wiring,
             goes_on,
             ..
-        } => drives_by_one_input(batch, source, *goes_on),
-        Job::Run { batch, image, .. } => !(is_input(image) && batch.is_input()),
+        } => drives_by_one_input(batch, source, wiring, *goes_on),
+        Job::Run { batch, image, .. }
+        | Job::Replay {
+            recorded: batch,
+            image,
+            ..
+        } => !(is_input(image) && batch.is_input()),
         Job::Serve { rack, scripts, .. } => name_input_once_behind(&rack.image, scripts.as_slice()),
         Job::Talk { rack } => !is_input(&rack.image),
-        Job::Plan { .. } | Job::Switch { .. } | Job::C004 | Job::Direct { .. } | Job::Host { .. } =>
-            true,
+        Job::Plan { .. } | Job::C004 | Job::Direct { .. } | Job::Host { .. } => true,
     }
 }

@@ -31,18 +31,22 @@ pub enum Job {
         schedule: Text,
         settings: Option<Text>,
     },
-    /// Tell what a run of a schedule of the batch of a file sends the switches.
+    /// Tell what a run of a schedule of the batch of a file sends the switches, or the one switch
+    /// of a board whose wiring a file has.
     Switch {
         batch: Text,
         source: ScheduleSource,
+        wiring: Option<Text>,
     },
-    /// Set the switches behind a port, or behind two, as each setting of a schedule of the batch of
-    /// a file calls for, and behind each wait for a line of standard input, unless it goes on.
+    /// Set the switches behind a port, or behind two, or the one switch of a board whose wiring a
+    /// file has, as each setting of a schedule of the batch of a file calls for, and behind each
+    /// wait for a line of standard input, unless it goes on.
     Drive {
         batch: Text,
         port: Text,
         port_b: Option<Text>,
         source: ScheduleSource,
+        wiring: Option<Text>,
         goes_on: bool,
     },
     /// Be a switch whose configuration link is standard input and output.
@@ -85,6 +89,13 @@ pub enum Job {
     Talk {
         rack: SharedRack,
     },
+    /// Make the calls of the record of a file again on a rack of the shape, which may begin with
+    /// the words of an image's file, and compare each reply.
+    Replay {
+        shape: Text,
+        recorded: Text,
+        image: Option<Text>,
+    },
 }
 
 /// The rack of an exchange.
@@ -94,6 +105,8 @@ pub struct SharedRack {
     pub shape: Text,
     /// The file of the image with whose words it begins; without one all are 0.
     pub image: Option<Text>,
+    /// The file to which the record of its sessions goes once all have ended.
+    pub record_out: Option<Text>,
     /// The file to which its image goes once all sessions have ended.
     pub image_out: Option<Text>,
 }

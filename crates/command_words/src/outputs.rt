@@ -1,7 +1,7 @@
-//! The file to which an image goes.
+//! The files to which a record and an image go.
 
-ghost use Rattle.std.specs.Prelude.{◌≢◌, ◌↔◌, ◌++◌, All, IsTrue, option_to_list};
-ghost use Rattle.command_words.specs.Jobs.{IsNoInput, IsFileOf, IsOfNone, IsOther, KeepsClientFiles, KeepsInputs};
+ghost use Rattle.std.specs.Prelude.{◌≢◌, ◌↔◌, ◌++◌, All, IfSome, IsTrue, option_to_list};
+ghost use Rattle.command_words.specs.Jobs.{AreTwo, IsNoInput, IsFileOf, IsOfNone, IsOther, KeepsClientFiles, KeepsInputs, KeepsRecord};
 
 use crate::clients::is_none_of;
 use crate::jobs::{Job, SharedRack};
@@ -17,7 +17,7 @@ fn is_not(name: &Text, other: &Option<Text>) -> bool
     }
 }
 
-/// Whether an image may go to a file of this name: to none of those that are read.
+/// Whether a file of this name may be written: it is none of those that are read.
 fn is_other(out: &Text, image: &Option<Text>, names: &[Text]) -> bool
     ensures { IsTrue result ↔ IsOther (option_to_list image.now ++ names.now) out.now }
 {
@@ -27,20 +27,30 @@ fn is_other(out: &Text, image: &Option<Text>, names: &[Text]) -> bool
     is_not(out, image) && is_none_of(out, names)
 }
 
-/// Whether the image of a rack may go where it is to go, where these files are read beside its
-/// image.
-fn is_apart(rack: &SharedRack, names: &[Text]) -> bool
-    ensures { IsTrue result ↔ IsNoInput rack.now.image_out
-        (option_to_list rack.now.image ++ names.now) }
+/// Whether a file of this name, where there is one, may be written: it is none of those that are
+/// read.
+fn may_be_written(out: &Option<Text>, image: &Option<Text>, names: &[Text]) -> bool
+    ensures { IsTrue result ↔ IsNoInput out.now (option_to_list image.now ++ names.now) }
 {
-    match &rack.image_out {
-        Some(out) => is_other(out, &rack.image, names),
+    match out {
+        Some(out) => is_other(out, image, names),
         None => true,
     }
 }
 
-/// Whether the image that a job leaves goes to none of the files that it reads, nor to standard
-/// output.
+/// Whether the record of an exchange and its image may go where they are to go, where these files
+/// are read beside the image with which it begins.
+fn is_apart(rack: &SharedRack, names: &[Text]) -> bool
+    ensures { IsTrue result ↔
+        (IsNoInput rack.now.record_out (option_to_list rack.now.image ++ names.now)
+        × IsNoInput rack.now.image_out (option_to_list rack.now.image ++ names.now)) }
+{
+    may_be_written(&rack.record_out, &rack.image, names)
+        && may_be_written(&rack.image_out, &rack.image, names)
+}
+
+/// Whether the record and the image that a job leaves go to none of the files that it reads, nor to
+/// standard output.
 pub(crate) fn keeps_inputs(job: &Job) -> bool
     ensures { IsTrue result ↔ KeepsInputs job.now }
 {
@@ -48,6 +58,29 @@ pub(crate) fn keeps_inputs(job: &Job) -> bool
         Job::Serve { rack, scripts, .. } => is_apart(rack, scripts.as_slice()),
         Job::Host { rack, .. } => is_apart(rack, &[]),
         Job::Talk { rack } => is_apart(rack, &[]),
+        _ => true,
+    }
+}
+
+/// Whether two files that are written are apart, where there are two.
+fn are_two(out: &Option<Text>, later: &Option<Text>) -> bool
+    ensures { IsTrue result ↔ AreTwo out.now later.now }
+{
+    match out {
+        Some(out) => is_not(out, later),
+        None => true,
+    }
+}
+
+/// Whether the record and the image that a job leaves go to two files.
+pub(crate) fn keeps_record(job: &Job) -> bool
+    ensures { IsTrue result ↔ KeepsRecord job.now }
+{
+    match job {
+        Job::Serve { rack, .. } | Job::Host { rack, .. } | Job::Talk { rack } => are_two(
+            &rack.record_out,
+            &rack.image_out,
+        ),
         _ => true,
     }
 }
@@ -74,19 +107,25 @@ fn is_of_none(clients: &[Text], file: &Text) -> bool
     true
 }
 
-/// Whether the image that a job leaves goes to none of its clients' files.
+/// Whether a file of this name, where there is one, is none of these clients'.
+fn is_no_client_file(clients: &[Text], out: &Option<Text>) -> bool
+    ensures { IsTrue result ↔ IfSome out.now (IsOfNone clients.now) }
+{
+    match out {
+        Some(out) => is_of_none(clients, out),
+        None => true,
+    }
+}
+
+/// Whether the record and the image that a job leaves go to none of its clients' files.
 pub(crate) fn keeps_client_files(job: &Job) -> bool
     ensures { IsTrue result ↔ KeepsClientFiles job.now }
 {
     match job {
-        Job::Host {
-            rack: SharedRack {
-                image_out: Some(out),
-                ..
-            },
-            clients,
-            ..
-        } => is_of_none(clients.as_slice(), out),
+        Job::Host { rack, clients, .. } => {
+            is_no_client_file(clients.as_slice(), &rack.record_out)
+                && is_no_client_file(clients.as_slice(), &rack.image_out)
+        }
         _ => true,
     }
 }

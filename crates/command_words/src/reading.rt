@@ -14,7 +14,7 @@ use crate::grammar::matches_of;
 use crate::input::reads_input_once;
 use crate::jobs::{ArgumentsFault, Job, Planning, Request, ScheduleSource, SharedRack};
 use crate::limits::MAX_CLIENTS;
-use crate::outputs::{keeps_client_files, keeps_inputs};
+use crate::outputs::{keeps_client_files, keeps_inputs, keeps_record};
 use crate::text::Text;
 use crate::text_list::TextList;
 use clap::ArgMatches;
@@ -138,6 +138,7 @@ fn rack_of(alloc: Global, matches: &ArgMatches<'_>) -> Result<SharedRack, Lack>
     Ok(SharedRack {
         shape: text_of(alloc, matches, "SHAPE")?,
         image: option_of(alloc, matches, "image")?,
+        record_out: option_of(alloc, matches, "record")?,
         image_out: option_of(alloc, matches, "image-out")?,
     })
 }
@@ -180,6 +181,7 @@ fn switch_job(alloc: Global, found: &ArgMatches<'_>) -> Result<Job, Lack>
     Ok(Job::Switch {
         batch: text_of(alloc, found, "BATCH")?,
         source: source_of(alloc, found)?,
+        wiring: option_of(alloc, found, "wiring")?,
     })
 }
 
@@ -192,6 +194,7 @@ fn drive_job(alloc: Global, found: &ArgMatches<'_>) -> Result<Job, Lack>
         port: text_of(alloc, found, "PORT")?,
         port_b: option_of(alloc, found, "PORT_B")?,
         source: source_of(alloc, found)?,
+        wiring: option_of(alloc, found, "wiring")?,
         goes_on: is_given(found, "go-on"),
     })
 }
@@ -260,6 +263,17 @@ fn talk_job(alloc: Global, found: &ArgMatches<'_>) -> Result<Job, Lack>
     })
 }
 
+/// The job of `replay`.
+fn replay_job(alloc: Global, found: &ArgMatches<'_>) -> Result<Job, Lack>
+    ensures { IsReadJob CommandName.Replay (rows_in found.now) result }
+{
+    Ok(Job::Replay {
+        shape: text_of(alloc, found, "SHAPE")?,
+        recorded: text_of(alloc, found, "RECORD")?,
+        image: option_of(alloc, found, "image")?,
+    })
+}
+
 /// The job of a command by its matches.
 fn job_of(alloc: Global, name: CommandName, found: &ArgMatches<'_>) -> Result<Job, Lack>
     ensures { IsReadJob name (rows_in found.now) result }
@@ -277,6 +291,7 @@ fn job_of(alloc: Global, name: CommandName, found: &ArgMatches<'_>) -> Result<Jo
         CommandName::Serve => serve_job(alloc, found),
         CommandName::Host => host_job(alloc, found),
         CommandName::Talk => talk_job(alloc, found),
+        CommandName::Replay => replay_job(alloc, found),
     }
 }
 
@@ -311,9 +326,9 @@ fn request_named(alloc: Global, arguments: &[String]) -> Result<Request, Argumen
     }
 }
 
-/// Whether a job may be done: its fault, where several of its files are standard input, or an image
-/// would go to a file that is read or a client's, or to standard output, or its clients can't be
-/// told apart.
+/// Whether a job may be done: its fault, where several of its files are standard input, or a record
+/// or an image would go to a file that is read or a client's, or to standard output, or both to one
+/// file, or its clients can't be told apart.
 fn judged(alloc: Global, job: &Job) -> Result<(), ArgumentsFault>
     ensures done { OnOk result (MayBeDone job.now) }
     ensures refused { OnErr result (MayBeDone job.now → ⊥) }
@@ -322,7 +337,7 @@ fn judged(alloc: Global, job: &Job) -> Result<(), ArgumentsFault>
     if !reads_input_once(job) {
         return Err(named_twice(alloc));
     }
-    if !keeps_inputs(job) || !keeps_client_files(job) {
+    if !keeps_inputs(job) || !keeps_record(job) || !keeps_client_files(job) {
         return Err(overwritten(alloc));
     }
     if !names_clients(job) {
@@ -337,8 +352,9 @@ fn judged(alloc: Global, job: &Job) -> Result<(), ArgumentsFault>
 /// texts and its number of workers, and whether it is quiet. Other arguments are clap's error of
 /// what is at fault in them, which holds the text to print; a demand for help or for the program's
 /// version is one. So are arguments that fit, but give two of `--workers`, `--steady` and
-/// `--schedule`, or name a job of which several files are `-`, standard input, or an image that
-/// would go to one of its files, to a client's or to `-`, or clients whose names are no names.
+/// `--schedule`, or name a job of which several files are `-`, standard input, or a record or an
+/// image that would go to one of its files, to a client's, to `-` or to the other's, or clients
+/// whose names are no names.
 /// Where there was no memory, nothing is said about the arguments: clap's error of that kind is
 /// [`ArgumentsFault::NoMemory`], too.
 pub fn read_arguments(alloc: Global, arguments: &[String]) -> Result<Request, ArgumentsFault>

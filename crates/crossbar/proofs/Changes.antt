@@ -1,16 +1,24 @@
 -- Joins and cuts of pairs, output by output.
-use Rattle.std.proofs.Common.{◌≡◌, ◌≢◌, ◌<◌, ◌+◌, ◌==◌, ◌&&◌, ◌||◌, ◌⊎◌, inl, inr, ℕ, Bool, true, false, not, cond, eqb, List, [], ◌∷◌, ◌++◌, map, refl, sym, ap, ap₂, ◌∙◌, subst, arith, Option, Some, None}
+use Rattle.std.proofs.Common.{◌≡◌, ◌≢◌, ◌<◌, ◌+◌, ◌==◌, ◌&&◌, ◌||◌, ◌⊎◌, inl, inr, ℕ, Bool, true, false, not, cond, eqb, List, [], ◌∷◌, ◌++◌, map, length, refl, sym, ap, ap₂, ◌∙◌, subst, arith, Option, Some, None}
 use Rattle.std.specs.Ordering.{nat_cmp}
 use Rattle.std.specs.Cmp.{nat_cmp_total, unsigned_tied}
 use Rattle.std.specs.List.{flat_map, list_any, AllByRecursion}
 use Rattle.std.specs.FinMap.{get, insert, remove, find, get-empty, get-from_entries}
-use Rattle.c004_commands.specs.declared.command.Command.TheVariants.{Settle}
+use Rattle.c004_commands.specs.declared.command.Command.TheVariants.{Join, CutPair, Settle}
 use Rattle.crossbar.specs.Switch.{Sources, Switch, after, after_all, idle}
 use Rattle.crossbar.specs.Pairs.{ArePairs, room_of, ends, switch_of, join, cut, is_pair, without, setting, change}
 use Rattle.crossbar.specs.declared.chip.Wiring.{Wiring}
-use Rattle.crossbar.specs.declared.chip.Wiring.TheVariants.{Both, Forth, Back}
+use Rattle.crossbar.specs.declared.chip.Wiring.TheVariants.{Both, Forth, Back, Board}
 use Rattle.crossbar.specs.declared.pair.Pair.{Pair}
 use Rattle.crossbar.specs.declared.switch.TheConstants.{JOINED_MODULES}
+use Rattle.std.proofs.lemmas.Bool.Decides.{nat_tests}
+use Rattle.std.proofs.lemmas.List.Folds.{list_any_at}
+use Rattle.crossbar.specs.Boards.{is_at}
+use Rattle.crossbar.specs.Others.{IsFree, LeaveAlone}
+use Rattle.c004_commands.specs.declared.command.Command.{Command}
+use Rattle.crossbar.specs.Wired.{links_of, unwired, link0_on, link3_on}
+use Rattle.crossbar.specs.declared.board.BoardWiring.{BoardWiring}
+use Rattle.crossbar.proofs.Boards.{never_one, one_link0, one_link3}
 use Rattle.crossbar.proofs.Carrying.{after_all-append}
 use Rattle.crossbar.proofs.Latches.{get-put, get-cut, same_sources, eqb_yes}
 
@@ -19,12 +27,14 @@ abbrev meets : Wiring → ℕ → Pair → Bool
 meets Both o p = o == p.initiator || o == JOINED_MODULES + p.responder
 meets Forth o p = o == p.responder
 meets Back o p = o == p.initiator
+meets (Board b) o p = o == link0_on b p.initiator || o == link3_on b p.responder
 
 -- the input that the pair gives to an output of its own
 abbrev partner : Wiring → Pair → ℕ → ℕ
 partner Both p o = cond (o == p.initiator) (JOINED_MODULES + p.responder) p.initiator
 partner Forth p o = p.initiator
 partner Back p o = p.responder
+partner (Board b) p o = cond (o == link0_on b p.initiator) (link3_on b p.responder) (link0_on b p.initiator)
 
 abbrev any : Wiring → List Pair → ℕ → Bool
 any w [] o = false
@@ -89,33 +99,47 @@ all_in P (q ∷ qs) p a i = elim i [
   | inr h ↦ all_in P qs p a.1 h
 ]
 
-low : (w : Wiring) (ps : List Pair) (p : Pair) → ArePairs (room_of w) ps → In p ps → p.initiator < room_of w
+-- the switch has links for a pair
+abbrev Fits : Wiring → Pair → Type 0
+Fits w p = (p.initiator < room_of w) × (p.responder < room_of w)
+
+low : (w : Wiring) (ps : List Pair) (p : Pair) → ArePairs (room_of w) ps → In p ps → Fits w p
 low w [] p a i = absurd i
 low w (q ∷ qs) p a i = elim i [
-  | inl e ↦ subst (λ (x : Pair). x.initiator < room_of w) e a.0
+  | inl e ↦ subst (Fits w) e (a.0, a.1)
   | inr h ↦ low w qs p a.4 h
 ]
 
 -- the two outputs of a pair on one switch
-meets_cases : (o : ℕ) (p : Pair) → meets Both o p ≡ true → (o ≡ JOINED_MODULES + p.responder) ⊎ (o ≡ p.initiator)
-meets_cases o p e = elim (or_cases (o == p.initiator) (o == JOINED_MODULES + p.responder) e) [
-  | inl h ↦ inr (same_number o p.initiator h)
-  | inr h ↦ inl (same_number o (JOINED_MODULES + p.responder) h)
+meets_cases : (o i r : ℕ) → (o == i || o == r) ≡ true → (o ≡ r) ⊎ (o ≡ i)
+meets_cases o i r e = elim (or_cases (o == i) (o == r) e) [
+  | inl h ↦ inr (same_number o i h)
+  | inr h ↦ inl (same_number o r h)
 ]
 
 -- pairs that the switch has links for, and that meet in an output, have one initiator or one
 -- responder
-shared : (w : Wiring) (o : ℕ) (p q : Pair) → p.initiator < room_of w → q.initiator < room_of w → meets w o p ≡ true → meets w o q ≡ true → (p.initiator ≡ q.initiator) ⊎ (p.responder ≡ q.responder)
-shared Both o p q a b m n = elim (meets_cases o p m) [
-  | inl x ↦ elim (meets_cases o q n) [ inl y ↦ inr (omega arith) | inr y ↦ absurd (omega arith) ]
-  | inr x ↦ elim (meets_cases o q n) [ inl y ↦ absurd (omega arith) | inr y ↦ inl (omega arith) ]
+shared : (w : Wiring) (o : ℕ) (p q : Pair) → Fits w p → Fits w q → meets w o p ≡ true → meets w o q ≡ true → (p.initiator ≡ q.initiator) ⊎ (p.responder ≡ q.responder)
+shared Both o p q a b m n = elim (meets_cases o p.initiator (JOINED_MODULES + p.responder) m) [
+  | inl x ↦ elim (meets_cases o q.initiator (JOINED_MODULES + q.responder) n) [ inl y ↦ inr (omega arith) | inr y ↦ absurd (omega arith) ]
+  | inr x ↦ elim (meets_cases o q.initiator (JOINED_MODULES + q.responder) n) [ inl y ↦ absurd (omega arith) | inr y ↦ inl (omega arith) ]
+]
+shared (Board w) o p q a b m n = elim (meets_cases o (link0_on w p.initiator) (link3_on w p.responder) m) [
+  | inl x ↦ elim (meets_cases o (link0_on w q.initiator) (link3_on w q.responder) n) [
+    | inl y ↦ inr (one_link3 (links_of w) p.responder q.responder unwired w.own a.1 b.1 (sym x ∙ y))
+    | inr y ↦ absurd (never_one (links_of w) q.initiator p.responder unwired w.own b.0 a.1 (sym y ∙ x))
+  ]
+  | inr x ↦ elim (meets_cases o (link0_on w q.initiator) (link3_on w q.responder) n) [
+    | inl y ↦ absurd (never_one (links_of w) p.initiator q.responder unwired w.own a.0 b.1 (sym x ∙ y))
+    | inr y ↦ inl (one_link0 (links_of w) p.initiator q.initiator unwired w.own a.0 b.0 (sym x ∙ y))
+  ]
 ]
 shared Forth o p q a b m n = inr (sym (same_number o p.responder m) ∙ same_number o q.responder n)
 shared Back o p q a b m n = inl (sym (same_number o p.initiator m) ∙ same_number o q.initiator n)
 
 -- the first of a matching shares nothing with the others
 apart : (w : Wiring) (p q : Pair) (qs : List Pair) (o : ℕ) → ArePairs (room_of w) (p ∷ qs) → In q qs → meets w o p ≡ true → meets w o q ≡ true → ⊥
-apart w p q qs o a i m n = elim (shared w o p q a.0 (low w qs q a.4 i) m n) [
+apart w p q qs o a i m n = elim (shared w o p q (a.0, a.1) (low w qs q a.4 i) m n) [
   | inl e ↦ let lt : p.initiator < q.initiator = all_in (λ (x : Pair). p.initiator < x.initiator) qs q a.2 i in omega arith
   | inr e ↦ all_in (λ (x : Pair). p.responder ≢ x.responder) qs q a.3 i e
 ]
@@ -145,21 +169,30 @@ two_cut true false g = refl
 two_cut false true g = refl
 two_cut false false g = refl
 
+-- two links that are joined, and two that are cut
+get_joined : (i r : ℕ) (s : Switch) (o : ℕ) → get (after (Join i r) s).sources o ≡ cond (o == i || o == r) (Some (cond (o == i) r i)) (get s.sources o)
+get_joined i r s o =
+    get-put (insert s.sources r i) i r o
+    ∙ ap (λ g. cond (eqb o i) (Some r) g) (get-put s.sources r i o)
+    ∙ two (eqb o i) (eqb o r) r i (get s.sources o)
+
+get_parted : (i r : ℕ) (s : Switch) (o : ℕ) → get (after (CutPair i r) s).sources o ≡ cond (o == i || o == r) None (get s.sources o)
+get_parted i r s o =
+    get-cut (remove s.sources i) r o
+    ∙ ap (λ g. cond (eqb o r) None g) (get-cut s.sources i o)
+    ∙ two_cut (eqb o i) (eqb o r) (get s.sources o)
+
 get_join : (w : Wiring) (p : Pair) (s : Switch) (o : ℕ) → get (after (join w p) s).sources o ≡ cond (meets w o p) (Some (partner w p o)) (get s.sources o)
-get_join Both p s o =
-    get-put (insert s.sources (JOINED_MODULES + p.responder) p.initiator) p.initiator (JOINED_MODULES + p.responder) o
-    ∙ ap (λ g. cond (eqb o p.initiator) (Some (JOINED_MODULES + p.responder)) g) (get-put s.sources (JOINED_MODULES + p.responder) p.initiator o)
-    ∙ two (eqb o p.initiator) (eqb o (JOINED_MODULES + p.responder)) (JOINED_MODULES + p.responder) p.initiator (get s.sources o)
+get_join Both p s o = get_joined p.initiator (JOINED_MODULES + p.responder) s o
 get_join Forth p s o = get-put s.sources p.responder p.initiator o
 get_join Back p s o = get-put s.sources p.initiator p.responder o
+get_join (Board b) p s o = get_joined (link0_on b p.initiator) (link3_on b p.responder) s o
 
 get_cut : (w : Wiring) (p : Pair) (s : Switch) (o : ℕ) → get (after (cut w p) s).sources o ≡ cond (meets w o p) None (get s.sources o)
-get_cut Both p s o =
-    get-cut (remove s.sources p.initiator) (JOINED_MODULES + p.responder) o
-    ∙ ap (λ g. cond (eqb o (JOINED_MODULES + p.responder)) None g) (get-cut s.sources p.initiator o)
-    ∙ two_cut (eqb o p.initiator) (eqb o (JOINED_MODULES + p.responder)) (get s.sources o)
+get_cut Both p s o = get_parted p.initiator (JOINED_MODULES + p.responder) s o
 get_cut Forth p s o = get-cut s.sources p.responder o
 get_cut Back p s o = get-cut s.sources p.initiator o
+get_cut (Board b) p s o = get_parted (link0_on b p.initiator) (link3_on b p.responder) s o
 
 joins : Wiring → List Pair → Switch → Switch
 joins w ps s = after_all (map (join w) ps) s
@@ -196,10 +229,14 @@ cuts_at w (p ∷ ps) s o =
 source : Wiring → List Pair → ℕ → Option ℕ
 source w ps o = get (switch_of w ps).sources o
 
+find_two : (i r : ℕ) (es : List (ℕ × ℕ)) (o : ℕ) → find nat_cmp o ((i, r) ∷ (r, i) ∷ es) ≡ cond (o == i || o == r) (Some (cond (o == i) r i)) (find nat_cmp o es)
+find_two i r es o =
+    ap₂ (λ a b. cond a (Some r) (cond b (Some i) (find nat_cmp o es))) (unsigned_tied o i) (unsigned_tied o r)
+    ∙ two (eqb o i) (eqb o r) r i (find nat_cmp o es)
+
 find_ends : (w : Wiring) (p : Pair) (es : List (ℕ × ℕ)) (o : ℕ) → find nat_cmp o (ends w p ++ es) ≡ cond (meets w o p) (Some (partner w p o)) (find nat_cmp o es)
-find_ends Both p es o =
-    ap₂ (λ a b. cond a (Some (JOINED_MODULES + p.responder)) (cond b (Some p.initiator) (find nat_cmp o es))) (unsigned_tied o p.initiator) (unsigned_tied o (JOINED_MODULES + p.responder))
-    ∙ two (eqb o p.initiator) (eqb o (JOINED_MODULES + p.responder)) (JOINED_MODULES + p.responder) p.initiator (find nat_cmp o es)
+find_ends Both p es o = find_two p.initiator (JOINED_MODULES + p.responder) es o
+find_ends (Board b) p es o = find_two (link0_on b p.initiator) (link3_on b p.responder) es o
 find_ends Forth p es o = ap (λ a. cond a (Some p.initiator) (find nat_cmp o es)) (unsigned_tied o p.responder)
 find_ends Back p es o = ap (λ a. cond a (Some p.responder) (find nat_cmp o es)) (unsigned_tied o p.initiator)
 
@@ -351,3 +388,63 @@ unfolding joins source
 setting_law w s pairs a =
     after_all-append (map (join w) pairs) (Settle ∷ []) idle
     ∙ ap (λ (m : Sources). record { sources = m; ready = true }) (same_sources _ _ (set_afresh w pairs a))
+
+-- ---- links that no module is on
+
+free0 : (b : BoardWiring) (m link : ℕ) → m < length (links_of b) → IsFree b link → (link0_on b m ≡ link) → ⊥
+free0 b m link lt free same =
+    let taken : list_any (is_at link) (links_of b) ≡ true = list_any_at (is_at link) (links_of b) m unwired lt (grind (arith, nat_tests)) in absurd cc
+
+free3 : (b : BoardWiring) (m link : ℕ) → m < length (links_of b) → IsFree b link → (link3_on b m ≡ link) → ⊥
+free3 b m link lt free same =
+    let taken : list_any (is_at link) (links_of b) ≡ true = list_any_at (is_at link) (links_of b) m unwired lt (grind (arith, nat_tests)) in absurd cc
+
+-- commands for pairs that aren't among others leave a link alone that those for pairs leave alone
+left_by : (b : BoardWiring) (link : ℕ) (f : Pair → Command) → ((p : Pair) → Fits (Board b) p → LeaveAlone link (f p ∷ [])) → (others ps : List Pair) → ArePairs (room_of (Board b)) ps → LeaveAlone link (map f (without others ps))
+unfolding has
+left_by b link f one others [] a = tt
+left_by b link f one others (p ∷ ps) a = kept (not (has others p)) (without others ps) (left_by b link f one others ps a.4) where
+  kept : (yes : Bool) (qs : List Pair) → LeaveAlone link (map f qs) → LeaveAlone link (map f (cond yes (p ∷ qs) qs))
+  kept true qs h = ((one p (a.0, a.1)).0, h)
+  kept false qs h = h
+
+left_join : (b : BoardWiring) (link : ℕ) → IsFree b link → (p : Pair) → Fits (Board b) p → LeaveAlone link (join (Board b) p ∷ [])
+left_join b link free p fits = ((free0 b p.initiator link fits.0 free, (free3 b p.responder link fits.1 free, tt)), tt)
+
+left_cut : (b : BoardWiring) (link : ℕ) → IsFree b link → (p : Pair) → Fits (Board b) p → LeaveAlone link (cut (Board b) p ∷ [])
+left_cut b link free p fits = ((free0 b p.initiator link fits.0 free, (free3 b p.responder link fits.1 free, tt)), tt)
+
+left_both : (link : ℕ) (cs ds : List Command) → LeaveAlone link cs → LeaveAlone link ds → LeaveAlone link (cs ++ ds)
+left_both link [] ds p q = q
+left_both link (c ∷ cs) ds p q = (p.0, left_both link cs ds p.1 q)
+
+pub others_in_change : (b : BoardWiring) (old new : List Pair) (link : ℕ) → ArePairs (room_of (Board b)) old → ArePairs (room_of (Board b)) new → IsFree b link → LeaveAlone link (change (Board b) old new)
+others_in_change b old new link o n free =
+    left_both link (map (cut (Board b)) (without new old)) (map (join (Board b)) (without old new) ++ Settle ∷ [])
+    (left_by b link (cut (Board b)) (left_cut b link free) new old o)
+    (left_both link (map (join (Board b)) (without old new)) (Settle ∷ []) (left_by b link (join (Board b)) (left_join b link free) old new n) (tt, tt))
+
+without_none : (ps : List Pair) → without [] ps ≡ ps
+without_none [] = refl
+without_none (p ∷ ps) = ap (λ t. p ∷ t) (without_none ps)
+
+pub others_in_setting : (b : BoardWiring) (pairs : List Pair) (link : ℕ) → ArePairs (room_of (Board b)) pairs → IsFree b link → LeaveAlone link (setting (Board b) pairs)
+others_in_setting b pairs link a free =
+    let joins = subst (λ (ps : List Pair). LeaveAlone link (map (join (Board b)) ps)) (without_none pairs) (left_by b link (join (Board b)) (left_join b link free) [] pairs a) in
+    (tt, left_both link (map (join (Board b)) pairs) (Settle ∷ []) joins (tt, tt))
+
+none_meets : (b : BoardWiring) (ps : List Pair) (link : ℕ) → ArePairs (room_of (Board b)) ps → IsFree b link → any (Board b) ps link ≡ false
+none_meets b ps link a free = elim (true_or_false (any (Board b) ps link)) [
+  | inl t ↦
+      let who = witness (Board b) ps link t in
+      let fits = low (Board b) ps who.0 a who.1 in
+      elim (meets_cases link (link0_on b who.0.initiator) (link3_on b who.0.responder) who.2) [
+        | inl e ↦ absurd (free3 b who.0.responder link fits.1 free (sym e))
+        | inr e ↦ absurd (free0 b who.0.initiator link fits.0 free (sym e))
+      ]
+  | inr f ↦ f
+]
+
+pub others_are_loose : (b : BoardWiring) (pairs : List Pair) (link : ℕ) → ArePairs (room_of (Board b)) pairs → IsFree b link → get (switch_of (Board b) pairs).sources link ≡ None
+unfolding source
+others_are_loose b pairs link a free = source_none (Board b) pairs link (none_meets b pairs link a free)

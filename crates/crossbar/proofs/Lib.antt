@@ -2,3 +2,4 @@ pub mod Latches
 pub mod Carrying
 pub mod Changes
 pub mod Fronts
+pub mod Boards

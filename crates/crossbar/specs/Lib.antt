@@ -2,7 +2,10 @@ pub mod Switch
 pub mod Modules
 pub mod Latches
 pub mod Port
+pub mod Boards
+pub mod Wired
 pub mod Chips
 pub mod Pairs
+pub mod Others
 pub mod Fuse
 pub mod Traffic

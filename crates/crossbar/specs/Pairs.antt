@@ -1,7 +1,7 @@
 -- Pairs of modules, the commands that join them on a switch, and the switch that has just them
 -- joined. A switch connects those ends of a pair's links that are wired to it. Which commands a
 -- setting and a change are is this project's choice.
-use Rattle.std.specs.Prelude.{◌≡◌, ◌≢◌, ◌<◌, ◌≤◌, ◌==◌, ◌&&◌, ℕ, Bool, true, not, List, [], ◌∷◌, ◌++◌, map, filter}
+use Rattle.std.specs.Prelude.{◌≡◌, ◌≢◌, ◌<◌, ◌≤◌, ◌==◌, ◌&&◌, ℕ, Bool, true, not, List, [], ◌∷◌, ◌++◌, map, filter, length}
 use Rattle.std.specs.List.{flat_map, list_any, AllByRecursion}
 use Rattle.std.specs.FinMap as finmap
 use Rattle.c004_commands.specs.declared.command.Command.{Command}
@@ -10,8 +10,9 @@ use Rattle.c004_commands.specs.declared.port.TheConstants.{PORTS}
 use Rattle.crossbar.specs.Switch.{Switch}
 use Rattle.crossbar.specs.Chips.{Switches}
 use Rattle.crossbar.specs.Modules.{link0, link3}
+use Rattle.crossbar.specs.Wired.{links_of, link0_on, link3_on}
 use Rattle.crossbar.specs.declared.chip.Wiring.{Wiring}
-use Rattle.crossbar.specs.declared.chip.Wiring.TheVariants.{Both, Forth, Back}
+use Rattle.crossbar.specs.declared.chip.Wiring.TheVariants.{Both, Forth, Back, Board}
 use Rattle.crossbar.specs.declared.pair.Pair.{Pair}
 use Rattle.crossbar.specs.declared.switch.TheConstants.{JOINED_MODULES}
 
@@ -20,6 +21,7 @@ abbrev pub room_of : Wiring → ℕ
 room_of Both = JOINED_MODULES
 room_of Forth = PORTS
 room_of Back = PORTS
+room_of (Board board) = length (links_of board)
 
 -- pairs among so many modules that can be joined at once, in the order of a setting: initiators
 -- ascend, and responders differ
@@ -37,6 +39,9 @@ ends Both pair =
     (link0 pair.initiator, link3 pair.responder) ∷ (link3 pair.responder, link0 pair.initiator) ∷ []
 ends Forth pair = (pair.responder, pair.initiator) ∷ []
 ends Back pair = (pair.initiator, pair.responder) ∷ []
+ends (Board board) pair =
+    (link0_on board pair.initiator, link3_on board pair.responder)
+    ∷ (link3_on board pair.responder, link0_on board pair.initiator) ∷ []
 
 -- the switch of pairs: ready, and just their ends are connected
 abbrev pub switch_of : Wiring → List Pair → Switch
@@ -55,12 +60,14 @@ abbrev pub join : Wiring → Pair → Command
 join Both pair = Join (link0 pair.initiator) (link3 pair.responder)
 join Forth pair = Connect pair.initiator pair.responder
 join Back pair = Connect pair.responder pair.initiator
+join (Board board) pair = Join (link0_on board pair.initiator) (link3_on board pair.responder)
 
 -- the command that parts a pair
 abbrev pub cut : Wiring → Pair → Command
 cut Both pair = CutPair (link0 pair.initiator) (link3 pair.responder)
 cut Forth pair = Cut pair.responder
 cut Back pair = Cut pair.initiator
+cut (Board board) pair = CutPair (link0_on board pair.initiator) (link3_on board pair.responder)
 
 -- whether two pairs are one
 abbrev pub is_pair : Pair → Pair → Bool

@@ -3,6 +3,8 @@
 ghost use Rattle.std.specs.Prelude.{◌≡◌};
 ghost use Rattle.crossbar.specs.Chips.{wide_wiring};
 
+use crate::board::BoardWiring;
+
 /// A switch of a rack. A rack of at most [`crate::JOINED_MODULES`] modules has `A` alone, and a
 /// wider one has both. That there are two is this project's choice.
 #[derive(Clone, Copy, Debug, PartialEq, Eq)]
@@ -24,6 +26,9 @@ pub enum Wiring {
     /// The way back: an input comes from link 3 of the module of its number, and an output goes to
     /// link 0 of the module of its number.
     Back,
+    /// Both directions of link 0 and of link 3 of each module, of so many as the board wires, each
+    /// link where the board has it.
+    Board(BoardWiring),
 }
 
 impl Wiring {

@@ -1,9 +1,13 @@
 //! What commands do to the switch of a set of pairs, whatever is wired to it. These functions do
 //! nothing: each states a law that callers may cite.
 
-ghost use Rattle.std.specs.Prelude.{◌≡◌, List};
+ghost use Rattle.std.specs.Prelude.{◌≡◌, ℕ, List, None};
+ghost use Rattle.std.specs.FinMap as map;
 ghost use Rattle.crossbar.specs.Switch.{Switch, after_all};
+ghost use Rattle.crossbar.specs.declared.board.BoardWiring.{BoardWiring};
 ghost use Rattle.crossbar.specs.declared.chip.Wiring.{Wiring};
+ghost use Rattle.crossbar.specs.declared.chip.Wiring.TheVariants.{Board};
+ghost use Rattle.crossbar.specs.Others.{IsFree, LeaveAlone};
 ghost use Rattle.crossbar.specs.declared.pair.Pair.{Pair};
 ghost use Rattle.crossbar.specs.Pairs.{ArePairs, room_of, switch_of, setting, change};
 
@@ -23,4 +27,20 @@ pub fn change()
     ensures { (wiring : Wiring) (old new : List Pair) →
         ArePairs (room_of wiring) old → ArePairs (room_of wiring) new →
         after_all (change wiring old new) (switch_of wiring old) ≡ switch_of wiring new }
+{}
+
+/// What a board's switch is sent names no link that no module is on, and the switch of pairs has no
+/// input for such an output. So it stays as the reset of a first setting leaves it. What each
+/// command does is the INMOS IMS C004 data sheet's; that a setting and a change are these is this
+/// project's choice.
+pub fn others()
+    ensures setting { (board : BoardWiring) (pairs : List Pair) (link : ℕ) →
+        ArePairs (room_of (Board board)) pairs → IsFree board link →
+        LeaveAlone link (setting (Board board) pairs) }
+    ensures change { (board : BoardWiring) (old new : List Pair) (link : ℕ) →
+        ArePairs (room_of (Board board)) old → ArePairs (room_of (Board board)) new →
+        IsFree board link → LeaveAlone link (change (Board board) old new) }
+    ensures loose { (board : BoardWiring) (pairs : List Pair) (link : ℕ) →
+        ArePairs (room_of (Board board)) pairs → IsFree board link →
+        map.get (switch_of (Board board) pairs).sources link ≡ None }
 {}

@@ -6,17 +6,21 @@
 //! the one that the output had, and which links the modules of a rack are on.
 #![tactic(auto)]
 
+mod board;
 mod chip;
 mod chips;
 mod fuse;
 pub mod laws;
+mod module_links;
 mod pair;
 mod port;
 mod switch;
 mod traffic;
 
+pub use board::BoardWiring;
 pub use chip::{Chip, Wiring};
 pub use fuse::FusePort;
+pub use module_links::ModuleLinks;
 pub use pair::Pair;
 pub use port::{ConfigPort, MemoryPort, PortFault};
 pub use switch::{Crossbar, JOINED_MODULES, joined_wide};

@@ -1,2 +1,3 @@
 pub mod Over
 pub mod Told
+pub mod Wirings

@@ -1,11 +1,16 @@
 -- What `drive` answers: how the settings of a schedule were put on the switches of a rack, over
 -- ports that were opened for them.
-use Rattle.std.specs.Prelude.{◌≡◌, ℕ, List, [], Option, Some, if◌then◌else◌}
+use Rattle.std.specs.Prelude.{◌≡◌, ◌+◌, ℕ, List, [], Option, Some, None, if◌then◌else◌, nat_lt}
 use Rattle.batch.specs.Extent.{Extent}
 use Rattle.batch.specs.Faults.{IsFirstFault}
 use Rattle.batch.specs.Text.{Denotes}
 use Rattle.batch.specs.declared.fault.BatchFault.{BatchFault}
 use Rattle.batch.specs.declared.transfer.Transfer.{Transfer}
+use Rattle.board_wiring.specs.Boards.{IsBoardOf, IsMiswired, extent_of}
+use Rattle.board_wiring.specs.Sources.{of_wiring}
+use Rattle.board_wiring.specs.declared.fault.WiringFault.{WiringFault}
+use Rattle.crossbar.specs.declared.board.BoardWiring.{BoardWiring}
+use Rattle.crossbar.specs.declared.switch.TheConstants.{JOINED_MODULES}
 use Rattle.crossbar.specs.declared.traffic.Passing.{Passing}
 use Rattle.plan_answers.specs.Refusals.{Printed, Refuses}
 use Rattle.refusals.specs.Sources.{of_batch}
@@ -17,6 +22,8 @@ use Rattle.switch_driver.specs.declared.driving.Driven.{Driven}
 use Rattle.switch_driver.specs.declared.driving.Driven.TheVariants.{Untold as UntoldAt}
 use Rattle.switch_driver.specs.declared.stage.Cue.{Cue}
 use Rattle.switch_settings.specs.Racks.{is_wide, joined_by}
+use Rattle.switch_settings.specs.declared.rack_wiring.RackWiring.{RackWiring}
+use Rattle.switch_settings.specs.declared.rack_wiring.RackWiring.TheVariants.{Usual, Own}
 use Rattle.drive_answers.specs.Endings.{IsEnding}
 use Rattle.drive_answers.specs.declared.fault.DriveFault.{DriveFault}
 use Rattle.drive_answers.specs.declared.fault.DriveFault.TheVariants.{Untold, NoMemory}
@@ -49,56 +56,86 @@ IsWrongBatch shape text refusal =
 
 -- ---- what was done with it
 
--- how many switches the rack of a batch has
-abbrev pub switches_for : List Transfer → ℕ
-switches_for batch = if is_wide batch then 2 else 1
+-- the rack that a batch is driven on: the board, where there is one, and else the modules that as
+-- many switches join as the batch needs
+abbrev pub rack_for : Option BoardWiring → List Transfer → RackWiring
+rack_for None batch = Usual (joined_by (is_wide batch))
+rack_for (Some board) batch = Own board
+
+-- how many switches a rack has
+abbrev pub switches_in : RackWiring → ℕ
+switches_in (Usual modules) = if nat_lt JOINED_MODULES modules then 2 else 1
+switches_in (Own board) = 1
 
 -- The settings were driven so over a port, over which nothing had passed before, and this had
 -- passed as it was given back.
-abbrev pub IsDrivenOver : {S : Type 0} → (S → ℕ → List ℕ → Cue → S → Type 0) → List Transfer
-    → List (List ℕ) → Driven → Option (List Passing) → S → S → Type 0
-IsDrivenOver {S} hears batch settings how carried told tells =
-    IsDriven hears (joined_by (is_wide batch)) batch settings how (Some []) told carried tells
+abbrev pub IsDrivenOver : {S : Type 0} → (S → ℕ → List ℕ → Cue → S → Type 0) → RackWiring
+    → List Transfer → List (List ℕ) → Driven → Option (List Passing) → S → S → Type 0
+IsDrivenOver {S} hears rack batch settings how carried told tells =
+    IsDriven hears rack batch settings how (Some []) told carried tells
 
--- The settings were driven, and it was said how that ended; or the ports were refused, and nothing
--- was told.
-pub data IsTried {Q S : Type 0} (refuses : Q → ℕ → Refusal → Type 0)
-    (hears : S → ℕ → List ℕ → Cue → S → Type 0) (batch : List Transfer)
-    (settings : List (List ℕ)) (asked : Q) (carried : Option (List Passing)) (told tells : S)
-    (printed : Printed) : Type 0 where
-  driven : (how : Driven) → IsDrivenOver hears batch settings how carried told tells
-      → IsEnding how printed → IsTried refuses hears batch settings asked carried told tells printed
-  unopened : (refusal : Refusal) → refuses asked (switches_for batch) refusal
-      → Refuses refusal printed → tells ≡ told
-      → IsTried refuses hears batch settings asked carried told tells printed
+-- The ports were opened, once more than they were, and lead to as many switches as the rack has;
+-- the settings were driven, and it was said how that ended. Or the ports were refused, none was
+-- handed over, and nothing was told.
+pub data IsTried {Q S : Type 0} (refuses : Q → ℕ → Refusal → Type 0) (leads : Q → ℕ → Type 0)
+    (hears : S → ℕ → List ℕ → Cue → S → Type 0) (rack : RackWiring) (batch : List Transfer)
+    (settings : List (List ℕ)) (asked : Q) (carried : Option (List Passing)) (was opens : ℕ)
+    (told tells : S) (printed : Printed) : Type 0 where
+  driven : (how : Driven) → IsDrivenOver hears rack batch settings how carried told tells
+      → IsEnding how printed → opens ≡ was + 1 → leads asked (switches_in rack)
+      → IsTried refuses leads hears rack batch settings asked carried was opens told tells printed
+  unopened : (refusal : Refusal) → refuses asked (switches_in rack) refusal
+      → Refuses refusal printed → tells ≡ told → opens ≡ was
+      → IsTried refuses leads hears rack batch settings asked carried was opens told tells printed
 
--- a setting stood that couldn't be told, or there was no memory, and nothing was told
-abbrev pub HasFailedOver : {S : Type 0} → (S → ℕ → List ℕ → Cue → S → Type 0) → List Transfer
-    → List (List ℕ) → Option (List Passing) → S → S → DriveFault → Type 0
-HasFailedOver {S} hears batch settings carried told tells Untold =
-    (k : ℕ) × IsDrivenOver hears batch settings (UntoldAt k) carried told tells
-HasFailedOver {S} hears batch settings carried told tells NoMemory = tells ≡ told
+-- a setting stood that couldn't be told; or there was no memory, no port was opened, and nothing
+-- was told
+abbrev pub HasFailedOver : {S : Type 0} → (S → ℕ → List ℕ → Cue → S → Type 0) → RackWiring
+    → List Transfer → List (List ℕ) → Option (List Passing) → ℕ → ℕ → S → S → DriveFault → Type 0
+HasFailedOver {S} hears rack batch settings carried was opens told tells Untold =
+    (opens ≡ was + 1)
+    × ((k : ℕ) × IsDrivenOver hears rack batch settings (UntoldAt k) carried told tells)
+HasFailedOver {S} hears rack batch settings carried was opens told tells NoMemory =
+    (tells ≡ told) × (opens ≡ was)
 
 -- ---- the answer
 
--- what was done with a schedule from such a source; or the refusal of what is wrong with its texts:
--- then no port was asked for, and nothing was told
-pub data IsDriveAnswer {Q S : Type 0} (refuses : Q → ℕ → Refusal → Type 0)
-    (hears : S → ℕ → List ℕ → Cue → S → Type 0)
-    (IsSource : List Transfer → List (List ℕ) → Type 0) (IsWrong : Refusal → Type 0)
-    (asked asks : Q) (carried : Option (List Passing)) (told tells : S) (printed : Printed)
-    : Type 0 where
-  tried : (batch : List Transfer) (settings : List (List ℕ)) → IsSource batch settings
-      → IsTried refuses hears batch settings asked carried told tells printed
-      → IsDriveAnswer refuses hears IsSource IsWrong asked asks carried told tells printed
-  wrong : (refusal : Refusal) → IsWrong refusal → Refuses refusal printed → asks ≡ asked
-      → tells ≡ told
-      → IsDriveAnswer refuses hears IsSource IsWrong asked asks carried told tells printed
+-- what is first wrong with the texts: that of the wiring is looked at first, and then the others
+-- against a rack with the modules that it wires
+pub data IsFirstDriveWrong (IsWrong : Extent → Refusal → Type 0) (wiring : Option (List ℕ))
+    (refusal : Refusal) : Type 0 where
+  wiring_wrong : (fault : WiringFault) → IsMiswired wiring fault → refusal ≡ of_wiring fault
+      → IsFirstDriveWrong IsWrong wiring refusal
+  texts_wrong : (board : Option BoardWiring) → IsBoardOf wiring board
+      → IsWrong (extent_of board) refusal → IsFirstDriveWrong IsWrong wiring refusal
 
--- why there is none: of such a schedule
+-- what was done with a schedule from such a source on the rack that is wired so; or the refusal of
+-- what is first wrong with its texts: then no port was asked for, none was opened, and nothing was
+-- told
+pub data IsDriveAnswer {Q S : Type 0} (refuses : Q → ℕ → Refusal → Type 0) (leads : Q → ℕ → Type 0)
+    (hears : S → ℕ → List ℕ → Cue → S → Type 0)
+    (IsSource : Extent → List Transfer → List (List ℕ) → Type 0)
+    (IsWrong : Extent → Refusal → Type 0) (wiring : Option (List ℕ)) (asked asks : Q)
+    (carried : Option (List Passing)) (was opens : ℕ) (told tells : S) (printed : Printed)
+    : Type 0 where
+  tried : (board : Option BoardWiring) (batch : List Transfer) (settings : List (List ℕ))
+      → IsBoardOf wiring board → IsSource (extent_of board) batch settings
+      → IsTried refuses leads hears (rack_for board batch) batch settings asked carried was opens
+      told tells printed
+      → IsDriveAnswer refuses leads hears IsSource IsWrong wiring asked asks carried was opens
+      told tells printed
+  wrong : (refusal : Refusal) → IsFirstDriveWrong IsWrong wiring refusal
+      → Refuses refusal printed → asks ≡ asked → tells ≡ told → opens ≡ was
+      → IsDriveAnswer refuses leads hears IsSource IsWrong wiring asked asks carried was opens
+      told tells printed
+
+-- why there is none: of such a schedule, on that rack
 abbrev pub HasFailed : {S : Type 0} → (S → ℕ → List ℕ → Cue → S → Type 0)
-    → (List Transfer → List (List ℕ) → Type 0) → Option (List Passing) → S → S → DriveFault → Type 0
-HasFailed {S} hears IsSource carried told tells Untold =
-    (batch : List Transfer) × (settings : List (List ℕ)) × IsSource batch settings
-    × HasFailedOver hears batch settings carried told tells Untold
-HasFailed {S} hears IsSource carried told tells NoMemory = tells ≡ told
+    → (Extent → List Transfer → List (List ℕ) → Type 0) → Option (List ℕ) → Option (List Passing)
+    → ℕ → ℕ → S → S → DriveFault → Type 0
+HasFailed {S} hears IsSource wiring carried was opens told tells Untold =
+    (board : Option BoardWiring) × (batch : List Transfer) × (settings : List (List ℕ))
+    × IsBoardOf wiring board × IsSource (extent_of board) batch settings
+    × HasFailedOver hears (rack_for board batch) batch settings carried was opens told tells Untold
+HasFailed {S} hears IsSource wiring carried was opens told tells NoMemory =
+    (tells ≡ told) × (opens ≡ was)

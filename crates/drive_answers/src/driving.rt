@@ -1,18 +1,22 @@
 //! The command `drive`.
 
-ghost use Rattle.std.specs.Prelude.{◌≡◌, ◌⊎◌, IfOk, IfErr, if◌then◌else◌};
-ghost use Rattle.batch.specs.Extent.{widest};
+ghost use Rattle.std.specs.Prelude.{◌≡◌, ◌≤◌, ◌⊎◌, IfOk, IfErr, IfSome, length};
+ghost use Rattle.c004_commands.specs.declared.port.TheConstants.{PORTS as MOST};
+ghost use Rattle.crossbar.specs.Wired.{links_of};
 ghost use Rattle.link_graph.specs.Schedules.{IsScheduleOf};
+ghost use Rattle.plan_answers.specs.Lent.{bytes_of};
 ghost use Rattle.plan_answers.specs.Validities.{IsScheduleRead, IsInvalid};
-ghost use Rattle.switch_settings.specs.Racks.{joined_by};
-ghost use Rattle.drive_answers.specs.Answers.{IsPlannedBy, IsSteadyBy, IsWrongBatch, IsTried, HasFailedOver, IsDriveAnswer, HasFailed};
+ghost use Rattle.switch_settings.specs.RackWirings.{wired_in};
+ghost use Rattle.switch_settings.specs.Racks.{HasModulesOf, joined_by};
+ghost use Rattle.drive_answers.specs.Answers.{IsPlannedBy, IsSteadyBy, IsWrongBatch, rack_for, switches_in, IsTried, HasFailedOver, IsDriveAnswer, HasFailed};
 
 use crate::ending::ending;
 use crate::fault::DriveFault;
 use crate::ports::Ports;
-use batch::{Batch, Shape};
+use batch::Batch;
+use board_wiring::{read_board, shape_of};
 use c004_commands::PORTS;
-use crossbar::JOINED_MODULES;
+use crossbar::{BoardWiring, JOINED_MODULES};
 use exchange_limits::WorkerCount;
 use line_words::LINE_ROOM;
 use link_graph::Schedule;
@@ -22,7 +26,7 @@ use std::alloc::Global;
 use std::thread::Threads;
 use steady_schedule::steady;
 use switch_driver::{Stage, drive};
-use switch_settings::is_wide;
+use switch_settings::{RackWiring, is_wide};
 
 /// How many modules the switches of a rack join.
 fn modules_of(wide: bool) -> usize
@@ -35,72 +39,106 @@ fn modules_of(wide: bool) -> usize
     }
 }
 
-/// How many switches a rack has.
-fn switches_of(wide: bool) -> usize
-    ensures value { result ≡ (if wide then 2 else 1) }
-    ensures range { (result ≡ 1) ⊎ (result ≡ 2) }
+/// The rack that a batch is driven on. A board wires all modules that the batch names.
+fn rack_of(board: &Option<BoardWiring>, batch: &Batch) -> RackWiring
+    requires { IfSome board.now (λ board. HasModulesOf (length (links_of board)) batch.now) }
+    ensures rack { result ≡ rack_for board.now batch.now }
+    ensures few { wired_in result ≤ MOST }
+    ensures modules { HasModulesOf (wired_in result) batch.now }
 {
-    if wide { 2 } else { 1 }
+    match board {
+        Some(board) => RackWiring::Own(*board),
+        None => RackWiring::Usual(modules_of(is_wide(batch.as_slice()))),
+    }
 }
 
-/// Drives a schedule of the batch over ports that are opened for it, and says how that ended.
+/// How many switches a rack has.
+fn switches_of(rack: RackWiring) -> usize
+    ensures value { result ≡ switches_in rack }
+    ensures range { (result ≡ 1) ⊎ (result ≡ 2) }
+{
+    match rack {
+        RackWiring::Usual(modules) if modules > JOINED_MODULES as usize => 2,
+        _ => 1,
+    }
+}
+
+/// Drives a schedule of the batch on the rack, over ports that are opened for it, and says how that
+/// ended.
 fn drive_over<Q: Ports, S: Stage>(
     alloc: Global,
+    rack: RackWiring,
     batch: &Batch,
     schedule: &Schedule,
     ports: &mut Q,
     stage: &mut S,
 ) -> Result<Answer, DriveFault>
-    requires { IsScheduleOf batch.now schedule.now }
+    requires few { wired_in rack ≤ MOST }
+    requires modules { HasModulesOf (wired_in rack) batch.now }
+    requires schedule { IsScheduleOf batch.now schedule.now }
     ensures answer { IfOk result
-        (IsTried Q.refuses S.hears batch.now schedule.now ports.old (Q.carried ports.new)
-        stage.old stage.new) }
+        (IsTried Q.refuses Q.leads S.hears rack batch.now schedule.now ports.old (Q.carried ports.new)
+        (Q.opened ports.old) (Q.opened ports.new) stage.old stage.new) }
     ensures fault { IfErr result
-        (HasFailedOver S.hears batch.now schedule.now (Q.carried ports.new) stage.old stage.new) }
+        (HasFailedOver S.hears rack batch.now schedule.now (Q.carried ports.new)
+        (Q.opened ports.old) (Q.opened ports.new) stage.old stage.new) }
 {
-    let wide = is_wide(batch.as_slice());
     // The last line's room is kept before anything is sent.
     let room = Vec::with_capacity(alloc, LINE_ROOM)?;
-    match ports.open(switches_of(wide)) {
+    match ports.open(switches_of(rack)) {
         Ok(mut port) => {
-            let how = drive(&mut port, modules_of(wide), batch, schedule, stage);
+            let how = drive(&mut port, rack, batch, schedule, stage);
             ports.close(port);
             ending(room, how)
         }
-        Err(refusal) => Ok(Answer::refused(alloc, refusal)?),
+        Err(why) => Ok(Answer::refused(alloc, why)?),
     }
 }
 
 /// What `exchange drive` answers behind what the stage was told: the settings of a plan of the
 /// batch that the text denotes are put on the switches, one after another, over ports that are
-/// opened for them; or the refusal of the text's first fault, or of the ports. Where it refuses,
-/// nothing is sent and nothing told, and a port is asked for only where the text is right.
+/// opened for them; or the refusal of the text's first fault, or of the ports. Where it refuses, no
+/// port is opened, so nothing is sent, and nothing is told; a port is asked for only where the text
+/// is right.
 ///
 /// The last line is `driven settings S` under the status [`DONE`](plan_answers::DONE), where all
 /// settings stood; or, under [`REFUSED`](plan_answers::REFUSED), `stopped setting K port` where the
 /// port failed, `stopped setting K switch O` where that output is the first that doesn't reply what
 /// setting K calls for, or `left setting K` where the stage wants no other setting. The rack has
 /// two switches where the batch names a module above 15. The batch is read against the widest
-/// shape. Planning is given so many workers. Want of memory comes before anything is sent.
+/// shape. Planning is given so many workers. Want of memory comes before a port is opened.
+///
+/// Where there is a text of a board's wiring, the settings are put on the board's one switch, and O
+/// is its output's own number. That text is looked at first, and `refused wiring line N` tells its
+/// first line at fault; the batch is read against a shape with the modules that it wires.
 pub fn answer_drive<R: Threads + Sync, Q: Ports, S: Stage>(
     rt: &R,
     alloc: Global,
+    wiring: Option<&[u8]>,
     batch: &[u8],
     workers: WorkerCount,
     ports: &mut Q,
     stage: &mut S,
 ) -> Result<Answer, DriveFault>
-    ensures answer { IfOk result (IsDriveAnswer Q.refuses S.hears (IsPlannedBy widest batch.now)
-        (IsWrongBatch widest batch.now) ports.old ports.new (Q.carried ports.new)
-        stage.old stage.new) }
+    ensures answer { IfOk result (IsDriveAnswer Q.refuses Q.leads S.hears
+        (λ shape. IsPlannedBy shape batch.now) (λ shape. IsWrongBatch shape batch.now)
+        (bytes_of wiring.entry) ports.old ports.new (Q.carried ports.new)
+        (Q.opened ports.old) (Q.opened ports.new) stage.old stage.new) }
     ensures fault { IfErr result
-        (HasFailed S.hears (IsPlannedBy widest batch.now) (Q.carried ports.new)
+        (HasFailed S.hears (λ shape. IsPlannedBy shape batch.now) (bytes_of wiring.entry)
+        (Q.carried ports.new) (Q.opened ports.old) (Q.opened ports.new)
         stage.old stage.new) }
 {
-    match Batch::read(alloc, batch, Shape::WIDEST) {
+    let board = match read_board(wiring) {
+        Ok(board) => board,
+        Err(fault) => return Ok(Answer::refused(alloc, fault.into())?),
+    };
+    match Batch::read(alloc, batch, shape_of(&board)) {
         Ok(batch) => {
             let plan = schedule(rt, alloc, batch, workers, &OpenGate)?;
-            drive_over(alloc, plan.batch(), plan.schedule(), ports, stage)
+            let batch = plan.batch();
+            let rack = rack_of(&board, batch);
+            drive_over(alloc, rack, batch, plan.schedule(), ports, stage)
         }
         Err(fault) => Ok(Answer::refused(alloc, fault.into())?),
     }
@@ -109,21 +147,29 @@ pub fn answer_drive<R: Threads + Sync, Q: Ports, S: Stage>(
 /// What `exchange drive --steady` answers, as [`answer_drive`], of a steady plan of the batch.
 pub fn answer_drive_steady<Q: Ports, S: Stage>(
     alloc: Global,
+    wiring: Option<&[u8]>,
     batch: &[u8],
     ports: &mut Q,
     stage: &mut S,
 ) -> Result<Answer, DriveFault>
-    ensures answer { IfOk result (IsDriveAnswer Q.refuses S.hears (IsSteadyBy widest batch.now)
-        (IsWrongBatch widest batch.now) ports.old ports.new (Q.carried ports.new)
-        stage.old stage.new) }
+    ensures answer { IfOk result (IsDriveAnswer Q.refuses Q.leads S.hears
+        (λ shape. IsSteadyBy shape batch.now) (λ shape. IsWrongBatch shape batch.now)
+        (bytes_of wiring.entry) ports.old ports.new (Q.carried ports.new)
+        (Q.opened ports.old) (Q.opened ports.new) stage.old stage.new) }
     ensures fault { IfErr result
-        (HasFailed S.hears (IsSteadyBy widest batch.now) (Q.carried ports.new)
+        (HasFailed S.hears (λ shape. IsSteadyBy shape batch.now) (bytes_of wiring.entry)
+        (Q.carried ports.new) (Q.opened ports.old) (Q.opened ports.new)
         stage.old stage.new) }
 {
-    match Batch::read(alloc, batch, Shape::WIDEST) {
+    let board = match read_board(wiring) {
+        Ok(board) => board,
+        Err(fault) => return Ok(Answer::refused(alloc, fault.into())?),
+    };
+    match Batch::read(alloc, batch, shape_of(&board)) {
         Ok(batch) => {
             let plan = steady(alloc, &batch)?;
-            drive_over(alloc, &batch, plan.schedule(), ports, stage)
+            let rack = rack_of(&board, &batch);
+            drive_over(alloc, rack, &batch, plan.schedule(), ports, stage)
         }
         Err(fault) => Ok(Answer::refused(alloc, fault.into())?),
     }
@@ -134,21 +180,32 @@ pub fn answer_drive_steady<Q: Ports, S: Stage>(
 /// [`ScheduleTexts::read`](plan_answers::ScheduleTexts::read) looks at it.
 pub fn answer_drive_schedule<Q: Ports, S: Stage>(
     alloc: Global,
+    wiring: Option<&[u8]>,
     batch: &[u8],
     schedule: &[u8],
     ports: &mut Q,
     stage: &mut S,
 ) -> Result<Answer, DriveFault>
-    ensures answer { IfOk result (IsDriveAnswer Q.refuses S.hears
-        (IsScheduleRead widest batch.now schedule.now) (IsInvalid widest batch.now schedule.now)
-        ports.old ports.new (Q.carried ports.new)
-        stage.old stage.new) }
+    ensures answer { IfOk result (IsDriveAnswer Q.refuses Q.leads S.hears
+        (λ shape. IsScheduleRead shape batch.now schedule.now)
+        (λ shape. IsInvalid shape batch.now schedule.now)
+        (bytes_of wiring.entry) ports.old ports.new (Q.carried ports.new)
+        (Q.opened ports.old) (Q.opened ports.new) stage.old stage.new) }
     ensures fault { IfErr result
-        (HasFailed S.hears (IsScheduleRead widest batch.now schedule.now)
-        (Q.carried ports.new) stage.old stage.new) }
+        (HasFailed S.hears (λ shape. IsScheduleRead shape batch.now schedule.now)
+        (bytes_of wiring.entry) (Q.carried ports.new)
+        (Q.opened ports.old) (Q.opened ports.new) stage.old stage.new) }
 {
-    match ScheduleTexts::read(alloc, batch, schedule) {
-        Ok(texts) => drive_over(alloc, texts.batch(), texts.schedule(), ports, stage),
+    let board = match read_board(wiring) {
+        Ok(board) => board,
+        Err(fault) => return Ok(Answer::refused(alloc, fault.into())?),
+    };
+    match ScheduleTexts::read_within(alloc, shape_of(&board), batch, schedule) {
+        Ok(texts) => {
+            let batch = texts.batch();
+            let rack = rack_of(&board, batch);
+            drive_over(alloc, rack, batch, texts.schedule(), ports, stage)
+        }
         Err(refusal) => Ok(Answer::refused(alloc, refusal)?),
     }
 }

@@ -1,9 +1,10 @@
 //! Three settings of one switch, driven over a stream whose other end follows a script: which bytes
-//! it is sent, when it is asked for a reply, and when a setting is told, all in one order.
+//! it is sent, when it is asked for a reply, and when a setting is told, all in one order. Its
+//! modules are wired as usual, or as a board has it.
 
 ghost use Rattle.std.specs.Prelude.{⊤};
 
-use crate::{DriveFault, Ports, answer_drive_schedule};
+use crate::{DriveFault, OpenedCount, Ports, answer_drive_schedule};
 use crossbar::Traffic;
 use plan_answers::{Answer, DONE, REFUSED};
 use refusals::Refusal;
@@ -19,18 +20,60 @@ const BATCH: &[u8] = b"batch 3\npush 0 0 1 0\npush 0 0 2 0\npush 0 0 3 0\n";
 /// A setting for each.
 const SCHEDULE: &[u8] = b"settings 3\nsetting 0\nsetting 1\nsetting 2\n";
 
-/// What the switch is sent for each setting.
-const SETTINGS: [&[u8]; 3] = [
-    &[0x04, 0x01, 0x00, 0x11, 0x03],
-    &[0x06, 0x00, 0x11, 0x01, 0x00, 0x12, 0x03],
-    &[0x06, 0x00, 0x12, 0x01, 0x00, 0x13, 0x03],
-];
+/// How many settings these are.
+const SETTINGS: usize = 3;
 
 /// How many outputs are asked.
 const OUTPUTS: u8 = 32;
 
-/// What output 0 replies in each setting, and which output has input 0 then.
-const JOINED: [(u8, u8); 3] = [(0x91, 17), (0x92, 18), (0x93, 19)];
+/// What a rack is told by, and what its switch is sent and replies.
+#[derive(Clone, Copy, Drop)]
+struct Rack<'a> {
+    /// The text of a board's wiring.
+    wiring: Option<&'a [u8]>,
+    /// What the switch is sent for each setting.
+    sent: [&'a [u8]; SETTINGS],
+    /// The output that link 0 of module 0 is on.
+    first: u8,
+    /// What this output replies in each setting, and which other output is joined to it then.
+    joined: [(u8, u8); SETTINGS],
+    /// What that other output replies.
+    back: u8,
+}
+
+/// Link 0 of module 0 is on link 0 of the switch, and link 3 of module M on its link 16 + M.
+const USUAL: Rack<'static> = Rack {
+    wiring: None,
+    sent: [
+        &[0x04, 0x01, 0x00, 0x11, 0x03],
+        &[0x06, 0x00, 0x11, 0x01, 0x00, 0x12, 0x03],
+        &[0x06, 0x00, 0x12, 0x01, 0x00, 0x13, 0x03],
+    ],
+    first: 0,
+    joined: [(0x91, 17), (0x92, 18), (0x93, 19)],
+    back: 0x80,
+};
+
+/// The wiring of a board.
+const WIRING: &[u8] = b"wiring 4\n\
+module 0 link 0 at 9 link 3 at 30\n\
+module 1 link 0 at 1 link 3 at 22\n\
+module 2 link 0 at 17 link 3 at 4\n\
+module 3 link 0 at 3 link 3 at 31\n";
+
+/// Link 0 of module 0 is on link 9 of the switch, and link 3 of modules 1, 2 and 3 on its links 22,
+/// 4 and 31.
+const BOARD: Rack<'static> = Rack {
+    wiring: Some(WIRING),
+    sent: [
+        &[0x04, 0x01, 0x09, 0x16, 0x03],
+        &[0x06, 0x09, 0x16, 0x01, 0x09, 0x04, 0x03],
+        &[0x06, 0x09, 0x04, 0x01, 0x09, 0x1f, 0x03],
+    ],
+    first: 9,
+    joined: [(0x96, 22), (0x84, 4), (0x9f, 31)],
+    back: 0x89,
+};
 
 /// What happens at the switch's end of the stream, and at the stage.
 #[derive(Clone, Copy, Debug, PartialEq, Eq)]
@@ -46,20 +89,25 @@ enum Step {
 /// Which reply of the second setting is another one.
 type Lie = Option<(u8, u8)>;
 
-/// What an output replies where output 0 has such a reply, and another one input 0.
-fn reply_of(output: u8, joined: (u8, u8)) -> u8 {
-    if output == 0 {
+/// What an output of the rack's switch replies, where its first output is so joined.
+fn reply_of(rack: &Rack<'_>, output: u8, joined: (u8, u8)) -> u8 {
+    if output == rack.first {
         joined.0
     } else if output == joined.1 {
-        0x80
+        rack.back
     } else {
         0
     }
 }
 
 /// Puts what happens in a setting behind the other steps.
-fn push_setting(steps: &mut Vec<Step>, number: usize, lie: Lie) -> Result<(), AllocError> {
-    let (Some(bytes), Some(joined)) = (SETTINGS.get(number), JOINED.get(number)) else {
+fn push_setting(
+    steps: &mut Vec<Step>,
+    rack: &Rack<'_>,
+    number: usize,
+    lie: Lie,
+) -> Result<(), AllocError> {
+    let (Some(bytes), Some(joined)) = (rack.sent.get(number), rack.joined.get(number)) else {
         return Ok(());
     };
     for byte in *bytes {
@@ -68,7 +116,7 @@ fn push_setting(steps: &mut Vec<Step>, number: usize, lie: Lie) -> Result<(), Al
     for output in 0..OUTPUTS {
         let reply = match lie {
             Some((liar, reply)) if liar == output && number == 1 => reply,
-            _ => reply_of(output, *joined),
+            _ => reply_of(rack, output, *joined),
         };
         steps.push(Step::Sent(2))?;
         steps.push(Step::Sent(output))?;
@@ -79,10 +127,10 @@ fn push_setting(steps: &mut Vec<Step>, number: usize, lie: Lie) -> Result<(), Al
 }
 
 /// What happens in all three settings.
-fn steps_of(alloc: Global, lie: Lie) -> Result<Vec<Step>, AllocError> {
+fn steps_of(alloc: Global, rack: &Rack<'_>, lie: Lie) -> Result<Vec<Step>, AllocError> {
     let mut steps = Vec::new(alloc);
-    for number in 0..SETTINGS.len() {
-        push_setting(&mut steps, number, lie)?;
+    for number in 0..SETTINGS {
+        push_setting(&mut steps, rack, number, lie)?;
     }
     Ok(steps)
 }
@@ -186,6 +234,7 @@ struct DeskPorts<'a> {
     desk: &'a Desk<'a>,
     refusal: Option<Refusal>,
     passed: Option<Traffic>,
+    count: OpenedCount,
 }
 
 impl<'a> Ports for DeskPorts<'a> {
@@ -195,10 +244,17 @@ impl<'a> Ports for DeskPorts<'a> {
 
     ghost refuses = { λ _ _ _. ⊤ };
 
+    ghost leads = { λ _ _. ⊤ };
+
     ghost carried = { λ p. p.passed };
 
-    fn open(&mut self, _switches: usize) -> Result<Self::Port, Refusal> {
+    ghost opened = { λ p. p.count };
+
+    fn open(&mut self, switches: usize) -> Result<Self::Port, Refusal> {
         self.desk.opened.fetch_add(1, Ordering::SeqCst);
+        if switches != 1 {
+            self.desk.is_wrong.store(true, Ordering::SeqCst);
+        }
         if let Some(refusal) = self.refusal {
             return Err(refusal);
         }
@@ -207,6 +263,7 @@ impl<'a> Ports for DeskPorts<'a> {
             reader: FromSwitch { desk },
             writer: ToSwitch { desk },
         };
+        self.count.raise();
         Ok(StreamPort::new(stream, None))
     }
 
@@ -241,15 +298,17 @@ fn answer_at(
     desk: &Desk<'_>,
     says: [Cue; 3],
     refusal: Option<Refusal>,
+    wiring: Option<&[u8]>,
     schedule: &[u8],
 ) -> Result<Answer, DriveFault> {
     let mut ports = DeskPorts {
         desk,
         refusal,
         passed: None,
+        count: OpenedCount::zero(),
     };
     let mut stage = DeskStage { desk, says };
-    answer_drive_schedule(alloc, BATCH, schedule, &mut ports, &mut stage)
+    answer_drive_schedule(alloc, wiring, BATCH, schedule, &mut ports, &mut stage)
 }
 
 /// Whether the answer is this line, under this status.
@@ -273,7 +332,7 @@ fn stops_behind(alloc: Global, steps: &[Step], count: usize) -> Result<bool, All
     let count = count.min(steps.len());
     let front = &steps[..count];
     let desk = Desk::of(front);
-    let answer = answer_at(alloc, &desk, ON, None, SCHEDULE);
+    let answer = answer_at(alloc, &desk, ON, None, None, SCHEDULE);
     let setting = told_in(front);
     let line = match steps.get(count) {
         Some(Step::Told(_)) => format!(in alloc; "left setting {setting}\n")?,
@@ -284,27 +343,29 @@ fn stops_behind(alloc: Global, steps: &[Step], count: usize) -> Result<bool, All
 
 /// Whether a reply of this output in the second setting that names an input which nothing is on
 /// stops the drive there, behind all replies of the setting.
-fn is_caught(alloc: Global, output: u8) -> Result<bool, AllocError> {
-    let steps = steps_of(alloc, Some((output, 0x93)))?;
+fn is_caught(alloc: Global, rack: &Rack<'_>, output: u8) -> Result<bool, AllocError> {
+    let steps = steps_of(alloc, rack, Some((output, 0x93)))?;
     let desk = Desk::of(steps.as_slice().get(..205).unwrap_or(&[]));
-    let answer = answer_at(alloc, &desk, ON, None, SCHEDULE);
+    let answer = answer_at(alloc, &desk, ON, None, rack.wiring, SCHEDULE);
     let line = format!(in alloc; "stopped setting 1 switch {output}\n")?;
     Ok(desk.is_followed() && is_line(&answer, line.as_bytes(), REFUSED))
 }
 
 #[test]
 fn in_turn(rt: HostRuntime) {
-    let steps = steps_of(rt.alloc(), None).expect(&rt, "memory");
-    let desk = Desk::of(steps.as_slice());
-    let answer = answer_at(rt.alloc(), &desk, ON, None, SCHEDULE);
-    assert!(rt; is_line(&answer, b"driven settings 3\n", DONE));
-    assert!(rt; desk.is_followed());
+    for rack in &[USUAL, BOARD] {
+        let steps = steps_of(rt.alloc(), rack, None).expect(&rt, "memory");
+        let desk = Desk::of(steps.as_slice());
+        let answer = answer_at(rt.alloc(), &desk, ON, None, rack.wiring, SCHEDULE);
+        assert!(rt; is_line(&answer, b"driven settings 3\n", DONE));
+        assert!(rt; desk.is_followed());
+    }
 }
 
 /// The stream ends behind each step in turn.
 #[test]
 fn cut_off(rt: HostRuntime) {
-    let steps = steps_of(rt.alloc(), None).expect(&rt, "memory");
+    let steps = steps_of(rt.alloc(), &USUAL, None).expect(&rt, "memory");
     for count in 0..steps.len() {
         let stops = stops_behind(rt.alloc(), steps.as_slice(), count);
         assert!(rt; stops.expect(&rt, "memory"));
@@ -314,26 +375,27 @@ fn cut_off(rt: HostRuntime) {
 #[test]
 fn lied_to(rt: HostRuntime) {
     for output in 0..OUTPUTS {
-        assert!(rt; is_caught(rt.alloc(), output).expect(&rt, "memory"));
+        assert!(rt; is_caught(rt.alloc(), &USUAL, output).expect(&rt, "memory"));
+        assert!(rt; is_caught(rt.alloc(), &BOARD, output).expect(&rt, "memory"));
     }
 }
 
 #[test]
 fn left(rt: HostRuntime) {
-    let steps = steps_of(rt.alloc(), None).expect(&rt, "memory");
+    let steps = steps_of(rt.alloc(), &USUAL, None).expect(&rt, "memory");
     let desk = Desk::of(steps.as_slice().get(..206).unwrap_or(&[]));
     let says = [Cue::GoOn, Cue::Leave, Cue::GoOn];
-    let answer = answer_at(rt.alloc(), &desk, says, None, SCHEDULE);
+    let answer = answer_at(rt.alloc(), &desk, says, None, None, SCHEDULE);
     assert!(rt; is_line(&answer, b"left setting 1\n", REFUSED));
     assert!(rt; desk.is_followed());
 }
 
 #[test]
 fn untold(rt: HostRuntime) {
-    let steps = steps_of(rt.alloc(), None).expect(&rt, "memory");
+    let steps = steps_of(rt.alloc(), &USUAL, None).expect(&rt, "memory");
     let desk = Desk::of(steps.as_slice().get(..102).unwrap_or(&[]));
     let says = [Cue::Untold, Cue::GoOn, Cue::GoOn];
-    let answer = answer_at(rt.alloc(), &desk, says, None, SCHEDULE);
+    let answer = answer_at(rt.alloc(), &desk, says, None, None, SCHEDULE);
     assert!(rt; matches!(answer, Err(DriveFault::Untold)));
     assert!(rt; desk.is_followed());
 }
@@ -342,10 +404,30 @@ fn untold(rt: HostRuntime) {
 #[test]
 fn refused(rt: HostRuntime) {
     let desk = Desk::of(&[]);
-    let clash = answer_at(rt.alloc(), &desk, ON, None, b"settings 1\nsetting 0 1 2\n");
+    let clash = answer_at(
+        rt.alloc(),
+        &desk,
+        ON,
+        None,
+        None,
+        b"settings 1\nsetting 0 1 2\n",
+    );
     assert!(rt; is_line(&clash, b"refused check clash 0 link 0 module 0\n", REFUSED));
     assert!(rt; desk.opened.load(Ordering::SeqCst) == 0);
-    let unopened = answer_at(rt.alloc(), &desk, ON, Some(Refusal::File), SCHEDULE);
+    let unopened = answer_at(rt.alloc(), &desk, ON, Some(Refusal::File), None, SCHEDULE);
     assert!(rt; is_line(&unopened, b"refused file\n", REFUSED));
     assert!(rt; desk.opened.load(Ordering::SeqCst) == 1 && desk.is_followed());
+}
+
+/// No port is asked for where the wiring's text is wrong, or wires too few modules.
+#[test]
+fn miswired(rt: HostRuntime) {
+    let desk = Desk::of(&[]);
+    let twice = b"wiring 1\nmodule 0 link 0 at 9 link 3 at 9\n";
+    let wrong = answer_at(rt.alloc(), &desk, ON, None, Some(twice), b"no schedule\n");
+    assert!(rt; is_line(&wrong, b"refused wiring line 2\n", REFUSED));
+    let one = b"wiring 1\nmodule 0 link 0 at 9 link 3 at 30\n";
+    let few = answer_at(rt.alloc(), &desk, ON, None, Some(one), SCHEDULE);
+    assert!(rt; is_line(&few, b"refused no module 0\n", REFUSED));
+    assert!(rt; desk.opened.load(Ordering::SeqCst) == 0);
 }

@@ -1,14 +1,13 @@
 -- What files hold of which one may be standard input.
-use Rattle.std.proofs.Common.{◌≡◌, ◌<◌, ◌+◌, ℕ, List, [], ◌∷◌, ◌++◌, Option, Some, None, suc, IfSome, Bool, true, false, length, get_or, map, Result, is_ok, if◌then◌else◌, refl, ap, sym, ◌∙◌, subst, arith, below_more}
-use Rattle.std.specs.Prelude.{◌≢◌, option_to_list}
+use Rattle.std.proofs.Common.{◌≡◌, ◌<◌, ◌+◌, ℕ, List, [], ◌∷◌, ◌++◌, Option, Some, None, zero, suc, IfSome, Bool, true, false, length, get_or, map, Result, is_ok, if◌then◌else◌, refl, ap, sym, ◌∙◌, subst, arith, below_more}
+use Rattle.std.specs.Prelude.{◌≢◌, All, option_to_list}
 use Rattle.std.proofs.Math.Seq.{get_or-append_seam}
 use Rattle.std.proofs.lemmas.List.{get_or_append_left, get_or_default, map-append}
-use Rattle.command_words.specs.Jobs.{NameInputOnce, driven_files, input_name}
+use Rattle.command_words.specs.Jobs.{NameInputOnce, cue_files, input_name, switched_files}
 use Rattle.command_words.specs.declared.jobs.ScheduleSource.{ScheduleSource}
 use Rattle.command_words.specs.declared.jobs.ScheduleSource.TheVariants as source
-use Rattle.exchange.specs.Drives.{IsHeldSchedule}
-use Rattle.command_words.proofs.Inputs.{behind_first}
-use Rattle.exchange.specs.Files.{IsFileContent, AreFileContents}
+use Rattle.command_words.proofs.Inputs.{behind_first, none_where_waits, once_where_goes_on}
+use Rattle.exchange.specs.Files.{IsFileContent, IsHeldSchedule, IsImageContent, AreFileContents}
 
 -- where files that were read before aren't standard input, this has the bytes that it had then
 pub content_later : (old now : Option (List ℕ)) (name bytes : List ℕ) → (name ≡ input_name → now ≡ old) → IsFileContent now name bytes → IsFileContent old name bytes
@@ -58,15 +57,52 @@ one_more_file input names files i name file below is count before here =
     let latest : IsFileContent input (get_or names i []) (get_or (files ++ file ∷ []) i []) = subst (λ (n : List ℕ). IsFileContent input n (get_or (files ++ file ∷ []) i [])) at (subst (IsFileContent input name) (sym last) here) in
     below_more (λ k. IsFileContent input (get_or names k []) (get_or (files ++ file ∷ []) k [])) i earlier latest
 
--- of a batch and a schedule that are driven the batch isn't standard input where the schedule is
-pub batch_is_other : (batch file : List ℕ) (goes_on : Bool) → NameInputOnce (driven_files batch (source.File file) goes_on) → file ≡ input_name → batch ≢ input_name
-batch_is_other batch file true once is = λ e. once 0 1 batch (omega arith) (omega arith) e is
-batch_is_other batch file false once is = λ e. once 0 1 batch (omega arith) (omega arith) e is
+-- ---- a batch, a schedule and a wiring
 
 -- a schedule's file has the bytes that it had before the batch was read
-pub schedule_held_later : (old now : Option (List ℕ)) (batch : List ℕ) (from : ScheduleSource) (goes_on : Bool) (schedule : List ℕ) → NameInputOnce (driven_files batch from goes_on)
-    → (batch ≢ input_name → now ≡ old) → IsHeldSchedule now from schedule → IsHeldSchedule old from schedule
-schedule_held_later old now batch (source.File file) goes_on schedule once unread content =
-    content_later old now file schedule (λ is. unread (batch_is_other batch file goes_on once is)) content
-schedule_held_later old now batch (source.Plan workers) goes_on schedule once unread content = tt
-schedule_held_later old now batch source.Steady goes_on schedule once unread content = tt
+pub schedule_later : (old mid : Option (List ℕ)) (batch : List ℕ) (from : ScheduleSource) (wiring : Option (List ℕ)) (schedule : List ℕ) → NameInputOnce (switched_files batch from wiring)
+    → (batch ≢ input_name → mid ≡ old) → IsHeldSchedule mid from schedule → IsHeldSchedule old from schedule
+schedule_later old mid batch (source.File file) wiring schedule once unread content =
+    content_later old mid file schedule (λ is. unread (λ e. once 0 1 batch (omega arith) (omega arith) e is)) content
+schedule_later old mid batch (source.Plan workers) wiring schedule once unread content = tt
+schedule_later old mid batch source.Steady wiring schedule once unread content = tt
+
+-- neither of the other two is standard input where the wiring is
+others_by_wiring : (batch : List ℕ) (from : ScheduleSource) (wiring : List ℕ) → NameInputOnce (switched_files batch from (Some wiring)) → wiring ≡ input_name → (batch ≢ input_name) × (from ≢ source.File input_name)
+others_by_wiring batch (source.File file) wiring once is =
+    (λ e. once 0 2 batch (omega arith) (omega arith) e is, λ e. (let same : file ≡ input_name = cc in once 1 2 file (omega arith) (omega arith) same is))
+others_by_wiring batch (source.Plan workers) wiring once is = (λ e. once 0 1 batch (omega arith) (omega arith) e is, λ e. cc)
+others_by_wiring batch source.Steady wiring once is = (λ e. once 0 1 batch (omega arith) (omega arith) e is, λ e. cc)
+
+-- a wiring's file has the bytes that it had before the other two were read
+pub wiring_later : (old mid late : Option (List ℕ)) (batch : List ℕ) (from : ScheduleSource) (wiring bytes : Option (List ℕ)) → NameInputOnce (switched_files batch from wiring)
+    → (batch ≢ input_name → mid ≡ old) → (from ≢ source.File input_name → late ≡ mid) → IsImageContent late wiring bytes → IsImageContent old wiring bytes
+wiring_later old mid late batch from None None once first second content = tt
+wiring_later old mid late batch from None (Some bytes) once first second content = content
+wiring_later old mid late batch from (Some wiring) None once first second content = content
+wiring_later old mid late batch from (Some wiring) (Some bytes) once first second content =
+    content_later old late wiring bytes (λ is. (let others = others_by_wiring batch from wiring once is in second others.1 ∙ first others.0)) content
+
+-- where none of the three is standard input, none of it was read
+pub three_unread : (old mid late new : Option (List ℕ)) (batch : List ℕ) (from : ScheduleSource) (wiring : Option (List ℕ)) → (batch ≢ input_name → mid ≡ old) → (from ≢ source.File input_name → late ≡ mid) → (wiring ≢ Some input_name → new ≡ late)
+    → All (λ name. name ≢ input_name) (switched_files batch from wiring) → new ≡ old
+three_unread old mid late new batch from wiring first second third none =
+    third (λ e. last from wiring none e) ∙ (second (λ e. middle from none e) ∙ first (λ e. none 0 batch (omega arith) e))
+  where
+    middle : (from : ScheduleSource) → All (λ name. name ≢ input_name) (switched_files batch from wiring) → from ≢ source.File input_name
+    middle (source.File file) none = λ e. (let same : file ≡ input_name = cc in none 1 file (omega arith) same)
+    middle (source.Plan workers) none = λ e. cc
+    middle source.Steady none = λ e. cc
+
+    last : (from : ScheduleSource) (wiring : Option (List ℕ)) → All (λ name. name ≢ input_name) (switched_files batch from wiring) → wiring ≢ Some input_name
+    last from None none = λ e. cc
+    last (source.File file) (Some name) none = λ e. (let same : name ≡ input_name = cc in none 2 name (omega arith) same)
+    last (source.Plan workers) (Some name) none = λ e. (let same : name ≡ input_name = cc in none 1 name (omega arith) same)
+    last source.Steady (Some name) none = λ e. (let same : name ≡ input_name = cc in none 1 name (omega arith) same)
+
+-- no two of the files that are read before lines are waited for are standard input
+pub once_before_cues : (names : List (List ℕ)) (goes_on : Bool) → NameInputOnce (names ++ cue_files goes_on) → NameInputOnce names
+once_before_cues names true once = (once_where_goes_on names true refl).1 once
+once_before_cues names false once =
+    let none = (none_where_waits names false refl).1 once in
+    λ i j d lt within is. none j d within

@@ -1,24 +1,27 @@
 -- What is printed behind what a session was told, and what is told beside it.
-use Rattle.std.proofs.Common.{ℕ, Bool, ◌++◌, List, Option, Some, None, Result, Ok, Err, IfOk, OnOk, OnErr, append-nil, IfSome, ◌⊎◌, inl, inr, refl, subst, sym, ◌≡◌, ◌∙◌, []}
+use Rattle.std.proofs.Common.{ℕ, Bool, ◌++◌, List, Option, Some, None, Result, Ok, Err, IfOk, IfErr, OnOk, OnErr, append-nil, IfSome, ◌⊎◌, inl, inr, refl, subst, sym, ◌≡◌, ◌∙◌, []}
 use Rattle.std.specs.Prelude.{String, option_map, string_bytes}
 use Rattle.std.specs.Global.{Global}
 use Rattle.std.specs.Io.KnownBytes.{Appends}
 use Rattle.byte_streams.specs.Writing.{IsCutShort}
 use Rattle.std.proofs.KnownBytes.{Appends-nil, Appends-trans}
 use Rattle.plan_answers.specs.Refusals.{Printed}
+use Rattle.command_words.specs.declared.jobs.Job.{Job}
 use Rattle.command_words.specs.declared.jobs.Job.TheVariants.{C004, Talk}
+use Rattle.exchange.specs.declared.notes.NoAnswer.TheVariants as missed
 use Rattle.command_words.specs.declared.jobs.Request.{Request}
 use Rattle.command_words.specs.declared.jobs.SharedRack.{SharedRack}
-use Rattle.module_memory.specs.Store.{Store}
+use Rattle.batch_book.specs.History.{Account}
 use Rattle.refusals.specs.declared.refusal.Refusal.TheVariants as refusal
 use Rattle.exchange.specs.declared.unanswered.Unanswered.{Unanswered}
 use Rattle.exchange.specs.declared.unanswered.Unanswered.TheVariants.{File, NoMemory}
-use Rattle.exchange.specs.declared.unwritten.Unwritten.{Unwritten}
+use Rattle.exchange.specs.declared.lost.Lost.{Lost}
+use Rattle.exchange.specs.Outputs.{lost_none}
 use Rattle.exchange.specs.declared.notes.Answered.{Answered}
 use Rattle.exchange.specs.declared.notes.NoAnswer.{NoAnswer}
-use Rattle.exchange.specs.Responses.{IsSomeC004, IsSomeTalk, IsToldBy, IsAnswerTo, behind_told, unanswered}
+use Rattle.exchange.specs.Responses.{IsSomeC004, IsSomeTalk, IsToldBy, IsToldUnanswered, IsAnswerTo, behind_told, unanswered}
 use Rattle.exchange.specs.Notes.{IsToldInPart, IsBeside, IsNoteOn, IsNoted, IsToldUnless, IsWholeLine}
-use Rattle.exchange.specs.Outcomes.{HasNote, IsAnswered}
+use Rattle.exchange.specs.Outcomes.{HasNote, IsAnswered, IsUntold, MayStandBehind}
 use Rattle.command_words.specs.declared.jobs.ArgumentsFault.{ArgumentsFault}
 use Rattle.command_words.specs.declared.jobs.ArgumentsFault.TheVariants as arguments_fault
 use Rattle.command_words.specs.Jobs.{AskFor, IsFaultIn}
@@ -26,22 +29,30 @@ use Rattle.exchange.specs.declared.limits.TheConstants.{UNWRITTEN}
 use Rattle.exchange.specs.Ends.{Streams, IsDone, IsEndFor, IsEndForArguments, IsPrinted, streams_of}
 
 -- what a session was told stands before what is said of its end
-pub talked : (r : Result Answered NoAnswer) (input : Option (List ℕ)) (rack : SharedRack) (out_before out_after : Option (List ℕ)) (kept : Option Store → Option Unwritten → Type 0)
-    → ((told : List ℕ) × Appends out_before out_after told × IfOk r (λ done. (left : Option Store) × IsSomeTalk input rack told done.answer left × kept left done.lost)) → HasNote r
-    → (told : List ℕ) × Appends out_before out_after told × IsToldBy (Talk rack) told × IfOk r (λ done. IsAnswerTo input (Talk rack) (behind_told told done.answer)) × HasNote r
-talked (Ok done) input rack out_before out_after kept t note = (t.0, t.1, tt, (t.0, done.answer, t.2.0, refl, t.2.1), note)
-talked (Err missed) input rack out_before out_after kept t note = (t.0, t.1, tt, tt, note)
+pub talked : (r : Result Answered NoAnswer) (input : Option (List ℕ)) (rack : SharedRack) (out_before out_after : Option (List ℕ)) (kept : Option Account → Lost → Type 0)
+    → ((told : List ℕ) × Appends out_before out_after told × IfOk r (λ done. (left : Option Account) × IsSomeTalk input rack told done.answer left × kept left done.lost)) → HasNote r
+    → (told : List ℕ) × Appends out_before out_after told × IsToldBy (Talk rack) told × IfOk r (λ done. IsAnswerTo input (Talk rack) (behind_told told done.answer)) × HasNote r × IfErr r (MayStandBehind (Talk rack) told)
+talked (Ok done) input rack out_before out_after kept t note = (t.0, t.1, tt, (t.0, done.answer, t.2.0, refl, t.2.1), note, tt)
+talked (Err (missed.Refused why line)) input rack out_before out_after kept t note = (t.0, t.1, tt, tt, note, tt)
+talked (Err (missed.Unwritten what)) input rack out_before out_after kept t note = (t.0, t.1, tt, tt, note, tt)
 
 -- and so does what a switch replied
 pub switched : (r : Result Answered NoAnswer) (input out_before out_after : Option (List ℕ))
-    → ((told : List ℕ) × Appends out_before out_after told × IfOk r (λ done. IsSomeC004 input told done.answer)) → HasNote r
-    → (told : List ℕ) × Appends out_before out_after told × IsToldBy C004 told × IfOk r (λ done. IsAnswerTo input C004 (behind_told told done.answer)) × HasNote r
-switched (Ok done) input out_before out_after t note = (t.0, t.1, tt, (t.0, done.answer, refl, t.2), note)
-switched (Err missed) input out_before out_after t note = (t.0, t.1, tt, tt, note)
+    → ((told : List ℕ) × Appends out_before out_after told × IfOk r (λ done. IsSomeC004 input told done.answer) × IfErr r (IsUntold told)) → HasNote r
+    → (told : List ℕ) × Appends out_before out_after told × IsToldBy C004 told × IfOk r (λ done. IsAnswerTo input C004 (behind_told told done.answer)) × HasNote r × IfErr r (MayStandBehind C004 told)
+switched (Ok done) input out_before out_after t note = (t.0, t.1, tt, (t.0, done.answer, refl, t.2), note, tt)
+switched (Err (missed.Refused why line)) input out_before out_after t note = (t.0, t.1, tt, tt, note, t.3)
+switched (Err (missed.Unwritten what)) input out_before out_after t note = (t.0, t.1, tt, tt, note, tt)
+
+-- where nothing is told before an answer, nothing stands before a refusal either
+pub behind_none : (r : Result Answered NoAnswer) (job : Job) → IsToldUnanswered job [] → IfErr r (MayStandBehind job [])
+behind_none (Ok done) job none = tt
+behind_none (Err (missed.Refused why line)) job none = none
+behind_none (Err (missed.Unwritten what)) job none = tt
 
 -- sessions that are told nothing before their answer, which leave a rack
-pub left_behind : (r : Result Answered NoAnswer) (P : Printed → Option Store → Type 0) (kept : Option Store → Option Unwritten → Type 0)
-    → IfOk r (λ done. (left : Option Store) × P done.answer left × kept left done.lost) → IfOk r (λ done. (left : Option Store) × P done.answer left)
+pub left_behind : (r : Result Answered NoAnswer) (P : Printed → Option Account → Type 0) (kept : Option Account → Lost → Type 0)
+    → IfOk r (λ done. (left : Option Account) × P done.answer left × kept left done.lost) → IfOk r (λ done. (left : Option Account) × P done.answer left)
 left_behind (Ok done) P kept is = (is.0, is.1)
 left_behind (Err missed) P kept is = tt
 
@@ -74,7 +85,7 @@ file_told (Some text) h = record { refused = refl; of = (refusal.File, (λ e. cc
 -- an answer that is printed behind it
 pub answered : {E : Type 0} (r : Result ℕ E) (input : Option (List ℕ)) (request : Request) (told : List ℕ) (done : Answered) (out_before out_after has eb em ea : Option (List ℕ))
     → Appends out_before out_after told → IsToldBy request.job told → IsAnswerTo input request.job (behind_told told done.answer) → IsAnswered done
-    → IsBeside request eb em → IfOk r (λ status. IsPrinted out_after has done.answer status × (done.lost ≡ None)) → IsToldUnless request.is_quiet (bytes_of_line done.note) em ea
+    → IsBeside request eb em → IfOk r (λ status. IsPrinted out_after has done.answer status × (done.lost ≡ lost_none)) → IsToldUnless request.is_quiet (bytes_of_line done.note) em ea
     → IfOk r (IsDone input request (streams_of out_before has eb ea))
 answered (Ok status) input request told done out_before out_after has eb em ea first by is note beside then said = (
   behind_told told done.answer,
@@ -86,16 +97,16 @@ answered (Err e) input request told done out_before out_after has eb em ea first
 
 -- and why there is none
 pub not_answered : {E : Type 0} (r : Result ℕ E) (input : Option (List ℕ)) (request : Request) (told : List ℕ) (why : Unanswered) (line : Option (String Global)) (out_before out_after has eb em ea : Option (List ℕ))
-    → Appends out_before out_after told → IsToldBy request.job told → IsNoteOn (unanswered why) (bytes_of_line line)
+    → Appends out_before out_after told → IsToldBy request.job told → IsToldUnanswered request.job told → IsNoteOn (unanswered why) (bytes_of_line line)
     → IsBeside request eb em → IfOk r (IsPrinted out_after has (unanswered why)) → IsToldUnless request.is_quiet (bytes_of_line line) em ea
     → IfOk r (IsDone input request (streams_of out_before has eb ea))
-not_answered (Ok status) input request told why line out_before out_after has eb em ea first by note beside then said = (
+not_answered (Ok status) input request told why line out_before out_after has eb em ea first by none note beside then said = (
   behind_told told (unanswered why),
-  inr (told, why, by, refl),
+  inr (told, why, none, refl),
   record { text = Appends-trans out_before out_after has told (unanswered why).text first then.text; status = then.status },
   noted request told (unanswered why) (bytes_of_line line) eb em ea by note beside said,
 )
-not_answered (Err e) input request told why line out_before out_after has eb em ea first by note beside then said = tt
+not_answered (Err e) input request told why line out_before out_after has eb em ea first by none note beside then said = tt
 
 -- what holds of the answer that was chosen
 pub chosen : {E : Type 0} (P : Printed → Type 0) (one taken : Result Printed E) (answer : Printed) → taken ≡ one → taken ≡ Ok answer → IfOk one P → P answer
@@ -132,5 +143,5 @@ begun (Err e) before after line went cut = (cut.front, cut.missing, cut.bytes_ar
 
 -- what was told, and then a note
 pub told_more : (quiet : Bool) (note : Option (List ℕ)) (a b c : Option (List ℕ)) (told : List ℕ) → Appends a b told → IsToldUnless quiet note b c → (more : List ℕ) × Appends a c more
-told_more quiet note a b c told first (inl none) = (told ++ [], Appends-trans a b c told [] first none)
-told_more quiet note a b c told first (inr t) = (told ++ t.3.0, Appends-trans a b c told t.3.0 first t.3.3)
+told_more quiet said a b c told first (inl none) = (told ++ [], Appends-trans a b c told [] first none)
+told_more quiet said a b c told first (inr t) = (told ++ t.3.0, Appends-trans a b c told t.3.0 first t.3.3)

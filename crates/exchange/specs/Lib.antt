@@ -1,8 +1,9 @@
 pub mod Files
 pub mod Ports
+pub mod Switches
 pub mod Drives
 pub mod Responses
-pub mod Images
+pub mod Outputs
 pub mod Notes
 pub mod Outcomes
 pub mod Ends

@@ -6,10 +6,12 @@ use Rattle.refusals.specs.declared.refusal.Refusal.{Refusal}
 use Rattle.refusals.specs.declared.refusal.Refusal.TheVariants.{Port, Ports}
 use Rattle.switch_driver.specs.declared.port.StreamPort.{StreamPort}
 
--- how many ports are named, and what has passed over the one that was closed last
+-- how many ports are named, what has passed over the one that was closed last, and how often they
+-- were opened
 pub record Ways : Type 0 where
   pub named : ℕ
   pub carried : Option (List Passing)
+  pub opened : ℕ
 
 abbrev pub carried_last : {I O : Type 0} → Option (StreamPort I O) → Option (List Passing)
 carried_last None = None

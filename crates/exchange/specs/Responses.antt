@@ -7,18 +7,18 @@ use Rattle.rack_answers.specs.Answers.{IsRunAnswer, image_alone}
 use Rattle.plan_answers.specs.Drawings.{IsDrawn}
 use Rattle.plan_answers.specs.Directing.{IsDirected}
 use Rattle.crossbar.specs.Switch.{idle}
-use Rattle.module_memory.specs.Store.{Store}
+use Rattle.batch_book.specs.History.{Account}
 use Rattle.session_answers.specs.HostAnswers.{KnownClients, SessionEnd, IsHostAnswer}
 use Rattle.switch_end.specs.End.{EndState}
 use Rattle.switch_end.specs.Answering.{HasRun}
 use Rattle.plan_answers.specs.Refusals.{Printed}
 use Rattle.rack_answers.specs.Reports.{report_of}
 use Rattle.session_answers.specs.Serving.{IsServeAnswer}
-use Rattle.rack_answers.specs.Switching.{IsSwitched, IsSwitchedSteadily, IsSwitchedAs}
 use Rattle.session_answers.specs.Talking.{IsTalkAnswer}
+use Rattle.replay_answers.specs.Replays.{IsReplayPrinted}
 use Rattle.plan_answers.specs.declared.limits.TheConstants.{DONE, REFUSED}
 use Rattle.command_words.specs.declared.jobs.Job.{Job}
-use Rattle.command_words.specs.declared.jobs.Job.TheVariants.{Plan, Check, Draw, Switch, Drive, C004, Direct, Apply, Run, Serve, Host, Talk}
+use Rattle.command_words.specs.declared.jobs.Job.TheVariants.{Plan, Check, Draw, Switch, Drive, C004, Direct, Apply, Run, Serve, Host, Talk, Replay}
 use Rattle.command_words.specs.declared.jobs.Planning.TheVariants as planning
 use Rattle.command_words.specs.declared.jobs.ScheduleSource.TheVariants as source
 use Rattle.command_words.specs.declared.jobs.SharedRack.{SharedRack}
@@ -28,6 +28,7 @@ use Rattle.refusals.specs.Refusals.{refusal_line}
 use Rattle.exchange.specs.Files.{IsFileContent, IsImageContent, AreFileContents}
 use Rattle.exchange.specs.Drives.{IsSomeDrive}
 use Rattle.exchange.specs.Ports.{ports_named}
+use Rattle.exchange.specs.Switches.{IsSomeSwitch}
 use Rattle.exchange.specs.declared.unanswered.Unanswered.{Unanswered}
 use Rattle.exchange.specs.declared.unanswered.Unanswered.TheVariants.{File, NoMemory}
 
@@ -54,23 +55,6 @@ IsSomeDraw input batch_file schedule_file settings answer =
     (batch schedule : List ℕ) × IsFileContent input batch_file batch
     × IsFileContent input schedule_file schedule
     × IsDrawn widest batch schedule settings answer
-
--- an answer of `switch` to what this file contains
-abbrev pub IsSomeSwitch : Option (List ℕ) → List ℕ → Printed → Type 0
-IsSomeSwitch input file answer =
-    (batch : List ℕ) × IsFileContent input file batch × IsSwitched widest batch answer
-
--- an answer of `switch --steady` to it
-abbrev pub IsSomeSteadySwitch : Option (List ℕ) → List ℕ → Printed → Type 0
-IsSomeSteadySwitch input file answer =
-    (batch : List ℕ) × IsFileContent input file batch × IsSwitchedSteadily widest batch answer
-
--- an answer of `switch` to what these files contain, a batch and a schedule of it
-abbrev pub IsSomeScheduleSwitch : Option (List ℕ) → List ℕ → List ℕ → Printed → Type 0
-IsSomeScheduleSwitch input batch_file schedule_file answer =
-    (batch schedule : List ℕ) × IsFileContent input batch_file batch
-    × IsFileContent input schedule_file schedule
-    × IsSwitchedAs widest batch schedule answer
 
 -- an answer of `direct` to what this file contains
 abbrev pub IsSomeDirect : Option (List ℕ) → List ℕ → Printed → Type 0
@@ -99,7 +83,7 @@ IsSomeC004 input replies end =
     × ((IsAtEnd after × (end.status ≡ DONE)) ⊎ (end.status ≡ REFUSED))
 
 -- an answer of `serve` on this rack to what these files contain, which leaves this one
-abbrev pub IsSomeServe : Option (List ℕ) → SharedRack → List (List ℕ) → Printed → Option Store
+abbrev pub IsSomeServe : Option (List ℕ) → SharedRack → List (List ℕ) → Printed → Option Account
     → Type 0
 IsSomeServe input rack files answer left =
     (scripts : List (List ℕ)) × (image : Option (List ℕ)) × AreFileContents input files scripts
@@ -117,7 +101,7 @@ clients_named names =
     }
 
 -- an answer of `host` on this rack to what these clients say, which leaves this one
-abbrev pub IsSomeHost : Option (List ℕ) → SharedRack → List (List ℕ) → Printed → Option Store
+abbrev pub IsSomeHost : Option (List ℕ) → SharedRack → List (List ℕ) → Printed → Option Account
     → Type 0
 IsSomeHost input rack clients answer left =
     (image : Option (List ℕ)) × (ends : List SessionEnd) × IsImageContent input rack.image image
@@ -125,10 +109,16 @@ IsSomeHost input rack clients answer left =
 
 -- an answer of `talk` on this rack to standard input, where the session was told this, which leaves
 -- this one
-abbrev pub IsSomeTalk : Option (List ℕ) → SharedRack → List ℕ → Printed → Option Store → Type 0
+abbrev pub IsSomeTalk : Option (List ℕ) → SharedRack → List ℕ → Printed → Option Account → Type 0
 IsSomeTalk input rack told answer left =
     (image after : Option (List ℕ)) × IsImageContent input rack.image image
     × IsTalkAnswer rack.shape image input after told answer left
+
+-- an answer of `replay` to this shape's text and to what these files contain
+abbrev pub IsSomeReplay : Option (List ℕ) → List ℕ → List ℕ → Option (List ℕ) → Printed → Type 0
+IsSomeReplay input shape file image_file answer =
+    (text : List ℕ) × (image : Option (List ℕ)) × IsFileContent input file text
+    × IsImageContent input image_file image × IsReplayPrinted shape text image answer
 
 -- what is printed, behind what a session was told before
 abbrev pub behind_told : List ℕ → Printed → Printed
@@ -141,28 +131,27 @@ IsAnswerTo input (Plan file planning.Steady) answer = IsSomeSteadyPlan input fil
 IsAnswerTo input (Check batch schedule) answer = IsSomeCheck input batch schedule answer
 IsAnswerTo input (Draw batch schedule settings) answer =
     IsSomeDraw input batch schedule settings answer
-IsAnswerTo input (Switch batch (source.Plan workers)) answer = IsSomeSwitch input batch answer
-IsAnswerTo input (Switch batch source.Steady) answer = IsSomeSteadySwitch input batch answer
-IsAnswerTo input (Switch batch (source.File schedule)) answer =
-    IsSomeScheduleSwitch input batch schedule answer
+IsAnswerTo input (Switch batch source wiring) answer = IsSomeSwitch input batch source wiring answer
 IsAnswerTo input (Direct moves) answer = IsSomeDirect input moves answer
 IsAnswerTo input (Apply shape batch image workers) answer =
     IsSomeApply input shape batch image answer
 IsAnswerTo input (Run shape batch image workers) answer = IsSomeRun input shape batch image answer
-IsAnswerTo input (Drive batch port port_b source goes_on) answer =
+IsAnswerTo input (Drive batch port port_b source wiring goes_on) answer =
     (told : List ℕ) × (end : Printed) × (answer ≡ behind_told told end)
-    × IsSomeDrive input batch source (record { named = ports_named port_b; carried = None }) told
-    end
+    × IsSomeDrive input batch source wiring goes_on
+    (record { named = ports_named port_b; carried = None; opened = 0 }) told end
 IsAnswerTo input C004 answer =
     (replies : List ℕ) × (end : Printed) × (answer ≡ behind_told replies end)
     × IsSomeC004 input replies end
 IsAnswerTo input (Serve rack scripts workers) answer =
-    (left : Option Store) × IsSomeServe input rack scripts answer left
+    (left : Option Account) × IsSomeServe input rack scripts answer left
 IsAnswerTo input (Host rack clients workers) answer =
-    (left : Option Store) × IsSomeHost input rack clients answer left
+    (left : Option Account) × IsSomeHost input rack clients answer left
 IsAnswerTo input (Talk rack) answer =
-    (told : List ℕ) × (end : Printed) × (left : Option Store) × (answer ≡ behind_told told end)
+    (told : List ℕ) × (end : Printed) × (left : Option Account) × (answer ≡ behind_told told end)
     × IsSomeTalk input rack told end left
+IsAnswerTo input (Replay shape recorded image) answer =
+    IsSomeReplay input shape recorded image answer
 
 -- the job is `talk`
 abbrev pub IsTalk : Job → Type 0
@@ -172,7 +161,7 @@ IsTalk job = ⊥
 -- what is told before there is an answer: to the session of `talk`, of settings that stand, and
 -- what `c004` replies
 abbrev pub IsToldBy : Job → List ℕ → Type 0
-IsToldBy (Drive batch port port_b source goes_on) told = ⊤
+IsToldBy (Drive batch port port_b source wiring goes_on) told = ⊤
 IsToldBy (Talk rack) told = ⊤
 IsToldBy C004 told = ⊤
 IsToldBy job told = told ≡ []
@@ -186,9 +175,15 @@ refusal_of NoMemory = refusal.NoMemory
 abbrev pub unanswered : Unanswered → Printed
 unanswered why = record { text = refusal_line (refusal_of why); status = REFUSED }
 
--- the answer to a job, or why there is none, behind what a session was told
+-- what may stand before a line that says why there is no answer: what the session of `talk` was
+-- told, and else nothing
+abbrev pub IsToldUnanswered : Job → List ℕ → Type 0
+IsToldUnanswered (Talk rack) told = ⊤
+IsToldUnanswered job told = told ≡ []
+
+-- the answer to a job, behind what was told before, or why there is none
 abbrev pub IsResponseTo : Option (List ℕ) → Job → Printed → Type 0
 IsResponseTo input job printed =
     IsAnswerTo input job printed
-    ⊎ ((told : List ℕ) × (why : Unanswered) × IsToldBy job told
+    ⊎ ((told : List ℕ) × (why : Unanswered) × IsToldUnanswered job told
     × (printed ≡ behind_told told (unanswered why)))

@@ -1,48 +1,56 @@
 //! The command `drive`.
 
-ghost use Rattle.std.specs.Prelude.{◌≡◌, List, ℕ, IfOk, IfErr, IfSome, option_map, string_bytes};
+ghost use Rattle.std.specs.Prelude.{◌≡◌, [], List, ℕ, IfOk, IfErr, IfSome, option_map, string_bytes};
 ghost use Rattle.std.specs.Io.KnownBytes.{Appends};
 ghost use Rattle.command_words.specs.Jobs.{NameInputOnce, driven_files};
 ghost use Rattle.drive_answers.specs.Answers.{IsDriveAnswer, HasFailed};
-ghost use Rattle.exchange.specs.Drives.{IsDriveBy, IsFrom, IsSomeDrive, IsWrongFrom, ways_refuse};
+ghost use Rattle.drive_answers.specs.declared.fault.DriveFault.TheVariants.{NoMemory};
+ghost use Rattle.exchange.specs.Drives.{IsDriveBy, IsFrom, IsSomeDrive, IsWrongFrom, ways_lead, ways_refuse};
 ghost use Rattle.exchange.specs.Notes.{IsNoteOn, IsWholeLine};
-ghost use Rattle.exchange.specs.Outcomes.{HasNote};
+ghost use Rattle.exchange.specs.Outcomes.{HasNote, IsUntold};
+ghost use Rattle.exchange.specs.Switches.{contents_in};
 
-use crate::files::{read_file, read_schedule};
-use crate::notes::{Answered, NoAnswer, named, of_list, of_schedule, with_note};
+use crate::files::slice_of;
+use crate::lost::Lost;
+use crate::notes::{Answered, NoAnswer, with_note};
 use crate::ports::NamedPorts;
+use crate::switch_texts::SwitchTexts;
 use command_words::{ScheduleSource, Text};
 use drive_answers::{DriveFault, answer_drive, answer_drive_schedule, answer_drive_steady};
 use plan_answers::Answer;
-use refusal_notes::Listing;
-use refusals::{Refusal, Validity};
-use std::alloc::Global;
+use refusals::Refusal;
 use std::io::{Read, Write};
 use std::rt::Files;
 use std::thread::Threads;
 use switch_driver::{Lines, Stage};
 
-/// What is answered behind what the stage is told, for a schedule from this source: these bytes,
-/// where it comes from a file.
+/// What is answered to these texts behind what the stage is told, for a schedule from this source.
 fn answer_from<R: AllocGlobal + Files + Threads + Sync, S: Stage>(
     rt: &R,
-    batch: &[u8],
+    texts: &SwitchTexts,
     source: &ScheduleSource,
-    schedule: &[u8],
     ports: &mut NamedPorts<'_, R, R::File>,
     stage: &mut S,
 ) -> Result<Answer, DriveFault>
-    ensures answer { IfOk result (IsDriveAnswer ways_refuse S.hears
-        (IsFrom source.now batch.now schedule.now) (IsWrongFrom source.now batch.now schedule.now)
-        ports.old ports.new ports.new.carried stage.old stage.new) }
-    ensures fault { IfErr result (HasFailed S.hears (IsFrom source.now batch.now schedule.now)
-        ports.new.carried stage.old stage.new) }
+    ensures answer { let contents = contents_in texts.now in
+        IfOk result (IsDriveAnswer ways_refuse ways_lead S.hears
+        (IsFrom source.now contents) (IsWrongFrom source.now contents) contents.wiring
+        ports.old ports.new ports.new.carried ports.old.opened ports.new.opened
+        stage.old stage.new) }
+    ensures fault { let contents = contents_in texts.now in
+        IfErr result (HasFailed S.hears (IsFrom source.now contents) contents.wiring
+        ports.new.carried ports.old.opened ports.new.opened stage.old stage.new) }
 {
-    let alloc = rt.alloc();
+    let (alloc, batch, wiring) = (rt.alloc(), texts.batch.as_slice(), slice_of(&texts.wiring));
     match source {
-        ScheduleSource::Plan(workers) => answer_drive(rt, alloc, batch, *workers, ports, stage),
-        ScheduleSource::Steady => answer_drive_steady(alloc, batch, ports, stage),
-        ScheduleSource::File(_) => answer_drive_schedule(alloc, batch, schedule, ports, stage),
+        ScheduleSource::Plan(workers) => {
+            answer_drive(rt, alloc, wiring, batch, *workers, ports, stage)
+        }
+        ScheduleSource::Steady => answer_drive_steady(alloc, wiring, batch, ports, stage),
+        ScheduleSource::File(_) => {
+            let schedule = texts.schedule.as_slice();
+            answer_drive_schedule(alloc, wiring, batch, schedule, ports, stage)
+        }
     }
 }
 
@@ -50,48 +58,23 @@ fn answer_from<R: AllocGlobal + Files + Threads + Sync, S: Stage>(
 /// unless it goes on.
 fn answer_lines<R: AllocGlobal + Files + Threads + Sync, I: Read, O: Write>(
     rt: &R,
-    batch: &[u8],
+    texts: &SwitchTexts,
     source: &ScheduleSource,
-    schedule: &[u8],
     ports: &mut NamedPorts<'_, R, R::File>,
     goes_on: bool,
     input: &mut I,
     out: &mut O,
 ) -> Result<Answer, DriveFault>
     ensures { (told : List ℕ) × Appends (O.contents out.old) (O.contents out.new) told
-        × IfOk result (IsDriveBy source.now batch.now schedule.now ports.old told) }
+        × IfOk result (IsDriveBy source.now (contents_in texts.now) goes_on
+        (I.remaining input.old) ports.old told)
+        × IfErr result (λ fault. fault ≡ NoMemory → told ≡ []) }
 {
     let mut lines = Lines::new(input, out, !goes_on);
-    let end = answer_from(rt, batch, source, schedule, ports, &mut lines);
+    let end = answer_from(rt, texts, source, ports, &mut lines);
     // It does nothing when the program runs: the proof reads from it what `out` holds.
     lines.into_out();
     end
-}
-
-/// An answer to a batch, and to a schedule where it comes from a file, with what is told beside it
-/// where that is a refusal.
-fn with_texts<'a>(
-    alloc: Global,
-    answer: Answer,
-    batch: &'a Text,
-    text: &'a [u8],
-    source: &'a ScheduleSource,
-    schedule: &'a [u8],
-) -> Answered
-    ensures answer { result.answer ≡ answer }
-    ensures note { IsNoteOn result.answer (option_map (λ line. string_bytes line) result.note) }
-{
-    let list = named(batch, text);
-    let texts = match source {
-        ScheduleSource::File(file) => of_schedule(
-            list,
-            named(file, schedule),
-            "",
-            Validity::Unknown,
-        ),
-        _ => of_list(list, Listing::Transfers),
-    };
-    with_note(alloc, answer, texts)
 }
 
 /// An answer with what is told of a port that can't be opened, where it refuses that.
@@ -107,34 +90,36 @@ fn with_reason(answer: Answer, reason: Option<String>) -> Answered
     Answered {
         answer,
         note,
-        lost: None,
+        lost: Lost::none(),
     }
 }
 
 /// The answer of `exchange drive BATCH PORT [PORT_B]`, behind the lines that are told on `out`,
 /// each once its setting stands. Behind each a line of `input` is waited for, unless it goes on.
-/// The files are read before any is looked at, the batch's first, and before a port is opened.
+/// The files are read before any is looked at and before a port is opened: the batch's first, and
+/// the wiring's last.
 pub(crate) fn drive<R: AllocGlobal + Files + Threads + Sync, I: Read, O: Write>(
     rt: &R,
     batch: &Text,
     source: &ScheduleSource,
+    wiring: &Option<Text>,
     goes_on: bool,
     mut ports: NamedPorts<'_, R, R::File>,
     input: &mut I,
     out: &mut O,
 ) -> Result<Answered, NoAnswer>
-    requires { NameInputOnce (driven_files batch.now source.now goes_on) }
+    requires { NameInputOnce (driven_files batch.now source.now wiring.now goes_on) }
     ensures answer { (told : List ℕ) × Appends (O.contents out.old) (O.contents out.new) told
         × IfOk result (λ done.
-        IsSomeDrive (I.remaining input.old) batch.now source.now ports.entry told done.answer) }
+        IsSomeDrive (I.remaining input.old) batch.now source.now wiring.now goes_on ports.entry
+        told done.answer)
+        × IfErr result (IsUntold told) }
     ensures note { HasNote result }
 {
-    let held = read_file(rt, batch, input)?;
-    let file = read_schedule(rt, source, input)?;
-    let (text, schedule) = (held.as_slice(), file.as_slice());
-    let answer = answer_lines(rt, text, source, schedule, &mut ports, goes_on, input, out)?;
+    let texts = SwitchTexts::read(rt, batch, source, wiring, input)?;
+    let answer = answer_lines(rt, &texts, source, &mut ports, goes_on, input, out)?;
     if let Some(Refusal::Port(_)) = answer.refusal() {
         return Ok(with_reason(answer, ports.reason(rt.alloc())));
     }
-    Ok(with_texts(rt.alloc(), answer, batch, text, source, schedule))
+    Ok(with_note(rt.alloc(), answer, texts.named(batch, source, wiring)))
 }

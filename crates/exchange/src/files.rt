@@ -3,8 +3,8 @@
 ghost use Rattle.std.specs.Prelude.{◌≡◌, ◌≢◌, ◌∷◌, [], IfOk, IfErr, Some, map, option_map};
 ghost use Rattle.plan_answers.specs.Lent.{bytes_of};
 ghost use Rattle.command_words.specs.Jobs.{NameInputOnce, input_name};
-ghost use Rattle.exchange.specs.Drives.{IsHeldSchedule};
-ghost use Rattle.exchange.specs.Files.{IsFileContent, IsImageContent, AreFileContents};
+ghost use Rattle.command_words.specs.declared.jobs.ScheduleSource.TheVariants.{File};
+ghost use Rattle.exchange.specs.Files.{IsFileContent, IsHeldSchedule, IsImageContent, AreFileContents};
 ghost use Rattle.exchange.specs.Outcomes.{IsNoAnswer};
 
 use crate::notes::{NoAnswer, unread};
@@ -14,7 +14,7 @@ use std::io::Read;
 use std::rt::Files;
 use std::{fs, io};
 
-/// What an image's file contains, where one is named.
+/// What the file of an image, or of a wiring, contains, where one is named.
 pub(crate) fn read_image<R: AllocGlobal + Files, I: Read>(
     rt: &R,
     name: &Option<Text>,
@@ -31,7 +31,7 @@ pub(crate) fn read_image<R: AllocGlobal + Files, I: Read>(
     }
 }
 
-/// What a schedule's file holds: nothing, where none has it.
+/// What a schedule's file contains: nothing, where none has it.
 pub(crate) fn read_schedule<R: AllocGlobal + Files, I: Read>(
     rt: &R,
     source: &ScheduleSource,
@@ -40,6 +40,7 @@ pub(crate) fn read_schedule<R: AllocGlobal + Files, I: Read>(
     ensures content { IfOk result (λ file.
         IsHeldSchedule (I.remaining input.old) source.now file.items) }
     ensures note { IfErr result (λ missed. IsNoAnswer missed) }
+    ensures unread { source.now ≢ File input_name → I.remaining input.new ≡ I.remaining input.old }
 {
     match source {
         ScheduleSource::File(file) => read_file(rt, file, input),
@@ -47,7 +48,7 @@ pub(crate) fn read_schedule<R: AllocGlobal + Files, I: Read>(
     }
 }
 
-/// The bytes of an image, where there is one.
+/// The bytes of an image, or of a wiring, where there is one.
 pub(crate) fn slice_of(image: &Option<Vec<u8>>) -> Option<&[u8]>
     ensures { bytes_of result ≡ option_map (λ file. file.items) image.now }
 {

@@ -1,28 +1,30 @@
 //! The answer to each job.
 
-ghost use Rattle.std.specs.Prelude.{◌≡◌, ◌∷◌, ◌++◌, [], List, ℕ, IfOk, Option, option_to_list};
+ghost use Rattle.std.specs.Prelude.{◌≡◌, ◌∷◌, ◌++◌, [], List, ℕ, IfOk, IfErr, Option, option_to_list};
 ghost use Rattle.std.specs.Io.KnownBytes.{Appends};
-ghost use Rattle.module_memory.specs.Store.{Store};
+ghost use Rattle.batch_book.specs.History.{Account};
 ghost use Rattle.client_session.specs.Listening.{TellsOfRefusals};
 ghost use Rattle.plan_answers.specs.Lent.{bytes_of};
 ghost use Rattle.command_words.specs.Jobs.{CanBeServed, IsWithinLimits, NameInputOnce, files_of, input_name};
-ghost use Rattle.command_words.specs.declared.jobs.Job.TheVariants.{Plan, Switch};
+ghost use Rattle.command_words.specs.declared.jobs.Job.TheVariants.{Plan};
 ghost use Rattle.exchange.specs.Responses.{IsSomeCheck, IsSomeDraw, IsSomeDirect, IsSomeApply, IsSomeRun, IsSomeC004, IsSomeServe, IsSomeHost, IsSomeTalk};
 ghost use Rattle.exchange.specs.Responses.{IsAnswerTo, IsToldBy, behind_told};
 ghost use Rattle.exchange.specs.Notes.{IsBeside};
-ghost use Rattle.exchange.specs.Images.{IsImageWritten, content_of};
-ghost use Rattle.exchange.specs.Outcomes.{HasNote};
+ghost use Rattle.exchange.specs.Outputs.{AreOutputsWritten};
+ghost use Rattle.exchange.specs.Outcomes.{HasNote, IsUntold, MayStandBehind};
 
 use crate::beside::Beside;
 use crate::client_streams::{ClientFiles, FileStreams, System};
 use crate::driving::drive;
 use crate::files::{read_file, read_files, read_image, read_texts, slice_of};
-use crate::images::{ImageFile, open_image};
 use crate::notes::{
     Answered, NoAnswer, alone, closed, named, named_image, of_list, of_rack, of_schedule,
     reason_line, tell_note, with_note,
 };
+use crate::outputs::{Outputs, open_outputs};
 use crate::ports::NamedPorts;
+use crate::replaying::replay;
+use crate::switching::switch;
 use crate::unwritten::Unwritten;
 use client_session::{Listener, NoListener};
 use command_words::{Job, Planning, Request, ScheduleSource, SharedRack, Text, TextList};
@@ -30,11 +32,9 @@ use exchange_limits::WorkerCount;
 use plan_answers::{
     Answer, answer_check, answer_direct, answer_draw, answer_plan, answer_plan_steady,
 };
-use rack_answers::{
-    answer_apply, answer_run, answer_switch, answer_switch_schedule, answer_switch_steady,
-};
+use rack_answers::{answer_apply, answer_run};
 use refusal_notes::Listing;
-use session_answers::{Closing, Hosted, answer_host, answer_serve, answer_talk};
+use session_answers::{Hosted, answer_host, answer_serve, answer_talk};
 use std::alloc::Global;
 use std::fs::OpenFile;
 use std::io;
@@ -47,8 +47,8 @@ use switch_end::{EndFault, SwitchEnd, answer_commands};
 /// The answer to a job, or why it has none, with what is told beside it. A session of `talk` is
 /// told its replies on `out` before, and a line on `err` beside each that is a refusal, but for
 /// lack of memory. `drive` tells its settings on `out` before, and `c004` writes its answers to
-/// enquiries there, and tells on `err` what it drops. A file for the image that sessions leave is
-/// opened before any other is read.
+/// enquiries there, and tells on `err` what it drops. The files for the record of sessions and for
+/// the image that they leave are opened before any other is read.
 pub(crate) fn answer_to<R: System, I: Read, O: Write, E: Write>(
     rt: &R,
     request: Request,
@@ -62,7 +62,8 @@ pub(crate) fn answer_to<R: System, I: Read, O: Write, E: Write>(
         × IsToldBy request.job told
         × IfOk result (λ done.
         IsAnswerTo (I.remaining input.old) request.job (behind_told told done.answer))
-        × HasNote result }
+        × HasNote result
+        × IfErr result (MayStandBehind request.job told) }
     ensures beside { IsBeside request (E.contents err.old) (E.contents err.new) }
 {
     let Request { job, is_quiet } = request;
@@ -74,7 +75,11 @@ pub(crate) fn answer_to<R: System, I: Read, O: Write, E: Write>(
             schedule,
             settings,
         } => draw(rt, &batch, &schedule, &settings, input),
-        Job::Switch { batch, source } => switch(rt, &batch, &source, input),
+        Job::Switch {
+            batch,
+            source,
+            wiring,
+        } => switch(rt, &batch, &source, &wiring, input),
         Job::Direct { moves } => direct(rt, &moves, input),
         Job::Apply {
             shape,
@@ -93,10 +98,11 @@ pub(crate) fn answer_to<R: System, I: Read, O: Write, E: Write>(
             port,
             port_b,
             source,
+            wiring,
             goes_on,
         } => {
             let ports = NamedPorts::new(rt, &port, &port_b);
-            drive(rt, &batch, &source, goes_on, ports, input, out)
+            drive(rt, &batch, &source, &wiring, goes_on, ports, input, out)
         }
         Job::C004 if is_quiet => c004(rt.alloc(), input, out, &mut io::sink()),
         Job::C004 => c004(rt.alloc(), input, out, err),
@@ -105,25 +111,30 @@ pub(crate) fn answer_to<R: System, I: Read, O: Write, E: Write>(
             scripts,
             workers,
         } => {
-            let mut file = open_image(rt, &rack.image_out)?;
-            serve(rt, &rack, &scripts, workers, input, &mut file)
+            let mut outputs = open_outputs(rt, &rack)?;
+            serve(rt, &rack, &scripts, workers, input, &mut outputs)
         }
         Job::Host {
             rack,
             clients,
             workers,
         } => {
-            let mut file = open_image(rt, &rack.image_out)?;
-            host(rt, &rack, &clients, workers, input, &mut file)
+            let mut outputs = open_outputs(rt, &rack)?;
+            host(rt, &rack, &clients, workers, input, &mut outputs)
         }
+        Job::Replay {
+            shape,
+            recorded,
+            image,
+        } => replay(rt, &shape, &recorded, &image, input),
         Job::Talk { rack } if is_quiet => {
-            let mut file = open_image(rt, &rack.image_out)?;
-            talk(rt, &rack, input, out, &mut NoListener, &mut file)
+            let mut outputs = open_outputs(rt, &rack)?;
+            talk(rt, &rack, input, out, &mut NoListener, &mut outputs)
         }
         Job::Talk { rack } => {
-            let mut file = open_image(rt, &rack.image_out)?;
+            let mut outputs = open_outputs(rt, &rack)?;
             let mut beside = Beside::new(rt.alloc(), rack.shape.as_str(), err);
-            let end = talk(rt, &rack, input, out, &mut beside, &mut file);
+            let end = talk(rt, &rack, input, out, &mut beside, &mut outputs);
             // It does nothing when the program runs: the proof reads from it what `err` holds.
             beside.into_stream();
             end
@@ -212,43 +223,6 @@ fn word_in(text: &Option<Text>) -> &str {
     }
 }
 
-/// The answer of `exchange switch BATCH`, for its plan, its steady plan or the schedule of a file.
-/// The files are read before any is looked at, the batch's first.
-fn switch<R: AllocGlobal + Files + Threads + Sync, I: Read>(
-    rt: &R,
-    batch: &Text,
-    source: &ScheduleSource,
-    input: &mut I,
-) -> Result<Answered, NoAnswer>
-    requires { NameInputOnce (files_of (Switch batch.now source.now)) }
-    ensures answer { IfOk result (λ done.
-        IsAnswerTo (I.remaining input.old) (Switch batch.now source.now) done.answer) }
-    ensures note { HasNote result }
-{
-    let alloc = rt.alloc();
-    let content = read_file(rt, batch, input)?;
-    let text = content.as_slice();
-    let list = of_list(named(batch, text), Listing::Transfers);
-    match source {
-        ScheduleSource::Plan(workers) => {
-            let answer = answer_switch(rt, alloc, text, *workers)?;
-            Ok(with_note(alloc, answer, list))
-        }
-        ScheduleSource::Steady => {
-            let answer = answer_switch_steady(alloc, text)?;
-            Ok(with_note(alloc, answer, list))
-        }
-        ScheduleSource::File(file) => {
-            let other = read_file(rt, file, input)?;
-            let schedule = other.as_slice();
-            let answer = answer_switch_schedule(alloc, text, schedule)?;
-            let (batch, schedule) = (named(batch, text), named(file, schedule));
-            let texts = of_schedule(batch, schedule, "", answer.validity());
-            Ok(with_note(alloc, answer, texts))
-        }
-    }
-}
-
 /// The answer of `exchange direct MOVES`.
 fn direct<R: AllocGlobal + Files, I: Read>(
     rt: &R,
@@ -322,7 +296,8 @@ fn c004<I: Read, O: Write, E: Write>(
     err: &mut E,
 ) -> Result<Answered, NoAnswer>
     ensures answer { (told : List ℕ) × Appends (O.contents out.old) (O.contents out.new) told
-        × IfOk result (λ done. IsSomeC004 (I.remaining input.old) told done.answer) }
+        × IfOk result (λ done. IsSomeC004 (I.remaining input.old) told done.answer)
+        × IfErr result (IsUntold told) }
     ensures note { HasNote result }
     ensures beside { (told : List ℕ) × Appends (E.contents err.old) (E.contents err.new) told }
 {
@@ -337,22 +312,22 @@ fn c004<I: Read, O: Write, E: Write>(
     }
 }
 
-/// The answer of `exchange serve SHAPE SCRIPT..`, behind which the image of the rack is in its
-/// file. The image that it begins with, if one is named, is read first, and then the scripts' files
-/// in the order of the arguments, before the shape is looked at.
+/// The answer of `exchange serve SHAPE SCRIPT..`, behind which the record and the image of the
+/// rack are in their files. The image that it begins with, if one is named, is read first, and then
+/// the scripts' files in the order of the arguments, before the shape is looked at.
 fn serve<R: AllocGlobal + Files + Threads + Wait + Sync, I: Read, F: Write + OpenFile>(
     rt: &R,
     rack: &SharedRack,
     scripts: &TextList,
     workers: WorkerCount,
     input: &mut I,
-    file: &mut Option<ImageFile<'_, F>>,
+    outputs: &mut Outputs<'_, F>,
 ) -> Result<Answered, NoAnswer>
     requires scripts { CanBeServed scripts.now }
     requires input { NameInputOnce (option_to_list rack.now.image ++ scripts.now) }
-    ensures answer { IfOk result (λ done. (left : Option Store)
+    ensures answer { IfOk result (λ done. (left : Option Account)
         × IsSomeServe (I.remaining input.old) rack.now scripts.now done.answer left
-        × IsImageWritten (content_of F.contents) left file.old file.new done.lost) }
+        × AreOutputsWritten F.contents left outputs.old outputs.new done.lost) }
     ensures note { HasNote result }
 {
     let words = read_image(rt, &rack.image, input)?;
@@ -360,24 +335,24 @@ fn serve<R: AllocGlobal + Files + Threads + Wait + Sync, I: Read, F: Write + Ope
     let shape = rack.shape.as_str().as_bytes();
     let (files, words) = (files.as_slice(), slice_of(&words));
     let closing = answer_serve(rt, rt.alloc(), shape, words, workers, files)?;
-    Ok(closed(rt.alloc(), closing, rack, words, file))
+    Ok(closed(rt.alloc(), closing, rack, words, outputs))
 }
 
 /// The answer of `exchange host SHAPE CLIENT..`, behind the sessions of the clients, and behind
-/// which the image of the rack is in its file. The image that it begins with, if one is named, is
-/// read first.
+/// which the record and the image of the rack are in their files. The image that it begins with, if
+/// one is named, is read first.
 fn host<R: AllocGlobal + Files + Threads + Wait + ClientFiles + Sync, I: Read, F: Write + OpenFile>(
     rt: &R,
     rack: &SharedRack,
     clients: &TextList,
     workers: WorkerCount,
     input: &mut I,
-    file: &mut Option<ImageFile<'_, F>>,
+    outputs: &mut Outputs<'_, F>,
 ) -> Result<Answered, NoAnswer>
     requires clients { CanBeServed clients.now }
-    ensures answer { IfOk result (λ done. (left : Option Store)
+    ensures answer { IfOk result (λ done. (left : Option Account)
         × IsSomeHost (I.remaining input.old) rack.now clients.now done.answer left
-        × IsImageWritten (content_of F.contents) left file.old file.new done.lost) }
+        × AreOutputsWritten F.contents left outputs.old outputs.new done.lost) }
     ensures note { HasNote result }
 {
     let words = read_image(rt, &rack.image, input)?;
@@ -387,18 +362,13 @@ fn host<R: AllocGlobal + Files + Threads + Wait + ClientFiles + Sync, I: Read, F
     let clients = clients.as_slice();
     let streams = FileStreams { rt, alloc, clients };
     let hosted = answer_host(rt, alloc, shape, words, workers, &streams)?;
-    let Hosted {
-        answer,
-        rack: left,
-        ..
-    } = hosted;
-    let closing = Closing { answer, rack: left };
-    Ok(closed(alloc, closing, rack, words, file))
+    let Hosted { closing, .. } = hosted;
+    Ok(closed(alloc, closing, rack, words, outputs))
 }
 
 /// The answer of `exchange talk SHAPE`, behind a session over `input` and `out`, of whose refusals
-/// the listener is told, and behind which the image of the rack is in its file. The image that it
-/// begins with, if one is named, is read first.
+/// the listener is told, and behind which the record and the image of the rack are in their files.
+/// The image that it begins with, if one is named, is read first.
 fn talk<
     R: AllocGlobal + Files + Threads + Wait + Sync,
     I: Read,
@@ -411,13 +381,13 @@ fn talk<
     input: &mut I,
     out: &mut O,
     listener: &mut H,
-    file: &mut Option<ImageFile<'_, F>>,
+    outputs: &mut Outputs<'_, F>,
 ) -> Result<Answered, NoAnswer>
     requires input { NameInputOnce (option_to_list rack.now.image ++ input_name ∷ []) }
     ensures answer { (told : List ℕ) × Appends (O.contents out.old) (O.contents out.new) told
-        × IfOk result (λ done. (left : Option Store)
+        × IfOk result (λ done. (left : Option Account)
         × IsSomeTalk (I.remaining input.old) rack.now told done.answer left
-        × IsImageWritten (content_of F.contents) left file.old file.new done.lost) }
+        × AreOutputsWritten F.contents left outputs.old outputs.new done.lost) }
     ensures note { HasNote result }
     ensures beside { TellsOfRefusals H.may_tell (H.told listener.old) (H.told listener.new) }
 {
@@ -425,5 +395,5 @@ fn talk<
     let shape = rack.shape.as_str().as_bytes();
     let words = slice_of(&words);
     let closing = answer_talk(rt, rt.alloc(), shape, words, input, out, listener)?;
-    Ok(closed(rt.alloc(), closing, rack, words, file))
+    Ok(closed(rt.alloc(), closing, rack, words, outputs))
 }

@@ -8,12 +8,16 @@ mod beside;
 mod client_streams;
 mod driving;
 mod files;
-mod images;
 mod jobs;
 mod limits;
+mod lost;
 mod notes;
+mod outputs;
 mod ports;
+mod replaying;
 mod responding;
+mod switch_texts;
+mod switching;
 mod unanswered;
 mod unwritten;
 

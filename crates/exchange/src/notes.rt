@@ -1,11 +1,13 @@
 //! What is told beside an answer.
 
 ghost use Rattle.std.specs.Prelude.{◌≡◌, IfSome, None, option_map, string_bytes};
-ghost use Rattle.exchange.specs.Images.{IsImageWritten, content_of};
+ghost use Rattle.exchange.specs.Outputs.{AreOutputsWritten, lost_none};
 ghost use Rattle.exchange.specs.Notes.{IsToldInPart, IsNoteOn, IsToldUnless, IsWholeLine};
 ghost use Rattle.exchange.specs.Outcomes.{IsNoAnswer};
 
-use crate::images::{ImageFile, keep_image};
+use crate::files::slice_of;
+use crate::lost::Lost;
+use crate::outputs::{Outputs, keep};
 use crate::unanswered::Unanswered;
 use crate::unwritten::Unwritten;
 use byte_streams::write_bytes;
@@ -13,6 +15,7 @@ use command_words::{SharedRack, Text};
 use drive_answers::DriveFault;
 use module_memory::Rack;
 use plan_answers::Answer;
+use record_replay::RecordError;
 use refusal_notes::{Listing, Named, Texts, file_line, second_line};
 use refusals::Validity;
 use session_answers::Closing;
@@ -26,8 +29,8 @@ use std::io::{ErrorKind, Write};
 pub(crate) struct Answered {
     pub(crate) answer: Answer,
     pub(crate) note: Option<String>,
-    /// The image that the answer leaves, where it couldn't be written.
-    pub(crate) lost: Option<Unwritten>,
+    /// What couldn't be written of what sessions leave.
+    pub(crate) lost: Lost,
 }
 
 /// Why there is no answer.
@@ -58,9 +61,9 @@ impl From<AllocError> for NoAnswer {
 }
 
 impl From<DriveFault> for NoAnswer {
-    ghost use Rattle.exchange.specs.Outcomes.{IsNoAnswer};
+    ghost use Rattle.exchange.specs.Outcomes.{IsNoAnswer, IsMissedFor};
 
-    ghost from_gives = { λ _ missed. IsNoAnswer missed };
+    ghost from_gives = { λ fault missed. IsNoAnswer missed × IsMissedFor fault missed };
 
     fn from(fault: DriveFault) -> NoAnswer {
         match fault {
@@ -79,43 +82,43 @@ pub(crate) fn with_note(alloc: Global, answer: Answer, texts: Texts<'_>) -> Answ
     Answered {
         answer,
         note,
-        lost: None,
+        lost: Lost::none(),
     }
 }
 
 /// An answer beside which there is nothing to tell.
 pub(crate) fn alone(answer: Answer) -> Answered
-    ensures { result ≡ record { answer = answer; note = None; lost = None } }
+    ensures { result ≡ record { answer = answer; note = None; lost = lost_none } }
 {
     Answered {
         answer,
         note: None,
-        lost: None,
+        lost: Lost::none(),
     }
 }
 
 /// An answer of sessions on the rack that was asked for, whose image had these bytes, with what is
-/// told beside it where that is a refusal. The image of the rack that they leave goes to the file
-/// for it.
+/// told beside it where that is a refusal. The record of the sessions, and the image of the rack
+/// that they leave, go to the files for them.
 pub(crate) fn closed<'a, F: Write + OpenFile>(
     alloc: Global,
     closing: Closing,
     rack: &'a SharedRack,
     words: Option<&'a [u8]>,
-    out: &mut Option<ImageFile<'_, F>>,
+    outputs: &mut Outputs<'_, F>,
 ) -> Answered
     ensures answer { result.answer ≡ closing.answer }
     ensures note { IsNoteOn result.answer (option_map (λ line. string_bytes line) result.note) }
-    ensures kept { IsImageWritten (content_of F.contents) closing.rack out.old out.new result.lost }
+    ensures kept { AreOutputsWritten F.contents closing.book outputs.old outputs.new result.lost }
 {
-    let Closing { answer, rack: left } = closing;
+    let Closing { answer, book } = closing;
     let texts = of_rack(
         rack.shape.as_str(),
         Named::NONE,
         named_image(&rack.image, words),
     );
     let note = note_on(alloc, &answer, texts);
-    let lost = keep_image(alloc, &left, out);
+    let lost = keep(alloc, &book, outputs);
     Answered { answer, note, lost }
 }
 
@@ -155,6 +158,28 @@ pub(crate) fn of_rack<'a>(shape: &'a str, batch: Named<'a>, image: Named<'a>) ->
     }
 }
 
+/// The word of a rack's shape, a record, the image of the rack, which may be none, and what is
+/// wrong with the record, where something is.
+pub(crate) fn of_record<'a>(
+    shape: &'a str,
+    recorded: Named<'a>,
+    image: Named<'a>,
+    error: &'a Option<RecordError>,
+) -> Texts<'a> {
+    let texts = Texts {
+        recorded,
+        ..of_rack(shape, Named::NONE, image)
+    };
+    match error {
+        Some(error) => Texts {
+            offset: error.offset,
+            due: slice_of(&error.due).unwrap_or(&[]),
+            ..texts
+        },
+        None => texts,
+    }
+}
+
 /// What is told beside an answer to these texts.
 fn note_on(alloc: Global, answer: &Answer, texts: Texts<'_>) -> Option<String>
     ensures { IsNoteOn answer.now (option_map (λ line. string_bytes line) result) }
@@ -186,7 +211,7 @@ pub(crate) fn reason_line(alloc: Global, name: &str, error: &io::Error) -> Optio
     }
 }
 
-/// The name of an image's file and what that contains, where there is one.
+/// The name of the file of an image, or of a wiring, and what that contains, where there is one.
 pub(crate) fn named_image<'a>(name: &'a Option<Text>, image: Option<&'a [u8]>) -> Named<'a> {
     match (name, image) {
         (Some(name), Some(text)) => named(name, text),

@@ -7,7 +7,7 @@ ghost use Rattle.exchange.specs.Ports.{ports_named};
 
 use crate::notes::reason_line;
 use command_words::Text;
-use drive_answers::Ports;
+use drive_answers::{OpenedCount, Ports};
 use refusals::{PortName, Refusal};
 use std::alloc::Global;
 use std::fs::{OpenFile, OpenOptions};
@@ -18,7 +18,8 @@ use std::{fs, io};
 use switch_driver::{StreamPort, SwitchStream};
 
 /// The ports of the switches by their names, and why one of them can't be opened. Contracts see how
-/// many are named, and what has passed over the port that was closed last.
+/// many are named, what has passed over the port that was closed last, and how often they were
+/// opened.
 #[derive(Drop)]
 pub(crate) struct NamedPorts<'a, R, F> {
     rt: &'a R,
@@ -26,6 +27,7 @@ pub(crate) struct NamedPorts<'a, R, F> {
     port_b: &'a Option<Text>,
     failed: Option<(&'a Text, io::Error)>,
     closed: Option<StreamPort<F, F>>,
+    opened: OpenedCount,
 }
 
 impl<'a, R, F> Model for NamedPorts<'a, R, F> {
@@ -36,13 +38,15 @@ impl<'a, R, F> Model for NamedPorts<'a, R, F> {
     ghost view = { λ ports. record {
       named = ports_named ports.port_b.now;
       carried = carried_last ports.closed;
+      opened = ports.opened;
     } };
 }
 
 impl<'a, R, F> NamedPorts<'a, R, F> {
     /// Ports of these names, none of which is open.
     pub(crate) fn new(rt: &'a R, port: &'a Text, port_b: &'a Option<Text>) -> NamedPorts<'a, R, F>
-        ensures { result ≡ record { named = ports_named port_b.entry.now; carried = None } }
+        ensures { result
+            ≡ record { named = ports_named port_b.entry.now; carried = None; opened = 0 } }
     {
         NamedPorts {
             rt,
@@ -50,6 +54,7 @@ impl<'a, R, F> NamedPorts<'a, R, F> {
             port_b,
             failed: None,
             closed: None,
+            opened: OpenedCount::zero(),
         }
     }
 
@@ -120,7 +125,11 @@ impl<'a, R: AllocGlobal + Files> Ports for NamedPorts<'a, R, R::File> {
 
     ghost refuses = { λ ports switches refusal. IsUnopened ports.named switches refusal };
 
+    ghost leads = { λ ports switches. ports.named ≡ switches };
+
     ghost carried = { λ ports. ports.carried };
+
+    ghost opened = { λ ports. ports.opened };
 
     fn open(&mut self, switches: usize) -> Result<StreamPort<R::File, R::File>, Refusal> {
         if switches != self.count() {
@@ -132,6 +141,7 @@ impl<'a, R: AllocGlobal + Files> Ports for NamedPorts<'a, R, R::File> {
             Some(name) => Some(self.open_one(PortName::B, name)?),
             None => None,
         };
+        self.opened.raise();
         Ok(StreamPort::new(a, b))
     }
 

@@ -1,11 +1,12 @@
 //! From the arguments of the command line to what is printed, and the status that the program ends
 //! with.
 
-ghost use Rattle.std.specs.Prelude.{◌≡◌, ◌⊎◌, IfOk, None, OnErr, option_map, string_bytes};
+ghost use Rattle.std.specs.Prelude.{◌≡◌, ◌⊎◌, IfOk, OnErr, option_map, string_bytes};
 ghost use Rattle.std.specs.Process.{exit_status};
 ghost use Rattle.command_words.specs.Jobs.{texts_of};
 ghost use Rattle.exchange.specs.Responses.{unanswered};
 ghost use Rattle.exchange.specs.Notes.{IsToldUnless};
+ghost use Rattle.exchange.specs.Outputs.{lost_none};
 ghost use Rattle.exchange.specs.Ends.{IsPrinted, streams_of, IsEndForArguments, IsEndWithoutArguments};
 
 use crate::client_streams::System;
@@ -139,7 +140,7 @@ fn installed_help(alloc: Global, help: &clap::Error) -> Result<String, AllocErro
 }
 
 /// Prints an answer, then tells what there is to tell beside it, and gives the answer's status. The
-/// error is what couldn't be written, the answer or before it the image that it leaves.
+/// error is what couldn't be written: the answer, or before it what sessions leave.
 fn print_noted<O: Write, E: Write>(
     done: Answered,
     is_quiet: bool,
@@ -147,17 +148,17 @@ fn print_noted<O: Write, E: Write>(
     err: &mut E,
 ) -> Result<u8, Unwritten>
     ensures printed { IfOk result (λ status. IsPrinted (O.contents out.old) (O.contents out.new)
-        done.answer status × (done.lost ≡ None)) }
+        done.answer status × (done.lost ≡ lost_none)) }
     ensures told { IsToldUnless is_quiet (option_map (λ line. string_bytes line) done.note)
         (E.contents err.old) (E.contents err.new) }
 {
     let Answered { answer, note, lost } = done;
     let status = print(&answer, out)?;
     tell_note(&note, is_quiet, err);
-    match lost {
-        Some(lost) => Err(lost),
-        None => Ok(status),
+    if lost.is_none() {
+        return Ok(status);
     }
+    Err(Unwritten::Kept(lost))
 }
 
 /// Prints why there is no answer, then tells what there is to tell beside it, and gives the status

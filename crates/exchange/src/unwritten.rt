@@ -1,5 +1,6 @@
 //! What couldn't be written.
 
+use crate::lost::Lost;
 use crate::notes::tell_line;
 use std::io;
 use std::io::Write;
@@ -11,8 +12,8 @@ pub(crate) enum Unwritten {
     Answer(io::Error),
     /// The line of a setting that stands.
     Setting,
-    /// The image that is left. This line says why, where there is memory for it.
-    Image(Option<String>),
+    /// What sessions leave: their record, the image, or both.
+    Kept(Lost),
 }
 
 impl From<io::Error> for Unwritten {
@@ -32,8 +33,7 @@ impl Unwritten {
                 b"exchange: a setting that stands can't be told\n",
                 err,
             ),
-            Unwritten::Image(Some(line)) => tell_line(line.as_str().as_bytes(), err),
-            Unwritten::Image(None) => {}
+            Unwritten::Kept(lost) => lost.tell(err),
         }
     }
 }

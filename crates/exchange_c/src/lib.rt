@@ -100,7 +100,7 @@ fn answer_switch(alloc: Global, batch: &[u8], schedule: &[u8]) -> Result<Answer,
     if schedule.is_empty() {
         return answer_switch_alone(alloc, batch);
     }
-    answer_switch_schedule(alloc, batch, schedule)
+    answer_switch_schedule(alloc, None, batch, schedule)
 }
 
 /// What `exchange switch` answers to the text of a batch, and `exchange switch --schedule` to that

@@ -11,6 +11,7 @@ ghost use Rattle.plan_answers.specs.Answers.{IsOnly, IsUnshown, IsChecked};
 use crate::answer::Answer;
 use crate::texts::ReadTexts;
 use crate::validity::validity_of;
+use batch::Shape;
 use link_graph::check_schedule;
 use refusals::Refusal;
 use std::alloc::{AllocError, Global};
@@ -60,7 +61,7 @@ pub fn answer_check(alloc: Global, batch: &[u8], schedule: &[u8]) -> Result<Answ
     ensures checked { IfOk result (IsChecked widest batch.now schedule.now) }
     ensures one { IfOk result (IsOnly (IsChecked widest batch.now schedule.now)) }
 {
-    match ReadTexts::read(alloc, batch, schedule) {
+    match ReadTexts::read(alloc, Shape::WIDEST, batch, schedule) {
         Ok(texts) => answer_texts(alloc, &texts),
         Err(refusal) => Answer::refused(alloc, refusal),
     }

@@ -8,7 +8,7 @@ ghost use Rattle.plan_answers.specs.Validities.{IsValid, IsInvalid};
 
 use crate::texts::ReadTexts;
 use crate::validity::verdict_of;
-use batch::Batch;
+use batch::{Batch, Shape};
 use link_graph::Schedule;
 use refusals::Refusal;
 use schedule_picture::Verdict;
@@ -51,7 +51,22 @@ impl ScheduleTexts {
         ensures invalid { IfErr result (λ refusal. refusal ≢ NoMemory
             → IsInvalid widest batch.now schedule.now refusal) }
     {
-        let texts = ReadTexts::read(alloc, batch, schedule)?;
+        ScheduleTexts::read_within(alloc, Shape::WIDEST, batch, schedule)
+    }
+
+    /// The same, where the batch text is looked at against this shape.
+    pub fn read_within(
+        alloc: Global,
+        shape: Shape,
+        batch: &[u8],
+        schedule: &[u8],
+    ) -> Result<ScheduleTexts, Refusal>
+        ensures valid { IfOk result (λ read.
+            IsValid shape batch.now schedule.now read.batch read.settings read.verdict) }
+        ensures invalid { IfErr result (λ refusal. refusal ≢ NoMemory
+            → IsInvalid shape batch.now schedule.now refusal) }
+    {
+        let texts = ReadTexts::read(alloc, shape, batch, schedule)?;
         let verdict = verdict_of(alloc, &texts)?;
         Ok(ScheduleTexts { texts, verdict })
     }

@@ -1,7 +1,6 @@
 //! The texts of a batch and of a schedule, which `check`, `draw` and `switch` read.
 
 ghost use Rattle.std.specs.Prelude.{◌≢◌, IfOk, IfErr};
-ghost use Rattle.batch.specs.Extent.{widest};
 ghost use Rattle.refusals.specs.declared.refusal.Refusal.TheVariants.{NoMemory};
 ghost use Rattle.plan_answers.specs.Texts.{AreTexts, IsTextWrong};
 
@@ -30,14 +29,19 @@ impl Drop for ReadTexts {
 
 impl ReadTexts {
     /// What the texts say, or what is first wrong with them. The batch text is looked at first,
-    /// against the widest shape.
-    pub(crate) fn read(alloc: Global, batch: &[u8], schedule: &[u8]) -> Result<ReadTexts, Refusal>
+    /// against the shape.
+    pub(crate) fn read(
+        alloc: Global,
+        shape: Shape,
+        batch: &[u8],
+        schedule: &[u8],
+    ) -> Result<ReadTexts, Refusal>
         ensures texts { IfOk result (λ read.
-            AreTexts widest batch.now schedule.now read.batch read.schedule read.certificate) }
+            AreTexts shape batch.now schedule.now read.batch read.schedule read.certificate) }
         ensures wrong { IfErr result (λ refusal. refusal ≢ NoMemory
-            → IsTextWrong widest batch.now schedule.now refusal) }
+            → IsTextWrong shape batch.now schedule.now refusal) }
     {
-        let batch = Batch::read(alloc, batch, Shape::WIDEST)?;
+        let batch = Batch::read(alloc, batch, shape)?;
         let (schedule, certificate) = Schedule::read(alloc, schedule)?;
         Ok(ReadTexts {
             batch,

@@ -1,5 +1,5 @@
 -- What the answers of `switch` say. Proofs use it; no contract of a call cites it.
-use Rattle.std.specs.Prelude.{◌≡◌, ℕ, ◌+◌, ◌<◌, List, [], ◌∷◌, length, true}
+use Rattle.std.specs.Prelude.{◌≡◌, ℕ, ◌+◌, ◌<◌, List, [], ◌∷◌, length, true, None}
 use Rattle.batch.specs.declared.transfer.Transfer.{Transfer}
 use Rattle.batch.specs.Batches.{IsBatch}
 use Rattle.c004_commands.specs.declared.command.Command.TheVariants.{Settle}
@@ -13,7 +13,7 @@ use Rattle.rack_answers.specs.Switching.{settings_bytes_text, switch_text}
 
 -- what is told for a plan is what a run of it sends
 abbrev pub ToldIsSent : Type 0
-ToldIsSent = (plan : Plan) → settings_bytes_text plan.batch plan.settings ≡ switch_text plan
+ToldIsSent = (plan : Plan) → settings_bytes_text None plan.batch plan.settings ≡ switch_text plan
 
 -- for a setting that joins the same pairs of modules as the one before, each switch is sent the end
 -- of a sequence alone

@@ -2,5 +2,6 @@ pub mod Reports
 pub mod Openings
 pub mod Answers
 pub mod Tellings
+pub mod Boards
 pub mod Switching
 pub mod Laws

@@ -1,17 +1,23 @@
 -- What `switch` answers: what the switches of a rack are sent for a schedule, setting by setting.
 -- The texts are this project's choice.
-use Rattle.std.specs.Prelude.{◌≡◌, ℕ, ◌++◌, Bool, List, [], if◌then◌else◌, codes, length}
+use Rattle.std.specs.Prelude.{◌≡◌, ℕ, ◌++◌, Bool, List, [], Option, Some, None, if◌then◌else◌, codes, length}
 use Rattle.std.specs.Fmt.{decimal}
 use Rattle.std.specs.List.{flat_map, range_with_len}
 use Rattle.batch.specs.declared.fault.BatchFault.{BatchFault}
 use Rattle.batch.specs.declared.transfer.Transfer.{Transfer}
-use Rattle.batch.specs.Extent.{Extent}
 use Rattle.batch.specs.Text.{Denotes}
 use Rattle.batch.specs.Faults.{IsFirstFault}
 use Rattle.c004_commands.specs.Commands.{text}
 use Rattle.c004_commands.specs.declared.command.Command.{Command}
+use Rattle.board_wiring.specs.Boards.{extent_of}
+use Rattle.board_wiring.specs.Faults.{IsFirstBad}
+use Rattle.board_wiring.specs.Sources.{of_wiring}
+use Rattle.board_wiring.specs.Text.{Denotes as IsWiringText}
+use Rattle.board_wiring.specs.declared.fault.WiringFault.{WiringFault}
+use Rattle.crossbar.specs.Wired.{links_of}
+use Rattle.crossbar.specs.declared.board.BoardWiring.{BoardWiring}
 use Rattle.crossbar.specs.declared.chip.Wiring.{Wiring}
-use Rattle.crossbar.specs.declared.chip.Wiring.TheVariants.{Both, Forth, Back}
+use Rattle.crossbar.specs.declared.chip.Wiring.TheVariants.{Both, Forth, Back, Board}
 use Rattle.refusals.specs.declared.refusal.Refusal.{Refusal}
 use Rattle.refusals.specs.Refusals.{refusal_words}
 use Rattle.refusals.specs.Sources.{of_batch}
@@ -48,42 +54,50 @@ lines_for wide setting sent =
     ++ switch_line setting (codes " b") (sent Back)
     else switch_line setting [] (sent Both)
 
+-- the same where the rack may be a board of its own wiring, with one switch
+abbrev pub lines_on : Option BoardWiring → Bool → ℕ → (Wiring → List Command) → List ℕ
+lines_on None wide setting sent = lines_for wide setting sent
+lines_on (Some board) wide setting sent = switch_line setting [] (sent (Board board))
+
 -- ---- any schedule
 
 -- the lines of a setting: what turns the switches to its pairs
-abbrev pub turning_lines : List Transfer → List (List ℕ) → ℕ → List ℕ
-turning_lines batch settings k =
-    lines_for (is_wide batch) k (λ wiring. sent_for wiring batch settings k)
+abbrev pub turning_lines : Option BoardWiring → List Transfer → List (List ℕ) → ℕ → List ℕ
+turning_lines board batch settings k =
+    lines_on board (is_wide batch) k (λ wiring. sent_for wiring batch settings k)
 
 -- the lines of all settings, in their order
-abbrev pub settings_bytes_text : List Transfer → List (List ℕ) → List ℕ
-settings_bytes_text batch settings =
-    flat_map (turning_lines batch settings) (range_with_len 0 (length settings))
+abbrev pub settings_bytes_text : Option BoardWiring → List Transfer → List (List ℕ) → List ℕ
+settings_bytes_text board batch settings =
+    flat_map (turning_lines board batch settings) (range_with_len 0 (length settings))
 
 -- those lines, under their status
-abbrev pub TellsSwitch : List Transfer → List (List ℕ) → Printed → Type 0
-TellsSwitch batch settings printed =
-    (printed.text ≡ settings_bytes_text batch settings) × (printed.status ≡ DONE)
+abbrev pub TellsSwitch : Option BoardWiring → List Transfer → List (List ℕ) → Printed → Type 0
+TellsSwitch board batch settings printed =
+    (printed.text ≡ settings_bytes_text board batch settings) × (printed.status ≡ DONE)
 
 -- those of the schedule that the texts say, or the refusal of what is first wrong, each under its
 -- status
-pub data IsSwitchedAs (shape : Extent) (batch schedule : List ℕ) (printed : Printed) : Type 0 where
+pub data IsSwitchedAs (board : Option BoardWiring) (batch schedule : List ℕ) (printed : Printed)
+    : Type 0 where
   switched : (transfers : List Transfer) (settings : List (List ℕ))
-      → IsScheduleRead shape batch schedule transfers settings
-      → TellsSwitch transfers settings printed → IsSwitchedAs shape batch schedule printed
-  invalid : (refusal : Refusal) → IsInvalid shape batch schedule refusal
-      → IsRefused (refusal_words refusal) printed → IsSwitchedAs shape batch schedule printed
+      → IsScheduleRead (extent_of board) batch schedule transfers settings
+      → TellsSwitch board transfers settings printed → IsSwitchedAs board batch schedule printed
+  invalid : (refusal : Refusal) → IsInvalid (extent_of board) batch schedule refusal
+      → IsRefused (refusal_words refusal) printed → IsSwitchedAs board batch schedule printed
 
 -- ---- plans
 
 -- those of a steady plan of the batch that the batch text denotes, or the refusal of that text's
 -- first fault, each under its status
-pub data IsSwitchedSteadily (shape : Extent) (batch : List ℕ) (printed : Printed) : Type 0 where
-  switched : (plan : SteadyPlan) → Denotes shape batch plan.batch → IsSteady plan
-      → TellsSwitch plan.batch plan.settings printed
-      → IsSwitchedSteadily shape batch printed
-  unplanned : (fault : BatchFault) → IsFirstFault shape batch fault
-      → IsRefused (refusal_words (of_batch fault)) printed → IsSwitchedSteadily shape batch printed
+pub data IsSwitchedSteadily (board : Option BoardWiring) (batch : List ℕ) (printed : Printed)
+    : Type 0 where
+  switched : (plan : SteadyPlan) → Denotes (extent_of board) batch plan.batch → IsSteady plan
+      → TellsSwitch board plan.batch plan.settings printed
+      → IsSwitchedSteadily board batch printed
+  unplanned : (fault : BatchFault) → IsFirstFault (extent_of board) batch fault
+      → IsRefused (refusal_words (of_batch fault)) printed
+      → IsSwitchedSteadily board batch printed
 
 -- the lines of a plan's setting: what a run sends for it
 abbrev pub setting_lines : Plan → ℕ → List ℕ
@@ -95,8 +109,25 @@ abbrev pub switch_text : Plan → List ℕ
 switch_text plan = flat_map (setting_lines plan) (range_with_len 0 (length plan.settings))
 
 -- those of a plan of that batch, or that refusal
-pub data IsSwitched (shape : Extent) (batch : List ℕ) (printed : Printed) : Type 0 where
-  switched : (plan : Plan) → Denotes shape batch plan.batch → IsPlan plan → HasFewReinsertions plan
-      → TellsSwitch plan.batch plan.settings printed → IsSwitched shape batch printed
-  unplanned : (fault : BatchFault) → IsFirstFault shape batch fault
-      → IsRefused (refusal_words (of_batch fault)) printed → IsSwitched shape batch printed
+pub data IsSwitched (board : Option BoardWiring) (batch : List ℕ) (printed : Printed) : Type 0 where
+  switched : (plan : Plan) → Denotes (extent_of board) batch plan.batch → IsPlan plan
+      → HasFewReinsertions plan → TellsSwitch board plan.batch plan.settings printed
+      → IsSwitched board batch printed
+  unplanned : (fault : BatchFault) → IsFirstFault (extent_of board) batch fault
+      → IsRefused (refusal_words (of_batch fault)) printed → IsSwitched board batch printed
+
+-- ---- the text of a wiring
+
+-- it is looked at first: what is so of the wiring that it denotes, or the refusal of its first line
+-- at fault
+pub data IsOnBoard (Is : BoardWiring → Printed → Type 0) (wiring : List ℕ) (printed : Printed)
+    : Type 0 where
+  wired : (board : BoardWiring) → IsWiringText wiring (links_of board) → Is board printed
+      → IsOnBoard Is wiring printed
+  miswired : (fault : WiringFault) → IsFirstBad wiring fault
+      → IsRefused (refusal_words (of_wiring fault)) printed → IsOnBoard Is wiring printed
+
+-- what is so of the usual wiring, where there is no text of another
+abbrev pub IsOn : (Option BoardWiring → Printed → Type 0) → Option (List ℕ) → Printed → Type 0
+IsOn Is None printed = Is None printed
+IsOn Is (Some wiring) printed = IsOnBoard (λ board. Is (Some board)) wiring printed

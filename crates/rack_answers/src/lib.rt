@@ -17,7 +17,7 @@ mod spaced;
 mod switching;
 
 pub use applying::answer_apply_alone;
-pub use opening::opening_rack;
+pub use opening::read_rack;
 pub use running::{answer_apply, answer_run};
 pub use switching::{
     answer_switch, answer_switch_alone, answer_switch_schedule, answer_switch_steady,

@@ -1,18 +1,20 @@
 //! The command `switch`.
 
-ghost use Rattle.std.specs.Prelude.{◌≡◌, IfOk, IfSome, OnOk};
-ghost use Rattle.batch.specs.Extent.{widest};
+ghost use Rattle.std.specs.Prelude.{◌≡◌, IfOk, IfSome, OnOk, None};
+ghost use Rattle.board_wiring.specs.Boards.{WiresSome};
 ghost use Rattle.crossbar.specs.Pairs.{ArePairs, room_of};
 ghost use Rattle.link_graph.specs.Schedules.{IsScheduleOf};
 ghost use Rattle.plan_answers.specs.Answers.{IsOnly};
-ghost use Rattle.switch_settings.specs.Racks.{joined_by};
+ghost use Rattle.plan_answers.specs.Lent.{bytes_of};
 ghost use Rattle.switch_settings.specs.Sending.{turning};
+ghost use Rattle.rack_answers.specs.Boards.{WiresAll, joined_on};
 ghost use Rattle.rack_answers.specs.Reports.{Adds};
-ghost use Rattle.rack_answers.specs.Switching.{bytes_text, setting_head as head_of, switch_line, lines_for, TellsSwitch, IsSwitched, IsSwitchedSteadily, IsSwitchedAs};
+ghost use Rattle.rack_answers.specs.Switching.{bytes_text, setting_head as head_of, switch_line, lines_on, TellsSwitch, IsOn, IsSwitched, IsSwitchedSteadily, IsSwitchedAs};
 
 use crate::spaced::push_spaced;
 use batch::{Batch, Shape};
-use crossbar::{Pair, Wiring};
+use board_wiring::{read_board, shape_of};
+use crossbar::{BoardWiring, Pair, Wiring};
 use exchange_limits::WorkerCount;
 use line_words::{Line, hex2_of};
 use link_graph::Schedule;
@@ -70,17 +72,21 @@ fn push_line(
 /// of each.
 fn push_setting(
     text: &mut Vec<u8>,
+    board: &Option<BoardWiring>,
     wide: bool,
     setting: usize,
     standing: &Option<PairList>,
     pairs: &[Pair],
 ) -> Result<(), AllocError>
-    requires pairs { ArePairs (joined_by wide) pairs.now }
-    requires standing { IfSome standing.now (λ old. ArePairs (joined_by wide) old) }
+    requires pairs { ArePairs (joined_on board.now wide) pairs.now }
+    requires standing { IfSome standing.now (λ old. ArePairs (joined_on board.now wide) old) }
     ensures { OnOk result
         (Adds text.old text.new
-        (lines_for wide setting (λ wiring. turning wiring standing.now pairs.now))) }
+        (lines_on board.now wide setting (λ wiring. turning wiring standing.now pairs.now))) }
 {
+    if let Some(board) = board {
+        return push_line(text, setting, b"", Wiring::Board(*board), standing, pairs);
+    }
     if wide {
         push_line(text, setting, b" a", Wiring::Forth, standing, pairs)?;
         push_line(text, setting, b" b", Wiring::Back, standing, pairs)
@@ -90,19 +96,80 @@ fn push_setting(
 }
 
 /// The answer that tells what the switches are sent for a schedule of the batch.
-fn switch_answer(alloc: Global, batch: &Batch, schedule: &Schedule) -> Result<Answer, AllocError>
-    requires { IsScheduleOf batch.now schedule.now }
-    ensures { IfOk result (TellsSwitch batch.now schedule.now) }
+fn switch_answer(
+    alloc: Global,
+    board: &Option<BoardWiring>,
+    batch: &Batch,
+    schedule: &Schedule,
+) -> Result<Answer, AllocError>
+    requires schedule { IsScheduleOf batch.now schedule.now }
+    requires wired { WiresAll board.now batch.now }
+    ensures { IfOk result (TellsSwitch board.now batch.now schedule.now) }
 {
     let wide = is_wide(batch.as_slice());
     let mut text = Vec::new(alloc);
     let mut standing = None;
     for number in 0..schedule.settings() {
         let pairs = PairList::of_setting(batch, numbers_of_setting(batch, schedule, number));
-        push_setting(&mut text, wide, number, &standing, pairs.as_slice())?;
+        push_setting(&mut text, board, wide, number, &standing, pairs.as_slice())?;
         standing = Some(pairs);
     }
     Ok(Answer::done(text))
+}
+
+/// The answer for a plan of the batch that the text denotes, or the refusal of the text's first
+/// fault.
+fn switch_plan<R: Threads + Sync>(
+    rt: &R,
+    alloc: Global,
+    board: &Option<BoardWiring>,
+    batch: &[u8],
+    workers: WorkerCount,
+) -> Result<Answer, AllocError>
+    requires some { WiresSome board.now }
+    ensures { IfOk result (IsSwitched board.now batch.now) }
+{
+    match Batch::read(alloc, batch, shape_of(board)) {
+        Ok(batch) => {
+            let plan = schedule(rt, alloc, batch, workers, &OpenGate)?;
+            switch_answer(alloc, board, plan.batch(), plan.schedule())
+        }
+        Err(fault) => Answer::refused(alloc, fault.into()),
+    }
+}
+
+/// The answer for a steady plan of it, or that refusal.
+fn switch_steady(
+    alloc: Global,
+    board: &Option<BoardWiring>,
+    batch: &[u8],
+) -> Result<Answer, AllocError>
+    requires some { WiresSome board.now }
+    ensures { IfOk result (IsSwitchedSteadily board.now batch.now) }
+{
+    match Batch::read(alloc, batch, shape_of(board)) {
+        Ok(batch) => {
+            let plan = steady(alloc, &batch)?;
+            switch_answer(alloc, board, &batch, plan.schedule())
+        }
+        Err(fault) => Answer::refused(alloc, fault.into()),
+    }
+}
+
+/// The answer for the schedule that the texts say, or the refusal of what is first wrong with them.
+fn switch_schedule(
+    alloc: Global,
+    board: &Option<BoardWiring>,
+    batch: &[u8],
+    schedule: &[u8],
+) -> Result<Answer, AllocError>
+    requires some { WiresSome board.now }
+    ensures { IfOk result (IsSwitchedAs board.now batch.now schedule.now) }
+{
+    match ScheduleTexts::read_within(alloc, shape_of(board), batch, schedule) {
+        Ok(texts) => switch_answer(alloc, board, texts.batch(), texts.schedule()),
+        Err(refusal) => Answer::refused(alloc, refusal),
+    }
 }
 
 /// The answer of `exchange switch`: what a run of a plan of the batch that the text denotes sends
@@ -110,35 +177,37 @@ fn switch_answer(alloc: Global, batch: &Batch, schedule: &Schedule) -> Result<An
 ///
 /// A line is `setting S`, with the bytes behind it as pairs of hexadecimal digits: those of the
 /// first setting set a switch, whatever it was, and those of each later one change the switch of
-/// the setting before. Where the batch names a module above 15, a setting has two lines,
-/// `setting S a ..` for the switch of the way forth and `setting S b ..` for that of the way back.
-/// The batch is read against the widest shape. Planning is given so many workers.
+/// the setting before. Where the batch names a module above 15, a setting has two lines, `setting S
+/// a ..` for the switch of the way forth and `setting S b ..` for that of the way back. The batch
+/// is read against the widest shape. Planning is given so many workers.
+///
+/// Where there is a text of a board's wiring, the links are those of this wiring, and all goes to
+/// the board's one switch. That text is looked at first, and the batch is read against a shape with
+/// the modules that it wires.
 pub fn answer_switch<R: Threads + Sync>(
     rt: &R,
     alloc: Global,
+    wiring: Option<&[u8]>,
     batch: &[u8],
     workers: WorkerCount,
 ) -> Result<Answer, AllocError>
-    ensures { IfOk result (λ answer. IsSwitched widest batch.now answer) }
+    ensures { IfOk result (IsOn (λ board. IsSwitched board batch.now) (bytes_of wiring.entry)) }
 {
-    match Batch::read(alloc, batch, Shape::WIDEST) {
-        Ok(batch) => {
-            let plan = schedule(rt, alloc, batch, workers, &OpenGate)?;
-            switch_answer(alloc, plan.batch(), plan.schedule())
-        }
+    match read_board(wiring) {
+        Ok(board) => switch_plan(rt, alloc, &board, batch, workers),
         Err(fault) => Answer::refused(alloc, fault.into()),
     }
 }
 
-/// The answer of `exchange switch`, as [`answer_switch`] gives it with one worker. It starts no
-/// thread.
+/// The answer of `exchange switch`, as [`answer_switch`] gives it for the usual wiring with one
+/// worker. It starts no thread.
 pub fn answer_switch_alone(alloc: Global, batch: &[u8]) -> Result<Answer, AllocError>
-    ensures { IfOk result (λ answer. IsSwitched widest batch.now answer) }
+    ensures { IfOk result (IsSwitched None batch.now) }
 {
     match Batch::read(alloc, batch, Shape::WIDEST) {
         Ok(batch) => {
             let plan = schedule_alone(alloc, batch)?;
-            switch_answer(alloc, plan.batch(), plan.schedule())
+            switch_answer(alloc, &None, plan.batch(), plan.schedule())
         }
         Err(fault) => Answer::refused(alloc, fault.into()),
     }
@@ -146,15 +215,17 @@ pub fn answer_switch_alone(alloc: Global, batch: &[u8]) -> Result<Answer, AllocE
 
 /// The answer of `exchange switch --steady`: such lines for a steady plan of the batch that the
 /// text denotes; or the refusal of the text's first fault. Takes time that grows with the length of
-/// the text.
-pub fn answer_switch_steady(alloc: Global, batch: &[u8]) -> Result<Answer, AllocError>
-    ensures { IfOk result (λ answer. IsSwitchedSteadily widest batch.now answer) }
+/// the text. A wiring is as for [`answer_switch`].
+pub fn answer_switch_steady(
+    alloc: Global,
+    wiring: Option<&[u8]>,
+    batch: &[u8],
+) -> Result<Answer, AllocError>
+    ensures { IfOk result
+        (IsOn (λ board. IsSwitchedSteadily board batch.now) (bytes_of wiring.entry)) }
 {
-    match Batch::read(alloc, batch, Shape::WIDEST) {
-        Ok(batch) => {
-            let plan = steady(alloc, &batch)?;
-            switch_answer(alloc, &batch, plan.schedule())
-        }
+    match read_board(wiring) {
+        Ok(board) => switch_steady(alloc, &board, batch),
         Err(fault) => Answer::refused(alloc, fault.into()),
     }
 }
@@ -162,17 +233,21 @@ pub fn answer_switch_steady(alloc: Global, batch: &[u8]) -> Result<Answer, Alloc
 /// The answer of `exchange switch --schedule`: such lines for the schedule that the schedule text
 /// says, of the batch that the batch text denotes; or the refusal of what is first wrong, as
 /// [`ScheduleTexts::read`](plan_answers::ScheduleTexts::read) looks at it. Takes time that grows
-/// with the lengths of the texts.
+/// with the lengths of the texts. A wiring is as for [`answer_switch`].
 pub fn answer_switch_schedule(
     alloc: Global,
+    wiring: Option<&[u8]>,
     batch: &[u8],
     schedule: &[u8],
 ) -> Result<Answer, AllocError>
-    ensures switched { IfOk result (IsSwitchedAs widest batch.now schedule.now) }
-    ensures one { IfOk result (IsOnly (IsSwitchedAs widest batch.now schedule.now)) }
+    ensures switched { IfOk result
+        (IsOn (λ board. IsSwitchedAs board batch.now schedule.now) (bytes_of wiring.entry)) }
+    // Of the usual wiring no other answer is right.
+    ensures one { bytes_of wiring.entry ≡ None →
+        IfOk result (IsOnly (IsSwitchedAs None batch.now schedule.now)) }
 {
-    match ScheduleTexts::read(alloc, batch, schedule) {
-        Ok(texts) => switch_answer(alloc, texts.batch(), texts.schedule()),
-        Err(refusal) => Answer::refused(alloc, refusal),
+    match read_board(wiring) {
+        Ok(board) => switch_schedule(alloc, &board, batch, schedule),
+        Err(fault) => Answer::refused(alloc, fault.into()),
     }
 }

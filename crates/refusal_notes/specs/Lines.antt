@@ -4,7 +4,7 @@ use Rattle.std.specs.List.{slice_split, starts_with}
 use Rattle.std.specs.Fmt.{decimal}
 use Rattle.batch.specs.Text.{IsNumber, line_feed, space}
 use Rattle.refusal_notes.specs.declared.listed.Listing.{Listing}
-use Rattle.refusal_notes.specs.declared.listed.Listing.TheVariants.{Transfers, Moves, Settings}
+use Rattle.refusal_notes.specs.declared.listed.Listing.TheVariants.{Transfers, Moves, Settings, Modules}
 
 -- what stands between these bytes: the last piece is what stands behind the last of them
 abbrev pub pieces : ℕ → List ℕ → List (List ℕ)
@@ -34,11 +34,12 @@ Announces text n =
     HasNumber (line_at text 1) 1 n
     ⊎ (((k : ℕ) → HasNumber (line_at text 1) 1 k → ⊥) × (n ≡ 0))
 
--- whether a line begins as that of a transfer, of a move, or of a setting
+-- whether a line begins as that of a transfer, of a move, of a setting, or of a module
 abbrev pub is_listed : Listing → List ℕ → Bool
 is_listed Transfers line =
     starts_with nat_eq line (codes "push ") || starts_with nat_eq line (codes "pull ")
 is_listed Moves line = starts_with nat_eq line (codes "move ")
+is_listed Modules line = starts_with nat_eq line (codes "module ")
 is_listed Settings line =
     starts_with nat_eq line (codes "setting ")
     || (starts_with nat_eq line (codes "setting") && (length line == 7))

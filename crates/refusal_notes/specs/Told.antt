@@ -1,12 +1,12 @@
 -- What is told of a refusal.
-use Rattle.std.specs.Prelude.{◌≡◌, ℕ, ◌+◌, ◌-◌, ◌^◌, ◌⊎◌, ◌++◌, min, List, Option, None, MatchOption, codes}
+use Rattle.std.specs.Prelude.{◌≡◌, ◌≢◌, ℕ, ◌+◌, ◌-◌, ◌^◌, ◌⊎◌, ◌++◌, min, List, [], Option, None, MatchOption, codes}
 use Rattle.batch.specs.Extent.{Extent, widest}
 use Rattle.batch.specs.ShapeText.{DenotesShape, IsBadShape}
 use Rattle.refusals.specs.declared.refusal.Refusal.{Refusal}
 use Rattle.refusals.specs.declared.refusal.Refusal.TheVariants as refused
 use Rattle.refusal_notes.specs.declared.limit.Limit.{Limit}
 use Rattle.refusal_notes.specs.declared.limit.Limit.TheVariants.{Modules, Blocks, Announced}
-use Rattle.refusal_notes.specs.declared.listed.Listing.TheVariants.{Settings}
+use Rattle.refusal_notes.specs.declared.listed.Listing.TheVariants.{Settings, Modules as Wired}
 use Rattle.refusal_notes.specs.declared.note.LineNote.{LineNote}
 use Rattle.refusal_notes.specs.declared.told.Texts.{Texts}
 use Rattle.refusal_notes.specs.Lines.{Announces}
@@ -23,6 +23,14 @@ IsTransferTold limit texts t note =
     (shape : Extent) × IsShapeOf texts.shape.now shape
     × IsNoteAbove texts.listing (limit shape) texts.list.text.now (min (t + 2) (2 ^ 64 - 1)) note
 
+-- how many modules there are: as many as the wiring says, where there is one, and else those of the
+-- rack's shape
+abbrev pub HaveModules : Texts → ℕ → Type 0
+HaveModules texts most =
+    ((texts.wiring.text.now ≡ [])
+    × ((shape : Extent) × IsShapeOf texts.shape.now shape × (most ≡ shape.modules)))
+    ⊎ ((texts.wiring.text.now ≢ []) × Announces texts.wiring.text.now most)
+
 -- of these refusals a line is told, and of no other
 abbrev pub IsLineTold : Refusal → Texts → Option LineNote → Type 0
 IsLineTold (refused.BatchLine n) texts told =
@@ -31,13 +39,16 @@ IsLineTold (refused.MovesLine n) texts told =
     MatchOption told ⊥ (IsNoteOf texts.listing texts.list.text.now n)
 IsLineTold (refused.ScheduleLine n) texts told =
     MatchOption told ⊥ (IsNoteOf Settings texts.other.text.now n)
+IsLineTold (refused.WiringLine n) texts told =
+    MatchOption told ⊥ (IsNoteOf Wired texts.wiring.text.now n)
 IsLineTold refused.Count texts told =
     MatchOption told ⊥ (λ note. (n : ℕ) × Announces texts.list.text.now n
     × IsNoteOf texts.listing texts.list.text.now (n + 2) note)
 IsLineTold refused.TooMany texts told =
     MatchOption told ⊥ (IsNoteAbove texts.listing Announced texts.list.text.now 1)
 IsLineTold (refused.NoModule t) texts told =
-    MatchOption told ⊥ (IsTransferTold (λ shape. Modules shape.modules) texts t)
+    MatchOption told ⊥ (λ note. (most : ℕ) × HaveModules texts most
+    × IsNoteAbove texts.listing (Modules most) texts.list.text.now (min (t + 2) (2 ^ 64 - 1)) note)
 IsLineTold (refused.NoBlock t) texts told =
     MatchOption told ⊥ (IsTransferTold (λ shape. Blocks shape.blocks) texts t)
 IsLineTold _ texts told = told ≡ None

@@ -2,7 +2,7 @@
 use Rattle.std.specs.Prelude.{◌≡◌, ◌==◌, ◌&&◌, not, ℕ, ◌+◌, ◌-◌, if◌then◌else◌, Bool, List, length, codes, nat_eq, nat_le}
 use Rattle.std.specs.List.{starts_with}
 use Rattle.refusal_notes.specs.declared.listed.Listing.{Listing}
-use Rattle.refusal_notes.specs.declared.listed.Listing.TheVariants.{Transfers, Moves, Settings}
+use Rattle.refusal_notes.specs.declared.listed.Listing.TheVariants.{Transfers, Moves, Settings, Modules}
 use Rattle.refusal_notes.specs.declared.wanted.Wanted.{Wanted}
 use Rattle.refusal_notes.specs.declared.wanted.Wanted.TheVariants.{Head, Entry, BusiestLink, Named, End}
 use Rattle.refusal_notes.specs.Lines.{Announces, line_at}
@@ -17,6 +17,7 @@ certificate_line k none =
 abbrev pub wanted_behind : Listing → ℕ → Bool → Wanted
 wanted_behind Transfers k none = End
 wanted_behind Moves k none = End
+wanted_behind Modules k none = End
 wanted_behind Settings k none = certificate_line k none
 
 -- in this line of a text that announces so many entries; whether `busiest none` stands behind them

@@ -10,6 +10,7 @@ mod listed;
 mod note;
 mod pairs;
 mod quote;
+mod recorded;
 mod schedules;
 mod second;
 mod sent;

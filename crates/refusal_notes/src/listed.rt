@@ -12,6 +12,8 @@ pub enum Listing {
     Moves,
     /// A schedule lists settings.
     Settings,
+    /// A wiring lists modules.
+    Modules,
 }
 
 /// Whether a line begins as that of an entry.
@@ -21,6 +23,7 @@ pub(crate) fn is_listed(listing: Listing, line: &[u8]) -> bool
     match listing {
         Listing::Transfers => line.starts_with(b"push ") || line.starts_with(b"pull "),
         Listing::Moves => line.starts_with(b"move "),
+        Listing::Modules => line.starts_with(b"module "),
         Listing::Settings => {
             line.starts_with(b"setting ") || line.starts_with(b"setting") && line.len() == 7
         }

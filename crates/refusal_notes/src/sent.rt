@@ -14,11 +14,11 @@ const LINES: &str =
     "\"batch N\" and the batch's lines, \"plan ID\", \"run ID\", \"show ID\", \"drop ID\", \"peek M A\", \"poke M A D\", \"progress\" or \"bye\"";
 
 /// What their letters stand for.
-const LETTERS: &str =
+pub(crate) const LETTERS: &str =
     "ID is the number of a batch, M a module, A an address and D a word, of eight digits 0 to 9 and a to f each";
 
 /// How they are written.
-const RULES: &str =
+pub(crate) const RULES: &str =
     "small letters, single spaces, numbers of at most nine digits and no leading zero";
 
 /// Writes what is told of a line that a session sent.

@@ -1,12 +1,13 @@
 //! What a command was asked, and what is told of its refusal.
 
-ghost use Rattle.refusal_notes.specs.Told.{IsLineTold, IsShapeOf};
+ghost use Rattle.refusal_notes.specs.Told.{HaveModules, IsLineTold, IsShapeOf};
 
 use crate::limit::Limit;
 use crate::lines::announced;
 use crate::listed::Listing;
 use crate::note::LineNote;
 use crate::quote::write_shown;
+use crate::recorded::write_recorded;
 use crate::schedules::write_check;
 use crate::sent::write_sent;
 use crate::words::{write_asked, write_line};
@@ -33,6 +34,14 @@ pub struct Texts<'a> {
     pub listing: Listing,
     /// The schedule, or the image.
     pub other: Named<'a>,
+    /// The wiring of a board.
+    pub wiring: Named<'a>,
+    /// The record of sessions.
+    pub recorded: Named<'a>,
+    /// How many bytes of the record stand before what is wrong with it.
+    pub offset: usize,
+    /// The line of the reply that is due there, with its line feed; nothing where none is.
+    pub due: &'a [u8],
     /// The word of the rack's shape.
     pub shape: &'a str,
     /// The word of the settings to draw.
@@ -55,6 +64,10 @@ impl<'a> Texts<'a> {
         list: Named::NONE,
         listing: Listing::Transfers,
         other: Named::NONE,
+        wiring: Named::NONE,
+        recorded: Named::NONE,
+        offset: 0,
+        due: &[],
         shape: "",
         range: "",
         validity: Validity::Unknown,
@@ -68,6 +81,17 @@ impl<'a> Texts<'a> {
             Ok(shape) => shape,
             Err(_) => Shape::WIDEST,
         }
+    }
+
+    /// How many modules there are: as many as a wiring says, where there is one, and else those of
+    /// the rack.
+    pub(crate) fn modules(&self) -> usize
+        ensures { HaveModules self.now result }
+    {
+        if self.wiring.text.is_empty() {
+            return self.rack().modules();
+        }
+        announced(self.wiring.text)
     }
 }
 
@@ -91,10 +115,14 @@ impl<'a> Note<'a> {
         match self.refusal {
             Refusal::BatchLine(n) | Refusal::MovesLine(n) => Some(LineNote::of(list, n, listing)),
             Refusal::ScheduleLine(n) => Some(LineNote::of(other.text, n, Listing::Settings)),
+            Refusal::WiringLine(n) => {
+                let wiring = self.texts.wiring.text;
+                Some(LineNote::of(wiring, n, Listing::Modules))
+            }
             Refusal::Count => Some(LineNote::of(list, announced(list) + 2, listing)),
             Refusal::TooMany => Some(LineNote::above(list, 1, listing, Limit::Announced)),
             Refusal::NoModule(t) => {
-                let limit = Limit::Modules(self.texts.rack().modules());
+                let limit = Limit::Modules(self.texts.modules());
                 Some(LineNote::above(list, t.saturating_add(2), listing, limit))
             }
             Refusal::NoBlock(t) => {
@@ -125,6 +153,7 @@ impl<'a> Display for Note<'a> {
             Refusal::BatchLine(_)
             | Refusal::MovesLine(_)
             | Refusal::ScheduleLine(_)
+            | Refusal::WiringLine(_)
             | Refusal::Count
             | Refusal::TooMany
             | Refusal::NoModule(_)
@@ -152,6 +181,10 @@ impl<'a> Display for Note<'a> {
             | Refusal::Memory(_)
             | Refusal::BookFull
             | Refusal::HistoryFull => write_sent(f, *self),
+            Refusal::RecordHead
+            | Refusal::RecordCall(_)
+            | Refusal::RecordReply(_)
+            | Refusal::RecordMore => write_recorded(f, *self),
             Refusal::File | Refusal::Port(_) | Refusal::NoMemory => Ok(()),
         }
     }

@@ -6,6 +6,8 @@ ghost use Rattle.refusal_notes.specs.Wanted.{IsWantedAt, certificate_line, is_no
 use crate::lines::{announced, line_at};
 use crate::listed::Listing;
 use batch::{MAX_DIGITS, MAX_MODULES};
+use c004_commands::PORTS;
+use crossbar::JOINED_MODULES;
 use std::fmt::{self, Display, Formatter, Write};
 
 /// How each line is written, whatever stands in it.
@@ -71,8 +73,10 @@ impl Display for Wanted {
             Wanted::Head(Listing::Transfers) => "\"batch N\", where N counts the transfers",
             Wanted::Head(Listing::Moves) => "\"moves N\", where N counts the moves",
             Wanted::Head(Listing::Settings) => "\"settings S\", where S counts the settings",
+            Wanted::Head(Listing::Modules) => return write_modules(f),
             Wanted::Entry(Listing::Transfers) => "\"push I b R c\" or \"pull I b R c\"",
             Wanted::Entry(Listing::Moves) => "\"move M b N c\"",
+            Wanted::Entry(Listing::Modules) => return write_wired(f),
             Wanted::Entry(Listing::Settings) => {
                 "\"setting T U ..\", where T, U .. are transfers, or \"setting\" alone"
             }
@@ -92,4 +96,19 @@ fn write_link<W: Write>(f: &mut Formatter<W>) -> fmt::Result {
         "\"busiest link E module M\", where E is 0 or 3 and M 0 to {last}, "
     )?;
     write!(f, "or \"busiest none\": {RULES}")
+}
+
+/// Writes the form of the first line of a wiring.
+fn write_modules<W: Write>(f: &mut Formatter<W>) -> fmt::Result {
+    write!(
+        f,
+        "\"wiring N\", where N counts the modules, 1 to {JOINED_MODULES}: {RULES}"
+    )
+}
+
+/// Writes the form of the line of a wired module.
+fn write_wired<W: Write>(f: &mut Formatter<W>) -> fmt::Result {
+    let last = PORTS - 1;
+    f.write_str("\"module M link 0 at A link 3 at B\", where M counts up from 0, and ")?;
+    write!(f, "A and B are 0 to {last} and stand nowhere else: {RULES}")
 }

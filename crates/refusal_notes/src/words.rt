@@ -57,6 +57,7 @@ impl Display for Numbered {
 /// Writes what is told of a line that was refused.
 pub(crate) fn write_line<W: Write>(f: &mut Formatter<W>, note: Note<'_>) -> fmt::Result {
     let (list, listing, schedule) = (note.texts.list, note.texts.listing, note.texts.other);
+    let wiring = note.texts.wiring;
     let Some(line) = note.line() else {
         return Ok(());
     };
@@ -67,6 +68,7 @@ pub(crate) fn write_line<W: Write>(f: &mut Formatter<W>, note: Note<'_>) -> fmt:
             write_counts(f, schedule, Listing::Settings)
         }
         (Refusal::ScheduleLine(_), _) => write_form(f, Place(schedule, number), line),
+        (Refusal::WiringLine(_), _) => write_form(f, Place(wiring, number), line),
         (_, Some((n, limit))) => {
             write!(f, "{}: ", Place(list, number))?;
             write_above(f, n, limit, note.texts)
@@ -102,6 +104,10 @@ fn write_above<W: Write>(
         _ => (" of ", " in a rack of "),
     };
     match limit {
+        Limit::Modules(most) if !texts.wiring.text.is_empty() => {
+            let (modules, wiring) = (Numbered(most, "module"), texts.wiring);
+            write!(f, "module {n}; {wiring} has {modules}")
+        }
         Limit::Modules(most) => {
             let modules = Numbered(most, "module");
             write!(f, "module {n}; a rack{of}{shape} has {modules}")
@@ -143,6 +149,7 @@ fn write_counts<W: Write>(f: &mut Formatter<W>, named: Named<'_>, listing: Listi
         Listing::Transfers => "transfer line",
         Listing::Moves => "move line",
         Listing::Settings => "setting line",
+        Listing::Modules => "module line",
     };
     let lines = Many(listed(listing, named.text), what);
     let said = announced(named.text);

@@ -14,7 +14,7 @@ pub const REFUSAL_ROOM: usize = 100;
 /// Why a command, or a line of a session, isn't done. The lines in docs/REFUSALS.md and
 /// docs/SESSIONS.md, and which of them comes first, are this project's choice.
 ///
-/// A line of a text is counted from 1, a transfer and a setting from 0.
+/// A line of a text is counted from 1, a transfer, a setting and an entry from 0.
 #[derive(Clone, Copy, Debug, PartialEq, Eq)]
 pub enum Refusal {
     /// `batch line N`: this line of the batch is wrong, or has no line feed.
@@ -33,6 +33,8 @@ pub enum Refusal {
     Settings,
     /// `schedule line N`: this line of the schedule is wrong, missing, or one too many.
     ScheduleLine(usize),
+    /// `wiring line N`: this line of the wiring is wrong, missing, or one too many.
+    WiringLine(usize),
     /// `no certificate`: the schedule ends before its certificate.
     NoCertificate,
     /// `check unknown T`: a setting holds this number, and the batch has no such transfer.
@@ -60,6 +62,14 @@ pub enum Refusal {
     Image { is: usize, wanted: usize },
     /// `overlap I J`: these two transfers write one block.
     Overlap(usize, usize),
+    /// `record head`: the record's first line counts no entries, or too many.
+    RecordHead,
+    /// `record call E`: no call stands where that of this entry should.
+    RecordCall(usize),
+    /// `record reply E`: another line than that of the call's reply stands in this entry.
+    RecordReply(usize),
+    /// `record more`: something follows the record's last entry.
+    RecordMore,
     /// `file`: a file, or standard input, can't be read, or a file to be written can't be opened.
     File,
     /// `ports W`: so many ports are wanted, one for each switch that the batch needs, and another
@@ -221,6 +231,7 @@ impl Refusal {
             Refusal::Count => line.put(b"count"),
             Refusal::Settings => line.put(b"settings"),
             Refusal::ScheduleLine(n) => put_numbered(line, b"schedule line ", n),
+            Refusal::WiringLine(n) => put_numbered(line, b"wiring line ", n),
             Refusal::NoCertificate => line.put(b"no certificate"),
             Refusal::CheckUnknown(t) => put_numbered(line, b"check unknown ", t),
             Refusal::CheckRepeated(t) => put_numbered(line, b"check repeated ", t),
@@ -240,6 +251,10 @@ impl Refusal {
             Refusal::Shape => line.put(b"shape"),
             Refusal::Image { is, wanted } => put_two(line, b"image ", is, wanted),
             Refusal::Overlap(i, j) => put_two(line, b"overlap ", i, j),
+            Refusal::RecordHead => line.put(b"record head"),
+            Refusal::RecordCall(e) => put_numbered(line, b"record call ", e),
+            Refusal::RecordReply(e) => put_numbered(line, b"record reply ", e),
+            Refusal::RecordMore => line.put(b"record more"),
             Refusal::File => line.put(b"file"),
             Refusal::Ports(wanted) => put_numbered(line, b"ports ", wanted),
             Refusal::Port(name) => put_port(line, name),

@@ -11,6 +11,7 @@ use Rattle.batch_book.specs.Exchanges.{Exchange, AreNew, new_seat, parts_at}
 use Rattle.batch_book.specs.Seats.{SeatState, IsSameSeat}
 use Rattle.client_session.specs.declared.fault.ServeFault.{ServeFault}
 use Rattle.module_memory.specs.Store.{Store}
+use Rattle.batch_book.specs.History.{Account}
 use Rattle.session_answers.specs.declared.ended_session.EndedSession.{EndedSession}
 use Rattle.session_answers.specs.declared.ended_session.Ending.{Ending}
 use Rattle.session_answers.specs.declared.ended_session.Ending.TheVariants.{Unopened, Served}
@@ -163,7 +164,7 @@ kept_each {H} {L} {C} hs exchange_of known_of seat_of x g received seats given s
 
 -- what is printed of the sessions is what the host answers
 pub are_hosted : {L C : Type 0} (x : Exchange) (opening rack : Store) (g : KnownClients) (received : C → Option (List ℕ)) (ss : List (EndedSession L C))
-    (seats : List SeatState) (endings : List (Ending C)) (text : List ℕ) (failed : Bool) (printed : Printed) (left : Option Store)
+    (seats : List SeatState) (endings : List (Ending C)) (text : List ℕ) (failed : Bool) (printed : Printed) (left : Option Account)
     → AreHostedSessionsAt x g received ss → x.shape ≡ rack.shape → opening ≡ rack
     → seats ≡ map (λ s. s.seat) ss → endings ≡ map (λ s. s.ending) ss → text ≡ flat_map (hosted_text g) (map (hosted_session received) ss) → failed ≡ list_any has_failed (map (λ s. s.ending) ss)
     → IsClosing opening (map part_of seats) text failed printed left → AreHosted rack g (map (seen_end received) endings) printed left

@@ -1,4 +1,3 @@
 pub mod Sessions
-pub mod Openings
 pub mod Talks
 pub mod HostedSessions

@@ -23,7 +23,7 @@ use Rattle.client_session.specs.Seats.{SeatView, seat_view}
 use Rattle.client_session.specs.Sessions.{GoesThrough, HasEnded}
 use Rattle.session_answers.specs.declared.session.Session.{Session}
 use Rattle.session_answers.specs.Frames.{Transcript, session_text, sessions_text}
-use Rattle.session_answers.specs.Histories.{Part, part_of, IsHistoryOf, HaveOneHistory, HaveAnotherHistory}
+use Rattle.session_answers.specs.Histories.{Part, part_of, HasAllEntries, HaveOneHistory, HaveAnotherHistory}
 use Rattle.session_answers.specs.Serving.{HasItsScript}
 use Rattle.session_answers.specs.Sessions.{IsServedSession}
 use Rattle.session_answers.specs.Hosting.{transcript, IsFresh, AreServedAt}
@@ -156,23 +156,19 @@ all_served {L} x scripts n seats ss count new len each =
 -- ---- the exchange is closed
 
 -- the history that the exchange kept
-its_history : {L P W G : Type 0} (seats : List SeatState) (c : Closed L P W G)
-    → AreClosed seats c → IsLegal c.book.opening c.book.history → IsHistoryOf c.book.opening (map part_of seats) c.book.history
-its_history {L} seats c closed legal =
-    record { legal = legal; counted = closed.counted ∙ sym (sum_mapped (λ (p : Part). length p.entries) part_of seats) }
+its_entries : {L P W G : Type 0} (seats : List SeatState) (c : Closed L P W G) → AreClosed seats c → HasAllEntries (map part_of seats) c.book.history
+its_entries seats c closed = closed.counted ∙ sym (sum_mapped (λ (p : Part). length p.entries) part_of seats)
 
 -- where their lists agree with it, it is that of its sessions
-pub one_history : {L P W G : Type 0} (opening left : Store) (seats : List SeatState) (c : Closed L P W G)
+pub one_history : {L P W G : Type 0} (opening : Store) (seats : List SeatState) (c : Closed L P W G)
     → AreClosed seats c → LogsAgree seats c → NoneAhead seats c → IsReplay (opened c.book.opening) c.book.history c.book.machine
-    → c.book.opening ≡ opening → left ≡ c.book.machine.store → HaveOneHistory opening (map part_of seats) left
-one_history {L} opening left seats c closed agree behind replay is words =
+    → c.book.opening ≡ opening → HaveOneHistory opening (map part_of seats) c.book
+one_history {L} opening seats c closed agree behind replay is =
     let h = c.book.history in
     record {
-      history = h;
-      is_history = subst (λ (s : Store). IsHistoryOf s (map part_of seats) h) is (its_history seats c closed (c.book.machine, replay));
-      machine = c.book.machine;
+      is_opening = is;
       replay = subst (λ (s : Store). IsReplay (opened s) h c.book.machine) is replay;
-      words = words;
+      counted = its_entries seats c closed;
       are_parts = All-map (λ (p : Part). p.entries ≡ own p.session h) part_of seats agree;
       seen = All-map (λ (p : Part). p.seen ≤ greatest h) part_of seats behind;
     }
@@ -184,7 +180,8 @@ history_elsewhere opening seats c closed legal other =
     record {
       kept = c.book.opening;
       history = c.book.history;
-      is_history = its_history seats c closed legal;
+      legal = legal;
+      counted = its_entries seats c closed;
       no_parts = λ is parts. other is;
     }
 
@@ -196,7 +193,8 @@ another_history {L} opening seats c closed differ legal =
     record {
       kept = c.book.opening;
       history = h;
-      is_history = its_history seats c closed legal;
+      legal = legal;
+      counted = its_entries seats c closed;
       no_parts = λ _ parts. differ (of_map (λ (p : Part). p.entries ≡ own p.session h) part_of seats parts);
     }
 

@@ -4,6 +4,7 @@ use Rattle.std.proofs.lemmas.List.{length-append}
 use Rattle.progress_word.specs.declared.limits.TheConstants.{ALL_PARTS}
 use Rattle.batch.specs.Extent.{Extent}
 use Rattle.module_memory.specs.Store.{Store}
+use Rattle.batch_book.specs.History.{Account}
 use Rattle.batch_book.specs.Exchanges.{Exchange, AreNew, new_seat, parts_at}
 use Rattle.batch_book.specs.Seats.{SeatState, IsSameSeat, parts_of}
 use Rattle.client_session.specs.declared.fault.ServeFault.{ServeFault}
@@ -58,7 +59,7 @@ all_there x rest old new one same =
 pub has_talked : (opening rack : Store) (x : Exchange) (rest : List SeatState) (old new : SeatState) (before after : Option (List ℕ)) (line told : List ℕ) (fault : Option ServeFault) (failed : Bool)
     → IsAlone x rest old → IsSameSeat old new → x.shape ≡ rack.shape → opening ≡ rack → line ≡ end_line fault → failed ≡ is_some fault
     → IsServedSession x.shape before after (record { part = part_of new; told = told; fault = fault })
-    → (printed : Printed) (left : Option Store) → IsClosing opening (map part_of (rest ++ new ∷ [])) line failed printed left → HasTalked rack before after told printed left
+    → (printed : Printed) (left : Option Account) → IsClosing opening (map part_of (rest ++ new ∷ [])) line failed printed left → HasTalked rack before after told printed left
 has_talked opening rack x rest old new before after line told fault failed one same shape copied said fails session printed left closed =
     let t : Transcript = record { part = part_of new; told = told; fault = fault } in (
       t,

@@ -2,8 +2,8 @@
 use Rattle.std.specs.Prelude.{◌≡◌, ℕ, ◌≤◌, if◌then◌else◌, Bool, List, ◌++◌, codes, length, All, sum_by, Option, Some, None}
 use Rattle.module_memory.specs.Store.{Store}
 use Rattle.batch_book.specs.declared.entry.Entry.{Entry}
-use Rattle.batch_book.specs.History.{IsLegal, IsReplay}
-use Rattle.batch_book.specs.Machine.{Machine, opened}
+use Rattle.batch_book.specs.History.{Account, IsLegal, IsReplay}
+use Rattle.batch_book.specs.Machine.{opened}
 use Rattle.batch_book.specs.Seats.{SeatState, own}
 use Rattle.batch_book.specs.Values.{greatest}
 use Rattle.plan_answers.specs.declared.limits.TheConstants.{DONE, REFUSED}
@@ -20,34 +20,31 @@ pub record Part : Type 0 where
 abbrev pub part_of : SeatState → Part
 part_of seat = record { session = seat.session; entries = seat.log; seen = seat.seen }
 
--- a history of an exchange, which is legal from this opening store and has as many entries as these
--- parts
-pub record IsHistoryOf (opening : Store) (parts : List Part) (history : List Entry) : Type 0 where
-  pub legal : IsLegal opening history
-  pub counted : length history ≡ sum_by (λ p. length p.entries) parts
+-- a history has as many entries as these parts
+abbrev pub HasAllEntries : List Part → List Entry → Type 0
+HasAllEntries parts history = length history ≡ sum_by (λ p. length p.entries) parts
 
 -- the entries of each part are those of its session in the history
 abbrev pub AreParts : List Part → List Entry → Type 0
 AreParts parts history = All (λ p. p.entries ≡ own p.session history) parts
 
--- The sessions have one history from this opening store: it has just their entries, those of each
--- session in its order, and leads to a machine that has the words that are left. No session saw the
+-- The sessions have one history from this opening store, that of this book: it has just their
+-- entries, those of each session in its order, and leads to the book's machine. No session saw the
 -- runs come further than it tells.
-pub record HaveOneHistory (opening : Store) (parts : List Part) (left : Store) : Type 0 where
-  pub history : List Entry
-  pub is_history : IsHistoryOf opening parts history
-  pub machine : Machine
-  pub replay : IsReplay (opened opening) history machine
-  pub words : left ≡ machine.store
-  pub are_parts : AreParts parts history
-  pub seen : All (λ p. p.seen ≤ greatest history) parts
+pub record HaveOneHistory (opening : Store) (parts : List Part) (book : Account) : Type 0 where
+  pub is_opening : book.opening ≡ opening
+  pub replay : IsReplay (opened opening) book.history book.machine
+  pub counted : HasAllEntries parts book.history
+  pub are_parts : AreParts parts book.history
+  pub seen : All (λ p. p.seen ≤ greatest book.history) parts
 
 -- the history that was kept of the sessions has another opening store, or isn't that of their
 -- entries
 pub record HaveAnotherHistory (opening : Store) (parts : List Part) : Type 0 where
   pub kept : Store
   pub history : List Entry
-  pub is_history : IsHistoryOf kept parts history
+  pub legal : IsLegal kept history
+  pub counted : HasAllEntries parts history
   pub no_parts : kept ≡ opening → ¬ AreParts parts history
 
 -- the last line where the sessions have no one history
@@ -59,11 +56,11 @@ abbrev pub status_at : Bool → ℕ
 status_at failed = if failed then REFUSED else DONE
 
 -- The sessions with these parts were on an exchange that began with this store, and this text is
--- printed of them. Their history leads to the words that are left. Where another history was kept
--- of them, that is said by a last line, and no words are left.
+-- printed of them. The exchange's book is left, and its history is theirs. Where another history
+-- was kept of them, that is said by a last line, and no book is left.
 pub data IsClosing (opening : Store) (parts : List Part) (text : List ℕ) (failed : Bool)
-    (printed : Printed) (left : Option Store) : Type 0 where
-  agree : (end : Store) → HaveOneHistory opening parts end → left ≡ Some end
+    (printed : Printed) (left : Option Account) : Type 0 where
+  agree : (book : Account) → HaveOneHistory opening parts book → left ≡ Some book
       → printed.text ≡ text → printed.status ≡ status_at failed
       → IsClosing opening parts text failed printed left
   disagree : HaveAnotherHistory opening parts → left ≡ None

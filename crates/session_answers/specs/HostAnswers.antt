@@ -5,6 +5,7 @@ use Rattle.std.specs.Io.KnownBytes.{Appends}
 use Rattle.std.specs.List.{list_any, range_with_len}
 use Rattle.batch.specs.Extent.{Extent}
 use Rattle.module_memory.specs.Store.{Store}
+use Rattle.batch_book.specs.History.{Account}
 use Rattle.client_session.specs.declared.fault.ServeFault.{ServeFault}
 use Rattle.session_answers.specs.declared.ended_session.Ending.{Ending}
 use Rattle.session_answers.specs.declared.ended_session.Ending.TheVariants.{Unopened, Served}
@@ -13,7 +14,7 @@ use Rattle.refusals.specs.declared.refusal.Refusal.{Refusal}
 use Rattle.refusals.specs.declared.refusal.Refusal.TheVariants.{Threads}
 use Rattle.session_answers.specs.Frames.{end_line}
 use Rattle.session_answers.specs.Histories.{Part, IsClosing}
-use Rattle.session_answers.specs.Racks.{IsRackOf, IsWrongRack}
+use Rattle.rack_answers.specs.Openings.{IsRackOf, IsWrongRack}
 use Rattle.session_answers.specs.Sessions.{IsServedSession}
 
 -- what is known of the clients of a host: how many they are, what each says, what its writer holds
@@ -86,26 +87,26 @@ has_failed Unopened = true
 has_failed (Served fault receipt) = is_some fault
 
 -- the sessions of the clients, which ended so, on one exchange whose rack has this store at first,
--- and the words that they leave
-abbrev pub AreHosted : Store → KnownClients → List SessionEnd → Printed → Option Store → Type 0
+-- and the book that they leave
+abbrev pub AreHosted : Store → KnownClients → List SessionEnd → Printed → Option Account → Type 0
 AreHosted opening g ends printed left =
     (sessions : List HostedSession) × (map (λ v. v.end) sessions ≡ ends)
     × AreHostedSessions opening.shape g sessions
     × IsClosing opening (map (λ v. v.part) sessions) (flat_map (hosted_text g) sessions)
     (list_any has_failed ends) printed left
 
--- such sessions; or none, and no words, where not all of their threads could be had
+-- such sessions; or none, and no book, where not all of their threads could be had
 pub data IsHosting (opening : Store) (g : KnownClients) (ends : List SessionEnd) (printed : Printed)
-    (left : Option Store) : Type 0 where
+    (left : Option Account) : Type 0 where
   hosted : AreHosted opening g ends printed left → IsHosting opening g ends printed left
   threads_refused : Refuses Threads printed → ends ≡ [] → left ≡ None
       → IsHosting opening g ends printed left
 
--- the sessions of the clients on the rack of the shape and the image, and the words that are left;
--- or the refusal where there is none, no session and no words
+-- the sessions of the clients on the rack of the shape and the image, and the book that is left;
+-- or the refusal where there is none, no session and no book
 pub data IsHostAnswer (shape : List ℕ) (image : Option (List ℕ)) (g : KnownClients)
     (ends : List SessionEnd)
-    (printed : Printed) (left : Option Store) : Type 0 where
+    (printed : Printed) (left : Option Account) : Type 0 where
   opened : (opening : Store) → IsRackOf shape image opening
       → IsHosting opening g ends printed left → IsHostAnswer shape image g ends printed left
   refused : (refusal : Refusal) → IsWrongRack shape image refusal → Refuses refusal printed

@@ -1,7 +1,6 @@
 pub mod Histories
 pub mod Frames
 pub mod Sessions
-pub mod Racks
 pub mod Serving
 pub mod Hosting
 pub mod Talking

@@ -3,11 +3,12 @@ use Rattle.std.specs.Prelude.{◌≡◌, ℕ, List, length, map, All, slice_get,
 use Rattle.std.specs.List.{range_with_len}
 use Rattle.batch.specs.Extent.{Extent}
 use Rattle.module_memory.specs.Store.{Store}
+use Rattle.batch_book.specs.History.{Account}
 use Rattle.plan_answers.specs.Refusals.{Printed, Refuses}
 use Rattle.refusals.specs.declared.refusal.Refusal.{Refusal}
 use Rattle.session_answers.specs.Frames.{Transcript, sessions_text, has_fault}
 use Rattle.session_answers.specs.Histories.{IsClosing}
-use Rattle.session_answers.specs.Racks.{IsRackOf, IsWrongRack}
+use Rattle.rack_answers.specs.Openings.{IsRackOf, IsWrongRack}
 use Rattle.session_answers.specs.Sessions.{IsServedSession}
 
 -- a session that read a front of the script at its number's place
@@ -23,17 +24,17 @@ pub record AreSessionsOf (shape : Extent) (scripts : List (List ℕ))
   pub each : All (HasItsScript shape scripts) sessions
 
 -- the sessions of the scripts on one exchange, whose rack has this store at first, are printed, and
--- leave these words
-abbrev pub AreServed : Store → List (List ℕ) → Printed → Option Store → Type 0
+-- leave this book
+abbrev pub AreServed : Store → List (List ℕ) → Printed → Option Account → Type 0
 AreServed opening scripts printed left =
     (sessions : List Transcript) × AreSessionsOf opening.shape scripts sessions
     × IsClosing opening (map (λ t. t.part) sessions) (sessions_text sessions) (has_fault sessions)
     printed left
 
--- the sessions of the scripts on the rack of the shape and the image, and the words that are left;
--- or the refusal where there is none, and no words
+-- the sessions of the scripts on the rack of the shape and the image, and the book that is left;
+-- or the refusal where there is none, and no book
 pub data IsServeAnswer (shape : List ℕ) (image : Option (List ℕ)) (scripts : List (List ℕ))
-    (printed : Printed) (left : Option Store) : Type 0 where
+    (printed : Printed) (left : Option Account) : Type 0 where
   served : (opening : Store) → IsRackOf shape image opening
       → AreServed opening scripts printed left → IsServeAnswer shape image scripts printed left
   refused : (refusal : Refusal) → IsWrongRack shape image refusal → Refuses refusal printed

@@ -1,7 +1,7 @@
 ghost use Rattle.std.specs.Prelude.{◌≡◌, IfOk, None};
 ghost use Rattle.plan_answers.specs.Refusals.{Refuses};
 
-use module_memory::Rack;
+use batch_book::Book;
 use plan_answers::Answer;
 use refusals::Refusal;
 use std::alloc::{AllocError, Global};
@@ -9,22 +9,25 @@ use std::alloc::{AllocError, Global};
 /// What is left of sessions on an exchange, once all have ended.
 #[derive(Drop)]
 pub struct Closing {
-    /// What is printed behind them, or the refusal.
+    /// What is printed behind them, or the refusal. A last line `logs disagree`, under the status
+    /// [`REFUSED`](plan_answers::REFUSED), would say that the sessions' lists aren't those of the
+    /// exchange's history, or that this began on another rack.
     pub answer: Answer,
-    /// The rack, with the words to which their history leads: that of the exchange, and no copy.
-    /// There is none behind a refusal, and none where logs disagree.
-    pub rack: Option<Rack>,
+    /// The exchange's book, and no copy: its history explains what each session was told, and its
+    /// rack has the words to which that leads. There is none behind a refusal, and none where logs
+    /// disagree.
+    pub book: Option<Book>,
 }
 
 impl Closing {
-    /// A refusal, behind which there is no rack.
+    /// A refusal, behind which there is no book.
     pub(crate) fn refused(alloc: Global, refusal: Refusal) -> Result<Closing, AllocError>
         ensures answer { IfOk result (λ closing. Refuses refusal closing.answer) }
-        ensures rack { IfOk result (λ closing. closing.rack ≡ None) }
+        ensures book { IfOk result (λ closing. closing.book ≡ None) }
     {
         Ok(Closing {
             answer: Answer::refused(alloc, refusal)?,
-            rack: None,
+            book: None,
         })
     }
 }

@@ -16,13 +16,12 @@ use crate::closing::Closing;
 use crate::ended_session::{EndedSession, Ending};
 use crate::frames::end_line;
 use crate::plain_exchange::{PlainExchange, finish, open_exchange, serve_client};
-use crate::racks::read_rack;
 use batch_book::Seat;
 use client_session::NoListener;
 use exchange_limits::{MAX_SESSIONS, WorkerCount};
 use module_memory::Rack;
-use plan_answers::Answer;
 use progress_word::ALL_PARTS;
+use rack_answers::read_rack;
 use refusals::Refusal;
 use std::alloc::{AllocError, Global};
 use std::marker::Brand;
@@ -32,16 +31,12 @@ use std::sync::{OnceLock, Wait};
 use std::thread;
 use std::thread::{Promise, PromisedHandle, Scope, Threads};
 
-/// What is left of a host: its answer, the rack, and how the session of each client ended, in their
-/// order. There are no sessions behind a refusal.
+/// What is left of a host. There are no sessions behind a refusal.
 #[derive(Drop)]
 pub struct Hosted<C> {
-    /// What is said of the sessions' ends, or the refusal.
-    pub answer: Answer,
-    /// The rack, with the words to which the history of the sessions leads: that of the exchange,
-    /// and no copy. There is none behind a refusal, and none where logs disagree.
-    pub rack: Option<Rack>,
-    /// How each session ended.
+    /// What is said of the sessions' ends, or the refusal, and the book.
+    pub closing: Closing,
+    /// How the session of each client ended, in their order.
     pub endings: Vec<Ending<C>>,
 }
 
@@ -321,18 +316,15 @@ fn part<L: Ledger, C: Drop>(
     Ok((seats, endings))
 }
 
-/// A refusal, which leaves no sessions and no rack.
+/// A refusal, which leaves no sessions and no book.
 fn refused<C>(alloc: Global, refusal: Refusal) -> Result<Hosted<C>, AllocError>
-    ensures refusal { IfOk result (λ hosted. Refuses refusal hosted.answer) }
+    ensures refusal { IfOk result (λ hosted. Refuses refusal hosted.closing.answer) }
     ensures none { IfOk result (λ hosted. hosted.endings.items ≡ []) }
-    ensures rack { IfOk result (λ hosted. hosted.rack ≡ None) }
+    ensures book { IfOk result (λ hosted. hosted.closing.book ≡ None) }
 {
-    let Closing { answer, rack } = Closing::refused(alloc, refusal)?;
-    Ok(Hosted {
-        answer,
-        rack,
-        endings: Vec::new(alloc),
-    })
+    let closing = Closing::refused(alloc, refusal)?;
+    let endings = Vec::new(alloc);
+    Ok(Hosted { closing, endings })
 }
 
 /// What is left of the sessions of the clients on an exchange with this rack.
@@ -349,7 +341,8 @@ fn host_clients<L: Ledger + Send + Sync, R: Threads + Wait + Sync, D: ClientStre
     requires some { 1 ≤ (D.known streams.now).clients }
     requires few { (D.known streams.now).clients ≤ MAX_SESSIONS }
     ensures { IfOk result (λ hosted. IsHosting rack (D.known streams.now)
-        (map (seen_end D.received) hosted.endings.items) hosted.answer hosted.rack) }
+        (map (seen_end D.received) hosted.endings.items) hosted.closing.answer
+        hosted.closing.book) }
 {
     let opening = rack.copy()?;
     let (exchange, seats) = open_exchange::<L>(alloc, blank, rack, workers, streams.clients())?;
@@ -359,12 +352,8 @@ fn host_clients<L: Ledger + Send + Sync, R: Threads + Wait + Sync, D: ClientStre
     let text = ends_of(alloc, streams, sessions.as_slice())?;
     let failed = any_failed(sessions.as_slice());
     let (seats, endings) = part(alloc, sessions)?;
-    let Closing { answer, rack } = finish(exchange, seats, &opening, text, failed)?;
-    Ok(Hosted {
-        answer,
-        rack,
-        endings,
-    })
+    let closing = finish(exchange, seats, &opening, text, failed)?;
+    Ok(Hosted { closing, endings })
 }
 
 /// What `exchange host` leaves: the sessions of these clients, 1 to [`MAX_SESSIONS`], on one
@@ -377,10 +366,7 @@ fn host_clients<L: Ledger + Send + Sync, R: Threads + Wait + Sync, D: ClientStre
 /// given so many workers each. Each reply line is written, and the writer flushed, before the
 /// client's next command is read. For each client, in order, comes the line `session I NAME`, and
 /// where a fault ended the session, or its files couldn't be opened, a line `ended ..` that says
-/// so, under the status [`REFUSED`](plan_answers::REFUSED). Under that status too, a last line
-/// `logs disagree` would say that the sessions' lists aren't those of the exchange's history, or
-/// that this began on another rack. Else the exchange's rack is given back, with the words that the
-/// history leaves.
+/// so, under the status [`REFUSED`](plan_answers::REFUSED).
 ///
 /// Want of memory behind the sessions, for the list of their ends and for what is said of them, is
 /// the same error as want of it before them: how they ended isn't told then, though each client was
@@ -396,8 +382,8 @@ pub fn answer_host<R: Threads + Wait + Sync, D: ClientStreams>(
     requires some_clients { 1 ≤ (D.known streams.now).clients }
     requires few_clients { (D.known streams.now).clients ≤ MAX_SESSIONS }
     ensures { IfOk result (λ hosted. IsHostAnswer shape.now (bytes_of image.entry)
-        (D.known streams.now) (map (seen_end D.received) hosted.endings.items) hosted.answer
-        hosted.rack) }
+        (D.known streams.now) (map (seen_end D.received) hosted.endings.items)
+        hosted.closing.answer hosted.closing.book) }
 {
     match read_rack(alloc, shape, image) {
         Ok(rack) => {

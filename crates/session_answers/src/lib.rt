@@ -3,7 +3,8 @@
 //!
 //! Each `answer_` function opens an exchange, serves its clients, closes it, and gives an
 //! [`Answer`](plan_answers::Answer): what is printed behind the sessions, or the line of the
-//! refusal of what is first wrong. Beside it stands the rack that the sessions leave.
+//! refusal of what is first wrong. Beside it stands the book that the sessions leave, whose history
+//! explains what each was told, and whose rack has the words to which that leads.
 #![tactic(auto)]
 
 mod all_there;
@@ -13,7 +14,6 @@ mod ended_session;
 mod frames;
 mod hosting;
 mod plain_exchange;
-mod racks;
 mod serving;
 mod session;
 mod talking;

@@ -12,7 +12,7 @@ ghost use Rattle.session_answers.specs.Hosting.{AreAllSeats, IsFresh};
 ghost use Rattle.session_answers.specs.Sessions.{IsServedSession};
 
 use crate::closing::Closing;
-use batch_book::{Closed, Seat, Shared, Unclosed};
+use batch_book::{Book, Closed, Seat, Shared, Unclosed};
 use client_session::{Listener, ServeFault, serve};
 use crossbar::MemoryPort;
 use exchange_limits::{MAX_SESSIONS, WorkerCount};
@@ -85,9 +85,9 @@ pub fn serve_client<L: Ledger, R: Threads + Wait + Sync, I: Read, O: Write, H: L
     }
 }
 
-/// Closes the exchange, and gives its rack, if the lists of its seats are those of its history,
+/// Closes the exchange, and gives its book, if the lists of its seats are those of its history,
 /// which began on this rack.
-fn close<L: Ledger>(exchange: PlainExchange<L>, seats: Vec<Seat<L>>, opening: &Rack) -> Option<Rack>
+fn close<L: Ledger>(exchange: PlainExchange<L>, seats: Vec<Seat<L>>, opening: &Rack) -> Option<Book>
     requires parts { L.parts ≡ ALL_PARTS }
     requires seats { AreAllSeats exchange seats.items }
     ensures { MatchOption result
@@ -106,7 +106,7 @@ fn close<L: Ledger>(exchange: PlainExchange<L>, seats: Vec<Seat<L>>, opening: &R
                     plant: _,
                     seats: _,
                 } = closed;
-                Some(book.into_rack())
+                Some(book)
             } else {
                 None
             }
@@ -131,20 +131,20 @@ pub fn finish<L: Ledger>(
     requires parts { L.parts ≡ ALL_PARTS }
     requires seats { AreAllSeats exchange seats.items }
     ensures { IfOk result (λ closing. IsClosing opening.now (map part_of seats.items) text.items
-        failed closing.answer closing.rack) }
+        failed closing.answer closing.book) }
 {
-    let Some(rack) = close(exchange, seats, opening) else {
+    let Some(book) = close(exchange, seats, opening) else {
         text.extend_from_slice(b"logs disagree\n")?;
         return Ok(Closing {
             answer: Answer::failed(text),
-            rack: None,
+            book: None,
         });
     };
-    let rack = Some(rack);
+    let book = Some(book);
     if failed {
         let answer = Answer::failed(text);
-        return Ok(Closing { answer, rack });
+        return Ok(Closing { answer, book });
     }
     let answer = Answer::done(text);
-    Ok(Closing { answer, rack })
+    Ok(Closing { answer, book })
 }

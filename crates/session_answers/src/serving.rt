@@ -11,13 +11,13 @@ ghost use Rattle.session_answers.specs.Serving.{HasItsScript, AreServed, IsServe
 use crate::closing::Closing;
 use crate::frames::{frame, has_fault};
 use crate::plain_exchange::{PlainExchange, finish, open_exchange, serve_client};
-use crate::racks::read_rack;
 use crate::session::Session;
 use batch_book::Seat;
 use client_session::NoListener;
 use exchange_limits::{MAX_SESSIONS, WorkerCount};
 use module_memory::Rack;
 use progress_word::ALL_PARTS;
+use rack_answers::read_rack;
 use std::alloc::{AllocError, Global};
 use std::marker::Brand;
 use std::sync::Wait;
@@ -101,7 +101,7 @@ fn serve_scripts<L: Ledger + Send + Sync, R: Threads + Wait + Sync>(
     requires some_scripts { 1 ≤ length scripts.now }
     requires few_scripts { length scripts.now ≤ MAX_SESSIONS }
     ensures { IfOk result (λ closing. AreServed rack (map (λ s. s.items) scripts.now)
-        closing.answer closing.rack) }
+        closing.answer closing.book) }
 {
     let opening = rack.copy()?;
     let (exchange, seats) = open_exchange::<L>(alloc, blank, rack, workers, scripts.len())?;
@@ -122,9 +122,7 @@ fn serve_scripts<L: Ledger + Send + Sync, R: Threads + Wait + Sync>(
 /// planning and runs are given so many workers each. For each script, in order, comes the line
 /// `session I`, and then what the session was told; where a fault ended it, a line `ended ..` says
 /// so, and the status is [`REFUSED`](plan_answers::REFUSED). When all have ended the exchange is
-/// closed. Under that status too, a last line `logs disagree` would say that the sessions' lists
-/// aren't those of its history, or that this began on another rack. Else the exchange's rack is
-/// given back, with the words that the history leaves.
+/// closed.
 pub fn answer_serve<R: Threads + Wait + Sync>(
     rt: &R,
     alloc: Global,
@@ -136,7 +134,7 @@ pub fn answer_serve<R: Threads + Wait + Sync>(
     requires some_scripts { 1 ≤ length scripts.now }
     requires few_scripts { length scripts.now ≤ MAX_SESSIONS }
     ensures { IfOk result (λ closing. IsServeAnswer shape.now (bytes_of image.entry)
-        (map (λ s. s.items) scripts.now) closing.answer closing.rack) }
+        (map (λ s. s.items) scripts.now) closing.answer closing.book) }
 {
     match read_rack(alloc, shape, image) {
         Ok(rack) => {

@@ -6,17 +6,17 @@ ghost use Rattle.progress_word.specs.declared.limits.TheConstants.{ALL_PARTS};
 ghost use Rattle.client_session.specs.Listening.{TellsOfRefusals};
 ghost use Rattle.plan_answers.specs.Lent.{bytes_of};
 ghost use Rattle.refusals.specs.declared.refusal.Refusal.{Refusal};
-ghost use Rattle.session_answers.specs.Racks.{IsWrongRack};
+ghost use Rattle.rack_answers.specs.Openings.{IsWrongRack};
 ghost use Rattle.session_answers.specs.Talking.{HasTalked, IsTalkAnswer};
 
 use crate::closing::Closing;
 use crate::frames::end_line;
 use crate::plain_exchange::{finish, open_exchange, serve_client};
-use crate::racks::read_rack;
 use client_session::Listener;
 use exchange_limits::WorkerCount;
 use module_memory::Rack;
 use progress_word::ALL_PARTS;
+use rack_answers::read_rack;
 use std::alloc::{AllocError, Global};
 use std::io::{Read, Write};
 use std::marker::Brand;
@@ -39,7 +39,7 @@ fn talk<L: Ledger, R: Threads + Wait + Sync, I: Read, O: Write, H: Listener>(
     ensures session { (told : List ℕ)
         × Appends (O.contents writer.old) (O.contents writer.new) told
         × IfOk result (λ closing. HasTalked rack (I.remaining reader.old) (I.remaining reader.new)
-        told closing.answer closing.rack) }
+        told closing.answer closing.book) }
     ensures beside { TellsOfRefusals H.may_tell (H.told listener.old) (H.told listener.new) }
 {
     let opening = rack.copy()?;
@@ -62,9 +62,7 @@ fn talk<L: Ledger, R: Threads + Wait + Sync, I: Read, O: Write, H: Listener>(
 /// Each reply line is written, and the writer flushed, before the next command is read. The
 /// listener hears each command, and each refusal of the session; where no session begins it hears
 /// nothing. Behind a session that ended by itself there is nothing more to print; where a fault
-/// ended it a line `ended ..` says so, under the status [`REFUSED`](plan_answers::REFUSED). A line
-/// `logs disagree` would say that its list isn't that of the exchange's history, or that this began
-/// on another rack. Else the exchange's rack is given back, with the words that the history leaves.
+/// ended it a line `ended ..` says so, under the status [`REFUSED`](plan_answers::REFUSED).
 pub fn answer_talk<R: Threads + Wait + Sync, I: Read, O: Write, H: Listener>(
     rt: &R,
     alloc: Global,
@@ -77,7 +75,7 @@ pub fn answer_talk<R: Threads + Wait + Sync, I: Read, O: Write, H: Listener>(
     ensures answer { (told : List ℕ)
         × Appends (O.contents writer.old) (O.contents writer.new) told
         × IfOk result (λ closing. IsTalkAnswer shape.now (bytes_of image.entry)
-        (I.remaining reader.old) (I.remaining reader.new) told closing.answer closing.rack) }
+        (I.remaining reader.old) (I.remaining reader.new) told closing.answer closing.book) }
     ensures beside { TellsOfRefusals H.may_tell (H.told listener.old) (H.told listener.new) }
     ensures no_session { (refusal : Refusal) → IsWrongRack shape.now (bytes_of image.entry) refusal
         → H.told listener.new ≡ H.told listener.old }

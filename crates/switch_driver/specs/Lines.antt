@@ -1,6 +1,6 @@
 -- What is told of a setting that stands, and what is waited for. The texts are this project's
 -- choice.
-use Rattle.std.specs.Prelude.{◌≡◌, ℕ, Bool, true, false, IsTrue, List, [], ◌∷◌, ◌++◌, codes, Option}
+use Rattle.std.specs.Prelude.{◌≡◌, ◌≢◌, ℕ, Bool, true, false, IsTrue, List, [], ◌∷◌, ◌++◌, codes, All, Option}
 use Rattle.std.specs.Fmt.{decimal}
 use Rattle.std.specs.List.{flat_map}
 use Rattle.std.specs.Io.KnownBytes.{Appends, Consumes}
@@ -18,11 +18,14 @@ abbrev pub stage_line : ℕ → List ℕ → List ℕ
 stage_line setting numbers =
     codes "setting " ++ decimal setting ++ flat_map number_word numbers ++ codes "\n"
 
--- bytes were read, and where it went well, a line feed was the last of them
+-- Bytes were read: where it went well, one line with its line feed, and nothing behind it; else no
+-- whole line.
 pub record HasWaited (input_before input_after : Option (List ℕ)) (well : Bool) : Type 0 where
   pub came : List ℕ
   pub read : Consumes input_before input_after came
-  pub ends : IsTrue well → (front : List ℕ) × (came ≡ front ++ 10 ∷ [])
+  pub ends :
+      IsTrue well → (front : List ℕ) × All (λ b. b ≢ 10) front × (came ≡ front ++ 10 ∷ [])
+  pub none : well ≡ false → All (λ b. b ≢ 10) came
 
 -- The line of a setting was told, and where one was waited for, a line was read or none came any
 -- more; or not all of the line could be told, and nothing was read. It is told over the same loan.
@@ -46,10 +49,24 @@ HasToldLine {I} {O} remaining contents setting numbers Untold old new =
     × (new.input ≡ old.input)
     × (new.waits ≡ old.waits)
 
--- what that is where the stage is the text that was told: the line of a setting stands behind the
--- others, or, where it couldn't be told, a front of it
-abbrev pub TellsLine : List ℕ → ℕ → List ℕ → Cue → List ℕ → Type 0
-TellsLine old setting numbers GoOn new = new ≡ old ++ stage_line setting numbers
-TellsLine old setting numbers Leave new = new ≡ old ++ stage_line setting numbers
-TellsLine old setting numbers Untold new =
-    (front left : List ℕ) × (stage_line setting numbers ≡ front ++ left) × (new ≡ old ++ front)
+-- what is seen of them: the text that was told, and what is left of the input
+pub record Dialogue : Type 0 where
+  pub told : List ℕ
+  pub left : Option (List ℕ)
+
+-- What becomes of that where the line of a setting is told: it stands behind the others, and where
+-- one is waited for, a line was read, or none came any more; or, where it couldn't be told, a front
+-- of it stands there, and nothing was read.
+abbrev pub TellsLine : Bool → Dialogue → ℕ → List ℕ → Cue → Dialogue → Type 0
+TellsLine waits old setting numbers GoOn new =
+    (new.told ≡ old.told ++ stage_line setting numbers)
+    × (IsTrue waits → HasWaited old.left new.left true)
+    × (waits ≡ false → new.left ≡ old.left)
+TellsLine waits old setting numbers Leave new =
+    (new.told ≡ old.told ++ stage_line setting numbers)
+    × IsTrue waits
+    × HasWaited old.left new.left false
+TellsLine waits old setting numbers Untold new =
+    (front missing : List ℕ) × (stage_line setting numbers ≡ front ++ missing)
+    × (new.told ≡ old.told ++ front)
+    × (new.left ≡ old.left)

@@ -3,6 +3,7 @@
 ghost use Rattle.std.specs.Prelude.{◌≤◌};
 ghost use Rattle.c004_commands.specs.declared.port.TheConstants.{PORTS};
 ghost use Rattle.link_graph.specs.Schedules.{IsScheduleOf};
+ghost use Rattle.switch_settings.specs.RackWirings.{wired_in};
 ghost use Rattle.switch_settings.specs.Racks.{HasModulesOf};
 ghost use Rattle.switch_driver.specs.Driving.{IsDriven, HasDriveCause};
 
@@ -10,7 +11,7 @@ use crate::stage::{Cue, Stage};
 use batch::Batch;
 use crossbar::ConfigPort;
 use link_graph::Schedule;
-use switch_settings::{ConfigureFault, PairList, configure_switches, numbers_of_setting};
+use switch_settings::{ConfigureFault, PairList, RackWiring, configure_rack, numbers_of_setting};
 
 /// How the settings of a schedule were put on the switches. Settings are counted from 0.
 #[derive(Clone, Copy, Debug, PartialEq, Eq)]
@@ -34,25 +35,26 @@ pub enum Driven {
     },
 }
 
-/// Puts the settings of a schedule on the switches of a rack of so many modules, one after another:
+/// Puts the settings of a schedule on the switches of a rack that is wired so, one after another:
 /// each is sent, all outputs are asked, and where they reply as the setting calls for, the stage is
 /// told that it stands.
 ///
-/// The rack has to have the modules that the batch names, at most 32. The switches are left as they
+/// The modules that the batch names have to be wired, at most 32. The switches are left as they
 /// stand.
 pub fn drive<P: ConfigPort, S: Stage>(
     port: &mut P,
-    modules: usize,
+    rack: RackWiring,
     batch: &Batch,
     schedule: &Schedule,
     stage: &mut S,
 ) -> Driven
-    requires few { modules ≤ PORTS }
-    requires modules { HasModulesOf modules batch.now }
+    requires few { wired_in rack ≤ PORTS }
+    requires modules { HasModulesOf (wired_in rack) batch.now }
     requires schedule { IsScheduleOf batch.now schedule.now }
-    ensures driven { IsDriven S.hears modules batch.now schedule.now result
+    ensures driven { IsDriven S.hears rack batch.now schedule.now result
         (P.passed port.old) stage.old (P.passed port.new) stage.new }
-    ensures cause { HasDriveCause P.ConfigPort modules batch.now schedule.now result port.old port.new }
+    ensures cause { HasDriveCause P.ConfigPort rack batch.now schedule.now result
+        port.old port.new }
 {
     // Asked for its contract alone: the batch is one.
     let _batch = batch.as_slice();
@@ -61,7 +63,7 @@ pub fn drive<P: ConfigPort, S: Stage>(
     for setting in 0..settings {
         let numbers = numbers_of_setting(batch, schedule, setting);
         let pairs = PairList::of_setting(batch, numbers);
-        if let Err(fault) = configure_switches(port, modules, &standing, pairs.as_slice()) {
+        if let Err(fault) = configure_rack(port, rack, &standing, pairs.as_slice()) {
             return Driven::Stopped { setting, fault };
         }
         match stage.stands(setting, numbers) {

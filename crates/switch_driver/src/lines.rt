@@ -54,8 +54,8 @@ fn line_of(setting: usize, numbers: &[usize]) -> Line
     line
 }
 
-/// Reads a line. Says whether it came: not where the input ends before a line feed, or a read
-/// fails.
+/// Reads a line, and nothing behind it. Says whether it came: not where the input ends before a
+/// line feed, or a read fails.
 fn wait_line<I: Read>(reader: &mut I) -> bool
     ensures { HasWaited (I.remaining reader.old) (I.remaining reader.new) result }
 {

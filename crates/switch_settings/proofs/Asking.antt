@@ -1,17 +1,18 @@
 -- What passes over several conversations with the switches, one after another.
-use Rattle.std.proofs.Common.{◌≡◌, ◌++◌, ◌<◌, ◌≤◌, ℕ, List, [], ◌∷◌, length, refl, Option, Some, None, Result, Ok, Err, arith, inl, inr}
+use Rattle.std.proofs.Common.{◌≡◌, ◌++◌, ◌<◌, ◌≤◌, ℕ, Bool, List, [], ◌∷◌, length, refl, Option, Some, None, Result, Ok, Err, arith, inl, inr}
 use Rattle.std.proofs.lemmas.Grind.{common_steps}
 use Rattle.std.specs.Prelude.{OnOk, IfErr}
 use Rattle.crossbar.specs.Pairs.{switch_of}
 use Rattle.crossbar.specs.Traffic.{Passes, PassesFront}
 use Rattle.crossbar.specs.declared.chip.Chip.TheVariants.{A, B}
+use Rattle.crossbar.specs.declared.chip.Wiring.{Wiring}
 use Rattle.crossbar.specs.declared.chip.Wiring.TheVariants.{Both, Forth, Back}
 use Rattle.crossbar.specs.declared.pair.Pair.{Pair}
 use Rattle.crossbar.specs.declared.switch.TheConstants.{JOINED_MODULES}
 use Rattle.crossbar.specs.declared.traffic.Passing.{Passing}
 use Rattle.c004_commands.specs.declared.port.TheConstants.{PORTS}
-use Rattle.switch_settings.specs.Answers.{AllAgree, IsMisset}
-use Rattle.switch_settings.specs.Asking.{turned, asked, set_both, HaveReplied, HavePassedFor}
+use Rattle.switch_settings.specs.Answers.{AllAgree, IsMisset, IsConfigureFault}
+use Rattle.switch_settings.specs.Asking.{turned, asked, set_both, HaveReplied, HavePassedFor, OneStands, OneHasPassedFor}
 use Rattle.switch_settings.specs.Pairs.{all_enquiries}
 use Rattle.switch_settings.specs.declared.fault.ConfigureFault.{ConfigureFault}
 use Rattle.switch_settings.specs.declared.fault.ConfigureFault.TheVariants.{Port, SwitchDisagrees}
@@ -27,14 +28,37 @@ passes_then (Some a) (Some b) None xs ys p q = absurd q
 passes_then (Some a) (Some b) (Some c) xs ys p q = grind (arith, common_steps)
 
 -- the fault that the one switch's replies are judged to be
-pub one_differs : {T : Type 0} (result : Result T ConfigureFault) (modules : ℕ) (standing : Option (List Pair)) (pairs : List Pair) (replies : List ℕ) (o a b : Option (List Passing)) → modules ≤ JOINED_MODULES → length replies ≡ PORTS
-    → IfErr result (λ fault. IsMisset A (switch_of Both pairs) replies fault) → Passes o a (turned A Both standing pairs) → Passes a b (asked A replies) → IfErr result (λ fault. HavePassedFor modules fault standing pairs o b)
-one_differs (Ok x) modules standing pairs replies o a b few all differs p q = tt
-one_differs (Err (SwitchDisagrees number)) modules standing pairs replies o a b few all differs p q = (
-  λ _. record { replies = replies; all = all; differ = differs; passed = passes_then o a b _ _ p q },
-  λ wide. absurd (omega arith),
-)
-one_differs (Err Port) modules standing pairs replies o a b few all differs p q = absurd differs
+pub one_differs : {T : Type 0} (result : Result T ConfigureFault) (wiring : Wiring) (standing : Option (List Pair)) (pairs : List Pair) (replies : List ℕ) (o a b : Option (List Passing)) → length replies ≡ PORTS
+    → IfErr result (λ fault. IsMisset A (switch_of wiring pairs) replies fault) → Passes o a (turned A wiring standing pairs) → Passes a b (asked A replies) → IfErr result (λ fault. OneHasPassedFor wiring fault standing pairs o b)
+one_differs (Ok x) wiring standing pairs replies o a b all differs p q = tt
+one_differs (Err (SwitchDisagrees number)) wiring standing pairs replies o a b all differs p q =
+    record { replies = replies; all = all; differ = differs; passed = passes_then o a b _ _ p q }
+one_differs (Err Port) wiring standing pairs replies o a b all differs p q = absurd differs
+
+-- it stands where its replies are judged to agree
+pub one_stands : {T E : Type 0} (result : Result T E) (wiring : Wiring) (standing : Option (List Pair)) (pairs : List Pair) (replies : List ℕ) (o a b : Option (List Passing)) → length replies ≡ PORTS
+    → OnOk result (AllAgree (switch_of wiring pairs) replies) → Passes o a (turned A wiring standing pairs) → Passes a b (asked A replies) → OnOk result (OneStands wiring standing pairs o b)
+one_stands (Err e) wiring standing pairs replies o a b all agreed p q = tt
+one_stands (Ok x) wiring standing pairs replies o a b all agreed p q =
+    record { replies = replies; all = all; agree = agreed; passed = passes_then o a b _ _ p q }
+
+-- what passed over the one switch of a rack of few modules
+pub one_of_few : (fault : ConfigureFault) (modules : ℕ) (standing : Option (List Pair)) (pairs : List Pair) (o b : Option (List Passing)) → modules ≤ JOINED_MODULES → OneHasPassedFor Both fault standing pairs o b → HavePassedFor modules fault standing pairs o b
+one_of_few Port modules standing pairs o b few has = (λ _. has, λ wide. absurd (omega arith))
+one_of_few (SwitchDisagrees number) modules standing pairs o b few has = (λ _. has, λ wide. absurd (omega arith))
+
+-- the same in a result
+pub one_result : {T : Type 0} (result : Result T ConfigureFault) (modules : ℕ) (standing : Option (List Pair)) (pairs : List Pair) (o b : Option (List Passing)) → modules ≤ JOINED_MODULES
+    → IfErr result (λ fault. OneHasPassedFor Both fault standing pairs o b) → IfErr result (λ fault. HavePassedFor modules fault standing pairs o b)
+one_result (Ok x) modules standing pairs o b few has = tt
+one_result (Err fault) modules standing pairs o b few has = one_of_few fault modules standing pairs o b few has
+
+-- a fault of one switch, in a rack of any number of modules
+pub fault_of_one : {T : Type 0} (result : Result T ConfigureFault) (modules before after : ℕ) (honest : Bool) → IfErr result (λ fault. IsConfigureFault JOINED_MODULES before after honest fault) → IfErr result (λ fault. IsConfigureFault modules before after honest fault)
+fault_of_one (Ok x) modules before after honest is = tt
+fault_of_one (Err Port) modules before after honest is = is
+fault_of_one (Err (SwitchDisagrees number)) modules before after honest (dishonest, inl low, same) = (dishonest, inl low, same)
+fault_of_one (Err (SwitchDisagrees number)) modules before after honest (dishonest, inr high, same) = absurd (omega (arith, high.0))
 
 -- what passed while both switches were set and asked
 pub all_passed : (standing : Option (List Pair)) (pairs : List Pair) (of_a of_b : List ℕ) (o a b c d : Option (List Passing)) → Passes o a (turned A Forth standing pairs) → Passes a b (turned B Back standing pairs) → Passes b c (asked A of_a)

@@ -27,9 +27,11 @@ use Rattle.batch.specs.Text.{IsWithin}
 use Rattle.crossbar.specs.declared.switch.TheConstants.{JOINED_MODULES}
 use Rattle.crossbar.specs.Switch.{Sources}
 use Rattle.crossbar.specs.Chips.{Switches}
+use Rattle.crossbar.specs.Wired.{links_of, unwired, link0_on, link3_on}
+use Rattle.crossbar.proofs.Boards.{never_one, one_link0, one_link3}
 use Rattle.crossbar.specs.Pairs.{ArePairs, AreSwitchesOf, room_of, ends, switch_of}
 use Rattle.crossbar.specs.declared.chip.Wiring.{Wiring}
-use Rattle.crossbar.specs.declared.chip.Wiring.TheVariants.{Both, Forth, Back}
+use Rattle.crossbar.specs.declared.chip.Wiring.TheVariants.{Both, Forth, Back, Board}
 use Rattle.crossbar.specs.declared.pair.Pair.{Pair}
 use Rattle.crossbar.proofs.Latches.{same_sources}
 use Rattle.link_graph.specs.Uses.{AreApart, IsMatching, start_link, answer_link}
@@ -46,11 +48,16 @@ abbrev pub In : Pair → List Pair → Type 0
 In p [] = ⊥
 In p (q ∷ qs) = (q ≡ p) ⊎ In p qs
 
+-- two links that feed each other give an output its input
+abbrev TwoGive : ℕ → ℕ → ℕ → ℕ → Type 0
+TwoGive i r o v = ((o ≡ i) × (v ≡ r)) ⊎ ((o ≡ r) × (v ≡ i))
+
 -- a pair gives an output its input
 abbrev Gives : Wiring → Pair → ℕ → ℕ → Type 0
-Gives Both p o v = ((o ≡ p.initiator) × (v ≡ JOINED_MODULES + p.responder)) ⊎ ((o ≡ JOINED_MODULES + p.responder) × (v ≡ p.initiator))
+Gives Both p o v = TwoGive p.initiator (JOINED_MODULES + p.responder) o v
 Gives Forth p o v = (o ≡ p.responder) × (v ≡ p.initiator)
 Gives Back p o v = (o ≡ p.initiator) × (v ≡ p.responder)
+Gives (Board w) p o v = TwoGive (link0_on w p.initiator) (link3_on w p.responder) o v
 
 -- ---- what is found among the ends of pairs
 
@@ -67,15 +74,19 @@ some_inj x y e = cc
 none_some : (x : ℕ) → None ≡ Some x → ⊥
 none_some x e = absurd cc
 
--- what is found among a pair's own ends it gives
-own_gives : (w : Wiring) (p : Pair) (o v : ℕ) → find nat_cmp o (ends w p) ≡ Some v → Gives w p o v
-own_gives Both p o v e = elim (cases_eq o p.initiator) [
-  | inl a ↦ inl (a, some_inj _ _ (sym e ∙ find_here o p.initiator (JOINED_MODULES + p.responder) ((JOINED_MODULES + p.responder, p.initiator) ∷ []) a))
-  | inr a ↦ elim (cases_eq o (JOINED_MODULES + p.responder)) [
-    | inl b ↦ inr (b, some_inj _ _ (sym e ∙ find_not o p.initiator (JOINED_MODULES + p.responder) ((JOINED_MODULES + p.responder, p.initiator) ∷ []) a ∙ find_here o (JOINED_MODULES + p.responder) p.initiator [] b))
-    | inr b ↦ absurd (none_some v (sym (find_not o p.initiator (JOINED_MODULES + p.responder) ((JOINED_MODULES + p.responder, p.initiator) ∷ []) a ∙ find_not o (JOINED_MODULES + p.responder) p.initiator [] b) ∙ e))
+two_give : (i r o v : ℕ) → find nat_cmp o ((i, r) ∷ (r, i) ∷ []) ≡ Some v → TwoGive i r o v
+two_give i r o v e = elim (cases_eq o i) [
+  | inl a ↦ inl (a, some_inj _ _ (sym e ∙ find_here o i r ((r, i) ∷ []) a))
+  | inr a ↦ elim (cases_eq o r) [
+    | inl b ↦ inr (b, some_inj _ _ (sym e ∙ find_not o i r ((r, i) ∷ []) a ∙ find_here o r i [] b))
+    | inr b ↦ absurd (none_some v (sym (find_not o i r ((r, i) ∷ []) a ∙ find_not o r i [] b) ∙ e))
   ]
 ]
+
+-- what is found among a pair's own ends it gives
+own_gives : (w : Wiring) (p : Pair) (o v : ℕ) → find nat_cmp o (ends w p) ≡ Some v → Gives w p o v
+own_gives Both p o v e = two_give p.initiator (JOINED_MODULES + p.responder) o v e
+own_gives (Board w) p o v e = two_give (link0_on w p.initiator) (link3_on w p.responder) o v e
 own_gives Forth p o v e = elim (cases_eq o p.responder) [
   | inl a ↦ (a, some_inj _ _ (sym e ∙ find_here o p.responder p.initiator [] a))
   | inr a ↦ absurd (none_some v (sym (find_not o p.responder p.initiator [] a) ∙ e))
@@ -85,15 +96,19 @@ own_gives Back p o v e = elim (cases_eq o p.initiator) [
   | inr a ↦ absurd (none_some v (sym (find_not o p.initiator p.responder [] a) ∙ e))
 ]
 
--- where it gives an output an input, something is found
-gives_some : (w : Wiring) (p : Pair) (o v : ℕ) → Gives w p o v → find nat_cmp o (ends w p) ≡ None → ⊥
-gives_some Both p o v g e = elim g [
-  | inl x ↦ none_some _ (sym e ∙ find_here o p.initiator (JOINED_MODULES + p.responder) ((JOINED_MODULES + p.responder, p.initiator) ∷ []) x.0)
-  | inr x ↦ elim (cases_eq o p.initiator) [
-    | inl a ↦ none_some _ (sym e ∙ find_here o p.initiator (JOINED_MODULES + p.responder) ((JOINED_MODULES + p.responder, p.initiator) ∷ []) a)
-    | inr a ↦ none_some _ (sym e ∙ find_not o p.initiator (JOINED_MODULES + p.responder) ((JOINED_MODULES + p.responder, p.initiator) ∷ []) a ∙ find_here o (JOINED_MODULES + p.responder) p.initiator [] x.0)
+two_some : (i r o v : ℕ) → TwoGive i r o v → find nat_cmp o ((i, r) ∷ (r, i) ∷ []) ≡ None → ⊥
+two_some i r o v g e = elim g [
+  | inl x ↦ none_some _ (sym e ∙ find_here o i r ((r, i) ∷ []) x.0)
+  | inr x ↦ elim (cases_eq o i) [
+    | inl a ↦ none_some _ (sym e ∙ find_here o i r ((r, i) ∷ []) a)
+    | inr a ↦ none_some _ (sym e ∙ find_not o i r ((r, i) ∷ []) a ∙ find_here o r i [] x.0)
   ]
 ]
+
+-- where it gives an output an input, something is found
+gives_some : (w : Wiring) (p : Pair) (o v : ℕ) → Gives w p o v → find nat_cmp o (ends w p) ≡ None → ⊥
+gives_some Both p o v g e = two_some p.initiator (JOINED_MODULES + p.responder) o v g e
+gives_some (Board w) p o v g e = two_some (link0_on w p.initiator) (link3_on w p.responder) o v g e
 gives_some Forth p o v g e = none_some _ (sym e ∙ find_here o p.responder p.initiator [] g.0)
 gives_some Back p o v g e = none_some _ (sym e ∙ find_here o p.initiator p.responder [] g.0)
 
@@ -135,6 +150,25 @@ one_given Both m ps o v x p q fits a i j g h = elim g [
 ]
 one_given Forth m ps o v x p q fits a i j g h = h.1 ∙ sym (a.one_initiator p q i j (sym g.0 ∙ h.0)) ∙ sym g.1
 one_given Back m ps o v x p q fits a i j g h = h.1 ∙ sym (a.one_responder p q i j (sym g.0 ∙ h.0)) ∙ sym g.1
+one_given (Board w) m ps o v x p q fits a i j g h =
+    let i0 : p.initiator < length (links_of w) = omega (arith, (a.low p i).0) in
+    let r0 : p.responder < length (links_of w) = omega (arith, (a.low p i).1) in
+    let i1 : q.initiator < length (links_of w) = omega (arith, (a.low q j).0) in
+    let r1 : q.responder < length (links_of w) = omega (arith, (a.low q j).1) in
+    elim g [
+      | inl y ↦ elim h [
+        | inl z ↦
+            let same = one_link0 (links_of w) p.initiator q.initiator unwired w.own i0 i1 (sym y.0 ∙ z.0) in
+            z.1 ∙ ap (link3_on w) (sym (a.one_responder p q i j same)) ∙ sym y.1
+        | inr z ↦ absurd (never_one (links_of w) p.initiator q.responder unwired w.own i0 r1 (sym y.0 ∙ z.0))
+      ]
+      | inr y ↦ elim h [
+        | inl z ↦ absurd (never_one (links_of w) q.initiator p.responder unwired w.own i1 r0 (sym z.0 ∙ y.0))
+        | inr z ↦
+            let same = one_link3 (links_of w) p.responder q.responder unwired w.own r0 r1 (sym y.0 ∙ z.0) in
+            z.1 ∙ ap (link0_on w) (sym (a.one_initiator p q i j same)) ∙ sym y.1
+      ]
+    ]
 
 same_found : (w : Wiring) (m : ℕ) (ps qs : List Pair) (o : ℕ) → m ≤ room_of w → AreJoinable m ps → AreJoinable m qs → ((p : Pair) → In p ps → In p qs) → ((p : Pair) → In p qs → In p ps) → found w ps o ≡ found w qs o
 same_found w m ps qs o fits a b to from = elim (found w ps o) as (λ r. found w ps o ≡ r → r ≡ found w qs o) [

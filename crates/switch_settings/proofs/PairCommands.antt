@@ -9,8 +9,12 @@ use Rattle.c004_commands.specs.declared.command.TheConstants.{LONGEST_COMMAND}
 use Rattle.c004_commands.specs.declared.port.TheConstants.{PORTS}
 use Rattle.crossbar.specs.Switch.{enquiries}
 use Rattle.crossbar.specs.declared.chip.Wiring.{Wiring}
-use Rattle.crossbar.specs.declared.chip.Wiring.TheVariants.{Both, Forth, Back}
+use Rattle.crossbar.specs.declared.chip.Wiring.TheVariants.{Both, Forth, Back, Board}
 use Rattle.crossbar.specs.declared.switch.TheConstants.{JOINED_MODULES}
+use Rattle.crossbar.specs.Wired.{links_of, unwired, link0_on, link3_on}
+use Rattle.crossbar.specs.declared.board.BoardWiring.{BoardWiring}
+use Rattle.crossbar.proofs.Boards.{are_wired, had}
+use Rattle.switch_settings.specs.declared.bytes.TheConstants.{WIDE_CHANGE_BYTES}
 use Rattle.crossbar.specs.Pairs.{ArePairs, room_of, is_pair, without, join, cut, setting, change}
 use Rattle.switch_settings.specs.Pairs.{command_of, longest_setting, longest_change}
 use Rattle.switch_settings.specs.Sending.{turning}
@@ -32,6 +36,13 @@ pub pairs_few : (m : ℕ) (ps : List Pair) → ArePairs m ps → length ps ≤ m
 pairs_few m [] a = omega arith
 pairs_few m (p ∷ ps) a = let r = above m p ps a.2 a.4 a.0 in omega arith
 
+-- the switch has the links that a board's modules are on
+link0_had : (w : BoardWiring) (m : ℕ) → m < length (links_of w) → link0_on w m < PORTS
+link0_had w m lt = (had (links_of w) m unwired w.own lt).0
+
+link3_had : (w : BoardWiring) (m : ℕ) → m < length (links_of w) → link3_on w m < PORTS
+link3_had w m lt = (had (links_of w) m unwired w.own lt).1
+
 one_command : (way : Way) (w : Wiring) (p : Pair) → p.initiator < room_of w → p.responder < room_of w → AreCommands (command_of way w p ∷ [])
 one_command Join Both p a b = ((omega arith, (omega arith, tt)), tt)
 one_command Cut Both p a b = ((omega arith, (omega arith, tt)), tt)
@@ -39,6 +50,8 @@ one_command Join Forth p a b = ((a, (b, tt)), tt)
 one_command Cut Forth p a b = ((b, tt), tt)
 one_command Join Back p a b = ((b, (a, tt)), tt)
 one_command Cut Back p a b = ((a, tt), tt)
+one_command Join (Board w) p a b = (((link0_had w p.initiator a), (link3_had w p.responder b, tt)), tt)
+one_command Cut (Board w) p a b = (((link0_had w p.initiator a), (link3_had w p.responder b, tt)), tt)
 
 kept : (b : Bool) (way : Way) (w : Wiring) (p : Pair) (ps : List Pair) → p.initiator < room_of w → p.responder < room_of w → AreCommands (map (command_of way w) ps) → AreCommands (map (command_of way w) (cond b (p ∷ ps) ps))
 kept true way w p ps a b r = ((one_command way w p a b).0, r)
@@ -60,6 +73,8 @@ quiet_before Join Forth (p ∷ ps) ds h = quiet_before Join Forth ps ds h
 quiet_before Cut Forth (p ∷ ps) ds h = quiet_before Cut Forth ps ds h
 quiet_before Join Back (p ∷ ps) ds h = quiet_before Join Back ps ds h
 quiet_before Cut Back (p ∷ ps) ds h = quiet_before Cut Back ps ds h
+quiet_before Join (Board w) (p ∷ ps) ds h = quiet_before Join (Board w) ps ds h
+quiet_before Cut (Board w) (p ∷ ps) ds h = quiet_before Cut (Board w) ps ds h
 
 without_none : (ps : List Pair) → without [] ps ≡ ps
 without_none [] = refl
@@ -112,6 +127,7 @@ join_rows w [] = refl
 join_rows Both (p ∷ ps) = omega (arith, join_rows Both ps)
 join_rows Forth (p ∷ ps) = omega (arith, join_rows Forth ps)
 join_rows Back (p ∷ ps) = omega (arith, join_rows Back ps)
+join_rows (Board w) (p ∷ ps) = omega (arith, join_rows (Board w) ps)
 
 cut_rows_both : (ps : List Pair) → length (text (map (cut Both) ps)) ≡ 3 * length ps
 cut_rows_both [] = refl
@@ -125,6 +141,10 @@ cut_rows_back : (ps : List Pair) → length (text (map (cut Back) ps)) ≡ 2 * l
 cut_rows_back [] = refl
 cut_rows_back (p ∷ ps) = omega (arith, cut_rows_back ps)
 
+cut_rows_board : (w : BoardWiring) (ps : List Pair) → length (text (map (cut (Board w)) ps)) ≡ 3 * length ps
+cut_rows_board w [] = refl
+cut_rows_board w (p ∷ ps) = omega (arith, cut_rows_board w ps)
+
 -- the joins of a setting, and a byte before and behind them
 pub joins_fit : (w : Wiring) (ps : List Pair) → ArePairs (room_of w) ps → length (text (map (join w) (without [] ps))) + 2 ≤ longest_setting w
 joins_fit w ps a = omega (arith, join_rows w (without [] ps), few_kept [] ps, pairs_few (room_of w) ps a)
@@ -135,8 +155,26 @@ pub change_fits : (w : Wiring) (old new : List Pair) → ArePairs (room_of w) ol
 change_fits Both old new a b = omega (arith, cut_rows_both (without new old), few_kept new old, pairs_few JOINED_MODULES old a, join_rows Both (without old new), few_kept old new, pairs_few JOINED_MODULES new b)
 change_fits Forth old new a b = omega (arith, cut_rows_forth (without new old), few_kept new old, pairs_few PORTS old a, join_rows Forth (without old new), few_kept old new, pairs_few PORTS new b)
 change_fits Back old new a b = omega (arith, cut_rows_back (without new old), few_kept new old, pairs_few PORTS old a, join_rows Back (without old new), few_kept old new, pairs_few PORTS new b)
+change_fits (Board w) old new a b =
+    let most = length (links_of w) in
+    omega (arith, cut_rows_board w (without new old), few_kept new old, pairs_few most old a, join_rows (Board w) (without old new), few_kept old new, pairs_few most new b)
 
--- ---- the bytes pair by pair
+-- a board wires few modules
+few_wired : (w : BoardWiring) → length (links_of w) ≤ JOINED_MODULES
+few_wired w = (are_wired (links_of w) w.own).few
+
+-- no switch is sent more for a setting
+pub setting_bytes_fit : (w : Wiring) → longest_setting w ≤ WIDE_CHANGE_BYTES
+setting_bytes_fit Both = omega arith
+setting_bytes_fit Forth = omega arith
+setting_bytes_fit Back = omega arith
+setting_bytes_fit (Board w) = omega (arith, few_wired w)
+
+pub change_bytes_fit : (w : Wiring) → longest_change w ≤ WIDE_CHANGE_BYTES
+change_bytes_fit Both = omega arith
+change_bytes_fit Forth = omega arith
+change_bytes_fit Back = omega arith
+change_bytes_fit (Board w) = omega (arith, few_wired w)
 
 -- ---- the enquiries
 

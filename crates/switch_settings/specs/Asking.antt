@@ -27,8 +27,8 @@ abbrev pub asked : Chip → List ℕ → List Passing
 asked chip replies = conversed chip all_enquiries replies
 
 -- the one switch of a rack is set, and asked
-abbrev pub set_one : Option (List Pair) → List Pair → List ℕ → List Passing
-set_one standing pairs replies = turned A Both standing pairs ++ asked A replies
+abbrev pub set_one : Wiring → Option (List Pair) → List Pair → List ℕ → List Passing
+set_one wiring standing pairs replies = turned A wiring standing pairs ++ asked A replies
 
 -- both switches of a wider rack are set, and then asked
 abbrev pub set_both : Option (List Pair) → List Pair → List ℕ → List ℕ → List Passing
@@ -37,12 +37,12 @@ set_both standing pairs of_a of_b =
     ++ (turned B Back standing pairs ++ (asked A of_a ++ asked B of_b))
 
 -- the one switch was set and asked, and each output replied what the pairs call for
-pub record OneStands (standing : Option (List Pair)) (pairs : List Pair)
+pub record OneStands (wiring : Wiring) (standing : Option (List Pair)) (pairs : List Pair)
     (old new : Option (List Passing)) : Type 0 where
   pub replies : List ℕ
   pub all : length replies ≡ PORTS
-  pub agree : AllAgree (switch_of Both pairs) replies
-  pub passed : Passes old new (set_one standing pairs replies)
+  pub agree : AllAgree (switch_of wiring pairs) replies
+  pub passed : Passes old new (set_one wiring standing pairs replies)
 
 -- both switches were set and asked, and each output replied what the pairs call for
 pub record BothStand (standing : Option (List Pair)) (pairs : List Pair)
@@ -58,17 +58,17 @@ pub record BothStand (standing : Option (List Pair)) (pairs : List Pair)
 -- the switches of a rack of so many modules were set and asked, and replied as the pairs call for
 pub record HaveReplied (modules : ℕ) (standing : Option (List Pair)) (pairs : List Pair)
     (old new : Option (List Passing)) : Type 0 where
-  pub narrow : modules ≤ JOINED_MODULES → OneStands standing pairs old new
+  pub narrow : modules ≤ JOINED_MODULES → OneStands Both standing pairs old new
   pub wide : JOINED_MODULES < modules → BothStand standing pairs old new
 
 -- the one switch was set and asked, and the output of this number is the first that didn't reply
 -- what the pairs call for
-pub record OneDisagrees (standing : Option (List Pair)) (pairs : List Pair) (number : ℕ)
-    (old new : Option (List Passing)) : Type 0 where
+pub record OneDisagrees (wiring : Wiring) (standing : Option (List Pair)) (pairs : List Pair)
+    (number : ℕ) (old new : Option (List Passing)) : Type 0 where
   pub replies : List ℕ
   pub all : length replies ≡ PORTS
-  pub differ : IsDisagreementAt A (switch_of Both pairs) replies number
-  pub passed : Passes old new (set_one standing pairs replies)
+  pub differ : IsDisagreementAt A (switch_of wiring pairs) replies number
+  pub passed : Passes old new (set_one wiring standing pairs replies)
 
 -- the same of both switches, of which the first is judged first
 pub record BothDisagree (standing : Option (List Pair)) (pairs : List Pair) (number : ℕ)
@@ -84,11 +84,11 @@ pub record BothDisagree (standing : Option (List Pair)) (pairs : List Pair) (num
   pub passed : Passes old new (set_both standing pairs of_a of_b)
 
 -- the port failed while the one switch was set, or while it was asked
-abbrev pub OneBreaksOff : Option (List Pair) → List Pair → Option (List Passing)
+abbrev pub OneBreaksOff : Wiring → Option (List Pair) → List Pair → Option (List Passing)
     → Option (List Passing) → Type 0
-OneBreaksOff standing pairs old new =
-    PassesFront A (turning Both standing pairs) old new
-    ⊎ ((mid : Option (List Passing)) × Passes old mid (turned A Both standing pairs)
+OneBreaksOff wiring standing pairs old new =
+    PassesFront A (turning wiring standing pairs) old new
+    ⊎ ((mid : Option (List Passing)) × Passes old mid (turned A wiring standing pairs)
     × PassesFront A all_enquiries mid new)
 
 -- the port failed while one of both switches was set, or asked
@@ -106,12 +106,19 @@ BothBreakOff standing pairs old new =
     ++ (turned B Back standing pairs ++ asked A of_a))
     × PassesFront B all_enquiries mid new)))
 
+-- what passed where the one switch couldn't be set for this cause
+abbrev pub OneHasPassedFor : Wiring → ConfigureFault → Option (List Pair) → List Pair
+    → Option (List Passing) → Option (List Passing) → Type 0
+OneHasPassedFor wiring Port standing pairs old new = OneBreaksOff wiring standing pairs old new
+OneHasPassedFor wiring (SwitchDisagrees number) standing pairs old new =
+    OneDisagrees wiring standing pairs number old new
+
 -- what passed where the switches of a rack of so many modules couldn't be set for this cause
 abbrev pub HavePassedFor : ℕ → ConfigureFault → Option (List Pair) → List Pair
     → Option (List Passing) → Option (List Passing) → Type 0
 HavePassedFor modules Port standing pairs old new =
-    (modules ≤ JOINED_MODULES → OneBreaksOff standing pairs old new)
+    (modules ≤ JOINED_MODULES → OneBreaksOff Both standing pairs old new)
     × (JOINED_MODULES < modules → BothBreakOff standing pairs old new)
 HavePassedFor modules (SwitchDisagrees number) standing pairs old new =
-    (modules ≤ JOINED_MODULES → OneDisagrees standing pairs number old new)
+    (modules ≤ JOINED_MODULES → OneDisagrees Both standing pairs number old new)
     × (JOINED_MODULES < modules → BothDisagree standing pairs number old new)

@@ -6,4 +6,5 @@ pub mod Tables
 pub mod Sending
 pub mod Answers
 pub mod Asking
+pub mod RackWirings
 pub mod Laws

@@ -3,14 +3,14 @@
 use Rattle.std.specs.Prelude.{◌≡◌, ◌+◌, ◌*◌, ℕ, List, map}
 use Rattle.std.specs.List.{range_with_len}
 use Rattle.c004_commands.specs.declared.command.Command.{Command}
-use Rattle.c004_commands.specs.declared.command.Command.TheVariants.{Enquire, Connect, Cut as CutOutput}
+use Rattle.c004_commands.specs.declared.command.Command.TheVariants.{Enquire, Connect, Cut as CutOutput, Join as JoinLinks, CutPair}
 use Rattle.c004_commands.specs.declared.command.TheConstants.{LONGEST_COMMAND}
 use Rattle.c004_commands.specs.declared.port.TheConstants.{PORTS}
 use Rattle.c004_commands.specs.Commands.{text, AreCommands}
 use Rattle.crossbar.specs.Switch.{Switch, after_all, enquiries}
 use Rattle.crossbar.specs.Pairs.{room_of, join, cut, without}
 use Rattle.crossbar.specs.declared.chip.Wiring.{Wiring}
-use Rattle.crossbar.specs.declared.chip.Wiring.TheVariants.{Both, Forth, Back}
+use Rattle.crossbar.specs.declared.chip.Wiring.TheVariants.{Both, Forth, Back, Board}
 use Rattle.crossbar.specs.declared.pair.Pair.{Pair}
 use Rattle.switch_settings.specs.declared.bytes.Way.{Way}
 use Rattle.switch_settings.specs.declared.bytes.Way.TheVariants.{Join, Cut}
@@ -19,6 +19,11 @@ use Rattle.switch_settings.specs.declared.bytes.Way.TheVariants.{Join, Cut}
 abbrev pub command_of : Way → Wiring → Pair → Command
 command_of Join wiring pair = join wiring pair
 command_of Cut wiring pair = cut wiring pair
+
+-- the command that joins two links, or parts them
+abbrev pub both_ways_command : Way → ℕ → ℕ → Command
+both_ways_command Join link1 link2 = JoinLinks link1 link2
+both_ways_command Cut link1 link2 = CutPair link1 link2
 
 -- the command that connects an output to an input, or disconnects it
 abbrev pub one_way_command : Way → ℕ → ℕ → Command
@@ -34,6 +39,7 @@ abbrev pub cut_bytes : Wiring → ℕ
 cut_bytes Both = LONGEST_COMMAND
 cut_bytes Forth = 2
 cut_bytes Back = 2
+cut_bytes (Board _) = LONGEST_COMMAND
 
 -- how many bytes the longest setting of a switch has
 abbrev pub longest_setting : Wiring → ℕ

@@ -6,11 +6,11 @@ ghost use Rattle.c004_commands.specs.Commands.{row, text};
 ghost use Rattle.crossbar.specs.Switch.{Switch};
 ghost use Rattle.crossbar.specs.Chips.{wide_wiring};
 ghost use Rattle.crossbar.specs.Pairs.{ArePairs, room_of, switch_of, setting, change, is_pair};
-ghost use Rattle.crossbar.specs.declared.chip.Wiring.TheVariants.{Both};
-ghost use Rattle.switch_settings.specs.Pairs.{command_of, commands_of, one_way_command, longest_setting, longest_change, Turns, all_enquiries};
+ghost use Rattle.crossbar.specs.declared.chip.Wiring.TheVariants.{Both, Board};
+ghost use Rattle.switch_settings.specs.Pairs.{command_of, commands_of, both_ways_command, one_way_command, longest_setting, longest_change, Turns, all_enquiries};
 
 use c004_commands::{Command, LONGEST_COMMAND, PORTS, PortNo, write};
-use crossbar::{Chip, JOINED_MODULES, Pair, Wiring, laws};
+use crossbar::{BoardWiring, Chip, JOINED_MODULES, Pair, Wiring, laws};
 
 /// How many bytes the longest change has where one switch joins all modules, 97: three for each
 /// pair that goes, three for each pair that comes, and one for the end of the sequence.
@@ -197,19 +197,29 @@ fn to_command(way: Way, wiring: Wiring, pair: Pair) -> Command
     ensures { result ≡ command_of way wiring pair }
 {
     match wiring {
-        Wiring::Both => both_ways(way, pair),
+        Wiring::Both => both_ways(way, pair.initiator, JOINED_MODULES + pair.responder),
         Wiring::Forth => one_way(way, pair.initiator, pair.responder),
         Wiring::Back => one_way(way, pair.responder, pair.initiator),
+        Wiring::Board(board) => on_board(way, &board, pair),
     }
 }
 
-/// The command that joins or parts both ends of a pair.
-fn both_ways(way: Way, pair: Pair) -> Command
-    requires { (pair.initiator < JOINED_MODULES) × (pair.responder < JOINED_MODULES) }
-    ensures { result ≡ command_of way Both pair }
+/// The command that joins or parts both ends of a pair where a board has them.
+fn on_board(way: Way, board: &BoardWiring, pair: Pair) -> Command
+    requires { (pair.initiator < room_of (Board board.now)) × (pair.responder < room_of (Board board.now)) }
+    ensures { result ≡ command_of way (Board board.now) pair }
 {
-    let link1 = port(pair.initiator);
-    let link2 = port(JOINED_MODULES + pair.responder);
+    let initiator = board.links(pair.initiator as usize);
+    let responder = board.links(pair.responder as usize);
+    both_ways(way, initiator.link0, responder.link3)
+}
+
+/// The command that joins two links, or parts them.
+fn both_ways(way: Way, link1: u8, link2: u8) -> Command
+    requires { (link1 < PORTS) × (link2 < PORTS) }
+    ensures { result ≡ both_ways_command way link1 link2 }
+{
+    let (link1, link2) = (port(link1), port(link2));
     match way {
         Way::Join => Command::Join { link1, link2 },
         Way::Cut => Command::CutPair { link1, link2 },

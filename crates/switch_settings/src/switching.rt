@@ -8,10 +8,12 @@ ghost use Rattle.crossbar.specs.Chips.{put_switch, switch_at};
 ghost use Rattle.crossbar.specs.Port.{IsConversation};
 ghost use Rattle.crossbar.specs.Pairs.{ArePairs, room_of, ends, switch_of};
 ghost use Rattle.crossbar.specs.Traffic.{Passes, PassesFront};
-ghost use Rattle.crossbar.specs.declared.chip.Wiring.TheVariants.{Both};
+ghost use Rattle.crossbar.specs.declared.chip.Chip.TheVariants.{A};
+ghost use Rattle.crossbar.specs.declared.chip.Wiring.TheVariants.{Both, Board};
+ghost use Rattle.crossbar.specs.declared.switch.TheConstants.{JOINED_MODULES};
 ghost use Rattle.switch_settings.specs.Answers.{Agrees, AllAgree, IsFirstDisagreement, IsDisagreementAt, IsMisset, AreSetTo, IsConfigureFault, IsStandingAt, AreStanding, TurnFrom};
-ghost use Rattle.switch_settings.specs.Asking.{turned, asked, HaveReplied, HavePassedFor};
-ghost use Rattle.switch_settings.specs.Pairs.{longest_change, all_enquiries};
+ghost use Rattle.switch_settings.specs.Asking.{turned, asked, HaveReplied, HavePassedFor, OneStands, OneHasPassedFor};
+ghost use Rattle.switch_settings.specs.Pairs.{longest_setting, longest_change, all_enquiries};
 ghost use Rattle.switch_settings.specs.Sending.{turning};
 ghost use Rattle.switch_settings.specs.declared.fault.ConfigureFault.TheVariants.{Port};
 
@@ -19,15 +21,47 @@ use crate::bytes::{WIDE_CHANGE_BYTES, enquiry_bytes, put_change, put_setting};
 use crate::fault::ConfigureFault;
 use crate::pair_list::PairList;
 use c004_commands::{OutputState, PORTS};
-use crossbar::{Chip, ConfigPort, JOINED_MODULES, Pair, Wiring};
+use crossbar::{BoardWiring, Chip, ConfigPort, JOINED_MODULES, Pair, Wiring};
 
 /// How many outputs a switch has to ask.
 const OUTPUTS: usize = PORTS as usize;
 
+/// Sets the one switch of a rack to the pairs, which is the first, from the pairs that stand if
+/// they are known, and asks all its outputs whether it is so set. An output is known by the number
+/// that the switch gives it.
+pub(crate) fn configure_one<P: ConfigPort>(
+    port: &mut P,
+    wiring: Wiring,
+    standing: &Option<PairList>,
+    pairs: &[Pair],
+) -> Result<(), ConfigureFault>
+    requires pairs { ArePairs (room_of wiring) pairs.now }
+    requires standing { IsStandingAt A wiring (P.honest port.old) (P.switches port.old) standing.now }
+    ensures set { OnOk result (IsTrue (P.honest port.old) →
+        switch_at A (P.switches port.new) ≡ switch_of wiring pairs.now) }
+    ensures fault { IfErr result (λ fault.
+        IsConfigureFault JOINED_MODULES (P.failures port.old) (P.failures port.new)
+        (P.honest port.old) fault) }
+    ensures counted { P.failures port.old ≤ P.failures port.new }
+    ensures unfailed { OnOk result (P.failures port.new ≡ P.failures port.old) }
+    ensures honesty { P.honest port.new ≡ P.honest port.old }
+    // It was sent its bytes whole, and then replied at all outputs as the pairs call for; else what
+    // had passed as it stopped, and why.
+    ensures replied { OnOk result
+        (OneStands wiring standing.now pairs.now (P.passed port.old) (P.passed port.new)) }
+    ensures vain { IfErr result (λ fault.
+        OneHasPassedFor wiring fault standing.now pairs.now
+        (P.passed port.old) (P.passed port.new)) }
+{
+    send(port, Chip::A, wiring, standing, pairs)?;
+    let replies = enquire(port, Chip::A)?;
+    judge(Chip::A, wiring, pairs, &replies)
+}
+
 /// Sets the switches of a rack of so many modules to the pairs, from the pairs that stand if they
-/// are known, and asks all outputs whether they are so set. This is the one place that knows how
-/// many switches a rack has: what fits on one goes to the first alone, in both directions, and else
-/// the first has the way forth and the second the way back.
+/// are known, and asks all outputs whether they are so set. What fits on one switch goes to the
+/// first alone, in both directions, and else the first has the way forth and the second the way
+/// back.
 pub fn configure_switches<P: ConfigPort>(
     port: &mut P,
     modules: usize,
@@ -51,9 +85,7 @@ pub fn configure_switches<P: ConfigPort>(
         HavePassedFor modules fault standing.now pairs.now (P.passed port.old) (P.passed port.new)) }
 {
     if modules <= JOINED_MODULES as usize {
-        send(port, Chip::A, Wiring::Both, standing, pairs)?;
-        let of_a = enquire(port, Chip::A)?;
-        return judge(Chip::A, Wiring::Both, pairs, &of_a);
+        return configure_one(port, Wiring::Both, standing, pairs);
     }
     send(port, Chip::A, Wiring::Forth, standing, pairs)?;
     send(port, Chip::B, Wiring::Back, standing, pairs)?;
@@ -140,8 +172,9 @@ fn judge(
 /// [`wide_bytes`](crate::wide_bytes)). What stands in `out` behind them isn't said.
 ///
 /// Of both, the initiators have to ascend, the responders to be distinct, and all to be below the
-/// number of modules that can be wired so; `out` has to have room for the longest change, at most
-/// [`WIDE_CHANGE_BYTES`]. The time grows with the product of the numbers of pairs.
+/// number of modules that can be wired so; `out` has to have room for the longest setting and the
+/// longest change, at most [`WIDE_CHANGE_BYTES`]. The time grows with the product of the numbers of
+/// pairs.
 pub fn bytes_for(
     wiring: Wiring,
     standing: &Option<PairList>,
@@ -150,7 +183,8 @@ pub fn bytes_for(
 ) -> usize
     requires pairs { ArePairs (room_of wiring) pairs.now }
     requires standing { IfSome standing.now (λ old. ArePairs (room_of wiring) old) }
-    requires room { longest_change wiring ≤ length out.old }
+    requires setting_room { longest_setting wiring ≤ length out.old }
+    requires change_room { longest_change wiring ≤ length out.old }
     ensures bytes { take result out.new ≡ text (turning wiring standing.now pairs.now) }
     ensures quiet { IsConversation (take result out.new) 0 }
     ensures sets { TurnFrom wiring standing.now (take result out.new) pairs.now }
@@ -228,23 +262,34 @@ fn input_of(wiring: Wiring, pair: Pair, output: u8) -> Option<u8>
     ensures range { IfSome result (λ input. input < PORTS) }
 {
     match wiring {
-        Wiring::Both => input_of_both(pair, output),
+        Wiring::Both => input_of_two(pair.initiator, JOINED_MODULES + pair.responder, output),
         Wiring::Forth => input_at(pair.responder, pair.initiator, output),
         Wiring::Back => input_at(pair.initiator, pair.responder, output),
+        Wiring::Board(board) => input_on_board(&board, pair, output),
     }
 }
 
-/// The same where both ends of the pair are on the switch.
-fn input_of_both(pair: Pair, output: u8) -> Option<u8>
-    requires { (pair.initiator < JOINED_MODULES) × (pair.responder < JOINED_MODULES) }
-    ensures source { result ≡ map.find nat_cmp output (ends Both pair) }
+/// The same where a board has both ends of the pair.
+fn input_on_board(board: &BoardWiring, pair: Pair, output: u8) -> Option<u8>
+    requires { (pair.initiator < room_of (Board board.now)) × (pair.responder < room_of (Board board.now)) }
+    ensures source { result ≡ map.find nat_cmp output (ends (Board board.now) pair) }
     ensures range { IfSome result (λ input. input < PORTS) }
 {
-    let link3 = JOINED_MODULES + pair.responder;
-    if output == pair.initiator {
+    let initiator = board.links(pair.initiator as usize);
+    let responder = board.links(pair.responder as usize);
+    input_of_two(initiator.link0, responder.link3, output)
+}
+
+/// The input that two links call for at an output which feed each other.
+fn input_of_two(link0: u8, link3: u8, output: u8) -> Option<u8>
+    requires { (link0 < PORTS) × (link3 < PORTS) }
+    ensures source { result ≡ map.find nat_cmp output ((link0, link3) ∷ (link3, link0) ∷ []) }
+    ensures range { IfSome result (λ input. input < PORTS) }
+{
+    if output == link0 {
         return Some(link3);
     }
-    input_at(link3, pair.initiator, output)
+    input_at(link3, link0, output)
 }
 
 /// The input, if the output is the one that it feeds.

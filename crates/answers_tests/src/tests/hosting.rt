@@ -5,8 +5,8 @@ ghost use Rattle.exchange_limits.specs.declared.limits.TheConstants.{MAX_SESSION
 ghost use Rattle.session_answers.specs.HostAnswers.{seen_end, IsHostAnswer};
 ghost use Rattle.answers_tests.specs.Known.{known_clients};
 
+use batch_book::Book;
 use exchange_limits::WorkerCount;
-use module_memory::Rack;
 use session_answers::{AllThere, ClientStreams, Ending, Hosted, answer_host};
 use std::alloc::{AllocError, Global};
 use std::io;
@@ -64,8 +64,8 @@ fn host_known<R: Threads + Wait + Sync>(
     requires some { 1 ≤ length said.now }
     requires few { length said.now ≤ MAX_SESSIONS }
     ensures { IfOk result (λ hosted. IsHostAnswer (codes "1x1x2") None (known_clients said.now)
-        (map (seen_end (λ told. Some told.items)) hosted.endings.items) hosted.answer
-        hosted.rack) }
+        (map (seen_end (λ told. Some told.items)) hosted.endings.items) hosted.closing.answer
+        hosted.closing.book) }
 {
     let streams = KnownStreams { alloc, said };
     answer_host(rt, alloc, b"1x1x2", None, WorkerCount::ONE, &streams)
@@ -82,9 +82,9 @@ fn was_told(ending: &Ending<Vec<u8>>, told: &str) -> bool {
     }
 }
 
-/// Whether there is a rack, of which this is the image.
-fn is_left(rack: Option<Rack>, image: &[u8]) -> bool {
-    match rack.map(|rack| rack.image()) {
+/// Whether there is a book, and this is the image of its rack.
+fn is_left(book: Option<Book>, image: &[u8]) -> bool {
+    match book.map(|book| book.rack().image()) {
         Some(Ok(left)) => left.as_slice() == image,
         _ => false,
     }
@@ -98,13 +98,13 @@ fn are_hosted<R: Threads + Wait + Sync>(rt: &R, alloc: Global) -> bool {
         b"poke 0 80000804 000000bb\nbye\n",
     ];
     match host_known(rt, alloc, &said) {
-        Ok(hosted) => {
-            hosted.endings.len() == 2
-                && was_told(&hosted.endings[0], "poked\nword 000000aa\n")
-                && was_told(&hosted.endings[1], "poked\nbye\n")
-                && hosted.answer.text() == b"session 0 client\nsession 1 client\n".as_slice()
-                && hosted.answer.status() == 0
-                && is_left(hosted.rack, &[0xaa, 0, 0, 0, 0xbb, 0, 0, 0])
+        Ok(Hosted { closing, endings }) => {
+            endings.len() == 2
+                && was_told(&endings[0], "poked\nword 000000aa\n")
+                && was_told(&endings[1], "poked\nbye\n")
+                && closing.answer.text() == b"session 0 client\nsession 1 client\n".as_slice()
+                && closing.answer.status() == 0
+                && is_left(closing.book, &[0xaa, 0, 0, 0, 0xbb, 0, 0, 0])
         }
         Err(AllocError) => false,
     }

@@ -36,9 +36,9 @@ fn write_three<R: Threads + Wait + Sync>(rt: &R, alloc: Global) -> Result<Closin
 
 /// Whether the rack that is left has the words of all three, and its first words elsewhere.
 fn has_all_words<R: Threads + Wait + Sync>(rt: &R, alloc: Global) -> Result<bool, AllocError> {
-    let Closing { answer: _, rack } = write_three(rt, alloc)?;
-    match rack {
-        Some(rack) => Ok(rack.image()?.as_slice() == LEFT.as_slice()),
+    let Closing { answer: _, book } = write_three(rt, alloc)?;
+    match book {
+        Some(book) => Ok(book.rack().image()?.as_slice() == LEFT.as_slice()),
         None => Ok(false),
     }
 }

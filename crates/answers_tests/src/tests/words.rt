@@ -61,8 +61,12 @@ fn said_by(job: &Job) -> Said<'_> {
             source: ScheduleSource::File(file),
             ..
         } => Said::File(file.as_str()),
-        Job::Check { .. } | Job::Draw { .. } | Job::C004 | Job::Direct { .. } | Job::Talk { .. } =>
-            Said::Nothing,
+        Job::Check { .. }
+        | Job::Draw { .. }
+        | Job::C004
+        | Job::Direct { .. }
+        | Job::Talk { .. }
+        | Job::Replay { .. } => Said::Nothing,
     }
 }
 
@@ -126,6 +130,19 @@ fn words_name_schedules(rt: HostRuntime) {
         ("exchange drive --steady B P", Said::Steady),
         ("exchange drive B P Q --schedule S", Said::File("S")),
         ("exchange drive B P --schedule - --go-on", Said::File("-")),
+        (
+            "exchange drive B P --schedule - --wiring W --go-on",
+            Said::File("-"),
+        ),
+        (
+            "exchange drive B P --schedule S --wiring - --go-on",
+            Said::File("S"),
+        ),
+        (
+            "exchange drive - P --steady --wiring W --go-on",
+            Said::Steady,
+        ),
+        ("exchange drive B P --steady --wiring W", Said::Steady),
     ];
     assert!(rt; are_all_read_as(rt.alloc(), &rows));
 }
@@ -145,6 +162,11 @@ fn options_exclude_each_other(rt: HostRuntime) {
         "exchange drive - P --schedule - --go-on",
         "exchange drive - P",
         "exchange drive B P --schedule -",
+        "exchange drive B P --wiring -",
+        "exchange drive B P --schedule S --wiring -",
+        "exchange drive - P --wiring - --go-on",
+        "exchange drive - P --schedule S --wiring - --go-on",
+        "exchange drive B P --schedule - --wiring - --go-on",
         "exchange serve S A --image-out A",
     ] {
         let said = Said::Refused(ErrorKind::ArgumentConflict);

@@ -1,29 +1,44 @@
 use Rattle.std.proofs.Common.{refl, sym, ap}
 use Rattle.std.proofs.lemmas.Result.{IfOk-weaker}
-use Rattle.batch.specs.Extent.{widest}
+use Rattle.batch.specs.Extent.{Extent}
+use Rattle.board_wiring.specs.Boards.{extent_of}
+use Rattle.board_wiring.specs.Sources.{of_wiring}
+use Rattle.plan_answers.specs.Lent.{bytes_of}
 use Rattle.refusals.specs.Sources.{of_batch}
-use Rattle.drive_answers.specs.Answers.{IsSteadyBy, IsWrongBatch, IsTried, IsDriveAnswer, tried, wrong}
+use Rattle.drive_answers.specs.Answers.{IsSteadyBy, IsWrongBatch, rack_for, IsTried, IsDriveAnswer, tried, wrong, wiring_wrong, texts_wrong}
+use Rattle.drive_answers.proofs.Wirings.{board_of, fault_of}
 use Rattle.drive_answers.proofs.driving.answer_drive_steady.Goals as goal
 
-pub returns-in_ok-plan-in-Ok-clause-answer : goal.returns-in_ok-plan-in-Ok-clause-answer
-returns-in_ok-plan-in-Ok-clause-answer g c =
-    let plan = c.in_ok-plan-in-Ok.plan in
-    let its = c.in_ok-plan-in-Ok.ensures in
-    let text = c.args.batch.now in
-    let batch = c.in-Ok.batch in
-    let source : IsSteadyBy widest text batch c.schedule.result.now = record {
+pub returns-in-Err-clause-answer : goal.returns-in-Err-clause-answer
+returns-in-Err-clause-answer g c =
+    let fault = c.in-Err.fault in
+    let is = rw c.into.ensures at c.in_ok-refused-in-Err.ensures in
+    wrong (of_wiring fault) (wiring_wrong fault (fault_of c.args.wiring fault c.in-Err.ensures.fault) refl) is refl refl refl
+
+pub returns-in_ok-plan-in-Ok-read-clause-answer : goal.returns-in_ok-plan-in-Ok-read-clause-answer
+returns-in_ok-plan-in-Ok-read-clause-answer g c =
+    let plan = c.in_ok-plan-in-Ok-read.plan in
+    let its = c.in_ok-plan-in-Ok-read.ensures in
+    let board = c.in-Ok.board in
+    let batch = c.in-Ok-read.batch in
+    let settings = c.schedule.result.now in
+    let is_board = board_of c.args.wiring board c.in-Ok.ensures.board in
+    let source : IsSteadyBy (extent_of board) c.args.batch.now batch settings = record {
       plan = plan;
       of_batch = its.batch;
       of_settings = sym c.schedule.ensures.schedule;
-      denotes = rw its.batch c.in-Ok.ensures.batch;
+      denotes = rw its.batch (rw c.shape_of.ensures at c.in-Ok-read.ensures.batch);
       is = its.steady;
     } in
-    IfOk-weaker c.drive_over.result (IsTried g.Q.Ports.refuses g.S.Stage.hears batch c.schedule.result.now c.args.ports.now (g.Q.Ports.carried c.drive_over.new.ports) c.args.stage.now c.drive_over.new.stage)
-    (IsDriveAnswer g.Q.Ports.refuses g.S.Stage.hears (IsSteadyBy widest text) (IsWrongBatch widest text) c.args.ports.now c.drive_over.new.ports (g.Q.Ports.carried c.drive_over.new.ports) c.args.stage.now c.drive_over.new.stage)
-    (λ p is. tried batch c.schedule.result.now source is) c.drive_over.ensures.answer
+    let is = rw c.rack_of-rack.ensures.rack at c.drive_over.ensures.answer in
+    IfOk-weaker c.drive_over.result (IsTried g.Q.Ports.refuses g.Q.Ports.leads g.S.Stage.hears (rack_for board batch) batch settings c.args.ports.now (g.Q.Ports.carried c.drive_over.new.ports) (g.Q.Ports.opened c.args.ports.now) (g.Q.Ports.opened c.drive_over.new.ports) c.args.stage.now c.drive_over.new.stage)
+    (IsDriveAnswer g.Q.Ports.refuses g.Q.Ports.leads g.S.Stage.hears (λ (shape : Extent). IsSteadyBy shape c.args.batch.now) (λ (shape : Extent). IsWrongBatch shape c.args.batch.now) (bytes_of c.args.wiring) c.args.ports.now c.drive_over.new.ports (g.Q.Ports.carried c.drive_over.new.ports) (g.Q.Ports.opened c.args.ports.now) (g.Q.Ports.opened c.drive_over.new.ports) c.args.stage.now c.drive_over.new.stage)
+    (λ p driven. tried board batch settings is_board source driven) is
 
-pub returns-in_ok-refused-in-Err-clause-answer : goal.returns-in_ok-refused-in-Err-clause-answer
-returns-in_ok-refused-in-Err-clause-answer g c =
-    let fault = c.in-Err.fault in
-    let is = rw c.into.ensures at c.in_ok-refused-in-Err.ensures in
-    wrong (of_batch fault) (fault, c.in-Err.ensures.fault (λ e. is.0 (ap of_batch e)), refl) is refl refl
+pub returns-in_ok-refused-in-Err-read-clause-answer : goal.returns-in_ok-refused-in-Err-read-clause-answer
+returns-in_ok-refused-in-Err-read-clause-answer g c =
+    let fault = c.in-Err-read.fault in
+    let board = c.in-Ok.board in
+    let is = rw c.into-in-Err-read.ensures at c.in_ok-refused-in-Err-read.ensures in
+    let first = rw c.shape_of.ensures at (c.in-Err-read.ensures.fault (λ e. is.0 (ap of_batch e))) in
+    wrong (of_batch fault) (texts_wrong board (board_of c.args.wiring board c.in-Ok.ensures.board) (fault, first, refl)) is refl refl refl

@@ -14,6 +14,7 @@ returns-in-Ok-clause-answer g c =
       a.written,
       same_answer (IsSomeC004 (g.I.Read.remaining c.args.input.now) a.replies) _ _ (ap (λ done. done.answer) c.alone.ensures)
           (a.came, a.told, _, c.answer_commands.new.end, a.read, ran, c.done.ensures.text ∙ c.new.ensures.items, inl (c.in-Ok.ensures.1, c.done.ensures.status)),
+      tt,
     )
 
 pub returns-in-Err-Read-clause-answer : goal.returns-in-Err-Read-clause-answer
@@ -24,6 +25,7 @@ returns-in-Err-Read-clause-answer g c =
       a.written,
       same_answer (IsSomeC004 (g.I.Read.remaining c.args.input.now) a.replies) _ _ (ap (λ done. done.answer) c.alone-in-Err-Read.ensures)
           (a.came, a.told, _, c.answer_commands.new.end, a.read, ran, c.failed.ensures.text ∙ c.new-in-Err-Read.ensures.items, inr c.failed.ensures.status),
+      tt,
     )
 
 pub returns-in-Err-Read-clause-beside : goal.returns-in-Err-Read-clause-beside
@@ -34,4 +36,4 @@ returns-in-Err-Read-clause-beside g c =
 pub returns-in-Err-Write-clause-answer : goal.returns-in-Err-Write-clause-answer
 returns-in-Err-Write-clause-answer g c =
     let w : HasAnsweredButLast (g.I.Read.remaining c.args.input.now) (g.I.Read.remaining c.answer_commands.new.reader) (g.O.Write.contents c.args.out.now) (g.O.Write.contents c.answer_commands.new.writer) (g.E.Write.contents c.args.err.now) (g.E.Write.contents c.answer_commands.new.err) c.new-end.result c.answer_commands.new.end = rw c.in-Err-Write.field-0-is at c.in-Err-Write.ensures in
-    (w.answered.replies ++ w.cut.cut.front, Appends-trans _ _ _ _ _ w.answered.written w.cut.cut.appended, tt)
+    (w.answered.replies ++ w.cut.cut.front, Appends-trans _ _ _ _ _ w.answered.written w.cut.cut.appended, tt, tt)

@@ -6,7 +6,7 @@ use Rattle.exchange.proofs.jobs.host.Goals as goal
 pub returns-clause-answer : goal.returns-clause-answer
 returns-clause-answer g c =
     let rack = c.args.rack.now in
-    let left = c.in_ok-hosted.hosted.rack in (
+    let left = c.in_ok-hosted.hosted.closing.book in (
       left,
       same_answer (λ p. IsSomeHost (g.I.Read.remaining c.args.input.now) rack c.args.clients.now p left) _ _ c.closed.ensures.answer (
         option_map (λ file. file.items) c.in_ok-words.words,

@@ -14,7 +14,7 @@ returns-clause-answer g c =
     let now = g.I.Read.remaining c.read_image.new.input in
     let rack = c.args.rack.now in
     let files = map (λ file. file.items) c.in_ok-files.files.items in
-    let left = c.in_ok-closing.closing.rack in
+    let left = c.in_ok-closing.closing.book in
     let scripts = all_content_later old now c.args.scripts.now files (λ k below is. c.read_image.ensures.unread (image_is_other rack.image c.args.scripts.now k c.requires.input below is)) (rw c.as_slice.ensures at c.in_ok-files.ensures.content) in (
       left,
       same_answer (λ p. IsSomeServe old rack c.args.scripts.now p left) _ _ c.closed.ensures.answer (

@@ -1,7 +1,7 @@
 use Rattle.std.proofs.Common.{Err, inl, inr, refl}
 use Rattle.std.proofs.KnownBytes.{Appends-nil}
 use Rattle.command_words.specs.declared.jobs.ArgumentsFault.TheVariants as arguments_fault
-use Rattle.exchange.specs.Outcomes.{IsNoAnswer}
+use Rattle.exchange.specs.Outcomes.{IsNoAnswer, MayStandBehind}
 use Rattle.exchange.specs.declared.notes.NoAnswer.TheVariants.{Refused}
 use Rattle.exchange.proofs.Told.{answered, asked, faulty, not_answered, without_arguments}
 use Rattle.exchange.proofs.responding.print_response.Goals as goal
@@ -16,8 +16,9 @@ pub returns-in-Err-Refused : goal.returns-in-Err-Refused
 returns-in-Err-Refused g c =
     let t = c.in-Err-Refused.ensures.response in
     let note : IsNoAnswer (Refused c.in-Err-Refused.why c.in-Err-Refused.note) = rw c.in-Err-Refused.field-0-is at t.4 in
+    let none : MayStandBehind c.in-Ok.request.job t.0 (Refused c.in-Err-Refused.why c.in-Err-Refused.note) = rw c.in-Err-Refused.field-0-is at t.5 in
     asked c.refuse_noted.result _ _ c.in-Ok.request _ c.in-Ok.ensures.request
-    (not_answered c.refuse_noted.result _ c.in-Ok.request t.0 c.in-Err-Refused.why c.in-Err-Refused.note _ _ _ _ _ _ t.1 t.2 note c.in-Err-Refused.ensures.beside c.refuse_noted.ensures.printed c.refuse_noted.ensures.told)
+    (not_answered c.refuse_noted.result _ c.in-Ok.request t.0 c.in-Err-Refused.why c.in-Err-Refused.note _ _ _ _ _ _ t.1 t.2 none note c.in-Err-Refused.ensures.beside c.refuse_noted.ensures.printed c.refuse_noted.ensures.told)
 
 pub returns-in-Err-NoMemory : goal.returns-in-Err-NoMemory
 returns-in-Err-NoMemory g c = faulty c.refuse.result _ _ arguments_fault.NoMemory _ tt (without_arguments c.refuse.result (g.I.Read.remaining c.args.input.now) (g.O.Write.contents c.args.out.now) (g.O.Write.contents c.refuse.new.out) (g.E.Write.contents c.args.err.now) c.refuse.ensures)

@@ -1,21 +1,26 @@
-use Rattle.std.proofs.Common.{ap}
+use Rattle.std.proofs.Common.{Option}
 use Rattle.std.proofs.lemmas.Result.{IfOk-weaker}
-use Rattle.batch.specs.Extent.{widest}
-use Rattle.refusals.specs.Sources.{of_batch}
+use Rattle.board_wiring.specs.Sources.{of_wiring}
+use Rattle.board_wiring.proofs.ReadBoards.{wires_some}
+use Rattle.crossbar.specs.declared.board.BoardWiring.{BoardWiring}
+use Rattle.plan_answers.specs.Lent.{bytes_of}
 use Rattle.plan_answers.specs.Refusals.{Refuses}
-use Rattle.rack_answers.specs.Switching.{TellsSwitch, IsSwitchedSteadily, switched, unplanned}
+use Rattle.rack_answers.specs.Switching.{IsOn, IsSwitchedSteadily}
+use Rattle.rack_answers.proofs.OnBoards.{on_board, on_fault}
 use Rattle.rack_answers.proofs.switching.answer_switch_steady.Goals as goal
 
-pub returns-in_ok-plan-in-Ok : goal.returns-in_ok-plan-in-Ok
-returns-in_ok-plan-in-Ok c =
-    let plan = c.in_ok-plan-in-Ok.plan in
-    let its = c.in_ok-plan-in-Ok.ensures in
-    let tells = rw (← its.batch, c.schedule.ensures.schedule) at c.switch_answer.ensures in
-    IfOk-weaker c.switch_answer.result (TellsSwitch plan.batch plan.settings) (IsSwitchedSteadily widest c.args.batch.now)
-    (λ p told. switched plan (rw its.batch c.in-Ok.ensures.batch) its.steady told) tells
+pub switch_steady-requires : goal.switch_steady-requires
+switch_steady-requires c = record { some = wires_some _ c.in-Ok.board c.in-Ok.ensures.board }
+
+pub returns-in-Ok : goal.returns-in-Ok
+returns-in-Ok c =
+    let wiring = bytes_of c.args.wiring in
+    IfOk-weaker c.switch_steady.result (IsSwitchedSteadily c.in-Ok.board c.args.batch.now) (IsOn (λ (board : Option BoardWiring). IsSwitchedSteadily board c.args.batch.now) wiring)
+    (λ p is. on_board (λ (board : Option BoardWiring). IsSwitchedSteadily board c.args.batch.now) c.args.wiring c.in-Ok.board p c.in-Ok.ensures.board is) c.switch_steady.ensures
 
 pub returns-in-Err : goal.returns-in-Err
 returns-in-Err c =
+    let wiring = bytes_of c.args.wiring in
     let refuses = rw c.into.ensures at c.refused.ensures in
-    IfOk-weaker c.refused.result (Refuses (of_batch c.in-Err.fault)) (IsSwitchedSteadily widest c.args.batch.now)
-    (λ p is. unplanned c.in-Err.fault (c.in-Err.ensures.fault (λ e. is.0 (ap of_batch e))) is.1) refuses
+    IfOk-weaker c.refused.result (Refuses (of_wiring c.in-Err.fault)) (IsOn (λ (board : Option BoardWiring). IsSwitchedSteadily board c.args.batch.now) wiring)
+    (λ p is. on_fault (λ (board : Option BoardWiring). IsSwitchedSteadily board c.args.batch.now) c.args.wiring c.in-Err.fault p c.in-Err.ensures.fault is.1) refuses

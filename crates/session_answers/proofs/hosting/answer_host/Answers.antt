@@ -10,5 +10,5 @@ returns-in-Ok g c = IfOk-weaker c.host_clients.result _ _ (λ h is. opened c.in-
 
 pub returns-in-Err : goal.returns-in-Err
 returns-in-Err g c =
-    let none : IfOk c.refused.result (λ h. Refuses c.in-Err.refusal h.answer × (h.endings.items ≡ [])) = both c.refused.result c.refused.ensures.refusal c.refused.ensures.none (λ h is ends. (is, ends)) in
-    both c.refused.result none c.refused.ensures.rack (λ h is left. refused c.in-Err.refusal (c.in-Err.ensures.wrong is.0.0) is.0 (rw is.1 refl) left)
+    let none : IfOk c.refused.result (λ h. Refuses c.in-Err.refusal h.closing.answer × (h.endings.items ≡ [])) = both c.refused.result c.refused.ensures.refusal c.refused.ensures.none (λ h is ends. (is, ends)) in
+    both c.refused.result none c.refused.ensures.book (λ h is left. refused c.in-Err.refusal (c.in-Err.ensures.wrong is.0.0) is.0 (rw is.1 refl) left)

@@ -9,7 +9,7 @@ returns-then-is_same g c =
     let e = c.in-Ok.ensures in
     let led : IsReplay (opened c.in-Ok.closed.book.opening) c.in-Ok.closed.book.history c.in-Ok.closed.book.machine = search rules in
     let kept : c.opening.result.now ≡ c.in-Ok.closed.book.opening = search rules in
-    one_history c.args.opening.now c.into_rack.result c.args.seats.items c.in-Ok.closed e.0 e.1 e.2 led (sym kept ∙ c.is_same.ensures.same c.if-is_same.true) c.into_rack.ensures
+    one_history c.args.opening.now c.args.seats.items c.in-Ok.closed e.0 e.1 e.2 led (sym kept ∙ c.is_same.ensures.same c.if-is_same.true)
 
 pub returns-else-is_same : goal.returns-else-is_same
 returns-else-is_same g c =

@@ -10,12 +10,12 @@ returns-in_default g c =
 
 pub returns-then-failed : goal.returns-then-failed
 returns-then-failed g c =
-    let one : HaveOneHistory c.args.opening.now (map part_of c.args.seats.items) c.in-Some.rack = search rules in
+    let one : HaveOneHistory c.args.opening.now (map part_of c.args.seats.items) c.in-Some.book = search rules in
     let status : c.failed-answer.result.status ≡ status_at c.args.failed = rw c.if-failed.true c.failed-answer.ensures.status in
-    agree c.in-Some.rack one refl c.failed-answer.ensures.text status
+    agree c.in-Some.book one refl c.failed-answer.ensures.text status
 
 pub returns : goal.returns
 returns g c =
-    let one : HaveOneHistory c.args.opening.now (map part_of c.args.seats.items) c.in-Some.rack = search rules in
+    let one : HaveOneHistory c.args.opening.now (map part_of c.args.seats.items) c.in-Some.book = search rules in
     let status : c.done-answer.result.status ≡ status_at c.args.failed = rw c.if-failed.false c.done-answer.ensures.status in
-    agree c.in-Some.rack one refl c.done-answer.ensures.text status
+    agree c.in-Some.book one refl c.done-answer.ensures.text status

@@ -8,4 +8,4 @@ returns-in-Ok g c = IfOk-weaker c.serve_scripts.result _ _ (λ closing is. serve
 
 pub returns-in-Err : goal.returns-in-Err
 returns-in-Err g c =
-    both c.refused.result c.refused.ensures.answer c.refused.ensures.rack (λ closing is left. refused c.in-Err.refusal (c.in-Err.ensures.wrong is.0) is left)
+    both c.refused.result c.refused.ensures.answer c.refused.ensures.book (λ closing is left. refused c.in-Err.refusal (c.in-Err.ensures.wrong is.0) is left)

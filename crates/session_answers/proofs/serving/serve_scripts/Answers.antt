@@ -15,6 +15,6 @@ returns g c =
     let framed : c.in_ok-text.text.items ≡ sessions_text sessions = rw c.as_slice.ensures.value at c.in_ok-text.ensures in
     let fails : c.has_fault-failed.result ≡ has_fault sessions = rw c.as_slice-2.ensures.value at c.has_fault-failed.ensures in
     let parts : map (λ (t : Transcript). t.part) sessions ≡ map part_of seats = parts_are ss seats c.in_ok-seats.ensures in
-    IfOk-weaker c.finish.result (λ closing. IsClosing c.in_ok-opening.opening (map part_of seats) c.in_ok-text.text.items c.has_fault-failed.result closing.answer closing.rack)
-    (λ closing. AreServed c.args.rack (map (λ s. s.items) c.args.scripts.now) closing.answer closing.rack)
+    IfOk-weaker c.finish.result (λ closing. IsClosing c.in_ok-opening.opening (map part_of seats) c.in_ok-text.text.items c.has_fault-failed.result closing.answer closing.book)
+    (λ closing. AreServed c.args.rack (map (λ s. s.items) c.args.scripts.now) closing.answer closing.book)
     (λ closing closed. (sessions, rw c.in_ok-exchange.ensures.shape at c.in_ok-sessions.ensures.of_scripts, rw (c.in_ok-opening.ensures, framed, fails, sym parts) at closed)) c.finish.ensures

@@ -3,7 +3,7 @@ use Rattle.std.proofs.KnownBytes.{Appends-nil}
 use Rattle.std.proofs.lemmas.Result.{IfOk-weaker}
 use Rattle.plan_answers.specs.Lent.{bytes_of}
 use Rattle.session_answers.specs.Talking.{talked, refused}
-use Rattle.session_answers.proofs.Openings.{not_wrong_rack}
+use Rattle.rack_answers.proofs.Openings.{not_wrong_rack}
 use Rattle.session_answers.proofs.Sessions.{both}
 use Rattle.session_answers.proofs.talking.answer_talk.Goals as goal
 
@@ -22,5 +22,5 @@ pub returns-in-Err-clause-answer : goal.returns-in-Err-clause-answer
 returns-in-Err-clause-answer g c = (
   [],
   Appends-nil _,
-  both c.refused.result c.refused.ensures.answer c.refused.ensures.rack (λ closing is left. refused c.in-Err.refusal (c.in-Err.ensures.wrong is.0) is (refl, refl) left),
+  both c.refused.result c.refused.ensures.answer c.refused.ensures.book (λ closing is left. refused c.in-Err.refusal (c.in-Err.ensures.wrong is.0) is (refl, refl) left),
 )

@@ -31,10 +31,10 @@ returns-clause-session g c =
     let fails : failed ≡ is_some fault = search rules in (
       s.0,
       s.1,
-      IfOk-weaker c.finish.result (λ closing. IsClosing opening (map part_of c.push.new.self.items) line failed closing.answer closing.rack)
-          (λ closing. HasTalked c.args.rack (g.I.Read.remaining c.args.reader.now) (g.I.Read.remaining c.serve_client-seat.new.reader) s.0 closing.answer closing.rack)
+      IfOk-weaker c.finish.result (λ closing. IsClosing opening (map part_of c.push.new.self.items) line failed closing.answer closing.book)
+          (λ closing. HasTalked c.args.rack (g.I.Read.remaining c.args.reader.now) (g.I.Read.remaining c.serve_client-seat.new.reader) s.0 closing.answer closing.book)
           (λ closing closed.
-          has_talked opening c.args.rack x rest c.in-Some.seat back _ _ line s.0 fault failed one c.serve_client-seat.ensures.same c.in_ok-exchange.ensures.shape c.in_ok-opening.ensures (c.in_ok-line.ensures.items ∙ c.end_line.ensures) fails s.2 closing.answer closing.rack (rw pushed at closed)) c.finish.ensures,
+          has_talked opening c.args.rack x rest c.in-Some.seat back _ _ line s.0 fault failed one c.serve_client-seat.ensures.same c.in_ok-exchange.ensures.shape c.in_ok-opening.ensures (c.in_ok-line.ensures.items ∙ c.end_line.ensures) fails s.2 closing.answer closing.book (rw pushed at closed)) c.finish.ensures,
     )
 
 pub returns-in_err-opening-clause-session : goal.returns-in_err-opening-clause-session

@@ -1,8 +1,7 @@
-use Rattle.std.proofs.Common.{◌≡◌, List, ◌∙◌, subst, IsTrue}
-use Rattle.crossbar.specs.Pairs.{AreSwitchesOf}
-use Rattle.crossbar.specs.declared.pair.Pair.{Pair}
+use Rattle.std.proofs.Common.{◌≡◌, ◌∙◌}
+use Rattle.switch_settings.specs.RackWirings.{wired_in}
 use Rattle.switch_settings.specs.Sending.{pairs_at}
-use Rattle.switch_driver.proofs.Settings.{pairs_are, stood, known_next, one_more}
+use Rattle.switch_driver.proofs.Settings.{pairs_are, stood, known_next, one_more, set_later}
 use Rattle.switch_driver.proofs.driving.drive.Goals as goal
 
 pub loop-setting-preserved : goal.loop-setting-preserved
@@ -17,12 +16,12 @@ loop-setting-preserved g c =
     let are : pairs ≡ pairs_at batch settings n = pairs_are batch settings n c.numbers_of_setting-numbers.result.now pairs numbers c.of_setting-pairs.ensures.members in
     let sliced : c.as_slice.result.now ≡ pairs_at batch settings n = c.as_slice.ensures.pairs ∙ are in
     record {
-      stood = one_more g.S.Stage.hears c.args.modules batch settings n _ _ c.args.stage.now (g.P.ConfigPort.passed c.loop-setting.port) c.loop-setting.stage _ _ numbers invariant.stood
-          (stood c.args.modules batch settings n c.loop-setting.standing c.as_slice.result.now _ _ invariant.known sliced given.replied) c.in-GoOn.ensures;
+      stood = one_more g.S.Stage.hears c.args.rack batch settings n _ _ c.args.stage.now (g.P.ConfigPort.passed c.loop-setting.port) c.loop-setting.stage _ _ numbers invariant.stood
+          (stood c.args.rack batch settings n c.loop-setting.standing c.as_slice.result.now _ _ invariant.known sliced given.replied) c.in-GoOn.ensures;
       known = known_next batch settings n pairs are;
       standing = (
-        c.of_setting-pairs.ensures.pairs c.args.modules c.requires.modules,
-        λ h. subst (λ (ps : List Pair). AreSwitchesOf c.args.modules ps (g.P.ConfigPort.switches c.configure_switches.new.port)) c.as_slice.ensures.pairs (given.set (subst IsTrue given.honesty h)),
+        c.of_setting-pairs.ensures.pairs (wired_in c.args.rack) c.requires.modules,
+        set_later c.args.rack _ _ _ _ _ c.as_slice.ensures.pairs given.honesty given.set,
       );
       unfailed = given.unfailed ∙ invariant.unfailed;
       honesty = given.honesty ∙ invariant.honesty;

@@ -3,10 +3,16 @@ use Rattle.crossbar.specs.Chips.{switch_at, CarriesOutAt}
 use Rattle.crossbar.specs.Pairs.{switch_of}
 use Rattle.crossbar.specs.Traffic.{Passes, HaveConversed, BreaksOff, conversed}
 use Rattle.switch_settings.specs.Sending.{turning}
-use Rattle.switch_settings.proofs.PairCommands.{turning_commands}
+use Rattle.switch_settings.proofs.PairCommands.{turning_commands, setting_bytes_fit, change_bytes_fit}
 use Rattle.switch_settings.proofs.Replies.{some_too, sent}
 use Rattle.switch_settings.proofs.Asking.{no_items}
 use Rattle.switch_settings.proofs.switching.send.Goals as goal
+
+pub bytes_for-number-requires-clause-setting_room : goal.bytes_for-number-requires-clause-setting_room
+bytes_for-number-requires-clause-setting_room g c = setting_bytes_fit c.args.wiring
+
+pub bytes_for-number-requires-clause-change_room : goal.bytes_for-number-requires-clause-change_room
+bytes_for-number-requires-clause-change_room g c = change_bytes_fit c.args.wiring
 
 pub returns-clause-set : goal.returns-clause-set
 returns-clause-set g c = λ h.

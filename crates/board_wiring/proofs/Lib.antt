@@ -1,0 +1,3 @@
+mod Lines
+mod OneReading
+pub mod ReadBoards

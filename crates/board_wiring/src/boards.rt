@@ -1,0 +1,33 @@
+//! A rack that may be a board of its own wiring.
+
+ghost use Rattle.std.specs.Prelude.{◌≡◌, IfErr, IfOk, option_map};
+ghost use Rattle.board_wiring.specs.Boards.{IsBoardOf, IsMiswired, WiresSome, extent_of};
+
+use crate::fault::WiringFault;
+use crate::reading::read_wiring;
+use batch::{MAX_BLOCKS, MAX_WORDS, Shape};
+use crossbar::BoardWiring;
+
+/// The board of which a text says the wiring, as [`read_wiring`] reads it, or none where there is
+/// no text; or the text's first line at fault.
+pub fn read_board(wiring: Option<&[u8]>) -> Result<Option<BoardWiring>, WiringFault>
+    ensures board { IfOk result (IsBoardOf (option_map (λ text. text.now) wiring.entry)) }
+    ensures fault { IfErr result (IsMiswired (option_map (λ text. text.now) wiring.entry)) }
+{
+    match wiring {
+        Some(text) => Ok(Some(read_wiring(text)?)),
+        None => Ok(None),
+    }
+}
+
+/// The shape of the rack against which a batch is read: the widest or, with a board that wires some
+/// module, as each has that was read, one with the modules that it wires.
+pub fn shape_of(board: &Option<BoardWiring>) -> Shape
+    requires { WiresSome board.now }
+    ensures { result ≡ extent_of board.now }
+{
+    match board {
+        Some(board) => Shape::new(board.modules(), MAX_BLOCKS, MAX_WORDS).unwrap(),
+        None => Shape::WIDEST,
+    }
+}

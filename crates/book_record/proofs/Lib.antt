@@ -1,0 +1,11 @@
+pub mod Alike
+pub mod OneTold
+pub mod AnyRun
+pub mod Again
+pub mod BatchTexts
+pub mod CallTexts
+pub mod Behind
+pub mod Records
+pub mod Replans
+pub mod Put
+pub mod Lines

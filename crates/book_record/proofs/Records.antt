@@ -1,0 +1,137 @@
+-- Two records of one text.
+use Rattle.std.proofs.Common.{◌≡◌, ℕ, ◌*◌, ◌≤◌, List, [], ◌∷◌, ◌++◌, length, map, All, codes, refl, sym, ap, ◌∙◌, append_assoc, append-nil, subst, arith}
+use Rattle.std.specs.List.{flat_map}
+use Rattle.std.proofs.lemmas.List.{append_cancel_left, length-append, nil_from_length}
+use Rattle.std.proofs.lemmas.List.Elements.{All-head, All-tail}
+use Rattle.batch.specs.Extent.{Extent, IsShape}
+use Rattle.batch.specs.Text.{number, space, line_feed}
+use Rattle.batch.proofs.Lines.{one_number, ends_line}
+use Rattle.module_memory.specs.Store.{Store, HasAllBlocks}
+use Rattle.batch_book.specs.declared.entry.Entry.{Entry}
+use Rattle.batch_book.specs.declared.reply.Reply.{Reply}
+use Rattle.batch_book.specs.Machine.{Machine, opened, IsMachineStep}
+use Rattle.batch_book.specs.History.{HaveOwnPlans, IsReplay}
+use Rattle.batch_book.proofs.OwnPlans.{plans_stay}
+use Rattle.batch_book.proofs.Steps.{small_step}
+use Rattle.book_record.specs.declared.told_call.ToldCall.{ToldCall}
+use Rattle.book_record.specs.RecordText.{told, id_of, call_text, reply_text, entry_text, record_head, CanTell}
+use Rattle.book_record.specs.Untold.{ToldEntry, told_entry}
+use Rattle.book_record.specs.Laws.{OneRecord}
+use Rattle.book_record.proofs.Alike.{um, Alike}
+use Rattle.book_record.proofs.OneTold.{one_told}
+use Rattle.book_record.proofs.CallTexts.{one_behind, one_call}
+
+-- what holds of each machine that a history leads to
+pub record IsFit (m : Machine) : Type 0 where
+  pub blocks : HasAllBlocks m.store
+  pub plans : HaveOwnPlans m
+
+pub fit_after : (m k : Machine) (e : Entry) → IsFit m → IsMachineStep m e.session e.call e.reply k → IsFit k
+fit_after m k e is step =
+    let small = small_step m e.session e.call e.reply k step in
+    record {
+      blocks = (subst IsShape (sym small.shape) is.blocks.0, small.blocks ∙ is.blocks.1 ∙ ap (λ (x : Extent). x.modules * x.blocks) (sym small.shape));
+      plans = plans_stay m (e ∷ []) k is.plans (k, step, refl);
+    }
+
+pub fit_along : (m : Machine) (es : List Entry) (n : Machine) → IsFit m → IsReplay m es n → IsFit n
+fit_along m [] n is led = subst IsFit (sym led) is
+fit_along m (e ∷ es) n is led = fit_along led.0 es n (fit_after m led.0 e is led.1) led.2
+
+pub fit_at_first : (s : Store) → HasAllBlocks s → IsFit (opened s)
+fit_at_first s all = record { blocks = all; plans = λ k d below. absurd (omega arith) }
+
+-- ---- one entry
+
+entry_form : (n c r x : List ℕ) → (n ++ (c ++ r)) ++ x ≡ n ++ (c ++ (r ++ x))
+entry_form n c r x = simp append_assoc
+
+pub entry_parts : (e : Entry) (x : List ℕ) → entry_text e ++ x ≡ number e.session space ++ (call_text (told e.call) ++ (reply_text (id_of (told e.call)) e.reply ++ x))
+entry_parts e x = entry_form (number e.session space) (call_text (told e.call)) (reply_text (id_of (told e.call)) e.reply) x
+
+pub record OneEntry (e f : Entry) (k l : Machine) (x y : List ℕ) : Type 0 where
+  pub same : told_entry e ≡ told_entry f
+  pub alike : Alike k l
+  pub rest : x ≡ y
+
+same_entry : (e f : Entry) → e.session ≡ f.session → told e.call ≡ told f.call → e.reply ≡ f.reply → told_entry e ≡ told_entry f
+same_entry e f s c r =
+    let make : ℕ → ToldCall → Reply → ToldEntry = λ t d q. record { session = t; call = d; reply = q } in
+    ap (λ (t : ℕ). make t (told e.call) e.reply) s ∙ ap (λ (d : ToldCall). make f.session d e.reply) c ∙ ap (make f.session (told f.call)) r
+
+-- an entry's lines, and what stands behind them
+pub one_entry : (m n : Machine) (e f : Entry) (k l : Machine) (x y : List ℕ) → Alike m n → IsFit m → IsFit n → CanTell e → CanTell f
+    → IsMachineStep m e.session e.call e.reply k → IsMachineStep n f.session f.call f.reply l → entry_text e ++ x ≡ entry_text f ++ y → OneEntry e f k l x y
+one_entry m n e f k l x y alike fm fn p q step other same =
+    let session = one_behind [] e.session f.session _ _ p.session q.session (sym (entry_parts e x) ∙ same ∙ entry_parts f y) in
+    let call = one_call (told e.call) (told f.call) _ _ p.call q.call session.1 in
+    let its : IsMachineStep n e.session f.call f.reply l = subst (λ (s : ℕ). IsMachineStep n s f.call f.reply l) (sym session.0) other in
+    let both = one_told m n e.session e.call f.call e.reply f.reply k l call.0 alike fm.blocks fm.plans fn.plans p.reply q.reply step its in
+    record {
+      same = same_entry e f session.0 call.0 both.0;
+      alike = both.1;
+      rest = append_cancel_left (reply_text (id_of (told f.call)) f.reply) x y
+          (ap (λ (r : Reply). reply_text (id_of (told f.call)) r ++ x) (sym both.0) ∙ ap (λ (c : ToldCall). reply_text (id_of c) e.reply ++ x) (sym call.0) ∙ call.1);
+    }
+
+-- ---- entries
+
+same_more : (e f : Entry) (es fs : List Entry) → told_entry e ≡ told_entry f → map told_entry es ≡ map told_entry fs → map told_entry (e ∷ es) ≡ map told_entry (f ∷ fs)
+same_more e f es fs first rest = ap (λ (t : ToldEntry). t ∷ map told_entry es) first ∙ ap (λ (l : List ToldEntry). told_entry f ∷ l) rest
+
+-- the one list of more entries goes on from the other, from machines that are alike
+pub record GoesOn (n : Machine) (es fs : List Entry) (x y : List ℕ) (a b : Machine) : Type 0 where
+  pub front : List Entry
+  pub more : List Entry
+  pub list : fs ≡ front ++ more
+  pub counted : length front ≡ length es
+  pub same : map told_entry es ≡ map told_entry front
+  pub mid : Machine
+  pub alike : Alike a mid
+  pub fit : IsFit mid
+  pub replay : IsReplay mid more b
+  pub each : All CanTell more
+  pub rest : x ≡ flat_map entry_text more ++ y
+
+pub goes_on : (m n : Machine) (es fs : List Entry) (x y : List ℕ) (a b : Machine) → Alike m n → IsFit m → IsFit n → All CanTell es → All CanTell fs → IsReplay m es a → IsReplay n fs b
+    → length es ≤ length fs → flat_map entry_text es ++ x ≡ flat_map entry_text fs ++ y → GoesOn n es fs x y a b
+goes_on m n [] fs x y a b alike fm fn p q led too few same = record { front = []; more = fs; list = refl; counted = refl; same = refl; mid = n; alike = ap um led ∙ alike; fit = fn; replay = too; each = q; rest = same }
+goes_on m n (e ∷ es) [] x y a b alike fm fn p q led too few same = absurd (omega (arith, few))
+goes_on m n (e ∷ es) (f ∷ fs) x y a b alike fm fn p q led too few same =
+    let one = one_entry m n e f led.0 too.0 (flat_map entry_text es ++ x) (flat_map entry_text fs ++ y) alike fm fn (All-head CanTell e es p) (All-head CanTell f fs q) led.1 too.1
+    (sym (append_assoc (entry_text e) (flat_map entry_text es) x) ∙ same ∙ append_assoc (entry_text f) (flat_map entry_text fs) y) in
+    let go = goes_on led.0 too.0 es fs x y a b one.alike (fit_after m led.0 e fm led.1) (fit_after n too.0 f fn too.1) (All-tail CanTell e es p) (All-tail CanTell f fs q) led.2 too.2 (omega (arith, few)) one.rest in
+    record {
+      front = f ∷ go.front;
+      more = go.more;
+      list = ap (λ (l : List Entry). f ∷ l) go.list;
+      counted = omega (arith, go.counted);
+      same = same_more e f es go.front one.same go.same;
+      mid = go.mid;
+      alike = go.alike;
+      fit = go.fit;
+      replay = go.replay;
+      each = go.each;
+      rest = go.rest;
+    }
+
+head_form : (w n x : List ℕ) → (w ++ n) ++ x ≡ w ++ (n ++ x)
+head_form w n x = append_assoc w n x
+
+-- the first lines of two records
+pub one_head : (m n : ℕ) (x y : List ℕ) → m ≤ 65536 → n ≤ 65536 → record_head m ++ x ≡ record_head n ++ y → (m ≡ n) × (x ≡ y)
+one_head m n x y few less same =
+    one_number m n line_feed x y (omega arith) (omega arith) ends_line
+    (append_cancel_left (codes "record ") _ _ (sym (head_form (codes "record ") (number m line_feed) x) ∙ same ∙ head_form (codes "record ") (number n line_feed) y))
+
+pub one_record : OneRecord
+one_record opening text es fs a b all p q led too =
+    let few = p.few in
+    let less = q.few in
+    let head = one_head (length es) (length fs) (flat_map entry_text es) (flat_map entry_text fs) (omega arith) (omega arith) (sym p.spelled ∙ q.spelled) in
+    let fit = fit_at_first opening all in
+    let go = goes_on (opened opening) (opened opening) es fs [] [] a b refl fit fit p.each q.each led too (omega (arith, head.0)) (append-nil _ ∙ head.1 ∙ sym (append-nil _)) in
+    let none : go.more ≡ [] = nil_from_length go.more (omega (arith, head.0, go.counted, ap length go.list, length-append go.front go.more)) in
+    let whole : go.front ≡ fs = sym (append-nil go.front) ∙ ap (λ (l : List Entry). go.front ++ l) (sym none) ∙ sym go.list in
+    let end : b ≡ go.mid = subst (λ (l : List Entry). IsReplay go.mid l b) none go.replay in
+    (go.same ∙ ap (map told_entry) whole, ap (λ (m : Machine). m.store) go.alike ∙ ap (λ (m : Machine). m.store) (sym end))

@@ -1,0 +1,4 @@
+pub mod RecordText
+pub mod Untold
+pub mod Reading
+pub mod Laws

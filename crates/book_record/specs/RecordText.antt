@@ -1,0 +1,111 @@
+-- The text of a record: an entry for each call of a history, with the session's number, the call in
+-- the words of a session's line, and its reply line. Plans aren't told: a call that settles one is
+-- told by the number of its batch. The form is this project's choice.
+use Rattle.std.specs.Prelude.{◌≡◌, ℕ, ◌≤◌, List, ◌++◌, length, All, codes}
+use Rattle.std.specs.Fmt.{decimal}
+use Rattle.std.specs.List.{flat_map}
+use Rattle.batch.specs.Batches.{IsBatch}
+use Rattle.batch.specs.Text.{IsNumber, number, batch_text, space, line_feed}
+use Rattle.line_words.specs.HexWords.{IsWord}
+use Rattle.batch_book.specs.declared.limits.TheConstants.{MAX_ENTRIES}
+use Rattle.batch_book.specs.declared.entry.Entry.{Entry}
+use Rattle.batch_book.specs.declared.call.Call.{Call}
+use Rattle.batch_book.specs.declared.call.Call.TheVariants.{Submit, Fetch, Settle, Run, Show, Discard, Peek, Poke}
+use Rattle.batch_book.specs.declared.refusal.BookRefusal.TheVariants.{Stranger}
+use Rattle.batch_book.specs.declared.reply.Reply.{Reply}
+use Rattle.batch_book.specs.declared.reply.Reply.TheVariants.{Fetched, Stopped, Refused}
+use Rattle.client_session.specs.declared.command.SessionCommand.TheVariants as command
+use Rattle.client_session.specs.Commands.{line_of}
+use Rattle.client_session.specs.Replies.{reply_line, with_feed}
+use Rattle.client_session.specs.Steps.{CanBeTold}
+use Rattle.book_record.specs.declared.told_call.ToldCall.{ToldCall}
+use Rattle.book_record.specs.declared.told_call.ToldCall.TheVariants as told_call
+
+-- ---- the texts
+
+-- what a record tells of a call
+abbrev pub told : Call → ToldCall
+told (Submit batch) = told_call.Submit batch
+told (Fetch id) = told_call.Fetch id
+told (Settle id plan) = told_call.Settle id
+told (Run id) = told_call.Run id
+told (Show id) = told_call.Show id
+told (Discard id) = told_call.Discard id
+told (Peek «module» address) = told_call.Peek «module» address
+told (Poke «module» address word) = told_call.Poke «module» address word
+
+-- the batch that a call names, or 0
+abbrev pub id_of : ToldCall → ℕ
+id_of (told_call.Fetch id) = id
+id_of (told_call.Settle id) = id
+id_of (told_call.Run id) = id
+id_of (told_call.Show id) = id
+id_of (told_call.Discard id) = id
+id_of call = 0
+
+-- the lines of a call: a batch text, or the line of the session's command; `plan ID` is two calls
+abbrev pub call_text : ToldCall → List ℕ
+call_text (told_call.Submit batch) = batch_text batch
+call_text (told_call.Fetch id) = with_feed (codes "fetch " ++ decimal id)
+call_text (told_call.Settle id) = with_feed (codes "settle " ++ decimal id)
+call_text (told_call.Run id) = with_feed (line_of (command.Run id))
+call_text (told_call.Show id) = with_feed (line_of (command.Show id))
+call_text (told_call.Discard id) = with_feed (line_of (command.Drop id))
+call_text (told_call.Peek «module» address) = with_feed (line_of (command.Peek «module» address))
+call_text (told_call.Poke «module» address word) =
+    with_feed (line_of (command.Poke «module» address word))
+
+-- the line of a reply to a call that names this batch; a batch that was fetched isn't told again
+abbrev pub reply_text : ℕ → Reply → List ℕ
+reply_text id (Fetched batch) = with_feed (codes "fetched")
+reply_text id reply = reply_line id reply
+
+-- `S CALL` and the reply
+abbrev pub entry_text : Entry → List ℕ
+entry_text e =
+    number e.session space
+    ++ (call_text (told e.call) ++ reply_text (id_of (told e.call)) e.reply)
+
+-- `record N`
+abbrev pub record_head : ℕ → List ℕ
+record_head n = codes "record " ++ number n line_feed
+
+-- and N entries
+abbrev pub record_text : List Entry → List ℕ
+record_text es = record_head (length es) ++ flat_map entry_text es
+
+-- what the writer wants of a reply: one to a call of a legal history has it
+abbrev pub CanBePut : Reply → Type 0
+CanBePut (Fetched batch) = Unit {0}
+CanBePut reply = CanBeTold reply
+
+-- ---- what a record can tell
+
+-- its numbers are such as a line can hold
+abbrev pub CanSay : ToldCall → Type 0
+CanSay (told_call.Submit batch) = IsBatch batch
+CanSay (told_call.Fetch id) = IsNumber id
+CanSay (told_call.Settle id) = IsNumber id
+CanSay (told_call.Run id) = IsNumber id
+CanSay (told_call.Show id) = IsNumber id
+CanSay (told_call.Discard id) = IsNumber id
+CanSay (told_call.Peek «module» address) = IsNumber «module» × IsWord address
+CanSay (told_call.Poke «module» address word) = IsNumber «module» × IsWord address × IsWord word
+
+-- The reply tells of no run that stopped, since over a port and wires that never fail none does;
+-- and of no plan of another batch, since plans aren't told.
+abbrev pub CanBeReplied : Reply → Type 0
+CanBeReplied (Stopped run setting cause moved) = ⊥
+CanBeReplied (Refused Stranger) = ⊥
+CanBeReplied reply = Unit {0}
+
+pub record CanTell (e : Entry) : Type 0 where
+  pub session : IsNumber e.session
+  pub call : CanSay (told e.call)
+  pub reply : CanBeReplied e.reply
+
+-- the text is a record of these entries
+pub record IsRecordOf (es : List Entry) (text : List ℕ) : Type 0 where
+  pub spelled : text ≡ record_text es
+  pub few : length es ≤ MAX_ENTRIES
+  pub each : All CanTell es

@@ -1,0 +1,118 @@
+//! The writer of a record.
+
+ghost use Rattle.std.specs.Prelude.{◌≡◌, ◌++◌, ◌∷◌, [], ◌≤◌, ◌+◌, length, All, OnOk, IfOk, codes};
+ghost use Rattle.std.specs.Fmt.{decimal};
+ghost use Rattle.batch.specs.Text.{number, space};
+ghost use Rattle.line_words.specs.declared.limits.TheConstants.{NUMBER_ROOM};
+ghost use Rattle.client_session.specs.Replies.{with_feed};
+ghost use Rattle.book_record.specs.RecordText.{CanBePut, told, id_of, call_text, reply_text, entry_text, record_text};
+
+use batch_book::{Book, Call, Entry, Reply};
+use client_session::SessionCommand;
+use client_session::reply_line::ReplyLine;
+use line_words::Line;
+use std::alloc::{AllocError, Global};
+
+/// A word and the number behind it.
+fn named(word: &[u8], n: usize) -> Line
+    requires { length word.now ≤ 20 }
+    ensures text { result ≡ word.now ++ decimal n }
+    ensures room { length result ≤ length word.now + NUMBER_ROOM }
+{
+    let mut line = Line::new();
+    line.put(word);
+    line.put_number(n as u64);
+    line
+}
+
+/// Puts words and a line feed.
+fn push_line(text: &mut Vec<u8>, words: &[u8]) -> Result<(), AllocError>
+    ensures { OnOk result (text.new.items ≡ text.old.items ++ with_feed words.now) }
+{
+    text.extend_from_slice(words)?;
+    text.push(b'\n')?;
+    Ok(())
+}
+
+/// Puts the lines of a call.
+fn push_call(text: &mut Vec<u8>, call: &Call) -> Result<(), AllocError>
+    ensures { OnOk result (text.new.items ≡ text.old.items ++ call_text (told call.now)) }
+{
+    let line = match call {
+        Call::Submit(batch) => return text.extend_from_slice(batch.write()?.as_slice()),
+        Call::Fetch(id) => named(b"fetch ", *id),
+        Call::Settle(id, _) => named(b"settle ", *id),
+        Call::Run(id) => SessionCommand::Run(*id).line(),
+        Call::Show(id) => SessionCommand::Show(*id).line(),
+        Call::Discard(id) => SessionCommand::Drop(*id).line(),
+        Call::Peek(module, address) => SessionCommand::Peek(*module, *address).line(),
+        Call::Poke(module, address, word) => SessionCommand::Poke(*module, *address, *word).line(),
+    };
+    push_line(text, line.as_bytes())
+}
+
+/// The batch that a call names, or 0.
+fn id_of(call: &Call) -> usize
+    ensures { result ≡ id_of (told call.now) }
+{
+    match call {
+        Call::Fetch(id) | Call::Settle(id, _) | Call::Run(id) => *id,
+        Call::Show(id) | Call::Discard(id) => *id,
+        Call::Submit(_) | Call::Peek(..) | Call::Poke(..) => 0,
+    }
+}
+
+/// Puts the line of a reply to a call that names this batch.
+pub fn push_reply(text: &mut Vec<u8>, id: usize, reply: &Reply) -> Result<(), AllocError>
+    requires { CanBePut reply.now }
+    ensures { OnOk result (text.new.items ≡ text.old.items ++ reply_text id reply.now) }
+{
+    if let Reply::Fetched(_) = reply {
+        return push_line(text, b"fetched");
+    }
+    let mut line = ReplyLine::new();
+    line.tell(id, reply);
+    text.extend_from_slice(line.as_bytes())
+}
+
+/// Puts the session's number, and a space.
+fn push_session(text: &mut Vec<u8>, session: usize) -> Result<(), AllocError>
+    ensures { OnOk result (text.new.items ≡ text.old.items ++ number session space) }
+{
+    let mut line = named(b"", session);
+    line.put(b" ");
+    text.extend_from_slice(line.as_bytes())
+}
+
+/// Puts the lines of an entry.
+fn push_entry(text: &mut Vec<u8>, entry: &Entry) -> Result<(), AllocError>
+    requires { CanBePut entry.now.reply }
+    ensures { OnOk result (text.new.items ≡ text.old.items ++ entry_text entry.now) }
+{
+    push_session(text, entry.session)?;
+    push_call(text, &entry.call)?;
+    push_reply(text, id_of(&entry.call), &entry.reply)
+}
+
+/// The text of these entries.
+fn write_entries(alloc: Global, history: &[Entry]) -> Result<Vec<u8>, AllocError>
+    requires { All (λ e. CanBePut e.reply) history.now }
+    ensures { IfOk result (λ text. text.items ≡ record_text history.now) }
+{
+    let count = history.len();
+    let mut text = format!(in alloc; "record {count}\n")?.into_bytes();
+    for entry in history {
+        push_entry(&mut text, entry)?;
+    }
+    Ok(text)
+}
+
+/// The record of a book: the line `record N`, and then the lines of the N entries of its history.
+/// It takes memory, and time, by the history and the batches in it.
+pub fn write_record(alloc: Global, book: &Book) -> Result<Vec<u8>, AllocError>
+    ensures { IfOk result (λ text. text.items ≡ record_text book.now.history) }
+{
+    // The shape is asked for only for its contract, which has the bounds of the rack.
+    let _shape = book.opening().shape();
+    write_entries(alloc, book.history())
+}

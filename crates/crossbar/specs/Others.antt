@@ -1,0 +1,17 @@
+-- The links of a board's switch that none of its modules is on.
+use Rattle.std.specs.Prelude.{◌≡◌, ◌≢◌, ℕ, List, drop, false}
+use Rattle.std.specs.List.{list_any, AllByRecursion}
+use Rattle.c004_commands.specs.Commands.{row}
+use Rattle.c004_commands.specs.declared.command.Command.{Command}
+use Rattle.crossbar.specs.Boards.{is_at}
+use Rattle.crossbar.specs.Wired.{links_of}
+use Rattle.crossbar.specs.declared.board.BoardWiring.{BoardWiring}
+
+-- no module is on the link
+abbrev pub IsFree : BoardWiring → ℕ → Type 0
+IsFree board link = list_any (is_at link) (links_of board) ≡ false
+
+-- no command names the link, as an input or as an output
+abbrev pub LeaveAlone : ℕ → List Command → Type 0
+LeaveAlone link commands =
+    AllByRecursion (λ command. AllByRecursion (λ port. port ≢ link) (drop 1 (row command))) commands

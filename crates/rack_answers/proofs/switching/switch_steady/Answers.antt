@@ -1,0 +1,20 @@
+use Rattle.std.proofs.Common.{ap}
+use Rattle.std.proofs.lemmas.Result.{IfOk-weaker}
+use Rattle.refusals.specs.Sources.{of_batch}
+use Rattle.plan_answers.specs.Refusals.{Refuses}
+use Rattle.rack_answers.specs.Switching.{TellsSwitch, IsSwitchedSteadily, switched, unplanned}
+use Rattle.rack_answers.proofs.switching.switch_steady.Goals as goal
+
+pub returns-in_ok-plan-in-Ok : goal.returns-in_ok-plan-in-Ok
+returns-in_ok-plan-in-Ok c =
+    let plan = c.in_ok-plan-in-Ok.plan in
+    let its = c.in_ok-plan-in-Ok.ensures in
+    let tells = rw (← its.batch, c.schedule.ensures.schedule) at c.switch_answer.ensures in
+    IfOk-weaker c.switch_answer.result (TellsSwitch c.args.board.now plan.batch plan.settings) (IsSwitchedSteadily c.args.board.now c.args.batch.now)
+    (λ p told. switched plan (rw its.batch (rw c.shape_of.ensures at c.in-Ok.ensures.batch)) its.steady told) tells
+
+pub returns-in-Err : goal.returns-in-Err
+returns-in-Err c =
+    let refuses = rw c.into.ensures at c.refused.ensures in
+    IfOk-weaker c.refused.result (Refuses (of_batch c.in-Err.fault)) (IsSwitchedSteadily c.args.board.now c.args.batch.now)
+    (λ p is. unplanned c.in-Err.fault (rw c.shape_of.ensures at (c.in-Err.ensures.fault (λ e. is.0 (ap of_batch e)))) is.1) refuses

@@ -1,0 +1,7 @@
+pub mod Faults
+pub mod Entries
+mod Kept
+mod Strangers
+mod Others
+mod Telling
+mod Turns

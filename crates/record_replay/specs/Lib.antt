@@ -1,0 +1,4 @@
+pub mod Replays
+pub mod Laws
+pub mod Fetched
+pub mod SessionLaws

@@ -1,0 +1,107 @@
+//! The call that a record tells, made again.
+
+ghost use Rattle.std.specs.Prelude.{◌≡◌, ◌<◌, IfOk, length};
+ghost use Rattle.batch_book.specs.declared.limits.TheConstants.{MAX_ENTRIES};
+ghost use Rattle.batch_book.specs.Answering.{IsReplyTo};
+ghost use Rattle.batch_book.specs.History.{IsGrown};
+ghost use Rattle.batch_book.specs.Machine.{batch_of};
+ghost use Rattle.book_record.specs.RecordText.{told, CanBeReplied};
+ghost use Rattle.record_replay.specs.Replays.{IsPlanFor, HasOwnPlanIn};
+
+use batch::Batch;
+use batch_book::{Book, BookRefusal, Call, Reply};
+use book_record::ToldCall;
+use crossbar::MemoryPort;
+use exchange_limits::WorkerCount;
+use peek_poke::PlainWires;
+use schedule_certificate::{OpenGate, Planned, schedule};
+use setting_runner::{Notice, Plant};
+use std::alloc::{AllocError, Global};
+use std::thread::Threads;
+
+/// A port and wires that never fail.
+pub(crate) type PlainPlant = Plant<MemoryPort, PlainWires, OpenGate>;
+
+/// Nobody is told how far a run has come.
+#[derive(Drop)]
+struct Unheard;
+
+impl Notice for Unheard {
+    ghost hears = { λ _ _ _. Unit {0} };
+
+    fn done(&mut self, _settings: usize) {}
+}
+
+/// A plan of the session's batch of this number; where it has none, of a batch without a transfer.
+fn plan_for<R: Threads + Sync>(
+    rt: &R,
+    alloc: Global,
+    book: &Book,
+    session: usize,
+    id: usize,
+    workers: WorkerCount,
+) -> Result<Planned, AllocError>
+    ensures { IfOk result (λ planned.
+        IsPlanFor planned (batch_of book.now.machine session id)) }
+{
+    let batch = match book.batch(session, id) {
+        Some(batch) => batch.copy()?,
+        None => Batch::of(Vec::new(alloc)),
+    };
+    schedule(rt, alloc, batch, workers, &OpenGate)
+}
+
+/// The call that a record tells, with a plan where one is settled.
+pub(crate) fn call_of<R: Threads + Sync>(
+    rt: &R,
+    alloc: Global,
+    book: &Book,
+    session: usize,
+    call: ToldCall,
+    workers: WorkerCount,
+) -> Result<Call, AllocError>
+    ensures told { IfOk result (λ made. told made ≡ call) }
+    ensures own { IfOk result (λ made. HasOwnPlanIn book.now.machine session made) }
+{
+    let call = match call {
+        ToldCall::Submit(batch) => Call::Submit(batch),
+        ToldCall::Fetch(id) => Call::Fetch(id),
+        ToldCall::Settle(id) => {
+            Call::Settle(id, plan_for(rt, alloc, book, session, id, workers)?)
+        }
+        ToldCall::Run(id) => Call::Run(id),
+        ToldCall::Show(id) => Call::Show(id),
+        ToldCall::Discard(id) => Call::Discard(id),
+        ToldCall::Peek(module, address) => Call::Peek(module, address),
+        ToldCall::Poke(module, address, word) => Call::Poke(module, address, word),
+    };
+    Ok(call)
+}
+
+/// The reply to a call, over a port and wires that never fail. For want of memory nothing changes.
+pub(crate) fn ask<R: Threads + Sync>(
+    rt: &R,
+    book: &mut Book,
+    plant: &mut PlainPlant,
+    session: usize,
+    call: Call,
+) -> Result<Reply, AllocError>
+    requires room { length book.old.history < MAX_ENTRIES }
+    requires own { HasOwnPlanIn book.old.machine session call }
+    ensures grown { IfOk result (λ reply. IsGrown book.old session call reply book.new) }
+    ensures can { IfOk result CanBeReplied }
+    ensures answers { IfOk result (IsReplyTo call) }
+    ensures opening { book.new.opening ≡ book.old.opening }
+{
+    // These are asked for only for their contracts: the machine is sound.
+    book.history();
+    let _shape = book.rack().shape();
+    let reply = book.apply(rt, session, call, plant, &mut Unheard);
+    match reply {
+        Reply::Refused(BookRefusal::NoMemory) => Err(AllocError),
+        Reply::Refused(BookRefusal::HistoryFull) => unreachable!(),
+        Reply::Refused(BookRefusal::Stranger) => unreachable!(),
+        Reply::Stopped { .. } => unreachable!(),
+        reply => Ok(reply),
+    }
+}

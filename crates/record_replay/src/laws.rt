@@ -1,0 +1,50 @@
+//! Laws of records and their faults, and of what sessions leave.
+
+ghost use Rattle.std.specs.Prelude.{◌≡◌, All, IfOk, IfErr, map};
+ghost use Rattle.book_record.specs.RecordText.{CanTell};
+ghost use Rattle.book_record.specs.Untold.{told_entry};
+ghost use Rattle.record_replay.specs.Laws.{NeverBoth, OneFault};
+ghost use Rattle.record_replay.specs.SessionLaws.{NoStrangers, SessionsAreTold, SessionsSay};
+
+use crate::fault::{RecordError, RecordFault};
+use crate::replaying::replay;
+use batch_book::Book;
+use book_record::write_record;
+use exchange_limits::WorkerCount;
+use std::alloc::Global;
+use std::thread::Threads;
+
+/// The record of a legal history has no fault, and any other text has at most one.
+pub fn one_fault()
+    ensures apart { NeverBoth }
+    ensures fault { OneFault }
+{}
+
+/// Where each session settles a plan right behind fetching its batch, no plan is another batch's;
+/// so a record can tell all that sessions leave, where no run stopped.
+pub fn sessions_are_told()
+    ensures say { SessionsSay }
+    ensures strangers { NoStrangers }
+    ensures told { SessionsAreTold }
+{}
+
+/// What is recorded of a book is replayed to the words that it has, or there is no memory for it.
+pub fn recorded_then_replayed<R: Threads + Sync>(
+    rt: &R,
+    alloc: Global,
+    book: &Book,
+    workers: WorkerCount,
+) -> Result<Book, RecordError>
+    requires { All CanTell book.now.history }
+    ensures words { IfOk result (λ again. again.machine.store ≡ book.now.machine.store) }
+    ensures told { IfOk result (λ again.
+        map told_entry again.history ≡ map told_entry book.now.history) }
+    ensures fault { IfErr result (λ error. error.fault ≡ RecordFault.NoMemory) }
+{
+    // These are asked for only for their contracts: the history is legal, and the rack whole.
+    book.history();
+    let _shape = book.opening().shape();
+    let text = write_record(alloc, book)?;
+    let opening = book.opening().copy()?;
+    replay(rt, alloc, opening, text.as_slice(), workers)
+}

@@ -1,0 +1,12 @@
+use Rattle.std.proofs.lemmas.Result.{IfOk-weaker}
+use Rattle.plan_answers.specs.Answers.{IsOnly}
+use Rattle.plan_answers.specs.Lent.{bytes_of}
+use Rattle.replay_answers.specs.Replays.{IsReplayAnswer, IsReplayPrinted}
+use Rattle.replay_answers.proofs.OneReplay.{one_replay}
+use Rattle.replay_answers.proofs.replaying.answer_replay.Goals as goal
+
+pub returns-clause-one : goal.returns-clause-one
+returns-clause-one g c =
+    let image = bytes_of c.args.image in
+    IfOk-weaker c.answer_texts.result (λ r. IsReplayAnswer c.args.shape.now c.args.recorded.now image r.answer r.error) (λ r. IsOnly (IsReplayPrinted c.args.shape.now c.args.recorded.now image) r.answer)
+    (λ r is. one_replay c.args.shape.now c.args.recorded.now image r.answer r.error is) c.answer_texts.ensures

@@ -1,0 +1,242 @@
+"""Records of sessions, replayed a second time: plain Python, as plain.py, that shares no code with the product."""
+
+import re
+
+import notes
+import plain
+import spoil
+from plain import NUMBER, Refused
+from sessions import HEX8, MOST_ENTRIES, Exchange
+
+HEAD = re.compile(rb"record " + NUMBER)
+SESSION = re.compile(NUMBER + rb" ")
+BATCH = re.compile(rb"batch " + NUMBER)
+
+# What is wanted in the first line, and in that of a call, as the line on standard error says it.
+ENDED = f"{notes.RULES}, a line feed at its end"
+HEAD_WANTED = f'"record N", where N counts the entries, at most {MOST_ENTRIES}: {ENDED}'
+CALL_WANTED = (
+    '"S CALL", where S is the number of a session, CALL is "batch N" and the batch\'s lines, "fetch ID", "settle ID", "run ID", "show ID", '
+    '"drop ID", "peek M A" or "poke M A D", ID is the number of a batch, M a module, A an address and D a word, of eight digits 0 to 9 and '
+    f"a to f each: {ENDED}"
+)
+
+
+def submit(exchange, session, transfers):
+    return f"accepted {exchange.submit(session, transfers)}"
+
+
+def fetch(exchange, session, number):
+    exchange.batch(session, number)
+    return "fetched"
+
+
+def settle(exchange, session, number):
+    batch = exchange.batch(session, number)
+    if batch["state"] != "waiting":
+        raise Refused("already")
+    batch["state"] = "planned"
+    return f"planned {number} settings {len(plain.busiest(batch['transfers'])[1])}"
+
+
+def run(exchange, session, number):
+    """A run, which is refused where the rack hasn't a block of its batch: in a record a batch may be one of a larger rack."""
+    batch = exchange.batches.get(number)
+    if batch and batch["owner"] == session and batch["state"] == "planned" and not plain.first_overlap(batch["transfers"]):
+        modules, blocks, _ = exchange.shape
+        ends = [end for transfer in batch["transfers"] for end in (plain.source(transfer), plain.destination(transfer))]
+        if any(module >= modules or block >= blocks for module, block in ends):
+            exchange.enter()
+            raise Refused("shape")
+    run, settings, words = exchange.run(session, number)
+    return f"ran {number} run {run} settings {settings} words {words} bits {117 * words}"
+
+
+def show(exchange, session, number):
+    batch = exchange.batch(session, number)
+    return f"batch {number} transfers {len(batch['transfers'])} {batch['state']}"
+
+
+def drop(exchange, session, number):
+    exchange.batch(session, number)
+    del exchange.batches[number]
+    return f"dropped {number}"
+
+
+def peek(exchange, _session, module, address):
+    return f"word {exchange.peek(module, address):08x}"
+
+
+def poke(exchange, _session, module, address, word):
+    exchange.poke(module, address, word)
+    return "poked"
+
+
+# The calls of one line, with the bases of their numbers.
+CALLS = [
+    (re.compile(form), answer, bases)
+    for form, answer, bases in [
+        (rb"fetch " + NUMBER, fetch, [10]),
+        (rb"settle " + NUMBER, settle, [10]),
+        (rb"run " + NUMBER, run, [10]),
+        (rb"show " + NUMBER, show, [10]),
+        (rb"drop " + NUMBER, drop, [10]),
+        (rb"peek " + NUMBER + rb" " + HEX8, peek, [10, 16]),
+        (rb"poke " + NUMBER + rb" " + HEX8 + rb" " + HEX8, poke, [10, 16, 16]),
+    ]
+]
+
+
+def batch_at(text, at, count):
+    """The transfers of a batch of so many that stands there, and where it ends; None where none does."""
+    end = at
+    for _ in range(count + 1):
+        line, end = plain.line_at(text, end)
+        if line is None:
+            return None
+    try:
+        return plain.read_batch(text[at:end], plain.WIDEST), end
+    except Refused:
+        return None
+
+
+def call_at(text, at):
+    """What answers the call that stands there, with what it names, and where the call ends; None where no call does."""
+    line, end = plain.line_at(text, at)
+    if line is None:
+        return None
+    announced = BATCH.fullmatch(line)
+    if announced:
+        found = batch_at(text, at, int(announced[1])) if int(announced[1]) <= plain.TRANSFERS else None
+        return found and (submit, [found[0]], found[1])
+    for form, answer, bases in CALLS:
+        found = form.fullmatch(line)
+        if found:
+            return answer, [int(word, base) for word, base in zip(found.groups(), bases)], end
+    return None
+
+
+def entry_at(text, at):
+    """The session and the call that stand there: the session's number, what answers the call, what it names, and the places where the call
+    begins and ends. No entry: None."""
+    session = SESSION.match(text, at)
+    call = session and call_at(text, session.end())
+    return call and (int(session[1]), call[0], call[1], session.end(), call[2])
+
+
+class Misrecorded(Refused):
+    """What is first wrong with a record, the number of the line where it is, and what is wanted there."""
+
+    def __init__(self, what, text, at, wanted):
+        super().__init__(f"record {what}")
+        self.line, self.wanted = text.count(b"\n", 0, at) + 1, wanted
+
+
+class Replay:
+    """A record on a rack of a shape, replayed: its entries, each the session, the call's text and the reply, and the exchange that is left."""
+
+    def __init__(self, shape, text, image=None):
+        self.exchange, self.entries = Exchange(shape, image), []
+        line, at = plain.line_at(text, 0)
+        head = HEAD.fullmatch(line) if line is not None else None
+        if not head or int(head[1]) > MOST_ENTRIES:
+            raise Misrecorded("head", text, 0, HEAD_WANTED)
+        for number in range(int(head[1])):
+            at = self.entry(text, at, number)
+        if at < len(text):
+            raise Misrecorded("more", text, at, None)
+
+    def entry(self, text, at, number):
+        """Replays the entry that stands there, and says where it ends."""
+        found = entry_at(text, at)
+        if not found:
+            raise Misrecorded(f"call {number}", text, at, f"the call of entry {number}, {CALL_WANTED}")
+        session, answer, named, begin, end = found
+        try:
+            reply = answer(self.exchange, session, *named)
+        except Refused as why:
+            reply = f"refused {why}"
+        if not text.startswith(reply.encode() + b"\n", end):
+            raise Misrecorded(f"reply {number}", text, end, f"the reply of entry {number}, {notes.quoted(reply.encode())}")
+        self.entries.append((session, text[begin:end].decode(), reply))
+        return end + len(reply) + 1
+
+
+def answer_replay(shape, text, image=None):
+    """What `replay` prints, and its status."""
+    try:
+        return Replay(plain.read_shape(shape), text, image).exchange.image(), 0
+    except Refused as why:
+        return f"refused {why}\n".encode(), 1
+
+
+def note(name, shape, text):
+    """What is told on standard error of a record in a file of this name: nothing where it can be replayed."""
+    try:
+        Replay(shape, text)
+    except Misrecorded as why:
+        line, is_ended = notes.line_of(text, why.line), text.count(b"\n") >= why.line
+        if why.wanted is None:
+            return f"exchange: {name}:{why.line}: {notes.quoted(line)} stands behind the last entry; nothing may follow\n".encode()
+        stands = f"{notes.quoted(line)}{'' if is_ended else ' with no line feed'} isn't"
+        if not line and not is_ended:
+            stands = f"the text {'is empty' if why.line == 1 else 'ends above this line'}; wanted is"
+        return f"exchange: {name}:{why.line}: {stands} {why.wanted}\n".encode()
+    return b""
+
+
+def call_by(draw, shape, number):
+    """The text of a call, mostly one of a batch of about this number."""
+    if draw.random() < 0.25:
+        return spoil.batch(draw, shape, 4)
+    if draw.random() < 0.3:
+        return spoil.memory_line(draw, shape, range(shape[0])).encode()
+    return f"{draw.choice(['fetch', 'settle', 'settle', 'run', 'run', 'show', 'drop'])} {draw.randint(1, number)}\n".encode()
+
+
+def made(draw, shape, sessions, count):
+    """The entries of a record of so many calls of some sessions, each a text."""
+    exchange, entries = Exchange(shape), []
+    while len(entries) < count:
+        session, text = draw.randrange(sessions), call_by(draw, shape, exchange.given + 1)
+        answer, named, _ = call_at(text, 0)
+        try:
+            reply = answer(exchange, session, *named)
+        except Refused as why:
+            reply = f"refused {why}"
+        entries.append(b"%d %b%b\n" % (session, text, reply.encode()))
+    return entries
+
+
+def spelled(entries, count=None):
+    """The record of these entries, or one that says that there are so many."""
+    return b"record %d\n" % (len(entries) if count is None else count) + b"".join(entries)
+
+
+def other_word(draw, entry):
+    """An entry, with another word in its reply."""
+    call, _, reply = entry[:-1].rpartition(b"\n")
+    words = reply.split(b" ")
+    words[draw.randrange(len(words))] = str(draw.choice(spoil.EDGES)).encode() if draw.random() < 0.5 else draw.choice([b"word", b"poked", b"refused", b"ran"])
+    return call + b"\n" + b" ".join(words) + b"\n"
+
+
+def spoilt(draw, entries):
+    """A record to which something was done, or nothing: a word of a reply changed, two entries exchanged, one left out, one twice, one of
+    another session; or any bytes of it."""
+    entries, what = list(entries), draw.randrange(8)
+    one, other = draw.randrange(len(entries)), draw.randrange(len(entries))
+    before = len(entries)
+    if what == 0:
+        entries[one] = other_word(draw, entries[one])
+    elif what == 1:
+        entries[one], entries[other] = entries[other], entries[one]
+    elif what == 2:
+        del entries[one]
+    elif what == 3:
+        entries.insert(other, entries[one])
+    elif what == 4:
+        entries[one] = b"%d %b" % (draw.randrange(4), entries[one].partition(b" ")[2])
+    elif what < 7:
+        return spoil.spoil(draw, spelled(entries))
+    return spelled(entries, before if draw.random() < 0.2 else None)
