@@ -1,7 +1,7 @@
 #!/usr/bin/env python3
 """Sixteen clients at once on one exchange, and its record judged afterwards.
 
-    clients.py [ROUNDS]         so many rounds, 200 where it isn't said
+    clients.py [ROUNDS]         so many rounds, 1000 where it isn't said
 
 In each round sixteen random scripts are served side by side, with a record and the image that they leave. Plain Python replays the record,
 and has to come to the image; so has `replay`. Each session has to have been told the replies of its own entries, in order, and each reading
@@ -177,7 +177,7 @@ def try_round(number):
 
 
 def main():
-    rounds = int(sys.argv[1]) if len(sys.argv) > 1 else 200
+    rounds = int(sys.argv[1]) if len(sys.argv) > 1 else 1000
     replies, readings, wrong = Counter(), 0, []
     with multiprocessing.Pool(len(os.sched_getaffinity(0))) as pool:
         for found, seen, why in pool.imap_unordered(try_round, range(rounds)):

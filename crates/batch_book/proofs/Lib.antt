@@ -5,6 +5,7 @@ pub mod Histories
 pub mod OneReplay
 pub mod OwnPlans
 pub mod Numbers
+pub mod Unstopped
 pub mod Answering
 pub mod Seats
 pub mod Dealing

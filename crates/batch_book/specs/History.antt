@@ -13,6 +13,7 @@ use Rattle.batch_book.specs.declared.reply.Reply.TheVariants.{Accepted, Ran, Sto
 use Rattle.batch_book.specs.declared.call.Call.{Call}
 use Rattle.batch_book.specs.declared.call.Call.TheVariants.{Run}
 use Rattle.batch_book.specs.Machine.{Machine, opened, IsMachineStep}
+use Rattle.batch_book.specs.Replies.{IsUnstopped}
 
 -- the entries lead from one machine to another: each reply is one that the machine may give where
 -- those before it lead
@@ -61,6 +62,10 @@ pub record IsGrown (old : Account) (session : ℕ) (call : Call) (reply : Reply)
   pub opening : new.opening ≡ old.opening
 
 -- ---- laws
+
+-- no run stopped
+abbrev pub AreUnstopped : List Entry → Type 0
+AreUnstopped es = All (λ e. IsUnstopped e.reply) es
 
 -- the call runs a batch
 abbrev pub IsRunCall : Call → Type 0

@@ -26,7 +26,8 @@ impl<L: Ledger> ExchangeAccess<L> {
         requires parts { 1 < self.old.parts }
         ensures parts { (self.new.parts + 1 ≡ self.old.parts) × (result.parts ≡ 1) }
         ensures kept { self.new.watcher ≡
-            watcher_view word.now self.old.watcher.seen self.old.watcher.raised (self.old.parts - 1) }
+            watcher_view word.now self.old.watcher.seen self.old.watcher.raised
+            (self.old.parts - 1) }
         ensures given { result.watcher ≡ watcher_view word.now self.old.watcher.seen 0 1 }
         ensures amount { self.new.share.amount ≡ self.old.share.amount }
         ensures nothing { result.share.amount ≡ 0 }

@@ -101,18 +101,6 @@ impl Book {
         self.holdings.rack()
     }
 
-    /// Gives the rack out of the book, with the words that the history leaves. Nothing is copied.
-    pub fn into_rack(self) -> Rack
-        ensures { result ≡ self.machine.store }
-    {
-        let Book {
-            holdings,
-            opening: _,
-            history: _,
-        } = self;
-        holdings.into_rack()
-    }
-
     /// A copy of the rack that the book was made with.
     pub fn opening(&self) -> &Rack
         ensures { result.now ≡ self.now.opening }

@@ -10,6 +10,8 @@ use crate::lists::{agree, have_all_parts};
 use crate::locked::Locked;
 use crate::seat::Seat;
 use crate::shared::Shared;
+use crossbar::ConfigPort;
+use peek_poke::WireMaker;
 use progress_word::{ALL_PARTS, ProgressWord};
 use setting_runner::Plant;
 use std::sync::ledger::Ledger;
@@ -27,7 +29,7 @@ pub struct Closed<L: Ledger, P, W, G> {
 
 /// Why an exchange can't be closed as it should be.
 #[derive(Drop)]
-pub enum Unclosed<L: Ledger, P, W, G> {
+pub enum Unclosed<L: Ledger, P: ConfigPort, W: WireMaker, G> {
     /// The seats aren't all seats of the exchange. All is as it was.
     SeatMissing(Shared<L, P, W, G>, Vec<Seat<L>>),
     /// Some seat's list has other entries than the history has of its session, or in another order.
@@ -35,7 +37,7 @@ pub enum Unclosed<L: Ledger, P, W, G> {
     LogsDisagree(Closed<L, P, W, G>),
 }
 
-impl<L: Ledger, P, W, G> Shared<L, P, W, G> {
+impl<L: Ledger, P: ConfigPort, W: WireMaker, G> Shared<L, P, W, G> {
     ghost use Rattle.batch_book.specs.Closing.{Closes};
 
     /// Closes the exchange, once all of its seats are given back, in any order. It compares each
@@ -44,7 +46,7 @@ impl<L: Ledger, P, W, G> Shared<L, P, W, G> {
     pub fn close(self, mut seats: Vec<Seat<L>>) -> Result<Closed<L, P, W, G>, Unclosed<L, P, W, G>>
         requires parts { L.parts ≡ ALL_PARTS }
         requires seats { All (λ s. s.exchange ≡ Some self.word) seats.items }
-        ensures { Closes self seats.items result }
+        ensures { Closes P.ConfigPort W.is_sure self seats.items result }
     {
         if !have_all_parts(seats.as_slice()) {
             return Err(Unclosed::SeatMissing(self, seats));

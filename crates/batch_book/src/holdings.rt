@@ -59,7 +59,12 @@ impl Model for Holdings {
 
     ghost Value = { Machine };
 
-    ghost view = { λ h. record { batches = h.batches.entries; given = h.given; runs = h.runs; store = unwrap_or h.rack no_store } };
+    ghost view = { λ h. record {
+      batches = h.batches.entries;
+      given = h.given;
+      runs = h.runs;
+      store = unwrap_or h.rack no_store;
+    } };
 
     ghost invariant = { λ h. AreKept h.rack h.batches.entries h.given };
 }
@@ -110,22 +115,6 @@ impl Holdings {
         ensures { result.now ≡ self.now.store }
     {
         match &self.rack {
-            Some(rack) => rack,
-            None => unreachable!(),
-        }
-    }
-
-    /// Gives the rack out of what is kept.
-    pub fn into_rack(self) -> Rack
-        ensures { result ≡ self.store }
-    {
-        let Holdings {
-            rack,
-            batches: _,
-            given: _,
-            runs: _,
-        } = self;
-        match rack {
             Some(rack) => rack,
             None => unreachable!(),
         }

@@ -2,8 +2,8 @@
 
 ghost use Rattle.std.specs.Prelude.{◌≡◌, ◌+◌, ◌++◌, ◌≤◌, [], ◌∷◌, length, true, false, if◌then◌else◌, Some, IfOk, OnErr};
 ghost use Rattle.batch_book.specs.Answering.{IsReplyTo};
-ghost use Rattle.batch_book.specs.History.{entry, IsGrown};
-ghost use Rattle.batch_book.specs.Replies.{is_logged};
+ghost use Rattle.batch_book.specs.History.{entry, AreUnstopped, IsGrown};
+ghost use Rattle.batch_book.specs.Replies.{is_logged, NeverFail};
 ghost use Rattle.batch_book.specs.Seats.{IsSameSeat, Reaches};
 ghost use Rattle.batch_book.specs.Values.{value_of, greatest};
 
@@ -26,13 +26,15 @@ use std::sync::ledger;
 use std::sync::ledger::Ledger;
 use std::thread::Threads;
 
-/// The book and the plant, and the ledger's total, which is the number of entries.
+/// The book and the plant, and the ledger's total, which is the number of entries. Where port and
+/// wires never fail, no run of the book has stopped.
 #[derive(Drop)]
-pub struct Locked<L: Ledger, P, W, G> {
+pub struct Locked<L: Ledger, P: ConfigPort, W: WireMaker, G> {
     pub book: Book,
     pub plant: Plant<P, W, G>,
     pub entries: ledger::Book<L>,
     pub ghost counted: { length book.history ≡ entries.total },
+    pub ghost unstopped: { NeverFail P.ConfigPort W.is_sure → AreUnstopped book.history },
 }
 
 impl<L: Ledger, P: ConfigPort, W: WireMaker + Sync, G: Gate + Sync> Locked<L, P, W, G> {

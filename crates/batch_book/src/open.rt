@@ -9,8 +9,10 @@ use crate::book::Book;
 use crate::locked::Locked;
 use crate::seat::Seat;
 use crate::shared::Shared;
+use crossbar::ConfigPort;
 use exchange_limits::MAX_SESSIONS;
 use module_memory::Rack;
+use peek_poke::WireMaker;
 use progress_word::{ALL_PARTS, ProgressWord};
 use setting_runner::Plant;
 use std::alloc::Global;
@@ -28,7 +30,7 @@ pub enum SharedFault {
     NoMemory,
 }
 
-impl<L: Ledger, P, W, G> Shared<L, P, W, G> {
+impl<L: Ledger, P: ConfigPort, W: WireMaker, G> Shared<L, P, W, G> {
     /// An exchange over this rack and plant, and a seat for each session, from 1 to
     /// [`MAX_SESSIONS`] of them. The sessions are numbered from 0, in the order of the seats. The
     /// blank is one of a ledger of [`ALL_PARTS`].

@@ -24,7 +24,8 @@ impl Notice for Raise<'_> {
     ghost use Rattle.batch_book.specs.Values.{value_at};
     ghost use Rattle.batch_book.specs.Seats.{Reaches};
 
-    ghost hears = { λ old k new. Reaches old.watcher (value_at old.run k) new.watcher × (new.run ≡ old.run) };
+    ghost hears = { λ old k new.
+        Reaches old.watcher (value_at old.run k) new.watcher × (new.run ≡ old.run) };
 
     fn done(&mut self, settings: usize) {
         let value = RUN_STEP * self.run as u64 + settings as u64;

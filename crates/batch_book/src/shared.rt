@@ -27,13 +27,13 @@ use std::thread::Threads;
 /// that says how far the runs have come. Each session calls from a [`Seat`] of its own. Contracts
 /// see which exchange it is, and the shape of its rack.
 #[derive(Drop)]
-pub struct Shared<L: Ledger, P, W, G> {
+pub struct Shared<L: Ledger, P: ConfigPort, W: WireMaker, G> {
     locked: Mutex<Locked<L, P, W, G>>,
     word: ProgressWord,
     shape: Shape,
 }
 
-impl<L: Ledger, P, W, G> Model for Shared<L, P, W, G> {
+impl<L: Ledger, P: ConfigPort, W: WireMaker, G> Model for Shared<L, P, W, G> {
     ghost use Rattle.batch_book.specs.Exchanges.{Exchange, exchange_coded};
 
     ghost Value = { Exchange };
@@ -43,7 +43,7 @@ impl<L: Ledger, P, W, G> Model for Shared<L, P, W, G> {
     ghost view = { λ s. record { word = s.word; shape = s.shape } };
 }
 
-impl<L: Ledger, P, W, G> Shared<L, P, W, G> {
+impl<L: Ledger, P: ConfigPort, W: WireMaker, G> Shared<L, P, W, G> {
     pub(crate) fn of(
         locked: Locked<L, P, W, G>,
         word: ProgressWord,

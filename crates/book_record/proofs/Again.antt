@@ -26,8 +26,9 @@ use Rattle.batch_book.specs.declared.call.Call.TheVariants.{Submit, Fetch, Settl
 use Rattle.batch_book.specs.declared.entry.Entry.{Entry}
 use Rattle.batch_book.specs.Machine.{Machine, batch_of, run_to, Gives, accept, refuse, submit, fetch, settle_at, settle, show, discard, peek, peek_unless, poke, poke_unless, IsRunOf, IsRunAt, IsRunStep, IsMachineStep}
 use Rattle.batch_book.specs.History.{HasOwnPlan, HaveOwnPlans, IsReplay}
+use Rattle.batch_book.specs.Replies.{IsUnstopped}
 use Rattle.batch_book.proofs.OwnPlans.{plans_stay}
-use Rattle.book_record.specs.Untold.{IsUnstopped, IsReplanned, IsReplannedEntry, AreReplanned}
+use Rattle.book_record.specs.Untold.{IsReplanned, IsReplannedEntry, AreReplanned}
 use Rattle.book_record.proofs.Alike.{us, uh, um, up, Alike, run_to_untold, submit_untold, fetched, shown, discarded, peek_untold, poke_untold}
 use Rattle.book_record.proofs.AnyRun.{placed_whole, schedule_places}
 use Rattle.book_record.proofs.OneTold.{same_count, settle_up, holds_alike, own_found, same_held, plans_alike}
@@ -79,7 +80,7 @@ run_of : (m : Machine) (id : ℕ) (p : Plan) (r : Reply) (k : Machine) → IsUns
 run_of m id p (reply.RunRefused (run_refusal.Overlap i j)) k u whole is = subst (λ (z : Machine). IsWhole z.store) (sym is.1) whole
 run_of m id p (reply.RunRefused run_refusal.Shape) k u whole is = subst (λ (z : Machine). IsWhole z.store) (sym is.2) whole
 run_of m id p (reply.Ran run settings words) k u whole is = placed_whole m.store k.store p.batch whole is.0.can_move.fits is.1.placed
-run_of m id p (reply.Stopped run setting cause moved) k u whole is = absurd u
+run_of m id p (reply.Stopped run setting cause moved) k u whole is = absurd (u run setting cause moved refl)
 run_of m id p r k u whole is = absurd is
 
 run_at : (m : Machine) (id : ℕ) (s : Stage) (r : Reply) (k : Machine) → IsUnstopped r → IsWhole m.store → IsRunAt m id s r k → IsWhole k.store
@@ -148,7 +149,7 @@ run_of_again m n id p q (reply.Ran run settings words) k e whole good same count
       ),
       ap um is.2 ∙ run_to_untold m id stage.Ran k.store ∙ ap (λ (z : Machine). run_to z id stage.Ran k.store) e ∙ sym (run_to_untold n id stage.Ran k.store),
     )
-run_of_again m n id p q (reply.Stopped run setting cause moved) k e whole good same count u is = absurd u
+run_of_again m n id p q (reply.Stopped run setting cause moved) k e whole good same count u is = absurd (u run setting cause moved refl)
 run_of_again m n id p q r k e whole good same count u is = absurd is
 
 refused_again : (m n : Machine) (r : Reply) (k : Machine) (w : Reply) → Alike m n → Gives (w, m) r k → (l : Machine) × Gives (w, n) r l × Alike k l

@@ -5,14 +5,8 @@ use Rattle.batch_book.specs.declared.call.Call.{Call}
 use Rattle.batch_book.specs.declared.call.Call.TheVariants.{Settle}
 use Rattle.batch_book.specs.declared.entry.Entry.{Entry}
 use Rattle.batch_book.specs.declared.reply.Reply.{Reply}
-use Rattle.batch_book.specs.declared.reply.Reply.TheVariants.{Stopped}
 use Rattle.book_record.specs.declared.told_call.ToldCall.{ToldCall}
 use Rattle.book_record.specs.RecordText.{told}
-
--- the reply tells of no run that stopped
-abbrev pub IsUnstopped : Reply → Type 0
-IsUnstopped (Stopped run setting cause moved) = ⊥
-IsUnstopped reply = Unit {0}
 
 -- the same call, but for another shortest plan of the same batch
 abbrev pub IsReplanned : Call → Call → Type 0

@@ -15,12 +15,12 @@ use std::thread::Threads;
 
 /// A seat beside the exchange that it belongs to. Contracts see the seat as its session does.
 #[derive(Drop)]
-pub(crate) struct ExchangeSeat<'a, L: Ledger, P, W, G> {
+pub(crate) struct ExchangeSeat<'a, L: Ledger, P: ConfigPort, W: WireMaker, G> {
     shared: &'a Shared<L, P, W, G>,
     seat: Seat<L>,
 }
 
-impl<'a, L: Ledger, P, W, G> Model for ExchangeSeat<'a, L, P, W, G> {
+impl<'a, L: Ledger, P: ConfigPort, W: WireMaker, G> Model for ExchangeSeat<'a, L, P, W, G> {
     ghost use Rattle.std.specs.Prelude.{◌≡◌, Some};
     ghost use Rattle.client_session.specs.Seats.{SeatView, seat_view};
 
@@ -31,7 +31,7 @@ impl<'a, L: Ledger, P, W, G> Model for ExchangeSeat<'a, L, P, W, G> {
     ghost invariant = { λ d. d.seat.exchange ≡ Some d.shared.now.word };
 }
 
-impl<'a, L: Ledger, P, W, G> ExchangeSeat<'a, L, P, W, G> {
+impl<'a, L: Ledger, P: ConfigPort, W: WireMaker, G> ExchangeSeat<'a, L, P, W, G> {
     /// The seat at its exchange.
     pub fn new(shared: &'a Shared<L, P, W, G>, seat: Seat<L>) -> ExchangeSeat<'a, L, P, W, G>
         requires { seat.exchange ≡ Some shared.now.word }

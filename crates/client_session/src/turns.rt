@@ -36,8 +36,8 @@ fn take_lines<I: AskedReader>(
     requires { input.old.reads ≤ MAX_READS }
     ensures ok { OnOk result (LinesTaken (I.remaining reader.old) (I.remaining reader.new)
         input.old input.new text.old.items text.new.items count) }
-    ensures err { IfErr result (λ e. LinesStopped e (I.remaining reader.old) (I.remaining reader.new)
-        input.old input.new text.old.items text.new.items count) }
+    ensures err { IfErr result (λ e. LinesStopped e (I.remaining reader.old)
+        (I.remaining reader.new) input.old input.new text.old.items text.new.items count) }
     ensures asks { GivesOrStops (I.asked reader.old) (I.asked reader.new)
         input.old.reads input.new.reads result }
     ensures fuel { fuel input.new ≤ fuel input.old }

@@ -2,17 +2,13 @@
 use Rattle.std.proofs.Common.{ℕ, List, Option, Some, None}
 use Rattle.std.specs.Borrow.{Bor}
 use Rattle.std.specs.Prelude.{option_map}
-use Rattle.batch.specs.Overlap.{no_transfer}
-use Rattle.batch.specs.Text.{Denotes as DenotesBatch}
-use Rattle.batch.specs.declared.transfer.Transfer.{Transfer}
-use Rattle.board_wiring.specs.Boards.{IsBoardOf, IsMiswired, extent_of}
+use Rattle.board_wiring.specs.Boards.{IsBoardOf, IsMiswired}
 use Rattle.board_wiring.specs.Sources.{of_wiring}
 use Rattle.board_wiring.specs.declared.fault.WiringFault.{WiringFault}
 use Rattle.crossbar.specs.declared.board.BoardWiring.{BoardWiring}
 use Rattle.refusals.specs.Refusals.{refusal_words}
 use Rattle.plan_answers.specs.Lent.{bytes_of}
 use Rattle.plan_answers.specs.Refusals.{Printed, IsRefused}
-use Rattle.rack_answers.specs.Boards.{WiresAll}
 use Rattle.rack_answers.specs.Switching.{IsOn, wired, miswired}
 
 -- a batch that is read against its shape names modules that it wires

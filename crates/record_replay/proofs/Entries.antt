@@ -70,23 +70,6 @@ came_as old new text replied rest session tc c r is fits can may grown asks answ
     came old new text replied rest session c r fits (subst CanSay (sym is) can) may grown
     (subst (λ (x : ToldCall). text ≡ number session space ++ (call_text x ++ replied)) (sym is) asks) (subst (λ (x : ToldCall). replied ≡ reply_text (id_of x) r ++ rest) (sym is) answers)
 
--- it doesn't
-pub came_otherwise : (old new : Account) (text replied due : List ℕ) (session : ℕ) (tc : ToldCall) (c : Call) (r : Reply) → told c ≡ tc → IsNumber session → CanSay tc → CanBeReplied r → IsGrown old session c r new
-    → text ≡ number session space ++ (call_text tc ++ replied) → due ≡ reply_text (id_of tc) r → ((rest : List ℕ) → replied ≢ due ++ rest) → IsOtherReply old.machine text replied due
-came_otherwise old new text replied due session tc c r is fits can may grown asks line differs = record {
-  session = session;
-  call = c;
-  reply = r;
-  next = new.machine;
-  number_fits = fits;
-  can_say = subst CanSay (sym is) can;
-  can_reply = may;
-  step = grown.step;
-  asks = subst (λ (x : ToldCall). text ≡ number session space ++ (call_text x ++ replied)) (sym is) asks;
-  due_is = subst (λ (x : ToldCall). due ≡ reply_text (id_of x) r) (sym is) line;
-  differs = differs;
-}
-
 -- ---- how far a record was made again
 
 pub record Going (text : List ℕ) (opening : Store) (count k : ℕ) (book : Account) (rest : List ℕ) : Type 0 where

@@ -10,7 +10,7 @@ use Rattle.batch_book.specs.declared.reply.Reply.{Reply}
 use Rattle.batch_book.specs.declared.reply.Reply.TheVariants as reply
 use Rattle.batch_book.specs.Seats.{own}
 use Rattle.book_record.specs.RecordText.{told, CanSay, CanBeReplied, CanTell}
-use Rattle.book_record.specs.Untold.{IsUnstopped}
+use Rattle.batch_book.specs.Replies.{IsUnstopped}
 use Rattle.record_replay.specs.Fetched.{SettleFetched}
 use Rattle.record_replay.specs.SessionLaws.{SessionsAreTold}
 use Rattle.record_replay.proofs.Others.{no_others, none_own, all_own}
@@ -21,7 +21,7 @@ refused_so Stranger never = never refl
 refused_so why never = tt
 
 can_be_replied : (r : Reply) → IsUnstopped r → r ≢ reply.Refused Stranger → CanBeReplied r
-can_be_replied (reply.Stopped run setting cause moved) unstopped never = unstopped
+can_be_replied (reply.Stopped run setting cause moved) unstopped never = unstopped run setting cause moved refl
 can_be_replied (reply.Refused why) unstopped never = refused_so why (λ is. never (ap reply.Refused is))
 can_be_replied r unstopped never = tt
 

@@ -7,14 +7,13 @@ use Rattle.batch.specs.declared.limits.TheConstants.{MAX_DIGITS}
 use Rattle.batch_book.specs.declared.entry.Entry.{Entry}
 use Rattle.batch_book.specs.declared.refusal.BookRefusal.TheVariants.{Stranger}
 use Rattle.batch_book.specs.declared.reply.Reply.TheVariants.{Refused}
-use Rattle.batch_book.specs.History.{IsReplay}
+use Rattle.batch_book.specs.History.{AreUnstopped, IsReplay}
 use Rattle.batch_book.specs.Machine.{Machine, opened}
 use Rattle.batch_book.specs.Seats.{own}
 use Rattle.client_session.specs.Seats.{SeatView}
 use Rattle.client_session.specs.Sessions.{HasEnded}
 use Rattle.client_session.specs.declared.fault.ServeFault.{ServeFault}
 use Rattle.book_record.specs.RecordText.{CanTell}
-use Rattle.book_record.specs.Untold.{IsUnstopped}
 use Rattle.record_replay.specs.Fetched.{AreOfLines, SettleFetched}
 
 -- where each session settles plans right behind the fetching of their batches, none is another's
@@ -31,7 +30,7 @@ SessionsAreTold =
     (opening : Store) (es : List Entry) (end : Machine) (n : ℕ) → IsReplay (opened opening) es end
     → sum_by (λ session. length (own session es)) (range_with_len 0 n) ≡ length es
     → n ≤ 10 ^ MAX_DIGITS → ((session : ℕ) → session < n → AreOfLines (own session es))
-    → All (λ e. IsUnstopped e.reply) es → All CanTell es
+    → AreUnstopped es → All CanTell es
 
 -- the entries of a session are such as its lines say
 abbrev pub SessionsSay : Type 0

@@ -1,17 +1,19 @@
--- A record can tell the books that sessions leave.
-use Rattle.std.proofs.Common.{◌≡◌, ℕ, zero, suc, ◌+◌, ◌<◌, ◌≤◌, List, [], ◌∷◌, length, map, Bool, true, false, nat_eq, Option, None, Some, refl, sym, ap, ◌∙◌, subst, arith, eqb-true, inl, inr}
+-- What is recorded of the books that sessions leave is replayed to what these have.
+use Rattle.std.proofs.Common.{◌≡◌, ℕ, zero, suc, ◌+◌, ◌<◌, ◌≤◌, List, [], ◌∷◌, length, map, All, Bool, true, false, nat_eq, Option, None, Some, refl, sym, ap, ◌∙◌, subst, arith, eqb-true, inl, inr}
 use Rattle.std.specs.Prelude.{unwrap_or}
 use Rattle.std.specs.List.{AllByRecursion, range_with_len, sum_by}
 use Rattle.std.proofs.lemmas.Bool.{cases_lt, eqb-false}
 use Rattle.std.proofs.lemmas.List.Elements.{All-from_recursion, recursion_from_All}
 use Rattle.std.proofs.lemmas.List.Sums.{sum_by-cons}
 use Rattle.batch.specs.Extent.{Extent, IsShape}
+use Rattle.module_memory.specs.Images.{image_of}
 use Rattle.module_memory.specs.Store.{Store}
 use Rattle.batch_book.specs.declared.entry.Entry.{Entry}
 use Rattle.batch_book.specs.History.{Account}
 use Rattle.batch_book.specs.Seats.{own}
 use Rattle.rack_answers.specs.Openings.{IsOfImageOrZeros}
-use Rattle.book_record.specs.RecordText.{told, CanSay}
+use Rattle.book_record.specs.RecordText.{record_text, told, CanSay, CanTell}
+use Rattle.replay_answers.specs.Replays.{led, replayed, IsRecordTo}
 use Rattle.record_replay.specs.Fetched.{AreOfLines}
 use Rattle.record_replay.specs.SessionLaws.{SessionsAreTold, SessionsSay}
 use Rattle.plan_answers.specs.Refusals.{Printed}
@@ -23,7 +25,7 @@ use Rattle.rack_answers.specs.Openings.{IsRackOf}
 use Rattle.session_answers.specs.Serving.{HasItsScript, served, refused}
 use Rattle.session_answers.specs.Sessions.{IsServedSession}
 use Rattle.session_answers.specs.Talking.{talked, refused as talk_refused}
-use Rattle.recorded_sessions.specs.Laws.{IsTold, ServeIsTold, HostIsTold, TalkIsTold}
+use Rattle.recorded_sessions.specs.Laws.{IsReplayedTo, ServeIsReplayed, HostIsReplayed, TalkIsReplayed}
 
 -- ---- the rack
 
@@ -70,21 +72,27 @@ in_range Q a zero s all le less = let never : ⊥ = omega (arith, le, less) in a
 in_range Q a (suc k) s all le less = in_range_if Q a k s (nat_eq s a) refl all.0 (λ up. in_range Q (a + 1) k s all.1 up (omega (arith, less))) le
 
 -- a history of sessions that are numbered from 0
-parts_told : SessionsAreTold → (opening : Store) (parts : List Part) (book : Account) (n : ℕ) → HaveOneHistory opening parts book → map session_of parts ≡ range_with_len 0 n → n ≤ 1000000000 → OfLines parts → IsTold book
-parts_told tell opening parts book n one numbers few say unstopped =
+parts_told : SessionsAreTold → (opening : Store) (parts : List Part) (book : Account) (n : ℕ) → HaveOneHistory opening parts book → map session_of parts ≡ range_with_len 0 n → n ≤ 1000000000 → OfLines parts → All CanTell book.history
+parts_told tell opening parts book n one numbers few say =
     let es = book.history in
     let are = recursion_from_All (λ p. p.entries ≡ own p.session es) parts one.are_parts in
     let total : sum_by (λ s. length (own s es)) (range_with_len 0 n) ≡ length es =
     subst (λ (ns : List ℕ). sum_by (λ s. length (own s es)) ns ≡ length es) numbers (own_total es parts are ∙ sym one.counted) in
     let lines : AllByRecursion (λ s. AreOfLines (own s es)) (range_with_len 0 n) = subst (AllByRecursion (λ s. AreOfLines (own s es))) numbers (own_lines es parts are say) in
-    tell opening es book.machine n one.replay total (omega (arith, few)) (λ s less. in_range (λ s. AreOfLines (own s es)) 0 n s lines (omega arith) (omega (arith, less))) unstopped
+    tell opening es book.machine n one.replay total (omega (arith, few)) (λ s less. in_range (λ s. AreOfLines (own s es)) 0 n s lines (omega arith) (omega (arith, less))) one.unstopped
 
 one_book : (a b : Account) → Some a ≡ Some b → b ≡ a
 one_book a b is = sym (ap (λ (o : Option Account). unwrap_or o a) is)
 
-closing_told : SessionsAreTold → (opening : Store) (parts : List Part) (text : List ℕ) (failed : Bool) (printed : Printed) (book : Account) (n : ℕ) → IsClosing opening parts text failed printed (Some book) → map session_of parts ≡ range_with_len 0 n → n ≤ 1000000000 → OfLines parts → IsTold book
-closing_told tell opening parts text failed printed book n (agree other one is _ _) numbers few say = parts_told tell opening parts book n (subst (HaveOneHistory opening parts) (one_book book other is) one) numbers few say
-closing_told tell opening parts text failed printed book n (disagree _ is _ _) numbers few say = absurd cc
+is_replayed : SessionsAreTold → (shape : List ℕ) (image : Option (List ℕ)) (opening : Store) (parts : List Part) (book : Account) (n : ℕ) → IsRackOf shape image opening → HaveOneHistory opening parts book → map session_of parts ≡ range_with_len 0 n → n ≤ 1000000000 → OfLines parts → IsReplayedTo shape image book
+is_replayed tell shape image opening parts book n rack one numbers few say =
+    let all = parts_told tell opening parts book n one numbers few say in
+    let to : IsRecordTo opening (record_text book.history) (image_of book.machine.store) = record { history = book.history; end = book.machine; recorded = record { spelled = refl; few = one.few; each = all }; legal = one.replay; image_is = refl } in
+    record { told = all; answered = (None, replayed opening rack (led to refl refl)) }
+
+closing_replayed : SessionsAreTold → (shape : List ℕ) (image : Option (List ℕ)) (opening : Store) (parts : List Part) (text : List ℕ) (failed : Bool) (printed : Printed) (book : Account) (n : ℕ) → IsRackOf shape image opening → IsClosing opening parts text failed printed (Some book) → map session_of parts ≡ range_with_len 0 n → n ≤ 1000000000 → OfLines parts → IsReplayedTo shape image book
+closing_replayed tell shape image opening parts text failed printed book n rack (agree other one is _ _) numbers few say = is_replayed tell shape image opening parts book n rack (subst (HaveOneHistory opening parts) (one_book book other is) one) numbers few say
+closing_replayed tell shape image opening parts text failed printed book n rack (disagree _ is _ _) numbers few say = absurd cc
 
 -- ---- sessions
 
@@ -99,12 +107,12 @@ script_numbers : (sessions : List Transcript) → map session_of (map (λ t. t.p
 script_numbers [] = refl
 script_numbers (t ∷ sessions) = ap (λ (ns : List ℕ). t.part.session ∷ ns) (script_numbers sessions)
 
-pub serve_is_told : SessionsSay → SessionsAreTold → ServeIsTold
-serve_is_told law tell shape image scripts printed book (served opening rack all) few =
+pub serve_is_replayed : SessionsSay → SessionsAreTold → ServeIsReplayed
+serve_is_replayed law tell shape image scripts printed book (served opening rack all) few =
     let sessions = all.0 in
-    closing_told tell opening (map (λ t. t.part) sessions) _ _ printed book (length scripts) all.2 (script_numbers sessions ∙ all.1.numbers) (omega (arith, few))
+    closing_replayed tell shape image opening (map (λ t. t.part) sessions) _ _ printed book (length scripts) rack all.2 (script_numbers sessions ∙ all.1.numbers) (omega (arith, few))
     (scripts_say law opening.shape scripts sessions (rack_shape shape image opening rack) (recursion_from_All (HasItsScript opening.shape scripts) sessions all.1.each))
-serve_is_told law tell shape image scripts printed book (refused _ _ _ is) few = absurd cc
+serve_is_replayed law tell shape image scripts printed book (refused _ _ _ is) few = absurd cc
 
 none_say : AreOfLines []
 none_say = record { calls = All-from_recursion (λ e. CanSay (told e.call)) [] tt; settle = tt }
@@ -121,16 +129,16 @@ host_numbers : (sessions : List HostedSession) → map session_of (map (λ v. v.
 host_numbers [] = refl
 host_numbers (v ∷ sessions) = ap (λ (ns : List ℕ). v.part.session ∷ ns) (host_numbers sessions)
 
-pub host_is_told : SessionsSay → SessionsAreTold → HostIsTold
-host_is_told law tell shape image g ends printed book (opened opening rack (hosted all)) few =
+pub host_is_replayed : SessionsSay → SessionsAreTold → HostIsReplayed
+host_is_replayed law tell shape image g ends printed book (opened opening rack (hosted all)) few =
     let sessions = all.0 in
-    closing_told tell opening (map (λ v. v.part) sessions) _ _ printed book g.clients all.3 (host_numbers sessions ∙ all.2.numbers) (omega (arith, few))
+    closing_replayed tell shape image opening (map (λ v. v.part) sessions) _ _ printed book g.clients rack all.3 (host_numbers sessions ∙ all.2.numbers) (omega (arith, few))
     (hosts_say law opening.shape g sessions (rack_shape shape image opening rack) (recursion_from_All (λ v. IsHostedSession opening.shape g v.part v.end) sessions all.2.each))
-host_is_told law tell shape image g ends printed book (opened opening rack (threads_refused _ _ is)) few = absurd cc
-host_is_told law tell shape image g ends printed book (host_refused _ _ _ _ is) few = absurd cc
+host_is_replayed law tell shape image g ends printed book (opened opening rack (threads_refused _ _ is)) few = absurd cc
+host_is_replayed law tell shape image g ends printed book (host_refused _ _ _ _ is) few = absurd cc
 
-pub talk_is_told : SessionsSay → SessionsAreTold → TalkIsTold
-talk_is_told law tell shape image before after told printed book (talked opening rack all) =
+pub talk_is_replayed : SessionsSay → SessionsAreTold → TalkIsReplayed
+talk_is_replayed law tell shape image before after told printed book (talked opening rack all) =
     let t = all.0 in
-    closing_told tell opening (t.part ∷ []) _ _ printed book 1 all.4 (ap (λ (s : ℕ). s ∷ []) all.1) (omega arith) (served_say law opening.shape before after t (rack_shape shape image opening rack) all.3, tt)
-talk_is_told law tell shape image before after told printed book (talk_refused _ _ _ _ is) = absurd cc
+    closing_replayed tell shape image opening (t.part ∷ []) _ _ printed book 1 rack all.4 (ap (λ (s : ℕ). s ∷ []) all.1) (omega arith) (served_say law opening.shape before after t (rack_shape shape image opening rack) all.3, tt)
+talk_is_replayed law tell shape image before after told printed book (talk_refused _ _ _ _ is) = absurd cc

@@ -1,4 +1,4 @@
-//! What `serve`, `host` and `talk` leave can be told by a record. There are laws alone.
+//! What `serve`, `host` and `talk` record is replayed to what they leave. There are laws alone.
 #![tactic(auto)]
 
 pub mod laws;

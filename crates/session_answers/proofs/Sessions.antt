@@ -10,12 +10,15 @@ use Rattle.std.proofs.lemmas.Simd.{map-map}
 use Rattle.std.specs.Io.KnownBytes.{Appends}
 use Rattle.module_memory.specs.Store.{Store}
 use Rattle.batch.specs.Extent.{Extent}
+use Rattle.crossbar.specs.declared.port.ConfigPort.{Ghosts}
 use Rattle.batch_book.specs.declared.close.Closed.{Closed}
 use Rattle.batch_book.specs.declared.entry.Entry.{Entry}
+use Rattle.batch_book.specs.declared.limits.TheConstants.{MAX_ENTRIES}
 use Rattle.batch_book.specs.Closing.{AreClosed, LogsAgree, NoneAhead}
 use Rattle.batch_book.specs.Exchanges.{Exchange, AreNew, new_seat, parts_at}
 use Rattle.batch_book.specs.History.{IsLegal, IsReplay}
 use Rattle.batch_book.specs.Machine.{opened}
+use Rattle.batch_book.specs.Replies.{NeverFail}
 use Rattle.batch_book.specs.Seats.{SeatState, IsSameSeat, own}
 use Rattle.batch_book.specs.Values.{greatest}
 use Rattle.client_session.specs.declared.fault.ServeFault.{ServeFault}
@@ -156,45 +159,47 @@ all_served {L} x scripts n seats ss count new len each =
 -- ---- the exchange is closed
 
 -- the history that the exchange kept
-its_entries : {L P W G : Type 0} (seats : List SeatState) (c : Closed L P W G) → AreClosed seats c → HasAllEntries (map part_of seats) c.book.history
-its_entries seats c closed = closed.counted ∙ sym (sum_mapped (λ (p : Part). length p.entries) part_of seats)
+its_entries : {L P W G : Type 0} (seen : Ghosts P) (sure : W → ℕ → Type 0) (seats : List SeatState) (c : Closed L P W G) → AreClosed seen sure seats c → HasAllEntries (map part_of seats) c.book.history
+its_entries seen sure seats c closed = closed.counted ∙ sym (sum_mapped (λ (p : Part). length p.entries) part_of seats)
 
 -- where their lists agree with it, it is that of its sessions
-pub one_history : {L P W G : Type 0} (opening : Store) (seats : List SeatState) (c : Closed L P W G)
-    → AreClosed seats c → LogsAgree seats c → NoneAhead seats c → IsReplay (opened c.book.opening) c.book.history c.book.machine
-    → c.book.opening ≡ opening → HaveOneHistory opening (map part_of seats) c.book
-one_history {L} opening seats c closed agree behind replay is =
+pub one_history : {L P W G : Type 0} (seen : Ghosts P) (sure : W → ℕ → Type 0) (opening : Store) (seats : List SeatState) (c : Closed L P W G)
+    → AreClosed seen sure seats c → NeverFail seen sure → LogsAgree seats c → NoneAhead seats c → IsReplay (opened c.book.opening) c.book.history c.book.machine
+    → length c.book.history ≤ MAX_ENTRIES → c.book.opening ≡ opening → HaveOneHistory opening (map part_of seats) c.book
+one_history {L} seen sure opening seats c closed never agree behind replay few is =
     let h = c.book.history in
     record {
       is_opening = is;
       replay = subst (λ (s : Store). IsReplay (opened s) h c.book.machine) is replay;
-      counted = its_entries seats c closed;
+      counted = its_entries seen sure seats c closed;
       are_parts = All-map (λ (p : Part). p.entries ≡ own p.session h) part_of seats agree;
+      few = few;
+      unstopped = closed.unstopped never;
       seen = All-map (λ (p : Part). p.seen ≤ greatest h) part_of seats behind;
     }
 
 -- where it is from another store, it is another one
-pub history_elsewhere : {L P W G : Type 0} (opening : Store) (seats : List SeatState) (c : Closed L P W G)
-    → AreClosed seats c → IsLegal c.book.opening c.book.history → ¬ (c.book.opening ≡ opening) → HaveAnotherHistory opening (map part_of seats)
-history_elsewhere opening seats c closed legal other =
+pub history_elsewhere : {L P W G : Type 0} (seen : Ghosts P) (sure : W → ℕ → Type 0) (opening : Store) (seats : List SeatState) (c : Closed L P W G)
+    → AreClosed seen sure seats c → IsLegal c.book.opening c.book.history → ¬ (c.book.opening ≡ opening) → HaveAnotherHistory opening (map part_of seats)
+history_elsewhere seen sure opening seats c closed legal other =
     record {
       kept = c.book.opening;
       history = c.book.history;
       legal = legal;
-      counted = its_entries seats c closed;
+      counted = its_entries seen sure seats c closed;
       no_parts = λ is parts. other is;
     }
 
 -- and where the lists don't agree with it
-pub another_history : {L P W G : Type 0} (opening : Store) (seats : List SeatState) (c : Closed L P W G)
-    → AreClosed seats c → ¬ LogsAgree seats c → IsLegal c.book.opening c.book.history → HaveAnotherHistory opening (map part_of seats)
-another_history {L} opening seats c closed differ legal =
+pub another_history : {L P W G : Type 0} (seen : Ghosts P) (sure : W → ℕ → Type 0) (opening : Store) (seats : List SeatState) (c : Closed L P W G)
+    → AreClosed seen sure seats c → ¬ LogsAgree seats c → IsLegal c.book.opening c.book.history → HaveAnotherHistory opening (map part_of seats)
+another_history {L} seen sure opening seats c closed differ legal =
     let h = c.book.history in
     record {
       kept = c.book.opening;
       history = h;
       legal = legal;
-      counted = its_entries seats c closed;
+      counted = its_entries seen sure seats c closed;
       no_parts = λ _ parts. differ (of_map (λ (p : Part). p.entries ≡ own p.session h) part_of seats parts);
     }
 

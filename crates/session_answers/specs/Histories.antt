@@ -2,7 +2,8 @@
 use Rattle.std.specs.Prelude.{◌≡◌, ℕ, ◌≤◌, if◌then◌else◌, Bool, List, ◌++◌, codes, length, All, sum_by, Option, Some, None}
 use Rattle.module_memory.specs.Store.{Store}
 use Rattle.batch_book.specs.declared.entry.Entry.{Entry}
-use Rattle.batch_book.specs.History.{Account, IsLegal, IsReplay}
+use Rattle.batch_book.specs.declared.limits.TheConstants.{MAX_ENTRIES}
+use Rattle.batch_book.specs.History.{Account, AreUnstopped, IsLegal, IsReplay}
 use Rattle.batch_book.specs.Machine.{opened}
 use Rattle.batch_book.specs.Seats.{SeatState, own}
 use Rattle.batch_book.specs.Values.{greatest}
@@ -29,13 +30,16 @@ abbrev pub AreParts : List Part → List Entry → Type 0
 AreParts parts history = All (λ p. p.entries ≡ own p.session history) parts
 
 -- The sessions have one history from this opening store, that of this book: it has just their
--- entries, those of each session in its order, and leads to the book's machine. No session saw the
--- runs come further than it tells.
+-- entries, those of each session in its order, and leads to the book's machine. There are no more
+-- than a book may have, and no run of it stopped. No session saw the runs come further than it
+-- tells.
 pub record HaveOneHistory (opening : Store) (parts : List Part) (book : Account) : Type 0 where
   pub is_opening : book.opening ≡ opening
   pub replay : IsReplay (opened opening) book.history book.machine
   pub counted : HasAllEntries parts book.history
   pub are_parts : AreParts parts book.history
+  pub few : length book.history ≤ MAX_ENTRIES
+  pub unstopped : AreUnstopped book.history
   pub seen : All (λ p. p.seen ≤ greatest book.history) parts
 
 -- the history that was kept of the sessions has another opening store, or isn't that of their

@@ -62,7 +62,8 @@ struct OfSeat<'a, L: Ledger, D> {
 
 impl<'a, L: Ledger, D: ClientStreams> Promise<Option<EndedSession<L, D::Receipt>>>
     for OfSeat<'a, L, D> {
-    ghost kept_by = { λ p given. IfSome given (IsOfSeat p.exchange.now (D.known p.streams.now) D.received p.seat.value) };
+    ghost kept_by = { λ p given. IfSome given
+        (IsOfSeat p.exchange.now (D.known p.streams.now) D.received p.seat.value) };
 }
 
 /// The thread of a client's session. It gives none where it wasn't told that all threads are there.
@@ -130,11 +131,13 @@ fn start_all<'s, E, L: Ledger + Send + Sync, R: Threads + Wait + Sync, D: Client
     context: &'s HostContext<'s, L, R, D>,
     seats: Vec<Seat<L>>,
 ) -> Result<Option<Vec<SessionThread<'s, L, D>>>, AllocError>
-    requires { AreNew context.now.exchange.now.word (D.known context.now.streams.now).clients seats.items }
+    requires { AreNew context.now.exchange.now.word
+        (D.known context.now.streams.now).clients seats.items }
     ensures seats { IfOk result (λ started. IfSome started (λ threads.
         map (λ t. t.promise.seat.value) threads.items ≡ seats.items)) }
     ensures context { IfOk result (λ started. IfSome started (λ threads. All (λ t.
-        (t.promise.exchange ≡ context.now.exchange) × (t.promise.streams ≡ context.now.streams)) threads.items)) }
+        (t.promise.exchange ≡ context.now.exchange)
+        × (t.promise.streams ≡ context.now.streams)) threads.items)) }
 {
     let mut threads = Vec::new(context.alloc);
     for seat in seats {
@@ -185,7 +188,8 @@ fn host_all<'s, E, L: Ledger + Send + Sync, R: Threads + Wait + Sync, D: ClientS
     context: &'s HostContext<'s, L, R, D>,
     seats: Vec<Seat<L>>,
 ) -> Result<Option<Vec<EndedSession<L, D::Receipt>>>, AllocError>
-    requires { AreNew context.now.exchange.now.word (D.known context.now.streams.now).clients seats.items }
+    requires { AreNew context.now.exchange.now.word
+        (D.known context.now.streams.now).clients seats.items }
     ensures { IfOk result (λ hosted. IfSome hosted (λ sessions.
         AreHostedSessionsAt context.now.exchange.now (D.known context.now.streams.now) D.received
         sessions.items)) }
@@ -228,10 +232,12 @@ fn host_seats<'a, L: Ledger + Send + Sync, R: Threads + Wait + Sync, D: ClientSt
         thread::scope_env(),
         rt,
         move |scope| -> Result<Option<Vec<EndedSession<L, D::Receipt>>>, AllocError>
-            requires { AreNew context.now.exchange.now.word (D.known context.now.streams.now).clients
+            requires { AreNew context.now.exchange.now.word
+                (D.known context.now.streams.now).clients
                 seats.items }
             ensures { IfOk result (λ hosted. IfSome hosted (λ sessions.
-                AreHostedSessionsAt context.entry.now.exchange.now (D.known context.entry.now.streams.now) D.received
+                AreHostedSessionsAt context.entry.now.exchange.now
+                (D.known context.entry.now.streams.now) D.received
                 sessions.items)) }
         { host_all(scope, context, seats) },
     )
@@ -272,7 +278,8 @@ fn ends_of<L: Ledger, D: ClientStreams>(
     sessions: &[EndedSession<L, D::Receipt>],
 ) -> Result<Vec<u8>, AllocError>
     ensures { IfOk result (λ text.
-        text.items ≡ flat_map (hosted_text (D.known streams.now)) (map (hosted_session D.received) sessions.now)) }
+        text.items ≡ flat_map (hosted_text (D.known streams.now))
+        (map (hosted_session D.received) sessions.now)) }
 {
     let mut text = Vec::new(alloc);
     for session in sessions {

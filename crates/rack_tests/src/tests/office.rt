@@ -112,7 +112,7 @@ pub fn answer<
 
 /// An exchange, and its two seats.
 #[derive(Drop)]
-pub struct Pair<L: Ledger, W, G> {
+pub struct Pair<L: Ledger, W: WireMaker, G> {
     pub shared: Shared<L, MemoryPort, W, G>,
     pub first: Seat<L>,
     pub second: Seat<L>,
@@ -121,7 +121,7 @@ pub struct Pair<L: Ledger, W, G> {
 }
 
 /// An exchange with two seats on this rack, with this plant.
-pub fn open_pair<L: Ledger, W: Drop, G: Drop>(
+pub fn open_pair<L: Ledger, W: WireMaker + Drop, G: Drop>(
     alloc: Global,
     blank: Blank,
     rack: Rack,
@@ -145,7 +145,7 @@ pub fn open_pair<L: Ledger, W: Drop, G: Drop>(
 }
 
 /// Closes the exchange with both seats, the second one first.
-pub fn close<L: Ledger, W: Drop, G: Drop>(
+pub fn close<L: Ledger, W: WireMaker + Drop, G: Drop>(
     alloc: Global,
     pair: Pair<L, W, G>,
 ) -> Option<Closed<L, MemoryPort, W, G>>

@@ -107,7 +107,7 @@ impl<'a> WireMaker for HeldLines<'a> {
 }
 
 /// Reads until this was read, and says so to the hold. It is given no `Wait`.
-fn look<L: Ledger, P, W, G>(
+fn look<L: Ledger, P: ConfigPort, W: WireMaker, G>(
     shared: &Shared<L, P, W, G>,
     seat: Seat<L>,
     hold: &Hold,

@@ -4,6 +4,7 @@ use Rattle.batch_book.specs.declared.raise.Raise.{Raise}
 use Rattle.batch_book.specs.History.{IsGrown}
 use Rattle.batch_book.proofs.Answering.{replied}
 use Rattle.batch_book.proofs.Seats.{heard, unheard}
+use Rattle.batch_book.proofs.Unstopped.{stay_unstopped}
 use Rattle.batch_book.proofs.locked.Locked.ask.Goals as goal
 use Rattle.batch_book.proofs.locked.Locked.ask.Goals.{then-is_logged, else-is_logged}
 
@@ -48,4 +49,7 @@ pub invariant_of-self : goal.invariant_of-self
 invariant_of-self g c =
     let grown = c.apply-reply.ensures.grown (sym c.is_logged.ensures ∙ c.if-is_logged.true) in
     let longer = simp length-append at (ap length grown.history) in
-    record { counted = omega (arith, longer, c.add.ensures.total, c.args.self.now.counted) }
+    record {
+      counted = omega (arith, longer, c.add.ensures.total, c.args.self.now.counted);
+      unstopped = stay_unstopped _ _ _ _ _ _ c.args.self.now.book _ _ c.apply-reply.result _ c.apply-reply.ensures.plant grown c.args.self.now.unstopped;
+    }

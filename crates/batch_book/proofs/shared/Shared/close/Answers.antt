@@ -25,6 +25,7 @@ returns-then-agree g c =
         all_parts = ap parts_of (sym same) ∙ e.total;
         kept = written items c.gather-all.new.seats _ len (sym c.as_slice.ensures.len ∙ ap length c.as_slice.ensures.value) ∙ ns;
         counted = c.into_parts-locked.result.0.counted ∙ sym total ∙ e.amount ∙ ap entries_of same;
+        unstopped = c.into_parts-locked.result.0.unstopped;
       },
       agrees,
       λ k d below. (let a = seen k d below in let b = c.load.ensures.later in omega arith),
@@ -43,6 +44,7 @@ returns g c =
         all_parts = ap parts_of (sym same) ∙ e.total;
         kept = written items c.gather-all.new.seats _ len (sym c.as_slice.ensures.len ∙ ap length c.as_slice.ensures.value) ∙ ns;
         counted = c.into_parts-locked.result.0.counted ∙ sym total ∙ e.amount ∙ ap entries_of same;
+        unstopped = c.into_parts-locked.result.0.unstopped;
       },
       λ agrees. true≢false (sym (c.agree-agree.ensures.1 (subst (λ l. All (LogAgrees c.history.result.now) l) (sym c.as_slice-2.ensures.value) (subst (λ x. All (LogAgrees x) items) (sym c.history.ensures.history) agrees))) ∙ c.if-agree.false),
     )
