@@ -31,7 +31,11 @@ impl Model for FusePort {
 
     ghost coded = { fuse_code };
 
-    ghost view = { λ port. record { switches = port.chips; remaining = port.remaining; failures = port.failed } };
+    ghost view = { λ port. record {
+      switches = port.chips;
+      remaining = port.remaining;
+      failures = port.failed;
+    } };
 }
 
 impl FusePort {
@@ -72,7 +76,8 @@ impl ConfigPort for FusePort {
         ensures done { OnOk result (Carries chip bytes.now self.old self.new replies.new) }
         // It takes the bytes just where they are within those that are left.
         ensures within { IsOk result ↔ HasRemaining self.old.remaining (length bytes.now) }
-        ensures remaining { OnOk result (self.new.remaining ≡ remaining_after self.old.remaining (length bytes.now)) }
+        ensures remaining { OnOk result
+            (self.new.remaining ≡ remaining_after self.old.remaining (length bytes.now)) }
         ensures whole { OnErr result (CarriesRemaining chip bytes.now self.old self.new) }
         ensures ends { OnErr result (self.new.remaining ≡ None) }
         ensures replies { OnErr result (replies.new ≡ replies.old) }

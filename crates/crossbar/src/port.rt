@@ -41,8 +41,8 @@ pub trait ConfigPort {
     /// to a real switch has to do so.
     fn converse(&mut self, chip: Chip, bytes: &[u8], replies: &mut [u8]) -> Result<(), PortFault>
         requires { IsConversation bytes.now (length replies.old) }
-        ensures done { IsTrue (honest self.old) →
-            OnOk result (CarriesOutAt chip bytes.now (switches self.old) (switches self.new) replies.new) }
+        ensures done { IsTrue (honest self.old) → OnOk result
+            (CarriesOutAt chip bytes.now (switches self.old) (switches self.new) replies.new) }
         // A fault is a failure in this call, and there are no others. They are never taken back.
         ensures fault { OnErr result (failures self.old < failures self.new) }
         ensures counted { failures self.old ≤ failures self.new }
