@@ -6,7 +6,7 @@ use Rattle.std.specs.List.{flat_map, list_any, AllByRecursion}
 use Rattle.std.specs.FinMap.{get, insert, remove, find, get-empty, get-from_entries}
 use Rattle.c004_commands.specs.declared.command.Command.TheVariants.{Connect, Join, Enquire, Settle, Reset, Cut, CutPair}
 use Rattle.crossbar.specs.Switch.{Sources, Switch, after, after_all, idle}
-use Rattle.crossbar.specs.Pairs.{ArePairs, room_of, ends, switch_of, join, cut, is_pair, without, setting, change}
+use Rattle.crossbar.specs.Pairs.{Fits, ArePairs, room_of, ends, switch_of, join, cut, is_pair, without, setting, change}
 use Rattle.crossbar.specs.declared.chip.Wiring.{Wiring}
 use Rattle.crossbar.specs.declared.chip.Wiring.TheVariants.{Both, Forth, Back, Board}
 use Rattle.crossbar.specs.declared.pair.Pair.{Pair}
@@ -98,10 +98,6 @@ all_in P (q ∷ qs) p a i = elim i [
   | inl e ↦ subst P e a.0
   | inr h ↦ all_in P qs p a.1 h
 ]
-
--- the switch has links for a pair
-abbrev Fits : Wiring → Pair → Type 0
-Fits w p = (p.initiator < room_of w) × (p.responder < room_of w)
 
 low : (w : Wiring) (ps : List Pair) (p : Pair) → ArePairs (room_of w) ps → In p ps → Fits w p
 low w [] p a i = absurd i

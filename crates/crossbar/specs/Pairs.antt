@@ -23,6 +23,10 @@ room_of Forth = PORTS
 room_of Back = PORTS
 room_of (Board board) = length (links_of board)
 
+-- the ends of both modules of a pair can be wired to a switch
+abbrev pub Fits : Wiring → Pair → Type 0
+Fits wiring pair = (pair.initiator < room_of wiring) × (pair.responder < room_of wiring)
+
 -- pairs among so many modules that can be joined at once, in the order of a setting: initiators
 -- ascend, and responders differ
 abbrev pub ArePairs : ℕ → List Pair → Type 0

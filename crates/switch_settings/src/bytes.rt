@@ -5,7 +5,7 @@ ghost use Rattle.std.specs.List.{list_any};
 ghost use Rattle.c004_commands.specs.Commands.{row, text};
 ghost use Rattle.crossbar.specs.Switch.{Switch};
 ghost use Rattle.crossbar.specs.Chips.{wide_wiring};
-ghost use Rattle.crossbar.specs.Pairs.{ArePairs, room_of, switch_of, setting, change, is_pair};
+ghost use Rattle.crossbar.specs.Pairs.{Fits, ArePairs, room_of, switch_of, setting, change, is_pair};
 ghost use Rattle.crossbar.specs.declared.chip.Wiring.TheVariants.{Both, Board};
 ghost use Rattle.switch_settings.specs.Pairs.{command_of, commands_of, both_ways_command, one_way_command, longest_setting, longest_change, Turns, all_enquiries};
 
@@ -44,7 +44,8 @@ enum Way {
 pub fn setting_bytes(pairs: &[Pair], out: &mut [u8; CHANGE_BYTES]) -> usize
     requires { ArePairs JOINED_MODULES pairs.now }
     ensures bytes { take result out.new ≡ text (setting Both pairs.now) }
-    ensures sets { (switch : Switch) → Turns (take result out.new) switch (switch_of Both pairs.now) }
+    ensures sets { (switch : Switch) →
+        Turns (take result out.new) switch (switch_of Both pairs.now) }
     ensures room { result ≤ CHANGE_BYTES }
 {
     put_setting(Wiring::Both, pairs, out)
@@ -115,7 +116,8 @@ pub fn put_setting(wiring: Wiring, pairs: &[Pair], out: &mut [u8]) -> usize
     requires pairs { ArePairs (room_of wiring) pairs.now }
     requires room { longest_setting wiring ≤ length out.old }
     ensures bytes { take result out.new ≡ text (setting wiring pairs.now) }
-    ensures sets { (switch : Switch) → Turns (take result out.new) switch (switch_of wiring pairs.now) }
+    ensures sets { (switch : Switch) →
+        Turns (take result out.new) switch (switch_of wiring pairs.now) }
     ensures room { result ≤ longest_setting wiring }
 {
     laws::setting();
@@ -131,7 +133,8 @@ pub fn put_change(wiring: Wiring, old: &[Pair], new: &[Pair], out: &mut [u8]) ->
     requires new { ArePairs (room_of wiring) new.now }
     requires room { longest_change wiring ≤ length out.old }
     ensures bytes { take result out.new ≡ text (change wiring old.now new.now) }
-    ensures sets { Turns (take result out.new) (switch_of wiring old.now) (switch_of wiring new.now) }
+    ensures sets { Turns (take result out.new)
+        (switch_of wiring old.now) (switch_of wiring new.now) }
     ensures room { result ≤ longest_change wiring }
 {
     laws::change();
@@ -165,7 +168,8 @@ fn put_pairs(
     others: &[Pair],
 ) -> usize
     requires pairs { ArePairs (room_of wiring) pairs.now }
-    requires room { stand + length (text (commands_of way wiring others.now pairs.now)) ≤ length out.old }
+    requires room { stand + length (text (commands_of way wiring others.now pairs.now))
+        ≤ length out.old }
     ensures bytes { take result out.new ≡
         take stand out.old ++ text (commands_of way wiring others.now pairs.now) }
     ensures number { result ≡ stand + length (text (commands_of way wiring others.now pairs.now)) }
@@ -193,7 +197,7 @@ fn is_among(pair: Pair, others: &[Pair]) -> bool
 
 /// The command that joins or parts a pair.
 fn to_command(way: Way, wiring: Wiring, pair: Pair) -> Command
-    requires { (pair.initiator < room_of wiring) × (pair.responder < room_of wiring) }
+    requires { Fits wiring pair }
     ensures { result ≡ command_of way wiring pair }
 {
     match wiring {
@@ -206,7 +210,7 @@ fn to_command(way: Way, wiring: Wiring, pair: Pair) -> Command
 
 /// The command that joins or parts both ends of a pair where a board has them.
 fn on_board(way: Way, board: &BoardWiring, pair: Pair) -> Command
-    requires { (pair.initiator < room_of (Board board.now)) × (pair.responder < room_of (Board board.now)) }
+    requires { Fits (Board board.now) pair }
     ensures { result ≡ command_of way (Board board.now) pair }
 {
     let initiator = board.links(pair.initiator as usize);

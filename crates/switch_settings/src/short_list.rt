@@ -54,7 +54,10 @@ impl<T: Blank> Model for ShortList<T> {
 
     ghost invariant = { λ m. IsFilledUp T.blank m.count m.entries };
 
-    ghost inverse = { λ xs. record { entries = xs ++ replicate (MAX_MODULES - length xs) T.blank; count = length xs } };
+    ghost inverse = { λ xs. record {
+      entries = xs ++ replicate (MAX_MODULES - length xs) T.blank;
+      count = length xs;
+    } };
 }
 
 impl<T: Blank> ShortList<T> {

@@ -6,7 +6,7 @@ ghost use Rattle.std.specs.Ordering.{nat_cmp};
 ghost use Rattle.c004_commands.specs.Commands.{text};
 ghost use Rattle.crossbar.specs.Chips.{put_switch, switch_at};
 ghost use Rattle.crossbar.specs.Port.{IsConversation};
-ghost use Rattle.crossbar.specs.Pairs.{ArePairs, room_of, ends, switch_of};
+ghost use Rattle.crossbar.specs.Pairs.{Fits, ArePairs, room_of, ends, switch_of};
 ghost use Rattle.crossbar.specs.Traffic.{Passes, PassesFront};
 ghost use Rattle.crossbar.specs.declared.chip.Chip.TheVariants.{A};
 ghost use Rattle.crossbar.specs.declared.chip.Wiring.TheVariants.{Both, Board};
@@ -36,7 +36,8 @@ pub(crate) fn configure_one<P: ConfigPort>(
     pairs: &[Pair],
 ) -> Result<(), ConfigureFault>
     requires pairs { ArePairs (room_of wiring) pairs.now }
-    requires standing { IsStandingAt A wiring (P.honest port.old) (P.switches port.old) standing.now }
+    requires standing { IsStandingAt A wiring
+        (P.honest port.old) (P.switches port.old) standing.now }
     ensures set { OnOk result (IsTrue (P.honest port.old) →
         switch_at A (P.switches port.new) ≡ switch_of wiring pairs.now) }
     ensures fault { IfErr result (λ fault.
@@ -71,9 +72,11 @@ pub fn configure_switches<P: ConfigPort>(
     requires few { modules ≤ PORTS }
     requires pairs { ArePairs modules pairs.now }
     requires standing { AreStanding modules (P.honest port.old) (P.switches port.old) standing.now }
-    ensures set { OnOk result (AreSetTo modules (P.honest port.old) (P.switches port.new) pairs.now) }
-    ensures fault { IfErr result
-        (λ fault. IsConfigureFault modules (P.failures port.old) (P.failures port.new) (P.honest port.old) fault) }
+    ensures set { OnOk result
+        (AreSetTo modules (P.honest port.old) (P.switches port.new) pairs.now) }
+    ensures fault { IfErr result (λ fault.
+        IsConfigureFault modules (P.failures port.old) (P.failures port.new)
+        (P.honest port.old) fault) }
     ensures counted { P.failures port.old ≤ P.failures port.new }
     ensures unfailed { OnOk result (P.failures port.new ≡ P.failures port.old) }
     ensures honesty { P.honest port.new ≡ P.honest port.old }
@@ -82,7 +85,8 @@ pub fn configure_switches<P: ConfigPort>(
     ensures replied { OnOk result
         (HaveReplied modules standing.now pairs.now (P.passed port.old) (P.passed port.new)) }
     ensures vain { IfErr result (λ fault.
-        HavePassedFor modules fault standing.now pairs.now (P.passed port.old) (P.passed port.new)) }
+        HavePassedFor modules fault standing.now pairs.now
+        (P.passed port.old) (P.passed port.new)) }
 {
     if modules <= JOINED_MODULES as usize {
         return configure_one(port, Wiring::Both, standing, pairs);
@@ -104,10 +108,12 @@ fn send<P: ConfigPort>(
     pairs: &[Pair],
 ) -> Result<(), ConfigureFault>
     requires pairs { ArePairs (room_of wiring) pairs.now }
-    requires standing { IsStandingAt chip wiring (P.honest port.old) (P.switches port.old) standing.now }
+    requires standing { IsStandingAt chip wiring
+        (P.honest port.old) (P.switches port.old) standing.now }
     ensures set { OnOk result (IsTrue (P.honest port.old) →
         P.switches port.new ≡ put_switch chip (switch_of wiring pairs.now) (P.switches port.old)) }
-    ensures fault { IfErr result (λ fault. (fault ≡ Port) × (P.failures port.old < P.failures port.new)) }
+    ensures fault { IfErr result (λ fault.
+        (fault ≡ Port) × (P.failures port.old < P.failures port.new)) }
     ensures counted { P.failures port.old ≤ P.failures port.new }
     ensures unfailed { OnOk result (P.failures port.new ≡ P.failures port.old) }
     ensures honesty { P.honest port.new ≡ P.honest port.old }
@@ -128,8 +134,10 @@ fn send<P: ConfigPort>(
 fn enquire<P: ConfigPort>(port: &mut P, chip: Chip) -> Result<[u8; OUTPUTS], ConfigureFault>
     ensures replies { IfOk result (λ replies. IsTrue (P.honest port.old) →
         AllAgree (switch_at chip (P.switches port.old)) replies) }
-    ensures unmoved { OnOk result (IsTrue (P.honest port.old) → P.switches port.new ≡ P.switches port.old) }
-    ensures fault { IfErr result (λ fault. (fault ≡ Port) × (P.failures port.old < P.failures port.new)) }
+    ensures unmoved { OnOk result (IsTrue (P.honest port.old) →
+        P.switches port.new ≡ P.switches port.old) }
+    ensures fault { IfErr result (λ fault.
+        (fault ≡ Port) × (P.failures port.old < P.failures port.new)) }
     ensures counted { P.failures port.old ≤ P.failures port.new }
     ensures unfailed { OnOk result (P.failures port.new ≡ P.failures port.old) }
     ensures honesty { P.honest port.new ≡ P.honest port.old }
@@ -157,7 +165,8 @@ fn judge(
 ) -> Result<(), ConfigureFault>
     requires { ArePairs (room_of wiring) pairs.now }
     ensures agreed { OnOk result (AllAgree (switch_of wiring pairs.now) replies.now) }
-    ensures fault { IfErr result (λ fault. IsMisset chip (switch_of wiring pairs.now) replies.now fault) }
+    ensures fault { IfErr result (λ fault.
+        IsMisset chip (switch_of wiring pairs.now) replies.now fault) }
 {
     match disagreement(chip, wiring, pairs, replies) {
         Some(number) => Err(ConfigureFault::SwitchDisagrees(number)),
@@ -257,7 +266,7 @@ fn source_for(wiring: Wiring, pairs: &[Pair], output: u8) -> Option<u8>
 
 /// The input that a pair calls for at an output, if the output is one of the pair's.
 fn input_of(wiring: Wiring, pair: Pair, output: u8) -> Option<u8>
-    requires { (pair.initiator < room_of wiring) × (pair.responder < room_of wiring) }
+    requires { Fits wiring pair }
     ensures source { result ≡ map.find nat_cmp output (ends wiring pair) }
     ensures range { IfSome result (λ input. input < PORTS) }
 {
@@ -271,7 +280,7 @@ fn input_of(wiring: Wiring, pair: Pair, output: u8) -> Option<u8>
 
 /// The same where a board has both ends of the pair.
 fn input_on_board(board: &BoardWiring, pair: Pair, output: u8) -> Option<u8>
-    requires { (pair.initiator < room_of (Board board.now)) × (pair.responder < room_of (Board board.now)) }
+    requires { Fits (Board board.now) pair }
     ensures source { result ≡ map.find nat_cmp output (ends (Board board.now) pair) }
     ensures range { IfSome result (λ input. input < PORTS) }
 {
