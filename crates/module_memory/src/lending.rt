@@ -44,9 +44,14 @@ impl Model for Rest {
 
     ghost Value = { RestView };
 
-    ghost view = { λ r. record { store = record { shape = r.shape; blocks = r.blocks.items }; held = r.held.items } };
+    ghost view = { λ r. record {
+      store = record { shape = r.shape; blocks = r.blocks.items };
+      held = r.held.items;
+    } };
 
-    ghost invariant = { λ r. IsShape r.shape × (length r.blocks.items ≡ r.shape.modules * r.shape.blocks) × AreWholeCopies r.shape r.held.items };
+    ghost invariant = { λ r. IsShape r.shape
+        × (length r.blocks.items ≡ r.shape.modules * r.shape.blocks)
+        × AreWholeCopies r.shape r.held.items };
 }
 
 /// A rack of which some blocks are lent: the rest, and a bay for each place, in the order of the
@@ -117,7 +122,8 @@ impl Rest {
     pub fn word(&self, place: Place, j: usize) -> Option<u32>
         ensures missing { (HasPlace self.now.store.shape place → ⊥) → result ≡ None }
         // A lent block has no words here.
-        ensures there { HasPlace self.now.store.shape place → result ≡ find_word self.now.store place j }
+        ensures there { HasPlace self.now.store.shape place →
+            result ≡ find_word self.now.store place j }
     {
         self.block(place)?.get(j).copied()
     }
@@ -126,7 +132,8 @@ impl Rest {
     pub fn block(&self, place: Place) -> Option<&[u32]>
         ensures { MatchOption result
             (HasPlace self.now.store.shape place → ⊥)
-            (λ words. HasPlace self.now.store.shape place × (words.now ≡ block_of self.now.store place)) }
+            (λ words. HasPlace self.now.store.shape place
+            × (words.now ≡ block_of self.now.store place)) }
     {
         let index = find_block(self.shape, place)?;
         let block = &self.blocks[index];
@@ -153,7 +160,8 @@ impl Rest {
     pub fn held(&self, place: Place, j: usize) -> Option<u32>
         ensures missing { (HasPlace self.now.store.shape place → ⊥) → result ≡ None }
         // A block that isn't held has no words in the copies.
-        ensures there { HasPlace self.now.store.shape place → result ≡ slice_get (copy_of self.now place) j }
+        ensures there { HasPlace self.now.store.shape place →
+            result ≡ slice_get (copy_of self.now place) j }
     {
         self.held_block(place)?.get(j).copied()
     }

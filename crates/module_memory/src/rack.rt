@@ -203,11 +203,13 @@ impl Rack {
         ensures bays { IfOk result (λ parted. parted.bays.items ≡ bays_of self places.now) }
         ensures rest { IfOk result (λ parted. parted.rest.store ≡ without self places.now) }
         ensures held { IfOk result (λ parted. AreCopies self held.now parted.rest.held) }
-        ensures store { IfOk result (λ parted. store_rejoined parted.rest.store parted.bays.items ≡ self) }
+        ensures store { IfOk result (λ parted.
+            store_rejoined parted.rest.store parted.bays.items ≡ self) }
         ensures lent { IfOk result (λ parted. AreLent parted.rest.store parted.bays.items) }
         ensures rejoins { IfOk result (λ parted. Rejoins parted.rest.store parted.bays.items) }
         ensures unchanged { IfErr result (λ refused. refused.0 ≡ self) }
-        ensures fault { IfErr result (λ refused. IsLendFault self.shape places.now held.now refused.1) }
+        ensures fault { IfErr result (λ refused.
+            IsLendFault self.shape places.now held.now refused.1) }
     {
         if let Some(fault) = lend_fault(self.shape, places, held) {
             return Err((self, fault));

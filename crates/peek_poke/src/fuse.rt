@@ -89,7 +89,8 @@ impl Wire for FuseLine {
         ensures added { OnOk result (carried_by self.new ≡ carried_by self.old ++ byte ∷ []) }
         ensures kept { OnErr result (carried_by self.new ≡ carried_by self.old) }
         ensures carries { IsOk result ↔ HasByte self.old }
-        ensures remaining { remaining_of self.new ≡ option_map (λ remaining. remaining - 1) (remaining_of self.old) }
+        ensures remaining { remaining_of self.new
+            ≡ option_map (λ remaining. remaining - 1) (remaining_of self.old) }
         ensures fault { OnErr result (failures_of self.new ≡ failures_of self.old + 1) }
         ensures counted { failures_of self.old ≤ failures_of self.new }
         ensures unfailed { OnOk result (failures_of self.new ≡ failures_of self.old) }
