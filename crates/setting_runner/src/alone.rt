@@ -73,7 +73,8 @@ fn run_settings_alone<P: ConfigPort, W: WireMaker, G, N: Notice>(
 
     ensures rejoins { Rejoins rest.now.store bays.new }
     ensures memories { LeavesMemories
-        (store_rejoined rest.now.store bays.old) planned.now result (store_rejoined rest.now.store bays.new) }
+        (store_rejoined rest.now.store bays.old) planned.now result
+        (store_rejoined rest.now.store bays.new) }
     ensures plant { LeavesPlant P.ConfigPort W.is_sure rest.now.store.shape (Some planned.now)
         result plant.old plant.new }
     ensures told { TellsOutcome N.hears notice.old result notice.new }

@@ -15,7 +15,8 @@ use peek_poke::{Answerer, HeldStore, RestStore, Wire, WordStore, laws, pull_word
 /// Moves the words of a transfer into its bay until its wire fails, and says how many have moved.
 pub fn move_block<W: Wire>(wire: &mut W, rest: &Rest, transfer: Transfer, bay: &mut Bay) -> usize
     requires source_exists { HasPlace rest.now.store.shape (source_of transfer) }
-    requires source_here { length (found_in rest.now (source_of transfer)) ≡ rest.now.store.shape.words }
+    requires source_here { length (found_in rest.now (source_of transfer))
+        ≡ rest.now.store.shape.words }
     requires bay_exists { HasPlace rest.now.store.shape bay.old.place }
     requires bay_width { length bay.old.words ≡ rest.now.store.shape.words }
     ensures place { bay.new.place ≡ bay.old.place }
@@ -29,8 +30,10 @@ pub fn move_block<W: Wire>(wire: &mut W, rest: &Rest, transfer: Transfer, bay: &
         bay.old.place.block (source_of transfer).block (found_in rest.now (source_of transfer)))
         rest.now.store.shape.words result (W.carried wire.old) (W.carried wire.new) }
     // All words have moved just where the wire hasn't failed, and fewer just where it has.
-    ensures whole { (result ≡ rest.now.store.shape.words) ↔ (W.failures wire.new ≡ W.failures wire.old) }
-    ensures short { (result < rest.now.store.shape.words) ↔ (W.failures wire.old < W.failures wire.new) }
+    ensures whole { (result ≡ rest.now.store.shape.words)
+        ↔ (W.failures wire.new ≡ W.failures wire.old) }
+    ensures short { (result < rest.now.store.shape.words)
+        ↔ (W.failures wire.old < W.failures wire.new) }
 {
     match transfer.kind {
         Kind::Push => push_block(wire, rest, transfer.source(), bay),
@@ -76,8 +79,10 @@ fn push_block<W: Wire>(wire: &mut W, rest: &Rest, source: Place, bay: &mut Bay) 
         (pushed rest.now.store.shape bay.old.place.block (found_in rest.now source))
         rest.now.store.shape.words result (W.carried wire.old) (W.carried wire.new) }
     // All words have moved just where the wire hasn't failed, and fewer just where it has.
-    ensures whole { (result ≡ rest.now.store.shape.words) ↔ (W.failures wire.new ≡ W.failures wire.old) }
-    ensures short { (result < rest.now.store.shape.words) ↔ (W.failures wire.old < W.failures wire.new) }
+    ensures whole { (result ≡ rest.now.store.shape.words)
+        ↔ (W.failures wire.new ≡ W.failures wire.old) }
+    ensures short { (result < rest.now.store.shape.words)
+        ↔ (W.failures wire.old < W.failures wire.new) }
 {
     laws::blocks();
     let shape = rest.shape();
@@ -106,11 +111,14 @@ fn pull_block<W: Wire>(wire: &mut W, rest: &Rest, source: Place, bay: &mut Bay) 
     ensures sure { W.never_fails wire.old → result ≡ rest.now.store.shape.words }
     // What went over the wire is the words' messages, one after the other.
     ensures carried { HasCarried
-        (pulled (window_of rest.now source) rest.now.store.shape source.block (found_in rest.now source))
+        (pulled (window_of rest.now source) rest.now.store.shape source.block
+        (found_in rest.now source))
         rest.now.store.shape.words result (W.carried wire.old) (W.carried wire.new) }
     // All words have moved just where the wire hasn't failed, and fewer just where it has.
-    ensures whole { (result ≡ rest.now.store.shape.words) ↔ (W.failures wire.new ≡ W.failures wire.old) }
-    ensures short { (result < rest.now.store.shape.words) ↔ (W.failures wire.old < W.failures wire.new) }
+    ensures whole { (result ≡ rest.now.store.shape.words)
+        ↔ (W.failures wire.new ≡ W.failures wire.old) }
+    ensures short { (result < rest.now.store.shape.words)
+        ↔ (W.failures wire.old < W.failures wire.new) }
 {
     laws::blocks();
     if let Some(mut store) = HeldStore::of(rest, source) {
@@ -142,8 +150,10 @@ fn pull_words<W: Wire, S: WordStore>(
     ensures carried { HasCarried
         (pulled window rest.now.store.shape source.block (found_in rest.now source))
         rest.now.store.shape.words result (W.carried wire.old) (W.carried wire.new) }
-    ensures whole { (result ≡ rest.now.store.shape.words) ↔ (W.failures wire.new ≡ W.failures wire.old) }
-    ensures short { (result < rest.now.store.shape.words) ↔ (W.failures wire.old < W.failures wire.new) }
+    ensures whole { (result ≡ rest.now.store.shape.words)
+        ↔ (W.failures wire.new ≡ W.failures wire.old) }
+    ensures short { (result < rest.now.store.shape.words)
+        ↔ (W.failures wire.old < W.failures wire.new) }
 {
     let shape = rest.shape();
     let mut answerer = Answerer::new();

@@ -88,7 +88,8 @@ pub(crate) fn prepare(
 ) -> Result<Parted, (Rack, RunRefusal)>
     ensures prepared { IfOk result
         (λ parted. IsPrepared parted.rest parted.bays.items planned.now) }
-    ensures store { IfOk result (λ parted. store_rejoined parted.rest.store parted.bays.items ≡ rack) }
+    ensures store { IfOk result (λ parted.
+        store_rejoined parted.rest.store parted.bays.items ≡ rack) }
     ensures shape { IfOk result (λ parted. parted.rest.store.shape ≡ rack.shape) }
     ensures free { IfOk result (λ _. CanMove rack.shape planned.now.batch) }
     ensures unchanged { IfErr result (λ refused. refused.0 ≡ rack) }
@@ -129,7 +130,8 @@ fn run_settings<R: Threads + Sync, P: ConfigPort, W: WireMaker + Sync, G: Gate +
 
     ensures rejoins { Rejoins rest.now.store bays.new }
     ensures memories { LeavesMemories
-        (store_rejoined rest.now.store bays.old) planned.now result (store_rejoined rest.now.store bays.new) }
+        (store_rejoined rest.now.store bays.old) planned.now result
+        (store_rejoined rest.now.store bays.new) }
     ensures plant { LeavesPlant P.ConfigPort W.is_sure rest.now.store.shape (Some planned.now)
         result plant.old plant.new }
     ensures told { TellsOutcome N.hears notice.old result notice.new }

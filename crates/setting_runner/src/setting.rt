@@ -110,7 +110,8 @@ pub(crate) fn begin_setting<P: ConfigPort, W: WireMaker, G>(
     }) stop.cause stop.moved) }
     ensures no_wire { IfErr result (λ stop. (t : ℕ) → stop.cause ≡ Wire t → ⊥) }
     ensures set { OnOk result
-        (AreSetTo shape.modules (P.honest plant.old.port) (P.switches plant.new.port) setting.now.pairs) }
+        (AreSetTo shape.modules (P.honest plant.old.port) (P.switches plant.new.port)
+        setting.now.pairs) }
     ensures plant { plant.new ≡ record plant.old { port = plant.new.port } }
     ensures counted { P.failures plant.old.port ≤ P.failures plant.new.port }
     ensures unfailed { OnOk result (P.failures plant.new.port ≡ P.failures plant.old.port) }
