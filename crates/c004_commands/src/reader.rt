@@ -96,7 +96,8 @@ impl CommandReader {
         ensures dropped { OnErr result (self.new ≡ []) }
         // No byte is refused with which the text goes on to a text of commands.
         ensures taken { (bytes more left : List ℕ) (commands others : List Command) →
-            Spells bytes commands self.old → Spells (bytes ++ byte ∷ more) others left → IsOk result }
+            Spells bytes commands self.old → Spells (bytes ++ byte ∷ more) others left →
+            IsOk result }
     {
         match next(self.begun, byte) {
             Ok((begun, given)) => {

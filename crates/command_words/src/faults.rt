@@ -50,7 +50,8 @@ pub(crate) fn excluded(alloc: Global) -> ArgumentsFault
 pub(crate) fn named_twice(alloc: Global) -> ArgumentsFault
     ensures { IsMistake result }
 {
-    let message = "standard input, `-`, can be one file only";
+    let message =
+        "standard input is read once: `-` can name one file, and none of `talk`, or of `drive` without `--go-on`";
     misused(alloc, ErrorKind::ArgumentConflict, message)
 }
 

@@ -77,8 +77,8 @@ fn drive_over<Q: Ports, S: Stage>(
     requires modules { HasModulesOf (wired_in rack) batch.now }
     requires schedule { IsScheduleOf batch.now schedule.now }
     ensures answer { IfOk result
-        (IsTried Q.refuses Q.leads S.hears rack batch.now schedule.now ports.old (Q.carried ports.new)
-        (Q.opened ports.old) (Q.opened ports.new) stage.old stage.new) }
+        (IsTried Q.refuses Q.leads S.hears rack batch.now schedule.now ports.old
+        (Q.carried ports.new) (Q.opened ports.old) (Q.opened ports.new) stage.old stage.new) }
     ensures fault { IfErr result
         (HasFailedOver S.hears rack batch.now schedule.now (Q.carried ports.new)
         (Q.opened ports.old) (Q.opened ports.new) stage.old stage.new) }

@@ -85,8 +85,10 @@ pub(crate) fn read_texts<R: AllocGlobal + Files, I: Read>(
     input: &mut I,
 ) -> Result<(Vec<u8>, Vec<u8>), NoAnswer>
     requires { NameInputOnce (batch.now ∷ other.now ∷ []) }
-    ensures first { IfOk result (λ texts. IsFileContent (I.remaining input.old) batch.now texts.0.items) }
-    ensures second { IfOk result (λ texts. IsFileContent (I.remaining input.old) other.now texts.1.items) }
+    ensures first { IfOk result (λ texts.
+        IsFileContent (I.remaining input.old) batch.now texts.0.items) }
+    ensures second { IfOk result (λ texts.
+        IsFileContent (I.remaining input.old) other.now texts.1.items) }
     ensures note { IfErr result (λ missed. IsNoAnswer missed) }
 {
     let first = read_file(rt, batch, input)?;
@@ -100,7 +102,8 @@ pub(crate) fn read_file<R: AllocGlobal + Files, I: Read>(
     name: &Text,
     input: &mut I,
 ) -> Result<Vec<u8>, NoAnswer>
-    ensures content { IfOk result (λ file. IsFileContent (I.remaining input.old) name.now file.items) }
+    ensures content { IfOk result (λ file.
+        IsFileContent (I.remaining input.old) name.now file.items) }
     ensures note { IfErr result (λ missed. IsNoAnswer missed) }
     ensures unread { name.now ≢ input_name → I.remaining input.new ≡ I.remaining input.old }
 {
@@ -116,7 +119,8 @@ fn read_bytes<R: AllocGlobal + Files, I: Read>(
     name: &Text,
     input: &mut I,
 ) -> io::Result<Vec<u8>>
-    ensures content { IfOk result (λ file. IsFileContent (I.remaining input.old) name.now file.items) }
+    ensures content { IfOk result (λ file.
+        IsFileContent (I.remaining input.old) name.now file.items) }
     ensures unread { name.now ≢ input_name → I.remaining input.new ≡ I.remaining input.old }
 {
     if !name.is_input() {

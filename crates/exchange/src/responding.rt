@@ -36,7 +36,8 @@ pub fn respond<R: System, I: Read, O: Write, E: Write>(
     err: &mut E,
 ) -> ExitCode
     ensures arguments { IfOk arguments (λ w. (exit_status result ≡ UNWRITTEN)
-        ⊎ IsEndForArguments (texts_of w.items) (I.remaining input.old) (streams_of (O.contents out.old)
+        ⊎ IsEndForArguments (texts_of w.items) (I.remaining input.old)
+        (streams_of (O.contents out.old)
         (O.contents out.new) (E.contents err.old) (E.contents err.new)) (exit_status result)) }
     ensures none { OnErr arguments ((exit_status result ≡ UNWRITTEN)
         ⊎ IsEndWithoutArguments (O.contents out.old) (O.contents out.new) (exit_status result)) }

@@ -40,7 +40,8 @@ fn transfers(
     requires sized { length halves.now ≡ 2 * length moves.now }
     requires few { length moves.now ≤ MAX_TRANSFERS }
     requires halves { HalvesModules moves.now (in_left halves.now) }
-    ensures { IfOk result (λ all. AreDirected moves.now (in_left halves.now) (length moves.now) all.items) }
+    ensures { IfOk result (λ all.
+        AreDirected moves.now (in_left halves.now) (length moves.now) all.items) }
 {
     let mut transfers = Vec::with_capacity(alloc, moves.len())?;
     for (t, next) in moves.iter().enumerate() {

@@ -20,7 +20,8 @@ use std::alloc::{AllocError, Global};
 /// The range of a text, where there is one.
 fn read_range(text: Option<&[u8]>) -> Result<Option<SettingRange>, Refusal>
     ensures some { IfOk result (AreWanted (bytes_of text.entry)) }
-    ensures bad { IfErr result (λ refusal. (refusal ≡ Settings) × IsBadSettingsText (bytes_of text.entry)) }
+    ensures bad { IfErr result (λ refusal.
+        (refusal ≡ Settings) × IsBadSettingsText (bytes_of text.entry)) }
 {
     match text {
         None => Ok(None),
@@ -107,7 +108,8 @@ pub fn answer_draw(
     settings: Option<&[u8]>,
 ) -> Result<Answer, AllocError>
     ensures drawn { IfOk result (IsDrawn widest batch.now schedule.now (bytes_of settings.entry)) }
-    ensures one { IfOk result (IsOnly (IsDrawn widest batch.now schedule.now (bytes_of settings.entry))) }
+    ensures one { IfOk result
+        (IsOnly (IsDrawn widest batch.now schedule.now (bytes_of settings.entry))) }
 {
     match picture(alloc, batch, schedule, settings) {
         Ok(text) => Ok(Answer::done(text.into_bytes())),

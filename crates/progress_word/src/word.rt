@@ -43,7 +43,8 @@ impl Model for Watcher {
 
     ghost coded = { watcher_view_coded };
 
-    ghost view = { λ l. watcher_view l.seat.table_id l.seat.me.0.seen l.seat.me.0.raised l.seat.me.0.parts };
+    ghost view = { λ l.
+        watcher_view l.seat.table_id l.seat.me.0.seen l.seat.me.0.raised l.seat.me.0.parts };
 
     ghost invariant = { λ l. l.seat.me.1 ≡ [] };
 }
@@ -60,7 +61,8 @@ impl ProgressWord {
     /// The word as it is now, which isn't behind what was seen. One atomic load.
     pub fn load(&self, watcher: &mut Watcher) -> u64
         requires { IsAt self.now watcher.old }
-        ensures watcher { watcher.new ≡ watcher_view self.now result watcher.old.raised watcher.old.parts }
+        ensures watcher { watcher.new ≡
+            watcher_view self.now result watcher.old.raised watcher.old.parts }
         ensures later { watcher.old.seen ≤ result }
         ensures whole { watcher.old.parts ≡ ALL_PARTS → result ≡ watcher.old.raised }
     {

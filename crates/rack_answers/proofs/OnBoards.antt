@@ -11,11 +11,6 @@ use Rattle.plan_answers.specs.Lent.{bytes_of}
 use Rattle.plan_answers.specs.Refusals.{Printed, IsRefused}
 use Rattle.rack_answers.specs.Switching.{IsOn, wired, miswired}
 
--- a batch that is read against its shape names modules that it wires
-pub wires_all : (board : Option BoardWiring) (text : List ℕ) (batch : List Transfer) → DenotesBatch (extent_of board) text batch → WiresAll board batch
-wires_all None text batch d = tt
-wires_all (Some board) text batch d = λ t lt. (d.within t no_transfer lt).0
-
 -- what is so of the board is so of the text
 pub on_board : (Is : Option BoardWiring → Printed → Type 0) (text : Option (Bor (List ℕ))) (board : Option BoardWiring) (p : Printed) → IsBoardOf (option_map (λ (lent : Bor (List ℕ)). lent.now) text) board → Is board p → IsOn Is (bytes_of text) p
 on_board Is None None p is so = so

@@ -45,7 +45,8 @@ fn push_block(
 ) -> Result<(), AllocError>
     requires shape { IsShape rack.now.shape }
     requires place { HasPlace rack.now.shape (record { «module» = «module»; block = block }) }
-    ensures { OnOk result (Adds text.old text.new (block_text written.now rack.now «module» block)) }
+    ensures { OnOk result
+        (Adds text.old text.new (block_text written.now rack.now «module» block)) }
 {
     let place = Place { module, block };
     if !written.has(place) {

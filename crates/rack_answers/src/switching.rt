@@ -58,7 +58,8 @@ fn push_line(
     requires pairs { ArePairs (room_of wiring) pairs.now }
     requires standing { IfSome standing.now (λ old. ArePairs (room_of wiring) old) }
     ensures { OnOk result
-        (Adds text.old text.new (switch_line setting name.now (turning wiring standing.now pairs.now))) }
+        (Adds text.old text.new
+        (switch_line setting name.now (turning wiring standing.now pairs.now))) }
 {
     let mut bytes = [0; WIDE_CHANGE_BYTES];
     let number = bytes_for(wiring, standing, pairs, &mut bytes);

@@ -86,7 +86,8 @@ fn push_cell(
 ) -> Result<(), AllocError>
     requires column { IsNumber column }
     requires in_rack { module_of end transfer.now < MAX_MODULES }
-    ensures { OnOk result (Adds text.old text.new (cell_text rows.now column number transfer.now end)) }
+    ensures { OnOk result
+        (Adds text.old text.new (cell_text rows.now column number transfer.now end)) }
 {
     let partner = module_at(end.other(), transfer);
     let left = column_left(column);
@@ -132,7 +133,8 @@ pub(crate) fn push_column(
 ) -> Result<(), AllocError>
     requires column { IsNumber column }
     requires known { All (λ t. t < length rows.now) numbers.now }
-    ensures { OnOk result (Adds text.old text.new (column_text rows.now column setting numbers.now)) }
+    ensures { OnOk result
+        (Adds text.old text.new (column_text rows.now column setting numbers.now)) }
 {
     let (middle, above) = (column_left(column) + 16, TOP - 10);
     write!(

@@ -109,7 +109,8 @@ fn push_part(
     requires columns { IsNumber columns }
     requires panel { panel < panels_of columns }
     requires in_rack { «module» < MAX_MODULES }
-    ensures { OnOk result (Adds text.old text.new (part_text rows.now columns busiest «module» panel)) }
+    ensures { OnOk result
+        (Adds text.old text.new (part_text rows.now columns busiest «module» panel)) }
 {
     let zero = Link {
         end: End::Zero,

@@ -76,16 +76,15 @@ IsDriven {S} hears rack batch settings (UntoldAt k) old told new tells =
 -- ---- why it ended so
 
 -- the switches of an honest port are those of a setting
-abbrev pub AreOfSetting : {P : Type 0} → Ghosts P → RackWiring → List Transfer → List (List ℕ) → ℕ → P → P
-    → Type 0
+abbrev pub AreOfSetting : {P : Type 0} → Ghosts P → RackWiring → List Transfer → List (List ℕ)
+    → ℕ → P → P → Type 0
 AreOfSetting {P} seen rack batch settings k old new =
     AreSetIn rack (seen.honest old) (seen.switches new) (pairs_at batch settings k)
 
 -- The port failed just where that is the cause, and an honest port has the switches of the setting
 -- that stood last.
-abbrev pub HasDriveCause : {P : Type 0} → Ghosts P → RackWiring → List Transfer → List (List ℕ) → Driven → P
-    → P
-    → Type 0
+abbrev pub HasDriveCause : {P : Type 0} → Ghosts P → RackWiring → List Transfer → List (List ℕ)
+    → Driven → P → P → Type 0
 HasDriveCause {P} seen rack batch settings (Completed count) old new =
     (seen.failures new ≡ seen.failures old)
     × ((k : ℕ) → k + 1 ≡ count → AreOfSetting seen rack batch settings k old new)
