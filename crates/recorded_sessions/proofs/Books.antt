@@ -92,7 +92,7 @@ is_replayed tell shape image opening parts book n rack one numbers few say =
 
 closing_replayed : SessionsAreTold → (shape : List ℕ) (image : Option (List ℕ)) (opening : Store) (parts : List Part) (text : List ℕ) (failed : Bool) (printed : Printed) (book : Account) (n : ℕ) → IsRackOf shape image opening → IsClosing opening parts text failed printed (Some book) → map session_of parts ≡ range_with_len 0 n → n ≤ 1000000000 → OfLines parts → IsReplayedTo shape image book
 closing_replayed tell shape image opening parts text failed printed book n rack (agree other one is _ _) numbers few say = is_replayed tell shape image opening parts book n rack (subst (HaveOneHistory opening parts) (one_book book other is) one) numbers few say
-closing_replayed tell shape image opening parts text failed printed book n rack (disagree _ is _ _) numbers few say = absurd cc
+closing_replayed tell shape image opening parts text failed printed book n rack (disagree is _ _) numbers few say = absurd cc
 
 -- ---- sessions
 

@@ -16,7 +16,7 @@ use Rattle.batch_book.specs.declared.entry.Entry.{Entry}
 use Rattle.batch_book.specs.declared.limits.TheConstants.{MAX_ENTRIES}
 use Rattle.batch_book.specs.Closing.{AreClosed, LogsAgree, NoneAhead}
 use Rattle.batch_book.specs.Exchanges.{Exchange, AreNew, new_seat, parts_at}
-use Rattle.batch_book.specs.History.{IsLegal, IsReplay}
+use Rattle.batch_book.specs.History.{IsReplay}
 use Rattle.batch_book.specs.Machine.{opened}
 use Rattle.batch_book.specs.Replies.{NeverFail}
 use Rattle.batch_book.specs.Seats.{SeatState, IsSameSeat, own}
@@ -26,7 +26,7 @@ use Rattle.client_session.specs.Seats.{SeatView, seat_view}
 use Rattle.client_session.specs.Sessions.{GoesThrough, HasEnded}
 use Rattle.session_answers.specs.declared.session.Session.{Session}
 use Rattle.session_answers.specs.Frames.{Transcript, session_text, sessions_text}
-use Rattle.session_answers.specs.Histories.{Part, part_of, HasAllEntries, HaveOneHistory, HaveAnotherHistory}
+use Rattle.session_answers.specs.Histories.{Part, part_of, HasAllEntries, HaveOneHistory}
 use Rattle.session_answers.specs.Serving.{HasItsScript}
 use Rattle.session_answers.specs.Sessions.{IsServedSession}
 use Rattle.session_answers.specs.Hosting.{transcript, IsFresh, AreServedAt}
@@ -176,31 +176,6 @@ one_history {L} seen sure opening seats c closed never agree behind replay few i
       few = few;
       unstopped = closed.unstopped never;
       seen = All-map (λ (p : Part). p.seen ≤ greatest h) part_of seats behind;
-    }
-
--- where it is from another store, it is another one
-pub history_elsewhere : {L P W G : Type 0} (seen : Ghosts P) (sure : W → ℕ → Type 0) (opening : Store) (seats : List SeatState) (c : Closed L P W G)
-    → AreClosed seen sure seats c → IsLegal c.book.opening c.book.history → ¬ (c.book.opening ≡ opening) → HaveAnotherHistory opening (map part_of seats)
-history_elsewhere seen sure opening seats c closed legal other =
-    record {
-      kept = c.book.opening;
-      history = c.book.history;
-      legal = legal;
-      counted = its_entries seen sure seats c closed;
-      no_parts = λ is parts. other is;
-    }
-
--- and where the lists don't agree with it
-pub another_history : {L P W G : Type 0} (seen : Ghosts P) (sure : W → ℕ → Type 0) (opening : Store) (seats : List SeatState) (c : Closed L P W G)
-    → AreClosed seen sure seats c → ¬ LogsAgree seats c → IsLegal c.book.opening c.book.history → HaveAnotherHistory opening (map part_of seats)
-another_history {L} seen sure opening seats c closed differ legal =
-    let h = c.book.history in
-    record {
-      kept = c.book.opening;
-      history = h;
-      legal = legal;
-      counted = its_entries seen sure seats c closed;
-      no_parts = λ _ parts. differ (of_map (λ (p : Part). p.entries ≡ own p.session h) part_of seats parts);
     }
 
 -- the parts of sessions are those of their seats

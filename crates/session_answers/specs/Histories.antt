@@ -3,7 +3,7 @@ use Rattle.std.specs.Prelude.{◌≡◌, ℕ, ◌≤◌, if◌then◌else◌, Bo
 use Rattle.module_memory.specs.Store.{Store}
 use Rattle.batch_book.specs.declared.entry.Entry.{Entry}
 use Rattle.batch_book.specs.declared.limits.TheConstants.{MAX_ENTRIES}
-use Rattle.batch_book.specs.History.{Account, AreUnstopped, IsLegal, IsReplay}
+use Rattle.batch_book.specs.History.{Account, AreUnstopped, IsReplay}
 use Rattle.batch_book.specs.Machine.{opened}
 use Rattle.batch_book.specs.Seats.{SeatState, own}
 use Rattle.batch_book.specs.Values.{greatest}
@@ -42,15 +42,6 @@ pub record HaveOneHistory (opening : Store) (parts : List Part) (book : Account)
   pub unstopped : AreUnstopped book.history
   pub seen : All (λ p. p.seen ≤ greatest book.history) parts
 
--- the history that was kept of the sessions has another opening store, or isn't that of their
--- entries
-pub record HaveAnotherHistory (opening : Store) (parts : List Part) : Type 0 where
-  pub kept : Store
-  pub history : List Entry
-  pub legal : IsLegal kept history
-  pub counted : HasAllEntries parts history
-  pub no_parts : kept ≡ opening → ¬ AreParts parts history
-
 -- the last line where the sessions have no one history
 abbrev pub disagree_line : List ℕ
 disagree_line = codes "logs disagree\n"
@@ -60,13 +51,13 @@ abbrev pub status_at : Bool → ℕ
 status_at failed = if failed then REFUSED else DONE
 
 -- The sessions with these parts were on an exchange that began with this store, and this text is
--- printed of them. The exchange's book is left, and its history is theirs. Where another history
--- was kept of them, that is said by a last line, and no book is left.
+-- printed of them. The exchange's book is left, and its history is theirs. Or a last line says that
+-- the history that was kept isn't, and no book is left.
 pub data IsClosing (opening : Store) (parts : List Part) (text : List ℕ) (failed : Bool)
     (printed : Printed) (left : Option Account) : Type 0 where
   agree : (book : Account) → HaveOneHistory opening parts book → left ≡ Some book
       → printed.text ≡ text → printed.status ≡ status_at failed
       → IsClosing opening parts text failed printed left
-  disagree : HaveAnotherHistory opening parts → left ≡ None
+  disagree : left ≡ None
       → printed.text ≡ text ++ disagree_line → printed.status ≡ REFUSED
       → IsClosing opening parts text failed printed left

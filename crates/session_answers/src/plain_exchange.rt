@@ -1,13 +1,13 @@
 //! An exchange whose port and wires never fail: how it is opened, how a client has its session
 //! there, and how it is closed.
 
-ghost use Rattle.std.specs.Prelude.{◌≡◌, ◌≤◌, List, ℕ, IfOk, MatchOption, map};
+ghost use Rattle.std.specs.Prelude.{◌≡◌, ◌≤◌, List, ℕ, IfOk, IfSome, map};
 ghost use Rattle.std.specs.Io.KnownBytes.{Appends};
 ghost use Rattle.progress_word.specs.declared.limits.TheConstants.{ALL_PARTS};
 ghost use Rattle.batch_book.specs.Exchanges.{AreNew};
 ghost use Rattle.batch_book.specs.Seats.{IsSameSeat};
 ghost use Rattle.client_session.specs.Listening.{TellsOfRefusals};
-ghost use Rattle.session_answers.specs.Histories.{part_of, HaveOneHistory, HaveAnotherHistory, IsClosing};
+ghost use Rattle.session_answers.specs.Histories.{part_of, HaveOneHistory, IsClosing};
 ghost use Rattle.session_answers.specs.Hosting.{AreAllSeats, IsFresh};
 ghost use Rattle.session_answers.specs.Sessions.{IsServedSession};
 
@@ -90,8 +90,7 @@ pub fn serve_client<L: Ledger, R: Threads + Wait + Sync, I: Read, O: Write, H: L
 fn close<L: Ledger>(exchange: PlainExchange<L>, seats: Vec<Seat<L>>, opening: &Rack) -> Option<Book>
     requires parts { L.parts ≡ ALL_PARTS }
     requires seats { AreAllSeats exchange seats.items }
-    ensures { MatchOption result
-        (HaveAnotherHistory opening.now (map part_of seats.items))
+    ensures { IfSome result
         (HaveOneHistory opening.now (map part_of seats.items)) }
 {
     // The history is asked for only for its contract, which says that it is legal.
@@ -111,10 +110,7 @@ fn close<L: Ledger>(exchange: PlainExchange<L>, seats: Vec<Seat<L>>, opening: &R
                 None
             }
         }
-        Err(Unclosed::LogsDisagree(closed)) => {
-            closed.book.history();
-            None
-        }
+        Err(Unclosed::LogsDisagree(_)) => None,
         Err(Unclosed::SeatMissing(..)) => unreachable!(),
     }
 }

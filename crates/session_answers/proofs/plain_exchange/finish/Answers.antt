@@ -1,12 +1,11 @@
 use Rattle.std.proofs.Common.{◌≡◌, ◌++◌, map, refl, rules}
-use Rattle.session_answers.specs.Histories.{disagree_line, status_at, agree, disagree, part_of, HaveOneHistory, HaveAnotherHistory}
+use Rattle.session_answers.specs.Histories.{disagree_line, status_at, agree, disagree, part_of, HaveOneHistory}
 use Rattle.session_answers.proofs.plain_exchange.finish.Goals as goal
 
 pub returns-in_default : goal.returns-in_default
 returns-in_default g c =
     let text : c.failed.result.text ≡ c.args.text.items ++ disagree_line = rw (c.failed.ensures.text, c.in_ok-extend_from_slice.ensures.items) refl in
-    let differ : HaveAnotherHistory c.args.opening.now (map part_of c.args.seats.items) = search rules in
-    disagree differ refl text c.failed.ensures.status
+    disagree refl text c.failed.ensures.status
 
 pub returns-then-failed : goal.returns-then-failed
 returns-then-failed g c =
