@@ -3,8 +3,8 @@
 
 Each case starts a host in a folder of its own, with a pipe for each way of each client, and is all of its clients. A client says a line only
 when it has heard the reply to the one before, unless the case says otherwise. At the end the host has to print a line for each client, and
-how its session ended where it didn't by itself. Its record has to be replayed to the image that it leaves. A case has LIMIT seconds. What the walk of docs/GUIDE.md shows is run in two shells, and the
-clients of examples/all-reduce.py are run too.
+how its session ended where it didn't by itself. Its record has to be replayed to the image that it leaves. A case has LIMIT seconds. What the
+walk of docs/GUIDE.md shows is run in two shells, whose host records too, and the clients of examples/all-reduce.py are run too.
 """
 
 import array
@@ -12,6 +12,7 @@ import errno
 import fcntl
 import os
 import re
+import shlex
 import signal
 import subprocess
 import sys
@@ -22,8 +23,11 @@ import time
 TOP = os.path.dirname(os.path.dirname(os.path.dirname(os.path.abspath(__file__))))
 EXCHANGE = os.path.abspath(os.environ.get("EXCHANGE") or f"{TOP}/crates/exchange/out/exchange")
 
-# Seconds that a case has.
-LIMIT = 20
+# Seconds that a case has. Most take less than one, but machines differ.
+LIMIT = 300
+
+# The words by which a host keeps its record and the image that it leaves.
+KEPT = ["--record", "record", "--image-out", "left"]
 
 
 # What was started in the case at hand.
@@ -106,6 +110,13 @@ class Client:
         return size[0]
 
 
+def is_replayed(shape):
+    """Whether the record that a host kept is replayed to the image that it left."""
+    with open("left", "rb") as left:
+        replay = start([EXCHANGE, "replay", shape, "record"], stdin=subprocess.DEVNULL)
+        return replay.communicate()[0] == left.read() and replay.returncode == 0
+
+
 class Host:
     """A host of clients of these names."""
 
@@ -114,8 +125,7 @@ class Host:
             os.mkfifo(f"{name}.in")
             os.mkfifo(f"{name}.out")
         self.shape = shape
-        kept = ["--record", "record", "--image-out", "left"]
-        self.process = start([EXCHANGE, "host", shape, *names, *options, *kept], stdin=subprocess.DEVNULL)
+        self.process = start([EXCHANGE, "host", shape, *names, *options, *KEPT], stdin=subprocess.DEVNULL)
 
     def is_there(self):
         return self.process.poll() is None
@@ -123,15 +133,9 @@ class Host:
     def end(self):
         """What it printed, and its status; and a line more where what it recorded isn't replayed to the image that it left."""
         printed = self.process.communicate()[0].decode().splitlines()
-        if not self.is_replayed():
+        if not is_replayed(self.shape):
             printed.append("the record isn't replayed")
         return printed, self.process.returncode
-
-    def is_replayed(self):
-        """Whether its record is replayed to its image."""
-        with open("left", "rb") as left:
-            replayed = start([EXCHANGE, "replay", self.shape, "record"], stdin=subprocess.DEVNULL)
-            return replayed.communicate()[0] == left.read()
 
 
 def numbers():
@@ -155,12 +159,12 @@ def numbers():
 
 def progress():
     """A client sees by `progress` how far the run of another is, while it goes. A run takes some milliseconds, so the client asks many times
-    at once, and the other runs as often as it takes, 100 times at most."""
+    at once, and the other runs as often as it takes, 200 times at most."""
     pushes = "".join(f"push {m} {b} {(m + 1) % 32} {b + 32}\n" for m in range(32) for b in range(32))
     host = Host("32x64x256", ["amy", "bob"])
     amy, bob = Client("amy"), Client("bob")
     between, falls, before = False, False, (0, 0)
-    for run in range(1, 101):
+    for run in range(1, 201):
         yield amy.ask(f"batch 1024\n{pushes}"[:-1]), f"accepted {run}"
         yield amy.ask(f"plan {run}"), f"planned {run} settings 32"
         amy.say(f"run {run}\n")
@@ -219,8 +223,8 @@ def hears_late():
     host = Host("2x1x1", ["amy", "bob"])
     amy, bob = Client("amy"), Client("bob")
     amy.say("progress\n" * 4000)
-    before = -1
-    while (now := amy.unread()) > before:
+    before = 0
+    while not (now := amy.unread()) or now > before:
         before = now
         time.sleep(0.05)
     yield 0 < now < 22 * 4000, True
@@ -306,11 +310,18 @@ def lines_of_shells():
     return shown
 
 
+def put_recorder():
+    """Puts a program here that is called as the exchange is, and is one that keeps its record and the image that it leaves."""
+    with open("exchange", "w") as file:
+        file.write(f"#!/bin/sh\nexec {shlex.quote(EXCHANGE)} \"$@\" {' '.join(KEPT)}\n")
+    os.chmod("exchange", 0o755)
+
+
 def walk():
-    """What the guide shows of two shells."""
-    os.symlink(EXCHANGE, "exchange")
-    shells = {}
-    for name, command, wanted in lines_of_shells():
+    """What the guide shows of two shells. Its one host records."""
+    put_recorder()
+    shells, shown = {}, lines_of_shells()
+    for name, command, wanted in shown:
         if name not in shells:
             shells[name] = start(["bash"], stdin=subprocess.PIPE)
         shell, printed = shells[name], []
@@ -322,6 +333,8 @@ def walk():
     yield len(shells), 2
     for shell in shells.values():
         shell.communicate()
+    shapes = [command.split()[2] for _, command, _ in shown if command.startswith("./exchange host ")]
+    yield [is_replayed(shape) for shape in shapes], [True]
 
 
 CASES = [numbers, progress, hangs_up, hears_no_more, hears_late, sixteen, comes_late, closes, all_reduce, walk]
