@@ -1,9 +1,9 @@
 #!/usr/bin/env python3
 """`exchange drive` at switches that stand somewhere else, and `exchange c004` as one.
 
-Each case stands in a folder of its own and has a minute. Lines are held against `plan`, and the
-bytes that a switch is sent against `switch`. At the other end is `exchange c004`, or far.py, which
-notes each byte that comes between an enquiry and its answer: there may be none.
+Each case stands in a folder of its own. Lines are held against `plan`, and the bytes that a switch
+is sent against `switch`. At the other end is `exchange c004`, or far.py, which notes each byte that
+comes between an enquiry and its answer: there may be none.
 """
 
 import functools
@@ -20,13 +20,9 @@ from far import Far, Pipes, Pty, Tee
 
 sys.path.insert(0, f"{TOP}/tools/hosts")
 
-import hosts  # noqa: E402
 import plain  # noqa: E402
 import switching  # noqa: E402
-from hosts import EXCHANGE, give_up, start, try_case  # noqa: E402
-
-# Seconds that a case has.
-hosts.LIMIT = 60
+from hosts import EXCHANGE, LIMIT, give_up, start, try_case  # noqa: E402
 
 EXAMPLES = f"{TOP}/examples"
 THREE = f"{EXAMPLES}/three-transfers.txt"
@@ -38,7 +34,7 @@ ASKED = bytes(byte for output in range(32) for byte in (ENQUIRE, output))
 
 def ask(*words, given=b""):
     """What the program prints, standard error with it, and its status."""
-    run = subprocess.run([EXCHANGE, *words], input=given, stdout=subprocess.PIPE, stderr=subprocess.STDOUT, timeout=20)
+    run = subprocess.run([EXCHANGE, *words], input=given, stdout=subprocess.PIPE, stderr=subprocess.STDOUT, timeout=LIMIT)
     return run.stdout.decode(), run.returncode
 
 
@@ -575,6 +571,8 @@ def keeps_lines():
     ]:
         chip = Far(Pty("port", modes))
         process = start_drive(THREE, "port", "--go-on")
+        while len(chip.sent) < len(sent):
+            time.sleep(0.01)
         time.sleep(1)
         yield process.poll(), None
         yield bytes(chip.sent), sent
@@ -735,7 +733,7 @@ def answers_at_once():
     for sent, answer in [("0200", b"\0"), ("0100110211", b"\x80"), ("02", b""), ("00", b"\x91"), ("0600110200", b"\0")]:
         chip.stdin.write(bytes.fromhex(sent))
         chip.stdin.flush()
-        ready, _, _ = select.select([chip.stdout], [], [], 5 if answer else 0.1)
+        ready, _, _ = select.select([chip.stdout], [], [], LIMIT if answer else 0.1)
         yield (sent, os.read(chip.stdout.fileno(), 100) if ready else b""), (sent, answer)
     yield chip.communicate(), (b"", b"")
     yield chip.returncode, 0
@@ -744,16 +742,16 @@ def answers_at_once():
 def chip_ends():
     """The ways in which `c004` ends."""
     for words in [], ["--quiet"]:
-        run = subprocess.run([EXCHANGE, "c004", *words], input=b"\x2a\x02\x00\x01\x40", capture_output=True, timeout=10)
+        run = subprocess.run([EXCHANGE, "c004", *words], input=b"\x2a\x02\x00\x01\x40", capture_output=True, timeout=LIMIT)
         told = "exchange: standard input: byte 1 is 2a; commands begin with 00 to 06\n"
         told += "exchange: standard input: byte 5 is 40; ports are 00 to 1f, and the command is dropped\n"
         yield (run.stdout, run.stderr.decode(), run.returncode), (b"\0", "" if words else told, 0)
     with open("/dev/full", "wb") as full:
-        run = subprocess.run([EXCHANGE, "c004"], input=b"\x04\x02\x00\x02\x01", stdout=full, stderr=subprocess.PIPE, timeout=10)
+        run = subprocess.run([EXCHANGE, "c004"], input=b"\x04\x02\x00\x02\x01", stdout=full, stderr=subprocess.PIPE, timeout=LIMIT)
     yield run.returncode, 3
     read, write = os.pipe()
     os.close(read)
-    run = subprocess.run([EXCHANGE, "c004"], input=b"\x02\x00", stdout=write, stderr=subprocess.PIPE, timeout=10)
+    run = subprocess.run([EXCHANGE, "c004"], input=b"\x02\x00", stdout=write, stderr=subprocess.PIPE, timeout=LIMIT)
     os.close(write)
     yield run.returncode, 3
     yield drive_status("c004", "word"), 2
@@ -768,7 +766,7 @@ def c004_no_memory():
     text, wanted, found = b"\x01\x03\x11\x02\x11\x2a\x02\x03", (b"\x83\x91", 0), []
     told = b"exchange: standard input: byte 6 is 2a; commands begin with 00 to 06\n"
     for env in growths():
-        run = subprocess.run([EXCHANGE, "c004"], input=text, capture_output=True, timeout=10, env=env)
+        run = subprocess.run([EXCHANGE, "c004"], input=text, capture_output=True, timeout=LIMIT, env=env)
         found.append("as ever" if (run.stdout, run.returncode) == wanted else "no memory")
         if found[-1] == "as ever":
             yield run.stderr, told
@@ -812,7 +810,7 @@ def texts():
         text = b"".join(b"\x04" + text_of(chance) for _ in range(100))
         chip = Chip()
         answers = bytes(it for it in map(chip.take, text) if it is not None)
-        run = subprocess.run([EXCHANGE, "c004"], input=text, capture_output=True, timeout=20)
+        run = subprocess.run([EXCHANGE, "c004"], input=text, capture_output=True, timeout=LIMIT)
         yield (run.stdout, run.stderr.decode(), run.returncode), (answers, "".join(chip.told), 0)
         answered, told = answered + len(answers), told + len(chip.told)
     yield answered > 20000, True

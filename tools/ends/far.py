@@ -10,6 +10,9 @@ import threading
 
 from chip import Chip
 
+# Seconds that a switch has to come to its end.
+LIMIT = 300
+
 # Seconds for which a switch that waits before its answer looks whether another byte comes.
 PAUSE = 0.05
 
@@ -124,14 +127,14 @@ class Far(threading.Thread):
         """What it was sent, once it has read all, and the enquiries before whose answers a byte
         came."""
         self.way.finish()
-        self.join(10)
+        self.join(LIMIT)
         return bytes(self.sent), self.early
 
     def heard_of_nobody(self):
         """The same of named pipes whose other ends nobody may have opened: they are opened and
         closed here, so that the switch comes to its end."""
         ends = [os.open(f"{self.way.port}.{way}", os.O_RDWR) for way in ("in", "out")]
-        self.is_open.wait(10)
+        self.is_open.wait(LIMIT)
         for end in ends:
             os.close(end)
         return self.heard()
@@ -164,5 +167,5 @@ class Tee(threading.Thread):
     def heard(self):
         """What it was sent, what it told on standard error, and its status."""
         self.way.finish()
-        self.join(10)
+        self.join(LIMIT)
         return bytes(self.sent), self.told, self.status

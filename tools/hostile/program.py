@@ -9,6 +9,9 @@ from collections import namedtuple
 TOP = os.path.dirname(os.path.dirname(os.path.dirname(os.path.abspath(__file__))))
 EXCHANGE = os.path.abspath(os.environ.get("EXCHANGE") or f"{TOP}/crates/exchange/out/exchange")
 
+# Seconds that a run has. Most take far less than one, but machines differ, and others may keep this one busy.
+LIMIT = 300
+
 # What came on standard output and on standard error, and the status; below 0 the signal that ended it, and None where it had to be killed.
 Ended = namedtuple("Ended", "out err status")
 
@@ -43,7 +46,7 @@ def gather(ends, seconds):
     return [b"".join(texts[end]) for end in ends]
 
 
-def end(process, out_end, err_end, seconds=30):
+def end(process, out_end, err_end, seconds=LIMIT):
     """Waits for the end of what was started. What isn't at its end after so many seconds is killed."""
     ends = [it for it in (out_end, err_end) if it is not None]
     texts = gather(ends, seconds)
@@ -59,6 +62,6 @@ def end(process, out_end, err_end, seconds=30):
     return Ended(*texts, -os.WTERMSIG(status) if os.WIFSIGNALED(status) else os.WEXITSTATUS(status))
 
 
-def ask(*words, program=EXCHANGE, env=None, seconds=30, given=os.devnull, called=None):
+def ask(*words, program=EXCHANGE, env=None, seconds=LIMIT, given=os.devnull, called=None):
     """Runs the program to its end, with the file `given` on standard input."""
     return end(*start([program, *words], env, given=given, called=called), seconds)

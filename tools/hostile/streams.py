@@ -29,9 +29,6 @@ MOVES = b"moves 1\nmove 0 0 1 0\n"
 NO_MEMORY = Ended(b"refused no memory\n", b"", 1)
 UNWRITTEN = b"exchange: the answer can't be written: "
 
-# Seconds that each run has.
-LIMIT = 20
-
 problems, tried = [], 0
 
 
@@ -71,7 +68,7 @@ def reason_of(name):
 
 def under(line, *words):
     """Runs the program from a shell, behind a line of shell commands that set limits or streams."""
-    return ask("-c", f'{line} exec "$@"', "sh", EXCHANGE, *words, program="/bin/sh", seconds=LIMIT)
+    return ask("-c", f'{line} exec "$@"', "sh", EXCHANGE, *words, program="/bin/sh")
 
 
 def is_unwritten(ended):
@@ -100,7 +97,7 @@ def unreadable_files(room):
             ("apply", "0", "three", name), ("run", "0", "three", "--image", name), ("serve", "0", "script", "--image", name), ("direct", name),
             ("replay", "0", name), ("replay", "0", "three", "--image", name),
         ]:  # fmt: skip
-            expect(f"{what}: {words[0]}", ask(*words, seconds=LIMIT), refused_file(name, reason_of(name)))
+            expect(f"{what}: {words[0]}", ask(*words), refused_file(name, reason_of(name)))
 
 
 def forbidden_file(room):
@@ -113,7 +110,7 @@ def forbidden_file(room):
     words = [f"{room}/exchange", "plan", "forbidden"]
     if os.geteuid() == 0:
         words = ["/usr/bin/setpriv", "--reuid=65534", "--regid=65534", "--clear-groups", *words]
-    expect("a forbidden file", ask(*words[1:], program=words[0], seconds=LIMIT), refused_file("forbidden", os.strerror(errno.EACCES)))
+    expect("a forbidden file", ask(*words[1:], program=words[0]), refused_file("forbidden", os.strerror(errno.EACCES)))
 
 
 def endless_files():
@@ -152,7 +149,7 @@ def pipes():
             wanted = refused_batch(told, b"".join(parts), refusal) if refusal else Ended(PLAN, b"", 0)
             writer = threading.Thread(target=pieces, args=("pipe", parts))
             writer.start()
-            expect(f"a pipe: {what}, as {name}", ask("plan", name, given=given, seconds=LIMIT), wanted)
+            expect(f"a pipe: {what}, as {name}", ask("plan", name, given=given), wanted)
             writer.join()
 
 
@@ -161,7 +158,7 @@ def directed(moves):
     with tempfile.TemporaryDirectory() as room:
         with open(f"{room}/moves", "wb") as file:
             file.write(moves)
-        answer = ask("direct", f"{room}/moves", seconds=LIMIT).out
+        answer = ask("direct", f"{room}/moves").out
     expect("direct: its moves", plain.is_directed(moves, answer), True)
     return answer
 
@@ -171,7 +168,7 @@ def steadily_planned(batch):
     with tempfile.TemporaryDirectory() as room:
         with open(f"{room}/batch", "wb") as file:
             file.write(batch)
-        answer = ask("plan", f"{room}/batch", "--steady", seconds=LIMIT).out
+        answer = ask("plan", f"{room}/batch", "--steady").out
     expect("plan --steady: a steady plan", steady.is_steady(batch, answer), True)
     return answer
 
@@ -213,7 +210,7 @@ def pipes_as_files():
         with open(given, "rb") as file:
             writer = threading.Thread(target=pieces, args=("once", [file.read()]), daemon=True)
         writer.start()
-        ended = ask(*("once" if it == "-" else it for it in words), given="held", seconds=LIMIT)
+        ended = ask(*("once" if it == "-" else it for it in words), given="held")
         expect(f"{' '.join(words)}: a pipe, beside an input that is held open", ended, Ended(answer, b"", 0))
     os.close(held)
 
@@ -230,16 +227,16 @@ def inputs():
     """Standard input as a file: what it has is answered, and one that can't be read is a file that can't be read."""
     for words, given, answer in INPUTS:
         line = " ".join(words)
-        expect(f"{line}: its file", ask(*words, given=given, seconds=LIMIT), Ended(answer, b"", 0))
-        expect(f"{line}: another name", ask(*("./-" if it == "-" else it for it in words), seconds=LIMIT), refused_file("./-", os.strerror(errno.ENOENT)))
+        expect(f"{line}: its file", ask(*words, given=given), Ended(answer, b"", 0))
+        expect(f"{line}: another name", ask(*("./-" if it == "-" else it for it in words)), refused_file("./-", os.strerror(errno.ENOENT)))
         for what, (line_before, error) in UNREADABLE.items():
             expect(f"{line}: {what}", under(line_before, *words), refused_file("standard input", os.strerror(error)))
         expect(f"{line}: an endless input", under("ulimit -v 400000; exec </dev/zero;", *words), NO_MEMORY)
     nothing = refused_batch("standard input", b"", b"refused batch line 1\n")
-    expect("plan -: nothing", ask("plan", "-", seconds=LIMIT), nothing)
-    expect("switch -: nothing", ask("switch", "-", seconds=LIMIT), nothing)
-    expect("serve -: nothing", ask("serve", "2x2x2", "-", seconds=LIMIT), Ended(b"session 0\n", b"", 0))
-    expect("a shape isn't a file", ask("run", "-", "-", given="three", seconds=LIMIT), refused(notes.Asked("batch", shape=b"-"), b"refused shape\n"))
+    expect("plan -: nothing", ask("plan", "-"), nothing)
+    expect("switch -: nothing", ask("switch", "-"), nothing)
+    expect("serve -: nothing", ask("serve", "2x2x2", "-"), Ended(b"session 0\n", b"", 0))
+    expect("a shape isn't a file", ask("run", "-", "-", given="three"), refused(notes.Asked("batch", shape=b"-"), b"refused shape\n"))
     expect("the rest of an input", under("exec <behind; read line;", "switch", "-"), Ended(SWITCHED, b"", 0))
 
 
@@ -256,10 +253,10 @@ def inputs_named_twice():
         ("serve", "2x1x1", "-", "--image", "-"), ("switch", "-", "--wiring", "-"), ("drive", "-", "missing", "--wiring", "-", "--go-on"),
     ]:  # fmt: skip
         line = " ".join(words)
-        expect(f"{line}: twice", ask(*words, given="three", seconds=LIMIT), is_misused)
+        expect(f"{line}: twice", ask(*words, given="three"), is_misused)
         expect(f"{line}: twice, closed", under("exec <&-;", *words), is_misused)
         expect(f"{line}: twice, endless", under("ulimit -v 400000; exec </dev/zero;", *words), is_misused)
-        behind = ask("-c", '"$@" 2>/dev/null; exec cat', "sh", EXCHANGE, *words, program="/bin/sh", given="three", seconds=LIMIT)
+        behind = ask("-c", '"$@" 2>/dev/null; exec cat', "sh", EXCHANGE, *words, program="/bin/sh", given="three")
         expect(f"{line}: what is behind", behind, Ended(THREE_TRANSFERS, b"", 0))
 
 
@@ -274,14 +271,14 @@ def many_settings():
 
 def long_answers():
     """A picture of 3 MB is written whole, and so are the bytes of as many settings."""
-    ended = ask("draw", "settings", "settings.plan", seconds=LIMIT)
+    ended = ask("draw", "settings", "settings.plan")
     expect("a long picture", ended == Ended(picture.answer_draw(*many_settings()), b"", 0), True)
     batch, schedule = many_settings()
     for options, judge in [([], plain.is_plan), (["--steady"], steady.is_steady)]:
-        ended, plan = (ask(command, "settings", *options, seconds=LIMIT) for command in ("switch", "plan"))
+        ended, plan = (ask(command, "settings", *options) for command in ("switch", "plan"))
         well = (ended.err, ended.status) == (b"", 0) and judge(batch, plan.out) and switching.is_switched(batch, plan.out, ended.out)
         expect(f"a long list of bytes {options}", well, True)
-    ended = ask("switch", "settings", "--schedule", "settings.plan", seconds=LIMIT)
+    ended = ask("switch", "settings", "--schedule", "settings.plan")
     expect("a long list of bytes of a schedule", ended, Ended(switching.answer_switch(batch, schedule), b"", 0))
 
 
@@ -309,7 +306,7 @@ def many_reads():
     """A session ends after a million reads."""
     with open("lines", "wb") as file:
         file.write((b"a" * 40 + b"\n") * 2_100_000)
-    ended = ask("serve", "1x1x1", "lines", seconds=LIMIT)
+    ended = ask("serve", "1x1x1", "lines")
     lines = ended.out.splitlines()
     well = ended.status == 1 and lines[0] == b"session 0" and lines[-1] == b"ended turns" and set(lines[1:-1]) == {b"refused line"}
     expect("a million reads", well, True)
@@ -342,7 +339,7 @@ def readers_that_go_away():
             if taken:
                 os.read(reader, taken)
                 os.close(reader)
-            ended = end(process, None, err, LIMIT)
+            ended = end(process, None, err)
             # What fits into the pipe before the reader goes is written.
             is_short = taken and not what.startswith("a long ")
             expect(f"{what}, a reader that goes after {taken} bytes", ended, lambda it: is_unwritten(it) or is_short and it.status in (0, 1))
@@ -367,7 +364,7 @@ def short_writes():
     for most in (1, 5, 100):
         few = {"LD_PRELOAD": os.path.abspath("short.so"), "MOST": str(most)}
         for name in ("missing", "x" * 5000):
-            expect(f"{most} bytes at once", ask("plan", name, env=few, seconds=LIMIT), refused_file(name, reason_of(name)))
+            expect(f"{most} bytes at once", ask("plan", name, env=few), refused_file(name, reason_of(name)))
 
 
 def main():

@@ -24,7 +24,7 @@ TOP = os.path.dirname(os.path.dirname(os.path.dirname(os.path.abspath(__file__))
 PROGRAM = f"{TOP}/crates/exchange/out/exchange"
 
 # Seconds that a run has, and how many rows may take longer before the rest isn't tried.
-LIMIT, MOST_HANGING = 60, 3
+LIMIT, MOST_HANGING = 300, 3
 
 # What is wrong with a run that isn't at its end by then.
 HANGS = "it hangs"

@@ -29,7 +29,7 @@ TOP = os.path.dirname(os.path.dirname(os.path.dirname(os.path.abspath(__file__))
 PROGRAM = os.path.abspath(os.environ.get("EXCHANGE") or f"{TOP}/exchange")
 
 # Seconds that a command has.
-LIMIT = 60
+LIMIT = 300
 
 # The commands whose help begins with an example of one line; that of `host` is a walk of several.
 HELPED = ("", "plan", "check", "draw", "switch", "direct", "apply", "run", "serve", "talk")
