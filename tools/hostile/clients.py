@@ -3,11 +3,13 @@
 
     clients.py [ROUNDS]         so many rounds, 1000 where it isn't said
 
-In each round sixteen random scripts are served side by side, with a record and the image that they leave. Plain Python replays the record,
-and has to come to the image; so has `replay`. Each session has to have been told the replies of its own entries, in order, and each reading
-lies between what its seat had seen and what the record allows at that place.
+In each round sixteen random scripts are served side by side, with a record and the image that they leave. In every fifth round `serve` doesn't
+read them, but live clients of `host` say them over named pipes. Plain Python replays the record, and has to come to the image; so has `replay`.
+Each session has to have been told the replies of its own entries, in order, and each reading lies between what its seat had seen and what the
+record allows at that place. The status says whether a fault ended a session.
 """
 
+import itertools
 import multiprocessing
 import os
 import random
@@ -15,6 +17,7 @@ import sys
 import tempfile
 from collections import Counter
 
+import live
 import plain
 import spoil
 from plain import Refused
@@ -37,8 +40,7 @@ class History:
 
     def __init__(self, entries):
         self.entries = entries
-        values = [value_of(reply) for _, _, reply in entries]
-        self.greatest = [max([0, *values[:at]]) for at in range(len(values) + 1)]
+        self.greatest = list(itertools.accumulate((value_of(reply) for _, _, reply in entries), max, initial=0))
 
     def of(self, session):
         """The entries of a session, each with its place in the record."""
@@ -141,20 +143,38 @@ def read(name):
         return file.read()
 
 
-def judge_round(shape, scripts, answer, room):
+def judge_round(shape, scripts, told, status, room):
     """Judges what the sessions were told, their record and their image: the entries, and how many readings there were."""
+    if status != int(any(line.startswith("ended ") for lines in told.values() for line in lines)):
+        raise AssertionError("the status doesn't say whether a fault ended a session")
     replay = Replay(shape, read(f"{room}/record"))
     if replay.exchange.image() != read(f"{room}/left"):
         raise AssertionError("the record leads to another image")
     again = ask("replay", "{}x{}x{}".format(*shape), f"{room}/record")
     if (again.out, again.status) != (read(f"{room}/left"), 0):
         raise AssertionError(f"`replay` leads to another image: {again.err!r}, status {again.status}")
-    told, history, readings = parts_of(answer.out.decode()), History(replay.entries), 0
+    history, readings = History(replay.entries), 0
     for session, script in enumerate(scripts):
         part = Part(history, session, shape, script, told[session])
         part.judge()
         readings += part.readings
     return replay.entries, readings
+
+
+def serve(shape, names, scripts, *options):
+    """Serves scripts that stand in files of these names: how that ended, and what each session was told."""
+    for name, script in zip(names, scripts):
+        with open(name, "wb") as file:
+            file.write(script)
+    answer = ask("serve", shape, *names, *options)
+    return answer, parts_of(answer.out.decode())
+
+
+def host(shape, names, scripts, draw, *options):
+    """The same of live clients."""
+    answer, heard = live.host(shape, names, scripts, draw, *options)
+    ends = parts_of(answer.out.decode())
+    return answer, {session: text.decode().splitlines() + ends.get(session, ["nothing of its end"]) for session, text in enumerate(heard)}
 
 
 def try_round(number):
@@ -163,14 +183,12 @@ def try_round(number):
     shape = (draw.randint(2, plain.MODULES), draw.randint(2, 4), draw.randint(1, 8))
     scripts = [spoil.crowd_script(draw, shape) for _ in range(CLIENTS)]
     with tempfile.TemporaryDirectory() as room:
-        names = [f"{room}/script{number}" for number in range(CLIENTS)]
-        for name, script in zip(names, scripts):
-            with open(name, "wb") as file:
-                file.write(script)
+        names, how = [f"{room}/client{session}" for session in range(CLIENTS)], "{}x{}x{}".format(*shape)
         kept = ["--record", f"{room}/record", "--image-out", f"{room}/left", "--workers", "2"]
-        answer = ask("serve", "{}x{}x{}".format(*shape), *names, *kept)
+        is_live = number % 5 == 4
+        answer, told = host(how, names, scripts, draw, *kept) if is_live else serve(how, names, scripts, *kept)
         try:
-            entries, readings = judge_round(shape, scripts, answer, room)
+            entries, readings = judge_round(shape, scripts, told, answer.status, room)
         except Exception as why:
             return Counter(), 0, f"round {number}: {why!r}: {answer.err!r}, status {answer.status}"
     return Counter(reply.split()[0] for _, _, reply in entries), readings, None
@@ -185,7 +203,7 @@ def main():
             readings += seen
             if why:
                 wrong.append(why)
-    print(f"clients: {rounds} rounds of {CLIENTS}, {replies.total()} entries, {readings} readings")
+    print(f"clients: {rounds} rounds of {CLIENTS}, {rounds // 5} of them live, {replies.total()} entries, {readings} readings")
     for name, times in sorted(replies.items()):
         print(f"clients:   {times:6} {name}")
     for why in wrong[:5]:
