@@ -6,10 +6,10 @@
 Command lines: the Nth growth of a whole run of the program is refused, and then the Nth and all later ones, for N from 1 until a run
 meets no refusal. Each time the program prints what it prints with memory, which the rows hold, or the one line `refused no memory`; a
 session is told `refused no memory`, and all else as if that command weren't. The line on standard error beside a refusal may be left out, or
-what it says of how many settings are enough. A help may say that the program is in this folder, where it is called by its name alone. Then each start of a thread is refused, which changes no
-answer. Of `host` a session may also end for want of memory, and without threads nobody is served, and no file is made. An image that is left is
-that of the words behind what sessions were told, or its file is as it was. A file is the standard input. Beside command lines stands which
-calls of the libraries they make.
+what it says of how many settings are enough. A help may say that the program is in this folder, where it is called by its name alone. Then
+each start of a thread is refused, which changes no answer. Of `host` a session may also end for want of memory, and without threads nobody is
+served, and no file is made. A record and an image that are left are those of what sessions were told, and the record leads to the image; or
+their files are as they were. A file is the standard input. Beside command lines stands which calls of the libraries they make.
 
 Calls: `hostile_use NAME` makes a call that the program doesn't make, or that is handed a rack, on its worked row, between two marks. The same is
 done with the growths between them. Each time the answer is want of memory, with all that was lent as before, or the row's own answer. A call whose
@@ -48,6 +48,7 @@ RECORD = (
     "0 run 1\nran 1 run 1 settings 1 words 2 bits 234\n0 peek 0 80000800\nword 000000ff\n1 show 1\nrefused unknown\n"
     "1 peek 1 80000800\nword 00000000\n"
 )
+KEPT = "poke 0 80000800 000000ff\nbatch 1\npush 0 0 1 0\nplan 1\nrun 1\n"
 PUSHES = TWO_PUSHES + "plan 1\nrun 1\nprogress\npeek 1 80000804\npeek 2 80000800\n"
 # An image of 3x2x2, and moves that are directed both ways.
 IMAGE = "".join(map(chr, range(48)))
@@ -90,7 +91,7 @@ FILES = {
     "script": SCRIPT, "other": "show 1\n", "refusals": REFUSALS,
     "pushes": PUSHES, "swap": SWAP, "wide": WIDE, "image": IMAGE, "moves": MOVES, "twice": asked_twice(), "board": BOARD, "small": SMALL,
     "record": RECORD, "spoilt": RECORD.replace("000000ff\n1", "000000fe\n1"),
-    "caller.in": "batch 1\npush 0 0 1 0\nplan 1\nrun 1\n", "keeper.in": "batch 1\npush 0 0 1 0\nplan 1\nrun 1\n",
+    "caller.in": "batch 1\npush 0 0 1 0\nplan 1\nrun 1\n", "keeper.in": KEPT,
 }  # fmt: skip
 # The one that is standard input.
 INPUT = "three"
@@ -130,7 +131,7 @@ COMMANDS = [
     ["serve", "2x2x2", "script", "other", "--image-out", "left-0"], ["serve", "2x2x2", "--image-out", "left-1", "script", "other", "--workers", "2"],
     ["serve", "3x2x2", "pushes", "--image", "image", "--image-out", "left-2"], ["serve", "2x2", "script", "--image-out", "left-3"],
     # `write_record`, `read_entry`, `replay` and `answer_replay`.
-    ["serve", "2x1x1", "refusals", "--record", "left-4"], ["serve", "2x2x2", "script", "--record", "left-5"],
+    ["serve", "2x1x1", "refusals", "--record", "left-4"], ["serve", "2x2x2", "script", "--record", "left-5", "--image-out", "left-6"],
     ["replay", "2x2x2", "record"], ["replay", "3x2x2", "record", "--image", "image"], ["replay", "2x2x2", "-"], ["replay", "2x2x2", "spoilt"],
     # `Batch::write`.
     ["direct", "moves"], ["direct", "wrong"], ["direct", "-"],
@@ -219,65 +220,86 @@ def is_served(words, ended):
     return well and ended.status == status and ended.err == b""
 
 
-def images_behind(words, told):
+def sessions_of(words, ended):
+    """The shape, the scripts and the image of a `serve`, and what it told; and those of a `host`, whose client has no script where its files
+    couldn't be opened."""
+    if words[0] == "serve":
+        return *served(words), ended.out
+    shape, client, fault = words[1].encode(), words[2], ended.out.partition(b"\n")[2]
+    if fault == b"ended open\n":
+        return shape, [b""], None, b"session 0\n"
+    with open(f"{client}.out", "rb") as file:
+        return shape, [FILES[f"{client}.in"].encode()], None, b"session 0\n" + file.read() + fault
+
+
+def images_behind(words, ended):
     """The images that may be left behind what sessions were told: none where it is a refusal."""
-    shape, scripts, image = served(words)
-    if told.startswith(b"refused "):
+    if ended.out.startswith(b"refused "):
         return []
+    shape, scripts, image, told = sessions_of(words, ended)
     exchanges = [sessions.told_without_memory(shape, scripts, told, image, is_done) for is_done in (False, True)]
     return [exchange.image() for exchange in exchanges if exchange]
 
 
-def image_file(words):
-    """The file for the image that is left, where one is named."""
-    return words[words.index("--image-out") + 1] if "--image-out" in words else None
+def kept_files(words):
+    """The files for the record and the image that are left, by what they are to keep."""
+    options = {"record": "--record", "image": "--image-out"}
+    return {what: words[words.index(option) + 1] for what, option in options.items() if option in words}
 
 
-def put_older(file):
-    with open(file, "wb") as older:
-        older.write(OLDER)
+def put_older(files):
+    for name in files.values():
+        with open(name, "wb") as older:
+            older.write(OLDER)
 
 
-def judge_of_image(words, judge, behind):
-    """A judge of what is answered and of the image that is left, where `behind` gives those that may be left behind what was told. Where there
-    is no memory for it, its file is as before, the status 3, and a line may say so."""
-    name = image_file(words)
-    put_older(name)
-
-    def judge_both(ended, refused):
+def taken(files):
+    """What is left in files, which are as before then."""
+    texts = {}
+    for what, name in files.items():
         with open(name, "rb") as file:
-            left = file.read()
-        put_older(name)
-        images = behind(words, ended.out)
-        if refused and ended.status == 3 and images:
-            is_told = ended.err == b"" or ended.err.startswith(f"exchange: {name}: ".encode()) and ended.err.count(b"\n") == 1
-            return "no image" if is_told and left == OLDER else f"WRONG {ended}, {left}"
-        return judge(ended, refused) if left in (images or [OLDER]) else f"WRONG image {left} of {ended}"
-
-    return judge_both
+            texts[what] = file.read()
+    put_older(files)
+    return texts
 
 
-def judge_of_record(words, judge):
-    """A judge of what is answered and of the record, which has to be one of what was told, also where some growths were refused. Where there is
-    no memory for it, its file is as before, the status 3, and a line may say so."""
-    name = words[words.index("--record") + 1]
-    put_older(name)
+def is_record_of(words, ended, record, image):
+    """Whether a record is one of what was told, also where some growths were refused, and leads to the image that is left, if one is."""
+    replay = records.Replay(plain.read_shape(words[1].encode()), record, FILES["image"].encode() if "--image" in words else None)
+    told = sessions_of(words, ended)[3].decode().splitlines()
+    replies = [reply for _, _, reply in replay.entries if reply != "fetched"]
+    is_told = [line for line in told if line in replies] == [reply for reply in replies if reply in told]
+    return is_told and image in (None, replay.exchange.image())
 
-    def judge_both(ended, refused):
-        with open(name, "rb") as file:
-            record = file.read()
-        put_older(name)
-        if record == OLDER and not ended.out.startswith(b"refused "):
-            is_told = ended.err == b"" or ended.err.startswith(f"exchange: {name}: ".encode()) and ended.err.count(b"\n") == 1
-            return "no record" if refused and ended.status == 3 and is_told else f"WRONG {ended}, and no record"
-        if record != OLDER:
-            told = ended.out.decode().splitlines()
-            replies = [reply for _, _, reply in records.Replay(plain.read_shape(words[1].encode()), record).entries if reply != "fetched"]
-            if [line for line in told if line in replies] != [reply for reply in replies if reply in told]:
-                return f"WRONG record {record} of {ended}"
-        return judge(ended, refused)
 
-    return judge_both
+def is_told_of(ended, names):
+    """Whether nothing is told of these files, or a line of one."""
+    heads = tuple(f"exchange: {name}: ".encode() for name in names)
+    return ended.err == b"" or ended.err.startswith(heads) and ended.err.count(b"\n") == 1
+
+
+def judge_of_files(words, judge):
+    """A judge of what is answered, and of the record and the image that are left. Where there is no memory for one, its file is as before, the
+    status 3, and a line may say so."""
+    files = kept_files(words)
+    put_older(files)
+
+    def judge_all(ended, refused):
+        left, images = taken(files), images_behind(words, ended)
+        kept = {what: text for what, text in left.items() if text != OLDER}
+        missing = [what for what in files if what not in kept]
+        if not images:
+            return f"WRONG {ended}, and {kept}" if kept else judge(ended, refused)
+        if "image" in kept and kept["image"] not in images:
+            return f"WRONG image {kept['image']} of {ended}"
+        if "record" in kept and not is_record_of(words, ended, kept["record"], kept.get("image")):
+            return f"WRONG record {kept['record']} of {ended}"
+        if not missing:
+            return judge(ended, refused)
+        is_well = refused and ended.status == 3 and is_told_of(ended, [files[what] for what in missing])
+        return f"no {' and no '.join(missing)}" if is_well else f"WRONG {ended}, and no {missing}"
+
+    return judge_all
 
 
 def sweep_call(name):
@@ -294,7 +316,7 @@ def sweep_closing(words):
     """The same for the last reading of a session and the closing of its exchange, each of which stands between marks and takes none."""
     wanted = ask(*words, program=CALLS)
     swept = sweep(" ".join(["hostile_use", *words]), CALLS, words, True, judge_of_command(words, wanted))
-    if swept.growths or wanted.status or wanted.err != b"[]\n" * 2 or b"\nhistory\n" not in wanted.out:
+    if swept.growths or wanted.status or wanted.err != b"[]\n" * 2 or not wanted.out.endswith(b"\nclosed\n"):
         swept.found["WRONG: it takes memory, or isn't closed"] += 1
     return swept
 
@@ -302,10 +324,8 @@ def sweep_closing(words):
 def sweep_command(words):
     wanted = ask(*words, given=INPUT)
     judge = judge_of_command(words, wanted)
-    if image_file(words):
-        judge = judge_of_image(words, judge, images_behind)
-    if "--record" in words:
-        judge = judge_of_record(words, judge)
+    if kept_files(words):
+        judge = judge_of_files(words, judge)
     swept = sweep(" ".join(["exchange", *words]), EXCHANGE, words, False, judge)
     if words[:1] == ["serve"] and (wanted.out, wanted.status) != sessions.answer_serve(*served(words)):
         swept.found["WRONG: told otherwise with memory"] += 1
@@ -329,8 +349,7 @@ def sweep_help_by_name():
 
 
 def sweep_host(client, *options):
-    """The same for a live client, over plain files. The first run starts no thread, so that no file is made. No client writes a word that isn't
-    0."""
+    """The same for a live client, over plain files. The first run starts no thread, so that no file is made."""
     words = ["host", "2x1x1", client, *options]
     note = b"exchange: no thread could be had for each client; fewer clients may do\n"
     no_threads = (b"refused threads\n", note, 1)
@@ -346,7 +365,7 @@ def sweep_host(client, *options):
         return judge_of_command(words, wanted)(ended, refused)
 
     if options:
-        judge = judge_of_image(words, judge, lambda _, told: [] if told.startswith(b"refused ") else [bytes(8)])
+        judge = judge_of_files(words, judge)
     swept = sweep(" ".join(["exchange", *words]), EXCHANGE, words, False, judge)
     if alone != no_threads or is_made or not unstarted or wanted != (f"session 0 {client}\n".encode(), b"", 0) or not swept.found["no memory"]:
         swept.found["WRONG: served without threads, or told otherwise with memory"] += 1
@@ -373,7 +392,8 @@ def main():
             told = [tell(it) for it in pool.imap(sweep_call, names)]
             told.append(tell(sweep_closing(["clients", "2x2x2", "script"])))
             told += [tell(it) for it in pool.imap(sweep_command, COMMANDS)]
-        told += [tell(it) for it in [sweep_help_by_name(), sweep_host("caller"), sweep_host("keeper", "--image-out", "host-left")]]
+        told += [tell(it) for it in [sweep_help_by_name(), sweep_host("caller")]]
+        told.append(tell(sweep_host("keeper", "--record", "host-record", "--image-out", "host-left")))
         os.chdir("/")
     wrong = sum(it[1] for it in told)
     print(f"growths: {len(names) + 1} calls, {len(COMMANDS) + 3} command lines, {sum(it[0] for it in told)} runs, {wrong} wrong")

@@ -1,4 +1,4 @@
-//! Sessions side by side on one exchange, and the history that they leave.
+//! Sessions side by side on one exchange, and its closing.
 //!
 //! The last reading of each seat and the closing of the exchange take no memory, and stand between
 //! marks.
@@ -7,7 +7,6 @@ ghost use Rattle.std.specs.Prelude.{◌≡◌, All, Some};
 ghost use Rattle.client_session.specs.Sessions.{seat_back};
 ghost use Rattle.progress_word.specs.declared.limits.TheConstants.{ALL_PARTS};
 
-use crate::history::push_history;
 use crate::marks::{begin, end};
 use crate::plants::plant_of;
 use batch::Shape;
@@ -129,54 +128,44 @@ fn push_told(text: &mut Vec<u8>, told: &Told) -> Result<(), AllocError> {
     Ok(())
 }
 
-/// Puts what a closed exchange leaves behind a text.
-fn push_closing<L: Ledger>(text: &mut String, closing: &Closing<L>) -> Result<(), AllocError> {
+/// What there is to say of a closing: that the exchange is closed, or why it isn't.
+fn closing_words<L: Ledger>(closing: &Closing<L>) -> &'static str {
     match closing {
-        Ok(closed) => push_history(text, closed.book.history()),
-        Err(Unclosed::LogsDisagree(_)) => text.push_str("logs disagree\n"),
-        Err(Unclosed::SeatMissing(_, _)) => text.push_str("a seat is missing\n"),
+        Ok(_) => "closed",
+        Err(Unclosed::LogsDisagree(_)) => "logs disagree",
+        Err(Unclosed::SeatMissing(_, _)) => "a seat is missing",
     }
 }
 
-/// The text of what a closed exchange leaves.
-fn closing_text<L: Ledger>(alloc: Global, closing: &Closing<L>) -> Result<String, AllocError> {
-    let mut text = String::new(alloc);
-    push_closing(&mut text, closing)?;
-    Ok(text)
-}
-
-/// Closes an exchange, between the marks, and tells what it leaves.
-fn left_by<L: Ledger, R: AllocGlobal + Eprint>(
+/// Closes an exchange, between the marks, and tells whether it is closed.
+fn close_between<L: Ledger, R: Eprint>(
     rt: &R,
     exchange: Exchange<L>,
     seats: Vec<Seat<L>>,
-) -> Result<String, AllocError>
+) -> &'static str
     requires parts { L.parts ≡ ALL_PARTS }
     requires seats { All (λ s. s.exchange ≡ Some exchange.word) seats.items }
 {
     begin(rt);
     let closing = exchange.close(seats);
     end(rt);
-    closing_text(rt.alloc(), &closing)
+    closing_words(&closing)
 }
 
-/// Puts what all sessions were told, in whatever order they ended, and then the history, behind a
-/// text.
-fn push_all(text: &mut Vec<u8>, all: &[Told], history: &str) -> Result<(), AllocError> {
+/// Puts what all sessions were told, in whatever order they ended, and then whether their exchange
+/// is closed, behind a text.
+fn push_all(text: &mut Vec<u8>, all: &[Told], closing: &str) -> Result<(), AllocError> {
     for told in all {
         push_told(text, told)?;
     }
-    text.extend_from_slice(b"history\n")?;
-    text.extend_from_slice(history.as_bytes())
+    write!(text, "{closing}\n").map_err(|_| AllocError)
 }
 
-/// What all sessions were told, and then the history, if there was memory for it.
-fn told_text(alloc: Global, all: &[Told], left: &Result<String, AllocError>) -> Option<Vec<u8>> {
-    let Ok(history) = left else {
-        return None;
-    };
+/// What all sessions were told, and then whether their exchange is closed, if there was memory for
+/// it.
+fn told_text(alloc: Global, all: &[Told], closing: &str) -> Option<Vec<u8>> {
     let mut text = Vec::new(alloc);
-    push_all(&mut text, all, history.as_str()).ok()?;
+    push_all(&mut text, all, closing).ok()?;
     Some(text)
 }
 
@@ -204,9 +193,9 @@ fn serve_all<L: Ledger + Send + Sync, R: AllocGlobal + Eprint + Threads + Wait +
     let Ok(seats) = thread::map_vec(rt, seats, &one) else {
         return None;
     };
-    let left = left_by(rt, exchange, seats);
+    let closing = close_between(rt, exchange, seats);
     let all = all.into_inner();
-    told_text(rt.alloc(), all.as_slice(), &left)
+    told_text(rt.alloc(), all.as_slice(), closing)
 }
 
 /// The files' bytes.
@@ -237,7 +226,7 @@ fn print_text<R: Print>(rt: &R, text: Option<&[u8]>) -> io::Result<()> {
 }
 
 /// Serves the scripts of 1 to 16 files side by side on an exchange with a rack of zeros, and prints
-/// what each session was told and the history.
+/// what each session was told and whether the exchange is closed.
 pub fn serve_side_by_side<R: AllocGlobal + Eprint + Files + Print + Threads + Wait + Sync>(
     rt: &R,
     shape: &str,

@@ -4,15 +4,14 @@
 //! made once.
 //!
 //! `tools/hostile` runs it while the growths of that one call are refused in turn.
-//! `hostile_use clients SHAPE SCRIPT..` serves the scripts side by side, and prints what each
-//! session was told and the history.
+//! `hostile_use clients SHAPE SCRIPT..` serves the scripts side by side, closes their exchange, and
+//! prints what each session was told and whether it is closed.
 #![tactic(auto)]
 
 mod book_calls;
 mod calls;
 mod clients;
 mod graph_calls;
-mod history;
 mod loan_calls;
 mod marks;
 mod met;
