@@ -87,7 +87,7 @@ same_held h g e = cc
 own_if : (m : Machine) (id : ℕ) (p : Plan) (h : KeptBatch) (r : Reply) (k : Machine) (b : Bool) → same_transfers h.batch p.batch ≡ b → CanBeReplied r
     → Gives (if b then settle_at m id p h.stage else refuse m Stranger) r k → h.batch ≡ p.batch
 own_if m id p h r k true same can x = (same_transfers-Decides h.batch p.batch).0 same
-own_if m id p h r k false same can x = absurd (subst CanBeReplied x.0 can)
+own_if m id p h r k false same can x = absurd (can.1 x.0)
 
 own : (m : Machine) (id : ℕ) (p : Plan) (h : KeptBatch) (r : Reply) (k : Machine) → CanBeReplied r → Gives (settle m id p (Some h)) r k → h.batch ≡ p.batch
 own m id p h r k can x = own_if m id p h r k (same_transfers h.batch p.batch) refl can x
@@ -123,7 +123,7 @@ tell m id plan (reply.RunRefused run_refusal.Shape) k can is = misfits refl is.0
 tell m id plan (reply.Ran run settings words) k can is =
     ran (ap (λ (x : ℕ). reply.Ran x settings words) is.0.number ∙ ap (λ (x : ℕ). reply.Ran (m.runs + 1) x words) is.1.all_settings ∙ ap (λ (x : ℕ). reply.Ran (m.runs + 1) (length plan.settings) x) is.1.all_moved)
     is.0.can_move is.1.placed is.2
-tell m id plan (reply.Stopped run setting cause moved) k can is = absurd can
+tell m id plan (reply.Stopped run setting cause moved) k can is = absurd (can.0 run setting cause moved refl)
 tell m id plan r k can is = absurd is
 
 one_run_of : (m n : Machine) (id : ℕ) (p q : Plan) (r s : Reply) (k l : Machine) → Alike m n → HasAllBlocks m.store → p.batch ≡ q.batch → length p.settings ≡ length q.settings

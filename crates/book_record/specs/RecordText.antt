@@ -1,7 +1,7 @@
 -- The text of a record: an entry for each call of a history, with the session's number, the call in
 -- the words of a session's line, and its reply line. Plans aren't told: a call that settles one is
 -- told by the number of its batch. The form is this project's choice.
-use Rattle.std.specs.Prelude.{◌≡◌, ℕ, ◌≤◌, List, ◌++◌, length, All, codes}
+use Rattle.std.specs.Prelude.{◌≡◌, ◌≢◌, ℕ, ◌≤◌, List, ◌++◌, length, All, codes}
 use Rattle.std.specs.Fmt.{decimal}
 use Rattle.std.specs.List.{flat_map}
 use Rattle.batch.specs.Batches.{IsBatch}
@@ -13,7 +13,8 @@ use Rattle.batch_book.specs.declared.call.Call.{Call}
 use Rattle.batch_book.specs.declared.call.Call.TheVariants.{Submit, Fetch, Settle, Run, Show, Discard, Peek, Poke}
 use Rattle.batch_book.specs.declared.refusal.BookRefusal.TheVariants.{Stranger}
 use Rattle.batch_book.specs.declared.reply.Reply.{Reply}
-use Rattle.batch_book.specs.declared.reply.Reply.TheVariants.{Fetched, Stopped, Refused}
+use Rattle.batch_book.specs.declared.reply.Reply.TheVariants.{Fetched, Refused}
+use Rattle.batch_book.specs.Replies.{IsUnstopped}
 use Rattle.client_session.specs.declared.command.SessionCommand.TheVariants as command
 use Rattle.client_session.specs.Commands.{line_of}
 use Rattle.client_session.specs.Replies.{reply_line, with_feed}
@@ -95,9 +96,7 @@ CanSay (told_call.Poke «module» address word) = IsNumber «module» × IsWord 
 -- The reply tells of no run that stopped, since over a port and wires that never fail none does;
 -- and of no plan of another batch, since plans aren't told.
 abbrev pub CanBeReplied : Reply → Type 0
-CanBeReplied (Stopped run setting cause moved) = ⊥
-CanBeReplied (Refused Stranger) = ⊥
-CanBeReplied reply = Unit {0}
+CanBeReplied reply = IsUnstopped reply × (reply ≢ Refused Stranger)
 
 pub record CanTell (e : Entry) : Type 0 where
   pub session : IsNumber e.session

@@ -9,4 +9,4 @@ mod writing;
 
 pub use reading::{read_entry, read_head};
 pub use told_call::ToldCall;
-pub use writing::{push_reply, write_record};
+pub use writing::{id_of, push_reply, write_record};

@@ -1,6 +1,3 @@
-ghost use Rattle.std.specs.Prelude.{◌≡◌};
-ghost use Rattle.book_record.specs.RecordText.{id_of};
-
 use batch::Batch;
 
 /// What a record tells of a call: all of it, but the plan that is settled.
@@ -22,17 +19,4 @@ pub enum ToldCall {
     Peek(usize, u32),
     /// Write a word at an address of a module: module, address, word.
     Poke(usize, u32, u32),
-}
-
-impl ToldCall {
-    /// The batch that the call names, or 0.
-    pub fn id(&self) -> usize
-        ensures { result ≡ id_of self.now }
-    {
-        match self {
-            ToldCall::Fetch(id) | ToldCall::Settle(id) | ToldCall::Run(id) => *id,
-            ToldCall::Show(id) | ToldCall::Discard(id) => *id,
-            ToldCall::Submit(_) | ToldCall::Peek(..) | ToldCall::Poke(..) => 0,
-        }
-    }
 }

@@ -52,7 +52,7 @@ fn push_call(text: &mut Vec<u8>, call: &Call) -> Result<(), AllocError>
 }
 
 /// The batch that a call names, or 0.
-fn id_of(call: &Call) -> usize
+pub fn id_of(call: &Call) -> usize
     ensures { result ≡ id_of (told call.now) }
 {
     match call {

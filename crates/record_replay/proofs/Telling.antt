@@ -1,36 +1,25 @@
 -- A record can tell what sessions leave.
-use Rattle.std.proofs.Common.{◌≢◌, ℕ, ◌<◌, ◌≤◌, inl, inr, List, [], ◌∷◌, None, refl, sym, ap, subst, arith}
+use Rattle.std.proofs.Common.{◌≢◌, ℕ, ◌<◌, ◌≤◌, inl, inr, List, [], ◌∷◌, None, sym, subst, arith}
 use Rattle.std.specs.List.{AllByRecursion}
 use Rattle.std.proofs.lemmas.Bool.{cases_lt}
 use Rattle.std.proofs.lemmas.List.Elements.{All-from_recursion, recursion_from_All}
 use Rattle.batch_book.specs.declared.entry.Entry.{Entry}
-use Rattle.batch_book.specs.declared.refusal.BookRefusal.{BookRefusal}
 use Rattle.batch_book.specs.declared.refusal.BookRefusal.TheVariants.{Stranger}
-use Rattle.batch_book.specs.declared.reply.Reply.{Reply}
 use Rattle.batch_book.specs.declared.reply.Reply.TheVariants as reply
 use Rattle.batch_book.specs.Seats.{own}
-use Rattle.book_record.specs.RecordText.{told, CanSay, CanBeReplied, CanTell}
+use Rattle.book_record.specs.RecordText.{told, CanSay, CanTell}
 use Rattle.batch_book.specs.Replies.{IsUnstopped}
 use Rattle.record_replay.specs.Fetched.{SettleFetched}
 use Rattle.record_replay.specs.SessionLaws.{SessionsAreTold}
 use Rattle.record_replay.proofs.Others.{no_others, none_own, all_own}
 use Rattle.record_replay.proofs.Strangers.{no_strangers}
 
-refused_so : (why : BookRefusal) → why ≢ Stranger → CanBeReplied (reply.Refused why)
-refused_so Stranger never = never refl
-refused_so why never = tt
-
-can_be_replied : (r : Reply) → IsUnstopped r → r ≢ reply.Refused Stranger → CanBeReplied r
-can_be_replied (reply.Stopped run setting cause moved) unstopped never = unstopped run setting cause moved refl
-can_be_replied (reply.Refused why) unstopped never = refused_so why (λ is. never (ap reply.Refused is))
-can_be_replied r unstopped never = tt
-
 each_told : (n : ℕ) (es : List Entry) → n ≤ 1000000000 → AllByRecursion (λ e. e.session < n) es → AllByRecursion (λ e. CanSay (told e.call)) es → AllByRecursion (λ e. IsUnstopped e.reply) es
     → AllByRecursion (λ e. e.reply ≢ reply.Refused Stranger) es → AllByRecursion CanTell es
 each_told n [] few sessions say unstopped strange = tt
 each_told n (e ∷ es) few sessions say unstopped strange = (
   let less = sessions.0 in
-      record { session = omega (arith, less, few); call = say.0; reply = can_be_replied e.reply unstopped.0 strange.0 },
+      record { session = omega (arith, less, few); call = say.0; reply = (unstopped.0, strange.0) },
   each_told n es few sessions.1 say.1 unstopped.1 strange.1,
 )
 

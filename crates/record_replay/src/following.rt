@@ -8,7 +8,7 @@ ghost use Rattle.record_replay.specs.Replays.{GoesOnBy, IsEntryFault};
 use crate::asking::{PlainPlant, ask, call_of};
 use crate::fault::EntryFault;
 use batch_book::{Book, Reply};
-use book_record::{push_reply, read_entry};
+use book_record::{id_of, push_reply, read_entry};
 use exchange_limits::WorkerCount;
 use line_words::behind;
 use std::alloc::{AllocError, Global};
@@ -42,8 +42,8 @@ pub(crate) fn follow<'a, R: Threads + Sync>(
     let Some((session, told, replied)) = read_entry(alloc, text)? else {
         return Err(EntryFault::Call);
     };
-    let id = told.id();
     let call = call_of(rt, alloc, book, session, told, workers)?;
+    let id = id_of(&call);
     let reply = ask(rt, book, plant, session, call)?;
     let due = due_line(alloc, id, &reply)?;
     match behind(replied, due.as_slice()) {
