@@ -59,19 +59,30 @@ same_entry e f s c r =
     let make : ℕ → ToldCall → Reply → ToldEntry = λ t d q. record { session = t; call = d; reply = q } in
     ap (λ (t : ℕ). make t (told e.call) e.reply) s ∙ ap (λ (d : ToldCall). make f.session d e.reply) c ∙ ap (make f.session (told f.call)) r
 
+-- a call's lines, and what stands behind them
+pub one_asked : (m n : Machine) (e f : Entry) (k l : Machine) (x y : List ℕ) → Alike m n → IsFit m → IsFit n → CanTell e → CanTell f
+    → IsMachineStep m e.session e.call e.reply k → IsMachineStep n f.session f.call f.reply l
+    → number e.session space ++ (call_text (told e.call) ++ x) ≡ number f.session space ++ (call_text (told f.call) ++ y) → OneEntry e f k l x y
+one_asked m n e f k l x y alike fm fn p q step other same =
+    let session = one_behind [] e.session f.session _ _ p.session q.session same in
+    let call = one_call (told e.call) (told f.call) x y p.call q.call session.1 in
+    let its : IsMachineStep n e.session f.call f.reply l = subst (λ (s : ℕ). IsMachineStep n s f.call f.reply l) (sym session.0) other in
+    let both = one_told m n e.session e.call f.call e.reply f.reply k l call.0 alike fm.blocks fm.plans fn.plans p.reply q.reply step its in
+    record { same = same_entry e f session.0 call.0 both.0; alike = both.1; rest = call.1 }
+
+-- the line of an entry's reply
+abbrev pub due_of : ToldEntry → List ℕ
+due_of t = reply_text (id_of t.call) t.reply
+
 -- an entry's lines, and what stands behind them
 pub one_entry : (m n : Machine) (e f : Entry) (k l : Machine) (x y : List ℕ) → Alike m n → IsFit m → IsFit n → CanTell e → CanTell f
     → IsMachineStep m e.session e.call e.reply k → IsMachineStep n f.session f.call f.reply l → entry_text e ++ x ≡ entry_text f ++ y → OneEntry e f k l x y
 one_entry m n e f k l x y alike fm fn p q step other same =
-    let session = one_behind [] e.session f.session _ _ p.session q.session (sym (entry_parts e x) ∙ same ∙ entry_parts f y) in
-    let call = one_call (told e.call) (told f.call) _ _ p.call q.call session.1 in
-    let its : IsMachineStep n e.session f.call f.reply l = subst (λ (s : ℕ). IsMachineStep n s f.call f.reply l) (sym session.0) other in
-    let both = one_told m n e.session e.call f.call e.reply f.reply k l call.0 alike fm.blocks fm.plans fn.plans p.reply q.reply step its in
+    let one = one_asked m n e f k l _ _ alike fm fn p q step other (sym (entry_parts e x) ∙ same ∙ entry_parts f y) in
     record {
-      same = same_entry e f session.0 call.0 both.0;
-      alike = both.1;
-      rest = append_cancel_left (reply_text (id_of (told f.call)) f.reply) x y
-          (ap (λ (r : Reply). reply_text (id_of (told f.call)) r ++ x) (sym both.0) ∙ ap (λ (c : ToldCall). reply_text (id_of c) e.reply ++ x) (sym call.0) ∙ call.1);
+      same = one.same;
+      alike = one.alike;
+      rest = append_cancel_left (due_of (told_entry f)) x y (ap (λ (t : ToldEntry). due_of t ++ x) (sym one.same) ∙ one.rest);
     }
 
 -- ---- entries

@@ -1,5 +1,5 @@
 -- A record has one first fault, or none.
-use Rattle.std.proofs.Common.{◌≡◌, ◌≢◌, ℕ, ◌+◌, ◌<◌, ◌≤◌, List, [], ◌∷◌, ◌++◌, length, map, All, Result, Ok, Err, IfOk, IfErr, refl, sym, ap, ◌∙◌, append_assoc, append-nil, subst, arith, inl, inr, ◌⊎◌}
+use Rattle.std.proofs.Common.{◌≡◌, ◌≢◌, ℕ, ◌+◌, ◌<◌, ◌≤◌, List, [], ◌∷◌, ◌++◌, length, map, All, Some, Result, Ok, Err, IfOk, IfErr, refl, sym, ap, ◌∙◌, append_assoc, append-nil, subst, arith, inl, inr, ◌⊎◌}
 use Rattle.std.specs.List.{flat_map}
 use Rattle.std.proofs.lemmas.Bool.{cases_lt}
 use Rattle.std.proofs.lemmas.List.{length-append, nil_from_length}
@@ -7,18 +7,14 @@ use Rattle.std.proofs.lemmas.List.Elements.{All-head}
 use Rattle.batch.specs.Text.{number, space}
 use Rattle.module_memory.specs.Store.{Store, HasAllBlocks}
 use Rattle.batch_book.specs.declared.entry.Entry.{Entry}
-use Rattle.batch_book.specs.declared.reply.Reply.{Reply}
 use Rattle.batch_book.specs.Machine.{Machine, opened, IsMachineStep}
-use Rattle.batch_book.specs.History.{IsReplay}
-use Rattle.book_record.specs.declared.told_call.ToldCall.{ToldCall}
+use Rattle.batch_book.specs.History.{IsReplay, entry}
 use Rattle.book_record.specs.Reading.{BeginsWithNoEntry}
 use Rattle.book_record.specs.RecordText.{told, id_of, call_text, reply_text, entry_text, record_head, record_text, CanTell, IsRecordOf}
 use Rattle.batch_book.specs.declared.limits.TheConstants.{MAX_ENTRIES}
-use Rattle.book_record.specs.Untold.{told_entry}
+use Rattle.book_record.specs.Untold.{ToldEntry, told_entry}
 use Rattle.book_record.proofs.Alike.{Alike}
-use Rattle.book_record.proofs.CallTexts.{one_behind, one_call}
-use Rattle.book_record.proofs.OneTold.{one_told}
-use Rattle.book_record.proofs.Records.{IsFit, GoesOn, entry_parts, fit_along, fit_at_first, goes_on, one_head, one_record}
+use Rattle.book_record.proofs.Records.{IsFit, GoesOn, due_of, entry_parts, fit_along, fit_at_first, goes_on, one_asked, one_head, one_record}
 use Rattle.record_replay.specs.declared.fault.RecordFault.{RecordFault}
 use Rattle.record_replay.specs.declared.fault.RecordFault.TheVariants as fault
 use Rattle.record_replay.specs.declared.fault.RecordError.{RecordError}
@@ -36,15 +32,24 @@ pub whole_entry : (e : Entry) (es : List Entry) (rest y : List ℕ) → rest ≡
     → rest ≡ number e.session space ++ (call_text (told e.call) ++ (reply_text (id_of (told e.call)) e.reply ++ (flat_map entry_text es ++ y)))
 whole_entry e es rest y is = is ∙ append_assoc (entry_text e) (flat_map entry_text es) y ∙ entry_parts e (flat_map entry_text es ++ y)
 
+-- the reply that comes, as an entry
+abbrev due_entry : (end : Machine) (rest replied due : List ℕ) → IsOtherReply end rest replied due → Entry
+due_entry end rest replied due o = entry o.session o.call o.reply
+
+can_tell : (end : Machine) (rest replied due : List ℕ) (o : IsOtherReply end rest replied due) → CanTell (due_entry end rest replied due o)
+can_tell end rest replied due o = record { session = o.number_fits; call = o.can_say; reply = o.can_reply }
+
 comes_so : (end mid : Machine) (e : Entry) (k : Machine) (z rest replied due : List ℕ) (o : IsOtherReply end rest replied due) → Alike end mid → IsFit end → IsFit mid → CanTell e → IsMachineStep mid e.session e.call e.reply k
     → rest ≡ number e.session space ++ (call_text (told e.call) ++ (reply_text (id_of (told e.call)) e.reply ++ z)) → ⊥
 comes_so end mid e k z rest replied due o alike fit fit_mid can step is =
-    let session = one_behind [] o.session e.session _ _ o.number_fits can.session (sym o.asks ∙ is) in
-    let called = one_call (told o.call) (told e.call) _ _ o.can_say can.call session.1 in
-    let its : IsMachineStep mid o.session e.call e.reply k = subst (λ (s : ℕ). IsMachineStep mid s e.call e.reply k) (sym session.0) step in
-    let both = one_told end mid o.session o.call e.call o.reply e.reply o.next k called.0 alike fit.blocks fit.plans fit_mid.plans o.can_reply can.reply o.step its in
-    o.differs z
-    (called.1 ∙ ap (λ (c : ToldCall). reply_text (id_of c) e.reply ++ z) (sym called.0) ∙ ap (λ (r : Reply). reply_text (id_of (told o.call)) r ++ z) (sym both.0) ∙ ap (λ (l : List ℕ). l ++ z) (sym o.due_is))
+    let one = one_asked end mid (due_entry end rest replied due o) e o.next k _ _ alike fit fit_mid (can_tell end rest replied due o) can o.step step (sym o.asks ∙ is) in
+    o.differs z (one.rest ∙ ap (λ (t : ToldEntry). due_of t ++ z) (sym one.same) ∙ ap (λ (l : List ℕ). l ++ z) (sym o.due_is))
+
+-- behind the call that stands there another reply stands in one place, and one line is due
+one_other : (a b : Machine) (x y v w d l : List ℕ) → Alike a b → IsFit a → IsFit b → x ≡ y → IsOtherReply a x v d → IsOtherReply b y w l → (v ≡ w) × (d ≡ l)
+one_other a b x y v w d l alike fit fit_too same o p =
+    let one = one_asked a b (due_entry a x v d o) (due_entry b y w l p) o.next p.next v w alike fit fit_too (can_tell a x v d o) (can_tell b y w l p) o.step p.step (sym o.asks ∙ same ∙ p.asks) in
+    (one.rest, o.due_is ∙ ap due_of one.same ∙ sym p.due_is)
 
 never_stops : (end mid : Machine) (e : Entry) (es : List Entry) (b : Machine) (rest y : List ℕ) → Alike end mid → IsFit end → IsFit mid → CanTell e → IsReplay mid (e ∷ es) b → rest ≡ flat_map entry_text (e ∷ es) ++ y → Stops end rest → ⊥
 never_stops end mid e es b rest y alike fit fit_mid can led is (inl none) = none e.session (told e.call) _ can.session can.call (whole_entry e es rest y is)
@@ -76,12 +81,13 @@ inside text opening m n es fs a b x y all p q less stops =
     let go = goes text opening m n es fs a b x y all p q (omega (arith, less)) in
     inside_by go.front go.more (length es) a go.mid b x y (omega (arith, less, ap length go.list, length-append go.front go.more)) go.counted go.alike (fit_along (opened opening) es a (fit_at_first opening all) p.replay) go.fit go.each go.replay go.rest stops
 
--- where both have as many entries, one rest is left
-same_rest : (text : List ℕ) (opening : Store) (m n : ℕ) (es fs : List Entry) (a b : Machine) (x y : List ℕ) → HasAllBlocks opening → Reading text opening m es a x → Reading text opening n fs b y → length es ≡ length fs → x ≡ y
-same_rest text opening m n es fs a b x y all p q same =
+-- where both have as many entries, one rest is left, and the machines differ in plans alone
+same_end : (text : List ℕ) (opening : Store) (m n : ℕ) (es fs : List Entry) (a b : Machine) (x y : List ℕ) → HasAllBlocks opening → Reading text opening m es a x → Reading text opening n fs b y → length es ≡ length fs → (x ≡ y) × Alike a b
+same_end text opening m n es fs a b x y all p q same =
     let go = goes text opening m n es fs a b x y all p q (omega (arith, same)) in
     let none : go.more ≡ [] = nil_from_length go.more (omega (arith, same, go.counted, ap length go.list, length-append go.front go.more)) in
-    go.rest ∙ ap (λ (l : List Entry). flat_map entry_text l ++ y) none
+    let end : b ≡ go.mid = subst (λ (l : List Entry). IsReplay go.mid l b) none go.replay in
+    (go.rest ∙ ap (λ (l : List Entry). flat_map entry_text l ++ y) none, subst (λ (k : Machine). Alike a k) (sym end) go.alike)
 
 -- ---- the laws
 
@@ -104,7 +110,7 @@ never_both opening text es end f rest due all is led (reply count fs b last line
     inside text opening count (length es) fs es b end last [] all p whole (omega (arith, less, (heads text opening count (length es) fs es b end last [] p whole).0)) (inr (rest, line, other))
 never_both opening text es end f rest due all is led (more fs b p some e why_due) =
     let whole = full text opening es end is led in
-    some (same_rest text opening (length fs) (length es) fs es b end rest [] all p whole (heads text opening (length fs) (length es) fs es b end rest [] p whole).0)
+    some (same_end text opening (length fs) (length es) fs es b end rest [] all p whole (heads text opening (length fs) (length es) fs es b end rest [] p whole).0).0
 
 two_stops : (text : List ℕ) (opening : Store) (m n : ℕ) (es fs : List Entry) (a b : Machine) (x y : List ℕ) → HasAllBlocks opening → Reading text opening m es a x → Reading text opening n fs b y → Stops a x → Stops b y → length es ≡ length fs
 two_stops text opening m n es fs a b x y all p q stop stop_too = elim (cases_lt (length es) (length fs)) [
@@ -117,15 +123,15 @@ two_stops text opening m n es fs a b x y all p q stop stop_too = elim (cases_lt 
 
 call_and_reply : (text : List ℕ) (opening : Store) (m n : ℕ) (es fs : List Entry) (a b : Machine) (x y replied due : List ℕ) → HasAllBlocks opening → Reading text opening m es a x → Reading text opening n fs b y → BeginsWithNoEntry x → IsOtherReply b y replied due → ⊥
 call_and_reply text opening m n es fs a b x y replied due all p q none other =
-    let same = same_rest text opening m n es fs a b x y all p q (two_stops text opening m n es fs a b x y all p q (inl none) (inr (replied, due, other))) in
-    none other.session (told other.call) replied other.number_fits other.can_say (same ∙ other.asks)
+    let same = same_end text opening m n es fs a b x y all p q (two_stops text opening m n es fs a b x y all p q (inl none) (inr (replied, due, other))) in
+    none other.session (told other.call) replied other.number_fits other.can_say (same.0 ∙ other.asks)
 
 stop_and_more : (text : List ℕ) (opening : Store) (m : ℕ) (es fs : List Entry) (a b : Machine) (x y : List ℕ) → HasAllBlocks opening → Reading text opening m es a x → length es < m → Stops a x → Reading text opening (length fs) fs b y → ⊥
 stop_and_more text opening m es fs a b x y all p less stop q =
     inside text opening m (length fs) es fs a b x y all p q (omega (arith, less, (heads text opening m (length fs) es fs a b x y p q).0)) stop
 
 pub one_fault : OneFault
-one_fault opening text f g x y d l all (head none e at why_due) (head other h to why_line) = e ∙ sym h
+one_fault opening text f g x y d l all (head none e at why_due) (head other h to why_line) = (e ∙ sym h, at ∙ sym to, why_due ∙ sym why_line)
 one_fault opening text f g x y d l all (head none e at why_due) (call n fs b q less_too begins_too h why_line) = absurd (none n _ q.few q.front)
 one_fault opening text f g x y d l all (head none e at why_due) (reply n fs b v w q less_too other_too h why_line) = absurd (none n _ q.few q.front)
 one_fault opening text f g x y d l all (head none e at why_due) (more fs b q some_too h why_line) = absurd (none (length fs) _ q.few q.front)
@@ -133,10 +139,17 @@ one_fault opening text f g x y d l all (call m es a p less begins e why_due) (he
 one_fault opening text f g x y d l all (reply m es a v w p less other e why_due) (head none h to why_line) = absurd (none m _ p.few p.front)
 one_fault opening text f g x y d l all (more es a p some e why_due) (head none h to why_line) = absurd (none (length es) _ p.few p.front)
 one_fault opening text f g x y d l all (call m es a p less begins e why_due) (call n fs b q less_too begins_too h why_line) =
-    e ∙ ap fault.Call (two_stops text opening m n es fs a b x y all p q (inl begins) (inl begins_too)) ∙ sym h
+    let same = two_stops text opening m n es fs a b x y all p q (inl begins) (inl begins_too) in
+    (e ∙ ap fault.Call same ∙ sym h, (same_end text opening m n es fs a b x y all p q same).0, why_due ∙ sym why_line)
 one_fault opening text f g x y d l all (reply m es a v w p less other e why_due) (reply n fs b s t q less_too other_too h why_line) =
-    e ∙ ap fault.Reply (two_stops text opening m n es fs a b v s all p q (inr (x, w, other)) (inr (y, t, other_too))) ∙ sym h
-one_fault opening text f g x y d l all (more es a p some e why_due) (more fs b q some_too h why_line) = e ∙ sym h
+    let same = two_stops text opening m n es fs a b v s all p q (inr (x, w, other)) (inr (y, t, other_too)) in
+    let ends = same_end text opening m n es fs a b v s all p q same in
+    let fit = fit_at_first opening all in
+    let one = one_other a b v s x y w t ends.1 (fit_along (opened opening) es a fit p.replay) (fit_along (opened opening) fs b fit q.replay) ends.0 other other_too in
+    (e ∙ ap fault.Reply same ∙ sym h, one.0, why_due ∙ ap Some one.1 ∙ sym why_line)
+one_fault opening text f g x y d l all (more es a p some e why_due) (more fs b q some_too h why_line) =
+    let ends = same_end text opening (length es) (length fs) es fs a b x y all p q (heads text opening (length es) (length fs) es fs a b x y p q).0 in
+    (e ∙ sym h, ends.0, why_due ∙ sym why_line)
 one_fault opening text f g x y d l all (call m es a p less begins e why_due) (reply n fs b s t q less_too other h why_line) = absurd (call_and_reply text opening m n es fs a b x s y t all p q begins other)
 one_fault opening text f g x y d l all (reply m es a v w p less other e why_due) (call n fs b q less_too begins h why_line) = absurd (call_and_reply text opening n m fs es b a y v x w all q p begins other)
 one_fault opening text f g x y d l all (call m es a p less begins e why_due) (more fs b q some h why_line) = absurd (stop_and_more text opening m es fs a b x y all p less (inl begins) q)

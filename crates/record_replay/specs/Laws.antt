@@ -15,9 +15,10 @@ NeverBoth =
     (rest : List ℕ) (due : Option (List ℕ)) → HasAllBlocks opening → IsRecordOf es text
     → IsReplay (opened opening) es end → IsRecordFault text opening fault rest due → ⊥
 
--- any other text has one fault
+-- any other text has one fault, in one place, and one line is due there
 abbrev pub OneFault : Type 0
 OneFault =
     (opening : Store) (text : List ℕ) (one other : RecordFault) (rest left : List ℕ)
     (due line : Option (List ℕ)) → HasAllBlocks opening → IsRecordFault text opening one rest due
-    → IsRecordFault text opening other left line → one ≡ other
+    → IsRecordFault text opening other left line
+    → (one ≡ other) × (rest ≡ left) × (due ≡ line)

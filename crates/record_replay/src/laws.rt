@@ -14,7 +14,8 @@ use exchange_limits::WorkerCount;
 use std::alloc::Global;
 use std::thread::Threads;
 
-/// The record of a legal history has no fault, and any other text has at most one.
+/// The record of a legal history has no fault, and any other text has at most one, in one place,
+/// where one line is due.
 pub fn one_fault()
     ensures apart { NeverBoth }
     ensures fault { OneFault }

@@ -1,5 +1,5 @@
 -- What `replay` answers.
-use Rattle.std.specs.Prelude.{◌≡◌, ℕ, List, Option, Some, None}
+use Rattle.std.specs.Prelude.{◌≡◌, ℕ, List, Option, Some, None, option_map}
 use Rattle.module_memory.specs.Images.{image_of}
 use Rattle.module_memory.specs.Store.{Store}
 use Rattle.batch_book.specs.declared.entry.Entry.{Entry}
@@ -55,3 +55,14 @@ pub data IsReplayAnswer (shape text : List ℕ) (image : Option (List ℕ)) (pri
 abbrev pub IsReplayPrinted : List ℕ → List ℕ → Option (List ℕ) → Printed → Type 0
 IsReplayPrinted shape text image printed =
     (told : Option RecordError) × IsReplayAnswer shape text image printed told
+
+-- what is told of a record that is wrong: the fault, how many bytes stand before it, and the line
+-- that is due there
+abbrev pub told_of : Option RecordError → Option (RecordFault × ℕ × Option (List ℕ))
+told_of = option_map (λ e. (e.fault, e.offset, option_map (λ line. line.items) e.due))
+
+-- beside whichever answer, nothing else is told
+abbrev pub IsOnlyTold : List ℕ → List ℕ → Option (List ℕ) → Option RecordError → Type 0
+IsOnlyTold shape text image told =
+    (printed : Printed) (other : Option RecordError)
+    → IsReplayAnswer shape text image printed other → told_of other ≡ told_of told

@@ -6,7 +6,7 @@ ghost use Rattle.plan_answers.specs.Lent.{bytes_of};
 ghost use Rattle.plan_answers.specs.Refusals.{Refuses};
 ghost use Rattle.record_replay.specs.declared.fault.RecordFault.TheVariants as record_fault;
 ghost use Rattle.record_replay.specs.Replays.{IsRecordError};
-ghost use Rattle.replay_answers.specs.Replays.{IsRecordAnswer, IsRecordTo, IsReplayAnswer, IsReplayPrinted, of_record};
+ghost use Rattle.replay_answers.specs.Replays.{IsRecordAnswer, IsRecordTo, IsReplayAnswer, IsReplayPrinted, IsOnlyTold, of_record};
 
 use exchange_limits::WorkerCount;
 use module_memory::Rack;
@@ -129,6 +129,8 @@ pub fn answer_replay<R: Threads + Sync>(
         (bytes_of image.entry) replayed.answer replayed.error) }
     ensures one { IfOk result (λ replayed. IsOnly
         (IsReplayPrinted shape.now recorded.now (bytes_of image.entry)) replayed.answer) }
+    ensures told { IfOk result (λ replayed. IsOnlyTold shape.now recorded.now
+        (bytes_of image.entry) replayed.error) }
 {
     answer_texts(rt, alloc, shape, recorded, image, workers)
 }

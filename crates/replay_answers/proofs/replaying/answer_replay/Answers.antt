@@ -1,8 +1,8 @@
 use Rattle.std.proofs.lemmas.Result.{IfOk-weaker}
 use Rattle.plan_answers.specs.Answers.{IsOnly}
 use Rattle.plan_answers.specs.Lent.{bytes_of}
-use Rattle.replay_answers.specs.Replays.{IsReplayAnswer, IsReplayPrinted}
-use Rattle.replay_answers.proofs.OneReplay.{one_replay}
+use Rattle.replay_answers.specs.Replays.{IsReplayAnswer, IsReplayPrinted, IsOnlyTold}
+use Rattle.replay_answers.proofs.OneReplay.{one_replay, one_told_beside}
 use Rattle.replay_answers.proofs.replaying.answer_replay.Goals as goal
 
 pub returns-clause-one : goal.returns-clause-one
@@ -10,3 +10,9 @@ returns-clause-one g c =
     let image = bytes_of c.args.image in
     IfOk-weaker c.answer_texts.result (λ r. IsReplayAnswer c.args.shape.now c.args.recorded.now image r.answer r.error) (λ r. IsOnly (IsReplayPrinted c.args.shape.now c.args.recorded.now image) r.answer)
     (λ r is. one_replay c.args.shape.now c.args.recorded.now image r.answer r.error is) c.answer_texts.ensures
+
+pub returns-clause-told : goal.returns-clause-told
+returns-clause-told g c =
+    let image = bytes_of c.args.image in
+    IfOk-weaker c.answer_texts.result (λ r. IsReplayAnswer c.args.shape.now c.args.recorded.now image r.answer r.error) (λ r. IsOnlyTold c.args.shape.now c.args.recorded.now image r.error)
+    (λ r is. one_told_beside c.args.shape.now c.args.recorded.now image r.answer r.error is) c.answer_texts.ensures
