@@ -417,11 +417,12 @@ what the exchange's history has of them, or that it began on another rack.
 
 With --record each call of all sessions, in the order in which the exchange met
 them, and its reply are written to FILE when all sessions have ended, in the
-form that `exchange replay --help` shows. With --image-out the words of the rack
-are then written to FILE, in the form that `exchange apply --help` shows. Each
-FILE is opened before the first session, made where it isn't there, and emptied
-only then. It can't be `-`, nor one that is read, nor one of a client's, nor the
-other's. Nothing is written where the logs disagree.
+form that `exchange replay --help` shows, but for calls that are answered by
+`refused history full` or `refused no memory`. With --image-out the words of the
+rack are then written to FILE, in the form that `exchange apply --help` shows.
+Each FILE is opened before the first session, made where it isn't there, and
+emptied only then. It can't be `-`, nor by its name one that is read, one of a
+client's or the other's. Nothing is written where the logs disagree.
 
 Else nothing is served, and the answer is the first of these that is wrong:
   refused file               the image or a SCRIPT can't be read, or the FILE of
@@ -533,7 +534,8 @@ with N up to 65536, and then N entries. An entry is
   REPLY    the line that it was answered by
 But `plan ID` is two calls: `fetch ID`, which is answered by `fetched`, and
 `settle ID`, which is answered as `plan ID` is. `progress` and `bye` are none,
-nor is a line or a batch that was refused for its form.
+nor is a line or a batch that was refused for its form, nor a batch with a
+module or a block that the rack doesn't have.
 
 The calls are made again, one after the other, on a rack whose words are at
 first 0, or those of the image where there is one. Each reply is compared with
