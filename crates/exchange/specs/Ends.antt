@@ -1,5 +1,5 @@
 -- How the program ends.
-use Rattle.std.specs.Prelude.{◌≡◌, ◌⊎◌, ℕ, List, [], Option, Result, Ok, Err, IfErr, IfOk}
+use Rattle.std.specs.Prelude.{◌≡◌, ◌≢◌, ◌⊎◌, ℕ, List, [], Option, Result, Ok, Err, IfErr, IfOk, ⊤, codes}
 use Rattle.std.specs.Io.KnownBytes.{Appends}
 use Rattle.plan_answers.specs.Refusals.{Printed}
 use Rattle.plan_answers.specs.declared.limits.TheConstants.{DONE}
@@ -10,12 +10,31 @@ use Rattle.command_words.specs.Jobs.{AskFor, AsksForHelp, IsFaultIn}
 use Rattle.exchange.specs.declared.limits.TheConstants.{MISUSED}
 use Rattle.exchange.specs.declared.unanswered.Unanswered.TheVariants.{NoMemory}
 use Rattle.exchange.specs.Responses.{IsResponseTo, unanswered}
-use Rattle.exchange.specs.Notes.{IsNoted}
+use Rattle.exchange.specs.Notes.{IsNoted, IsToldInPart}
+use Rattle.exchange.specs.Outputs.{IsLostTold, lost_none}
+use Rattle.exchange.specs.declared.notes.Answered.{Answered}
+use Rattle.exchange.specs.declared.unwritten.Unwritten.{Unwritten}
+use Rattle.exchange.specs.declared.unwritten.Unwritten.TheVariants.{Answer, Setting, Kept}
 
 -- this was printed behind what stood there, and ends with its status
 pub record IsPrinted (before after : Option (List ℕ)) (printed : Printed) (code : ℕ) : Type 0 where
   pub text : Appends before after printed.text
   pub status : code ≡ printed.status
+
+-- What couldn't be written where there is an answer: that itself, and what is lost of what its
+-- sessions leave; or something that they leave, and then the answer was printed whole.
+abbrev pub IsUnwrittenOf : Answered → Option (List ℕ) → Option (List ℕ) → Unwritten → Type 0
+IsUnwrittenOf done before after (Answer error lost) = lost ≡ done.lost
+IsUnwrittenOf done before after Setting = ⊥
+IsUnwrittenOf done before after (Kept lost) =
+    Appends before after done.answer.text × (lost ≡ done.lost) × (lost ≢ lost_none)
+
+-- what was told of it on standard error; where an answer couldn't be written, it may be any text
+abbrev pub IsUnwrittenTold : Unwritten → Option (List ℕ) → Option (List ℕ) → Type 0
+IsUnwrittenTold (Answer error lost) before after = ⊤
+IsUnwrittenTold Setting before after =
+    IsToldInPart before after (codes "exchange: a setting that stands can't be told\n")
+IsUnwrittenTold (Kept lost) before after = IsLostTold lost before after
 
 -- what stood on standard output and on standard error, and stands there in the end
 pub record Streams : Type 0 where

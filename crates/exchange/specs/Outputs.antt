@@ -1,10 +1,12 @@
 -- The files to which go the record of sessions and the image that they leave.
-use Rattle.std.specs.Prelude.{◌≡◌, ℕ, List, Option, Some, None}
+use Rattle.std.specs.Prelude.{◌≡◌, ℕ, List, [], Option, Some, None, option_map, string_bytes, unwrap_or}
 use Rattle.std.specs.Io.KnownBytes.{Appends}
 use Rattle.byte_streams.specs.Writing.{IsCutShort}
 use Rattle.module_memory.specs.Images.{image_of}
 use Rattle.batch_book.specs.History.{Account}
 use Rattle.book_record.specs.RecordText.{record_text}
+use Rattle.command_words.specs.declared.jobs.SharedRack.{SharedRack}
+use Rattle.exchange.specs.Notes.{IsToldInPart}
 use Rattle.exchange.specs.declared.lost.Lost.{Lost}
 use Rattle.exchange.specs.declared.lost.Reason.{Reason}
 use Rattle.exchange.specs.declared.outputs.OutFile.{OutFile}
@@ -13,6 +15,30 @@ use Rattle.exchange.specs.declared.outputs.Outputs.{Outputs}
 -- nothing is lost
 abbrev pub lost_none : Lost
 lost_none = record { recorded = None; image = None }
+
+-- the line that says why a file couldn't be written; none of it where there was no memory for it
+abbrev pub line_of : Reason → List ℕ
+line_of reason = unwrap_or (option_map (λ line. string_bytes line) reason.line) []
+
+-- as much of that line as could be written was told, where something is lost
+abbrev pub IsWhyTold : Option Reason → Option (List ℕ) → Option (List ℕ) → Type 0
+IsWhyTold None before after = after ≡ before
+IsWhyTold (Some reason) before after = IsToldInPart before after (line_of reason)
+
+-- it was told why the record is lost, and then why the image is
+abbrev pub IsLostTold : Lost → Option (List ℕ) → Option (List ℕ) → Type 0
+IsLostTold lost before after =
+    (mid : Option (List ℕ)) × IsWhyTold lost.recorded before mid × IsWhyTold lost.image mid after
+
+-- the name of the file that is open, if one is
+abbrev pub name_of : {F : Type 0} → Option (OutFile F) → Option (List ℕ)
+name_of out = option_map (λ out. out.name.now) out
+
+-- the files that are open are those that are named for the record and for the image of sessions on
+-- this rack
+pub record AreOutputsNamed {F : Type 0} (rack : SharedRack) (outputs : Outputs F) : Type 0 where
+  pub recorded : name_of outputs.recorded ≡ rack.record_out
+  pub image : name_of outputs.image ≡ rack.image_out
 
 -- these bytes were written to the file for them, if there is one; or a front of them, where it is
 -- told why not all

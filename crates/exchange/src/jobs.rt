@@ -308,7 +308,7 @@ fn c004<I: Read, O: Write, E: Write>(
             tell_note(&reason_line(alloc, "-", &error), false, err);
             Ok(alone(Answer::failed(Vec::new(alloc))))
         }
-        Err(EndFault::Write(error)) => Err(NoAnswer::Unwritten(Unwritten::Answer(error))),
+        Err(EndFault::Write(error)) => Err(NoAnswer::Unwritten(Unwritten::from(error))),
     }
 }
 

@@ -1,7 +1,8 @@
 //! What couldn't be written of what sessions leave.
 
-ghost use Rattle.std.specs.Prelude.{◌≡◌, ◌↔◌, IsTrue};
-ghost use Rattle.exchange.specs.Outputs.{lost_none};
+ghost use Rattle.std.specs.Prelude.{◌≡◌, ◌↔◌, IfSome, IsTrue, string_bytes};
+ghost use Rattle.exchange.specs.Notes.{IsWholeLine};
+ghost use Rattle.exchange.specs.Outputs.{IsLostTold, IsWhyTold, lost_none};
 
 use crate::notes::{reason_line, tell_line};
 use command_words::Text;
@@ -27,17 +28,23 @@ pub(crate) struct Lost {
 
 impl Reason {
     /// What is told of a file of this name where it can't be written.
-    pub(crate) fn of(alloc: Global, name: &Text, error: &io::Error) -> Reason {
+    pub(crate) fn of(alloc: Global, name: &Text, error: &io::Error) -> Reason
+        ensures { IfSome result.line (λ line. IsWholeLine (string_bytes line)) }
+    {
         Reason {
             line: reason_line(alloc, name.as_str(), error),
         }
     }
+}
 
-    /// Tells it on this stream, as far as it can be written.
-    fn tell<E: Write>(&self, err: &mut E) {
-        if let Some(line) = &self.line {
-            tell_line(line.as_str().as_bytes(), err);
-        }
+/// Tells why a file couldn't be written, where one couldn't, as far as that can be written.
+fn tell_why<E: Write>(lost: &Option<Reason>, err: &mut E)
+    ensures { IsWhyTold lost.now (E.contents err.old) (E.contents err.new) }
+{
+    if let Some(reason) = lost
+        && let Some(line) = &reason.line
+    {
+        tell_line(line.as_str().as_bytes(), err);
     }
 }
 
@@ -60,12 +67,10 @@ impl Lost {
     }
 
     /// Tells of the record, and then of the image, as far as it can be written.
-    pub(crate) fn tell<E: Write>(&self, err: &mut E) {
-        if let Some(reason) = &self.recorded {
-            reason.tell(err);
-        }
-        if let Some(reason) = &self.image {
-            reason.tell(err);
-        }
+    pub(crate) fn tell<E: Write>(&self, err: &mut E)
+        ensures { IsLostTold self.now (E.contents err.old) (E.contents err.new) }
+    {
+        tell_why(&self.recorded, err);
+        tell_why(&self.image, err);
     }
 }

@@ -1,11 +1,11 @@
 //! The files to which go the record of sessions and the image that they leave.
 
-ghost use Rattle.std.specs.Prelude.{IfErr, OnErr, OnOk};
+ghost use Rattle.std.specs.Prelude.{◌≡◌, IfErr, IfOk, OnErr, OnOk};
 ghost use Rattle.std.specs.Io.KnownBytes.{Appends};
 ghost use Rattle.byte_streams.specs.Writing.{IsCutShort};
 ghost use Rattle.module_memory.specs.Images.{image_of};
 ghost use Rattle.book_record.specs.RecordText.{record_text};
-ghost use Rattle.exchange.specs.Outputs.{AreOutputsWritten, IsFileWritten};
+ghost use Rattle.exchange.specs.Outputs.{AreOutputsNamed, AreOutputsWritten, IsFileWritten, name_of};
 ghost use Rattle.exchange.specs.Outcomes.{IsNoAnswer};
 
 use crate::lost::{Lost, Reason};
@@ -43,7 +43,8 @@ fn open_file<'a, R: AllocGlobal + Files>(
     rt: &R,
     name: &'a Option<Text>,
 ) -> Result<Option<OutFile<'a, R::File>>, NoAnswer>
-    ensures { IfErr result (λ missed. IsNoAnswer missed) }
+    ensures named { IfOk result (λ out. name_of out ≡ name.entry.now) }
+    ensures note { IfErr result (λ missed. IsNoAnswer missed) }
 {
     let Some(name) = name else {
         return Ok(None);
@@ -58,12 +59,13 @@ fn open_file<'a, R: AllocGlobal + Files>(
     }
 }
 
-/// Opens the files for the record and for the image of sessions on this rack.
+/// Opens the files for the record and for the image of sessions on this rack, where they are named.
 pub(crate) fn open_outputs<'a, R: AllocGlobal + Files>(
     rt: &R,
     rack: &'a SharedRack,
 ) -> Result<Outputs<'a, R::File>, NoAnswer>
-    ensures { IfErr result (λ missed. IsNoAnswer missed) }
+    ensures named { IfOk result (AreOutputsNamed rack.entry.now) }
+    ensures note { IfErr result (λ missed. IsNoAnswer missed) }
 {
     let recorded = open_file(rt, &rack.record_out)?;
     let image = open_file(rt, &rack.image_out)?;

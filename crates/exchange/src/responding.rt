@@ -1,13 +1,14 @@
 //! From the arguments of the command line to what is printed, and the status that the program ends
 //! with.
 
-ghost use Rattle.std.specs.Prelude.{◌≡◌, ◌⊎◌, IfOk, OnErr, option_map, string_bytes};
+ghost use Rattle.std.specs.Prelude.{◌≡◌, ◌⊎◌, IfErr, IfOk, OnErr, option_map, string_bytes};
 ghost use Rattle.std.specs.Process.{exit_status};
 ghost use Rattle.command_words.specs.Jobs.{texts_of};
 ghost use Rattle.exchange.specs.Responses.{unanswered};
 ghost use Rattle.exchange.specs.Notes.{IsToldUnless};
 ghost use Rattle.exchange.specs.Outputs.{lost_none};
 ghost use Rattle.exchange.specs.Ends.{IsPrinted, streams_of, IsEndForArguments, IsEndWithoutArguments};
+ghost use Rattle.exchange.specs.Ends.{IsUnwrittenOf, IsUnwrittenTold};
 
 use crate::client_streams::System;
 use crate::jobs::answer_to;
@@ -56,6 +57,8 @@ fn status_of<E: Write>(end: Result<u8, Unwritten>, err: &mut E) -> ExitCode
     ensures done { IfOk end (λ status.
         (exit_status result ≡ status) × (E.contents err.new ≡ E.contents err.old)) }
     ensures unwritten { OnErr end (exit_status result ≡ UNWRITTEN) }
+    ensures told { IfErr end (λ what.
+        IsUnwrittenTold what (E.contents err.old) (E.contents err.new)) }
 {
     match end {
         Ok(status) => ExitCode::from(status),
@@ -141,7 +144,8 @@ fn installed_help(alloc: Global, help: &clap::Error) -> Result<String, AllocErro
 }
 
 /// Prints an answer, then tells what there is to tell beside it, and gives the answer's status. The
-/// error is what couldn't be written: the answer, or before it what sessions leave.
+/// error is what couldn't be written: what sessions leave, which is written before, the answer, or
+/// both.
 fn print_noted<O: Write, E: Write>(
     done: Answered,
     is_quiet: bool,
@@ -150,11 +154,16 @@ fn print_noted<O: Write, E: Write>(
 ) -> Result<u8, Unwritten>
     ensures printed { IfOk result (λ status. IsPrinted (O.contents out.old) (O.contents out.new)
         done.answer status × (done.lost ≡ lost_none)) }
+    ensures unwritten { IfErr result
+        (IsUnwrittenOf done (O.contents out.old) (O.contents out.new)) }
     ensures told { IsToldUnless is_quiet (option_map (λ line. string_bytes line) done.note)
         (E.contents err.old) (E.contents err.new) }
 {
     let Answered { answer, note, lost } = done;
-    let status = print(&answer, out)?;
+    let status = match print(&answer, out) {
+        Ok(status) => status,
+        Err(error) => return Err(Unwritten::Answer { error, lost }),
+    };
     tell_note(&note, is_quiet, err);
     if lost.is_none() {
         return Ok(status);
@@ -182,7 +191,7 @@ fn refuse_noted<O: Write, E: Write>(
 }
 
 /// Prints an answer, and gives its status.
-fn print<O: Write>(answer: &Answer, out: &mut O) -> Result<u8, Unwritten>
+fn print<O: Write>(answer: &Answer, out: &mut O) -> io::Result<u8>
     ensures { IfOk result (IsPrinted (O.contents out.old) (O.contents out.new) answer.now) }
 {
     out.write_all(answer.text())?;

@@ -1,5 +1,7 @@
 //! What couldn't be written.
 
+ghost use Rattle.exchange.specs.Ends.{IsUnwrittenTold};
+
 use crate::lost::Lost;
 use crate::notes::tell_line;
 use std::io;
@@ -8,25 +10,33 @@ use std::io::Write;
 /// What couldn't be written, so that the program ends with [`UNWRITTEN`](crate::limits::UNWRITTEN).
 #[derive(Drop)]
 pub(crate) enum Unwritten {
-    /// The answer, or what a session or a switch is told before it.
-    Answer(io::Error),
+    /// The answer, or what a session or a switch is told before it; and what was lost before that
+    /// of what sessions leave.
+    Answer { error: io::Error, lost: Lost },
     /// The line of a setting that stands.
     Setting,
-    /// What sessions leave: their record, the image, or both.
+    /// What sessions leave: their record, the image, or both. The answer was printed.
     Kept(Lost),
 }
 
 impl From<io::Error> for Unwritten {
     fn from(error: io::Error) -> Unwritten {
-        Unwritten::Answer(error)
+        Unwritten::Answer {
+            error,
+            lost: Lost::none(),
+        }
     }
 }
 
 impl Unwritten {
-    /// Tells it on this stream, as far as it can be written.
-    pub(crate) fn tell<E: Write>(&self, err: &mut E) {
+    /// Tells it on this stream, as far as it can be written: of what sessions leave first, and
+    /// then of the answer.
+    pub(crate) fn tell<E: Write>(&self, err: &mut E)
+        ensures { IsUnwrittenTold self.now (E.contents err.old) (E.contents err.new) }
+    {
         match self {
-            Unwritten::Answer(error) => {
+            Unwritten::Answer { error, lost } => {
+                lost.tell(err);
                 let _ = err.writeln(format_args!("exchange: the answer can't be written: {error}"));
             }
             Unwritten::Setting => tell_line(
