@@ -1,5 +1,5 @@
 -- The lines of a text, the words of a line, and the lines that list an entry.
-use Rattle.std.specs.Prelude.{◌≡◌, ℕ, ◌-◌, ◌==◌, ◌&&◌, ◌||◌, ◌⊎◌, Bool, List, [], Some, codes, is_some, length, nat_eq, slice_get, unwrap_or}
+use Rattle.std.specs.Prelude.{◌≡◌, ℕ, ◌-◌, ◌==◌, ◌&&◌, ◌||◌, ◌⊎◌, Bool, List, [], Some, codes, is_some, length, nat_eq, slice_get, take, unwrap_or}
 use Rattle.std.specs.List.{slice_split, starts_with}
 use Rattle.std.specs.Fmt.{decimal}
 use Rattle.batch.specs.Text.{IsNumber, line_feed, space}
@@ -23,6 +23,10 @@ line_at text number = unwrap_or (slice_get (lines text) (number - 1)) []
 -- whether a line feed ends it
 abbrev pub is_ended : List ℕ → ℕ → Bool
 is_ended text number = is_some (slice_get (lines text) number)
+
+-- the number of the line before which so many bytes stand, counted from 1
+abbrev pub line_behind : List ℕ → ℕ → ℕ
+line_behind text bytes = length (lines (take bytes text))
 
 -- this word of the line is this number
 abbrev pub HasNumber : List ℕ → ℕ → ℕ → Type 0

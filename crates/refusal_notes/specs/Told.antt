@@ -8,9 +8,12 @@ use Rattle.refusal_notes.specs.declared.limit.Limit.{Limit}
 use Rattle.refusal_notes.specs.declared.limit.Limit.TheVariants.{Modules, Blocks, Announced}
 use Rattle.refusal_notes.specs.declared.listed.Listing.TheVariants.{Settings, Modules as Wired}
 use Rattle.refusal_notes.specs.declared.note.LineNote.{LineNote}
+use Rattle.refusal_notes.specs.declared.quote.Quote.{Quote}
 use Rattle.refusal_notes.specs.declared.told.Texts.{Texts}
-use Rattle.refusal_notes.specs.Lines.{Announces}
-use Rattle.refusal_notes.specs.Notes.{IsNoteAbove, IsNoteOf}
+use Rattle.refusal_notes.specs.declared.wanted.Wanted.{Wanted}
+use Rattle.refusal_notes.specs.declared.wanted.Wanted.TheVariants.{RecordHead, Call, Reply, RecordEnd}
+use Rattle.refusal_notes.specs.Lines.{Announces, line_at, line_behind}
+use Rattle.refusal_notes.specs.Notes.{IsNoteAbove, IsNoteOf, IsNoteWanting, IsQuoteOf}
 
 -- the shape that a word says: the widest, where it says none
 abbrev pub IsShapeOf : List ℕ → Extent → Type 0
@@ -30,6 +33,12 @@ HaveModules texts most =
     ((texts.wiring.text.now ≡ [])
     × ((shape : Extent) × IsShapeOf texts.shape.now shape × (most ≡ shape.modules)))
     ⊎ ((texts.wiring.text.now ≢ []) × Announces texts.wiring.text.now most)
+
+-- in the line of the record before which its right bytes stand, this is wanted
+abbrev pub IsRecordTold : Texts → Wanted → LineNote → Type 0
+IsRecordTold texts wanted =
+    IsNoteWanting wanted texts.recorded.text.now
+    (line_behind texts.recorded.text.now texts.offset)
 
 -- of these refusals a line is told, and of no other
 abbrev pub IsLineTold : Refusal → Texts → Option LineNote → Type 0
@@ -51,6 +60,12 @@ IsLineTold (refused.NoModule t) texts told =
     × IsNoteAbove texts.listing (Modules most) texts.list.text.now (min (t + 2) (2 ^ 64 - 1)) note)
 IsLineTold (refused.NoBlock t) texts told =
     MatchOption told ⊥ (IsTransferTold (λ shape. Blocks shape.blocks) texts t)
+IsLineTold refused.RecordHead texts told = MatchOption told ⊥ (IsRecordTold texts RecordHead)
+IsLineTold (refused.RecordCall e) texts told = MatchOption told ⊥ (IsRecordTold texts (Call e))
+IsLineTold (refused.RecordReply e) texts told =
+    MatchOption told ⊥ (λ note. (due : Quote) × IsQuoteOf (line_at texts.due.now 1) due
+    × IsRecordTold texts (Reply e due) note)
+IsLineTold refused.RecordMore texts told = MatchOption told ⊥ (IsRecordTold texts RecordEnd)
 IsLineTold _ texts told = told ≡ None
 
 -- the line on standard error that has these words

@@ -1,6 +1,6 @@
 //! What is told of a line that was refused.
 
-ghost use Rattle.refusal_notes.specs.Notes.{IsNoteAbove, IsNoteOf};
+ghost use Rattle.refusal_notes.specs.Notes.{IsNoteAbove, IsNoteOf, IsNoteWanting};
 
 use crate::limit::Limit;
 use crate::lines::{is_ended, line_at};
@@ -18,23 +18,30 @@ pub(crate) struct LineNote<'a> {
     /// Whether a line feed ends it.
     pub is_ended: bool,
     /// What is wanted there.
-    pub wanted: Wanted,
+    pub wanted: Wanted<'a>,
     /// The number of it that isn't below its limit, where it was refused for that.
     pub above: Option<(usize, Limit)>,
 }
 
 impl<'a> LineNote<'a> {
-    /// What is told of this line of a text, in which another form is wanted.
-    pub(crate) fn of(text: &'a [u8], number: usize, listing: Listing) -> LineNote<'a>
-        ensures { IsNoteOf listing text.entry.now number result }
+    /// What is told of this line of a text, in which this is wanted.
+    pub(crate) fn wanting(text: &'a [u8], number: usize, wanted: Wanted<'a>) -> LineNote<'a>
+        ensures { IsNoteWanting wanted.entry text.entry.now number result }
     {
         LineNote {
             number,
             quote: Quote::of(line_at(text, number)),
             is_ended: is_ended(text, number),
-            wanted: Wanted::at(listing, text, number),
+            wanted,
             above: None,
         }
+    }
+
+    /// What is told of this line of a text, in which another form is wanted.
+    pub(crate) fn of(text: &'a [u8], number: usize, listing: Listing) -> LineNote<'a>
+        ensures { IsNoteOf listing text.entry.now number result }
+    {
+        LineNote::wanting(text, number, Wanted::at(listing, text, number))
     }
 
     /// What is told of this line, a number of which isn't below the limit.

@@ -3,13 +3,14 @@
 ghost use Rattle.refusal_notes.specs.Told.{HaveModules, IsLineTold, IsShapeOf};
 
 use crate::limit::Limit;
-use crate::lines::announced;
+use crate::lines::{announced, line_at};
 use crate::listed::Listing;
 use crate::note::LineNote;
-use crate::quote::write_shown;
-use crate::recorded::write_recorded;
+use crate::quote::{Quote, write_shown};
+use crate::recorded::note_wanting;
 use crate::schedules::write_check;
 use crate::sent::write_sent;
+use crate::wanted::Wanted;
 use crate::words::{write_asked, write_line};
 use batch::Shape;
 use refusals::{Refusal, Validity};
@@ -129,6 +130,13 @@ impl<'a> Note<'a> {
                 let limit = Limit::Blocks(self.texts.rack().blocks());
                 Some(LineNote::above(list, t.saturating_add(2), listing, limit))
             }
+            Refusal::RecordHead => Some(note_wanting(self.texts, Wanted::RecordHead)),
+            Refusal::RecordCall(e) => Some(note_wanting(self.texts, Wanted::Call(e))),
+            Refusal::RecordReply(e) => {
+                let due = Quote::of(line_at(self.texts.due, 1));
+                Some(note_wanting(self.texts, Wanted::Reply(e, due)))
+            }
+            Refusal::RecordMore => Some(note_wanting(self.texts, Wanted::RecordEnd)),
             _ => None,
         }
     }
@@ -157,7 +165,11 @@ impl<'a> Display for Note<'a> {
             | Refusal::Count
             | Refusal::TooMany
             | Refusal::NoModule(_)
-            | Refusal::NoBlock(_) => write_line(f, *self),
+            | Refusal::NoBlock(_)
+            | Refusal::RecordHead
+            | Refusal::RecordCall(_)
+            | Refusal::RecordReply(_)
+            | Refusal::RecordMore => write_line(f, *self),
             Refusal::Settings
             | Refusal::NoSetting(_)
             | Refusal::Shape
@@ -181,10 +193,6 @@ impl<'a> Display for Note<'a> {
             | Refusal::Memory(_)
             | Refusal::BookFull
             | Refusal::HistoryFull => write_sent(f, *self),
-            Refusal::RecordHead
-            | Refusal::RecordCall(_)
-            | Refusal::RecordReply(_)
-            | Refusal::RecordMore => write_recorded(f, *self),
             Refusal::File | Refusal::Port(_) | Refusal::NoMemory => Ok(()),
         }
     }

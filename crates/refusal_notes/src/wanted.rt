@@ -5,6 +5,8 @@ ghost use Rattle.refusal_notes.specs.Wanted.{IsWantedAt, certificate_line, is_no
 
 use crate::lines::{announced, line_at};
 use crate::listed::Listing;
+use crate::quote::Quote;
+use crate::sent::LETTERS;
 use batch::{MAX_DIGITS, MAX_MODULES};
 use c004_commands::PORTS;
 use crossbar::JOINED_MODULES;
@@ -16,9 +18,13 @@ const RULES: &str =
 
 const _: () = prove!(MAX_DIGITS == 9);
 
+/// The calls of a record.
+const CALLS: &str =
+    "\"batch N\" and the batch's lines, \"fetch ID\", \"settle ID\", \"run ID\", \"show ID\", \"drop ID\", \"peek M A\" or \"poke M A D\"";
+
 /// What is wanted in a line.
 #[derive(Clone, Copy)]
-pub(crate) enum Wanted {
+pub(crate) enum Wanted<'a> {
     /// The first line of a text that lists these.
     Head(Listing),
     /// The line of one of these.
@@ -29,11 +35,19 @@ pub(crate) enum Wanted {
     Named,
     /// The end of the text.
     End,
+    /// The first line of a record.
+    RecordHead,
+    /// The call of this entry of a record.
+    Call(usize),
+    /// The reply of this entry of a record, whose line begins so.
+    Reply(usize, Quote<'a>),
+    /// The end of a record.
+    RecordEnd,
 }
 
-impl Wanted {
+impl<'a> Wanted<'a> {
     /// What is wanted in the line of this number, counted from 1.
-    pub(crate) fn at(listing: Listing, text: &[u8], number: usize) -> Wanted
+    pub(crate) fn at(listing: Listing, text: &[u8], number: usize) -> Wanted<'a>
         ensures { IsWantedAt listing text.now number result }
     {
         let n = announced(text);
@@ -48,7 +62,7 @@ impl Wanted {
     }
 
     /// What is wanted in this line behind the last setting, counted from 0.
-    fn of_certificate(k: usize, none: bool) -> Wanted
+    fn of_certificate(k: usize, none: bool) -> Wanted<'a>
         ensures { result ≡ certificate_line k none }
     {
         match k {
@@ -67,7 +81,7 @@ fn is_none_line(line: &[u8]) -> bool
 }
 
 /// The form of the line in full.
-impl Display for Wanted {
+impl<'a> Display for Wanted<'a> {
     fn fmt<W: Write>(&self, f: &mut Formatter<W>) -> fmt::Result {
         let form = match self {
             Wanted::Head(Listing::Transfers) => "\"batch N\", where N counts the transfers",
@@ -82,7 +96,10 @@ impl Display for Wanted {
             }
             Wanted::BusiestLink => return write_link(f),
             Wanted::Named => "\"named T U ..\", where T, U .. are transfers, one at least",
-            Wanted::End => return f.write_str("the text's end"),
+            Wanted::End | Wanted::RecordEnd => return f.write_str("the text's end"),
+            Wanted::RecordHead => "\"record N\", where N counts the entries, at most 65536",
+            Wanted::Call(e) => return write_call(f, *e),
+            Wanted::Reply(e, due) => return write!(f, "the reply of entry {e}, {due}"),
         };
         write!(f, "{form}: {RULES}")
     }
@@ -111,4 +128,11 @@ fn write_wired<W: Write>(f: &mut Formatter<W>) -> fmt::Result {
     let last = PORTS - 1;
     f.write_str("\"module M link 0 at A link 3 at B\", where M counts up from 0, and ")?;
     write!(f, "A and B are 0 to {last} and stand nowhere else: {RULES}")
+}
+
+/// Writes the form of the call of an entry.
+fn write_call<W: Write>(f: &mut Formatter<W>, e: usize) -> fmt::Result {
+    f.write_str("the call of entry ")?;
+    write!(f, "{e}, \"S CALL\", where S is the number of a session, ")?;
+    write!(f, "CALL is {CALLS}, {LETTERS}: {RULES}")
 }

@@ -69,6 +69,13 @@ pub(crate) fn write_line<W: Write>(f: &mut Formatter<W>, note: Note<'_>) -> fmt:
         }
         (Refusal::ScheduleLine(_), _) => write_form(f, Place(schedule, number), line),
         (Refusal::WiringLine(_), _) => write_form(f, Place(wiring, number), line),
+        (
+            Refusal::RecordHead
+            | Refusal::RecordCall(_)
+            | Refusal::RecordReply(_)
+            | Refusal::RecordMore,
+            _,
+        ) => write_form(f, Place(note.texts.recorded, number), line),
         (_, Some((n, limit))) => {
             write!(f, "{}: ", Place(list, number))?;
             write_above(f, n, limit, note.texts)
@@ -86,6 +93,10 @@ fn write_form<W: Write>(f: &mut Formatter<W>, place: Place<'_>, line: LineNote<'
         _ if is_missing && line.number <= 1 => write!(f, "the text is empty; wanted is {wanted}"),
         _ if is_missing => write!(f, "the text ends above this line; wanted is {wanted}"),
         Wanted::End => write!(f, "{quote} stands behind the last line; nothing may follow"),
+        Wanted::RecordEnd => write!(
+            f,
+            "{quote} stands behind the last entry; nothing may follow"
+        ),
         _ if line.is_ended => write!(f, "{quote} isn't {wanted}"),
         _ => write!(f, "{quote} with no line feed isn't {wanted}"),
     }
