@@ -18,7 +18,7 @@ pub(crate) const LETTERS: &str =
     "ID is the number of a batch, M a module, A an address and D a word, of eight digits 0 to 9 and a to f each";
 
 /// How they are written.
-pub(crate) const RULES: &str =
+const RULES: &str =
     "small letters, single spaces, numbers of at most nine digits and no leading zero";
 
 /// Writes what is told of a line that a session sent.
