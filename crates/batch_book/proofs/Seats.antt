@@ -1,6 +1,7 @@
 -- What a notice heard, and the greatest value of a list that grows.
-use Rattle.std.proofs.Common.{◌≡◌, ℕ, zero, suc, ◌+◌, ◌≤◌, max, List, [], ◌∷◌, ◌++◌, length, length-append, if◌then◌else◌, cond, nat_eq, take, drop, Bool, true, false, refl, sym, ap, ◌∙◌, subst, arith}
-use Rattle.std.proofs.Math.Seq.{take-append_seam}
+use Rattle.std.proofs.Common.{◌≡◌, ℕ, zero, suc, ◌+◌, ◌<◌, ◌≤◌, max, List, [], ◌∷◌, ◌++◌, length, length-append, if◌then◌else◌, cond, nat_eq, get_or, All, Some, Bool, true, false, refl, sym, ap, ◌∙◌, subst, arith}
+use Rattle.std.proofs.lemmas.List.{get_or_push, get_or_append_left}
+use Rattle.atomic_table.specs.Seated.{TableId}
 use Rattle.progress_word.specs.Watchers.{WatcherView}
 use Rattle.setting_runner.specs.Runs.{ToldUpTo, TellsOutcome}
 use Rattle.batch_book.specs.declared.entry.Entry.{Entry}
@@ -9,7 +10,7 @@ use Rattle.batch_book.specs.declared.reply.Reply.TheVariants.{Ran, Stopped}
 use Rattle.batch_book.specs.declared.call.Call.{Call}
 use Rattle.batch_book.specs.History.{Account, entry, IsGrown, IsSound}
 use Rattle.batch_book.specs.Replies.{is_logged, outcome_of}
-use Rattle.batch_book.specs.Seats.{Reaches, own}
+use Rattle.batch_book.specs.Seats.{SeatState, LogAgrees, Reaches, own}
 use Rattle.batch_book.specs.Values.{value_at, value_of, greatest}
 use Rattle.batch_book.proofs.Answering.{answered}
 
@@ -75,7 +76,7 @@ unlogged_value (Ran run settings words) h = absurd (cc)
 unlogged_value (Stopped run setting cause moved) h = absurd (cc)
 unlogged_value r h = refl
 
-entered_by : (b : Bool) (es ns : List Entry) (e : Entry) (amount later raised now : ℕ) → (b ≡ false → value_of e.reply ≡ 0) → ns ≡ (if b then es ++ e ∷ [] else es) → later ≡ (if b then amount + 1 else amount) → now ≡ max raised (value_of e.reply)
+pub entered_by : (b : Bool) (es ns : List Entry) (e : Entry) (amount later raised now : ℕ) → (b ≡ false → value_of e.reply ≡ 0) → ns ≡ (if b then es ++ e ∷ [] else es) → later ≡ (if b then amount + 1 else amount) → now ≡ max raised (value_of e.reply)
     → amount ≡ length es → raised ≡ greatest es → (later ≡ length ns) × (now ≡ greatest ns)
 entered_by true es ns e amount later raised now quiet ns_is later_is now_is amount_is raised_is =
     (omega (arith, ap length ns_is, length-append es (e ∷ [])), omega (arith, ap greatest ns_is, greatest_push es e))
@@ -88,16 +89,9 @@ pub listed : (es log ns : List Entry) (session : ℕ) (kept c : Call) (r : Reply
 listed es log ns session kept c r logged is same equal =
     is ∙ (ap (λ b. if b then log ++ entry session kept r ∷ [] else log) logged ∙ (λ i. same i ++ entry session (equal i) r ∷ []))
 
--- the ledger's amount is the length of the list, and the raised value the greatest of the list, as
--- they were before
-pub entered : (es log ns : List Entry) (session : ℕ) (c : Call) (r : Reply) (amount later raised now : ℕ)
-    → ns ≡ (if is_logged r then log ++ entry session c r ∷ [] else log) → log ≡ es → later ≡ (if is_logged r then amount + 1 else amount)
-    → now ≡ max raised (value_of r) → amount ≡ length es → raised ≡ greatest es → (later ≡ length ns) × (now ≡ greatest ns)
-entered es log ns session c r amount later raised now is same =
-    entered_by (is_logged r) es ns (entry session c r) amount later raised now (unlogged_value r) (is ∙ (λ i. if is_logged r then same i ++ entry session c r ∷ [] else same i))
-
-pub unlisted : {A : Type 0} (b : Bool) (es ns : List A) (e : A) → b ≡ false → ns ≡ (if b then es ++ e ∷ [] else es) → ns ≡ es
-unlisted b es ns e u is = is ∙ ap (λ c. if c then es ++ e ∷ [] else es) u
+-- the last entry of a history that has one more
+pub last_is : (es ns hs : List Entry) (e x : Entry) (k : ℕ) → ns ≡ es ++ e ∷ [] → hs ≡ ns → x ≡ get_or hs k x → k ≡ length es → x ≡ e
+last_is es ns hs e x k grown same is here = is ∙ ap (λ (l : List Entry). get_or l k x) (same ∙ grown) ∙ get_or_push es e x k (sym here)
 
 own_step : (e : Entry) (es os : List Entry) → greatest os ≤ greatest es → (b : Bool) → greatest (cond b (e ∷ os) os) ≤ greatest (e ∷ es)
 own_step e es os le true = omega arith
@@ -108,6 +102,12 @@ pub own_below : (session : ℕ) (es : List Entry) → greatest (own session es) 
 own_below session [] = omega arith
 own_below session (e ∷ es) = own_step e es (own session es) (own_below session es) (nat_eq e.session session)
 
--- a slice written over the whole of a vector
-pub written : {A : Type 0} (xs ns : List A) (n : ℕ) → length ns ≡ length xs → n ≡ length xs → take n (ns ++ drop (length ns) xs) ≡ ns
-written xs ns n same all = ap (λ k. take k (ns ++ drop (length ns) xs)) (all ∙ sym same) ∙ take-append_seam ns _
+-- nor does a list that agrees with the history
+pub agree_below : (history : List Entry) (seat : SeatState) → LogAgrees history seat → greatest seat.log ≤ greatest history
+agree_below history seat agrees = subst (λ l. greatest l ≤ greatest history) (sym agrees) (own_below seat.session history)
+
+-- a seat before the last one, of seats that are all of one word
+pub its_word : (seats rest : List SeatState) (last s : SeatState) (word : TableId) (k : ℕ) → All (λ (t : SeatState). t.exchange ≡ Some word) seats → seats ≡ rest ++ last ∷ [] → k < length rest → s ≡ get_or rest k s → s.exchange ≡ Some word
+its_word seats rest last s word k all grown below is =
+    let whole : s ≡ get_or seats k s = is ∙ (sym (get_or_append_left rest (last ∷ []) s k below) ∙ ap (λ (l : List SeatState). get_or l k s) (sym grown)) in
+    ap (λ (t : SeatState). t.exchange) whole ∙ all k s (omega (arith, ap length grown, length-append rest (last ∷ [])))

@@ -9,3 +9,4 @@ pub mod Seats
 pub mod Exchanges
 pub mod Closing
 pub mod Laws
+pub mod Naming

@@ -1,12 +1,11 @@
 -- The seats of an exchange, and their lists.
-use Rattle.std.specs.Prelude.{◌≡◌, ℕ, ◌≤◌, max, nat_eq, List, length, filter, sum_by, Option, Some, None}
+use Rattle.std.specs.Prelude.{◌≡◌, ℕ, ◌≤◌, max, nat_eq, List, length, filter, sum_by, Option, Some}
 use Rattle.atomic_table.specs.Seated.{TableId}
 use Rattle.progress_word.specs.Watchers.{WatcherView}
 use Rattle.batch_book.specs.declared.entry.Entry.{Entry}
 
--- What contracts see of a seat: the word of its exchange (none, once that is closed), its session,
--- its list, the greatest value that it saw of the word, the greatest to which it raised it, and its
--- parts
+-- What contracts see of a seat: the word of its exchange, its session, its list, the greatest value
+-- that it saw of the word, the greatest to which it raised it, and its parts
 pub record SeatState : Type 0 where
   pub exchange : Option TableId
   pub session : ℕ
@@ -26,11 +25,6 @@ open_seat o session log parts =
       raised = o.raised;
       parts = parts;
     }
-
--- the seat once its exchange is closed: it keeps its list
-abbrev pub closed : SeatState → SeatState
-closed s =
-    record { exchange = None; session = s.session; log = s.log; seen = 0; raised = 0; parts = 0 }
 
 -- it is the seat of the same session at the same exchange, with as many parts
 pub record IsSameSeat (old new : SeatState) : Type 0 where

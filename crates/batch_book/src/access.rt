@@ -4,12 +4,13 @@ ghost use Rattle.std.specs.Prelude.{◌≡◌, ◌<◌, ◌≤◌, ◌+◌, ◌-
 ghost use Rattle.progress_word.specs.declared.limits.TheConstants.{ALL_PARTS};
 ghost use Rattle.progress_word.specs.Watchers.{watcher_view};
 
+use crate::naming::ExchangeName;
 use progress_word::{ALL_PARTS, ProgressWord, Watcher};
-use std::sync::ledger::{Ledger, Share};
+use std::sync::ledger::Share;
 
 /// What a seat takes part in its exchange by: parts of its ledger, and as many of its word.
 #[derive(Drop)]
-pub struct ExchangeAccess<L: Ledger> {
+pub struct ExchangeAccess<L: ExchangeName> {
     pub share: Share<L>,
     pub watcher: Watcher,
     pub parts: usize,
@@ -19,7 +20,7 @@ pub struct ExchangeAccess<L: Ledger> {
     pub ghost of_word: { watcher.parts ≡ parts },
 }
 
-impl<L: Ledger> ExchangeAccess<L> {
+impl<L: ExchangeName> ExchangeAccess<L> {
     /// An access with one of the parts, from whose watcher as much was seen.
     pub fn split(&mut self, word: &ProgressWord) -> ExchangeAccess<L>
         requires word { self.old.watcher.word ≡ word.now }

@@ -119,23 +119,6 @@ impl Book {
         self.holdings.runs() + 1
     }
 
-    /// Makes room in a list for an entry, and copies the call, and the batch that the reply to it
-    /// has, if it has one.
-    pub(crate) fn prepare(
-        &self,
-        log: &mut Vec<Entry>,
-        session: usize,
-        call: &Call,
-    ) -> Result<Copies, AllocError>
-        ensures items { log.new.items ≡ log.old.items }
-        ensures room { OnOk result (vec_len log.new < vec_capacity log.new) }
-        ensures call { IfOk result (λ copies. copies.call ≡ call.now) }
-        ensures spare { IfOk result
-            (λ copies. copies.spare ≡ spare_of self.now.machine session call.now) }
-    {
-        self.holdings.prepare(log, session, call)
-    }
-
     /// One call of a session, and its reply. The history has both then, but where it is full, and
     /// where there was no memory: then nothing has changed. A batch or plan of a call that is
     /// refused is dropped.

@@ -5,6 +5,7 @@ ghost use Rattle.batch_book.specs.Replies.{is_logged, SpareFits};
 use crate::call::Call;
 use crate::reply::Reply;
 use batch::Batch;
+use own_lists::OfSession;
 
 /// What a session asked, and what it was answered.
 pub struct Entry {
@@ -25,6 +26,10 @@ impl Drop for Entry {
             reply: _,
         } = self;
     }
+}
+
+impl OfSession for Entry {
+    ghost session = { λ e. e.session };
 }
 
 /// Copies of what a call and its reply hold.

@@ -8,8 +8,8 @@
 //!
 //! A [`Shared`] is one exchange for many sessions: a book behind a lock, and a word that says how
 //! far the runs have come, which is read without the lock. Each session calls from its own
-//! [`Seat`], which keeps a list of what it asked and was answered. Where all seats are given back
-//! and the exchange closes, each list is the history filtered to its session.
+//! [`Seat`]. Contracts see the list of what it asked and was answered. Where all seats are given
+//! back and the exchange closes, each list is the history filtered to its session.
 #![tactic(auto)]
 
 mod access;
@@ -23,21 +23,22 @@ pub mod laws;
 mod limits;
 mod lists;
 mod locked;
+mod naming;
 mod open;
 mod raise;
 mod reading;
 mod refusal;
 mod reply;
-mod same;
 mod seat;
 mod shared;
 
 pub use book::Book;
 pub use call::Call;
-pub use close::{Closed, Unclosed};
+pub use close::{Closed, SeatMissing};
 pub use entry::Entry;
 pub use kept::{BatchState, KeptBatch, Stage};
 pub use limits::{MAX_BATCHES, MAX_ENTRIES, RUN_STEP};
+pub use naming::{ExchangeBlank, ExchangeName};
 pub use open::SharedFault;
 pub use progress_word::ALL_PARTS;
 pub use reading::Reading;

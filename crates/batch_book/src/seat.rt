@@ -3,67 +3,73 @@
 ghost use Rattle.std.specs.Prelude.{◌≡◌, ◌≤◌, [], length, Some, IsSome};
 ghost use Rattle.progress_word.specs.declared.limits.TheConstants.{ALL_PARTS};
 ghost use Rattle.batch_book.specs.Values.{greatest};
-ghost use Rattle.batch_book.specs.Seats.{closed, open_seat};
+ghost use Rattle.batch_book.specs.Seats.{open_seat};
 
 use crate::access::ExchangeAccess;
 use crate::entry::Entry;
+use crate::naming::ExchangeName;
+use own_lists::OwnList;
 use progress_word::ALL_PARTS;
-use std::alloc::Global;
 use std::marker::Model;
-use std::sync::ledger::Ledger;
 
-/// The seat of a session at an exchange, and the list of what the session has asked and was
-/// answered. Once the exchange is closed, the seat keeps its list, and no exchange takes it.
-pub struct Seat<L: Ledger> {
+/// What a seat has of its exchange: its access, and its session's list.
+#[derive(Drop)]
+pub(crate) struct Place<L: ExchangeName> {
+    pub(crate) access: ExchangeAccess<L>,
+    pub(crate) own: OwnList<Entry, L>,
+    pub(crate) ghost counted: { access.share.amount ≡ length own.list },
+    pub(crate) ghost highest: { access.watcher.raised ≡ greatest own.list },
+}
+
+/// The seat of a session at an exchange. Contracts see the list of what the session has asked and
+/// was answered, of which no byte is kept.
+pub struct Seat<L: ExchangeName> {
     pub(crate) session: usize,
-    pub(crate) log: Vec<Entry>,
-    // Until the exchange is closed.
-    pub(crate) access: Option<ExchangeAccess<L>>,
+    // There, but while a call is made.
+    pub(crate) place: Option<Place<L>>,
 }
 
 // Said once, so that no function that lets go of one has to say it again.
-impl<L: Ledger> Drop for Seat<L> {
+impl<L: ExchangeName> Drop for Seat<L> {
     fn drop(self) {
         let Seat {
             session: _,
-            log: _,
-            access: _,
+            place: _,
         } = self;
     }
 }
 
-impl<L: Ledger> Model for Seat<L> {
-    ghost use Rattle.std.specs.Prelude.{◌≡◌, IfSome, length, option_map};
+impl<L: ExchangeName> Model for Seat<L> {
+    ghost use Rattle.std.specs.Prelude.{◌≡◌, [], IfSome, option_map};
     ghost use Rattle.std.specs.Option.{option_map_or};
-    ghost use Rattle.batch_book.specs.Values.{greatest};
     ghost use Rattle.batch_book.specs.Seats.{SeatState};
 
     ghost Value = { SeatState };
 
     ghost view = { λ s. record {
-      exchange = option_map (λ t. t.watcher.word) s.access;
+      exchange = option_map (λ p. p.access.watcher.word) s.place;
       session = s.session;
-      log = s.log.items;
-      seen = option_map_or (λ t. t.watcher.seen) s.access 0;
-      raised = option_map_or (λ t. t.watcher.raised) s.access 0;
-      parts = option_map_or (λ t. t.parts) s.access 0;
+      log = option_map_or (λ p. p.own.list) s.place [];
+      seen = option_map_or (λ p. p.access.watcher.seen) s.place 0;
+      raised = option_map_or (λ p. p.access.watcher.raised) s.place 0;
+      parts = option_map_or (λ p. p.access.parts) s.place 0;
     } };
 
-    ghost invariant = { λ s. IfSome s.access (λ t.
-        (t.share.amount ≡ length s.log.items) × (t.watcher.raised ≡ greatest s.log.items)) };
+    ghost invariant = { λ s. IfSome s.place (λ p. p.own.session ≡ s.session) };
 }
 
-impl<L: Ledger> Seat<L> {
+impl<L: ExchangeName> Seat<L> {
     /// The seat of a session that has asked nothing yet.
-    pub(crate) fn new(alloc: Global, session: usize, access: ExchangeAccess<L>) -> Seat<L>
+    pub(crate) fn new(session: usize, access: ExchangeAccess<L>, own: OwnList<Entry, L>) -> Seat<L>
         requires amount { access.share.amount ≡ 0 }
         requires raised { access.watcher.raised ≡ 0 }
+        requires session { own.session ≡ session }
+        requires list { own.list ≡ [] }
         ensures { result ≡ open_seat access.watcher session [] access.parts }
     {
         Seat {
             session,
-            log: Vec::new(alloc),
-            access: Some(access),
+            place: Some(Place { access, own }),
         }
     }
 
@@ -74,37 +80,29 @@ impl<L: Ledger> Seat<L> {
         self.session
     }
 
-    /// What this session asked and was answered, in order: the entries of its calls that are in the
-    /// history.
-    pub fn log(&self) -> &[Entry]
-        ensures { result.now ≡ self.now.log }
-    {
-        self.log.as_slice()
-    }
-
-    /// How many parts of its exchange the seat has: none once that is closed.
+    /// How many parts of its exchange the seat has.
     pub(crate) fn parts(&self) -> usize
         ensures parts { result ≡ self.now.parts }
         ensures limit { result ≤ ALL_PARTS }
     {
-        match &self.access {
-            Some(access) => access.parts,
+        match &self.place {
+            Some(place) => place.access.parts,
             None => 0,
         }
     }
 
-    /// Gives up what the seat has of its exchange, and keeps its list.
-    pub(crate) fn leave(&mut self) -> ExchangeAccess<L>
-        requires { IsSome self.old.exchange }
-        ensures seat { self.new ≡ closed self.old }
-        ensures word { Some result.watcher.word ≡ self.old.exchange }
-        ensures seen { result.watcher.seen ≡ self.old.seen }
-        ensures raised { result.watcher.raised ≡ greatest self.old.log }
-        ensures parts { result.parts ≡ self.old.parts }
-        ensures amount { result.share.amount ≡ length self.old.log }
+    /// What the seat has of its exchange.
+    pub(crate) fn into_place(self) -> Place<L>
+        requires { IsSome self.exchange }
+        ensures word { Some result.access.watcher.word ≡ self.exchange }
+        ensures seen { result.access.watcher.seen ≡ self.seen }
+        ensures parts { result.access.parts ≡ self.parts }
+        ensures session { result.own.session ≡ self.session }
+        ensures list { result.own.list ≡ self.log }
     {
-        match self.access.take() {
-            Some(access) => access,
+        let Seat { session: _, place } = self;
+        match place {
+            Some(place) => place,
             None => unreachable!(),
         }
     }

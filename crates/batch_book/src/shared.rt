@@ -10,6 +10,7 @@ ghost use Rattle.batch_book.specs.Values.{value_at, value_of, greatest};
 use crate::call::Call;
 use crate::limits::RUN_STEP;
 use crate::locked::Locked;
+use crate::naming::ExchangeName;
 use crate::reading::Reading;
 use crate::reply::Reply;
 use crate::seat::Seat;
@@ -19,7 +20,6 @@ use peek_poke::WireMaker;
 use progress_word::ProgressWord;
 use schedule_certificate::Gate;
 use std::marker::Model;
-use std::sync::ledger::Ledger;
 use std::sync::{Mutex, Wait};
 use std::thread::Threads;
 
@@ -27,13 +27,13 @@ use std::thread::Threads;
 /// that says how far the runs have come. Each session calls from a [`Seat`] of its own. Contracts
 /// see which exchange it is, and the shape of its rack.
 #[derive(Drop)]
-pub struct Shared<L: Ledger, P: ConfigPort, W: WireMaker, G> {
+pub struct Shared<L: ExchangeName, P: ConfigPort, W: WireMaker, G> {
     locked: Mutex<Locked<L, P, W, G>>,
     word: ProgressWord,
     shape: Shape,
 }
 
-impl<L: Ledger, P: ConfigPort, W: WireMaker, G> Model for Shared<L, P, W, G> {
+impl<L: ExchangeName, P: ConfigPort, W: WireMaker, G> Model for Shared<L, P, W, G> {
     ghost use Rattle.batch_book.specs.Exchanges.{Exchange, exchange_coded};
 
     ghost Value = { Exchange };
@@ -43,7 +43,7 @@ impl<L: Ledger, P: ConfigPort, W: WireMaker, G> Model for Shared<L, P, W, G> {
     ghost view = { λ s. record { word = s.word; shape = s.shape } };
 }
 
-impl<L: Ledger, P: ConfigPort, W: WireMaker, G> Shared<L, P, W, G> {
+impl<L: ExchangeName, P: ConfigPort, W: WireMaker, G> Shared<L, P, W, G> {
     pub(crate) fn of(
         locked: Locked<L, P, W, G>,
         word: ProgressWord,
@@ -87,8 +87,8 @@ impl<L: Ledger, P: ConfigPort, W: WireMaker, G> Shared<L, P, W, G> {
         ensures log { seat.new.log ≡ seat.old.log }
         ensures raised { seat.new.raised ≡ seat.old.raised }
     {
-        let value = match &mut seat.access {
-            Some(access) => self.word.load(&mut access.watcher),
+        let value = match &mut seat.place {
+            Some(place) => self.word.load(&mut place.access.watcher),
             None => unreachable!(),
         };
         Reading {
@@ -98,13 +98,13 @@ impl<L: Ledger, P: ConfigPort, W: WireMaker, G> Shared<L, P, W, G> {
     }
 }
 
-impl<L: Ledger, P: ConfigPort, W: WireMaker + Sync, G: Gate + Sync> Shared<L, P, W, G> {
+impl<L: ExchangeName, P: ConfigPort, W: WireMaker + Sync, G: Gate + Sync> Shared<L, P, W, G> {
     /// One call of the seat's session, and its reply: it takes the lock, and applies the call to
     /// the book. Call and reply are added to the seat's list, where they are in the history. The
     /// seat has then seen what the reply tells of a run, and nothing new where it tells of none.
     ///
-    /// It waits until the calls of other seats that go before it are done, runs included. Beside
-    /// what the book takes it takes memory for the entry in the seat's list.
+    /// It waits until the calls of other seats that go before it are done, runs included. It takes
+    /// the memory that the book takes.
     pub fn call<R: Threads + Wait + Sync>(&self, rt: &R, seat: &mut Seat<L>, call: Call) -> Reply
         requires { seat.old.exchange ≡ Some self.now.word }
         ensures reply { IsReplyTo call result }

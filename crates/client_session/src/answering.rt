@@ -8,7 +8,7 @@ use crate::command::SessionCommand;
 use crate::exchange_seat::ExchangeSeat;
 use crate::reply_line::ReplyLine;
 use batch::Batch;
-use batch_book::{Call, Reply};
+use batch_book::{Call, ExchangeName, Reply};
 use crossbar::ConfigPort;
 use exchange_limits::WorkerCount;
 use peek_poke::WireMaker;
@@ -16,17 +16,16 @@ use refusals::Refusal;
 use schedule_certificate::{Gate, OpenGate, schedule};
 use std::alloc::Global;
 use std::sync::Wait;
-use std::sync::ledger::Ledger;
 use std::thread::Threads;
 
 /// Makes a call that fetches no batch, and puts its reply line.
-fn call<R: Threads + Wait + Sync, L: Ledger, P: ConfigPort, W: WireMaker + Sync, G: Gate + Sync>(
-    rt: &R,
-    seat: &mut ExchangeSeat<'_, L, P, W, G>,
-    line: &mut ReplyLine,
-    id: usize,
-    call: Call,
-)
+fn call<
+    R: Threads + Wait + Sync,
+    L: ExchangeName,
+    P: ConfigPort,
+    W: WireMaker + Sync,
+    G: Gate + Sync,
+>(rt: &R, seat: &mut ExchangeSeat<'_, L, P, W, G>, line: &mut ReplyLine, id: usize, call: Call)
     requires empty { line.old ≡ [] }
     requires other { IsNoFetch call }
     ensures { Acts seat.old seat.new (TellsReply seat.old.session id call) line.new }
@@ -38,7 +37,7 @@ fn call<R: Threads + Wait + Sync, L: Ledger, P: ConfigPort, W: WireMaker + Sync,
 /// Submits the batch that the text denotes, or tells the text's first fault.
 pub(crate) fn submit<
     R: Threads + Wait + Sync,
-    L: Ledger,
+    L: ExchangeName,
     P: ConfigPort,
     W: WireMaker + Sync,
     G: Gate + Sync,
@@ -54,7 +53,13 @@ pub(crate) fn submit<
 }
 
 /// Fetches a batch, plans it outside the exchange, and settles its plan.
-fn plan<R: Threads + Wait + Sync, L: Ledger, P: ConfigPort, W: WireMaker + Sync, G: Gate + Sync>(
+fn plan<
+    R: Threads + Wait + Sync,
+    L: ExchangeName,
+    P: ConfigPort,
+    W: WireMaker + Sync,
+    G: Gate + Sync,
+>(
     rt: &R,
     alloc: Global,
     seat: &mut ExchangeSeat<'_, L, P, W, G>,
@@ -77,7 +82,7 @@ fn plan<R: Threads + Wait + Sync, L: Ledger, P: ConfigPort, W: WireMaker + Sync,
 /// Does what a line commands that has no lines behind it, and puts the reply line.
 pub(crate) fn answer<
     R: Threads + Wait + Sync,
-    L: Ledger,
+    L: ExchangeName,
     P: ConfigPort,
     W: WireMaker + Sync,
     G: Gate + Sync,

@@ -4,23 +4,22 @@ ghost use Rattle.std.specs.Prelude.{◌≡◌, Some};
 ghost use Rattle.client_session.specs.Seats.{seat_view, IsCalled, IsProgressRead};
 
 use batch::Shape;
-use batch_book::{Call, Reading, Reply, Seat, Shared};
+use batch_book::{Call, ExchangeName, Reading, Reply, Seat, Shared};
 use crossbar::ConfigPort;
 use peek_poke::WireMaker;
 use schedule_certificate::Gate;
 use std::marker::Model;
 use std::sync::Wait;
-use std::sync::ledger::Ledger;
 use std::thread::Threads;
 
 /// A seat beside the exchange that it belongs to. Contracts see the seat as its session does.
 #[derive(Drop)]
-pub(crate) struct ExchangeSeat<'a, L: Ledger, P: ConfigPort, W: WireMaker, G> {
+pub(crate) struct ExchangeSeat<'a, L: ExchangeName, P: ConfigPort, W: WireMaker, G> {
     shared: &'a Shared<L, P, W, G>,
     seat: Seat<L>,
 }
 
-impl<'a, L: Ledger, P: ConfigPort, W: WireMaker, G> Model for ExchangeSeat<'a, L, P, W, G> {
+impl<'a, L: ExchangeName, P: ConfigPort, W: WireMaker, G> Model for ExchangeSeat<'a, L, P, W, G> {
     ghost use Rattle.std.specs.Prelude.{◌≡◌, Some};
     ghost use Rattle.client_session.specs.Seats.{SeatView, seat_view};
 
@@ -31,7 +30,7 @@ impl<'a, L: Ledger, P: ConfigPort, W: WireMaker, G> Model for ExchangeSeat<'a, L
     ghost invariant = { λ d. d.seat.exchange ≡ Some d.shared.now.word };
 }
 
-impl<'a, L: Ledger, P: ConfigPort, W: WireMaker, G> ExchangeSeat<'a, L, P, W, G> {
+impl<'a, L: ExchangeName, P: ConfigPort, W: WireMaker, G> ExchangeSeat<'a, L, P, W, G> {
     /// The seat at its exchange.
     pub fn new(shared: &'a Shared<L, P, W, G>, seat: Seat<L>) -> ExchangeSeat<'a, L, P, W, G>
         requires { seat.exchange ≡ Some shared.now.word }
@@ -62,7 +61,13 @@ impl<'a, L: Ledger, P: ConfigPort, W: WireMaker, G> ExchangeSeat<'a, L, P, W, G>
     }
 }
 
-impl<L: Ledger, P: ConfigPort, W: WireMaker + Sync, G: Gate + Sync> ExchangeSeat<'_, L, P, W, G> {
+impl<L: ExchangeName, P: ConfigPort, W: WireMaker + Sync, G: Gate + Sync> ExchangeSeat<
+    '_,
+    L,
+    P,
+    W,
+    G,
+> {
     /// Makes a call of the book.
     pub fn call<R: Threads + Wait + Sync>(&mut self, rt: &R, call: Call) -> Reply
         ensures { IsCalled self.old call result self.new }

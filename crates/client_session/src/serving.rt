@@ -15,7 +15,7 @@ use crate::input::Input;
 use crate::listener::Listener;
 use crate::reply_line::ReplyLine;
 use crate::turns::turn;
-use batch_book::{Seat, Shared};
+use batch_book::{ExchangeName, Seat, Shared};
 use crossbar::ConfigPort;
 use exchange_limits::WorkerCount;
 use peek_poke::WireMaker;
@@ -23,7 +23,6 @@ use schedule_certificate::Gate;
 use std::alloc::Global;
 use std::io::Write;
 use std::sync::Wait;
-use std::sync::ledger::Ledger;
 use std::thread::Threads;
 
 /// Writes the line whole, or a front of it.
@@ -58,7 +57,7 @@ fn tell_refusal<H: Listener>(listener: &mut H, line: &ReplyLine)
 /// Serves the session of a seat at its exchange.
 fn serve_seat<
     R: Threads + Wait + Sync,
-    L: Ledger,
+    L: ExchangeName,
     P: ConfigPort,
     W: WireMaker + Sync,
     G: Gate + Sync,
@@ -113,7 +112,7 @@ fn serve_seat<
 /// A command takes time by its lines and by its call, whatever the session has said before it.
 pub fn serve<
     R: Threads + Wait + Sync,
-    L: Ledger,
+    L: ExchangeName,
     P: ConfigPort,
     W: WireMaker + Sync,
     G: Gate + Sync,

@@ -17,13 +17,13 @@ use crate::limits::{LINE_BYTES, MAX_READS};
 use crate::listener::Listener;
 use crate::reply_line::ReplyLine;
 use batch::MAX_TRANSFERS;
+use batch_book::ExchangeName;
 use crossbar::ConfigPort;
 use exchange_limits::WorkerCount;
 use peek_poke::WireMaker;
 use schedule_certificate::Gate;
 use std::alloc::Global;
 use std::sync::Wait;
-use std::sync::ledger::Ledger;
 use std::thread::Threads;
 
 /// Takes so many lines, and puts them behind the text.
@@ -55,7 +55,7 @@ fn take_lines<I: AskedReader>(
 /// Takes the line in front and those of its batch, submits it, and puts the reply line.
 fn batch<
     R: Threads + Wait + Sync,
-    L: Ledger,
+    L: ExchangeName,
     P: ConfigPort,
     W: WireMaker + Sync,
     G: Gate + Sync,
@@ -120,7 +120,7 @@ fn ends(command: Option<SessionCommand>) -> bool
 /// Gives whether the session ends with it.
 pub(crate) fn turn<
     R: Threads + Wait + Sync,
-    L: Ledger,
+    L: ExchangeName,
     P: ConfigPort,
     W: WireMaker + Sync,
     G: Gate + Sync,

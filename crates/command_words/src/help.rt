@@ -412,8 +412,6 @@ A session that doesn't end with its script or by `bye` has one line more:
   ended write                there was no memory for an answer
   ended read                 the script can't be read any further
 With `host` there is `ended open` too, for a client whose files can't be opened.
-The line `logs disagree` at the end would say that what the sessions did isn't
-what the exchange's history has of them, or that it began on another rack.
 
 With --record each call of all sessions, in the order in which the exchange met
 them, and its reply are written to FILE when all sessions have ended, in the
@@ -422,7 +420,7 @@ form that `exchange replay --help` shows, but for calls that are answered by
 rack are then written to FILE, in the form that `exchange apply --help` shows.
 Each FILE is opened before the first session, made where it isn't there, and
 emptied only then. It can't be `-`, nor by its name one that is read, one of a
-client's or the other's. Nothing is written where the logs disagree.
+client's or the other's.
 
 Else nothing is served, and the answer is the first of these that is wrong:
   refused file               the image or a SCRIPT can't be read, or the FILE of
@@ -431,8 +429,8 @@ Else nothing is served, and the answer is the first of these that is wrong:
   refused image L W          the image has L bytes, and the shape wants W
 
 Status: 0 each session ended with its script or by `bye`, 1 one of them didn't,
-or the logs disagree, or nothing was served, or there was no memory, 2 the words
-fit no command, 3 the answer, the record or the image couldn't be written.",
+or nothing was served, or there was no memory, 2 the words fit no command, 3 the
+answer, the record or the image couldn't be written.",
 };
 
 /// What help says of `host`.
@@ -472,8 +470,7 @@ shows, and here they mean:
   ended cut     the client went away within a line or within a batch
   ended read    CLIENT.in can't be read any further
   ended write   the client reads its replies no more
-The last line may be `logs disagree`, as with `serve`. Of --record and
---image-out `exchange serve --help` tells.
+Of --record and --image-out `exchange serve --help` tells.
 
 Else nobody is served and no pipe is opened, and the answer is the first of
 these that is wrong:
@@ -484,9 +481,8 @@ these that is wrong:
   refused threads    the system has no thread for each client
 
 Status: 0 each session ended with its CLIENT.in or by `bye`, 1 one of them
-didn't, or the logs disagree, or nobody was served, or there was no memory, 2
-the words fit no command, 3 the answer, the record or the image couldn't be
-written.",
+didn't, or nobody was served, or there was no memory, 2 the words fit no
+command, 3 the answer, the record or the image couldn't be written.",
 };
 
 /// What help says of `talk`.

@@ -4,13 +4,14 @@
 //! marks.
 
 ghost use Rattle.std.specs.Prelude.{◌≡◌, All, Some};
+ghost use Rattle.batch_book.specs.Naming.{IsNamed};
 ghost use Rattle.client_session.specs.Sessions.{seat_back};
 ghost use Rattle.progress_word.specs.declared.limits.TheConstants.{ALL_PARTS};
 
 use crate::marks::{begin, end};
 use crate::plants::plant_of;
 use batch::Shape;
-use batch_book::{Closed, Seat, Shared, Unclosed};
+use batch_book::{Closed, ExchangeBlank, ExchangeName, Seat, SeatMissing, Shared};
 use client_session::{NoListener, ServeFault, serve};
 use crossbar::MemoryPort;
 use exchange_limits::WorkerCount;
@@ -21,7 +22,6 @@ use std::alloc::{AllocError, Global};
 use std::io::Write;
 use std::marker::Brand;
 use std::rt::Files;
-use std::sync::ledger::{Blank, Ledger};
 use std::sync::{Mutex, Wait};
 use std::thread::Threads;
 use std::{fs, io, thread};
@@ -35,16 +35,16 @@ fn workers() -> WorkerCount {
 type Exchange<L> = Shared<L, MemoryPort, PlainWires, OpenGate>;
 
 /// What is left of it when it is closed.
-type PlainClosed<L> = Closed<L, MemoryPort, PlainWires, OpenGate>;
+type PlainClosed = Closed<MemoryPort, PlainWires, OpenGate>;
 
 /// That, or why it isn't closed.
-type Closing<L> = Result<PlainClosed<L>, Unclosed<L, MemoryPort, PlainWires, OpenGate>>;
+type Closing<L> = Result<PlainClosed, SeatMissing<L, MemoryPort, PlainWires, OpenGate>>;
 
 /// How a session ended: with its seat, and the fault that ended it, if one did.
 type Served<L> = Result<Seat<L>, (Seat<L>, ServeFault)>;
 
 /// The fault that ended a session, if one did.
-fn fault_of<L: Ledger>(served: &Served<L>) -> Option<ServeFault> {
+fn fault_of<L: ExchangeName>(served: &Served<L>) -> Option<ServeFault> {
     match served {
         Ok(_) => None,
         Err((_, fault)) => Some(*fault),
@@ -52,7 +52,7 @@ fn fault_of<L: Ledger>(served: &Served<L>) -> Option<ServeFault> {
 }
 
 /// The seat of a session that ended.
-fn seat_of<L: Ledger>(served: Served<L>) -> Seat<L>
+fn seat_of<L: ExchangeName>(served: Served<L>) -> Seat<L>
     ensures { result ≡ seat_back served }
 {
     match served {
@@ -70,7 +70,7 @@ struct Told {
 }
 
 /// A reading of the seat, between the marks.
-fn read_between<L: Ledger, R: Eprint>(rt: &R, exchange: &Exchange<L>, seat: &mut Seat<L>)
+fn read_between<L: ExchangeName, R: Eprint>(rt: &R, exchange: &Exchange<L>, seat: &mut Seat<L>)
     requires { seat.old.exchange ≡ Some exchange.now.word }
     ensures { seat.new.exchange ≡ seat.old.exchange }
 {
@@ -80,7 +80,7 @@ fn read_between<L: Ledger, R: Eprint>(rt: &R, exchange: &Exchange<L>, seat: &mut
 }
 
 /// Serves the script of a seat to its end, and keeps what it was told, as far as there is memory.
-fn serve_script<L: Ledger, R: AllocGlobal + Eprint + Threads + Wait + Sync>(
+fn serve_script<L: ExchangeName, R: AllocGlobal + Eprint + Threads + Wait + Sync>(
     rt: &R,
     exchange: &Exchange<L>,
     seat: Seat<L>,
@@ -129,16 +129,15 @@ fn push_told(text: &mut Vec<u8>, told: &Told) -> Result<(), AllocError> {
 }
 
 /// What there is to say of a closing: that the exchange is closed, or why it isn't.
-fn closing_words<L: Ledger>(closing: &Closing<L>) -> &'static str {
+fn closing_words<L: ExchangeName>(closing: &Closing<L>) -> &'static str {
     match closing {
         Ok(_) => "closed",
-        Err(Unclosed::LogsDisagree(_)) => "logs disagree",
-        Err(Unclosed::SeatMissing(_, _)) => "a seat is missing",
+        Err(_) => "a seat is missing",
     }
 }
 
 /// Closes an exchange, between the marks, and tells whether it is closed.
-fn close_between<L: Ledger, R: Eprint>(
+fn close_between<L: ExchangeName, R: Eprint>(
     rt: &R,
     exchange: Exchange<L>,
     seats: Vec<Seat<L>>,
@@ -171,14 +170,13 @@ fn told_text(alloc: Global, all: &[Told], closing: &str) -> Option<Vec<u8>> {
 
 /// Serves the scripts side by side on a new exchange, each in a thread of its own where it can be
 /// had, and closes it.
-fn serve_all<L: Ledger + Send + Sync, R: AllocGlobal + Eprint + Threads + Wait + Sync>(
+fn serve_all<L: ExchangeName + Send + Sync, R: AllocGlobal + Eprint + Threads + Wait + Sync>(
     rt: &R,
-    blank: Blank,
+    blank: ExchangeBlank,
     rack: Rack,
     scripts: &[Vec<u8>],
 ) -> Option<Vec<u8>>
-    requires name { blank.name ≡ L.name }
-    requires parts { (blank.parts ≡ L.parts) × (blank.parts ≡ ALL_PARTS) }
+    requires { IsNamed L.name L.parts L.table L.opening blank rack }
 {
     let made = Exchange::<L>::new(rt.alloc(), blank, rack, plant_of(workers()), scripts.len());
     let Ok((exchange, seats)) = made else {
@@ -217,7 +215,8 @@ fn served_text<R: AllocGlobal + Eprint + Threads + Wait + Sync>(
 ) -> Option<Vec<u8>> {
     let shape = Shape::read(shape.as_bytes()).ok()?;
     let rack = Rack::new(rt.alloc(), shape).ok()?;
-    serve_all::<Brand, R>(rt, Blank::new(16), rack, scripts)
+    let blank = ExchangeBlank::new(rt.alloc()).ok()?;
+    serve_all::<Brand, R>(rt, blank, rack, scripts)
 }
 
 /// Prints this text, or that there is none.

@@ -1,13 +1,12 @@
 //! The calls that are handed a rack, and hand it back where there is no memory.
 
-ghost use Rattle.std.specs.Prelude.{◌≡◌};
-ghost use Rattle.progress_word.specs.declared.limits.TheConstants.{ALL_PARTS};
+ghost use Rattle.batch_book.specs.Naming.{IsNamed};
 
 use crate::marks::{begin, end};
 use crate::met::Met;
 use crate::plants::{NoNotice, plain, plant_of};
 use crate::rows::{TWO_PUSHES, TWO_PUSHES_SHAPE, WRITTEN, is_marked, marked, plan};
-use batch_book::{Book, Shared, SharedFault};
+use batch_book::{Book, ExchangeBlank, ExchangeName, Shared, SharedFault};
 use crossbar::MemoryPort;
 use exchange_limits::WorkerCount;
 use module_memory::{LendFault, Rack};
@@ -16,7 +15,6 @@ use schedule_certificate::{OpenGate, Planned};
 use setting_runner::{Outcome, RunRefusal, run};
 use std::alloc::Global;
 use std::marker::Brand;
-use std::sync::ledger::{Blank, Ledger};
 use std::thread::Threads;
 
 /// A call on the marked rack of row two-pushes.
@@ -39,7 +37,10 @@ pub fn make<R: AllocGlobal + Eprint + Threads + Sync>(rt: &R, call: LoanCall) ->
         LoanCall::Part => Some(part(rt, rack)),
         LoanCall::Run => run_row(rt, rack),
         LoanCall::OpenBook => Some(open_book(rt, rack)),
-        LoanCall::OpenExchange => Some(open_exchange::<Brand, R>(rt, Blank::new(16), rack)),
+        LoanCall::OpenExchange => {
+            let blank = ExchangeBlank::new(rt.alloc()).ok()?;
+            Some(open_exchange::<Brand, R>(rt, blank, rack))
+        }
     }
 }
 
@@ -105,9 +106,12 @@ fn open_book<R: AllocGlobal + Eprint>(rt: &R, rack: Rack) -> Met {
 }
 
 /// `Shared::new`.
-fn open_exchange<L: Ledger, R: AllocGlobal + Eprint>(rt: &R, blank: Blank, rack: Rack) -> Met
-    requires name { blank.name ≡ L.name }
-    requires parts { (blank.parts ≡ L.parts) × (blank.parts ≡ ALL_PARTS) }
+fn open_exchange<L: ExchangeName, R: AllocGlobal + Eprint>(
+    rt: &R,
+    blank: ExchangeBlank,
+    rack: Rack,
+) -> Met
+    requires { IsNamed L.name L.parts L.table L.opening blank rack }
 {
     let plant = plant_of(WorkerCount::new(2).unwrap());
     begin(rt);

@@ -19,7 +19,7 @@ use Rattle.record_replay.specs.SessionLaws.{SessionsAreTold, SessionsSay}
 use Rattle.plan_answers.specs.Refusals.{Printed}
 use Rattle.session_answers.specs.declared.ended_session.Ending.TheVariants.{Unopened, Served}
 use Rattle.session_answers.specs.Frames.{Transcript}
-use Rattle.session_answers.specs.Histories.{Part, HaveOneHistory, IsClosing, agree, disagree}
+use Rattle.session_answers.specs.Histories.{Part, HaveOneHistory, IsClosing}
 use Rattle.session_answers.specs.HostAnswers.{KnownClients, SessionEnd, HostedSession, IsHostedSession, hosted, threads_refused, opened, refused as host_refused}
 use Rattle.rack_answers.specs.Openings.{IsRackOf}
 use Rattle.session_answers.specs.Serving.{HasItsScript, served, refused}
@@ -91,8 +91,7 @@ is_replayed tell shape image opening parts book n rack one numbers few say =
     record { told = all; answered = (None, replayed opening rack (led to refl refl)) }
 
 closing_replayed : SessionsAreTold → (shape : List ℕ) (image : Option (List ℕ)) (opening : Store) (parts : List Part) (text : List ℕ) (failed : Bool) (printed : Printed) (book : Account) (n : ℕ) → IsRackOf shape image opening → IsClosing opening parts text failed printed (Some book) → map session_of parts ≡ range_with_len 0 n → n ≤ 1000000000 → OfLines parts → IsReplayedTo shape image book
-closing_replayed tell shape image opening parts text failed printed book n rack (agree other one is _ _) numbers few say = is_replayed tell shape image opening parts book n rack (subst (HaveOneHistory opening parts) (one_book book other is) one) numbers few say
-closing_replayed tell shape image opening parts text failed printed book n rack (disagree is _ _) numbers few say = absurd cc
+closing_replayed tell shape image opening parts text failed printed book n rack closed numbers few say = is_replayed tell shape image opening parts book n rack (subst (HaveOneHistory opening parts) (one_book book closed.book closed.is_left) closed.one) numbers few say
 
 -- ---- sessions
 

@@ -14,7 +14,7 @@ use Rattle.crossbar.specs.declared.port.ConfigPort.{Ghosts}
 use Rattle.batch_book.specs.declared.close.Closed.{Closed}
 use Rattle.batch_book.specs.declared.entry.Entry.{Entry}
 use Rattle.batch_book.specs.declared.limits.TheConstants.{MAX_ENTRIES}
-use Rattle.batch_book.specs.Closing.{AreClosed, LogsAgree, NoneAhead}
+use Rattle.batch_book.specs.Closing.{AreClosed}
 use Rattle.batch_book.specs.Exchanges.{Exchange, AreNew, new_seat, parts_at}
 use Rattle.batch_book.specs.History.{IsReplay}
 use Rattle.batch_book.specs.Machine.{opened}
@@ -26,7 +26,7 @@ use Rattle.client_session.specs.Seats.{SeatView, seat_view}
 use Rattle.client_session.specs.Sessions.{GoesThrough, HasEnded}
 use Rattle.session_answers.specs.declared.session.Session.{Session}
 use Rattle.session_answers.specs.Frames.{Transcript, session_text, sessions_text}
-use Rattle.session_answers.specs.Histories.{Part, part_of, HasAllEntries, HaveOneHistory}
+use Rattle.session_answers.specs.Histories.{Part, part_of, HaveOneHistory}
 use Rattle.session_answers.specs.Serving.{HasItsScript}
 use Rattle.session_answers.specs.Sessions.{IsServedSession}
 use Rattle.session_answers.specs.Hosting.{transcript, IsFresh, AreServedAt}
@@ -158,24 +158,19 @@ all_served {L} x scripts n seats ss count new len each =
 
 -- ---- the exchange is closed
 
--- the history that the exchange kept
-its_entries : {L P W G : Type 0} (seen : Ghosts P) (sure : W → ℕ → Type 0) (seats : List SeatState) (c : Closed L P W G) → AreClosed seen sure seats c → HasAllEntries (map part_of seats) c.book.history
-its_entries seen sure seats c closed = closed.counted ∙ sym (sum_mapped (λ (p : Part). length p.entries) part_of seats)
-
--- where their lists agree with it, it is that of its sessions
-pub one_history : {L P W G : Type 0} (seen : Ghosts P) (sure : W → ℕ → Type 0) (opening : Store) (seats : List SeatState) (c : Closed L P W G)
-    → AreClosed seen sure seats c → NeverFail seen sure → LogsAgree seats c → NoneAhead seats c → IsReplay (opened c.book.opening) c.book.history c.book.machine
-    → length c.book.history ≤ MAX_ENTRIES → c.book.opening ≡ opening → HaveOneHistory opening (map part_of seats) c.book
-one_history {L} seen sure opening seats c closed never agree behind replay few is =
+-- the history that the exchange kept is that of its sessions
+pub one_history : {P W G : Type 0} (seen : Ghosts P) (sure : W → ℕ → Type 0) (opening : Store) (seats : List SeatState) (c : Closed P W G)
+    → AreClosed seen sure opening seats c → NeverFail seen sure → IsReplay (opened c.book.opening) c.book.history c.book.machine → length c.book.history ≤ MAX_ENTRIES → HaveOneHistory opening (map part_of seats) c.book
+one_history seen sure opening seats c closed never replay few =
     let h = c.book.history in
     record {
-      is_opening = is;
-      replay = subst (λ (s : Store). IsReplay (opened s) h c.book.machine) is replay;
-      counted = its_entries seen sure seats c closed;
-      are_parts = All-map (λ (p : Part). p.entries ≡ own p.session h) part_of seats agree;
+      is_opening = closed.opened;
+      replay = subst (λ (s : Store). IsReplay (opened s) h c.book.machine) closed.opened replay;
+      counted = closed.counted ∙ sym (sum_mapped (λ (p : Part). length p.entries) part_of seats);
+      are_parts = All-map (λ (p : Part). p.entries ≡ own p.session h) part_of seats closed.agree;
       few = few;
       unstopped = closed.unstopped never;
-      seen = All-map (λ (p : Part). p.seen ≤ greatest h) part_of seats behind;
+      seen = All-map (λ (p : Part). p.seen ≤ greatest h) part_of seats closed.none_ahead;
     }
 
 -- the parts of sessions are those of their seats

@@ -1,5 +1,5 @@
 -- The history of an exchange, and the parts of it that its sessions have.
-use Rattle.std.specs.Prelude.{◌≡◌, ℕ, ◌≤◌, if◌then◌else◌, Bool, List, ◌++◌, codes, length, All, sum_by, Option, Some, None}
+use Rattle.std.specs.Prelude.{◌≡◌, ℕ, ◌≤◌, if◌then◌else◌, Bool, List, length, All, sum_by, Option, Some}
 use Rattle.module_memory.specs.Store.{Store}
 use Rattle.batch_book.specs.declared.entry.Entry.{Entry}
 use Rattle.batch_book.specs.declared.limits.TheConstants.{MAX_ENTRIES}
@@ -42,22 +42,16 @@ pub record HaveOneHistory (opening : Store) (parts : List Part) (book : Account)
   pub unstopped : AreUnstopped book.history
   pub seen : All (λ p. p.seen ≤ greatest book.history) parts
 
--- the last line where the sessions have no one history
-abbrev pub disagree_line : List ℕ
-disagree_line = codes "logs disagree\n"
-
 -- the status where a fault ended one of the sessions, or none
 abbrev pub status_at : Bool → ℕ
 status_at failed = if failed then REFUSED else DONE
 
 -- The sessions with these parts were on an exchange that began with this store, and this text is
--- printed of them. The exchange's book is left, and its history is theirs. Or a last line says that
--- the history that was kept isn't, and no book is left.
-pub data IsClosing (opening : Store) (parts : List Part) (text : List ℕ) (failed : Bool)
+-- printed of them. The exchange's book is left, and its history is theirs.
+pub record IsClosing (opening : Store) (parts : List Part) (text : List ℕ) (failed : Bool)
     (printed : Printed) (left : Option Account) : Type 0 where
-  agree : (book : Account) → HaveOneHistory opening parts book → left ≡ Some book
-      → printed.text ≡ text → printed.status ≡ status_at failed
-      → IsClosing opening parts text failed printed left
-  disagree : left ≡ None
-      → printed.text ≡ text ++ disagree_line → printed.status ≡ REFUSED
-      → IsClosing opening parts text failed printed left
+  pub book : Account
+  pub one : HaveOneHistory opening parts book
+  pub is_left : left ≡ Some book
+  pub prints : printed.text ≡ text
+  pub status : printed.status ≡ status_at failed

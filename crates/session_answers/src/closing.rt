@@ -9,13 +9,10 @@ use std::alloc::{AllocError, Global};
 /// What is left of sessions on an exchange, once all have ended.
 #[derive(Drop)]
 pub struct Closing {
-    /// What is printed behind them, or the refusal. A last line `logs disagree`, under the status
-    /// [`REFUSED`](plan_answers::REFUSED), would say that the sessions' lists aren't those of the
-    /// exchange's history, or that this began on another rack.
+    /// What is printed behind them, or the refusal.
     pub answer: Answer,
     /// The exchange's book, and no copy: its history explains what each session was told, and its
-    /// rack has the words to which that leads. There is none behind a refusal, and none where logs
-    /// disagree.
+    /// rack has the words to which that leads. There is none behind a refusal.
     pub book: Option<Book>,
 }
 

@@ -1,6 +1,5 @@
-use batch_book::Seat;
+use batch_book::{ExchangeName, Seat};
 use client_session::ServeFault;
-use std::sync::ledger::Ledger;
 
 /// How the session of a client at a host ended.
 #[derive(Drop)]
@@ -18,7 +17,7 @@ pub enum Ending<C> {
 
 /// A session at a host that has ended.
 #[derive(Drop)]
-pub struct EndedSession<L: Ledger, C> {
+pub struct EndedSession<L: ExchangeName, C> {
     /// Its seat, which has the list of its calls.
     pub seat: Seat<L>,
     /// How it ended.

@@ -5,9 +5,9 @@ ghost use Rattle.session_answers.specs.Frames.{ended_line, end_line, end_text, s
 ghost use Rattle.session_answers.specs.Hosting.{transcript, session_bytes};
 
 use crate::session::Session;
+use batch_book::ExchangeName;
 use client_session::ServeFault;
 use std::alloc::{AllocError, Global};
-use std::sync::ledger::Ledger;
 
 /// The line that tells of a fault which ended a session.
 fn ended_line(fault: ServeFault) -> &'static [u8]
@@ -52,7 +52,7 @@ pub fn push_end(
 }
 
 /// Puts what is printed of a session at the end of the text.
-fn push_session<L: Ledger>(
+fn push_session<L: ExchangeName>(
     alloc: Global,
     text: &mut Vec<u8>,
     session: &Session<L>,
@@ -68,7 +68,7 @@ fn push_session<L: Ledger>(
 
 /// What is printed of sessions: for each the line `session I`, what it was told, and where a fault
 /// ended it a line that says so.
-pub fn frame<L: Ledger>(alloc: Global, sessions: &[Session<L>]) -> Result<Vec<u8>, AllocError>
+pub fn frame<L: ExchangeName>(alloc: Global, sessions: &[Session<L>]) -> Result<Vec<u8>, AllocError>
     ensures { IfOk result (λ text. text.items ≡ sessions_text (map transcript sessions.now)) }
 {
     let mut text = Vec::new(alloc);
@@ -79,7 +79,7 @@ pub fn frame<L: Ledger>(alloc: Global, sessions: &[Session<L>]) -> Result<Vec<u8
 }
 
 /// Whether a fault ended one of the sessions.
-pub fn has_fault<L: Ledger>(sessions: &[Session<L>]) -> bool
+pub fn has_fault<L: ExchangeName>(sessions: &[Session<L>]) -> bool
     ensures { result ≡ has_fault (map transcript sessions.now) }
 {
     sessions.iter().any(|session| session.fault.is_some())

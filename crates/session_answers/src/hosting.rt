@@ -4,6 +4,7 @@ ghost use Rattle.std.specs.Prelude.{◌≡◌, ◌≤◌, ◌++◌, [], All, IfO
 ghost use Rattle.std.specs.List.{list_any};
 ghost use Rattle.progress_word.specs.declared.limits.TheConstants.{ALL_PARTS};
 ghost use Rattle.batch_book.specs.Exchanges.{AreNew};
+ghost use Rattle.batch_book.specs.Naming.{IsNamed};
 ghost use Rattle.plan_answers.specs.Lent.{bytes_of};
 ghost use Rattle.plan_answers.specs.Refusals.{Refuses};
 ghost use Rattle.session_answers.specs.Hosting.{IsFresh};
@@ -16,7 +17,7 @@ use crate::closing::Closing;
 use crate::ended_session::{EndedSession, Ending};
 use crate::frames::end_line;
 use crate::plain_exchange::{PlainExchange, finish, open_exchange, serve_client};
-use batch_book::Seat;
+use batch_book::{ExchangeBlank, ExchangeName, Seat};
 use client_session::NoListener;
 use exchange_limits::{MAX_SESSIONS, WorkerCount};
 use module_memory::Rack;
@@ -26,7 +27,6 @@ use refusals::Refusal;
 use std::alloc::{AllocError, Global};
 use std::marker::Brand;
 use std::snapshot::Snapshot;
-use std::sync::ledger::{Blank, Ledger};
 use std::sync::{OnceLock, Wait};
 use std::thread;
 use std::thread::{Promise, PromisedHandle, Scope, Threads};
@@ -42,7 +42,7 @@ pub struct Hosted<C> {
 
 /// What the threads of a host share.
 #[derive(Drop)]
-struct HostContext<'a, L: Ledger, R, D> {
+struct HostContext<'a, L: ExchangeName, R, D> {
     rt: &'a R,
     alloc: Global,
     exchange: &'a PlainExchange<L>,
@@ -54,13 +54,13 @@ struct HostContext<'a, L: Ledger, R, D> {
 
 /// That a thread gives back a session of this seat.
 #[derive(Drop)]
-struct OfSeat<'a, L: Ledger, D> {
+struct OfSeat<'a, L: ExchangeName, D> {
     exchange: &'a PlainExchange<L>,
     streams: &'a D,
     seat: Snapshot<Seat<L>>,
 }
 
-impl<'a, L: Ledger, D: ClientStreams> Promise<Option<EndedSession<L, D::Receipt>>>
+impl<'a, L: ExchangeName, D: ClientStreams> Promise<Option<EndedSession<L, D::Receipt>>>
     for OfSeat<'a, L, D> {
     ghost kept_by = { λ p given. IfSome given
         (IsOfSeat p.exchange.now (D.known p.streams.now) D.received p.seat.value) };
@@ -73,7 +73,7 @@ type SessionThread<'a, L, D> = PromisedHandle<
 >;
 
 /// Serves the client of a seat, once it has opened its files.
-fn host_client<L: Ledger, R: Threads + Wait + Sync, D: ClientStreams>(
+fn host_client<L: ExchangeName, R: Threads + Wait + Sync, D: ClientStreams>(
     context: &HostContext<'_, L, R, D>,
     there: AllThere,
     seat: Seat<L>,
@@ -108,7 +108,7 @@ fn host_client<L: Ledger, R: Threads + Wait + Sync, D: ClientStreams>(
 
 /// Serves the client of a seat once all threads are there, or leaves its files closed where they
 /// aren't.
-fn wait_and_host<L: Ledger, R: Threads + Wait + Sync, D: ClientStreams>(
+fn wait_and_host<L: ExchangeName, R: Threads + Wait + Sync, D: ClientStreams>(
     context: &HostContext<'_, L, R, D>,
     seat: Seat<L>,
 ) -> Option<EndedSession<L, D::Receipt>>
@@ -126,7 +126,7 @@ fn wait_and_host<L: Ledger, R: Threads + Wait + Sync, D: ClientStreams>(
 
 /// Gives each of these seats a thread, which waits for the latch: none where one of them can't be
 /// had.
-fn start_all<'s, E, L: Ledger + Send + Sync, R: Threads + Wait + Sync, D: ClientStreams>(
+fn start_all<'s, E, L: ExchangeName + Send + Sync, R: Threads + Wait + Sync, D: ClientStreams>(
     scope: &Scope<'s, E>,
     context: &'s HostContext<'s, L, R, D>,
     seats: Vec<Seat<L>>,
@@ -183,7 +183,7 @@ fn all_of<T: Drop>(alloc: Global, given: Vec<Option<T>>) -> Result<Option<Vec<T>
 
 /// Serves the clients of these seats side by side, once each has a thread: none where one of these
 /// can't be had.
-fn host_all<'s, E, L: Ledger + Send + Sync, R: Threads + Wait + Sync, D: ClientStreams>(
+fn host_all<'s, E, L: ExchangeName + Send + Sync, R: Threads + Wait + Sync, D: ClientStreams>(
     scope: &Scope<'s, E>,
     context: &'s HostContext<'s, L, R, D>,
     seats: Vec<Seat<L>>,
@@ -206,7 +206,7 @@ fn host_all<'s, E, L: Ledger + Send + Sync, R: Threads + Wait + Sync, D: ClientS
 }
 
 /// The sessions of the clients of these seats.
-fn host_seats<'a, L: Ledger + Send + Sync, R: Threads + Wait + Sync, D: ClientStreams>(
+fn host_seats<'a, L: ExchangeName + Send + Sync, R: Threads + Wait + Sync, D: ClientStreams>(
     rt: &'a R,
     alloc: Global,
     exchange: &'a PlainExchange<L>,
@@ -254,7 +254,7 @@ fn ending_line<C>(ending: &Ending<C>) -> &'static [u8]
 }
 
 /// Puts what is printed of a session at the end of the text.
-fn push_hosted<L: Ledger, D: ClientStreams>(
+fn push_hosted<L: ExchangeName, D: ClientStreams>(
     alloc: Global,
     text: &mut Vec<u8>,
     streams: &D,
@@ -272,7 +272,7 @@ fn push_hosted<L: Ledger, D: ClientStreams>(
 }
 
 /// What is printed of the sessions, one after another.
-fn ends_of<L: Ledger, D: ClientStreams>(
+fn ends_of<L: ExchangeName, D: ClientStreams>(
     alloc: Global,
     streams: &D,
     sessions: &[EndedSession<L, D::Receipt>],
@@ -299,14 +299,14 @@ fn has_failed<C>(ending: &Ending<C>) -> bool
 }
 
 /// Whether one of the sessions didn't end by itself.
-fn any_failed<L: Ledger, C>(sessions: &[EndedSession<L, C>]) -> bool
+fn any_failed<L: ExchangeName, C>(sessions: &[EndedSession<L, C>]) -> bool
     ensures { result ≡ list_any has_failed (map (λ s. s.ending) sessions.now) }
 {
     sessions.iter().any(|session| has_failed(&session.ending))
 }
 
 /// The seats of sessions, and how these ended.
-fn part<L: Ledger, C: Drop>(
+fn part<L: ExchangeName, C: Drop>(
     alloc: Global,
     sessions: Vec<EndedSession<L, C>>,
 ) -> Result<(Vec<Seat<L>>, Vec<Ending<C>>), AllocError>
@@ -335,23 +335,21 @@ fn refused<C>(alloc: Global, refusal: Refusal) -> Result<Hosted<C>, AllocError>
 }
 
 /// What is left of the sessions of the clients on an exchange with this rack.
-fn host_clients<L: Ledger + Send + Sync, R: Threads + Wait + Sync, D: ClientStreams>(
+fn host_clients<L: ExchangeName + Send + Sync, R: Threads + Wait + Sync, D: ClientStreams>(
     rt: &R,
     alloc: Global,
-    blank: Blank,
+    blank: ExchangeBlank,
     rack: Rack,
     workers: WorkerCount,
     streams: &D,
 ) -> Result<Hosted<D::Receipt>, AllocError>
-    requires name { blank.name ≡ L.name }
-    requires parts { (blank.parts ≡ L.parts) × (blank.parts ≡ ALL_PARTS) }
+    requires named { IsNamed L.name L.parts L.table L.opening blank rack }
     requires some { 1 ≤ (D.known streams.now).clients }
     requires few { (D.known streams.now).clients ≤ MAX_SESSIONS }
     ensures { IfOk result (λ hosted. IsHosting rack (D.known streams.now)
         (map (seen_end D.received) hosted.endings.items) hosted.closing.answer
         hosted.closing.book) }
 {
-    let opening = rack.copy()?;
     let (exchange, seats) = open_exchange::<L>(alloc, blank, rack, workers, streams.clients())?;
     let Some(sessions) = host_seats(rt, alloc, &exchange, seats, streams, workers)? else {
         return refused(alloc, Refusal::Threads);
@@ -359,7 +357,7 @@ fn host_clients<L: Ledger + Send + Sync, R: Threads + Wait + Sync, D: ClientStre
     let text = ends_of(alloc, streams, sessions.as_slice())?;
     let failed = any_failed(sessions.as_slice());
     let (seats, endings) = part(alloc, sessions)?;
-    let closing = finish(exchange, seats, &opening, text, failed)?;
+    let closing = finish(exchange, seats, text, failed);
     Ok(Hosted { closing, endings })
 }
 
@@ -394,7 +392,7 @@ pub fn answer_host<R: Threads + Wait + Sync, D: ClientStreams>(
 {
     match read_rack(alloc, shape, image) {
         Ok(rack) => {
-            let blank = Blank::new(ALL_PARTS as u64);
+            let blank = ExchangeBlank::new(alloc)?;
             host_clients::<Brand, R, D>(rt, alloc, blank, rack, workers, streams)
         }
         Err(refusal) => refused(alloc, refusal),

@@ -1,18 +1,19 @@
 //! An exchange whose port and wires never fail: how it is opened, how a client has its session
 //! there, and how it is closed.
 
-ghost use Rattle.std.specs.Prelude.{◌≡◌, ◌≤◌, List, ℕ, IfOk, IfSome, map};
+ghost use Rattle.std.specs.Prelude.{◌≡◌, ◌≤◌, List, ℕ, IfOk, map};
 ghost use Rattle.std.specs.Io.KnownBytes.{Appends};
 ghost use Rattle.progress_word.specs.declared.limits.TheConstants.{ALL_PARTS};
 ghost use Rattle.batch_book.specs.Exchanges.{AreNew};
+ghost use Rattle.batch_book.specs.Naming.{IsNamed};
 ghost use Rattle.batch_book.specs.Seats.{IsSameSeat};
 ghost use Rattle.client_session.specs.Listening.{TellsOfRefusals};
-ghost use Rattle.session_answers.specs.Histories.{part_of, HaveOneHistory, IsClosing};
+ghost use Rattle.session_answers.specs.Histories.{part_of, IsClosing};
 ghost use Rattle.session_answers.specs.Hosting.{AreAllSeats, IsFresh};
 ghost use Rattle.session_answers.specs.Sessions.{IsServedSession};
 
 use crate::closing::Closing;
-use batch_book::{Book, Closed, Seat, Shared, Unclosed};
+use batch_book::{Closed, ExchangeBlank, ExchangeName, Seat, Shared};
 use client_session::{Listener, ServeFault, serve};
 use crossbar::MemoryPort;
 use exchange_limits::{MAX_SESSIONS, WorkerCount};
@@ -25,22 +26,20 @@ use setting_runner::Plant;
 use std::alloc::{AllocError, Global};
 use std::io::{Read, Write};
 use std::sync::Wait;
-use std::sync::ledger::{Blank, Ledger};
 use std::thread::Threads;
 
 /// An exchange whose port and wires never fail.
 pub type PlainExchange<L> = Shared<L, MemoryPort, PlainWires, OpenGate>;
 
 /// An exchange with this rack, and a seat for each of so many sessions.
-pub fn open_exchange<L: Ledger>(
+pub fn open_exchange<L: ExchangeName>(
     alloc: Global,
-    blank: Blank,
+    blank: ExchangeBlank,
     rack: Rack,
     workers: WorkerCount,
     sessions: usize,
 ) -> Result<(PlainExchange<L>, Vec<Seat<L>>), AllocError>
-    requires name { blank.name ≡ L.name }
-    requires parts { (blank.parts ≡ L.parts) × (blank.parts ≡ ALL_PARTS) }
+    requires named { IsNamed L.name L.parts L.table L.opening blank rack }
     requires some { 1 ≤ sessions }
     requires few { sessions ≤ MAX_SESSIONS }
     ensures shape { IfOk result (λ made. made.0.shape ≡ rack.shape) }
@@ -61,7 +60,7 @@ pub fn open_exchange<L: Ledger>(
 /// Serves a client from a seat that has done nothing yet, to the session's end: gives the seat
 /// back, and the fault that ended the session, where one did. The listener hears each command, and
 /// each refusal.
-pub fn serve_client<L: Ledger, R: Threads + Wait + Sync, I: Read, O: Write, H: Listener>(
+pub fn serve_client<L: ExchangeName, R: Threads + Wait + Sync, I: Read, O: Write, H: Listener>(
     rt: &R,
     alloc: Global,
     exchange: &PlainExchange<L>,
@@ -85,62 +84,29 @@ pub fn serve_client<L: Ledger, R: Threads + Wait + Sync, I: Read, O: Write, H: L
     }
 }
 
-/// Closes the exchange, and gives its book, if the lists of its seats are those of its history,
-/// which began on this rack.
-fn close<L: Ledger>(exchange: PlainExchange<L>, seats: Vec<Seat<L>>, opening: &Rack) -> Option<Book>
-    requires parts { L.parts ≡ ALL_PARTS }
-    requires seats { AreAllSeats exchange seats.items }
-    ensures { IfSome result
-        (HaveOneHistory opening.now (map part_of seats.items)) }
-{
-    // The history is asked for only for its contract, which says that it is legal.
-    match exchange.close(seats) {
-        Ok(closed) => {
-            closed.book.history();
-            // A book that comes from under a lock could have been opened with any rack, as far as
-            // contracts tell.
-            if closed.book.opening().is_same(opening) {
-                let Closed {
-                    book,
-                    plant: _,
-                    seats: _,
-                } = closed;
-                Some(book)
-            } else {
-                None
-            }
-        }
-        Err(Unclosed::LogsDisagree(_)) => None,
-        Err(Unclosed::SeatMissing(..)) => unreachable!(),
-    }
-}
-
 /// Closes the exchange behind its sessions, of which this text is printed, and one of which was
 /// ended by a fault or none.
-pub fn finish<L: Ledger>(
+pub fn finish<L: ExchangeName>(
     exchange: PlainExchange<L>,
     seats: Vec<Seat<L>>,
-    opening: &Rack,
-    mut text: Vec<u8>,
+    text: Vec<u8>,
     failed: bool,
-) -> Result<Closing, AllocError>
+) -> Closing
     requires parts { L.parts ≡ ALL_PARTS }
     requires seats { AreAllSeats exchange seats.items }
-    ensures { IfOk result (λ closing. IsClosing opening.now (map part_of seats.items) text.items
-        failed closing.answer closing.book) }
+    ensures { IsClosing L.opening (map part_of seats.items) text.items failed result.answer
+        result.book }
 {
-    let Some(book) = close(exchange, seats, opening) else {
-        text.extend_from_slice(b"logs disagree\n")?;
-        return Ok(Closing {
-            answer: Answer::failed(text),
-            book: None,
-        });
+    let Ok(Closed { book, plant: _ }) = exchange.close(seats) else {
+        unreachable!()
     };
+    // Asked for only for its contract, which says that the history is legal.
+    book.history();
     let book = Some(book);
     if failed {
         let answer = Answer::failed(text);
-        return Ok(Closing { answer, book });
+        return Closing { answer, book };
     }
     let answer = Answer::done(text);
-    Ok(Closing { answer, book })
+    Closing { answer, book }
 }

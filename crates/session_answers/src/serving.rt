@@ -3,6 +3,7 @@
 ghost use Rattle.std.specs.Prelude.{◌≡◌, ◌≤◌, IfOk, length, map};
 ghost use Rattle.progress_word.specs.declared.limits.TheConstants.{ALL_PARTS};
 ghost use Rattle.batch_book.specs.Exchanges.{AreNew};
+ghost use Rattle.batch_book.specs.Naming.{IsNamed};
 ghost use Rattle.batch_book.specs.Seats.{IsSameSeat};
 ghost use Rattle.session_answers.specs.Hosting.{transcript, IsSeatReady, AreServedAt};
 ghost use Rattle.plan_answers.specs.Lent.{bytes_of};
@@ -12,7 +13,7 @@ use crate::closing::Closing;
 use crate::frames::{frame, has_fault};
 use crate::plain_exchange::{PlainExchange, finish, open_exchange, serve_client};
 use crate::session::Session;
-use batch_book::Seat;
+use batch_book::{ExchangeBlank, ExchangeName, Seat};
 use client_session::NoListener;
 use exchange_limits::{MAX_SESSIONS, WorkerCount};
 use module_memory::Rack;
@@ -21,12 +22,11 @@ use rack_answers::read_rack;
 use std::alloc::{AllocError, Global};
 use std::marker::Brand;
 use std::sync::Wait;
-use std::sync::ledger::{Blank, Ledger};
 use std::thread;
 use std::thread::Threads;
 
 /// Serves the script at the place of the seat's session, to the session's end.
-fn serve_script<L: Ledger, R: Threads + Wait + Sync>(
+fn serve_script<L: ExchangeName, R: Threads + Wait + Sync>(
     rt: &R,
     alloc: Global,
     exchange: &PlainExchange<L>,
@@ -56,7 +56,7 @@ fn serve_script<L: Ledger, R: Threads + Wait + Sync>(
 
 /// Serves the scripts side by side, one thread for each where it can be had. The sessions come in
 /// the order of the scripts.
-fn serve_all<L: Ledger + Send + Sync, R: Threads + Wait + Sync>(
+fn serve_all<L: ExchangeName + Send + Sync, R: Threads + Wait + Sync>(
     rt: &R,
     alloc: Global,
     exchange: &PlainExchange<L>,
@@ -78,7 +78,10 @@ fn serve_all<L: Ledger + Send + Sync, R: Threads + Wait + Sync>(
 }
 
 /// The seats of sessions.
-fn seats_of<L: Ledger>(alloc: Global, sessions: Vec<Session<L>>) -> Result<Vec<Seat<L>>, AllocError>
+fn seats_of<L: ExchangeName>(
+    alloc: Global,
+    sessions: Vec<Session<L>>,
+) -> Result<Vec<Seat<L>>, AllocError>
     ensures { IfOk result (λ seats. seats.items ≡ map (λ s. s.seat) sessions.items) }
 {
     sessions
@@ -88,28 +91,26 @@ fn seats_of<L: Ledger>(alloc: Global, sessions: Vec<Session<L>>) -> Result<Vec<S
 }
 
 /// What is left of the scripts' sessions on one exchange with this rack.
-fn serve_scripts<L: Ledger + Send + Sync, R: Threads + Wait + Sync>(
+fn serve_scripts<L: ExchangeName + Send + Sync, R: Threads + Wait + Sync>(
     rt: &R,
     alloc: Global,
-    blank: Blank,
+    blank: ExchangeBlank,
     rack: Rack,
     workers: WorkerCount,
     scripts: &[Vec<u8>],
 ) -> Result<Closing, AllocError>
-    requires name { blank.name ≡ L.name }
-    requires parts { (blank.parts ≡ L.parts) × (blank.parts ≡ ALL_PARTS) }
+    requires named { IsNamed L.name L.parts L.table L.opening blank rack }
     requires some_scripts { 1 ≤ length scripts.now }
     requires few_scripts { length scripts.now ≤ MAX_SESSIONS }
     ensures { IfOk result (λ closing. AreServed rack (map (λ s. s.items) scripts.now)
         closing.answer closing.book) }
 {
-    let opening = rack.copy()?;
     let (exchange, seats) = open_exchange::<L>(alloc, blank, rack, workers, scripts.len())?;
     let sessions = serve_all(rt, alloc, &exchange, seats, scripts, workers)?;
     let text = frame(alloc, sessions.as_slice())?;
     let failed = has_fault(sessions.as_slice());
     let seats = seats_of(alloc, sessions)?;
-    finish(exchange, seats, &opening, text, failed)
+    Ok(finish(exchange, seats, text, failed))
 }
 
 /// The answer of `exchange serve`: what the sessions of the scripts were told, on one exchange that
@@ -138,7 +139,7 @@ pub fn answer_serve<R: Threads + Wait + Sync>(
 {
     match read_rack(alloc, shape, image) {
         Ok(rack) => {
-            let blank = Blank::new(ALL_PARTS as u64);
+            let blank = ExchangeBlank::new(alloc)?;
             serve_scripts::<Brand, R>(rt, alloc, blank, rack, workers, scripts)
         }
         Err(refusal) => Closing::refused(alloc, refusal),

@@ -1,10 +1,9 @@
-use batch_book::Seat;
+use batch_book::{ExchangeName, Seat};
 use client_session::ServeFault;
-use std::sync::ledger::Ledger;
 
 /// A session of `serve` that has ended.
 #[derive(Drop)]
-pub struct Session<L: Ledger> {
+pub struct Session<L: ExchangeName> {
     /// Its seat, which has the list of its calls.
     pub seat: Seat<L>,
     /// What it was told.

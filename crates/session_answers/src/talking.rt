@@ -2,6 +2,7 @@
 
 ghost use Rattle.std.specs.Prelude.{◌≡◌, ◌≤◌, List, ℕ, IfOk};
 ghost use Rattle.std.specs.Io.KnownBytes.{Appends};
+ghost use Rattle.batch_book.specs.Naming.{IsNamed};
 ghost use Rattle.progress_word.specs.declared.limits.TheConstants.{ALL_PARTS};
 ghost use Rattle.client_session.specs.Listening.{TellsOfRefusals};
 ghost use Rattle.plan_answers.specs.Lent.{bytes_of};
@@ -12,6 +13,7 @@ ghost use Rattle.session_answers.specs.Talking.{HasTalked, IsTalkAnswer};
 use crate::closing::Closing;
 use crate::frames::end_line;
 use crate::plain_exchange::{finish, open_exchange, serve_client};
+use batch_book::{ExchangeBlank, ExchangeName};
 use client_session::Listener;
 use exchange_limits::WorkerCount;
 use module_memory::Rack;
@@ -21,28 +23,25 @@ use std::alloc::{AllocError, Global};
 use std::io::{Read, Write};
 use std::marker::Brand;
 use std::sync::Wait;
-use std::sync::ledger::{Blank, Ledger};
 use std::thread::Threads;
 
 /// What is left of the session of this reader and this writer, on an exchange with this rack.
-fn talk<L: Ledger, R: Threads + Wait + Sync, I: Read, O: Write, H: Listener>(
+fn talk<L: ExchangeName, R: Threads + Wait + Sync, I: Read, O: Write, H: Listener>(
     rt: &R,
     alloc: Global,
-    blank: Blank,
+    blank: ExchangeBlank,
     rack: Rack,
     reader: &mut I,
     writer: &mut O,
     listener: &mut H,
 ) -> Result<Closing, AllocError>
-    requires name { blank.name ≡ L.name }
-    requires parts { (blank.parts ≡ L.parts) × (blank.parts ≡ ALL_PARTS) }
+    requires named { IsNamed L.name L.parts L.table L.opening blank rack }
     ensures session { (told : List ℕ)
         × Appends (O.contents writer.old) (O.contents writer.new) told
         × IfOk result (λ closing. HasTalked rack (I.remaining reader.old) (I.remaining reader.new)
         told closing.answer closing.book) }
     ensures beside { TellsOfRefusals H.may_tell (H.told listener.old) (H.told listener.new) }
 {
-    let opening = rack.copy()?;
     let (exchange, mut seats) = open_exchange::<L>(alloc, blank, rack, WorkerCount::ONE, 1)?;
     let Some(seat) = seats.pop() else {
         unreachable!()
@@ -51,7 +50,7 @@ fn talk<L: Ledger, R: Threads + Wait + Sync, I: Read, O: Write, H: Listener>(
     let (seat, fault) = serve_client(rt, alloc, &exchange, seat, reader, writer, listener, one);
     seats.push(seat)?;
     let line = Vec::from_slice(alloc, end_line(fault))?;
-    finish(exchange, seats, &opening, line, fault.is_some())
+    Ok(finish(exchange, seats, line, fault.is_some()))
 }
 
 /// What `exchange talk` answers behind its session: one client's, which is read from the reader, on
@@ -82,7 +81,7 @@ pub fn answer_talk<R: Threads + Wait + Sync, I: Read, O: Write, H: Listener>(
 {
     match read_rack(alloc, shape, image) {
         Ok(rack) => {
-            let blank = Blank::new(ALL_PARTS as u64);
+            let blank = ExchangeBlank::new(alloc)?;
             talk::<Brand, R, I, O, H>(rt, alloc, blank, rack, reader, writer, listener)
         }
         Err(refusal) => Closing::refused(alloc, refusal),

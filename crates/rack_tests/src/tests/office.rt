@@ -1,10 +1,13 @@
 //! An exchange with two seats, what they ask, and what they are answered as plain values.
 
+ghost use Rattle.batch_book.specs.Naming.{IsNamed};
 ghost use Rattle.std.specs.Prelude.{◌≡◌, Some};
 ghost use Rattle.progress_word.specs.declared.limits.TheConstants.{ALL_PARTS};
 
 use crate::tests::common::{batch, plan};
-use batch_book::{BatchState, BookRefusal, Call, Closed, Reply, Seat, Shared};
+use batch_book::{
+    BatchState, BookRefusal, Call, Closed, ExchangeBlank, ExchangeName, Reply, Seat, Shared,
+};
 use crossbar::{ConfigPort, MemoryPort};
 use module_memory::Rack;
 use peek_poke::WireMaker;
@@ -12,7 +15,6 @@ use schedule_certificate::Gate;
 use setting_runner::{Plant, RunRefusal};
 use std::alloc::Global;
 use std::sync::Wait;
-use std::sync::ledger::{Blank, Ledger};
 use std::thread::Threads;
 
 /// The address of the first word of block 0.
@@ -95,7 +97,7 @@ impl Ask {
 
 /// What a seat asks, and is answered.
 pub fn answer<
-    L: Ledger,
+    L: ExchangeName,
     P: ConfigPort,
     W: WireMaker + Sync,
     G: Gate + Sync,
@@ -112,7 +114,7 @@ pub fn answer<
 
 /// An exchange, and its two seats.
 #[derive(Drop)]
-pub struct Pair<L: Ledger, W: WireMaker, G> {
+pub struct Pair<L: ExchangeName, W: WireMaker, G> {
     pub shared: Shared<L, MemoryPort, W, G>,
     pub first: Seat<L>,
     pub second: Seat<L>,
@@ -121,14 +123,13 @@ pub struct Pair<L: Ledger, W: WireMaker, G> {
 }
 
 /// An exchange with two seats on this rack, with this plant.
-pub fn open_pair<L: Ledger, W: WireMaker + Drop, G: Drop>(
+pub fn open_pair<L: ExchangeName, W: WireMaker + Drop, G: Drop>(
     alloc: Global,
-    blank: Blank,
+    blank: ExchangeBlank,
     rack: Rack,
     plant: Plant<MemoryPort, W, G>,
 ) -> Option<Pair<L, W, G>>
-    requires name { blank.name ≡ L.name }
-    requires parts { (blank.parts ≡ L.parts) × (blank.parts ≡ ALL_PARTS) }
+    requires named { IsNamed L.name L.parts L.table L.opening blank rack }
 {
     let made = Shared::<L, MemoryPort, W, G>::new(alloc, blank, rack, plant, 2);
     let Ok((shared, mut seats)) = made else {
@@ -145,10 +146,10 @@ pub fn open_pair<L: Ledger, W: WireMaker + Drop, G: Drop>(
 }
 
 /// Closes the exchange with both seats, the second one first.
-pub fn close<L: Ledger, W: WireMaker + Drop, G: Drop>(
+pub fn close<L: ExchangeName, W: WireMaker + Drop, G: Drop>(
     alloc: Global,
     pair: Pair<L, W, G>,
-) -> Option<Closed<L, MemoryPort, W, G>>
+) -> Option<Closed<MemoryPort, W, G>>
     requires { L.parts ≡ ALL_PARTS }
 {
     let Pair {
@@ -165,7 +166,7 @@ pub fn close<L: Ledger, W: WireMaker + Drop, G: Drop>(
 /// What the first seat of an exchange asks, and is answered.
 pub type Row = (Ask, Said);
 
-impl<L: Ledger, W: WireMaker + Sync, G: Gate + Sync> Pair<L, W, G> {
+impl<L: ExchangeName, W: WireMaker + Sync, G: Gate + Sync> Pair<L, W, G> {
     /// What the first seat asks, and is answered.
     pub fn ask<R: AllocGlobal + Threads + Wait + Sync>(&mut self, rt: &R, ask: Ask) -> Said {
         answer(rt, &self.shared, &mut self.first, ask)

@@ -1,47 +1,77 @@
-use Rattle.std.proofs.Common.{◌≡◌, ◌<◌, ◌∙◌, List, [], ◌∷◌, sym, ap, arith, refl, length, length-set, ◌≤◌, subst}
-use Rattle.std.proofs.lemmas.List.{same_lists, get_or-map, length-map}
-use Rattle.progress_word.specs.declared.limits.TheConstants.{ALL_PARTS}
-use Rattle.batch_book.specs.Seats.{SeatState}
-use Rattle.batch_book.specs.Values.{greatest}
-use Rattle.std.proofs.lemmas.Grind.{common_steps}
-use Rattle.batch_book.specs.Seats.{closed, parts_of}
+use Rattle.std.proofs.Common.{◌≤◌, List, All, length, sym, ap, ◌∙◌, refl, subst, arith, rules}
+use Rattle.std.proofs.lemmas.Iterator.Adapters.{YieldsList-from_vec}
+use Rattle.std.proofs.lemmas.Iterator.Consumers.{YieldsList-turn, YieldsList-end}
+use Rattle.std.proofs.lemmas.List.{map-id}
+use Rattle.std.proofs.lemmas.List.Elements.{All-push}
+use Rattle.std.proofs.lemmas.List.Sums.{sum_by_push}
+use Rattle.progress_word.specs.Watchers.{WatcherView}
+use Rattle.batch_book.specs.Seats.{SeatState, LogAgrees}
+use Rattle.batch_book.proofs.Seats.{agree_below, its_word}
 use Rattle.batch_book.proofs.close.gather.Goals as goal
 
-pub loop-i-preserved : goal.loop-i-preserved
-loop-i-preserved g c =
-    let i = c.loop-i.invariant in
-    let e = c.leave-access.ensures in
-    let j = c.join.ensures in
+pub loop-seat-init : goal.loop-seat-init
+loop-seat-init g c =
+    let e = c.compared-all.ensures in
+    let below = agree_below c.args.keeper.now.history c.in-Some.last e.agrees in
     record {
-      left = λ k d below. grind (arith, common_steps, i.left k d, i.here k d, e.seat);
-      here = λ k d above. grind (arith, common_steps, i.here k d);
-      word = rw j.watcher refl;
-      parts = grind (arith, common_steps, i.parts, j.parts, e.parts);
-      amount = grind (arith, common_steps, i.amount, j.amount, e.amount);
-      seen = λ k d below. rw j.watcher (grind (arith, common_steps, i.seen k d, i.here k d, e.seen));
-      raised = λ n all.
-          let a = i.raised n (λ k d below. all k d (omega arith)) in
-          let s = c.index-seats-i.result in
-          let b : c.leave-access.result.watcher.raised ≤ n =
-          subst (λ m. m ≤ n) (sym (e.raised ∙ ap (λ (x : SeatState). greatest x.log) (i.here c.loop-i.i s (omega arith)))) (all c.loop-i.i s (omega arith)) in
-          rw j.watcher (omega (arith, a, b));
+      same = e.keeper;
+      agree = λ k d none. absurd (omega arith);
+      word = search rules;
+      parts = omega arith;
+      amount = omega arith;
+      first_seen = omega arith;
+      seen = λ k d none. absurd (omega arith);
+      raised = omega (arith, e.raised, below);
     }
 
-pub returns-clause-seats : goal.returns-clause-seats
-returns-clause-seats g c =
-    let i = c.loop-i.invariant in
-    let len : length c.loop-i.seats ≡ length c.args.seats.now = c.loop-i.auto.seats ∙ length-set c.args.seats.now 0 c.leave-all.new.self in
-    same_lists _ _ (len ∙ sym (length-map c.args.seats.now closed)) (λ k d below. i.left k d (omega arith) ∙ sym (get_or-map closed c.args.seats.now k d d (omega arith)))
+pub compared-access-requires : goal.compared-access-requires
+compared-access-requires g c =
+    let t = YieldsList-turn (YieldsList-from_vec {s = c.into_iter-seat-iterator.result} c.pop.new.self.items (search rules) (search rules)) c.loop-seat.yielded c.loop-seat.seat-iterator c.loop-seat.yielded_by c.next.result c.next.new.self c.in-Some-seat.seat c.in-Some-seat.is c.next.ensures.steps in
+    let word = its_word c.args.seats.items c.pop.new.self.items c.in-Some.last c.in-Some-seat.seat c.args.word.now _ c.requires.seats c.in-Some.ensures.items t.0 t.1 in
+    rw word refl
 
-pub loop-i-init : goal.loop-i-init
-loop-i-init g c = grind (arith, common_steps)
+pub join-requires-clause-word : goal.join-requires-clause-word
+join-requires-clause-word g c =
+    let t = YieldsList-turn (YieldsList-from_vec {s = c.into_iter-seat-iterator.result} c.pop.new.self.items (search rules) (search rules)) c.loop-seat.yielded c.loop-seat.seat-iterator c.loop-seat.yielded_by c.next.result c.next.new.self c.in-Some-seat.seat c.in-Some-seat.is c.next.ensures.steps in
+    let word = its_word c.args.seats.items c.pop.new.self.items c.in-Some.last c.in-Some-seat.seat c.args.word.now _ c.requires.seats c.in-Some.ensures.items t.0 t.1 in
+    (c.loop-seat.invariant.word, search rules)
 
--- seats that have all parts are some
-some_seats : (s : List SeatState) → ALL_PARTS ≤ parts_of s → 0 < length s
-some_seats [] all = absurd (omega arith)
-some_seats (first ∷ others) all = omega arith
+pub loop-seat-preserved : goal.loop-seat-preserved
+loop-seat-preserved g c =
+    let h = c.args.keeper.now.history in
+    let i = c.loop-seat.invariant in
+    let e = c.compared-access.ensures in
+    let j = c.join.ensures in
+    let s : SeatState = c.in-Some-seat.seat in
+    let ys = c.loop-seat.yielded in
+    let agrees : LogAgrees h s = subst (λ l. LogAgrees l s) i.same e.agrees in
+    let below = agree_below h s agrees in
+    let seen = ap (λ (o : WatcherView). o.seen) j.watcher in
+    let raised = ap (λ (o : WatcherView). o.raised) j.watcher in
+    let n = c.join.new.self.watcher.seen in
+    record {
+      same = e.keeper ∙ i.same;
+      agree = All-push (LogAgrees h) ys s i.agree agrees;
+      word = ap (λ (o : WatcherView). o.word) j.watcher;
+      parts = omega (arith, i.parts, j.parts, e.parts, sum_by_push (λ (s : SeatState). s.parts) ys s);
+      amount = omega (arith, i.amount, j.amount, e.amount, sum_by_push (λ (s : SeatState). length s.log) ys s);
+      first_seen = omega (arith, i.first_seen, seen);
+      seen = All-push (λ (s : SeatState). s.seen ≤ n) ys s (λ k d lt. omega (arith, i.seen k d lt, seen)) (omega (arith, e.seen, seen));
+      raised = omega (arith, i.raised, e.raised, below, raised);
+    }
 
-pub returns-clause-raised : goal.returns-clause-raised
-returns-clause-raised g c = λ n all.
-    let some = some_seats c.args.seats.now c.requires.all in
-    c.loop-i.invariant.raised n (λ k d below. all k d (omega (arith, some, length-set c.args.seats.now 0 c.leave-all.new.self)))
+pub returns-clause-agree : goal.returns-clause-agree
+returns-clause-agree g c =
+    let h = c.args.keeper.now.history in
+    let rest = c.pop.new.self.items in
+    let end = YieldsList-end (YieldsList-from_vec {s = c.into_iter-seat-iterator.result} rest (search rules) (search rules)) c.loop-seat.yielded c.loop-seat.seat-iterator c.loop-seat.yielded_by c.next.result c.next.new.self c.in-None.is c.next.ensures.steps in
+    let others : All (LogAgrees h) rest = subst (λ (l : List SeatState). All (LogAgrees h) l) (sym (map-id c.loop-seat.yielded) ∙ end.0) c.loop-seat.invariant.agree in
+    subst (λ (l : List SeatState). All (LogAgrees h) l) (sym c.in-Some.ensures.items) (All-push (LogAgrees h) rest c.in-Some.last others c.compared-all.ensures.agrees)
+
+pub returns-clause-seen : goal.returns-clause-seen
+returns-clause-seen g c =
+    let low : SeatState → Type 0 = λ s. s.seen ≤ c.loop-seat.all.watcher.seen in
+    let rest = c.pop.new.self.items in
+    let end = YieldsList-end (YieldsList-from_vec {s = c.into_iter-seat-iterator.result} rest (search rules) (search rules)) c.loop-seat.yielded c.loop-seat.seat-iterator c.loop-seat.yielded_by c.next.result c.next.new.self c.in-None.is c.next.ensures.steps in
+    let others : All low rest = subst (λ (l : List SeatState). All low l) (sym (map-id c.loop-seat.yielded) ∙ end.0) c.loop-seat.invariant.seen in
+    subst (λ (l : List SeatState). All low l) (sym c.in-Some.ensures.items) (All-push low rest c.in-Some.last others (omega (arith, c.compared-all.ensures.seen, c.loop-seat.invariant.first_seen)))

@@ -16,6 +16,8 @@ loop-session-init g c =
       parts = omega (arith, parts);
       watcher = c.requires.first ∙ ap (λ (n : ℕ). watcher_view word 0 0 n) parts;
       amount = c.requires.amount;
+      history = c.deal-own.ensures.history;
+      next = omega (arith, c.deal-own.ensures.dealt, c.requires.none_dealt);
       dealt = subst (λ (l : List SeatState). AreDealt word 1 l) (sym c.requires.empty) (none_dealt word);
     }
 
@@ -33,14 +35,16 @@ loop-session-preserved g c =
       parts = omega (arith, split.parts.0, inv.parts);
       watcher = kept ∙ ap (λ (n : ℕ). watcher_view word 0 0 n) less;
       amount = split.amount ∙ inv.amount;
+      history = c.deal.ensures.history;
+      next = omega (arith, c.deal.ensures.dealt, inv.next);
       dealt = dealt_more word session c.loop-session.seats.items c.push.new.self.items c.new-seat.result
           (rw c.unwrap.ensures at c.push.ensures.items)
           (c.new-seat.ensures ∙ ap₂ (λ (o : WatcherView) (n : ℕ). open_seat o session [] n) given split.parts.1)
           inv.dealt;
     }
 
-pub returns : goal.returns
-returns g c =
+pub returns-clause-seats : goal.returns-clause-seats
+returns-clause-seats g c =
     let word = c.args.word.now in
     let sessions = c.args.sessions in
     let inv = c.loop-session.invariant in

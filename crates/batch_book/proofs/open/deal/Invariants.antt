@@ -1,4 +1,4 @@
-use Rattle.std.proofs.Common.{◌≡◌, ◌+◌, ◌≤◌, vec_capacity}
+use Rattle.std.proofs.Common.{◌≡◌, ◌+◌, ◌≤◌, [], vec_capacity}
 use Rattle.progress_word.specs.declared.limits.TheConstants.{ALL_PARTS}
 use Rattle.progress_word.specs.Watchers.{watcher_view}
 use Rattle.batch_book.proofs.Dealing.{AreDealt}
@@ -10,5 +10,7 @@ invariant-loop-session g l = record {
   parts : l.first.parts + l.session ≡ ALL_PARTS + 1;
   watcher : l.first.watcher ≡ watcher_view l.word 0 0 l.first.parts;
   amount : l.first.share.amount ≡ 0;
+  history : l.keeper.history ≡ [];
+  next : l.keeper.dealt ≡ l.session;
   dealt : AreDealt l.word l.session l.seats.items;
 }

@@ -1,4 +1,10 @@
 use Rattle.hostile_use.proofs.clients.served_text.Given as goal
 
-abbrev pub ghosts-serve_all : goal.ghosts-serve_all
-ghosts-serve_all g a = record { name = a.blank.name; parts = a.blank.parts }
+abbrev pub ghosts-serve_all-L-ExchangeName : goal.ghosts-serve_all-L-ExchangeName
+ghosts-serve_all-L-ExchangeName g a = record { opening = a.rack }
+
+abbrev pub ghosts-serve_all-L-Ledger : goal.ghosts-serve_all-L-Ledger
+ghosts-serve_all-L-Ledger g a = record { name = a.blank.ledger.name; parts = a.blank.ledger.parts }
+
+abbrev pub ghosts-serve_all-L-Room : goal.ghosts-serve_all-L-Room
+ghosts-serve_all-L-Room g a = record { table = a.blank.history }

@@ -1,4 +1,10 @@
 use Rattle.hostile_use.proofs.loan_calls.make.Given as goal
 
-abbrev pub ghosts-open_exchange : goal.ghosts-open_exchange
-ghosts-open_exchange g a = record { name = a.blank.name; parts = a.blank.parts }
+abbrev pub ghosts-open_exchange-L-ExchangeName : goal.ghosts-open_exchange-L-ExchangeName
+ghosts-open_exchange-L-ExchangeName g a = record { opening = a.rack }
+
+abbrev pub ghosts-open_exchange-L-Ledger : goal.ghosts-open_exchange-L-Ledger
+ghosts-open_exchange-L-Ledger g a = record { name = a.blank.ledger.name; parts = a.blank.ledger.parts }
+
+abbrev pub ghosts-open_exchange-L-Room : goal.ghosts-open_exchange-L-Room
+ghosts-open_exchange-L-Room g a = record { table = a.blank.history }

@@ -1,18 +1,17 @@
 //! Four sessions at once, each in a thread of its own, whose seats are then given back.
 
+ghost use Rattle.batch_book.specs.Naming.{IsNamed};
 ghost use Rattle.std.specs.Prelude.{◌≡◌, Some};
-ghost use Rattle.progress_word.specs.declared.limits.TheConstants.{ALL_PARTS};
 
 use crate::tests::common::{marked, with_wires};
 use crate::tests::office::{Ask, FIRST, answer};
-use batch_book::{Closed, Seat, Shared};
+use batch_book::{ExchangeBlank, ExchangeName, Seat, Shared};
 use crossbar::MemoryPort;
 use module_memory::Rack;
 use peek_poke::PlainWires;
 use schedule_certificate::OpenGate;
 use std::marker::Brand;
 use std::sync::Wait;
-use std::sync::ledger::{Blank, Ledger};
 use std::thread;
 use std::thread::Threads;
 
@@ -26,7 +25,7 @@ const PEEKS: usize = 100;
 type Plain<L> = Shared<L, MemoryPort, PlainWires, OpenGate>;
 
 /// One session at its work, which then gives its seat back.
-fn session<L: Ledger, R: AllocGlobal + Threads + Wait + Sync>(
+fn session<L: ExchangeName, R: AllocGlobal + Threads + Wait + Sync>(
     rt: &R,
     shared: &Plain<L>,
     seat: Seat<L>,
@@ -41,25 +40,13 @@ fn session<L: Ledger, R: AllocGlobal + Threads + Wait + Sync>(
     seat
 }
 
-/// How many entries a closed exchange has in its history, where each of its seats has as many as it
-/// peeked.
-fn entries_of<L: Ledger>(closed: &Closed<L, MemoryPort, PlainWires, OpenGate>) -> Option<usize> {
-    for seat in closed.seats.iter() {
-        if seat.log().len() != PEEKS {
-            return None;
-        }
-    }
-    Some(closed.book.history().len())
-}
-
 /// The sessions at once, and how many entries they leave. Nothing where the exchange didn't close.
-fn day<L: Ledger + Send + Sync, R: AllocGlobal + Threads + Wait + Sync>(
+fn day<L: ExchangeName + Send + Sync, R: AllocGlobal + Threads + Wait + Sync>(
     rt: &R,
-    blank: Blank,
+    blank: ExchangeBlank,
     rack: Rack,
 ) -> Option<usize>
-    requires name { blank.name ≡ L.name }
-    requires parts { (blank.parts ≡ L.parts) × (blank.parts ≡ ALL_PARTS) }
+    requires named { IsNamed L.name L.parts L.table L.opening blank rack }
 {
     let made = Plain::<L>::new(rt.alloc(), blank, rack, with_wires(PlainWires), SESSIONS);
     let Ok((shared, seats)) = made else {
@@ -74,7 +61,7 @@ fn day<L: Ledger + Send + Sync, R: AllocGlobal + Threads + Wait + Sync>(
         return None;
     };
     match shared.close(seats) {
-        Ok(closed) => entries_of(&closed),
+        Ok(closed) => Some(closed.book.history().len()),
         Err(_) => None,
     }
 }
@@ -82,7 +69,10 @@ fn day<L: Ledger + Send + Sync, R: AllocGlobal + Threads + Wait + Sync>(
 /// How many entries they leave on a marked rack.
 fn entries<R: AllocGlobal + Threads + Wait + Sync>(rt: &R) -> Option<usize> {
     match marked(rt.alloc(), "2x1x1") {
-        Some(rack) => day::<Brand, R>(rt, Blank::new(16), rack),
+        Some(rack) => match ExchangeBlank::new(rt.alloc()) {
+            Ok(blank) => day::<Brand, R>(rt, blank, rack),
+            Err(_) => None,
+        },
         None => None,
     }
 }

@@ -1,11 +1,15 @@
 //! What the seats of an exchange are answered.
 
+ghost use Rattle.batch_book.specs.Naming.{IsNamed};
 ghost use Rattle.std.specs.Prelude.{◌≡◌, IfSome};
 ghost use Rattle.progress_word.specs.declared.limits.TheConstants.{ALL_PARTS};
 
 use crate::tests::common::{marked, with_wires};
 use crate::tests::office::{Ask, FIRST, PUSH, Pair, Row, Said, close, open_pair};
-use batch_book::{BatchState, BookRefusal, Closed, MAX_ENTRIES, Shared, SharedFault, Unclosed};
+use batch_book::{
+    BatchState, BookRefusal, Closed, ExchangeBlank, ExchangeName, MAX_ENTRIES, SeatMissing, Shared,
+    SharedFault,
+};
 use crossbar::MemoryPort;
 use module_memory::Rack;
 use peek_poke::PlainWires;
@@ -14,7 +18,6 @@ use setting_runner::RunRefusal;
 use std::alloc::Global;
 use std::marker::Brand;
 use std::sync::Wait;
-use std::sync::ledger::{Blank, Ledger};
 use std::thread::Threads;
 
 /// An exchange of the tests, with two seats.
@@ -89,19 +92,15 @@ const LIMITS: [Row; 3] = [
     (Ask::Settle(1, PUSH), Said::Settled(1)),
 ];
 
-/// Whether a closed exchange has as many entries in its history and in the list of its first seat,
-/// which is the last here, as there may be, and the first word is still 0.
-fn is_full<L: Ledger>(closed: &Closed<L, MemoryPort, PlainWires, OpenGate>) -> bool {
-    let listed = match closed.seats.last() {
-        Some(seat) => seat.log().len(),
-        None => 0,
-    };
+/// Whether a closed exchange has as many entries in its history as there may be, and the first word
+/// is still 0.
+fn is_full(closed: &Closed<MemoryPort, PlainWires, OpenGate>) -> bool {
     let word = closed.book.rack().read(0, FIRST);
-    listed == 65536 && closed.book.history().len() == 65536 && word == Ok(0)
+    closed.book.history().len() == 65536 && word == Ok(0)
 }
 
 /// Whether so many peeks are answered, and then a poke isn't, since the history is full.
-fn fills<L: Ledger, R: AllocGlobal + Threads + Wait + Sync>(
+fn fills<L: ExchangeName, R: AllocGlobal + Threads + Wait + Sync>(
     rt: &R,
     pair: Two<L>,
     peeks: usize,
@@ -121,7 +120,7 @@ fn fills<L: Ledger, R: AllocGlobal + Threads + Wait + Sync>(
 
 /// Whether the batch of [`PUSH`] is accepted under each number from 2 to 256, and then the book is
 /// full.
-fn fills_book<L: Ledger, R: AllocGlobal + Threads + Wait + Sync>(
+fn fills_book<L: ExchangeName, R: AllocGlobal + Threads + Wait + Sync>(
     rt: &R,
     pair: &mut Two<L>,
 ) -> bool {
@@ -135,19 +134,19 @@ fn fills_book<L: Ledger, R: AllocGlobal + Threads + Wait + Sync>(
 
 /// Whether that is so behind the first rows, which leaves 259 entries, so that 65,277 more peeks
 /// fill the history.
-fn meets_limits<L: Ledger, R: AllocGlobal + Threads + Wait + Sync>(rt: &R, pair: Two<L>) -> bool
+fn meets_limits<L: ExchangeName, R: AllocGlobal + Threads + Wait + Sync>(
+    rt: &R,
+    pair: Two<L>,
+) -> bool
     requires { L.parts ≡ ALL_PARTS }
 {
     let mut pair = pair;
-    pair.first_wrong(rt, &LIMITS).is_none()
-        && fills_book(rt, &mut pair)
-        && pair.first.log().len() == 259
-        && fills(rt, pair, 65277)
+    pair.first_wrong(rt, &LIMITS).is_none() && fills_book(rt, &mut pair) && fills(rt, pair, 65277)
 }
 
 /// Tries to close the exchange with the first seat alone, and gives the pair back where that is
 /// refused for the seat that is missing.
-fn close_without_second<L: Ledger>(alloc: Global, pair: Two<L>) -> Option<Two<L>>
+fn close_without_second<L: ExchangeName>(alloc: Global, pair: Two<L>) -> Option<Two<L>>
     requires { L.parts ≡ ALL_PARTS }
 {
     let Pair {
@@ -158,9 +157,13 @@ fn close_without_second<L: Ledger>(alloc: Global, pair: Two<L>) -> Option<Two<L>
     let Ok(seats) = Vec::from_array(alloc, [first]) else {
         return None;
     };
-    let Err(Unclosed::SeatMissing(shared, mut seats)) = shared.close(seats) else {
+    let Err(missing) = shared.close(seats) else {
         return None;
     };
+    let SeatMissing {
+        exchange: shared,
+        mut seats,
+    } = missing;
     prove!(seats.len() == 1);
     let first = seats.remove(0);
     Some(Pair {
@@ -172,7 +175,7 @@ fn close_without_second<L: Ledger>(alloc: Global, pair: Two<L>) -> Option<Two<L>
 
 /// Whether an exchange isn't closed without its second seat, which is answered then, and is closed
 /// with both.
-fn goes_on<L: Ledger, R: AllocGlobal + Threads + Wait + Sync>(rt: &R, pair: Two<L>) -> bool
+fn goes_on<L: ExchangeName, R: AllocGlobal + Threads + Wait + Sync>(rt: &R, pair: Two<L>) -> bool
     requires { L.parts ≡ ALL_PARTS }
 {
     let Some(mut pair) = close_without_second(rt.alloc(), pair) else {
@@ -183,16 +186,14 @@ fn goes_on<L: Ledger, R: AllocGlobal + Threads + Wait + Sync>(rt: &R, pair: Two<
 }
 
 /// What comes back where so many sessions are refused.
-fn refused<L: Ledger>(
+fn refused<L: ExchangeName>(
     alloc: Global,
-    blank: Blank,
+    blank: ExchangeBlank,
     rack: Rack,
     sessions: usize,
-) -> Option<(Blank, Rack)>
-    requires name { blank.name ≡ L.name }
-    requires parts { (blank.parts ≡ L.parts) × (blank.parts ≡ ALL_PARTS) }
-    ensures name { IfSome result (λ back. back.0.name ≡ L.name) }
-    ensures parts { IfSome result (λ back. (back.0.parts ≡ L.parts) × (back.0.parts ≡ ALL_PARTS)) }
+) -> Option<(ExchangeBlank, Rack)>
+    requires named { IsNamed L.name L.parts L.table L.opening blank rack }
+    ensures { IfSome result (λ back. IsNamed L.name L.parts L.table L.opening back.0 back.1) }
 {
     let plant = with_wires(PlainWires);
     let made = Shared::<L, MemoryPort, PlainWires, OpenGate>::new(
@@ -205,9 +206,12 @@ fn refused<L: Ledger>(
 }
 
 /// An exchange with two seats, of what came back where 0 sessions were refused, and then 17.
-fn open_behind_refusals<L: Ledger>(alloc: Global, blank: Blank, rack: Rack) -> Option<Two<L>>
-    requires name { blank.name ≡ L.name }
-    requires parts { (blank.parts ≡ L.parts) × (blank.parts ≡ ALL_PARTS) }
+fn open_behind_refusals<L: ExchangeName>(
+    alloc: Global,
+    blank: ExchangeBlank,
+    rack: Rack,
+) -> Option<Two<L>>
+    requires named { IsNamed L.name L.parts L.table L.opening blank rack }
 {
     let (blank, rack) = refused::<L>(alloc, blank, rack, 0)?;
     let (blank, rack) = refused::<L>(alloc, blank, rack, 17)?;
@@ -215,14 +219,13 @@ fn open_behind_refusals<L: Ledger>(alloc: Global, blank: Blank, rack: Rack) -> O
 }
 
 /// Whether a case is so of a new exchange.
-fn holds<L: Ledger, R: AllocGlobal + Threads + Wait + Sync>(
+fn holds<L: ExchangeName, R: AllocGlobal + Threads + Wait + Sync>(
     rt: &R,
-    blank: Blank,
+    blank: ExchangeBlank,
     rack: Rack,
     case: Case<'_>,
 ) -> bool
-    requires name { blank.name ≡ L.name }
-    requires parts { (blank.parts ≡ L.parts) × (blank.parts ≡ ALL_PARTS) }
+    requires named { IsNamed L.name L.parts L.table L.opening blank rack }
 {
     let Some(mut pair) = open_behind_refusals::<L>(rt.alloc(), blank, rack) else {
         return false;
@@ -238,7 +241,10 @@ fn holds<L: Ledger, R: AllocGlobal + Threads + Wait + Sync>(
 /// Whether a case is so of an exchange on a marked rack of two modules of one word.
 fn holds_of<R: AllocGlobal + Threads + Wait + Sync>(rt: &R, case: Case<'_>) -> bool {
     match marked(rt.alloc(), "2x1x1") {
-        Some(rack) => holds::<Brand, R>(rt, Blank::new(16), rack, case),
+        Some(rack) => match ExchangeBlank::new(rt.alloc()) {
+            Ok(blank) => holds::<Brand, R>(rt, blank, rack, case),
+            Err(_) => false,
+        },
         None => false,
     }
 }

@@ -1,11 +1,11 @@
 //! A reading waits for no run, and sees each setting of it.
 
+ghost use Rattle.batch_book.specs.Naming.{IsNamed};
 ghost use Rattle.std.specs.Prelude.{◌≡◌, Some};
-ghost use Rattle.progress_word.specs.declared.limits.TheConstants.{ALL_PARTS};
 
 use crate::tests::common::{marked, with_wires};
 use crate::tests::office::{Ask, PUSH, Pair, Said, TWO_SETTINGS, answer, open_pair};
-use batch_book::{Reading, Seat, Shared};
+use batch_book::{ExchangeBlank, ExchangeName, Reading, Seat, Shared};
 use crossbar::ConfigPort;
 use module_memory::Rack;
 use peek_poke::{PlainWire, Wire, WireFault, WireMaker};
@@ -13,7 +13,6 @@ use schedule_certificate::{Gate, OpenGate};
 use std::marker::Brand;
 use std::sync::Wait;
 use std::sync::atomic::{AtomicBool, Ordering};
-use std::sync::ledger::{Blank, Ledger};
 use std::thread::{Threads, join, yield_now};
 
 /// How long a thread waits for the other.
@@ -107,7 +106,7 @@ impl<'a> WireMaker for HeldLines<'a> {
 }
 
 /// Reads until this was read, and says so to the hold. It is given no `Wait`.
-fn look<L: Ledger, P: ConfigPort, W: WireMaker, G>(
+fn look<L: ExchangeName, P: ConfigPort, W: WireMaker, G>(
     shared: &Shared<L, P, W, G>,
     seat: Seat<L>,
     hold: &Hold,
@@ -128,7 +127,7 @@ fn look<L: Ledger, P: ConfigPort, W: WireMaker, G>(
 
 /// Runs the batch of a text, and says whether it came to its end, and what is read then.
 fn run_one<
-    L: Ledger,
+    L: ExchangeName,
     P: ConfigPort,
     W: WireMaker + Sync,
     G: Gate + Sync,
@@ -146,7 +145,7 @@ fn run_one<
 
 /// Runs a batch in one thread while another reads.
 fn run_and_look<
-    L: Ledger + Send + Sync,
+    L: ExchangeName + Send + Sync,
     W: WireMaker + Send + Sync + Drop,
     R: AllocGlobal + Threads + Wait + Sync,
 >(rt: &R, pair: Pair<L, W, OpenGate>, hold: &Hold, run: Watched) -> (bool, Reading) {
@@ -170,14 +169,13 @@ fn run_and_look<
 
 /// Whether a run on this rack, of which a transfer waits for a reading, comes to its end, and is
 /// read then.
-fn is_read<L: Ledger + Send + Sync, R: AllocGlobal + Threads + Wait + Sync>(
+fn is_read<L: ExchangeName + Send + Sync, R: AllocGlobal + Threads + Wait + Sync>(
     rt: &R,
-    blank: Blank,
+    blank: ExchangeBlank,
     rack: Rack,
     run: Watched,
 ) -> bool
-    requires name { blank.name ≡ L.name }
-    requires parts { (blank.parts ≡ L.parts) × (blank.parts ≡ ALL_PARTS) }
+    requires named { IsNamed L.name L.parts L.table L.opening blank rack }
 {
     let hold = Hold::new();
     let lines = HeldLines {
@@ -195,7 +193,10 @@ fn is_read<L: Ledger + Send + Sync, R: AllocGlobal + Threads + Wait + Sync>(
 /// The same on a marked rack of three modules.
 fn is_read_of<R: AllocGlobal + Threads + Wait + Sync>(rt: &R, run: Watched) -> bool {
     match marked(rt.alloc(), "3x1x1") {
-        Some(rack) => is_read::<Brand, R>(rt, Blank::new(16), rack, run),
+        Some(rack) => match ExchangeBlank::new(rt.alloc()) {
+            Ok(blank) => is_read::<Brand, R>(rt, blank, rack, run),
+            Err(_) => false,
+        },
         None => false,
     }
 }

@@ -1,19 +1,19 @@
 //! Runs are made by as many workers as the plant has, and the exchange gives back the plant that it
 //! was made with.
 
+ghost use Rattle.batch_book.specs.Naming.{IsNamed};
 ghost use Rattle.std.specs.Prelude.{◌≡◌};
-ghost use Rattle.progress_word.specs.declared.limits.TheConstants.{ALL_PARTS};
 
 use crate::tests::common::{TWO_PUSHES, marked, two, with_gate};
 use crate::tests::meeting::Meeting;
 use crate::tests::office::{Ask, Row, Said, close, open_pair};
+use batch_book::{ExchangeBlank, ExchangeName};
 use crossbar::MemoryPort;
 use module_memory::Rack;
 use peek_poke::PlainWires;
 use setting_runner::Plant;
 use std::marker::Brand;
 use std::sync::Wait;
-use std::sync::ledger::{Blank, Ledger};
 use std::thread::Threads;
 
 /// Row two-pushes.
@@ -29,13 +29,12 @@ fn has_two(plant: &Plant<MemoryPort, PlainWires, Meeting>) -> bool {
 }
 
 /// Whether an exchange runs the row by two workers, and gives the plant back with as many.
-fn runs_by_two<L: Ledger, R: AllocGlobal + Threads + Wait + Sync>(
+fn runs_by_two<L: ExchangeName, R: AllocGlobal + Threads + Wait + Sync>(
     rt: &R,
-    blank: Blank,
+    blank: ExchangeBlank,
     rack: Rack,
 ) -> bool
-    requires name { blank.name ≡ L.name }
-    requires parts { (blank.parts ≡ L.parts) × (blank.parts ≡ ALL_PARTS) }
+    requires named { IsNamed L.name L.parts L.table L.opening blank rack }
 {
     let opened = open_pair::<L, PlainWires, Meeting>(
         rt.alloc(),
@@ -56,7 +55,10 @@ fn runs_by_two<L: Ledger, R: AllocGlobal + Threads + Wait + Sync>(
 /// The same on the row's rack.
 fn runs_by_two_of<R: AllocGlobal + Threads + Wait + Sync>(rt: &R) -> bool {
     match marked(rt.alloc(), "3x2x2") {
-        Some(rack) => runs_by_two::<Brand, R>(rt, Blank::new(16), rack),
+        Some(rack) => match ExchangeBlank::new(rt.alloc()) {
+            Ok(blank) => runs_by_two::<Brand, R>(rt, blank, rack),
+            Err(_) => false,
+        },
         None => false,
     }
 }

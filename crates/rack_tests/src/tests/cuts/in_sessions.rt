@@ -1,5 +1,6 @@
 //! The same faults in a session: what it is told, its seat's list, the history and the words.
 
+ghost use Rattle.batch_book.specs.Naming.{IsNamed};
 ghost use Rattle.std.specs.Prelude.{◌≡◌, Some};
 ghost use Rattle.progress_word.specs.declared.limits.TheConstants.{ALL_PARTS};
 ghost use Rattle.client_session.specs.Sessions.{seat_back};
@@ -7,7 +8,7 @@ ghost use Rattle.client_session.specs.Sessions.{seat_back};
 use super::faults::{Fault, FaultyPort, blocks_of, count_of_faults, fault_of};
 use crate::tests::common::{marked, two};
 use crate::tests::running::has_blocks;
-use batch_book::{Closed, Seat, Shared};
+use batch_book::{Closed, ExchangeBlank, ExchangeName, Seat, Shared};
 use client_session::{NoListener, ServeFault, serve};
 use exchange_limits::WorkerCount;
 use module_memory::Rack;
@@ -17,7 +18,6 @@ use setting_runner::StopCause;
 use std::alloc::{AllocError, Global};
 use std::marker::Brand;
 use std::sync::Wait;
-use std::sync::ledger::{Blank, Ledger};
 use std::thread::Threads;
 
 /// What the session reads: it runs the row, and then looks at what is left.
@@ -105,7 +105,7 @@ fn is_told(alloc: Global, told: &[u8], fault: Fault) -> bool {
 type Faulty<L> = Shared<L, FaultyPort, FuseWires, OpenGate>;
 
 /// The seat that came back from a session, and whether that ended by itself.
-fn back<L: Ledger>(ended: Result<Seat<L>, (Seat<L>, ServeFault)>) -> (Seat<L>, bool)
+fn back<L: ExchangeName>(ended: Result<Seat<L>, (Seat<L>, ServeFault)>) -> (Seat<L>, bool)
     ensures { result.0 ≡ seat_back ended }
 {
     match ended {
@@ -116,7 +116,7 @@ fn back<L: Ledger>(ended: Result<Seat<L>, (Seat<L>, ServeFault)>) -> (Seat<L>, b
 
 /// Serves the session from a seat, which comes back. Whether it ends by itself, and is told what it
 /// should be.
-fn session<L: Ledger, R: AllocGlobal + Threads + Wait + Sync>(
+fn session<L: ExchangeName, R: AllocGlobal + Threads + Wait + Sync>(
     rt: &R,
     exchange: &Faulty<L>,
     seat: Seat<L>,
@@ -145,12 +145,8 @@ fn session<L: Ledger, R: AllocGlobal + Threads + Wait + Sync>(
 
 /// Whether an exchange has just the entries of the session, the words that the run leaves, and
 /// those that it was opened with.
-fn is_left<L: Ledger>(closed: &Closed<L, FaultyPort, FuseWires, OpenGate>, fault: Fault) -> bool {
-    let [seat] = closed.seats.as_slice() else {
-        return false;
-    };
-    seat.log().len() == CALLS
-        && closed.book.history().len() == CALLS
+fn is_left(closed: &Closed<FaultyPort, FuseWires, OpenGate>, fault: Fault) -> bool {
+    closed.book.history().len() == CALLS
         && has_blocks(closed.book.rack(), &blocks_of(fault.words(false)))
         && has_blocks(closed.book.opening(), &blocks_of([0, 0]))
         && fault.is_set_rightly(false, &closed.plant.port)
@@ -158,7 +154,7 @@ fn is_left<L: Ledger>(closed: &Closed<L, FaultyPort, FuseWires, OpenGate>, fault
 
 /// Whether the session is told what it should be from the one seat of an exchange, which is left as
 /// it should be.
-fn is_right<L: Ledger, R: AllocGlobal + Threads + Wait + Sync>(
+fn is_right<L: ExchangeName, R: AllocGlobal + Threads + Wait + Sync>(
     rt: &R,
     exchange: Faulty<L>,
     seat: Seat<L>,
@@ -178,15 +174,14 @@ fn is_right<L: Ledger, R: AllocGlobal + Threads + Wait + Sync>(
 }
 
 /// The same of a new exchange with this rack.
-fn is_served<L: Ledger, R: AllocGlobal + Threads + Wait + Sync>(
+fn is_served<L: ExchangeName, R: AllocGlobal + Threads + Wait + Sync>(
     rt: &R,
-    blank: Blank,
+    blank: ExchangeBlank,
     rack: Rack,
     fault: Fault,
     workers: WorkerCount,
 ) -> bool
-    requires name { blank.name ≡ L.name }
-    requires parts { (blank.parts ≡ L.parts) × (blank.parts ≡ ALL_PARTS) }
+    requires named { IsNamed L.name L.parts L.table L.opening blank rack }
 {
     match Faulty::<L>::new(rt.alloc(), blank, rack, fault.plant(workers), 1) {
         Ok((exchange, mut seats)) => {
@@ -204,7 +199,10 @@ fn runs_to<R: AllocGlobal + Threads + Wait + Sync>(
     workers: WorkerCount,
 ) -> bool {
     match marked(rt.alloc(), "3x2x2") {
-        Some(rack) => is_served::<Brand, R>(rt, Blank::new(16), rack, fault, workers),
+        Some(rack) => match ExchangeBlank::new(rt.alloc()) {
+            Ok(blank) => is_served::<Brand, R>(rt, blank, rack, fault, workers),
+            Err(_) => false,
+        },
         None => false,
     }
 }

@@ -1,13 +1,13 @@
 //! A session plans outside the exchange's lock, so that others are answered meanwhile. Its batch is
 //! the largest.
 
+ghost use Rattle.batch_book.specs.Naming.{IsNamed};
 ghost use Rattle.std.specs.Prelude.{◌≡◌, ◌≤◌, length, take};
-ghost use Rattle.progress_word.specs.declared.limits.TheConstants.{ALL_PARTS};
 
 use super::served::{NO_FUSE, Saying, serve_at_once};
 use crate::tests::common::{with_wires, zeros};
 use crate::tests::office::{close, open_pair};
-use batch_book::{Call, Entry};
+use batch_book::{Call, Entry, ExchangeBlank, ExchangeName};
 use module_memory::Rack;
 use peek_poke::FuseWires;
 use schedule_certificate::OpenGate;
@@ -17,7 +17,6 @@ use std::io::Read;
 use std::marker::Brand;
 use std::sync::Wait;
 use std::sync::atomic::{AtomicBool, AtomicUsize, Ordering};
-use std::sync::ledger::{Blank, Ledger};
 use std::test::Fail;
 use std::thread::{Threads, yield_now};
 
@@ -169,15 +168,14 @@ fn unheard<I>(reader: I) -> Saying<I> {
 }
 
 /// Whether a client was answered while the other planned.
-fn is_outside<L: Ledger + Send + Sync, R: AllocGlobal + Threads + Wait + Sync>(
+fn is_outside<L: ExchangeName + Send + Sync, R: AllocGlobal + Threads + Wait + Sync>(
     rt: &R,
-    blank: Blank,
+    blank: ExchangeBlank,
     rack: Rack,
     planner: Planner<'_>,
     peeker: Peeker<'_>,
 ) -> bool
-    requires name { blank.name ≡ L.name }
-    requires parts { (blank.parts ≡ L.parts) × (blank.parts ≡ ALL_PARTS) }
+    requires named { IsNamed L.name L.parts L.table L.opening blank rack }
 {
     let opened = open_pair::<L, FuseWires, OpenGate>(rt.alloc(), blank, rack, with_wires(NO_FUSE));
     let Some(office) = opened else {
@@ -206,7 +204,10 @@ fn is_outside_of<R: AllocGlobal + Threads + Wait + Sync>(rt: &R, text: &[u8]) ->
         peeks: 0,
         watch: &watch,
     };
-    is_outside::<Brand, R>(rt, Blank::new(16), rack, planner, peeker)
+    let Ok(blank) = ExchangeBlank::new(rt.alloc()) else {
+        return false;
+    };
+    is_outside::<Brand, R>(rt, blank, rack, planner, peeker)
 }
 
 #[test]

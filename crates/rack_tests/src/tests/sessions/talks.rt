@@ -1,12 +1,13 @@
 //! Two sessions at once whose lines come in one order, so that each reading comes behind what the
 //! other did.
 
+ghost use Rattle.batch_book.specs.Naming.{IsNamed};
 ghost use Rattle.std.specs.Prelude.{◌≡◌};
-ghost use Rattle.progress_word.specs.declared.limits.TheConstants.{ALL_PARTS};
 
 use super::served::{NO_FUSE, Saying, serve_at_once};
 use crate::tests::common::{with_wires, zeros};
 use crate::tests::office::open_pair;
+use batch_book::{ExchangeBlank, ExchangeName};
 use module_memory::Rack;
 use peek_poke::FuseWires;
 use schedule_certificate::OpenGate;
@@ -15,7 +16,6 @@ use std::io::Read;
 use std::marker::Brand;
 use std::sync::Wait;
 use std::sync::atomic::{AtomicBool, AtomicUsize, Ordering};
-use std::sync::ledger::{Blank, Ledger};
 use std::thread::{Threads, yield_now};
 
 /// How long a client waits for the other.
@@ -85,15 +85,14 @@ impl Read for Talker<'_> {
 }
 
 /// Whether both clients of a talk hear this that are served at once on this rack.
-fn hear_on<L: Ledger + Send + Sync, R: AllocGlobal + Threads + Wait + Sync>(
+fn hear_on<L: ExchangeName + Send + Sync, R: AllocGlobal + Threads + Wait + Sync>(
     rt: &R,
-    blank: Blank,
+    blank: ExchangeBlank,
     rack: Rack,
     talk: &Talk,
     wanted: [&'static str; 2],
 ) -> bool
-    requires name { blank.name ≡ L.name }
-    requires parts { (blank.parts ≡ L.parts) × (blank.parts ≡ ALL_PARTS) }
+    requires named { IsNamed L.name L.parts L.table L.opening blank rack }
 {
     let [first, second] = wanted;
     match open_pair::<L, FuseWires, OpenGate>(rt.alloc(), blank, rack, with_wires(NO_FUSE)) {
@@ -124,8 +123,10 @@ fn hear<R: AllocGlobal + Threads + Wait + Sync>(
         return false;
     };
     let talk = Talk::of(lines);
-    hear_on::<Brand, R>(rt, Blank::new(16), rack, &talk, wanted)
-        && !talk.gave_up.load(Ordering::SeqCst)
+    let Ok(blank) = ExchangeBlank::new(rt.alloc()) else {
+        return false;
+    };
+    hear_on::<Brand, R>(rt, blank, rack, &talk, wanted) && !talk.gave_up.load(Ordering::SeqCst)
 }
 
 /// The second client reads before any run and behind each of three runs of the first, which have 0,

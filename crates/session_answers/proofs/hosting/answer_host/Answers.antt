@@ -5,8 +5,8 @@ use Rattle.session_answers.specs.HostAnswers.{opened, refused}
 use Rattle.session_answers.proofs.Sessions.{both}
 use Rattle.session_answers.proofs.hosting.answer_host.Goals as goal
 
-pub returns-in-Ok : goal.returns-in-Ok
-returns-in-Ok g c = IfOk-weaker c.host_clients.result _ _ (λ h is. opened c.in-Ok.rack c.in-Ok.ensures.rack is) c.host_clients.ensures
+pub returns-in_ok-blank-in-Ok : goal.returns-in_ok-blank-in-Ok
+returns-in_ok-blank-in-Ok g c = IfOk-weaker c.host_clients.result _ _ (λ h is. opened c.in-Ok.rack c.in-Ok.ensures.rack is) c.host_clients.ensures
 
 pub returns-in-Err : goal.returns-in-Err
 returns-in-Err g c =

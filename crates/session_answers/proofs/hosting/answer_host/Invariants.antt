@@ -1,4 +1,10 @@
 use Rattle.session_answers.proofs.hosting.answer_host.Given as goal
 
-abbrev pub ghosts-host_clients : goal.ghosts-host_clients
-ghosts-host_clients g a = record { name = a.blank.name; parts = a.blank.parts }
+abbrev pub ghosts-host_clients-L-ExchangeName : goal.ghosts-host_clients-L-ExchangeName
+ghosts-host_clients-L-ExchangeName g a = record { opening = a.rack }
+
+abbrev pub ghosts-host_clients-L-Ledger : goal.ghosts-host_clients-L-Ledger
+ghosts-host_clients-L-Ledger g a = record { name = a.blank.ledger.name; parts = a.blank.ledger.parts }
+
+abbrev pub ghosts-host_clients-L-Room : goal.ghosts-host_clients-L-Room
+ghosts-host_clients-L-Room g a = record { table = a.blank.history }

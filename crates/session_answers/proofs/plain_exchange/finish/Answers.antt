@@ -1,20 +1,16 @@
-use Rattle.std.proofs.Common.{◌≡◌, ◌++◌, map, refl, rules}
-use Rattle.session_answers.specs.Histories.{disagree_line, status_at, agree, disagree, part_of, HaveOneHistory}
+use Rattle.std.proofs.Common.{◌≡◌, refl}
+use Rattle.session_answers.specs.Histories.{status_at}
+use Rattle.session_answers.proofs.Sessions.{one_history}
 use Rattle.session_answers.proofs.plain_exchange.finish.Goals as goal
-
-pub returns-in_default : goal.returns-in_default
-returns-in_default g c =
-    let text : c.failed.result.text ≡ c.args.text.items ++ disagree_line = rw (c.failed.ensures.text, c.in_ok-extend_from_slice.ensures.items) refl in
-    disagree refl text c.failed.ensures.status
 
 pub returns-then-failed : goal.returns-then-failed
 returns-then-failed g c =
-    let one : HaveOneHistory c.args.opening.now (map part_of c.args.seats.items) c.in-Some.book = search rules in
+    let one = one_history _ _ g.L.ExchangeName.opening c.args.seats.items c.in-Ok.field-0 c.in-Ok.ensures (record { unfailed = λ before after. refl; honest = λ port. refl; sure_wires = λ wires transfer. tt }) c.history.ensures.replay c.history.ensures.few in
     let status : c.failed-answer.result.status ≡ status_at c.args.failed = rw c.if-failed.true c.failed-answer.ensures.status in
-    agree c.in-Some.book one refl c.failed-answer.ensures.text status
+    record { book = c.in-Ok.field-0.book; one = one; is_left = refl; prints = c.failed-answer.ensures.text; status = status }
 
 pub returns : goal.returns
 returns g c =
-    let one : HaveOneHistory c.args.opening.now (map part_of c.args.seats.items) c.in-Some.book = search rules in
+    let one = one_history _ _ g.L.ExchangeName.opening c.args.seats.items c.in-Ok.field-0 c.in-Ok.ensures (record { unfailed = λ before after. refl; honest = λ port. refl; sure_wires = λ wires transfer. tt }) c.history.ensures.replay c.history.ensures.few in
     let status : c.done-answer.result.status ≡ status_at c.args.failed = rw c.if-failed.false c.done-answer.ensures.status in
-    agree c.in-Some.book one refl c.done-answer.ensures.text status
+    record { book = c.in-Ok.field-0.book; one = one; is_left = refl; prints = c.done-answer.ensures.text; status = status }

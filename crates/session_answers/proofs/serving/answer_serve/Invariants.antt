@@ -1,4 +1,10 @@
 use Rattle.session_answers.proofs.serving.answer_serve.Given as goal
 
-abbrev pub ghosts-serve_scripts : goal.ghosts-serve_scripts
-ghosts-serve_scripts g a = record { name = a.blank.name; parts = a.blank.parts }
+abbrev pub ghosts-serve_scripts-L-ExchangeName : goal.ghosts-serve_scripts-L-ExchangeName
+ghosts-serve_scripts-L-ExchangeName g a = record { opening = a.rack }
+
+abbrev pub ghosts-serve_scripts-L-Ledger : goal.ghosts-serve_scripts-L-Ledger
+ghosts-serve_scripts-L-Ledger g a = record { name = a.blank.ledger.name; parts = a.blank.ledger.parts }
+
+abbrev pub ghosts-serve_scripts-L-Room : goal.ghosts-serve_scripts-L-Room
+ghosts-serve_scripts-L-Room g a = record { table = a.blank.history }

@@ -1,9 +1,7 @@
 use Rattle.std.proofs.Common.{◌≡◌, map, sym}
-use Rattle.std.proofs.lemmas.Result.{IfOk-weaker}
 use Rattle.session_answers.specs.Frames.{Transcript, sessions_text, has_fault}
-use Rattle.session_answers.specs.Histories.{part_of, IsClosing}
+use Rattle.session_answers.specs.Histories.{part_of}
 use Rattle.session_answers.specs.Hosting.{transcript}
-use Rattle.session_answers.specs.Serving.{AreServed}
 use Rattle.session_answers.proofs.Sessions.{parts_are}
 use Rattle.session_answers.proofs.serving.serve_scripts.Goals as goal
 
@@ -15,6 +13,4 @@ returns g c =
     let framed : c.in_ok-text.text.items ≡ sessions_text sessions = rw c.as_slice.ensures.value at c.in_ok-text.ensures in
     let fails : c.has_fault-failed.result ≡ has_fault sessions = rw c.as_slice-2.ensures.value at c.has_fault-failed.ensures in
     let parts : map (λ (t : Transcript). t.part) sessions ≡ map part_of seats = parts_are ss seats c.in_ok-seats.ensures in
-    IfOk-weaker c.finish.result (λ closing. IsClosing c.in_ok-opening.opening (map part_of seats) c.in_ok-text.text.items c.has_fault-failed.result closing.answer closing.book)
-    (λ closing. AreServed c.args.rack (map (λ s. s.items) c.args.scripts.now) closing.answer closing.book)
-    (λ closing closed. (sessions, rw c.in_ok-exchange.ensures.shape at c.in_ok-sessions.ensures.of_scripts, rw (c.in_ok-opening.ensures, framed, fails, sym parts) at closed)) c.finish.ensures
+    (sessions, rw c.in_ok-exchange.ensures.shape at c.in_ok-sessions.ensures.of_scripts, rw (sym c.requires.named.opening, framed, fails, sym parts) at c.finish.ensures)

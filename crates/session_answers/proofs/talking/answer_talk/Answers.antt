@@ -7,16 +7,16 @@ use Rattle.rack_answers.proofs.Openings.{not_wrong_rack}
 use Rattle.session_answers.proofs.Sessions.{both}
 use Rattle.session_answers.proofs.talking.answer_talk.Goals as goal
 
-pub returns-in-Ok-clause-answer : goal.returns-in-Ok-clause-answer
-returns-in-Ok-clause-answer g c =
+pub returns-in_ok-blank-in-Ok-clause-answer : goal.returns-in_ok-blank-in-Ok-clause-answer
+returns-in_ok-blank-in-Ok-clause-answer g c =
     let t = c.talk.ensures.session in (
       t.0,
       t.1,
       IfOk-weaker c.talk.result _ _ (λ closing is. talked c.in-Ok.rack c.in-Ok.ensures.rack is) t.2,
     )
 
-pub returns-in-Ok-clause-no_session : goal.returns-in-Ok-clause-no_session
-returns-in-Ok-clause-no_session g c refusal wrong = absurd (not_wrong_rack c.args.shape.now (bytes_of c.args.image) c.in-Ok.rack refusal c.in-Ok.ensures.rack wrong)
+pub returns-in_ok-blank-in-Ok-clause-no_session : goal.returns-in_ok-blank-in-Ok-clause-no_session
+returns-in_ok-blank-in-Ok-clause-no_session g c refusal wrong = absurd (not_wrong_rack c.args.shape.now (bytes_of c.args.image) c.in-Ok.rack refusal c.in-Ok.ensures.rack wrong)
 
 pub returns-in-Err-clause-answer : goal.returns-in-Err-clause-answer
 returns-in-Err-clause-answer g c = (

@@ -1,9 +1,6 @@
-use Rattle.std.proofs.Common.{◌≡◌, ◌∙◌, ◌++◌, ◌∷◌, [], is_some, map, sym, subst, rules}
+use Rattle.std.proofs.Common.{◌≡◌, ◌∙◌, ◌++◌, ◌∷◌, [], is_some, sym, subst, rules}
 use Rattle.std.proofs.KnownBytes.{Appends-nil}
-use Rattle.std.proofs.lemmas.Result.{IfOk-weaker}
-use Rattle.session_answers.specs.Histories.{part_of, IsClosing}
 use Rattle.session_answers.specs.Hosting.{AreAllSeats}
-use Rattle.session_answers.specs.Talking.{HasTalked}
 use Rattle.session_answers.proofs.Talks.{alone, all_there, has_talked}
 use Rattle.session_answers.proofs.talking.talk.Goals as goal
 
@@ -19,7 +16,7 @@ finish-requires-clause-seats g c =
 pub returns-clause-session : goal.returns-clause-session
 returns-clause-session g c =
     let x = c.in_ok-exchange.exchange in
-    let opening = c.in_ok-opening.opening in
+    let opening = g.L.ExchangeName.opening in
     let rest = c.pop.new.self.items in
     let back = c.serve_client-seat.result.0 in
     let fault = c.serve_client-seat.result.1 in
@@ -31,14 +28,9 @@ returns-clause-session g c =
     let fails : failed ≡ is_some fault = search rules in (
       s.0,
       s.1,
-      IfOk-weaker c.finish.result (λ closing. IsClosing opening (map part_of c.push.new.self.items) line failed closing.answer closing.book)
-          (λ closing. HasTalked c.args.rack (g.I.Read.remaining c.args.reader.now) (g.I.Read.remaining c.serve_client-seat.new.reader) s.0 closing.answer closing.book)
-          (λ closing closed.
-          has_talked opening c.args.rack x rest c.in-Some.seat back _ _ line s.0 fault failed one c.serve_client-seat.ensures.same c.in_ok-exchange.ensures.shape c.in_ok-opening.ensures (c.in_ok-line.ensures.items ∙ c.end_line.ensures) fails s.2 closing.answer closing.book (rw pushed at closed)) c.finish.ensures,
+      has_talked opening c.args.rack x rest c.in-Some.seat back _ _ line s.0 fault failed one c.serve_client-seat.ensures.same c.in_ok-exchange.ensures.shape (sym c.requires.named.opening) (c.in_ok-line.ensures.items ∙ c.end_line.ensures) fails s.2
+          c.finish.result.answer c.finish.result.book (rw pushed at c.finish.ensures),
     )
-
-pub returns-in_err-opening-clause-session : goal.returns-in_err-opening-clause-session
-returns-in_err-opening-clause-session g c = ([], Appends-nil _, search rules)
 
 pub returns-in_err-exchange-clause-session : goal.returns-in_err-exchange-clause-session
 returns-in_err-exchange-clause-session g c = ([], Appends-nil _, search rules)

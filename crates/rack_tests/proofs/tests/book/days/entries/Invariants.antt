@@ -1,4 +1,10 @@
 use Rattle.rack_tests.proofs.tests.book.days.entries.Given as goal
 
-abbrev pub ghosts-day : goal.ghosts-day
-ghosts-day g a = record { name = a.blank.name; parts = a.blank.parts }
+abbrev pub ghosts-day-L-ExchangeName : goal.ghosts-day-L-ExchangeName
+ghosts-day-L-ExchangeName g a = record { opening = a.rack }
+
+abbrev pub ghosts-day-L-Ledger : goal.ghosts-day-L-Ledger
+ghosts-day-L-Ledger g a = record { name = a.blank.ledger.name; parts = a.blank.ledger.parts }
+
+abbrev pub ghosts-day-L-Room : goal.ghosts-day-L-Room
+ghosts-day-L-Room g a = record { table = a.blank.history }

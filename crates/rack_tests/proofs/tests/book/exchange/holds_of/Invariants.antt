@@ -1,4 +1,10 @@
 use Rattle.rack_tests.proofs.tests.book.exchange.holds_of.Given as goal
 
-abbrev pub ghosts-holds : goal.ghosts-holds
-ghosts-holds g a = record { name = a.blank.name; parts = a.blank.parts }
+abbrev pub ghosts-holds-L-ExchangeName : goal.ghosts-holds-L-ExchangeName
+ghosts-holds-L-ExchangeName g a = record { opening = a.rack }
+
+abbrev pub ghosts-holds-L-Ledger : goal.ghosts-holds-L-Ledger
+ghosts-holds-L-Ledger g a = record { name = a.blank.ledger.name; parts = a.blank.ledger.parts }
+
+abbrev pub ghosts-holds-L-Room : goal.ghosts-holds-L-Room
+ghosts-holds-L-Room g a = record { table = a.blank.history }

@@ -1,4 +1,10 @@
 use Rattle.rack_tests.proofs.tests.book.readings.is_read_of.Given as goal
 
-abbrev pub ghosts-is_read : goal.ghosts-is_read
-ghosts-is_read g a = record { name = a.blank.name; parts = a.blank.parts }
+abbrev pub ghosts-is_read-L-ExchangeName : goal.ghosts-is_read-L-ExchangeName
+ghosts-is_read-L-ExchangeName g a = record { opening = a.rack }
+
+abbrev pub ghosts-is_read-L-Ledger : goal.ghosts-is_read-L-Ledger
+ghosts-is_read-L-Ledger g a = record { name = a.blank.ledger.name; parts = a.blank.ledger.parts }
+
+abbrev pub ghosts-is_read-L-Room : goal.ghosts-is_read-L-Room
+ghosts-is_read-L-Room g a = record { table = a.blank.history }

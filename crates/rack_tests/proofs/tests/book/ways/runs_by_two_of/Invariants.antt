@@ -1,4 +1,10 @@
 use Rattle.rack_tests.proofs.tests.book.ways.runs_by_two_of.Given as goal
 
-abbrev pub ghosts-runs_by_two : goal.ghosts-runs_by_two
-ghosts-runs_by_two g a = record { name = a.blank.name; parts = a.blank.parts }
+abbrev pub ghosts-runs_by_two-L-ExchangeName : goal.ghosts-runs_by_two-L-ExchangeName
+ghosts-runs_by_two-L-ExchangeName g a = record { opening = a.rack }
+
+abbrev pub ghosts-runs_by_two-L-Ledger : goal.ghosts-runs_by_two-L-Ledger
+ghosts-runs_by_two-L-Ledger g a = record { name = a.blank.ledger.name; parts = a.blank.ledger.parts }
+
+abbrev pub ghosts-runs_by_two-L-Room : goal.ghosts-runs_by_two-L-Room
+ghosts-runs_by_two-L-Room g a = record { table = a.blank.history }

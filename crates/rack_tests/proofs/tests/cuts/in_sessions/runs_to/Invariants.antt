@@ -1,4 +1,10 @@
 use Rattle.rack_tests.proofs.tests.cuts.in_sessions.runs_to.Given as goal
 
-abbrev pub ghosts-is_served : goal.ghosts-is_served
-ghosts-is_served g a = record { name = a.blank.name; parts = a.blank.parts }
+abbrev pub ghosts-is_served-L-ExchangeName : goal.ghosts-is_served-L-ExchangeName
+ghosts-is_served-L-ExchangeName g a = record { opening = a.rack }
+
+abbrev pub ghosts-is_served-L-Ledger : goal.ghosts-is_served-L-Ledger
+ghosts-is_served-L-Ledger g a = record { name = a.blank.ledger.name; parts = a.blank.ledger.parts }
+
+abbrev pub ghosts-is_served-L-Room : goal.ghosts-is_served-L-Room
+ghosts-is_served-L-Room g a = record { table = a.blank.history }

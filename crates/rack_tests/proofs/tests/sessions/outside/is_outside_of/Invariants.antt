@@ -1,4 +1,10 @@
 use Rattle.rack_tests.proofs.tests.sessions.outside.is_outside_of.Given as goal
 
-abbrev pub ghosts-is_outside : goal.ghosts-is_outside
-ghosts-is_outside g a = record { name = a.blank.name; parts = a.blank.parts }
+abbrev pub ghosts-is_outside-L-ExchangeName : goal.ghosts-is_outside-L-ExchangeName
+ghosts-is_outside-L-ExchangeName g a = record { opening = a.rack }
+
+abbrev pub ghosts-is_outside-L-Ledger : goal.ghosts-is_outside-L-Ledger
+ghosts-is_outside-L-Ledger g a = record { name = a.blank.ledger.name; parts = a.blank.ledger.parts }
+
+abbrev pub ghosts-is_outside-L-Room : goal.ghosts-is_outside-L-Room
+ghosts-is_outside-L-Room g a = record { table = a.blank.history }

@@ -1,4 +1,10 @@
 use Rattle.rack_tests.proofs.tests.sessions.talks.hear.Given as goal
 
-abbrev pub ghosts-hear_on : goal.ghosts-hear_on
-ghosts-hear_on g a = record { name = a.blank.name; parts = a.blank.parts }
+abbrev pub ghosts-hear_on-L-ExchangeName : goal.ghosts-hear_on-L-ExchangeName
+ghosts-hear_on-L-ExchangeName g a = record { opening = a.rack }
+
+abbrev pub ghosts-hear_on-L-Ledger : goal.ghosts-hear_on-L-Ledger
+ghosts-hear_on-L-Ledger g a = record { name = a.blank.ledger.name; parts = a.blank.ledger.parts }
+
+abbrev pub ghosts-hear_on-L-Room : goal.ghosts-hear_on-L-Room
+ghosts-hear_on-L-Room g a = record { table = a.blank.history }

@@ -1,5 +1,0 @@
-use Rattle.std.proofs.Common.{rules}
-use Rattle.batch_book.proofs.seat.Seat.log.Goals as goal
-
-pub returns : goal.returns
-returns g c = search rules
