@@ -8,10 +8,10 @@
 //!
 //! `IsServeAnswer`, `IsTalkAnswer` and `IsHostAnswer` (`specs/Serving.antt`, `specs/Talking.antt`,
 //! `specs/HostAnswers.antt`) say this: each session is one that its client's bytes may have, as far
-//! as these are known (`IsServedSession`), and the entries of all are one legal history, that of
-//! the book (`HaveOneHistory` of `specs/Histories.antt`). No run of it stopped, and no session saw
-//! the runs come further than it tells. The files of a client are opened only for who shows that
-//! each client has a thread ([`AllThere`]).
+//! as these are known (`IsServedSession`), unless its files couldn't be opened, and the entries of
+//! all are one legal history, that of the book (`HaveOneHistory` of `specs/Histories.antt`). No run
+//! of it stopped, and no session saw the runs come further than it tells. The files of a client are
+//! opened only for who shows that each client has a thread ([`AllThere`]).
 #![tactic(auto)]
 
 mod all_there;
