@@ -11,8 +11,9 @@ A block that begins with ```file NAME isn't run: it is a file of that name for t
 Each command's help begins with the line `Example:`, and the next line is one. It is run too, and has to end well. So is each command in the last column of a table
 whose last column is headed `For example`.
 
-Each link of a document has to lead to a file or folder of the repository, and where it names a heading there, to one. Lines of more than
-100 columns are told, which is no fault; those of tables and of shown texts aren't.
+Each link of a document has to lead to a file or folder of the repository, and where it names a heading there, to one. What a link to source
+code shows, as [`split`](../crates/euler_split/src/halving.rt#L40), has to stand there: a function or a type in that line, where it names
+one. Lines of more than 100 columns are told, which is no fault; those of tables and of shown texts aren't.
 
 A program that isn't built, or is older than its sources, is proved and built first. Another one is tried where EXCHANGE names it:
 EXCHANGE=other/exchange tools/texts/run.py
@@ -36,6 +37,10 @@ HELPED = ("", "plan", "check", "draw", "switch", "direct", "apply", "run", "serv
 
 # Any lines, within what a command prints.
 ANY = "..."
+
+# The part of a link that names a line of source code, and what stands there before a name that is declared.
+SOURCE_LINE = re.compile(r"L[0-9]+")
+DECLARED = r"\b(?:fn|struct|enum|trait) "
 
 # Columns that a line of a document should have at most.
 COLUMNS = 100
@@ -87,16 +92,30 @@ def leads(name, target):
     file = os.path.normpath(os.path.join(os.path.dirname(name), path)) if path else name
     if file.startswith("..") or not os.path.exists(f"{TOP}/{file}"):
         return False
-    return not head or file.endswith(".md") and head in headings(file)
+    return not head or (head in headings(file) if file.endswith(".md") else bool(SOURCE_LINE.fullmatch(head)))
+
+
+def places(name, shown, target):
+    """The lines in which the name that a link to source code shows stands in that file: of code those in which it is declared."""
+    with open(f"{TOP}/{os.path.dirname(name)}/{target.partition('#')[0]}", encoding="utf-8") as source:
+        lines = source.read().splitlines()
+    word = rf"{DECLARED if '.rt' in target else ''}\b{shown.split('::')[-1]}\b"
+    return [number for number, line in enumerate(lines, 1) if re.search(word, line)]
 
 
 def try_links(name):
     """Tries the links of a document within the repository: how many there are, and how many lead nowhere."""
-    text = re.sub(r"`[^`]*`", "", "\n".join(line for _, line in parts(name)[1]))
-    links = [link for link in re.findall(r"\]\(([^)\s]+)\)", text) if "://" not in link]
-    wrong = [link for link in links if not leads(name, link)]
-    for link in wrong:
-        print(f"{name}: a link leads nowhere: {link}")
+    text = "\n".join(line for _, line in parts(name)[1])
+    links = [link for link in re.findall(r"\]\(([^)\s]+)\)", re.sub(r"`[^`]*`", "", text)) if "://" not in link]
+    sources = re.findall(r"\[`([^`]*)`\]\(([^)\s]+\.(?:rt|antt)(?:#\w+)?)\)", text)
+    named = [link for _, link in sources]
+    wrong = [f"a link leads nowhere: {link}" for link in links if not leads(name, link) or "#L" in link and link not in named]
+    for shown, link in ((shown, link) for shown, link in sources if leads(name, link)):
+        found, line = places(name, shown, link), link.partition("#L")[2]
+        if not found or line and int(line) not in found:
+            wrong.append(f"{shown} isn't where {link} leads; it is in the lines {found}")
+    for fault in wrong:
+        print(f"{name}: {fault}")
     return len(links), len(wrong)
 
 

@@ -1,8 +1,16 @@
 //! Batches of block transfers in a rack of modules, and their text.
 //!
 //! The bottom of the controller: the shape of a rack, the places of its blocks, transfers between
-//! them, and the batches that a user writes into a file. [`Batch::read`] reads such a text, or says
-//! what is first wrong with it.
+//! them, and the batches that a user writes into a file.
+//!
+//! A [`Batch`] has at most 4096 transfers, all between blocks of the widest shape (`IsBatch`).
+//! [`Batch::read`] gives the batch that a text denotes (`Denotes` of `specs/Text.antt`), or the
+//! text's first fault (`IsFirstFault` of `specs/Faults.antt`). A text has one of each at most, and
+//! never both (`laws::one_reading`). Lack of memory comes only where a good line of a transfer
+//! stands (`NeedsMemory`). [`Batch::write`] gives the one text of a batch. [`Shape::new`] and
+//! [`Shape::read`] take just the shapes within the limits. [`Batch::first_overlap`] finds the first
+//! two transfers that write one block, and none exactly where no two do (`specs/Overlap.antt`).
+//! [`Batch::held_sources`] gives each block once that is both read and written (`specs/Held.antt`).
 #![tactic(auto)]
 
 mod batch;

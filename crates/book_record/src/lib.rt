@@ -1,5 +1,11 @@
 //! The text of a book's history: an entry for each call, with the session's number, the call in the
 //! words of a session's line, and its reply line. Plans aren't told.
+//!
+//! [`write_record`] gives `record_text` of `specs/RecordText.antt`. [`read_head`] and
+//! [`read_entry`] read what a text begins with, exactly where it begins so. Two legal histories of
+//! one text, from one opening store, differ in plans alone, and lead to the same words. With other
+//! shortest plans of the same batches a history in which no run stopped is legal too, and has the
+//! same text (`laws::one_record`).
 #![tactic(auto)]
 
 pub mod laws;

@@ -2,9 +2,15 @@
 //!
 //! [`serve`] reads the commands of one client and answers them from one seat of an exchange.
 //! Contracts see a session as a relation between the bytes that were read, the entries that are new
-//! in the seat's list, the progress that the seat has seen, and the bytes that were written. A
-//! [`Listener`] hears beside them what was said, and what of it is refused; contracts see what it
-//! tells.
+//! in the seat's list, the progress that the seat has seen, and the bytes that were written
+//! (`HasEnded` of `specs/Sessions.antt`). A line means one command at most (`laws::one_meaning`).
+//! Each command did what the table of commands says (`DoesCommand` of `specs/Turns.antt`), and what
+//! was written are their reply lines, in order. No reading of the progress is behind an earlier one
+//! (`AreReadings`). Where a fault ends the session, the commands before it were served. A reader
+//! that counts is asked at most a million times (`AsksWithinLimit` of `specs/Asking.antt`).
+//!
+//! A [`Listener`] hears beside them what was said, and what of it is refused. What it tells is told
+//! of refusals (`TellsOfRefusals` of `specs/Listening.antt`); which ones no contract says.
 #![tactic(auto)]
 
 mod answering;

@@ -2,7 +2,10 @@
 //! last line that is printed and its status.
 //!
 //! The ways to the switches, and whoever is told that a setting stands, are the caller's: [`Ports`]
-//! and [`Stage`](switch_driver::Stage).
+//! and [`Stage`](switch_driver::Stage). The settings were driven over a port that was opened for
+//! them, once, and the last line says how that ended. Or it is a refusal: then no port was opened,
+//! and nothing was told (`IsDriveAnswer` of `specs/Answers.antt`; `HasFailed` where there is no
+//! answer).
 #![tactic(auto)]
 
 mod driving;

@@ -5,6 +5,11 @@
 //! [`Answer`]: what was asked for, or the line of the refusal of what is first wrong. It reads no
 //! file and prints nothing. Only [`answer_plan`] starts threads. [`ScheduleTexts`] are for answers
 //! that are made elsewhere.
+//!
+//! What the answers are is said by `IsPlanned`, `IsSteadilyPlanned` and `IsChecked` of
+//! `specs/Answers.antt`, `IsDrawn` of `specs/Drawings.antt` and `IsDirected` of
+//! `specs/Directing.antt`. Of `check` and `draw` there is one answer at most.
+//! `laws::planned_then_checked` and `laws::directed_then_planned` put two of them together.
 #![tactic(auto)]
 
 mod answer;

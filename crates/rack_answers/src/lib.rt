@@ -6,6 +6,10 @@
 //! [`Answer`](plan_answers::Answer): what was asked for, or the line of the refusal of what is
 //! first wrong. It reads no file and prints nothing. Only those that are given workers start
 //! threads, and need a handle.
+//!
+//! What the answers are is said by `IsRunAnswer` of `specs/Answers.antt`, and by `IsSwitched`,
+//! `IsSwitchedSteadily` and `IsSwitchedAs` of `specs/Switching.antt`. There is one answer at most
+//! of `run`, of `apply`, and of `switch` by a schedule on the usual wiring.
 #![tactic(auto)]
 
 mod applying;

@@ -2,6 +2,13 @@
 //!
 //! [`second_line`] is the one call for a command that was refused, [`session_line`] for a line of a
 //! session. They are handed the refusal itself and the texts that it is of, and change no answer.
+//! What they give begins with `exchange: ` and ends with a line feed, and they give nothing for
+//! lack of memory. No contract says which words stand there.
+//!
+//! The contracts of their parts say some of it. A note has the number and the beginning of the line
+//! that the refusal means, and what is wanted there (`IsLineTold` of `specs/Told.antt`). A number
+//! that is told as too great stands there, and isn't below the limit that is told with it
+//! (`IsNoteAbove` of `specs/Notes.antt`).
 #![tactic(auto)]
 
 mod limit;

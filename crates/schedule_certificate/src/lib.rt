@@ -1,4 +1,15 @@
 //! Schedules of batches: shortest ones with their certificates, and first fit.
+//!
+//! [`schedule`] and [`schedule_alone`] give a plan of the batch that was handed in, whatever the
+//! number of workers (`IsPlan` of `specs/Plans.antt`). Its schedule is shortest, as its certificate
+//! shows, which names the busiest link with all its transfers. No setting is empty, numbers ascend
+//! in each, and settings are ordered by their least numbers. At most three quarters of the
+//! transfers are put in one by one, and none where the busiest link's uses are 0 or a power of two
+//! (`AreFew` of `specs/Reinsertions.antt`). The type [`Planned`] keeps all this.
+//!
+//! [`first_fit`] gives a schedule that may be longer than needed: each transfer stands in the first
+//! setting in which no smaller number uses one of its links (`IsFirstFit` of
+//! `specs/FirstFit.antt`).
 #![tactic(auto)]
 
 mod alone;

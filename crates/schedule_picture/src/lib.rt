@@ -4,6 +4,14 @@
 //! row's upper half shows the transfer that link 0 of the module starts in that setting, and its
 //! lower half the one that link 3 answers. A cell has the number and the colour of the module at
 //! the transfer's other side.
+//!
+//! [`draw`] gives one text, `picture_of` of `specs/Picture.antt`. No cell lies over another
+//! (`laws::nothing_overlaps`), and each stands whole in its column and its half of a row
+//! (`laws::all_is_in_view`). [`verdict_on`] tells of a schedule of the batch how many transfers the
+//! busiest link has, how the certificate stands, how often the switch changes, and the most
+//! partners of a link (`IsVerdict` of `specs/Verdicts.antt`); of what is no schedule, the first
+//! fault of its settings. No schedule has fewer settings than there are such transfers
+//! (`laws::tells_fewest`), or fewer changes than such partners (`laws::tells_needed_changes`).
 #![tactic(auto)]
 
 mod cells;

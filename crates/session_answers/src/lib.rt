@@ -5,6 +5,13 @@
 //! [`Answer`](plan_answers::Answer): what is printed behind the sessions, or the line of the
 //! refusal of what is first wrong. Beside it stands the book that the sessions leave, whose history
 //! explains what each was told, and whose rack has the words to which that leads.
+//!
+//! `IsServeAnswer`, `IsTalkAnswer` and `IsHostAnswer` (`specs/Serving.antt`, `specs/Talking.antt`,
+//! `specs/HostAnswers.antt`) say this: each session is one that its client's bytes may have, as far
+//! as these are known (`IsServedSession`), unless its files couldn't be opened, and the entries of
+//! all are one legal history, that of the book (`HaveOneHistory` of `specs/Histories.antt`). No run
+//! of it stopped, and no session saw the runs come further than it tells. The files of a client are
+//! opened only for who shows that each client has a thread ([`AllThere`]).
 #![tactic(auto)]
 
 mod all_there;

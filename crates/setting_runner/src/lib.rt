@@ -1,5 +1,11 @@
 //! A run of a planned batch: the switches are set, setting by setting, and the blocks are moved
 //! over the links.
+//!
+//! [`run`] and [`run_alone`] end in one of three ways (`LeavesMemories` of `specs/Runs.antt`). A
+//! completed run has placed the blocks of all transfers. A stopped one names a setting and a cause,
+//! and its store is that of the words that each transfer moved. A refused one has changed nothing.
+//! What is left of port, wires and switches is `LeavesPlant` of `specs/Plants.antt`, and what the
+//! notice is told `TellsOutcome`.
 #![tactic(auto)]
 
 mod alone;

@@ -1,6 +1,19 @@
 //! What a setting of a batch's schedule is to the switches of a rack: the pairs of modules that its
 //! transfers want joined, the bytes that set the switches to them, and the conversation in which
 //! they are set and asked whether they stand so.
+//!
+//! [`PairList::of_setting`] gives the pairs by ascending initiators. [`bytes_for`] writes what a
+//! switch is sent, `turning` of `specs/Sending.antt`: a setting where no pairs are known to stand,
+//! else the change from these. It turns the switch into that of the new pairs. Behind what any
+//! switch is sent for the first settings of a schedule, it is that of the last of them
+//! (`laws::settings_turn`). Of what a board's switch is sent so, no command behind the first is a
+//! reset or names a link that no module is on (`laws::others_are_left`).
+//!
+//! Where [`configure_switches`] or [`configure_rack`] ends well, an honest port's switches are
+//! those of the pairs. Over a port that tells what passes, the bytes went whole, outputs 0 to 31
+//! were asked in order, and each replied as the setting calls for (`HaveReplied` of
+//! `specs/Asking.antt`). Where it ends otherwise, the port failed, or the output that is named is
+//! the first whose reply is another.
 #![tactic(auto)]
 
 mod bytes;
