@@ -1,11 +1,11 @@
 //! The arguments of the command line: the jobs that they name, and the texts of help.
 //!
 //! What [`read_arguments`] gives is what clap's matches of the words hold, and the program's
-//! grammar takes these words (`AskFor` of `specs/Jobs.antt`). The job may be done (`MayBeDone`):
-//! one of its files at most is standard input, what it writes goes to no file that it reads, to
-//! none of a client's and not to one file, and clients have different names. An error of clap is of
-//! a kind that the grammar finds at fault in the words; or the words fit, and ask for nothing that
-//! may be done (`IsFaultIn`). Lack of memory is told as such. What help says no contract tells.
+//! grammar takes these words (`AskFor` of `specs/Jobs.antt`). The job may be done (`MayBeDone`).
+//! One of its files at most is standard input. What it writes goes to different files, none of
+//! which it reads or a client has. Its clients have different names. An error of clap is of a kind
+//! that the grammar finds at fault in the words; or the words fit, and ask for nothing that may be
+//! done (`IsFaultIn`). Lack of memory is told as such. What help says no contract tells.
 #![tactic(auto)]
 
 mod clients;
