@@ -9,11 +9,11 @@ use Rattle.batch_book.specs.declared.told_call.ToldCall.{ToldCall}
 use Rattle.batch_book.specs.declared.told_call.ToldCall.TheVariants as told_call
 
 -- a call without its plan
-abbrev pub Told : Type 0
-Told = ToldCall (List Transfer)
+abbrev pub PlanlessCall : Type 0
+PlanlessCall = ToldCall (List Transfer)
 
 -- what the history tells of a call
-abbrev pub told : Call → Told
+abbrev pub told : Call → PlanlessCall
 told (Submit batch) = told_call.Submit batch
 told (Fetch id) = told_call.Fetch id
 told (Settle id plan) = told_call.Settle id

@@ -6,7 +6,7 @@ use Rattle.batch.specs.Text.{IsNumber, number, space, line_feed}
 use Rattle.batch.proofs.Lines.{one_number, ends_line}
 use Rattle.line_words.specs.HexWords.{IsWord, hex8}
 use Rattle.line_words.proofs.Numbers.{space_ends, one_hex8, hex8_in_front}
-use Rattle.batch_book.specs.Told.{Told}
+use Rattle.batch_book.specs.Told.{PlanlessCall}
 use Rattle.batch_book.specs.declared.told_call.ToldCall.TheVariants.{Submit, Fetch, Settle, Run, Show, Discard, Peek, Poke}
 use Rattle.book_record.specs.RecordText.{call_text, CanSay}
 use Rattle.book_record.proofs.BatchTexts.{one_batch_front}
@@ -59,7 +59,7 @@ one_poke m n a b v w x y can can_too same =
     (ap (λ (k : ℕ). Poke k a v) first.0 ∙ ap (λ (k : ℕ). Poke n k v) second.0 ∙ ap (Poke n b) third.0, third.1)
 
 -- a call's lines, and what stands behind them
-pub one_call : (a b : Told) (x y : List ℕ) → CanSay a → CanSay b → call_text a ++ x ≡ call_text b ++ y → (a ≡ b) × (x ≡ y)
+pub one_call : (a b : PlanlessCall) (x y : List ℕ) → CanSay a → CanSay b → call_text a ++ x ≡ call_text b ++ y → (a ≡ b) × (x ≡ y)
 one_call (Submit c) (Submit d) x y p q same =
     let one = one_batch_front c d x y p q same in
     (ap Submit one.0, one.1)

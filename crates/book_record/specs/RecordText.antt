@@ -11,7 +11,7 @@ use Rattle.batch_book.specs.declared.limits.TheConstants.{MAX_ENTRIES}
 use Rattle.batch_book.specs.declared.entry.Entry.{Entry}
 use Rattle.batch_book.specs.declared.told_call.ToldCall.{ToldCall}
 use Rattle.batch_book.specs.declared.told_call.ToldCall.TheVariants as told_call
-use Rattle.batch_book.specs.Told.{Told, told}
+use Rattle.batch_book.specs.Told.{PlanlessCall, told}
 use Rattle.batch_book.specs.declared.refusal.BookRefusal.TheVariants.{Stranger}
 use Rattle.batch_book.specs.declared.reply.Reply.{Reply}
 use Rattle.batch_book.specs.declared.reply.Reply.TheVariants.{Fetched, Refused}
@@ -33,7 +33,7 @@ id_of (told_call.Discard id) = id
 id_of call = 0
 
 -- the lines of a call: a batch text, or the line of the session's command; `plan ID` is two calls
-abbrev pub call_text : Told → List ℕ
+abbrev pub call_text : PlanlessCall → List ℕ
 call_text (told_call.Submit batch) = batch_text batch
 call_text (told_call.Fetch id) = with_feed (codes "fetch " ++ decimal id)
 call_text (told_call.Settle id) = with_feed (codes "settle " ++ decimal id)
@@ -71,7 +71,7 @@ CanBePut reply = CanBeTold reply
 -- ---- what a record can tell
 
 -- its numbers are such as a line can hold
-abbrev pub CanSay : Told → Type 0
+abbrev pub CanSay : PlanlessCall → Type 0
 CanSay (told_call.Submit batch) = IsBatch batch
 CanSay (told_call.Fetch id) = IsNumber id
 CanSay (told_call.Settle id) = IsNumber id
