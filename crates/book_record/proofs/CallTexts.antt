@@ -43,14 +43,14 @@ at_index i x y e = ap (λ (l : List ℕ). get_or l i 0) e
 one_named : (w : List ℕ) (m n : ℕ) (x y : List ℕ) → IsNumber m → IsNumber n → ((w ++ decimal m) ++ line_feed ∷ []) ++ x ≡ ((w ++ decimal n) ++ line_feed ∷ []) ++ y → (m ≡ n) × (x ≡ y)
 one_named w m n x y fm fn same = one_ending w m n x y fm fn (sym (named_form w m x) ∙ same ∙ named_form w n y)
 
-one_peek : (m n a b : ℕ) (x y : List ℕ) → CanSay (Peek m a) → CanSay (Peek n b) → call_text (Peek m a) ++ x ≡ call_text (Peek n b) ++ y → (Peek m a ≡ Peek n b) × (x ≡ y)
+one_peek : (m n a b : ℕ) (x y : List ℕ) → CanSay (Peek m a) → CanSay (Peek n b) → call_text (Peek m a) ++ x ≡ call_text (Peek n b) ++ y → (◌≡◌ {A = PlanlessCall} (Peek m a) (Peek n b)) × (x ≡ y)
 one_peek m n a b x y can can_too same =
     let first = one_behind (codes "peek ") m n _ _ can.0 can_too.0
     (sym (peek_form (codes "peek ") (number m space) (hex8 a) x) ∙ same ∙ peek_form (codes "peek ") (number n space) (hex8 b) y) in
     let second = one_hex_front a b line_feed x y can.1 can_too.1 first.1 in
     (ap (λ (v : ℕ). Peek v a) first.0 ∙ ap (Peek n) second.0, second.1)
 
-one_poke : (m n a b v w : ℕ) (x y : List ℕ) → CanSay (Poke m a v) → CanSay (Poke n b w) → call_text (Poke m a v) ++ x ≡ call_text (Poke n b w) ++ y → (Poke m a v ≡ Poke n b w) × (x ≡ y)
+one_poke : (m n a b v w : ℕ) (x y : List ℕ) → CanSay (Poke m a v) → CanSay (Poke n b w) → call_text (Poke m a v) ++ x ≡ call_text (Poke n b w) ++ y → (◌≡◌ {A = PlanlessCall} (Poke m a v) (Poke n b w)) × (x ≡ y)
 one_poke m n a b v w x y can can_too same =
     let first = one_behind (codes "poke ") m n _ _ can.0 can_too.0
     (sym (poke_form (codes "poke ") (number m space) (hex8 a) (hex8 v) x) ∙ same ∙ poke_form (codes "poke ") (number n space) (hex8 b) (hex8 w) y) in
