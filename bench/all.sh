@@ -14,7 +14,7 @@ done
 work=$(mktemp -d)
 trap 'rm -rf "$work"' EXIT
 
-for bench in planning/run directions/run run/apply run/growth session/lines; do
+for bench in planning/run directions/run run/apply run/growth run/overlap session/lines; do
     echo "$bench.sh .."
     if ! "$here/$bench.sh" >"$work/printed"; then
         cat "$work/printed"

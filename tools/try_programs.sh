@@ -16,5 +16,6 @@ tools/ends/run.sh
 bench/planning/run.sh --check
 bench/run/growth.sh --check
 bench/run/apply.sh --check
+bench/run/overlap.sh --check
 bench/session/lines.sh --check
 tools/hostile/run.sh

@@ -77,6 +77,7 @@ def moved_image():
 MADE = {
     "thousand": lambda: pushes((t % 16, 0, (7 * t + t // 16) % 16, 0) for t in range(1000)),
     "largest": lambda: equal_transfers(4096),
+    "last-block-often": lambda: pushes((0, 0, min(t, 2047) // 64, min(t, 2047) % 64) for t in range(4096)),
     "thirty-three": lambda: equal_transfers(33),
     "sixty-four": lambda: equal_transfers(64),
     "each-to-each": lambda: pushes((m, b, (m + way) % 4, b) for way in (1, 2, 3) for b in (0, 1) for m in range(4)),

@@ -43,9 +43,7 @@ use switch_settings::PairList;
 ///
 /// Where a thread can't be had, the worker that wanted it does the work itself. After the notice
 /// has been told 0 the run takes no memory, a thread's start apart. Takes time that grows with the
-/// words moved, with the number of transfers and with that of the blocks; only where two transfers
-/// write one block may the search for the first such pair take time that grows with the square of
-/// the number of transfers.
+/// words moved, with the number of transfers and with that of the blocks.
 pub fn run<R: Threads + Sync, P: ConfigPort, W: WireMaker + Sync, G: Gate + Sync, N: Notice>(
     rt: &R,
     alloc: Global,
