@@ -4,6 +4,7 @@
 //! session. They are handed the refusal itself and the texts that it is of, and change no answer.
 #![tactic(auto)]
 
+mod differences;
 mod limit;
 mod lines;
 mod listed;
