@@ -1,7 +1,8 @@
 //! The first thing by which a line differs from the form that is wanted.
 
-use crate::lines::{line_at, number_at};
+use crate::lines::line_at;
 use crate::listed::Listing;
+use crate::pairs::taken;
 use crate::quote::Quote;
 use crate::wanted::Wanted;
 use batch::{MAX_DIGITS, number_from_digits};
@@ -95,26 +96,6 @@ fn last_stop<'a>(line: &'a [u8], forms: &str) -> Option<(u8, &'a [u8])> {
     last
 }
 
-/// The first link of the switch in a module's line that stands above it or before it, and the
-/// number of the line in which it does.
-fn taken<'a>(wiring: &[u8], number: usize) -> Option<Difference<'a>> {
-    let line = line_at(wiring, number);
-    let (one, other) = (number_at(line, 5)?, number_at(line, 9)?);
-    for port in [one, other] {
-        for above in 2..number {
-            let line = line_at(wiring, above);
-            if number_at(line, 5) == Some(port) || number_at(line, 9) == Some(port) {
-                return Some(Difference::Taken(port, above));
-            }
-        }
-    }
-    if one == other {
-        Some(Difference::Taken(one, number))
-    } else {
-        None
-    }
-}
-
 impl<'a> Difference<'a> {
     /// The first by which the line of this number differs from what is wanted there: none where it
     /// has the form, or none is told of.
@@ -128,7 +109,10 @@ impl<'a> Difference<'a> {
                 let before = line.len().saturating_sub(rest.len());
                 Some(Difference::Stops(before.saturating_add(1), piece, rest))
             }
-            (None, Wanted::Entry(Listing::Modules)) => taken(text, number),
+            (None, Wanted::Entry(Listing::Modules)) => {
+                let (port, above) = taken(text, number)?;
+                Some(Difference::Taken(port, above))
+            }
             (None, _) => None,
         }
     }

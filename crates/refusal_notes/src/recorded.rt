@@ -1,6 +1,6 @@
 //! The line in which a record is wrong.
 
-ghost use Rattle.std.specs.Prelude.{◌≡◌, take};
+ghost use Rattle.std.specs.Prelude.{◌≡◌};
 ghost use Rattle.refusal_notes.specs.Lines.{line_behind as the_number};
 ghost use Rattle.refusal_notes.specs.Told.{IsRecordTold};
 
@@ -11,22 +11,11 @@ use batch::{Batch, BatchFault, Shape, number_before};
 use refusals::Refusal;
 use std::alloc::Global;
 
-/// So many bytes of a text, or all of it where it hasn't as many.
-fn front(text: &[u8], bytes: usize) -> &[u8]
-    ensures { result.now ≡ take bytes text.now }
-{
-    if bytes < text.len() {
-        &text[..bytes]
-    } else {
-        text
-    }
-}
-
 /// The number of the line before which so many bytes stand, counted from 1.
 fn line_behind(text: &[u8], bytes: usize) -> usize
     ensures { result ≡ the_number text.now bytes }
 {
-    front(text, bytes).split(|b| *b == b'\n').count()
+    text[..bytes.min(text.len())].split(|b| *b == b'\n').count()
 }
 
 /// What is told of the line in which a record is wrong, where this is wanted.
