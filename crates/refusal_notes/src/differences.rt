@@ -1,5 +1,8 @@
 //! The first thing by which a line differs from the form that is wanted.
 
+ghost use Rattle.std.specs.Prelude.{IfSome};
+ghost use Rattle.refusal_notes.specs.Differences.{IsDifferenceOf};
+
 use crate::lines::line_at;
 use crate::listed::Listing;
 use crate::pairs::taken;
@@ -99,7 +102,9 @@ fn last_stop<'a>(line: &'a [u8], forms: &str) -> Option<(u8, &'a [u8])> {
 impl<'a> Difference<'a> {
     /// The first by which the line of this number differs from what is wanted there: none where it
     /// has the form, or none is told of.
-    pub(crate) fn of(text: &'a [u8], number: usize, wanted: Wanted<'_>) -> Option<Difference<'a>> {
+    pub(crate) fn of(text: &'a [u8], number: usize, wanted: Wanted<'_>) -> Option<Difference<'a>>
+        ensures { IfSome result (IsDifferenceOf text.entry.now number) }
+    {
         let line = line_at(text, number);
         match (last_stop(line, wanted.form()?), wanted) {
             (Some(_), Wanted::Head(Listing::Transfers)) if line.starts_with(b"moves ") => {
@@ -107,7 +112,7 @@ impl<'a> Difference<'a> {
             }
             (Some((piece, rest)), _) => {
                 let before = line.len().saturating_sub(rest.len());
-                Some(Difference::Stops(before.saturating_add(1), piece, rest))
+                Some(Difference::Stops(before + 1, piece, &line[before..]))
             }
             (None, Wanted::Entry(Listing::Modules)) => {
                 let (port, above) = taken(text, number)?;
