@@ -14,18 +14,35 @@ ESCAPES = {'"': '\\"', "\\": "\\\\", "\t": "\\t", "\r": "\\r"}
 # Other characters that are escaped: they control a terminal, have no width, turn the direction of a text or break its lines.
 OBEYED = {*range(32), *range(0x7F, 0xA0), 0x61C, *range(0x200B, 0x2010), *range(0x2028, 0x202F), *range(0x2060, 0x2070), 0xFEFF}
 RULES = "small letters, single spaces, numbers of at most nine digits and no leading zero"
-# Of each kind of text what an entry is, how its line begins, and what is wanted in line 1, in the line of an entry, and in those behind the last.
+# Of each kind of text what an entry is, how its line begins, and of line 1, of the line of an entry, and of those behind the last: the form,
+# in which N is a number and * are any more of them, and what is told to be wanted.
 KINDS = {
-    "batch": ("transfer", rb"(push|pull) ", ['"batch N", where N counts the transfers', '"push I b R c" or "pull I b R c"']),
-    "moves": ("move", rb"move ", ['"moves N", where N counts the moves', '"move M b N c"']),
+    "batch": ("transfer", rb"(push|pull) ", [
+        ("batch N", '"batch N", where N counts the transfers'), ("push N N N N", '"push I b R c" or "pull I b R c"'),
+    ]),
+    "moves": ("move", rb"move ", [("moves N", '"moves N", where N counts the moves'), ("move N N N N", '"move M b N c"')]),
     "schedule": ("setting", rb"setting( |$)", [
-        '"settings S", where S counts the settings', '"setting T U ..", where T, U .. are transfers, or "setting" alone',
-        '"busiest link E module M", where E is 0 or 3 and M 0 to 31, or "busiest none"', '"named T U ..", where T, U .. are transfers, one at least',
+        ("settings N", '"settings S", where S counts the settings'),
+        ("setting*", '"setting T U ..", where T, U .. are transfers, or "setting" alone'),
+        ("busiest link N module N", '"busiest link E module M", where E is 0 or 3 and M 0 to 31, or "busiest none"'),
+        ("named N*", '"named T U ..", where T, U .. are transfers, one at least'),
     ]),
     "wiring": ("module", rb"module ", [
-        '"wiring N", where N counts the modules, 1 to 16',
-        '"module M link 0 at A link 3 at B", where M counts up from 0, and A and B are 0 to 31 and stand nowhere else',
+        ("wiring N", '"wiring N", where N counts the modules, 1 to 16'),
+        ("module N link 0 at N link 3 at N",
+         '"module M link 0 at A link 3 at B", where M counts up from 0, and A and B are 0 to 31 and stand nowhere else'),
     ]),
+}  # fmt: skip
+# What a line that begins so has to go on with, in the place of another form.
+OTHERS = {"push N N N N": (b"pul", "pull N N N N"), "busiest link N module N": (b"busiest n", "busiest none")}
+# What stands somewhere, by how it begins; another byte is quoted.
+STANDS = {
+    b"\t": "a tab", b"\r": "a carriage return", b" ": "a space", b"#": "a comment", b"\xef\xbb\xbf": "a byte order mark",
+}  # fmt: skip
+# What is told of two lines that sessions haven't.
+UNHEARD = {
+    b"help": 'isn\'t a line of a session; "exchange talk --help" tells them',
+    b"quit": 'isn\'t a line of a session; "bye" ends it',
 }  # fmt: skip
 # What is told of a line of a session, and of a word, behind its quote.
 QUOTES = {
@@ -80,22 +97,86 @@ def announced(text):
     return int(found[1]) if found else 0
 
 
+def stop_of(line, form):
+    """Where a line stops being of a form, and what is wrong there; None where it is of the form."""
+    at, pieces = 0, list(form)
+    while pieces:
+        piece, *pieces = pieces
+        if piece == "*":
+            pieces = [" ", "N", "*"] if at < len(line) else []
+        elif piece == "N":
+            digits = re.match(rb"[0-9]*", line[at:])[0]
+            if len(digits) > 1 and digits.startswith(b"0"):
+                return at, "a number has a leading zero"
+            if len(digits) > 9:
+                return at, "a number has more than nine digits"
+            if not digits:
+                return at, "a number"
+            at += len(digits)
+        elif line[at : at + 1] != piece.encode():
+            return at, "a space" if piece == " " else quoted(piece.encode())
+        else:
+            at += 1
+    return (at, "the line's end") if at < len(line) else None
+
+
+def difference(line, form):
+    """The first thing by which a line differs from a form, as it is told; None where it is of the form."""
+    begins, other = OTHERS.get(form, (b"", form))
+    stop = stop_of(line, other if line.startswith(begins) else form)
+    if stop is None:
+        return None
+    if not line:
+        return "the line is empty"
+    if form == "batch N" and line.startswith(b"moves "):
+        return 'a text of moves begins so, and "direct" makes a batch of it'
+    (at, wrong), rest = stop, line[stop[0] :]
+    if rest == b"\r":
+        wrong = "a carriage return stands before the line's end"
+    elif not wrong.startswith("a number has"):
+        stands = next((name for front, name in STANDS.items() if rest.startswith(front)), quoted(rest[:1]) if rest else "the line's end")
+        wrong = f"{stands} stands where {wrong} has to"
+    return f"at byte {at + 1} {wrong}"
+
+
+def taken(text, number):
+    """Of a module's line in a wiring, the link of the switch that stands there before, as it is told; None where none does."""
+    lines = [re.findall(rb" at (\d+)", line) for line in text.split(b"\n")[:number]]
+    if len(lines[-1]) != 2:
+        return None
+    one, other = lines[-1]
+    for port in (one, other):
+        above = next((k for k, ports in enumerate(lines[:-1], 1) if port in ports), None)
+        if above:
+            return f"link {port.decode()} of the switch stands on line {above} already"
+    return f"link {one.decode()} of the switch stands on line {number} already" if one == other else None
+
+
+def of_form(text, number, form, wanted, differs=None):
+    """What is told of a line: the first thing that it hasn't of a form, if it has to be of one, or else what is told to differ; and what is
+    wanted there."""
+    line, is_ended = line_of(text, number), text.count(b"\n") >= number
+    if not line and not is_ended:
+        return f"the text {'is empty' if number == 1 else 'ends above this line'}; wanted is {wanted}"
+    differs = form and difference(line, form) or differs
+    if differs:
+        return f"{quoted(line)}: {differs}; wanted is {wanted}"
+    return f"{quoted(line)}{'' if is_ended else ' with no line feed'} isn't {wanted}"
+
+
 def of_line(kind, name, text, number):
     """What is told of a line whose form is wrong, or of how many lines there are, where they end, or go on, in this one."""
-    (entry, begins, wanted), line, count = KINDS[kind], line_of(text, number), announced(text)
+    (entry, begins, forms), line, count = KINDS[kind], line_of(text, number), announced(text)
     listed, behind = len(re.findall(rb"(?m)^" + begins, text)), number - count - 1
     ends = kind == "schedule" and behind < 1 and (not line or line.startswith(b"busiest "))
     goes_on = behind == 1 and (kind != "schedule" or re.match(begins, line))
     if number > 1 and listed != count and (ends or goes_on) and kind != "wiring":
         return f"{name}: {many(listed, entry + ' line')}, and line 1 says {count}"
-    form = 0 if number == 1 else 1 + max(behind, 0)
-    if form >= len(wanted) or behind == 2 and line_of(text, number - 1) == b"busiest none":
+    which = 0 if number == 1 else 1 + max(behind, 0)
+    if which >= len(forms) or behind == 2 and line_of(text, number - 1) == b"busiest none":
         return f"{place_of(name, number)}: {quoted(line)} stands behind the last line; nothing may follow"
-    is_ended = text.count(b"\n") >= number
-    stands = f"{quoted(line)}{'' if is_ended else ' with no line feed'} isn't"
-    if not line and not is_ended:
-        stands = f"the text {'is empty' if number == 1 else 'ends above this line'}; wanted is"
-    return f"{place_of(name, number)}: {stands} {wanted[form]}: {RULES}, a line feed at its end"
+    differs = taken(text, number) if kind == "wiring" and which == 1 else None
+    return f"{place_of(name, number)}: {of_form(text, number, *forms[which], differs)}"
 
 
 def known(asked):
@@ -141,7 +222,8 @@ def of_text(asked, what, t=0, u=0):
     shape = modules, blocks, words = plain.read_shape(asked.shape) if word and what != "shape" else plain.WIDEST
     if what in QUOTES:
         line = {"settings": asked.range, "shape": asked.shape}.get(what, line_of(text, 1))
-        return f"{quoted(line)} " + QUOTES[what].format(modules=numbered(modules, "module"), last=0x800007FC + 4 * blocks * words)
+        told = UNHEARD.get(line, QUOTES[what]) if what == "line" else QUOTES[what]
+        return f"{quoted(line)} " + told.format(modules=numbered(modules, "module"), last=0x800007FC + 4 * blocks * words)
     if what == "no module" and asked.wiring[0]:
         board, modules = asked.wiring[0], len(plain.read_wiring(asked.wiring[1]))
         n = next(int(it) for it in line_of(text, t + 2).split(b" ")[1::2] if int(it) >= modules)
@@ -163,9 +245,14 @@ def of_text(asked, what, t=0, u=0):
     }[what]
 
 
+def parts_of(refusal):
+    """The words of a line `refused ..`, and its numbers."""
+    return re.sub(rb"^refused | \d+|\n", b"", refusal).decode(), *(int(it) for it in re.findall(rb"\d+", refusal))
+
+
 def told(asked, refusal):
     """The line on standard error beside a line `refused ..`: nothing beside want of memory, and beside a file that can't be read."""
-    what, numbers = re.sub(rb"^refused | \d+|\n", b"", refusal).decode(), [int(it) for it in re.findall(rb"\d+", refusal)]
+    what, *numbers = parts_of(refusal)
     if what in ("no memory", "file"):
         return b""
     words = of_check(asked, what[6:], *numbers) if what.startswith("check ") else of_text(asked, what, *numbers)

@@ -11,10 +11,11 @@ from sessions import HEX8, MOST_ENTRIES, Exchange
 HEAD = re.compile(rb"record " + NUMBER)
 SESSION = re.compile(NUMBER + rb" ")
 BATCH = re.compile(rb"batch " + NUMBER)
+SUBMITTED = re.compile(NUMBER + rb" batch " + NUMBER + rb"\n")
 
 # What is wanted in the first line, and in that of a call, as the line on standard error says it.
 ENDED = f"{notes.RULES}, a line feed at its end"
-HEAD_WANTED = f'"record N", where N counts the entries, at most {MOST_ENTRIES}: {ENDED}'
+HEAD_WANTED = f'"record N", where N counts the entries, at most {MOST_ENTRIES}'
 CALL_WANTED = (
     '"S CALL", where S is the number of a session, CALL is "batch N" and the batch\'s lines, "fetch ID", "settle ID", "run ID", "show ID", '
     '"drop ID", "peek M A" or "poke M A D", ID is the number of a batch, M a module, A an address and D a word, of eight digits 0 to 9 and '
@@ -124,12 +125,33 @@ def entry_at(text, at):
     return call and (int(session[1]), call[0], call[1], session.end(), call[2])
 
 
-class Misrecorded(Refused):
-    """What is first wrong with a record, the number of the line where it is, and what is wanted there."""
+def wrong_in_batch(text, at):
+    """Of the batch that a call hands in, the first wrong line's number in the record, and what is told of it. None where the call doesn't begin
+    with a session's number and a line `batch N`."""
+    head = SUBMITTED.match(text, at)
+    if not head:
+        return None
+    number, count = text.count(b"\n", 0, at) + 1, int(head[2])
+    if count > plain.TRANSFERS:
+        return number, f"{count} transfers; a batch has at most {plain.TRANSFERS}"
+    for line in re.findall(rb"[^\n]*\n|[^\n]+\Z", text[head.end() :])[:count]:
+        number, batch = number + 1, b"batch 1\n" + line
+        refusal = plain.answer_plan(batch)
+        if refusal:
+            return number, notes.of_text(notes.Asked("batch", ("", batch)), *notes.parts_of(refusal)).partition(" of the batch: ")[2]
+    return number + 1, notes.of_form(b"", 2, *notes.KINDS["batch"][2][1])
 
-    def __init__(self, what, text, at, wanted):
+
+class Misrecorded(Refused):
+    """What is first wrong with a record, the number of the line where it is, and what is told of that: the first thing that it hasn't of a form,
+    if it has to be of one, and what is wanted there. Nothing may be."""
+
+    def __init__(self, what, text, at, wanted, form=None):
         super().__init__(f"record {what}")
-        self.line, self.wanted = text.count(b"\n", 0, at) + 1, wanted
+        self.line = text.count(b"\n", 0, at) + 1
+        self.told = f"{notes.quoted(notes.line_of(text, self.line))} stands behind the last entry; nothing may follow"
+        if wanted:
+            self.told = notes.of_form(text, self.line, form, wanted)
 
 
 class Replay:
@@ -140,7 +162,7 @@ class Replay:
         line, at = plain.line_at(text, 0)
         head = HEAD.fullmatch(line) if line is not None else None
         if not head or int(head[1]) > MOST_ENTRIES:
-            raise Misrecorded("head", text, 0, HEAD_WANTED)
+            raise Misrecorded("head", text, 0, HEAD_WANTED, "record N")
         for number in range(int(head[1])):
             at = self.entry(text, at, number)
         if at < len(text):
@@ -150,7 +172,9 @@ class Replay:
         """Replays the entry that stands there, and says where it ends."""
         found = entry_at(text, at)
         if not found:
-            raise Misrecorded(f"call {number}", text, at, f"the call of entry {number}, {CALL_WANTED}")
+            fault = Misrecorded(f"call {number}", text, at, f"the call of entry {number}, {CALL_WANTED}")
+            fault.line, fault.told = wrong_in_batch(text, at) or (fault.line, fault.told)
+            raise fault
         session, answer, named, begin, end = found
         try:
             reply = answer(self.exchange, session, *named)
@@ -175,13 +199,7 @@ def note(name, shape, text):
     try:
         Replay(shape, text)
     except Misrecorded as why:
-        line, is_ended = notes.line_of(text, why.line), text.count(b"\n") >= why.line
-        if why.wanted is None:
-            return f"exchange: {name}:{why.line}: {notes.quoted(line)} stands behind the last entry; nothing may follow\n".encode()
-        stands = f"{notes.quoted(line)}{'' if is_ended else ' with no line feed'} isn't"
-        if not line and not is_ended:
-            stands = f"the text {'is empty' if why.line == 1 else 'ends above this line'}; wanted is"
-        return f"exchange: {name}:{why.line}: {stands} {why.wanted}\n".encode()
+        return f"exchange: {name}:{why.line}: {why.told}\n".encode()
     return b""
 
 

@@ -9,7 +9,7 @@ import re
 from plain import JOINED, MODULES, PORTS, TRANSFERS
 
 EDGES = [0, 1, 2, 3, 9, 10, 15, 16, 17, 31, 32, 33, 63, 64, 65, 255, 256, 257, 4095, 4096, 4097, 999999999, 1000000000, 2**32, 2**64]
-ODD = [b"", b"01", b"00", b"+1", b"-1", b"1.0", b"0x1", b"x", b" ", b"9" * 40]
+ODD = [b"", b"01", b"00", b"+1", b"-1", b"1.0", b"0x1", b"x", b" ", b"9" * 40, b"#1", b"\xef\xbb\xbf1"]
 BYTES = b"0123456789 \n\r\t\x00\xff-+xabefghiklmnprstuPUSH\\\"~\x1b\x1f\x7f\x80\xc3\xe2"
 # Characters of names: those that are escaped at both ends of each range, and their neighbours.
 MARKS = (

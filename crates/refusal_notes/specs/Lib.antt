@@ -2,4 +2,5 @@ pub mod Lines
 pub mod Wanted
 pub mod Notes
 pub mod Pairs
+pub mod Differences
 pub mod Told

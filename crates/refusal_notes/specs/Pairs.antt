@@ -1,5 +1,5 @@
--- Two transfers of a batch that share what only one may have.
-use Rattle.std.specs.Prelude.{ℕ, ◌+◌, ◌<◌, if◌then◌else◌, List, nat_eq, codes}
+-- Two transfers of a batch, or two modules of a wiring, that share what only one may have.
+use Rattle.std.specs.Prelude.{◌≡◌, ℕ, ◌+◌, ◌<◌, ◌⊎◌, if◌then◌else◌, List, nat_eq, codes}
 use Rattle.std.specs.List.{starts_with}
 use Rattle.refusal_notes.specs.Lines.{HasNumber, line_at}
 
@@ -21,3 +21,14 @@ written_place line = if starts_with nat_eq line (codes "push ") then 3 else 1
 -- the transfer's line says that it writes this block of this module
 abbrev pub Writes : List ℕ → ℕ → ℕ → Type 0
 Writes line m b = HasNumber line (written_place line) m × HasNumber line (written_place line + 1) b
+
+-- link 0 or link 3 of a module is on this link of the switch, as its line says
+abbrev pub HasPort : List ℕ → ℕ → Type 0
+HasPort line port = HasNumber line 5 port ⊎ HasNumber line 9 port
+
+-- a module's line has a link of the switch that a line above has, or has it twice
+abbrev pub IsTaken : List ℕ → ℕ → ℕ → ℕ → Type 0
+IsTaken wiring number port at =
+    HasPort (line_at wiring number) port
+    × (((at < number) × HasPort (line_at wiring at) port)
+    ⊎ ((at ≡ number) × HasNumber (line_at wiring at) 5 port × HasNumber (line_at wiring at) 9 port))

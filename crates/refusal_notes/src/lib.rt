@@ -11,6 +11,7 @@
 //! (`IsNoteAbove` of `specs/Notes.antt`).
 #![tactic(auto)]
 
+mod differences;
 mod limit;
 mod lines;
 mod listed;

@@ -1,21 +1,19 @@
-//! Two transfers of a batch that share what only one may have.
+//! Two transfers of a batch, or two modules of a wiring, that share what only one may have.
 
-ghost use Rattle.std.specs.Prelude.{◌≡◌, ◌≤◌, ◌+◌, IfSome, IsTrue};
-ghost use Rattle.batch.specs.Text.{IsNumber};
-ghost use Rattle.refusal_notes.specs.Lines.{HasNumber};
-ghost use Rattle.refusal_notes.specs.Pairs.{Clashes, Writes, transfer_line_at, written_place};
+ghost use Rattle.std.specs.Prelude.{◌≡◌, ◌≤◌, ◌<◌, ◌+◌, IfSome, IsTrue};
+ghost use Rattle.refusal_notes.specs.Lines.{HasNumber, line_at as the_line};
+ghost use Rattle.refusal_notes.specs.Pairs.{Clashes, HasPort, IsTaken, Writes, transfer_line_at, written_place};
 
 use crate::lines::{line_at, number_at};
 use crate::listed::{Listing, is_listed};
 use batch::{MAX_TRANSFERS, number_from_digits};
 
-/// Whether this word of a transfer's line is this module.
-fn names(batch: &[u8], t: usize, place: usize, module: usize) -> bool
-    requires { IsNumber t }
-    ensures { IsTrue result → HasNumber (transfer_line_at batch.now t) place «module» }
+/// Whether this word of a line is this number.
+fn has_number(line: &[u8], place: usize, n: usize) -> bool
+    ensures { IsTrue result → HasNumber line.now place «n» }
 {
-    match number_at(line_at(batch, t + 2), place) {
-        Some(n) => n == module,
+    match number_at(line, place) {
+        Some(m) => m == n,
         None => false,
     }
 }
@@ -35,7 +33,7 @@ fn user_from(
 {
     for k in from..MAX_TRANSFERS + 1 {
         let t = number_at(setting, k)?;
-        if names(batch, t, place, module) {
+        if has_number(line_at(batch, t + 2), place, module) {
             return Some((k, t));
         }
     }
@@ -54,6 +52,39 @@ pub(crate) fn clashing(
     let (at, t) = user_from(batch, setting, 1, place, module)?;
     let (_, u) = user_from(batch, setting, at + 1, place, module)?;
     Some((t, u))
+}
+
+/// The number of the first line of a module, above this one, that has this link of the switch.
+fn line_with(wiring: &[u8], below: usize, port: usize) -> Option<usize>
+    ensures { IfSome result (λ above. (above < below) × HasPort (the_line wiring.now above) port) }
+{
+    for above in 2..below {
+        let line = line_at(wiring, above);
+        if has_number(line, 5, port) || has_number(line, 9, port) {
+            return Some(above);
+        }
+    }
+    None
+}
+
+/// The first link of the switch in the module's line of this number that a line above has, or that
+/// stands twice in it; and the number of the line that has it already.
+pub(crate) fn taken(wiring: &[u8], number: usize) -> Option<(usize, usize)>
+    ensures { IfSome result (λ x. IsTaken wiring.now number x.0 x.1) }
+{
+    let line = line_at(wiring, number);
+    let (one, other) = (number_at(line, 5)?, number_at(line, 9)?);
+    if let Some(above) = line_with(wiring, number, one) {
+        return Some((one, above));
+    }
+    if let Some(above) = line_with(wiring, number, other) {
+        return Some((other, above));
+    }
+    if one == other {
+        Some((one, number))
+    } else {
+        None
+    }
 }
 
 /// The word of a transfer's line that names the module which it writes.

@@ -1,29 +1,21 @@
 //! The line in which a record is wrong.
 
-ghost use Rattle.std.specs.Prelude.{◌≡◌, take};
+ghost use Rattle.std.specs.Prelude.{◌≡◌};
 ghost use Rattle.refusal_notes.specs.Lines.{line_behind as the_number};
 ghost use Rattle.refusal_notes.specs.Told.{IsRecordTold};
 
 use crate::note::LineNote;
-use crate::told::Texts;
+use crate::told::{Named, Note, Texts};
 use crate::wanted::Wanted;
-
-/// So many bytes of a text, or all of it where it hasn't as many.
-fn front(text: &[u8], bytes: usize) -> &[u8]
-    ensures { result.now ≡ take bytes text.now }
-{
-    if bytes < text.len() {
-        &text[..bytes]
-    } else {
-        text
-    }
-}
+use batch::{Batch, BatchFault, Shape, number_before};
+use refusals::Refusal;
+use std::alloc::Global;
 
 /// The number of the line before which so many bytes stand, counted from 1.
 fn line_behind(text: &[u8], bytes: usize) -> usize
     ensures { result ≡ the_number text.now bytes }
 {
-    front(text, bytes).split(|b| *b == b'\n').count()
+    text[..bytes.min(text.len())].split(|b| *b == b'\n').count()
 }
 
 /// What is told of the line in which a record is wrong, where this is wanted.
@@ -32,4 +24,37 @@ pub(crate) fn note_wanting<'a>(texts: Texts<'a>, wanted: Wanted<'a>) -> LineNote
 {
     let text = texts.recorded.text;
     LineNote::wanting(text, line_behind(text, texts.offset), wanted)
+}
+
+/// What stands behind so many bytes of a text and a session's number.
+fn call_behind(text: &[u8], bytes: usize) -> Option<&[u8]> {
+    let (_, call) = number_before(text.get(bytes..)?, b' ')?;
+    Some(call)
+}
+
+/// What is told of a record's call that is wrong. Where it hands in a batch whose first line is
+/// right, or announces too many transfers, it is told of that. None where there is no memory for
+/// the batch.
+pub(crate) fn note_of_call<'a>(alloc: Global, note: Note<'a>) -> Option<Note<'a>> {
+    let (recorded, offset) = (note.texts.recorded, note.texts.offset);
+    let text = call_behind(recorded.text, offset).unwrap_or(&[]);
+    let refusal = match Batch::read(alloc, text, Shape::WIDEST) {
+        Ok(_) | Err(BatchFault::Line(1)) => return Some(note),
+        Err(BatchFault::NoMemory) => return None,
+        // The record ends above the last line.
+        Err(BatchFault::Count) => Refusal::BatchLine(line_behind(text, text.len())),
+        Err(fault) => Refusal::from(fault),
+    };
+    let name = recorded.name;
+    let list = Named { name, text };
+    let texts = Texts {
+        list,
+        ..Texts::NONE
+    };
+    let above = line_behind(recorded.text, offset).saturating_sub(1);
+    Some(Note {
+        refusal,
+        texts,
+        above,
+    })
 }

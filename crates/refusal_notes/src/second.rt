@@ -3,7 +3,9 @@
 ghost use Rattle.std.specs.Prelude.{◌≡◌, ◌≢◌, List, ℕ, IfSome, string_bytes};
 ghost use Rattle.refusal_notes.specs.Told.{line_told};
 
+use crate::recorded::note_of_call;
 use crate::told::{Named, Note, Texts};
+use batch::Shape;
 use refusals::Refusal;
 use std::alloc::Global;
 use std::fmt::Display;
@@ -19,9 +21,15 @@ pub fn second_line(alloc: Global, refusal: Refusal, texts: Texts<'_>) -> Option<
         (words : List ℕ) × (string_bytes text ≡ line_told words)) }
     ensures refusal { IfSome result (λ _. refusal ≢ Refusal.NoMemory) }
 {
+    let note = Note {
+        refusal,
+        texts,
+        above: 0,
+    };
     match refusal {
         Refusal::NoMemory | Refusal::File | Refusal::Port(_) => None,
-        _ => told(alloc, &Note { refusal, texts }),
+        Refusal::RecordCall(_) => told(alloc, &note_of_call(alloc, note)?),
+        _ => told(alloc, &note),
     }
 }
 
@@ -50,7 +58,8 @@ pub fn session_line<'a>(
 }
 
 /// The line that is told on standard error of a file that can't be read, or opened, for this
-/// reason, without the system's number for it; none where there is no memory for the line.
+/// reason, without the system's number for it; none where there is no memory for the line. Of a
+/// name that is a rack's shape it is told that the shape comes first.
 pub fn file_line(alloc: Global, name: &str, reason: &str) -> Option<String>
     ensures { IfSome result (λ text. (words : List ℕ) × (string_bytes text ≡ line_told words)) }
 {
@@ -59,7 +68,11 @@ pub fn file_line(alloc: Global, name: &str, reason: &str) -> Option<String>
         Some((words, _)) => words,
         None => reason,
     };
-    let words = format!(in alloc; "{named}: {reason}").ok()?;
+    let hint = match Shape::read(name.as_bytes()) {
+        Ok(_) => "; a shape stands before the files",
+        Err(_) => "",
+    };
+    let words = format!(in alloc; "{named}: {reason}{hint}").ok()?;
     told(alloc, &words)
 }
 

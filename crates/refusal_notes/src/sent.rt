@@ -18,13 +18,20 @@ pub(crate) const LETTERS: &str =
     "ID is the number of a batch, M a module, A an address and D a word, of eight digits 0 to 9 and a to f each";
 
 /// How they are written.
-const RULES: &str =
+pub(crate) const RULES: &str =
     "small letters, single spaces, numbers of at most nine digits and no leading zero";
 
 /// Writes what is told of a line that a session sent.
 pub(crate) fn write_sent<W: Write>(f: &mut Formatter<W>, note: Note<'_>) -> fmt::Result {
-    write!(f, "{} ", Quote::of(line_at(note.texts.list.text, 1)))?;
+    let line = line_at(note.texts.list.text, 1);
+    write!(f, "{} ", Quote::of(line))?;
     match note.refusal {
+        Refusal::Line if line == b"help".as_slice() => {
+            f.write_str("isn't a line of a session; \"exchange talk --help\" tells them")
+        }
+        Refusal::Line if line == b"quit".as_slice() => {
+            f.write_str("isn't a line of a session; \"bye\" ends it")
+        }
         Refusal::Line => write!(
             f,
             "isn't a line of a session: {LINES}, where {LETTERS}: {RULES}"

@@ -103,6 +103,8 @@ pub(crate) struct Note<'a> {
     pub refusal: Refusal,
     /// The texts that it is of.
     pub texts: Texts<'a>,
+    /// How many lines of its file stand above them.
+    pub above: usize,
 }
 
 impl<'a> Note<'a> {

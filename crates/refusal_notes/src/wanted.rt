@@ -6,17 +6,13 @@ ghost use Rattle.refusal_notes.specs.Wanted.{IsWantedAt, certificate_line, is_no
 use crate::lines::{announced, line_at};
 use crate::listed::Listing;
 use crate::quote::Quote;
-use crate::sent::LETTERS;
-use batch::{MAX_DIGITS, MAX_MODULES};
+use crate::sent::{LETTERS, RULES};
+use batch::MAX_MODULES;
 use c004_commands::PORTS;
 use crossbar::JOINED_MODULES;
 use std::fmt::{self, Display, Formatter, Write};
 
-/// How each line is written, whatever stands in it.
-const RULES: &str =
-    "small letters, single spaces, numbers of at most nine digits and no leading zero, a line feed at its end";
-
-const _: () = prove!(MAX_DIGITS == 9);
+const _: () = prove!(MAX_MODULES == 32 && PORTS == 32 && JOINED_MODULES == 16);
 
 /// The calls of a record.
 const CALLS: &str =
@@ -61,6 +57,31 @@ impl<'a> Wanted<'a> {
         }
     }
 
+    /// Its forms, each in quotation marks, and what they say; none where it is told otherwise. In a
+    /// form a word of one letter is a number, and `U ..` at its end are any more.
+    pub(crate) fn form(self) -> Option<&'static str> {
+        Some(match self {
+            Wanted::Head(Listing::Transfers) => "\"batch N\", where N counts the transfers",
+            Wanted::Head(Listing::Moves) => "\"moves N\", where N counts the moves",
+            Wanted::Head(Listing::Settings) => "\"settings S\", where S counts the settings",
+            Wanted::Head(Listing::Modules) => "\"wiring N\", where N counts the modules, 1 to 16",
+            Wanted::Entry(Listing::Transfers) => "\"push I b R c\" or \"pull I b R c\"",
+            Wanted::Entry(Listing::Moves) => "\"move M b N c\"",
+            Wanted::Entry(Listing::Modules) => {
+                "\"module M link 0 at A link 3 at B\", where M counts up from 0, and A and B are 0 to 31 and stand nowhere else"
+            }
+            Wanted::Entry(Listing::Settings) => {
+                "\"setting T U ..\", where T, U .. are transfers, or \"setting\" alone"
+            }
+            Wanted::BusiestLink => {
+                "\"busiest link E module M\", where E is 0 or 3 and M 0 to 31, or \"busiest none\""
+            }
+            Wanted::Named => "\"named T U ..\", where T, U .. are transfers, one at least",
+            Wanted::RecordHead => "\"record N\", where N counts the entries, at most 65536",
+            Wanted::End | Wanted::Call(_) | Wanted::Reply(..) | Wanted::RecordEnd => return None,
+        })
+    }
+
     /// What is wanted in this line behind the last setting, counted from 0.
     fn of_certificate(k: usize, none: bool) -> Wanted<'a>
         ensures { result ≡ certificate_line k none }
@@ -83,56 +104,23 @@ fn is_none_line(line: &[u8]) -> bool
 /// The form of the line in full.
 impl<'a> Display for Wanted<'a> {
     fn fmt<W: Write>(&self, f: &mut Formatter<W>) -> fmt::Result {
-        let form = match self {
-            Wanted::Head(Listing::Transfers) => "\"batch N\", where N counts the transfers",
-            Wanted::Head(Listing::Moves) => "\"moves N\", where N counts the moves",
-            Wanted::Head(Listing::Settings) => "\"settings S\", where S counts the settings",
-            Wanted::Head(Listing::Modules) => return write_modules(f),
-            Wanted::Entry(Listing::Transfers) => "\"push I b R c\" or \"pull I b R c\"",
-            Wanted::Entry(Listing::Moves) => "\"move M b N c\"",
-            Wanted::Entry(Listing::Modules) => return write_wired(f),
-            Wanted::Entry(Listing::Settings) => {
-                "\"setting T U ..\", where T, U .. are transfers, or \"setting\" alone"
-            }
-            Wanted::BusiestLink => return write_link(f),
-            Wanted::Named => "\"named T U ..\", where T, U .. are transfers, one at least",
-            Wanted::End | Wanted::RecordEnd => return f.write_str("the text's end"),
-            Wanted::RecordHead => "\"record N\", where N counts the entries, at most 65536",
-            Wanted::Call(e) => return write_call(f, *e),
-            Wanted::Reply(e, due) => return write!(f, "the reply of entry {e}, {due}"),
-        };
-        write!(f, "{form}: {RULES}")
+        match (self.form(), *self) {
+            (Some(form), _) => f.write_str(form),
+            (None, Wanted::Call(e)) => write_call(f, e),
+            (None, Wanted::Reply(e, due)) => write!(f, "the reply of entry {e}, {due}"),
+            (None, _) => f.write_str("the text's end"),
+        }
     }
-}
-
-/// Writes the form of a link.
-fn write_link<W: Write>(f: &mut Formatter<W>) -> fmt::Result {
-    let last = MAX_MODULES - 1;
-    write!(
-        f,
-        "\"busiest link E module M\", where E is 0 or 3 and M 0 to {last}, "
-    )?;
-    write!(f, "or \"busiest none\": {RULES}")
-}
-
-/// Writes the form of the first line of a wiring.
-fn write_modules<W: Write>(f: &mut Formatter<W>) -> fmt::Result {
-    write!(
-        f,
-        "\"wiring N\", where N counts the modules, 1 to {JOINED_MODULES}: {RULES}"
-    )
-}
-
-/// Writes the form of the line of a wired module.
-fn write_wired<W: Write>(f: &mut Formatter<W>) -> fmt::Result {
-    let last = PORTS - 1;
-    f.write_str("\"module M link 0 at A link 3 at B\", where M counts up from 0, and ")?;
-    write!(f, "A and B are 0 to {last} and stand nowhere else: {RULES}")
 }
 
 /// Writes the form of the call of an entry.
 fn write_call<W: Write>(f: &mut Formatter<W>, e: usize) -> fmt::Result {
-    f.write_str("the call of entry ")?;
-    write!(f, "{e}, \"S CALL\", where S is the number of a session, ")?;
-    write!(f, "CALL is {CALLS}, {LETTERS}: {RULES}")
+    write!(
+        f,
+        "the call of entry {e}, \"S CALL\", where S is the number of a session, "
+    )?;
+    write!(
+        f,
+        "CALL is {CALLS}, {LETTERS}: {RULES}, a line feed at its end"
+    )
 }

@@ -1,5 +1,6 @@
 //! What is told of a refusal, in words.
 
+use crate::differences::Difference;
 use crate::limit::Limit;
 use crate::lines::{announced, line_at};
 use crate::listed::{Listing, is_listed, listed};
@@ -57,46 +58,46 @@ impl Display for Numbered {
 /// Writes what is told of a line that was refused.
 pub(crate) fn write_line<W: Write>(f: &mut Formatter<W>, note: Note<'_>) -> fmt::Result {
     let (list, listing, schedule) = (note.texts.list, note.texts.listing, note.texts.other);
-    let wiring = note.texts.wiring;
     let Some(line) = note.line() else {
         return Ok(());
     };
-    let number = Some(line.number);
-    match (note.refusal, line.above) {
-        (Refusal::Count, _) if is_miscounted(list, listing) => write_counts(f, list, listing),
-        (Refusal::ScheduleLine(_), _) if ends_settings(schedule, line) => {
-            write_counts(f, schedule, Listing::Settings)
+    let named = match note.refusal {
+        Refusal::Count if is_miscounted(list, listing) => return write_counts(f, list, listing),
+        Refusal::ScheduleLine(_) if ends_settings(schedule, line) => {
+            return write_counts(f, schedule, Listing::Settings);
         }
-        (Refusal::ScheduleLine(_), _) => write_form(f, Place(schedule, number), line),
-        (Refusal::WiringLine(_), _) => write_form(f, Place(wiring, number), line),
-        (
-            Refusal::RecordHead
-            | Refusal::RecordCall(_)
-            | Refusal::RecordReply(_)
-            | Refusal::RecordMore,
-            _,
-        ) => write_form(f, Place(note.texts.recorded, number), line),
-        (_, Some((n, limit))) => {
-            write!(f, "{}: ", Place(list, number))?;
-            write_above(f, n, limit, note.texts)
-        }
-        _ => write_form(f, Place(list, number), line),
+        Refusal::ScheduleLine(_) => schedule,
+        Refusal::WiringLine(_) => note.texts.wiring,
+        Refusal::RecordHead
+        | Refusal::RecordCall(_)
+        | Refusal::RecordReply(_)
+        | Refusal::RecordMore => note.texts.recorded,
+        _ => list,
+    };
+    let number = line.number.saturating_add(note.above);
+    write!(f, "{}: ", Place(named, Some(number)))?;
+    match line.above {
+        Some((n, limit)) => write_above(f, n, limit, note.texts),
+        None => write_form(f, named.text, line),
     }
 }
 
-/// Writes what stands in a line, and what is wanted there.
-fn write_form<W: Write>(f: &mut Formatter<W>, place: Place<'_>, line: LineNote<'_>) -> fmt::Result {
+/// Writes what stands in a line of a text, the first thing that isn't as it should be, and what is
+/// wanted there.
+fn write_form<W: Write>(f: &mut Formatter<W>, text: &[u8], line: LineNote<'_>) -> fmt::Result {
     let (quote, wanted) = (line.quote, line.wanted);
     let is_missing = quote.bytes.is_empty() && !line.is_ended;
-    write!(f, "{place}: ")?;
-    match wanted {
+    match (Difference::of(text, line.number, wanted), wanted) {
         _ if is_missing && line.number <= 1 => write!(f, "the text is empty; wanted is {wanted}"),
         _ if is_missing => write!(f, "the text ends above this line; wanted is {wanted}"),
-        Wanted::End => write!(f, "{quote} stands behind the last line; nothing may follow"),
-        Wanted::RecordEnd => write!(
-            f,
-            "{quote} stands behind the last entry; nothing may follow"
-        ),
+        (_, Wanted::End) => write!(f, "{quote} stands behind the last line; nothing may follow"),
+        (_, Wanted::RecordEnd) => {
+            write!(
+                f,
+                "{quote} stands behind the last entry; nothing may follow"
+            )
+        }
+        (Some(difference), _) => write!(f, "{quote}: {difference}; wanted is {wanted}"),
         _ if line.is_ended => write!(f, "{quote} isn't {wanted}"),
         _ => write!(f, "{quote} with no line feed isn't {wanted}"),
     }
