@@ -1,13 +1,15 @@
 #!/usr/bin/env bash
 # Counts the instructions of the largest runs: on a rack of 32 modules with 64 blocks of 256 words each module pushes 64 blocks to the next
 # one. So there are 2048 transfers, and each block is read and written. Counted are `apply` and `run` of that batch, and a session of `serve`
-# that hands it in, plans it and runs it. Each is a whole program, whose wires are plain ones.
+# that hands it in, plans it and runs it. Each is a whole program, whose wires are plain ones. `call` is a program in C that calls
+# `exchange_apply` of the library, which runs nothing; it has to give the same image as `apply`.
 #
 # With --check each may take as many millions as `greatest` says; else the status is 1. Where valgrind is missing, --check says so and
 # counts nothing. Without --check plain Rust that copies the blocks within the image (plain_apply.rs) is counted too, and has to give the
 # same image as `apply`.
 #
-# Needs valgrind, and rustc without --check. Build the program first: ./exchange prove
+# Needs valgrind and a C compiler, and rustc without --check. The program and the library are built first, where they are older than
+# their sources.
 set -eu
 if ! command -v valgrind >/dev/null; then
     echo "apply: valgrind is missing, so nothing was counted"
@@ -16,12 +18,13 @@ if ! command -v valgrind >/dev/null; then
 fi
 here=$(cd "$(dirname "${BASH_SOURCE[0]}")" && pwd)
 . "$here/../copy.sh"
-program=$here/../../crates/exchange/out/exchange
+top=$(cd "$here/../.." && pwd)
+program=$top/crates/exchange/out/exchange
 work=$(mktemp -d)
 trap 'rm -rf "$work"' EXIT
 
 # A tenth to a fifth more than was counted. A fifth of a session makes its rack, a tenth takes the batch and plans it, and the rest runs it.
-declare -A greatest=([apply]=32 [run]=60 [serve]=25)
+declare -A greatest=([apply]=32 [run]=60 [serve]=25 [call]=4)
 
 {
     echo "batch 2048"
@@ -52,15 +55,20 @@ declare -A count
 measure apply 32x64x256 "$work/batch" "$work/image"
 measure run 32x64x256 "$work/batch"
 measure serve 32x64x256 "$work/script"
+"$top/tools/install/build.sh"
+cc -std=c11 -O2 -I"$top/include" -o "$work/call" "$here/call_apply.c" "$top/crates/exchange_c/out/libexchange_c.a" \
+    "$(dirname "$(rt doc)")/c/liblibc_c.a"
+"$work/call" 32x64x256 "$work/batch" "$work/image" | cmp - "$work/apply"
+count[call]=$(millions "$work/call" 32x64x256 "$work/batch" "$work/image")
 if ! grep -q "^ran settings 64 words 524288 " "$work/run" || ! grep -q "^ran 1 run 1 settings 64 words 524288 " "$work/serve"; then
     echo "apply: the batch wasn't run"
     exit 1
 fi
-echo "2048 transfers of 256 words, in millions of instructions: ${count[apply]} of apply, ${count[run]} of run, ${count[serve]} of a session"
+echo "2048 transfers of 256 words, in millions of instructions: ${count[apply]} of apply, ${count[run]} of run, ${count[serve]} of a session, ${count[call]} of a call"
 
 if [ "${1-}" = --check ]; then
     failed=
-    for name in apply run serve; do
+    for name in apply run serve call; do
         if awk -v count="${count[$name]}" -v most="${greatest[$name]}" 'BEGIN { exit !(count > most) }'; then
             echo "apply: $name takes ${count[$name]} million instructions, and may take ${greatest[$name]} million at most"
             failed=yes

@@ -160,10 +160,10 @@ IsRunOf m id plan (RunRefused (run_refusal.Overlap i j)) next =
 IsRunOf m id plan (RunRefused run_refusal.Shape) next =
     IsApart plan.batch × IsMisfit m.store.shape plan.batch × (next ≡ m)
 IsRunOf m id plan (Ran run settings words) next =
-    HasBegun m plan run × IsCompleted m.store plan settings words next.store
+    HasBegun m plan run × IsCompleted m.store plan.batch plan.settings settings words next.store
     × (next ≡ run_to m id stage.Ran next.store)
 IsRunOf m id plan (Stopped run setting cause moved) next =
-    HasBegun m plan run × HasStoppedIn m.store plan setting moved next.store
+    HasBegun m plan run × HasStoppedIn m.store plan.batch plan.settings setting moved next.store
     × (next ≡ run_to m id stage.Stopped next.store)
 IsRunOf m id plan reply next = ⊥
 

@@ -1,6 +1,6 @@
--- Which plan a call runs, if any.
+-- Which plan a call runs, if any: its batch, and the settings of its schedule.
 use Rattle.std.specs.Prelude.{ℕ, Option, Some, None}
-use Rattle.schedule_certificate.specs.Plans.{Plan}
+use Rattle.setting_runner.specs.Plants.{Scheduled}
 use Rattle.batch_book.specs.declared.call.Call.{Call}
 use Rattle.batch_book.specs.declared.call.Call.TheVariants.{Run}
 use Rattle.batch_book.specs.declared.kept.Stage.{Stage}
@@ -9,15 +9,15 @@ use Rattle.batch_book.specs.declared.kept.KeptBatch.{KeptBatch}
 use Rattle.batch_book.specs.Machine.{Machine, batch_of}
 
 -- the plan by which a batch can be run
-abbrev pub plan_at : Stage → Option Plan
-plan_at (stage.Planned plan) = Some plan
+abbrev pub plan_at : Stage → Option Scheduled
+plan_at (stage.Planned plan) = Some (plan.batch, plan.settings)
 plan_at s = None
 
-abbrev pub plan_in : Option KeptBatch → Option Plan
+abbrev pub plan_in : Option KeptBatch → Option Scheduled
 plan_in None = None
 plan_in (Some h) = plan_at h.stage
 
 -- the plan that a call runs
-abbrev pub plan_to_run : Machine → ℕ → Call → Option Plan
+abbrev pub plan_to_run : Machine → ℕ → Call → Option Scheduled
 plan_to_run m session (Run id) = plan_in (batch_of m session id)
 plan_to_run m session call = None

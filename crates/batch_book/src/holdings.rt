@@ -270,7 +270,9 @@ impl Holdings {
         let Some(rack) = self.rack.take() else {
             unreachable!()
         };
-        let (rack, outcome) = run(rt, alloc, rack, plant, planned, notice);
+        let batch = planned.batch();
+        let schedule = planned.schedule();
+        let (rack, outcome) = run(rt, alloc, rack, plant, batch, schedule, notice);
         self.rack = Some(rack);
         self.end(id, &outcome)
     }

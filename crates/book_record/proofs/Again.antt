@@ -121,7 +121,7 @@ settle_again m n session id p q r k e good same x =
     let g = again (settle m id p (batch_of m session id)) (settle n id q (batch_of n session id)) r k (settle_up m n session id p q e same (same_count p q x.0 good same)) x.1 in
     ((settle n id q (batch_of n session id)).1, (good, g.0), g.1)
 
-completed_again : (s t : Store) (p q : Plan) (settings words : ℕ) → IsWhole s → CanMove s.shape q.batch → IsPlan q → p.batch ≡ q.batch → length p.settings ≡ length q.settings → IsCompleted s p settings words t → IsCompleted s q settings words t
+completed_again : (s t : Store) (p q : Plan) (settings words : ℕ) → IsWhole s → CanMove s.shape q.batch → IsPlan q → p.batch ≡ q.batch → length p.settings ≡ length q.settings → IsCompleted s p.batch p.settings settings words t → IsCompleted s q.batch q.settings settings words t
 completed_again s t p q settings words whole can good same count is =
     let placed : IsPlaced s q.batch t = subst (λ (b : List Transfer). IsPlaced s b t) same is.placed in
     record {
@@ -140,11 +140,11 @@ run_of_again m n id p q (reply.RunRefused run_refusal.Shape) k e whole good same
 run_of_again m n id p q (reply.Ran run settings words) k e whole good same count u is =
     let store : m.store ≡ n.store = ap (λ (z : Machine). z.store) e in
     let can : CanMove m.store.shape q.batch = subst (CanMove m.store.shape) same is.0.can_move in
-    let done : IsCompleted m.store q settings words k.store = completed_again m.store k.store p q settings words whole can good same count is.1 in (
+    let done : IsCompleted m.store q.batch q.settings settings words k.store = completed_again m.store k.store p q settings words whole can good same count is.1 in (
       run_to n id stage.Ran k.store,
       (
         record { can_move = subst (λ (s : Store). CanMove s.shape q.batch) store can; number = is.0.number ∙ ap (λ (z : Machine). z.runs + 1) e },
-        subst (λ (s : Store). IsCompleted s q settings words k.store) store done,
+        subst (λ (s : Store). IsCompleted s q.batch q.settings settings words k.store) store done,
         refl,
       ),
       ap um is.2 ∙ run_to_untold m id stage.Ran k.store ∙ ap (λ (z : Machine). run_to z id stage.Ran k.store) e ∙ sym (run_to_untold n id stage.Ran k.store),

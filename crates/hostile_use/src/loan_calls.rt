@@ -74,9 +74,18 @@ fn run_plan<R: AllocGlobal + Eprint + Threads + Sync>(
     rack: Rack,
     planned: &Planned,
 ) -> Met {
+    let (batch, schedule) = (planned.batch(), planned.schedule());
     let mut plant = plain();
     begin(rt);
-    let (rack, outcome) = run(rt, rt.alloc(), rack, &mut plant, planned, &mut NoNotice);
+    let (rack, outcome) = run(
+        rt,
+        rt.alloc(),
+        rack,
+        &mut plant,
+        batch,
+        schedule,
+        &mut NoNotice,
+    );
     end(rt);
     match outcome {
         Outcome::Completed {

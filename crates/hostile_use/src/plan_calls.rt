@@ -10,9 +10,9 @@ use batch::Batch;
 use link_graph::Schedule;
 use module_memory::Rack;
 use schedule_certificate::{Planned, first_fit};
-use setting_runner::{Notice, Outcome, run, setting_numbers};
+use setting_runner::{Notice, Outcome, run};
 use std::thread::Threads;
-use switch_settings::PairList;
+use switch_settings::{PairList, numbers_of_setting};
 
 /// Whether these are the settings `0 1`, `2` and `3`.
 fn is_first_fit(schedule: &Schedule) -> bool {
@@ -47,7 +47,7 @@ pub fn fit_first<R: AllocGlobal + Eprint>(rt: &R) -> Option<Met> {
 /// A call of a plan that takes no memory.
 #[derive(Clone, Copy)]
 pub enum PlanCall {
-    /// `PairList::of_setting` and `setting_numbers` on row two-pushes.
+    /// `PairList::of_setting` and `numbers_of_setting` on row two-pushes.
     PairUp,
     /// `run` behind its beginning, on row three-transfers, which has two settings.
     RunOn,
@@ -90,7 +90,8 @@ fn has_pairs(planned: &Planned) -> bool {
     if planned.schedule().settings() != 1 {
         return false;
     }
-    let pairs = PairList::of_setting(planned.batch(), setting_numbers(planned, 0));
+    let (batch, schedule) = (planned.batch(), planned.schedule());
+    let pairs = PairList::of_setting(batch, numbers_of_setting(batch, schedule, 0));
     let [one, two] = pairs.as_slice() else {
         return false;
     };
@@ -139,9 +140,18 @@ fn outcome_of<R: AllocGlobal + Eprint + Threads + Sync>(
     planned: &Planned,
     rack: Rack,
 ) -> Outcome {
+    let (batch, schedule) = (planned.batch(), planned.schedule());
     let mut plant = plain();
     let mut notice = Marking { rt };
-    let (_rack, outcome) = run(rt, rt.alloc(), rack, &mut plant, planned, &mut notice);
+    let (_rack, outcome) = run(
+        rt,
+        rt.alloc(),
+        rack,
+        &mut plant,
+        batch,
+        schedule,
+        &mut notice,
+    );
     end(rt);
     let Marking { rt: _ } = notice;
     outcome

@@ -1,4 +1,4 @@
-ghost use Rattle.std.specs.Prelude.{◌≡◌, ◌↔◌, [], length, IsTrue, IfOk, IfErr, slice_get, option_map};
+ghost use Rattle.std.specs.Prelude.{◌≡◌, ◌<◌, ◌^◌, ◌↔◌, [], length, IsTrue, IfOk, IfErr, slice_get, option_map};
 ghost use Rattle.std.specs.Option.{option_copied};
 ghost use Rattle.link_graph.specs.Schedules.{lists_of};
 ghost use Rattle.link_graph.specs.ScheduleText.{said, text_lent, Says, CanSpell, CanName};
@@ -39,6 +39,14 @@ impl Schedule {
         ensures { result ≡ length self.now }
     {
         self.lists.len()
+    }
+
+    /// A law: settings lie in memory, so there are fewer than 2^63. It does nothing.
+    pub fn are_few(&self)
+        ensures { length self.now < 2 ^ 63 }
+    {
+        // Named for what is known of it alone: no vector is longer.
+        let _lists = &self.lists;
     }
 
     /// Whether there is no setting.

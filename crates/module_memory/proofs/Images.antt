@@ -17,7 +17,7 @@ use Rattle.module_memory.proofs.Blocks.{all_blocks, block_length, same_store}
 -- ---- bytes, four by four
 
 -- the first of some bytes are bytes
-small_take : (n : ℕ) (xs : List ℕ) → ((i : ℕ) → get_or xs i 0 < 2 ^ 8) → (i : ℕ) → get_or (take n xs) i 0 < 2 ^ 8
+pub small_take : (n : ℕ) (xs : List ℕ) → ((i : ℕ) → get_or xs i 0 < 2 ^ 8) → (i : ℕ) → get_or (take n xs) i 0 < 2 ^ 8
 small_take zero xs h i = omega arith
 small_take (suc n) [] h i = omega arith
 small_take (suc n) (x ∷ xs) h zero = h 0
@@ -87,7 +87,7 @@ parts_length f n (x ∷ xs) d h =
     length-append (f x) (flat_map f xs) ∙ omega (arith, first, others)
 
 -- some elements of one of them
-part_at : {X : Type 0} (f : X → List ℕ) (n m j : ℕ) (xs : List X) (d : X) (k : ℕ) → ((i : ℕ) → i < length xs → length (f (get_or xs i d)) ≡ n) → j + m ≤ n → k < length xs → take m (drop (n * k + j) (flat_map f xs)) ≡ take m (drop j (f (get_or xs k d)))
+pub part_at : {X : Type 0} (f : X → List ℕ) (n m j : ℕ) (xs : List X) (d : X) (k : ℕ) → ((i : ℕ) → i < length xs → length (f (get_or xs i d)) ≡ n) → j + m ≤ n → k < length xs → take m (drop (n * k + j) (flat_map f xs)) ≡ take m (drop j (f (get_or xs k d)))
 part_at f n m j [] d k h l below = absurd (omega arith)
 part_at f n m j (x ∷ xs) d zero h l below =
     let first : length (f x) ≡ n = h 0 (omega arith) in
@@ -105,7 +105,7 @@ part_at f n m j (x ∷ xs) d (suc k) h l below =
 
 -- ---- the laws
 
-block_bytes : (words : List ℕ) → length (bytes_of_block words) ≡ 4 * length words
+pub block_bytes : (words : List ℕ) → length (bytes_of_block words) ≡ 4 * length words
 block_bytes words = parts_length bytes_of_word 4 words 0 (λ i l. refl)
 
 -- the blocks of a whole store have as many bytes each

@@ -11,3 +11,4 @@ pub mod PartedSettings
 pub mod Held
 pub mod Copies
 pub mod Images
+pub mod PlacedImages

@@ -1,5 +1,6 @@
 pub mod Store
 pub mod Images
+pub mod Placing
 pub mod Core
 pub mod Settings
 pub mod Address

@@ -1,6 +1,7 @@
 //! The words of a rack as bytes, and a rack of bytes.
 
-ghost use Rattle.std.specs.Prelude.{◌≡◌, length, IfOk, MatchResult};
+ghost use Rattle.std.specs.Prelude.{◌≡◌, ◌≢◌, length, IfOk, IfErr, OnOk, MatchResult};
+ghost use Rattle.module_memory.specs.declared.fault.ImageFault.TheVariants.{NoMemory};
 ghost use Rattle.module_memory.specs.Images.{HasImage, IsImageFault, image_length, image_of};
 
 use crate::address::WORD_BYTES;
@@ -17,6 +18,23 @@ fn image_length_of(shape: Shape) -> usize
     WORD_BYTES as usize * (shape.modules() * shape.blocks() * shape.words())
 }
 
+/// Whether bytes are an image of the shape: whether there are as many as its images have. Else the
+/// fault says how many there are.
+pub fn check_image(shape: Shape, bytes: &[u8]) -> Result<(), ImageFault>
+    ensures whole { OnOk result (length bytes.now ≡ image_length shape) }
+    ensures fault { IfErr result (λ fault. IsImageFault shape bytes.now fault) }
+    ensures known { IfErr result (λ fault. fault ≢ NoMemory) }
+{
+    let wanted = image_length_of(shape);
+    if bytes.len() == wanted {
+        return Ok(());
+    }
+    Err(ImageFault::Length {
+        is: bytes.len(),
+        wanted,
+    })
+}
+
 impl Rack {
     /// The rack of an image: of each module in order all words of its window, from the first on, of
     /// each word four bytes, the least significant first, and nothing else. Takes memory for each
@@ -24,13 +42,7 @@ impl Rack {
     pub fn of_image(alloc: Global, shape: Shape, bytes: &[u8]) -> Result<Rack, ImageFault>
         ensures { MatchResult result (HasImage shape bytes.now) (IsImageFault shape bytes.now) }
     {
-        let wanted = image_length_of(shape);
-        if bytes.len() != wanted {
-            return Err(ImageFault::Length {
-                is: bytes.len(),
-                wanted,
-            });
-        }
+        check_image(shape, bytes)?;
         match Rack::of_bytes(alloc, shape, bytes) {
             Ok(rack) => Ok(rack),
             Err(_) => Err(ImageFault::NoMemory),

@@ -25,9 +25,12 @@ mod image;
 pub mod laws;
 mod lendable;
 mod lending;
+mod placing;
 mod rack;
 
 pub use address::{HOLD_START, WINDOW_START, WORD_BYTES};
 pub use fault::{ImageFault, LendFault, MemoryFault};
+pub use image::check_image;
 pub use lending::{Bay, Parted, Rest};
+pub use placing::placed_image;
 pub use rack::{BLOCK_MARK, MODULE_MARK, Rack};

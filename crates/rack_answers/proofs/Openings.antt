@@ -1,12 +1,12 @@
 -- The rack that a command begins with.
-use Rattle.std.proofs.Common.{◌≡◌, ℕ, ◌*◌, List, Option, Some, None, length, replicate, ap, ap₂, sym, ◌∙◌, subst}
+use Rattle.std.proofs.Common.{◌≡◌, ◌≢◌, ℕ, ◌*◌, List, Option, Some, None, length, replicate, refl, ap, ap₂, sym, ◌∙◌, subst}
 use Rattle.std.proofs.lemmas.List.{length-replicate}
 use Rattle.batch.specs.Extent.{Extent, IsShape}
 use Rattle.batch.proofs.Shapes.{one_shape}
 use Rattle.module_memory.specs.declared.fault.ImageFault.{ImageFault}
 use Rattle.module_memory.specs.declared.fault.ImageFault.TheVariants.{Length, NoMemory}
 use Rattle.module_memory.specs.Store.{Store, HasAllBlocks, zeros_of}
-use Rattle.module_memory.specs.Images.{image_length}
+use Rattle.module_memory.specs.Images.{IsImageFault, image_length}
 use Rattle.module_memory.proofs.Blocks.{all_blocks}
 use Rattle.module_memory.proofs.Images.{images_are_whole, one_imaged}
 use Rattle.module_memory.proofs.Marking.{one_marked}
@@ -48,6 +48,11 @@ one_wrong extent None f g a b = absurd a
 one_wrong extent (Some bytes) (Length m n) (Length k l) a b = ap₂ Length (a.0 ∙ sym b.0) (a.1 ∙ sym b.1)
 one_wrong extent (Some bytes) (Length m n) NoMemory a b = absurd b
 one_wrong extent (Some bytes) NoMemory g a b = absurd a
+
+-- what is wrong with an image, want of memory aside
+pub image_fault_is : (extent : Extent) (bytes : List ℕ) (fault : ImageFault) → IsImageFault extent bytes fault → fault ≢ NoMemory → IsWrongImage extent (Some bytes) fault
+image_fault_is extent bytes (Length is wanted) found known = found
+image_fault_is extent bytes NoMemory found known = known refl
 
 -- ---- a rack whose words are those of an image, or 0
 

@@ -1,68 +1,33 @@
-//! The command `apply` on the calling thread alone.
+//! The command `apply` without a run: an image and a batch of which no transfers overlap have one
+//! image behind them, whichever way the blocks go.
 
-ghost use Rattle.std.specs.Prelude.{◌≡◌, ◌≢◌, IfOk, IfErr, Some, length};
+ghost use Rattle.std.specs.Prelude.{◌≢◌, IfOk, IfErr, Some};
 ghost use Rattle.batch.specs.Overlap.{IsApart};
-ghost use Rattle.module_memory.specs.Core.{FitsIn, IsPlaced};
+ghost use Rattle.module_memory.specs.Core.{FitsIn};
+ghost use Rattle.module_memory.specs.Placing.{IsPlacedImage};
 ghost use Rattle.plan_answers.specs.Answers.{IsOnly};
-ghost use Rattle.rack_answers.specs.Answers.{IsResultOf, IsResult, IsOverlapOf, IsWrongOf, IsFirstRunWrong, IsRunAnswer, image_alone};
+ghost use Rattle.rack_answers.specs.Answers.{IsResult, IsWrongOf, IsFirstRunWrong, IsRunAnswer, image_alone};
 ghost use Rattle.refusals.specs.declared.refusal.Refusal.TheVariants.{NoMemory};
 
-use crate::running::{NoNotice, Telling, marked_rack, result_text};
-use batch::{Batch, Shape, laws};
-use crossbar::MemoryPort;
-use exchange_limits::WorkerCount;
-use module_memory::Rack;
-use peek_poke::PlainWires;
+use batch::{Batch, Shape};
+use module_memory::{check_image, placed_image};
 use plan_answers::Answer;
 use refusals::Refusal;
-use schedule_certificate::{OpenGate, Planned, schedule_alone};
-use setting_runner::{Outcome, Plant, RunRefusal, run_alone};
 use std::alloc::{AllocError, Global};
 
-/// Runs a plan on a rack, over a port and wires that never fail. Gives the rack as the run leaves
-/// it, and how many settings there were.
-fn run_plain_alone(alloc: Global, rack: Rack, planned: &Planned) -> Result<(Rack, usize), Refusal>
-    requires fits { FitsIn rack.shape planned.now.batch }
-    ensures settings { IfOk result (λ ran. ran.1 ≡ length planned.now.settings) }
-    ensures placed { IfOk result (λ ran. IsPlaced rack planned.now.batch ran.0) }
-    ensures apart { IfOk result (λ _. IsApart planned.now.batch) }
-    ensures wrong { IfErr result (λ e. e ≢ NoMemory → IsOverlapOf planned.now.batch e) }
-{
-    laws::first_overlap();
-    let mut plant = Plant {
-        port: MemoryPort::new(),
-        wires: PlainWires,
-        gate: OpenGate,
-        workers: WorkerCount::ONE,
-    };
-    let (rack, outcome) = run_alone(alloc, rack, &mut plant, planned, &mut NoNotice);
-    match outcome {
-        Outcome::Completed { settings, .. } => Ok((rack, settings)),
-        Outcome::Refused(why) => match why {
-            RunRefusal::Overlap(i, j) => Err(Refusal::Overlap(i, j)),
-            RunRefusal::Shape => unreachable!(),
-            RunRefusal::NoMemory => Err(Refusal::NoMemory),
-        },
-        Outcome::Stopped { .. } => unreachable!(),
-    }
-}
-
-/// The image that a run of the plan leaves of the image of a rack of the shape, or what is wrong.
-fn apply_plan(
-    alloc: Global,
-    shape: Shape,
-    image: &[u8],
-    planned: &Planned,
-) -> Result<Vec<u8>, Refusal>
-    requires fits { FitsIn shape planned.now.batch }
-    ensures result { IfOk result (λ text.
-        IsResultOf image_alone shape (Some image.now) planned.now text.items) }
+/// The image with the blocks of the batch placed, or what is wrong.
+fn apply_batch(alloc: Global, shape: Shape, batch: &Batch, image: &[u8]) -> Result<Vec<u8>, Refusal>
+    requires fits { FitsIn shape batch.now }
+    ensures placed { IfOk result (λ text. IsApart batch.now
+        × IsPlacedImage shape image.now batch.now text.items) }
     ensures wrong { IfErr result (λ e. e ≢ NoMemory
-        → IsWrongOf shape (Some image.now) planned.now.batch e) }
+        → IsWrongOf shape (Some image.now) batch.now e) }
 {
-    let rack = marked_rack(alloc, shape, Some(image))?;
-    let (rack, settings) = run_plain_alone(alloc, rack, planned)?;
-    Ok(result_text(alloc, &rack, planned.batch(), settings, Telling::Image)?)
+    check_image(shape, image)?;
+    if let Some((i, j)) = batch.first_overlap() {
+        return Err(Refusal::Overlap(i, j));
+    }
+    Ok(placed_image(alloc, shape, batch, image)?)
 }
 
 /// The image that a run of the batch leaves, or what is first wrong.
@@ -74,12 +39,13 @@ fn apply_texts(alloc: Global, shape: &[u8], batch: &[u8], image: &[u8]) -> Resul
 {
     let shape = Shape::read(shape)?;
     let batch = Batch::read(alloc, batch, shape)?;
-    let planned = schedule_alone(alloc, batch)?;
-    apply_plan(alloc, shape, image, &planned)
+    apply_batch(alloc, shape, &batch, image)
 }
 
-/// The answer of `exchange apply`, as [`answer_apply`](crate::answer_apply) gives it with one
-/// worker. It starts no thread.
+/// The answer of `exchange apply`, as [`answer_apply`](crate::answer_apply) gives it. It plans and
+/// runs nothing, and starts no thread. Takes memory for the batch and for the image that it gives,
+/// and time that grows with the lengths of the texts and of the image; only where transfers overlap
+/// may it grow with the square of the number of transfers.
 pub fn answer_apply_alone(
     alloc: Global,
     shape: &[u8],

@@ -2,6 +2,7 @@
 
 ghost use Rattle.std.specs.Prelude.{◌≡◌, ◌≢◌, IfOk, IfErr, Some, length};
 ghost use Rattle.batch.specs.Overlap.{IsApart};
+ghost use Rattle.link_graph.specs.Schedules.{IsScheduleOf};
 ghost use Rattle.module_memory.specs.declared.fault.ImageFault.TheVariants as image_fault;
 ghost use Rattle.module_memory.specs.Core.{FitsIn, IsPlaced};
 ghost use Rattle.plan_answers.specs.Answers.{IsOnly};
@@ -17,6 +18,7 @@ use crate::report::report;
 use batch::{Batch, Shape, laws};
 use crossbar::MemoryPort;
 use exchange_limits::WorkerCount;
+use link_graph::Schedule;
 use module_memory::{ImageFault, Rack};
 use peek_poke::PlainWires;
 use plan_answers::Answer;
@@ -28,14 +30,14 @@ use std::thread::Threads;
 
 /// What is printed of a run: its report, or the image of the rack that it leaves.
 #[derive(Clone, Copy)]
-pub(crate) enum Telling {
+enum Telling {
     Report,
     Image,
 }
 
 /// Nobody is told how far a run has come.
 #[derive(Drop)]
-pub(crate) struct NoNotice;
+struct NoNotice;
 
 impl Notice for NoNotice {
     ghost hears = { λ _ _ _. Unit {0} };
@@ -44,11 +46,7 @@ impl Notice for NoNotice {
 }
 
 /// The rack of the image, where there is one, else one whose words tell where they stand.
-pub(crate) fn marked_rack(
-    alloc: Global,
-    shape: Shape,
-    image: Option<&[u8]>,
-) -> Result<Rack, ImageFault>
+fn marked_rack(alloc: Global, shape: Shape, image: Option<&[u8]>) -> Result<Rack, ImageFault>
     ensures rack { IfOk result (IsOfImageOrMarked shape (bytes_of image.entry)) }
     ensures wrong { IfErr result (λ fault. fault ≢ image_fault.NoMemory
         → IsWrongImage shape (bytes_of image.entry) fault) }
@@ -60,20 +58,22 @@ pub(crate) fn marked_rack(
     Ok(rack)
 }
 
-/// Runs a plan on a rack, over a port and wires that never fail. Gives the rack as the run leaves
-/// it, and how many settings there were.
+/// Runs a batch on a rack by a schedule of it, over a port and wires that never fail. Gives the
+/// rack as the run leaves it, and how many settings there were.
 fn run_plain<R: Threads + Sync>(
     rt: &R,
     alloc: Global,
     rack: Rack,
-    planned: &Planned,
+    batch: &Batch,
+    schedule: &Schedule,
     workers: WorkerCount,
 ) -> Result<(Rack, usize), Refusal>
-    requires fits { FitsIn rack.shape planned.now.batch }
-    ensures settings { IfOk result (λ ran. ran.1 ≡ length planned.now.settings) }
-    ensures placed { IfOk result (λ ran. IsPlaced rack planned.now.batch ran.0) }
-    ensures apart { IfOk result (λ _. IsApart planned.now.batch) }
-    ensures wrong { IfErr result (λ e. e ≢ NoMemory → IsOverlapOf planned.now.batch e) }
+    requires fits { FitsIn rack.shape batch.now }
+    requires schedule { IsScheduleOf batch.now schedule.now }
+    ensures settings { IfOk result (λ ran. ran.1 ≡ length schedule.now) }
+    ensures placed { IfOk result (λ ran. IsPlaced rack batch.now ran.0) }
+    ensures apart { IfOk result (λ _. IsApart batch.now) }
+    ensures wrong { IfErr result (λ e. e ≢ NoMemory → IsOverlapOf batch.now e) }
 {
     laws::first_overlap();
     let mut plant = Plant {
@@ -82,7 +82,7 @@ fn run_plain<R: Threads + Sync>(
         gate: OpenGate,
         workers,
     };
-    let (rack, outcome) = run(rt, alloc, rack, &mut plant, planned, &mut NoNotice);
+    let (rack, outcome) = run(rt, alloc, rack, &mut plant, batch, schedule, &mut NoNotice);
     match outcome {
         Outcome::Completed { settings, .. } => Ok((rack, settings)),
         Outcome::Refused(why) => match why {
@@ -95,7 +95,7 @@ fn run_plain<R: Threads + Sync>(
 }
 
 /// What is printed of a run of the batch in so many settings that left the rack.
-pub(crate) fn result_text(
+fn result_text(
     alloc: Global,
     rack: &Rack,
     batch: &Batch,
@@ -128,8 +128,10 @@ fn tell_plan<R: Threads + Sync>(
         → IsWrongOf shape (bytes_of image.entry) planned.now.batch e) }
 {
     let rack = marked_rack(alloc, shape, image)?;
-    let (rack, settings) = run_plain(rt, alloc, rack, planned, workers)?;
-    Ok(result_text(alloc, &rack, planned.batch(), settings, telling)?)
+    let batch = planned.batch();
+    let schedule = planned.schedule();
+    let (rack, settings) = run_plain(rt, alloc, rack, batch, schedule, workers)?;
+    Ok(result_text(alloc, &rack, batch, settings, telling)?)
 }
 
 /// What is printed of the run, or what is first wrong.

@@ -8,7 +8,9 @@
 //! The contracts of their parts say some of it. A note has the number and the beginning of the line
 //! that the refusal means, and what is wanted there (`IsLineTold` of `specs/Told.antt`). A number
 //! that is told as too great stands there, and isn't below the limit that is told with it
-//! (`IsNoteAbove` of `specs/Notes.antt`).
+//! (`IsNoteAbove` of `specs/Notes.antt`). Where a line is told to differ at a byte, what is told to
+//! stand there is the line from there on (`IsDifferenceOf` of `specs/Differences.antt`). A link
+//! that is told to be taken is in both lines (`IsTaken`). No contract says that a note is told.
 #![tactic(auto)]
 
 mod differences;

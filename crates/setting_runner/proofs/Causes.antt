@@ -1,8 +1,8 @@
 -- Why a setting stops.
-use Rattle.std.proofs.Common.{◌≡◌, ◌<◌, ◌≤◌, ℕ, zero, List, [], ◌∷◌, suc, map, length, take, get_or, refl, sym, ap, ◌∙◌, arith, subst}
-use Rattle.std.specs.Prelude.{All, AllPairs}
-use Rattle.std.proofs.lemmas.List.Elements.{All-cons, All-head}
-use Rattle.link_graph.proofs.Sums.{later, first_with}
+use Rattle.std.proofs.Common.{◌≡◌, ◌<◌, ◌≤◌, inl, inr, ℕ, List, [], ◌∷◌, ◌++◌, Option, Some, None, map, refl, ap, ◌∙◌, arith, subst}
+use Rattle.std.specs.Prelude.{All, IfSome, MatchOption}
+use Rattle.std.proofs.lemmas.Bool.{cases_lt}
+use Rattle.std.proofs.lemmas.List.Elements.{All-cons, All-push, Contains-append_left, Contains-append_right}
 use Rattle.batch.specs.declared.transfer.Transfer.{Transfer}
 use Rattle.module_memory.specs.Lending.{RestView, BlockAt}
 use Rattle.setting_runner.specs.declared.outcome.StopCause.TheVariants.{Wire}
@@ -60,31 +60,56 @@ most_moved sure rest batch (t ∷ ts) [] ns ms a = absurd a
 most_moved sure rest batch (t ∷ ts) (o ∷ os) [] ms a = absurd a
 most_moved sure rest batch (t ∷ ts) (o ∷ os) (n ∷ ns) [] a = absurd a
 
--- all numbers behind the first are above it
-above_first : (m : ℕ × ℕ) (ms : List (ℕ × ℕ)) → All (λ b. m.0 < b) (map (λ (m : ℕ × ℕ). m.0) ms) → (words : ℕ) → All (λ (x : ℕ × ℕ). x.1 < words → m.0 ≤ x.0) ms
-above_first m [] h words = λ k d l. absurd (omega arith)
-above_first m (x ∷ xs) h words =
-    All-cons (λ (y : ℕ × ℕ). y.1 < words → m.0 ≤ y.0) x xs (λ _. (let up : m.0 < x.0 = All-head (λ b. m.0 < b) x.0 (map (λ (m : ℕ × ℕ). m.0) xs) h in omega arith))
-    (above_first m xs (λ k d l. h (suc k) d (omega arith)) words)
+-- ---- the least that is short, one transfer after another
 
--- Of ascending numbers, the first that is short is the least.
-pub first_is_least : (words i : ℕ) (ms : List (ℕ × ℕ)) (m d : ℕ × ℕ) → AllPairs (λ a b. a < b) (names_of ms) → AllWhole words (take i ms) → i < length ms → m ≡ get_or ms i d → m.1 < words → IsLeastShort words m.0 ms
-first_is_least words i [] m d asc w h e short = absurd (omega arith)
-first_is_least words zero (x ∷ ms) m d asc w h e short =
-    let P : ℕ → ℕ × ℕ → Type 0 = λ t y. y.1 < words → t ≤ y.0 in
-    let up : All (P x.0) ms = above_first x ms (first_with (λ a b. a < b) x.0 (names_of ms) asc) words in
-    record {
-      count = m.1;
-      stands = (0, omega arith, sym e);
-      short = short;
-      least = All-cons (P m.0) x ms (λ _. omega (arith, ap (λ (y : ℕ × ℕ). y.0) e)) (subst (λ (y : ℕ × ℕ). All (P y.0) ms) (sym e) up);
-    }
-first_is_least words (suc i) (x ∷ ms) m d asc w h e short =
-    let r = first_is_least words i ms m d (later (λ a b. a < b) x.0 (names_of ms) asc) w.1 (omega arith) e short in
-    let whole : words ≤ x.1 = w.0 in
-    record {
-      count = r.count;
-      stands = (suc r.stands.0, omega (arith, r.stands.1), r.stands.2);
-      short = r.short;
-      least = All-cons (λ (y : ℕ × ℕ). y.1 < words → m.0 ≤ y.0) x ms (λ less. absurd (omega arith)) r.least;
-    }
+-- the least of these that is short, or none is
+abbrev pub IsLeastOf : ℕ → List (ℕ × ℕ) → Option ℕ → Type 0
+IsLeastOf words ms least = MatchOption least (AllWhole words ms) (λ t. IsLeastShort words t ms)
+
+abbrev AboveShort : ℕ → ℕ → ℕ × ℕ → Type 0
+AboveShort words t m = m.1 < words → t ≤ m.0
+
+all_whole_push : (words : ℕ) (ms : List (ℕ × ℕ)) (m : ℕ × ℕ) → AllWhole words ms → words ≤ m.1 → AllWhole words (ms ++ m ∷ [])
+all_whole_push words [] m all whole = (whole, tt)
+all_whole_push words (x ∷ ms) m all whole = (all.0, all_whole_push words ms m all.1 whole)
+
+above_whole : (words t : ℕ) (ms : List (ℕ × ℕ)) → AllWhole words ms → All (AboveShort words t) ms
+above_whole words t [] all = λ k d l. absurd (omega arith)
+above_whole words t (m ∷ ms) all =
+    let whole : words ≤ m.1 = all.0 in
+    All-cons (AboveShort words t) m ms (λ less. absurd (omega arith)) (above_whole words t ms all.1)
+
+above_less : (words t u : ℕ) (ms : List (ℕ × ℕ)) → t < u → All (AboveShort words u) ms → All (AboveShort words t) ms
+above_less words t u ms less all k d l short = omega (arith, all k d l short)
+
+same_least : (words t : ℕ) (ms : List (ℕ × ℕ)) (m : ℕ × ℕ) → IsLeastShort words t ms → AboveShort words t m → IsLeastShort words t (ms ++ m ∷ [])
+same_least words t ms m is above = record {
+  count = is.count;
+  stands = Contains-append_left ms (m ∷ []) (t, is.count) is.stands;
+  short = is.short;
+  least = All-push (AboveShort words t) ms m is.least above;
+}
+
+new_least : (words : ℕ) (ms : List (ℕ × ℕ)) (m : ℕ × ℕ) → m.1 < words → All (AboveShort words m.0) ms → IsLeastShort words m.0 (ms ++ m ∷ [])
+new_least words ms m short above = record {
+  count = m.1;
+  stands = Contains-append_right ms (m ∷ []) m (0, omega arith, refl);
+  short = short;
+  least = All-push (AboveShort words m.0) ms m above (λ _. omega arith);
+}
+
+-- a transfer that has moved all words makes no difference
+pub whole_changes_none : (words : ℕ) (ms : List (ℕ × ℕ)) (m : ℕ × ℕ) (least : Option ℕ) → IsLeastOf words ms least → words ≤ m.1 → IsLeastOf words (ms ++ m ∷ []) least
+whole_changes_none words ms m None is whole = all_whole_push words ms m is whole
+whole_changes_none words ms m (Some t) is whole = same_least words t ms m is (λ less. absurd (omega arith))
+
+-- nor does one that isn't less
+pub greater_changes_none : (words : ℕ) (ms : List (ℕ × ℕ)) (m : ℕ × ℕ) (least : Option ℕ) → IsLeastOf words ms least → (IfSome least (λ t. m.0 < t) → ⊥) → IsLeastOf words (ms ++ m ∷ []) least
+greater_changes_none words ms m None is not_less = absurd (not_less tt)
+greater_changes_none words ms m (Some t) is not_less =
+    same_least words t ms m is (λ _. elim (cases_lt m.0 t) [ inl less ↦ absurd (not_less less) | inr up ↦ omega arith ])
+
+-- one that is less, and short, is the least
+pub lesser_is_least : (words : ℕ) (ms : List (ℕ × ℕ)) (m : ℕ × ℕ) (least : Option ℕ) → IsLeastOf words ms least → m.1 < words → IfSome least (λ t. m.0 < t) → IsLeastOf words (ms ++ m ∷ []) (Some m.0)
+lesser_is_least words ms m None is short less = new_least words ms m short (above_whole words m.0 ms is)
+lesser_is_least words ms m (Some t) is short less = new_least words ms m short (above_less words m.0 t ms less is.least)

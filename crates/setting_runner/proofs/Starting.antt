@@ -16,13 +16,13 @@ use Rattle.module_memory.specs.Lending.{AreLendable, ExistBefore, IsLendFault, b
 use Rattle.module_memory.specs.declared.fault.LendFault.{LendFault}
 use Rattle.module_memory.specs.declared.fault.LendFault.TheVariants.{SamePlace, NoPlace, NoHeld, NoMemory as NoBays}
 use Rattle.module_memory.proofs.PartedSettings.{settings_have_bays}
-use Rattle.schedule_certificate.specs.Plans.{Plan}
 use Rattle.setting_runner.specs.declared.outcome.Outcome.{Outcome}
 use Rattle.setting_runner.specs.declared.outcome.Outcome.TheVariants.{Refused}
 use Rattle.setting_runner.specs.declared.outcome.RunRefusal.{RunRefusal}
 use Rattle.setting_runner.specs.declared.outcome.RunRefusal.TheVariants.{NoMemory, Overlap, Shape}
 use Rattle.setting_runner.specs.Refusals.{IsRefusal}
-use Rattle.setting_runner.specs.Runs.{CanMove, HasOwnBays, IsMisfit, IsRefusedRun, RunNeedsMemory, numbers_of, plan_destinations}
+use Rattle.setting_runner.specs.Runs.{CanMove, HasOwnBays, IsMisfit, IsRefusedRun, RunNeedsMemory, destinations_in}
+use Rattle.switch_settings.specs.Settings.{numbers_in}
 use Rattle.setting_runner.proofs.Schedules.{split_concat}
 
 abbrev refused : RunRefusal → Outcome
@@ -82,15 +82,15 @@ lend_fault_is shape places held (NoHeld i) a h f = absurd (f.1.missing (h i f.1.
 lend_fault_is shape places held (NoPlace i) a h f = absurd (f.missing (a.exist i f.within))
 lend_fault_is shape places held NoBays a h f = f.2
 
--- each setting of a plan has its bays
-pub plan_bays : (s : Store) (plan : Plan) (k : ℕ) → IsReady s s plan.batch (concat plan.settings) → k < length plan.settings
-    → HasOwnBays (without s (plan_destinations plan)) (bays_of s (plan_destinations plan)) plan k
-plan_bays s plan k r h =
-    let before = concat (take k plan.settings) in
-    let after = concat (drop (k + 1) plan.settings) in
-    let e = split_concat plan.settings k h in
-    subst (λ (xs : List ℕ). AreBaysOf (without s (destinations_of plan.batch xs)) (bays_of s (destinations_of plan.batch xs)) (length before) (setting_of plan.batch (numbers_of plan k))) (sym e)
-    (settings_have_bays s plan.batch before (numbers_of plan k) after (subst (IsReady s s plan.batch) e r)).1
+-- each setting of a schedule has its bays
+pub setting_bays : (s : Store) (batch : List Transfer) (settings : List (List ℕ)) (k : ℕ) → IsReady s s batch (concat settings) → k < length settings
+    → HasOwnBays (without s (destinations_in batch settings)) (bays_of s (destinations_in batch settings)) batch settings k
+setting_bays s batch settings k r h =
+    let before = concat (take k settings) in
+    let after = concat (drop (k + 1) settings) in
+    let e = split_concat settings k h in
+    subst (λ (xs : List ℕ). AreBaysOf (without s (destinations_of batch xs)) (bays_of s (destinations_of batch xs)) (length before) (setting_of batch (numbers_in settings k))) (sym e)
+    (settings_have_bays s batch before (numbers_in settings k) after (subst (IsReady s s batch) e r)).1
 
 -- held sources are blocks of the rack
 pub held_places : (shape : Extent) (batch : List Transfer) (held : List Place) → AreHeldSources batch held → FitsIn shape batch → ExistBefore shape held (length held)

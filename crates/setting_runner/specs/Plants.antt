@@ -1,16 +1,20 @@
 -- What a run leaves of the plant that it worked with.
-use Rattle.std.specs.Prelude.{◌≡◌, ℕ, ◌≤◌, [], IsTrue, Option, IfSome}
+use Rattle.std.specs.Prelude.{◌≡◌, ℕ, ◌≤◌, List, [], IsTrue, Option, IfSome}
 use Rattle.batch.specs.Extent.{Extent}
+use Rattle.batch.specs.declared.transfer.Transfer.{Transfer}
 use Rattle.crossbar.specs.declared.port.ConfigPort.{Ghosts}
-use Rattle.schedule_certificate.specs.Plans.{Plan}
 use Rattle.setting_runner.specs.declared.outcome.Outcome.{Outcome}
 use Rattle.setting_runner.specs.declared.plant.Plant.{Plant}
 use Rattle.setting_runner.specs.Runs.{HasCause, IsRefusedRun, LeavesSwitches}
 
--- What a run of this plan, if there is one, leaves of its plant on a rack of this shape, where it
--- ends so. The first two say what is seen of the port, and which wires never fail.
-pub record LeavesPlant {P W G : Type 0} (seen : Ghosts P) (sure : W → ℕ → Type 0)
-    (shape : Extent) (ran : Option Plan) (outcome : Outcome) (old new : Plant P W G) : Type 0 where
+-- a batch, and the settings of a schedule of it
+abbrev pub Scheduled : Type 0
+Scheduled = List Transfer × List (List ℕ)
+
+-- What a run of this schedule, if there is one, leaves of its plant on a rack of this shape, where
+-- it ends so. The first two say what is seen of the port, and which wires never fail.
+pub record LeavesPlant {P W G : Type 0} (seen : Ghosts P) (sure : W → ℕ → Type 0) (shape : Extent)
+    (ran : Option Scheduled) (outcome : Outcome) (old new : Plant P W G) : Type 0 where
   -- a run that stopped has a cause, and the port has failed in no other
   pub cause :
       HasCause (record {
@@ -22,10 +26,10 @@ pub record LeavesPlant {P W G : Type 0} (seen : Ghosts P) (sure : W → ℕ → 
       }) outcome
   -- the switches of an honest port are those of the setting that was run last
   pub switches : IsTrue (seen.honest old.port) →
-      IfSome ran (λ plan. LeavesSwitches shape plan outcome (seen.switches new.port))
-  -- where the run is refused nothing is done, nor where its plan has no setting
+      IfSome ran (λ s. LeavesSwitches shape s.0 s.1 outcome (seen.switches new.port))
+  -- where the run is refused nothing is done, nor where its schedule has no setting
   pub refused : IsRefusedRun outcome → new ≡ old
-  pub uncalled : IfSome ran (λ plan. plan.settings ≡ [] → new ≡ old)
+  pub uncalled : IfSome ran (λ s. s.1 ≡ [] → new ≡ old)
   -- all but the port is as it was; its failures never fall, and it is as honest as it was
   pub others : new ≡ record old { port = new.port }
   pub counted : seen.failures old.port ≤ seen.failures new.port

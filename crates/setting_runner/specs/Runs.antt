@@ -14,7 +14,6 @@ use Rattle.module_memory.specs.Core.{FitsIn, IsMoved, IsPlaced, IsReady, setting
 use Rattle.module_memory.specs.Lending.{BlockAt, RestView, Rejoins, found_in, store_rejoined}
 use Rattle.link_graph.specs.Schedules.{IsScheduleOf}
 use Rattle.module_memory.specs.Settings.{IsRun, IsStoppedRun, all_words}
-use Rattle.schedule_certificate.specs.Plans.{Plan}
 use Rattle.setting_runner.specs.declared.outcome.Outcome.{Outcome}
 use Rattle.setting_runner.specs.declared.outcome.Outcome.TheVariants.{Completed, Refused, Stopped}
 use Rattle.setting_runner.specs.declared.outcome.StopCause.{StopCause}
@@ -22,20 +21,16 @@ use Rattle.setting_runner.specs.declared.outcome.StopCause.TheVariants.{Port, Sw
 use Rattle.switch_settings.specs.Answers.{HasOutput}
 use Rattle.switch_settings.specs.Settings.{numbers_in, setting_pairs}
 
--- the transfers of a plan's setting, by their numbers
-abbrev pub numbers_of : Plan → ℕ → List ℕ
-numbers_of plan k = numbers_in plan.settings k
-
 -- the bays of a setting stand behind those of the settings before it
-abbrev pub HasOwnBays : Store → List BlockAt → Plan → ℕ → Type 0
-HasOwnBays rest bays plan k =
+abbrev pub HasOwnBays : Store → List BlockAt → List Transfer → List (List ℕ) → ℕ → Type 0
+HasOwnBays rest bays batch settings k =
     AreBaysOf rest bays
-    (length (concat (take k plan.settings))) (setting_of plan.batch (numbers_of plan k))
+    (length (concat (take k settings))) (setting_of batch (numbers_in settings k))
 
 -- the switches of a setting, in a rack of this shape
-abbrev pub AreSettingSwitches : Extent → Plan → ℕ → Switches → Type 0
-AreSettingSwitches shape plan k switches =
-    AreSwitchesOf shape.modules (setting_pairs plan.batch (numbers_of plan k)) switches
+abbrev pub AreSettingSwitches : Extent → List Transfer → List (List ℕ) → ℕ → Switches → Type 0
+AreSettingSwitches shape batch settings k switches =
+    AreSwitchesOf shape.modules (setting_pairs batch (numbers_in settings k)) switches
 
 -- the numbers of transfers with their words
 abbrev pub names_of : List (ℕ × ℕ) → List ℕ
@@ -47,54 +42,58 @@ words_of moved = map (λ m. m.1) moved
 
 -- ---- before the first setting
 
--- the blocks that a plan writes, setting by setting
-abbrev pub plan_destinations : Plan → List Place
-plan_destinations plan = destinations_of plan.batch (concat plan.settings)
+-- the blocks that a schedule of a batch writes, setting by setting
+abbrev pub destinations_in : List Transfer → List (List ℕ) → List Place
+destinations_in batch settings = destinations_of batch (concat settings)
 
--- the bays of all settings are lent, setting by setting, from a rack that is ready for the plan
-pub record IsPrepared (rest : RestView) (bays : List BlockAt) (plan : Plan) : Type 0 where
-  pub schedule : IsScheduleOf plan.batch plan.settings
+-- the bays of all settings are lent, setting by setting, from a rack that is ready for the batch
+pub record IsPrepared (rest : RestView) (bays : List BlockAt) (batch : List Transfer)
+    (settings : List (List ℕ)) : Type 0 where
+  pub schedule : IsScheduleOf batch settings
   pub ready :
-      IsReady (store_rejoined rest.store bays) (store_rejoined rest.store bays) plan.batch
-      (concat plan.settings)
-  pub settings : (k : ℕ) → k < length plan.settings → HasOwnBays rest.store bays plan k
+      IsReady (store_rejoined rest.store bays) (store_rejoined rest.store bays) batch
+      (concat settings)
+  pub own_bays : (k : ℕ) → k < length settings → HasOwnBays rest.store bays batch settings k
   pub rejoins : Rejoins rest.store bays
   -- transfers find what their sources have before the first setting
-  pub found : AreFound (found_in rest) (store_rejoined rest.store bays) plan.batch
+  pub found : AreFound (found_in rest) (store_rejoined rest.store bays) batch
 
 -- ---- the memories
 
 -- all settings were run, and all blocks are placed
-pub record IsCompleted (old : Store) (plan : Plan) (settings words : ℕ) (new : Store) : Type 0 where
-  pub all_settings : settings ≡ length plan.settings
-  pub all_moved : words ≡ length plan.batch * old.shape.words
-  pub machine : IsRun old old plan.batch plan.settings new
-  pub placed : IsPlaced old plan.batch new
+pub record IsCompleted (old : Store) (batch : List Transfer) (settings : List (List ℕ))
+    (done words : ℕ) (new : Store) : Type 0 where
+  pub all_settings : done ≡ length settings
+  pub all_moved : words ≡ length batch * old.shape.words
+  pub machine : IsRun old old batch settings new
+  pub placed : IsPlaced old batch new
 
 -- the transfers of the settings before one, and its own
-abbrev pub up_to : Plan → ℕ → List Transfer
-up_to plan k = setting_of plan.batch (concat (take k plan.settings) ++ numbers_of plan k)
+abbrev pub up_to : List Transfer → List (List ℕ) → ℕ → List Transfer
+up_to batch settings k = setting_of batch (concat (take k settings) ++ numbers_in settings k)
 
 -- The run has stopped in this setting. The settings before it were run, and each transfer of it has
 -- moved so many words. The machine has made these steps, and the store is that of the counts.
-pub record HasStoppedIn (old : Store) (plan : Plan) (setting : ℕ) (moved : List (ℕ × ℕ))
-    (new : Store) : Type 0 where
-  pub within : setting < length plan.settings
-  pub named : names_of moved ≡ numbers_of plan setting
+pub record HasStoppedIn (old : Store) (batch : List Transfer) (settings : List (List ℕ))
+    (setting : ℕ) (moved : List (ℕ × ℕ)) (new : Store) : Type 0 where
+  pub within : setting < length settings
+  pub named : names_of moved ≡ numbers_in settings setting
   pub at_most : All (λ m. m.1 ≤ old.shape.words) moved
   pub steps : List ℕ
   pub counted : (i : ℕ) → i < length moved → times i steps ≡ slice_index (words_of moved) i
   pub machine :
-      IsStoppedRun old old plan.batch (take setting plan.settings)
-      (numbers_of plan setting) steps new
+      IsStoppedRun old old batch (take setting settings)
+      (numbers_in settings setting) steps new
   pub store :
-      IsMoved old (up_to plan setting)
-      (slice_index (all_words old (take setting plan.settings) ++ words_of moved)) new
+      IsMoved old (up_to batch settings setting)
+      (slice_index (all_words old (take setting settings) ++ words_of moved)) new
 
-abbrev pub LeavesMemories : Store → Plan → Outcome → Store → Type 0
-LeavesMemories old plan (Completed settings words) new = IsCompleted old plan settings words new
-LeavesMemories old plan (Refused refusal) new = new ≡ old
-LeavesMemories old plan (Stopped setting cause moved) new = HasStoppedIn old plan setting moved new
+abbrev pub LeavesMemories : Store → List Transfer → List (List ℕ) → Outcome → Store → Type 0
+LeavesMemories old batch settings (Completed done words) new =
+    IsCompleted old batch settings done words new
+LeavesMemories old batch settings (Refused refusal) new = new ≡ old
+LeavesMemories old batch settings (Stopped setting cause moved) new =
+    HasStoppedIn old batch settings setting moved new
 
 -- ---- the causes
 
@@ -179,12 +178,12 @@ pub record RunNeedsMemory (shape : Extent) (batch : List Transfer) : Type 0 wher
 -- ---- the switches
 
 -- the switches of the rack are those of the last setting, or of the setting in which a wire failed
-abbrev pub LeavesSwitches : Extent → Plan → Outcome → Switches → Type 0
-LeavesSwitches shape plan (Completed settings words) switches =
-    (k : ℕ) → k + 1 ≡ length plan.settings → AreSettingSwitches shape plan k switches
-LeavesSwitches shape plan (Refused refusal) switches = Unit {0}
-LeavesSwitches shape plan (Stopped setting cause moved) switches =
-    (t : ℕ) → cause ≡ Wire t → AreSettingSwitches shape plan setting switches
+abbrev pub LeavesSwitches : Extent → List Transfer → List (List ℕ) → Outcome → Switches → Type 0
+LeavesSwitches shape batch settings (Completed done words) switches =
+    (k : ℕ) → k + 1 ≡ length settings → AreSettingSwitches shape batch settings k switches
+LeavesSwitches shape batch settings (Refused refusal) switches = Unit {0}
+LeavesSwitches shape batch settings (Stopped setting cause moved) switches =
+    (t : ℕ) → cause ≡ Wire t → AreSettingSwitches shape batch settings setting switches
 
 -- ---- what is told
 

@@ -1,20 +1,18 @@
-//! A run of a planned batch: the switches are set, setting by setting, and the blocks are moved
-//! over the links.
+//! A run of a batch by a schedule of it: the switches are set, setting by setting, and the blocks
+//! are moved over the links.
 //!
-//! [`run`] and [`run_alone`] end in one of three ways (`LeavesMemories` of `specs/Runs.antt`). A
-//! completed run has placed the blocks of all transfers. A stopped one names a setting and a cause,
-//! and its store is that of the words that each transfer moved. A refused one has changed nothing.
-//! What is left of port, wires and switches is `LeavesPlant` of `specs/Plants.antt`, and what the
-//! notice is told `TellsOutcome`.
+//! [`run`] ends in one of three ways (`LeavesMemories` of `specs/Runs.antt`). A completed run has
+//! placed the blocks of all transfers. A stopped one names a setting and a cause, and its store is
+//! that of the words that each transfer moved. A refused one has changed nothing. What is left of
+//! port, wires and switches is `LeavesPlant` of `specs/Plants.antt`, and what the notice is told
+//! `TellsOutcome`.
 #![tactic(auto)]
 
-mod alone;
 mod bits;
 mod block;
 pub mod laws;
 mod moved;
 mod notice;
-mod numbers;
 mod outcome;
 mod plant;
 mod ready;
@@ -22,11 +20,9 @@ mod running;
 mod setting;
 mod work;
 
-pub use alone::run_alone;
 pub use bits::line_bits;
 pub use moved::Moved;
 pub use notice::Notice;
-pub use numbers::setting_numbers;
 pub use outcome::{Outcome, RunRefusal, StopCause};
 pub use plant::Plant;
 pub use running::run;

@@ -9,8 +9,8 @@ use std::marker::Model;
 use std::slice;
 use switch_settings::ShortList;
 
-/// The transfers of a setting by ascending number, at most one of each module, each with the number
-/// of words that it has moved, from none to those of a block. Contracts see the list. It has 136
+/// The transfers of a setting in its order, at most one of each module, each with the number of
+/// words that it has moved, from none to those of a block. Contracts see the list. It has 136
 /// bytes, since a reply may be one of these.
 #[derive(Clone, Copy, Debug)]
 pub struct Moved {

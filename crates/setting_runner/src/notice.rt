@@ -1,6 +1,4 @@
-ghost use Rattle.std.specs.Prelude.{ℕ, ◌≤◌};
-
-use batch::MAX_TRANSFERS;
+ghost use Rattle.std.specs.Prelude.{ℕ, ◌<◌, ◌^◌};
 
 /// Whoever is told how far a run has come.
 pub trait Notice {
@@ -8,8 +6,8 @@ pub trait Notice {
     ghost hears: { Self → ℕ → Self → Type 0 };
 
     /// So many settings of the run are done: 0 before the first of them begins, and then one more
-    /// each time, up to all settings of the plan.
+    /// each time, up to all settings of the schedule.
     fn done(&mut self, settings: usize)
-        requires { settings ≤ MAX_TRANSFERS }
+        requires { settings < 2 ^ 63 }
         ensures { hears self.old settings self.new };
 }

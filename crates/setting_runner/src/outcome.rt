@@ -27,8 +27,9 @@ pub enum StopCause {
     /// 31 for the first switch, and in a wider rack 32 + its number for the second. An answer that
     /// a switch never gives is no such answer.
     SwitchDisagrees(u8),
-    /// The wire of this transfer failed before all its words had moved, and of none before it in
-    /// the setting. All other transfers of the setting have moved as far as their wires went.
+    /// The wire of this transfer failed before all its words had moved, and that of none with a
+    /// lesser number in the setting. All other transfers of it have moved as far as their wires
+    /// went.
     Wire(usize),
 }
 

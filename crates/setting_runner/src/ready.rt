@@ -4,13 +4,13 @@ ghost use Rattle.std.specs.Prelude.{◌≡◌, ◌<◌, ◌++◌, ◌↔◌, All
 ghost use Rattle.batch.specs.Places.{HasPlace, source_of, destination_of};
 ghost use Rattle.module_memory.specs.Bays.{destinations_of};
 ghost use Rattle.module_memory.specs.Core.{FitsIn};
-ghost use Rattle.setting_runner.specs.Runs.{plan_destinations};
+ghost use Rattle.link_graph.specs.Schedules.{IsScheduleOf};
+ghost use Rattle.setting_runner.specs.Runs.{destinations_in};
 
-use crate::numbers::setting_numbers;
 use batch::{Batch, Place, Shape, Transfer};
-use schedule_certificate::Planned;
+use link_graph::Schedule;
 use std::alloc::{AllocError, Global};
-use switch_settings::transfer_of;
+use switch_settings::{numbers_of_setting, transfer_of};
 
 /// Whether the shape has the block.
 fn has_place(shape: Shape, place: Place) -> bool
@@ -39,15 +39,20 @@ pub fn fits_in(shape: Shape, batch: &Batch) -> bool
     true
 }
 
-/// The blocks that the transfers of a plan write, in the order of its settings.
-pub fn destinations(alloc: Global, planned: &Planned) -> Result<Vec<Place>, AllocError>
-    ensures places { IfOk result (λ places. places.items ≡ plan_destinations planned.now) }
-    ensures memory { IfErr result (λ _. 0 < length planned.now.batch) }
+/// The blocks that the transfers of a schedule write, in the order of its settings.
+pub fn destinations(
+    alloc: Global,
+    batch: &Batch,
+    schedule: &Schedule,
+) -> Result<Vec<Place>, AllocError>
+    requires { IsScheduleOf batch.now schedule.now }
+    ensures places { IfOk result
+        (λ places. places.items ≡ destinations_in batch.now schedule.now) }
+    ensures memory { IfErr result (λ _. 0 < length batch.now) }
 {
-    let batch = planned.batch();
     let mut places = Vec::new(alloc);
-    for k in 0..planned.schedule().settings() {
-        push_destinations(&mut places, batch, setting_numbers(planned, k))?;
+    for k in 0..schedule.settings() {
+        push_destinations(&mut places, batch, numbers_of_setting(batch, schedule, k))?;
     }
     Ok(places)
 }

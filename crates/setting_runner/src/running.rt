@@ -1,7 +1,8 @@
-//! Runs of planned batches.
+//! Runs of batches by their schedules.
 
 ghost use Rattle.std.specs.Prelude.{◌≡◌, ◌↔◌, ℕ, Some, IfOk, IfErr};
 ghost use Rattle.batch.specs.Overlap.{IsApart, IsFirstOverlap};
+ghost use Rattle.link_graph.specs.Schedules.{IsScheduleOf};
 ghost use Rattle.module_memory.specs.Lending.{store_rejoined, Rejoins};
 ghost use Rattle.setting_runner.specs.declared.outcome.RunRefusal.TheVariants.{Overlap, Shape, NoMemory};
 ghost use Rattle.setting_runner.specs.declared.outcome.Outcome.TheVariants.{Refused};
@@ -10,22 +11,23 @@ ghost use Rattle.setting_runner.specs.Plants.{LeavesPlant};
 ghost use Rattle.setting_runner.specs.Runs.{IsPrepared, LeavesMemories, IsMisfit, IsRefusedRun, CanMove, RunNeedsMemory, TellsOutcome};
 
 use crate::notice::Notice;
-use crate::numbers::setting_numbers;
 use crate::outcome::{Outcome, RunRefusal};
 use crate::plant::Plant;
 use crate::ready::{destinations, fits_in};
 use crate::setting::{Setting, run_setting};
+use batch::Batch;
 use crossbar::ConfigPort;
+use link_graph::Schedule;
 use module_memory::{Bay, Parted, Rack, Rest};
 use peek_poke::WireMaker;
-use schedule_certificate::{Gate, Planned};
+use schedule_certificate::Gate;
 use std::alloc::Global;
 use std::thread::Threads;
-use switch_settings::PairList;
+use switch_settings::{PairList, numbers_of_setting};
 
-/// Runs a plan on a rack, and gives the rack back.
+/// Runs a batch on a rack, by a schedule of it, and gives the rack back.
 ///
-/// First the plan is tested, and all memory is taken: lists of the blocks that are written and of
+/// First the batch is tested, and all memory is taken: lists of the blocks that are written and of
 /// those that the batch both reads and writes, and copies of the latter. Their transfers move the
 /// words that they had then; no other block is copied.
 ///
@@ -49,59 +51,71 @@ pub fn run<R: Threads + Sync, P: ConfigPort, W: WireMaker + Sync, G: Gate + Sync
     alloc: Global,
     rack: Rack,
     plant: &mut Plant<P, W, G>,
-    planned: &Planned,
+    batch: &Batch,
+    schedule: &Schedule,
     notice: &mut N,
 ) -> (Rack, Outcome)
-    ensures memories { LeavesMemories rack planned.now result.1 result.0 }
-    ensures plant { LeavesPlant P.ConfigPort W.is_sure rack.shape (Some planned.now) result.1
-        plant.old plant.new }
+    requires schedule { IsScheduleOf batch.now schedule.now }
+
+    ensures memories { LeavesMemories rack batch.now schedule.now result.1 result.0 }
+    ensures plant { LeavesPlant P.ConfigPort W.is_sure rack.shape
+        (Some (batch.now, schedule.now)) result.1 plant.old plant.new }
     ensures told { TellsOutcome N.hears notice.old result.1 notice.new }
 
     // Each refusal comes just where its cause is there and none before it, want of memory aside.
     ensures overlap { (i j : ℕ) →
-        (result.1 ≡ Refused (Overlap i j)) ↔ IsFirstOverlap planned.now.batch i j }
+        (result.1 ≡ Refused (Overlap i j)) ↔ IsFirstOverlap batch.now i j }
     ensures shape { (result.1 ≡ Refused Shape) ↔
-        (IsApart planned.now.batch × IsMisfit rack.shape planned.now.batch) }
-    ensures memory { result.1 ≡ Refused NoMemory → RunNeedsMemory rack.shape planned.now.batch }
+        (IsApart batch.now × IsMisfit rack.shape batch.now) }
+    ensures memory { result.1 ≡ Refused NoMemory → RunNeedsMemory rack.shape batch.now }
 
     // A run that isn't refused is of transfers that don't overlap and that the rack has.
-    ensures free { (IsRefusedRun result.1 → ⊥) → CanMove rack.shape planned.now.batch }
+    ensures free { (IsRefusedRun result.1 → ⊥) → CanMove rack.shape batch.now }
 {
-    match prepare(alloc, rack, planned) {
+    match prepare(alloc, rack, batch, schedule) {
         Ok(parted) => {
             let Parted { rest, mut bays } = parted;
-            let outcome = run_settings(rt, &rest, bays.as_mut_slice(), plant, planned, notice);
+            let outcome = run_settings(
+                rt,
+                &rest,
+                bays.as_mut_slice(),
+                plant,
+                batch,
+                schedule,
+                notice,
+            );
             (Parted { rest, bays }.rejoin(), outcome)
         }
         Err((rack, refusal)) => (rack, Outcome::Refused(refusal)),
     }
 }
 
-/// Tests a plan, and parts the rack for it: all memory of the run is taken here. Where the run is
+/// Tests a batch, and parts the rack for it: all memory of the run is taken here. Where the run is
 /// refused the rack comes back as it was.
-pub(crate) fn prepare(
+fn prepare(
     alloc: Global,
     rack: Rack,
-    planned: &Planned,
+    batch: &Batch,
+    schedule: &Schedule,
 ) -> Result<Parted, (Rack, RunRefusal)>
+    requires { IsScheduleOf batch.now schedule.now }
     ensures prepared { IfOk result
-        (λ parted. IsPrepared parted.rest parted.bays.items planned.now) }
+        (λ parted. IsPrepared parted.rest parted.bays.items batch.now schedule.now) }
     ensures store { IfOk result (λ parted.
         store_rejoined parted.rest.store parted.bays.items ≡ rack) }
     ensures shape { IfOk result (λ parted. parted.rest.store.shape ≡ rack.shape) }
-    ensures free { IfOk result (λ _. CanMove rack.shape planned.now.batch) }
+    ensures free { IfOk result (λ _. CanMove rack.shape batch.now) }
     ensures unchanged { IfErr result (λ refused. refused.0 ≡ rack) }
     ensures refusal { IfErr result
-        (λ refused. IsRefusal rack.shape planned.now.batch refused.1) }
+        (λ refused. IsRefusal rack.shape batch.now refused.1) }
 {
-    let batch = planned.batch();
     if let Some((i, j)) = batch.first_overlap() {
         return Err((rack, RunRefusal::Overlap(i, j)));
     }
     if !fits_in(rack.shape(), batch) {
         return Err((rack, RunRefusal::Shape));
     }
-    let Ok(places) = destinations(alloc, planned) else {
+    let Ok(places) = destinations(alloc, batch, schedule) else {
         return Err((rack, RunRefusal::NoMemory));
     };
     let Ok(held) = batch.held_sources(alloc) else {
@@ -115,33 +129,35 @@ pub(crate) fn prepare(
     }
 }
 
-/// Runs the settings of a plan, whose destinations are lent in their order.
+/// Runs the settings of a schedule, whose destinations are lent in their order.
 fn run_settings<R: Threads + Sync, P: ConfigPort, W: WireMaker + Sync, G: Gate + Sync, N: Notice>(
     rt: &R,
     rest: &Rest,
     bays: &mut [Bay],
     plant: &mut Plant<P, W, G>,
-    planned: &Planned,
+    batch: &Batch,
+    schedule: &Schedule,
     notice: &mut N,
 ) -> Outcome
-    requires prepared { IsPrepared rest.now bays.old planned.now }
+    requires prepared { IsPrepared rest.now bays.old batch.now schedule.now }
 
     ensures rejoins { Rejoins rest.now.store bays.new }
     ensures memories { LeavesMemories
-        (store_rejoined rest.now.store bays.old) planned.now result
+        (store_rejoined rest.now.store bays.old) batch.now schedule.now result
         (store_rejoined rest.now.store bays.new) }
-    ensures plant { LeavesPlant P.ConfigPort W.is_sure rest.now.store.shape (Some planned.now)
-        result plant.old plant.new }
+    ensures plant { LeavesPlant P.ConfigPort W.is_sure rest.now.store.shape
+        (Some (batch.now, schedule.now)) result plant.old plant.new }
     ensures told { TellsOutcome N.hears notice.old result notice.new }
     ensures going { IsRefusedRun result → ⊥ }
 {
-    let batch = planned.batch();
-    let schedule = planned.schedule();
+    // Asked for their laws alone: there are few transfers, and no more settings than there may be.
+    let _batch = batch.len();
+    schedule.are_few();
     notice.done(0);
     let mut standing = None;
     let mut from = 0;
     for number in 0..schedule.settings() {
-        let numbers = setting_numbers(planned, number);
+        let numbers = numbers_of_setting(batch, schedule, number);
         let pairs = PairList::of_setting(batch, numbers);
         let setting = Setting {
             batch,

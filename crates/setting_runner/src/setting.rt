@@ -1,10 +1,10 @@
 //! One setting of a run.
 
-ghost use Rattle.std.specs.Prelude.{◌≡◌, ◌≤◌, ◌<◌, ℕ, All, AllPairs, MatchOption, length, MatchResult, OnOk, IfErr, IfSome};
+ghost use Rattle.std.specs.Prelude.{◌≡◌, ◌≤◌, ◌<◌, ◌↔◌, ℕ, IsTrue, All, MatchOption, length, MatchResult, OnOk, IfErr, IfSome};
 ghost use Rattle.crossbar.specs.Pairs.{ArePairs};
 ghost use Rattle.setting_runner.specs.declared.outcome.StopCause.TheVariants.{Wire};
 ghost use Rattle.setting_runner.specs.Moves.{AreMovable, HaveMoved, none_sure, all_moved, AllWhole};
-ghost use Rattle.setting_runner.specs.Runs.{IsStopCause, IsShortfall, IsLeastShort, names_of};
+ghost use Rattle.setting_runner.specs.Runs.{IsStopCause, IsShortfall, IsLeastShort};
 ghost use Rattle.switch_settings.specs.Answers.{AreSetTo, AreStanding};
 
 use crate::moved::Moved;
@@ -49,7 +49,6 @@ pub fn run_setting<R: Threads + Sync, P: ConfigPort, W: WireMaker + Sync, G: Gat
         (P.honest plant.old.port) (P.switches plant.old.port) setting.now.standing }
     requires pairs { ArePairs rest.now.store.shape.modules setting.now.pairs }
     requires numbers { length setting.now.numbers.now ≤ MAX_MODULES }
-    requires ascending { AllPairs (λ t u. t < u) setting.now.numbers.now }
     requires movable { AreMovable rest.now setting.now.batch.now setting.now.numbers.now bays.old }
 
     ensures moved { MatchResult result
@@ -89,7 +88,7 @@ pub fn run_setting<R: Threads + Sync, P: ConfigPort, W: WireMaker + Sync, G: Gat
 
 /// Begins a setting: sets the switches to its pairs, and asks them whether they stand so. Where
 /// they don't, no word has moved.
-pub(crate) fn begin_setting<P: ConfigPort, W: WireMaker, G>(
+fn begin_setting<P: ConfigPort, W: WireMaker, G>(
     plant: &mut Plant<P, W, G>,
     setting: &Setting<'_>,
     shape: Shape,
@@ -134,8 +133,7 @@ pub(crate) fn begin_setting<P: ConfigPort, W: WireMaker, G>(
 
 /// Ends a setting whose transfers have moved so many words: where one hasn't moved as many as a
 /// block has, the least of these stops it.
-pub(crate) fn end_setting(moved: Moved, words: usize) -> Result<(), Stop>
-    requires { AllPairs (λ t u. t < u) (names_of moved) }
+fn end_setting(moved: Moved, words: usize) -> Result<(), Stop>
     ensures whole { OnOk result (AllWhole words moved) }
     ensures moved { IfErr result (λ stop. stop.moved ≡ moved) }
     ensures short { IfErr result (λ stop. IsShortfall words moved stop.cause) }
@@ -166,15 +164,26 @@ fn none_moved(batch: &Batch, numbers: &[usize]) -> Moved
 
 /// The least transfer that has moved fewer words than a block has.
 fn least_short(moved: &Moved, words: usize) -> Option<usize>
-    requires { AllPairs (λ t u. t < u) (names_of moved.now) }
     ensures { MatchOption result
         (AllWhole words moved.now)
         (λ transfer. IsLeastShort words transfer moved.now) }
 {
+    let mut least = None;
     for entry in moved.as_slice() {
-        if usize::from(entry.1) < words {
-            return Some(usize::from(entry.0));
+        let transfer = usize::from(entry.0);
+        if usize::from(entry.1) < words && is_lesser(transfer, least) {
+            least = Some(transfer);
         }
     }
-    None
+    least
+}
+
+/// Whether the transfer is less than another, where there is one.
+fn is_lesser(transfer: usize, other: Option<usize>) -> bool
+    ensures { IsTrue result ↔ IfSome other (λ t. transfer < t) }
+{
+    match other {
+        Some(other) => transfer < other,
+        None => true,
+    }
 }

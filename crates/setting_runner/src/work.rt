@@ -76,7 +76,7 @@ pub fn move_all<R: Threads + Sync, W: WireMaker + Sync, G: Gate + Sync>(
 }
 
 /// Moves the words of one transfer after the other.
-pub(crate) fn move_in_turn<W: WireMaker, G>(
+fn move_in_turn<W: WireMaker, G>(
     work: &Work<'_, W, G>,
     numbers: &[usize],
     bays: &mut [Bay],

@@ -1,5 +1,5 @@
-//! Ports and wires that are cut at each byte, and ports that answer anything, in a run of either
-//! form and in a session.
+//! Ports and wires that are cut at each byte, and ports that answer anything, in a run and
+//! in a session.
 
 mod faults;
 mod in_runs;

@@ -1,4 +1,4 @@
-//! Runs of batch texts in both forms, and what is seen of them.
+//! Runs of batch texts, and what is seen of them.
 
 use crate::tests::common::{Told, marked, plan};
 use batch::Place;
@@ -6,7 +6,7 @@ use crossbar::ConfigPort;
 use module_memory::Rack;
 use peek_poke::WireMaker;
 use schedule_certificate::{Gate, Planned};
-use setting_runner::{Outcome, Plant, RunRefusal, StopCause, run, run_alone};
+use setting_runner::{Outcome, Plant, RunRefusal, StopCause, run};
 use std::sync::atomic::AtomicUsize;
 use std::thread::Threads;
 
@@ -50,16 +50,6 @@ push 29 0 2 1\n\
 push 30 0 1 1\n\
 push 31 0 0 1\n\
 ";
-
-/// Which form of a run is made: that by the plant's workers, or that by the calling thread alone.
-#[derive(Clone, Copy)]
-pub enum Form {
-    Workers,
-    Alone,
-}
-
-/// Both forms.
-pub const FORMS: [Form; 2] = [Form::Workers, Form::Alone];
 
 /// How a run is to end.
 #[derive(Clone, Copy)]
@@ -133,26 +123,10 @@ pub fn has_blocks(rack: &Rack, blocks: &[Block<'_>]) -> bool {
     true
 }
 
-/// Runs a plan in a form.
-fn run_in_form<R: AllocGlobal + Threads + Sync, P: ConfigPort, W: WireMaker + Sync, G: Gate + Sync>(
-    rt: &R,
-    form: Form,
-    rack: Rack,
-    plant: &mut Plant<P, W, G>,
-    planned: &Planned,
-    told: &mut Told<'_>,
-) -> (Rack, Outcome) {
-    match form {
-        Form::Workers => run(rt, rt.alloc(), rack, plant, planned, told),
-        Form::Alone => run_alone(rt.alloc(), rack, plant, planned, told),
-    }
-}
-
 /// Whether a run of the case's plan on this rack ends as it says, leaves the words, and tells its
 /// notice as often as such a run does, in order.
 fn ends_on<R: AllocGlobal + Threads + Sync, P: ConfigPort, W: WireMaker + Sync, G: Gate + Sync>(
     rt: &R,
-    form: Form,
     rack: Rack,
     plant: &mut Plant<P, W, G>,
     planned: &Planned,
@@ -160,7 +134,8 @@ fn ends_on<R: AllocGlobal + Threads + Sync, P: ConfigPort, W: WireMaker + Sync, 
     times: &AtomicUsize,
 ) -> bool {
     let mut told = Told::new(times);
-    let (rack, outcome) = run_in_form(rt, form, rack, plant, planned, &mut told);
+    let (batch, schedule) = (planned.batch(), planned.schedule());
+    let (rack, outcome) = run(rt, rt.alloc(), rack, plant, batch, schedule, &mut told);
     case.end.is_of(&outcome)
         && has_blocks(&rack, case.blocks)
         && told.is_just(case.end.times_told())
@@ -169,29 +144,27 @@ fn ends_on<R: AllocGlobal + Threads + Sync, P: ConfigPort, W: WireMaker + Sync, 
 /// The same of the case's rack, where its plan is there.
 pub fn ends<R: AllocGlobal + Threads + Sync, P: ConfigPort, W: WireMaker + Sync, G: Gate + Sync>(
     rt: &R,
-    form: Form,
     plant: &mut Plant<P, W, G>,
     planned: &Planned,
     case: &Case<'_>,
     times: &AtomicUsize,
 ) -> bool {
     match marked(rt.alloc(), case.shape) {
-        Some(rack) => ends_on(rt, form, rack, plant, planned, case, times),
+        Some(rack) => ends_on(rt, rack, plant, planned, case, times),
         None => false,
     }
 }
 
-/// Whether a run in this form with this plant ends as the case says, leaves the words, and tells
+/// Whether a run with this plant ends as the case says, leaves the words, and tells
 /// its notice as often as such a run does, in order. How often it was told is counted here.
 pub fn ends_so<R: AllocGlobal + Threads + Sync, P: ConfigPort, W: WireMaker + Sync, G: Gate + Sync>(
     rt: &R,
-    form: Form,
     plant: &mut Plant<P, W, G>,
     case: &Case<'_>,
     times: &AtomicUsize,
 ) -> bool {
     match plan(rt, case.text) {
-        Some(planned) => ends(rt, form, plant, &planned, case, times),
+        Some(planned) => ends(rt, plant, &planned, case, times),
         None => false,
     }
 }

@@ -4,7 +4,7 @@ use Rattle.rack_answers.proofs.running.run_plain.Goals as goal
 
 pub returns-in-Completed-clause-apart : goal.returns-in-Completed-clause-apart
 returns-in-Completed-clause-apart g c =
-    c.first_overlap.ensures.none c.args.planned.now.batch (λ i j first.
+    c.first_overlap.ensures.none c.args.batch.now (λ i j first.
     let bad = sym c.in-Completed.is ∙ (c.run-rack.ensures.overlap i j).1 first in
     absurd cc)
 

@@ -16,18 +16,18 @@ pub returns-in_err-rack-2-clause-wrong : goal.returns-in_err-rack-2-clause-wrong
 returns-in_err-rack-2-clause-wrong g c =
     let right = right_image c.args.shape (bytes_of c.args.image) c.in_ok-rack.rack c.in_ok-rack.ensures.rack in
     let p = err_from_is_err_and c.from_residual-in_err-rack-2.result c.from_residual-in_err-rack-2.ensures.1 in
-    rw (p.1, p.2) (λ real. overlapping right (c.in_err-rack-2.ensures.wrong real))
+    rw (p.1, p.2) (λ real. overlapping right (rw (sym c.batch-batch.ensures.batch) (c.in_err-rack-2.ensures.wrong real)))
 
 pub run_plain-requires-clause-fits : goal.run_plain-requires-clause-fits
 run_plain-requires-clause-fits g c κs within =
-    rw (opening_shape c.args.shape (bytes_of c.args.image) c.in_ok-rack.rack c.in_ok-rack.ensures.rack) c.requires.fits
+    rw (opening_shape c.args.shape (bytes_of c.args.image) c.in_ok-rack.rack c.in_ok-rack.ensures.rack, c.batch-batch.ensures.batch) c.requires.fits
 
 pub returns-clause-result : goal.returns-clause-result
 returns-clause-result g c = record {
   opening = c.in_ok-rack.rack;
   placed = c.in_ok-rack-2.rack;
-  apart = c.in_ok-rack-2.ensures.apart;
+  apart = rw (sym c.batch-batch.ensures.batch) c.in_ok-rack-2.ensures.apart;
   is_opening = c.in_ok-rack.ensures.rack;
-  is_placed = c.in_ok-rack-2.ensures.placed;
-  printed = rw (sym c.batch.ensures.batch, sym c.in_ok-rack-2.ensures.settings) c.in_ok-result_text.ensures;
+  is_placed = rw (sym c.batch-batch.ensures.batch) c.in_ok-rack-2.ensures.placed;
+  printed = rw (sym c.batch-batch.ensures.batch, sym c.schedule-schedule.ensures.schedule, sym c.in_ok-rack-2.ensures.settings) c.in_ok-result_text.ensures;
 }

@@ -2,7 +2,7 @@
 
 use super::faults::{Fault, blocks_of, count_of_faults, end_of, fault_of, moved_of};
 use crate::tests::common::{TWO_PUSHES, plan, two};
-use crate::tests::running::{Case, Form, ends};
+use crate::tests::running::{Case, ends};
 use crossbar::Chip;
 use exchange_limits::WorkerCount;
 use schedule_certificate::Planned;
@@ -10,10 +10,9 @@ use setting_runner::StopCause;
 use std::sync::atomic::AtomicUsize;
 use std::thread::Threads;
 
-/// Whether a run in this form by so many workers ends as it should.
+/// Whether a run by so many workers ends as it should.
 fn ends_rightly<R: AllocGlobal + Threads + Sync>(
     rt: &R,
-    form: Form,
     planned: &Planned,
     is_wide: bool,
     fault: Fault,
@@ -28,12 +27,11 @@ fn ends_rightly<R: AllocGlobal + Threads + Sync>(
         blocks: &blocks,
     };
     let mut plant = fault.plant(workers);
-    ends(rt, form, &mut plant, planned, &case, &AtomicUsize::new(0))
+    ends(rt, &mut plant, planned, &case, &AtomicUsize::new(0))
         && fault.is_set_rightly(is_wide, &plant.port)
 }
 
-/// Whether runs in both forms do, and those by two workers. Of answers, a run by the plant's
-/// workers on a rack with one switch, and alone on one with two.
+/// Whether runs by one worker and by two do. Of answers, those by one.
 fn is_right<R: AllocGlobal + Threads + Sync>(
     rt: &R,
     planned: &Planned,
@@ -41,10 +39,8 @@ fn is_right<R: AllocGlobal + Threads + Sync>(
     fault: Fault,
 ) -> bool {
     let is_answer = matches!(fault, Fault::Answer(_, _, _));
-    (is_answer && is_wide
-        || ends_rightly(rt, Form::Workers, planned, is_wide, fault, WorkerCount::ONE))
-        && (is_answer && !is_wide || ends_rightly(rt, Form::Alone, planned, is_wide, fault, two()))
-        && (is_answer || ends_rightly(rt, Form::Workers, planned, is_wide, fault, two()))
+    ends_rightly(rt, planned, is_wide, fault, WorkerCount::ONE)
+        && (is_answer || ends_rightly(rt, planned, is_wide, fault, two()))
 }
 
 /// The number of the first fault for which they don't, or how many there are.

@@ -1,7 +1,7 @@
 //! Wires whose bytes are compared with those that are expected, and that see when they are made.
 
 use crate::tests::common::with_wires;
-use crate::tests::running::{Case, End, FORMS, Form, ends_so};
+use crate::tests::running::{Case, End, ends_so};
 use peek_poke::{PlainWire, Wire, WireFault, WireMaker};
 use std::sync::atomic::{AtomicBool, AtomicUsize, Ordering};
 use std::thread::Threads;
@@ -101,11 +101,10 @@ impl<'a> WireMaker for ComparedLines<'a> {
     }
 }
 
-/// Whether a run in this form ends as the case says, where each transfer's wire carries just these
-/// bytes, 18 each, and is made in time.
-fn carries_in<R: AllocGlobal + Threads + Sync>(
+/// Whether a run ends as the case says, where each transfer's wire carries just these bytes, 18
+/// each, and is made in time.
+fn carries<R: AllocGlobal + Threads + Sync>(
     rt: &R,
-    form: Form,
     case: &Case<'_>,
     expected: &'static [Carrying],
 ) -> bool {
@@ -115,22 +114,7 @@ fn carries_in<R: AllocGlobal + Threads + Sync>(
         carried: &carried,
     });
     let wires = expected.len();
-    ends_so(rt, form, &mut plant, case, &carried.told)
-        && carried.is_just(wires.saturating_mul(18), wires)
-}
-
-/// Whether runs in both forms do.
-fn carries<R: AllocGlobal + Threads + Sync>(
-    rt: &R,
-    case: &Case<'_>,
-    expected: &'static [Carrying],
-) -> bool {
-    for form in FORMS {
-        if !carries_in(rt, form, case, expected) {
-            return false;
-        }
-    }
-    true
+    ends_so(rt, &mut plant, case, &carried.told) && carried.is_just(wires.saturating_mul(18), wires)
 }
 
 /// Held blocks are peeked at 80010808 and 8001080c hex, in the hold window, and another block at

@@ -1,9 +1,7 @@
 //! What a port is sent, and ports that fail or answer wrongly.
 
 use crate::tests::common::TWO_PUSHES;
-use crate::tests::running::{
-    Block, Case, End, FORMS, Form, THREE_TRANSFERS, TURNED_ROUND, ends_so,
-};
+use crate::tests::running::{Block, Case, End, THREE_TRANSFERS, TURNED_ROUND, ends_so};
 use contract_data::FailureCount;
 use crossbar::{Chip, ConfigPort, MemoryPort, PortFault};
 use exchange_limits::WorkerCount;
@@ -132,27 +130,17 @@ struct Row {
     calls: usize,
 }
 
-/// Whether a run in this form ends as the row says, and its port was sent just what the row says.
-fn is_right_in<R: AllocGlobal + Threads + Sync>(rt: &R, row: &Row, form: Form) -> bool {
+/// Whether a run ends as the row says, and its port was sent just what the row says.
+fn is_right<R: AllocGlobal + Threads + Sync>(rt: &R, row: &Row) -> bool {
     let mut plant = Plant {
         port: KnowingPort::new(row.manner, row.sent),
         wires: PlainWires,
         gate: OpenGate,
         workers: WorkerCount::ONE,
     };
-    ends_so(rt, form, &mut plant, &row.case, &AtomicUsize::new(0))
+    ends_so(rt, &mut plant, &row.case, &AtomicUsize::new(0))
         && !plant.port.is_wrong
         && plant.port.calls == row.calls
-}
-
-/// Whether runs in both forms do.
-fn is_right<R: AllocGlobal + Threads + Sync>(rt: &R, row: &Row) -> bool {
-    for form in FORMS {
-        if !is_right_in(rt, row, form) {
-            return false;
-        }
-    }
-    true
 }
 
 /// The number of the first of some rows that isn't right, or how many they are.

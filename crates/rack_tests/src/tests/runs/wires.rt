@@ -1,7 +1,7 @@
 //! Wires that fail: for good, or in one call alone.
 
 use crate::tests::common::{TWO_PUSHES, with_wires};
-use crate::tests::running::{Case, End, FORMS, Form, ends_so};
+use crate::tests::running::{Case, End, ends_so};
 use contract_data::FailureCount;
 use peek_poke::{FuseWires, PlainWire, Wire, WireFault, WireMaker};
 use setting_runner::StopCause;
@@ -63,12 +63,11 @@ impl<'a> WireMaker for HoledLines<'a> {
     }
 }
 
-/// Whether a run in this form of so many transfers ends as the case says, where the wire of
+/// Whether a run of so many transfers ends as the case says, where the wire of
 /// transfer 0 carries so many bytes and fails then, for good or once, and no wire is made a second
 /// time.
 fn stops_in<R: AllocGlobal + Threads + Sync>(
     rt: &R,
-    form: Form,
     case: &Case<'_>,
     bytes: usize,
     transfers: usize,
@@ -78,13 +77,13 @@ fn stops_in<R: AllocGlobal + Threads + Sync>(
     let holed = HoledLines { bytes, made: &made };
     let told = AtomicUsize::new(0);
     let told_holed = AtomicUsize::new(0);
-    ends_so(rt, form, &mut with_wires(wires), case, &told)
-        && ends_so(rt, form, &mut with_wires(holed), case, &told_holed)
+    ends_so(rt, &mut with_wires(wires), case, &told)
+        && ends_so(rt, &mut with_wires(holed), case, &told_holed)
         && made.load(Ordering::SeqCst) == transfers
 }
 
-/// Whether runs in both forms do, which stop in setting 0 at that wire, with so many words of each
-/// transfer moved.
+/// Whether runs do, which stop in setting 0 at that wire, with so many words of each transfer
+/// moved.
 fn stops<R: AllocGlobal + Threads + Sync>(
     rt: &R,
     shape: &str,
@@ -99,12 +98,7 @@ fn stops<R: AllocGlobal + Threads + Sync>(
         end: End::Stopped(0, StopCause::Wire(0), moved),
         blocks,
     };
-    for form in FORMS {
-        if !stops_in(rt, form, &case, bytes, moved.len()) {
-            return false;
-        }
-    }
-    true
+    stops_in(rt, &case, bytes, moved.len())
 }
 
 /// A wire of 14 bytes carries one word and five bytes of the next.

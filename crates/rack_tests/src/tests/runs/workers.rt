@@ -2,7 +2,7 @@
 
 use crate::tests::common::{TWO_PUSHES, two, with_gate};
 use crate::tests::meeting::Meeting;
-use crate::tests::running::{Case, End, Form, TURNED_ROUND, ends_so};
+use crate::tests::running::{Case, End, TURNED_ROUND, ends_so};
 use exchange_limits::{MAX_WORKERS, WorkerCount};
 use peek_poke::{PlainWire, PlainWires, Wire, WireFault, WireMaker};
 use schedule_certificate::Gate;
@@ -22,7 +22,7 @@ fn two_pushes_meet<R: AllocGlobal + Threads + Sync>(rt: &R) -> bool {
         blocks: &[(1, 0, &[0, 1]), (2, 0, &[0x0001_0100, 0x0001_0101])],
     };
     let mut plant = with_gate(PlainWires, Meeting::new(), two());
-    ends_so(rt, Form::Workers, &mut plant, &case, &AtomicUsize::new(0)) && plant.gate.is_met()
+    ends_so(rt, &mut plant, &case, &AtomicUsize::new(0)) && plant.gate.is_met()
 }
 
 #[test]
@@ -206,7 +206,7 @@ fn is_seen<R: AllocGlobal + Threads + Sync>(
         blocks: &[(1, 1, &words)],
     };
     let mut plant = with_gate(WatchedLines { watch }, WatchedGate { watch }, workers);
-    ends_so(rt, Form::Workers, &mut plant, &case, &AtomicUsize::new(0))
+    ends_so(rt, &mut plant, &case, &AtomicUsize::new(0))
         && watch.has_seen(row.arrivals)
         && watch.is_timely(row.transfers)
 }

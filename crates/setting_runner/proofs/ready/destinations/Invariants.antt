@@ -4,4 +4,4 @@ use Rattle.module_memory.specs.Bays.{destinations_of}
 use Rattle.setting_runner.proofs.ready.destinations.Given as goal
 
 abbrev pub invariant-loop-k : goal.invariant-loop-k
-invariant-loop-k l = l.places.items ≡ destinations_of l.planned.batch (concat (take l.k l.planned.settings))
+invariant-loop-k l = l.places.items ≡ destinations_of l.batch (concat (take l.k l.schedule))

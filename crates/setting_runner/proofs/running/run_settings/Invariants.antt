@@ -7,11 +7,11 @@ use Rattle.setting_runner.proofs.running.run_settings.Given as goal
 
 abbrev pub invariant-loop-number : goal.invariant-loop-number
 invariant-loop-number g l = record {
-  from : l.from ≡ length (concat (take l.number l.planned.settings));
-  going : Going l.rest l.fn.bays l.bays l.planned l.number;
+  from : l.from ≡ length (concat (take l.number l.schedule));
+  going : Going l.rest l.fn.bays l.bays l.batch l.schedule l.number;
   told : ToldUpTo g.N.Notice.hears l.fn.notice l.number l.notice;
   standing : AreStanding l.rest.store.shape.modules (g.P.ConfigPort.honest l.fn.plant.port) (g.P.ConfigPort.switches l.plant.port) l.standing;
-  switches : (k : ℕ) → k + 1 ≡ l.number → IsTrue (g.P.ConfigPort.honest l.fn.plant.port) → AreSettingSwitches l.rest.store.shape l.planned k (g.P.ConfigPort.switches l.plant.port);
+  switches : (k : ℕ) → k + 1 ≡ l.number → IsTrue (g.P.ConfigPort.honest l.fn.plant.port) → AreSettingSwitches l.rest.store.shape l.batch l.schedule k (g.P.ConfigPort.switches l.plant.port);
   uncalled : l.number ≡ 0 → l.plant ≡ l.fn.plant;
   plant : l.plant ≡ record l.fn.plant { port = l.plant.port };
   unfailed : g.P.ConfigPort.failures l.plant.port ≡ g.P.ConfigPort.failures l.fn.plant.port;

@@ -1,10 +1,9 @@
 use Rattle.std.proofs.Common.{◌≡◌, ◌<◌, ℕ, List, refl, sym, subst, rules}
-use Rattle.std.specs.Prelude.{AllPairs, OnOk, IfErr}
+use Rattle.std.specs.Prelude.{OnOk, IfErr}
 use Rattle.std.proofs.lemmas.Result.{err_from_is_err_and}
 use Rattle.setting_runner.specs.Moves.{HaveMoved, none_sure, AllWhole}
 use Rattle.setting_runner.specs.Runs.{RunConditions, IsShortfall}
 use Rattle.setting_runner.proofs.Moves.{AreMovable-known, none_have_moved}
-use Rattle.setting_runner.proofs.Causes.{names_moved}
 use Rattle.setting_runner.proofs.Ending.{ended, ended_cause}
 use Rattle.setting_runner.proofs.setting.run_setting.Goals as goal
 
@@ -18,9 +17,6 @@ returns-in_err-begin_setting-clause-moved g c =
     let p = err_from_is_err_and c.from_residual.result c.from_residual.ensures.1 in
     rw (p.1, p.2)
     (subst (λ (ms : List (ℕ × ℕ)). HaveMoved none_sure c.args.rest.now setting.batch.now setting.numbers.now bays bays ms) (sym c.in_err-begin_setting.ensures.unmoved) (none_have_moved c.args.rest.now setting.batch.now setting.numbers.now bays c.requires.movable))
-
-pub end_setting-requires : goal.end_setting-requires
-end_setting-requires g c = subst (λ (ts : List ℕ). AllPairs (λ a b. a < b) ts) (sym (names_moved _ _ _ _ _ _ _ c.move_all-moved.ensures)) c.requires.ascending
 
 pub returns-clause-moved : goal.returns-clause-moved
 returns-clause-moved g c =
