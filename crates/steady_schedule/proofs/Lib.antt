@@ -11,6 +11,7 @@ pub mod Halls
 pub mod Covers
 pub mod Waiting
 pub mod Steps
+pub mod Reaches
 pub mod Slots
 pub mod Potential
 pub mod Heads

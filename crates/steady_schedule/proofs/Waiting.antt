@@ -89,7 +89,7 @@ module _ (counts : List ℕ) (a b k : ℕ) (places : length counts ≡ MAX_MODUL
 none_at : (n i : ℕ) → get_or {A = ℕ} (replicate n 0) i 0 ≡ 0
 none_at n i = grind (arith, elements, get_or_past {X = ℕ} (replicate n 0) i 0)
 
-no_mask : (n u v : ℕ) → has_pair (replicate n 0) u v ≡ false
+pub no_mask : (n u v : ℕ) → has_pair (replicate n 0) u v ≡ false
 no_mask n u v = grind (arith, none_at n u, bit_at-zero v)
 
 none_waits : (n : ℕ) (f : ℕ → ℕ) → ((i : ℕ) → f i ≡ 0) → sum_below n f ≡ 0

@@ -20,6 +20,7 @@
 #![tactic(auto)]
 
 mod changing;
+mod choosing;
 mod gathering;
 pub mod laws;
 mod masks;
@@ -28,6 +29,7 @@ mod numbering;
 mod partners;
 mod plan;
 mod planning;
+mod reach;
 mod remaining;
 mod stepping;
 #[cfg(test)]
