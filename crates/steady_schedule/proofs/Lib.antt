@@ -1,4 +1,5 @@
 pub mod NeedChanges
+pub mod Alone
 pub mod Ends
 pub mod Bits
 pub mod PartnerMasks
@@ -16,4 +17,6 @@ pub mod Slots
 pub mod Potential
 pub mod Heads
 pub mod Needs
+pub mod Totals
+pub mod TwoLinks
 pub mod Plans

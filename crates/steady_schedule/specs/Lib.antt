@@ -14,4 +14,5 @@ pub mod Reaches
 pub mod Slots
 pub mod Potentials
 pub mod Bounds
+pub mod TwoLinks
 pub mod Laws
