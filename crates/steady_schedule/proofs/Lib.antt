@@ -19,4 +19,5 @@ pub mod Heads
 pub mod Needs
 pub mod Totals
 pub mod TwoLinks
+pub mod Listed
 pub mod Plans

@@ -37,17 +37,17 @@ swapped true false = refl
 swapped false true = refl
 swapped false false = refl
 
-at_link : (xs : List Transfer) (end : End) (x m : ℕ) → shared xs (record { end = end; «module» = x }) m ≡ at_end xs end x m
+pub at_link : (xs : List Transfer) (end : End) (x m : ℕ) → shared xs (record { end = end; «module» = x }) m ≡ at_end xs end x m
 at_link xs Zero x m = refl
 at_link xs Three x m = sum_equal (λ t. bit (t.responder == x && t.initiator == m)) (λ t. bit (t.initiator == m && t.responder == x)) (λ t. swapped (t.responder == x) (t.initiator == m)) xs
 
 shared_uses : (xs : List Transfer) (link : Link) → All IsLow xs → sum_below MAX_MODULES (shared xs link) ≡ uses xs link
 shared_uses xs link low = sum_same MAX_MODULES (shared xs link) (at_end xs link.end link.«module») (λ m lt. at_link xs link.end link.«module» m) ∙ pair_uses xs link.end link.«module» low
 
-number_low : (xs : List Transfer) (n : ℕ) (link : Link) (m : ℕ) → m < MAX_MODULES → number xs n link m ≡ shared xs link m
+pub number_low : (xs : List Transfer) (n : ℕ) (link : Link) (m : ℕ) → m < MAX_MODULES → number xs n link m ≡ shared xs link m
 number_low xs n link m lt = rw (lt-ltb m MAX_MODULES lt) refl
 
-number_idle : (xs : List Transfer) (n : ℕ) (link : Link) (m : ℕ) → MAX_MODULES ≤ m → number xs n link m ≡ n - uses xs link
+pub number_idle : (xs : List Transfer) (n : ℕ) (link : Link) (m : ℕ) → MAX_MODULES ≤ m → number xs n link m ≡ n - uses xs link
 number_idle xs n link m le = rw (le-ltb m MAX_MODULES le) refl
 
 -- a number that is at most 1
@@ -190,7 +190,7 @@ module _ (batch : List Transfer) (fits : IsBatch batch) (link : Link) where
   step_numbers : (settings : List (List ℕ)) → IsScheduleOf batch settings → (m : ℕ) → m < MAX_MODULES + 1 → sum_by (λ j. only (has j m) j.settings) (steps_of batch settings) ≡ number batch (length settings) link m
   step_numbers settings schedule m lt = long_steps settings schedule.matchings m lt ∙ (bits m lt settings schedule.matchings ∙ all_numbers batch fits link settings schedule m)
 
-count_same : (n : ℕ) (f g : ℕ → Bool) → ((m : ℕ) → m < n → f m ≡ g m) → count_below n f ≡ count_below n g
+pub count_same : (n : ℕ) (f g : ℕ → Bool) → ((m : ℕ) → m < n → f m ≡ g m) → count_below n f ≡ count_below n g
 count_same zero f g same = refl
 count_same (suc n) f g same = omega (arith, ap bit (same n (omega arith)), count_same n f g (λ m lt. same m (omega arith)))
 

@@ -86,7 +86,7 @@ module _ (counts : List ℕ) (a b k : ℕ) (places : length counts ≡ MAX_MODUL
 
 -- ---- no transfers
 
-none_at : (n i : ℕ) → get_or {A = ℕ} (replicate n 0) i 0 ≡ 0
+pub none_at : (n i : ℕ) → get_or {A = ℕ} (replicate n 0) i 0 ≡ 0
 none_at n i = grind (arith, elements, get_or_past {X = ℕ} (replicate n 0) i 0)
 
 pub no_mask : (n u v : ℕ) → has_pair (replicate n 0) u v ≡ false

@@ -34,8 +34,10 @@ mod remaining;
 mod stepping;
 #[cfg(test)]
 mod tests;
+mod two_links;
 
 pub use changing::count_changes;
 pub use partners::most_partners;
 pub use plan::Steady;
 pub use planning::steady;
+pub use two_links::most_shown;
