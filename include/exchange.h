@@ -1,6 +1,7 @@
 /* The answers of the program `exchange`, for programs in C.
  *
- * Each call reads texts and writes one answer: the bytes that the program prints for the same texts. A text
+ * Each call reads texts and writes one answer: the bytes that the program prints for the same texts, or, of
+ * `exchange_changes`, a line of its own. A text
  * is a pointer and a number of bytes, and needs no zero at its end.
  *
  * What a call gives back, and what it leaves in `out` and `*count`:
@@ -88,6 +89,15 @@ uint8_t exchange_apply(const uint8_t *shape, size_t shape_bytes, const uint8_t *
  * Takes time that grows with the lengths of the texts and of the picture's. */
 uint8_t exchange_draw(const uint8_t *batch, size_t batch_bytes, const uint8_t *schedule,
                       size_t schedule_bytes, uint8_t *out, size_t room, size_t *count);
+
+/* How often a schedule of the batch changes the switch, and how often it is shown that a schedule with as many settings
+ * has to: the line `changes C least L`. The program says it in the title of a picture, as `changes C, at least L`.
+ *
+ * Where C is L, none with so few settings has fewer. L is as good as two links of the batch show it where the schedule has
+ * the fewest settings, and else as one link does. No certificate is needed. Takes time that grows with the lengths of the
+ * texts. */
+uint8_t exchange_changes(const uint8_t *batch, size_t batch_bytes, const uint8_t *schedule,
+                         size_t schedule_bytes, uint8_t *out, size_t room, size_t *count);
 
 /* `exchange direct`: a batch that does the moves, by directions that need the fewest settings.
  *

@@ -147,6 +147,18 @@ def draw(batch: Text, schedule: Text) -> str:
     return _ask("draw", batch, schedule).decode()
 
 
+def changes(batch: Text, schedule: Text) -> Tuple[int, int]:
+    r"""How often a schedule of a batch changes the switch, with a certificate or without, and how often it is shown that one with as many
+    settings has to. Where both are the same, none with so few settings has fewer.
+
+    >>> batch = "batch 4\npush 0 0 1 0\npush 0 0 2 0\npush 0 1 1 1\npush 0 1 2 1\n"
+    >>> changes(batch, plan(batch)), changes(batch, plan(batch, steady=True))
+    ((4, 2), (2, 2))
+    """
+    _, count, _, least = _ask("changes", batch, schedule).split()
+    return int(count), int(least)
+
+
 def direct(moves: Text) -> str:
     r"""A batch that does the moves of a text, by directions that need the fewest settings.
 
@@ -161,7 +173,7 @@ def _load() -> ctypes.CDLL:
     """The library that was installed with this file, or else the one that the system's loader finds."""
     beside = os.path.join(os.path.dirname(os.path.realpath(__file__)), "..", "..", "libexchange.so")
     library = ctypes.CDLL(beside if os.path.exists(beside) else "libexchange.so")
-    for name, texts in {"plan": 1, "plan_steady": 1, "check": 2, "switch": 2, "apply": 3, "draw": 2, "direct": 1}.items():
+    for name, texts in {"plan": 1, "plan_steady": 1, "check": 2, "switch": 2, "apply": 3, "draw": 2, "changes": 2, "direct": 1}.items():
         call = getattr(library, f"exchange_{name}")
         call.argtypes = [ctypes.c_char_p, ctypes.c_size_t] * (texts + 1) + [ctypes.POINTER(ctypes.c_size_t)]
         call.restype = ctypes.c_uint8

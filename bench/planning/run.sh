@@ -14,7 +14,7 @@
 #   part        2731 transfers from module 0 to module 1
 #   wide        as scrambled, over 32 modules
 #
-# For each of them, and for the nine batches of steady_batches.py, it also counts `plan --steady` beside `plan`, and of the
+# For each of them, and for the ten batches of steady_batches.py, it also counts `plan --steady` beside `plan`, and of the
 # steady plan the changes, the pairs that are cut or joined, and the bytes of `switch`, of both switches where there are two:
 #
 #   all_to_all  each of 16 modules to each other, 17 blocks each, pair by pair
@@ -25,6 +25,8 @@
 #   sixty_pairs 60 pairs of 16 modules, 1 to 64 blocks each
 #   gather      64 blocks of each of 15 modules into one
 #   butterfly   each of 16 modules with those whose number differs in one bit, 64 blocks each
+#   permutations
+#               eight permutations of 32 modules, 1 to 16 blocks each
 #
 # With --check each ratio to plain Rust may be as large as `greatest` says, and what `switch` prints of one link may cost so
 # many times as much as of a quarter of the transfers as `greatest_growth` says. A steady plan may cost so many times as much
@@ -68,11 +70,12 @@ greatest_steady_growth=4
 
 # What a prototype in plain Rust reached, which is no part of this repository
 declare -A most_changes=(
-    [all_to_all]=15 [in_rounds]=15 [halo]=4 [random_16]=163 [random_32]=151 [random_256]=27 [sixty_pairs]=48 [gather]=15 [butterfly]=4
+    [all_to_all]=15 [in_rounds]=15 [halo]=4 [random_16]=36 [random_32]=48 [random_256]=18 [sixty_pairs]=18 [gather]=15 [butterfly]=4
+    [permutations]=15
 )
 declare -A most_bytes=(
-    [all_to_all]=1648 [in_rounds]=1648 [halo]=329 [random_16]=2688 [random_32]=10554 [random_256]=1024 [sixty_pairs]=638 [gather]=1048
-    [butterfly]=593
+    [all_to_all]=1648 [in_rounds]=1648 [halo]=335 [random_16]=2946 [random_32]=11388 [random_256]=1009 [sixty_pairs]=950 [gather]=1048
+    [butterfly]=593 [permutations]=3560
 )
 
 # NAME FOUND GREATEST: tells what costs too much
@@ -195,7 +198,7 @@ for name in scrambled one_link odd star two_by_two three_by_three four_by_two si
     part wide scrambled-1024 one_link-1024; do
     measure $name
 done
-for name in all_to_all in_rounds halo random_16 random_32 random_256 sixty_pairs gather butterfly; do
+for name in all_to_all in_rounds halo random_16 random_32 random_256 sixty_pairs gather butterfly permutations; do
     measure_steady "$name" "$(instructions "$program" plan "$work/$name" --workers 1)"
 done
 growth scrambled

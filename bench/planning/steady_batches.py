@@ -19,6 +19,13 @@ def random_pairs(draw, count, modules):
     return [(draw.randrange(modules), draw.randrange(modules)) for _ in range(count)]
 
 
+def permuted_pairs(draw, count, modules, most):
+    """The pairs of some permutations of the modules, each permutation up to so many times."""
+    for _ in range(count):
+        to, times = draw.sample(range(modules), modules), draw.randrange(1, most + 1)
+        yield from [pair for pair in enumerate(to) for _ in range(times)]
+
+
 def batches():
     """The name of each batch, and of each of its transfers the module that starts it and the one that answers."""
     draw, each = random.Random(7), [(m, n) for m in range(16) for n in range(16) if m != n]
@@ -31,6 +38,7 @@ def batches():
     yield "sixty_pairs", [pair for pair in random_pairs(draw, 60, 16) for _ in range(draw.randrange(1, 65))]
     yield "gather", [(m, 0) for m in range(1, 16) for _ in range(64)]
     yield "butterfly", [(m, m ^ 1 << bit) for bit in range(4) for m in range(16) for _ in range(64)]
+    yield "permutations", list(permuted_pairs(draw, 8, 32, 16))
 
 
 for name, pairs in batches():

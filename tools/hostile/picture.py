@@ -39,7 +39,6 @@ class Picture:
         self.transfers, self.settings, self.shown = transfers, settings, shown
         busiest, named = plain.busiest(transfers)
         self.fewest = len(named)
-        self.changes, self.partners = steady.changes(transfers, settings), steady.most_partners(transfers)
         self.standing = standing_of(transfers, settings, certificate)
         self.link = certificate[0] if self.standing == "certified" else busiest if transfers else None
         self.modules = sorted({transfer[side] for transfer in transfers for side in (1, 3)})
@@ -60,9 +59,9 @@ class Picture:
         return f"transfers {len(self.transfers)}, settings {count}, {length}"
 
     def note(self):
-        """How often the switch changes, and whether a link shows that it can't change less often; which link is framed, how the certificate
-        stands, and which settings are shown, unless that are all."""
-        changes = f"changes {self.changes}" + ", the fewest" * (self.changes == self.partners)
+        """How often the switch changes, and what is shown of that; which link is framed, how the certificate stands, and which settings are
+        shown, unless that are all."""
+        changes = steady.bound_words(self.transfers, self.settings)
         busiest = "link {} module {}".format(*self.link) if self.link else "none"
         return f"{changes}, busiest {busiest}, {self.standing}{self.range_shown()}"
 

@@ -226,6 +226,8 @@ def text_of(name, answer):
     """What the program prints where a call answers this."""
     if name == "check":
         return b"shortest %d\n" % answer
+    if name == "changes":
+        return b"changes %d least %d\n" % answer
     if name == "switch":
         letters = {1: [""], 2: ["a ", "b "]}
         lines = [(s, it) for s, setting in enumerate(answer) for it in zip(letters[len(setting)], setting)]

@@ -58,8 +58,8 @@ Use --steady where changing the switch takes time. The schedule has as few
 settings, and few changes: at most one for each pair of links that share
 transfers, and one for each link in use. A change is a setting that joins other
 pairs of links than the one before; the first setting is one. `exchange draw`
-tells how many changes a schedule has, and whether a link shows that no schedule
-has fewer. --steady and --workers exclude each other.
+tells how many changes a schedule has, and how many are shown to be needed.
+--steady and --workers exclude each other.
 
 A file that can't be read is `refused file`. Where FILE is no batch text, the
 answer is what is first wrong, line by line:
@@ -131,10 +131,11 @@ The half of the busiest link is framed.
 
 Any schedule of BATCH is drawn. The picture's title says whether it has `the
 fewest` settings or `where F are enough`; then how often it changes the switch,
-as `changes C`, and `the fewest` where a link shares transfers with C others, so
-that no schedule has fewer changes; then `certified`, `not certified` or `no
-certificate`. With --settings it has the columns of settings A to B
-alone, counted from 0, both of them:
+as `changes C`, with `the fewest` where a link shares transfers with C others, so
+that no schedule has fewer changes, `the fewest with so few settings` where two
+links show that, or else `at least L`; then `certified`, `not certified` or `no
+certificate`. With --settings it has the columns of settings A to B alone, counted
+from 0, both of them:
   ./exchange draw BATCH SCHEDULE --settings 0..31 > first.svg
 
 Else it is the first of these that is wrong:

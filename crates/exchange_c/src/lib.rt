@@ -14,6 +14,7 @@
 ghost use Rattle.std.specs.Prelude.{IfOk, OnErr, None, Some};
 ghost use Rattle.batch.specs.Extent.{widest};
 ghost use Rattle.plan_answers.specs.Answers.{IsPlanned, IsSteadilyPlanned, IsChecked};
+ghost use Rattle.plan_answers.specs.Counting.{IsCounted};
 ghost use Rattle.plan_answers.specs.Directing.{IsDirected};
 ghost use Rattle.plan_answers.specs.Drawings.{IsDrawn};
 ghost use Rattle.rack_answers.specs.Answers.{IsRunAnswer, image_alone};
@@ -23,7 +24,8 @@ ghost use Rattle.exchange_c.specs.Writing.{Puts, IsOutOfMemory, Leaves, IsTheOne
 mod status;
 
 use plan_answers::{
-    Answer, answer_check, answer_direct, answer_draw, answer_plan_alone, answer_plan_steady,
+    Answer, answer_changes, answer_check, answer_direct, answer_draw, answer_plan_alone,
+    answer_plan_steady,
 };
 use rack_answers::{answer_apply_alone, answer_switch_alone, answer_switch_schedule};
 pub use status::{NO_MEMORY, NO_ROOM};
@@ -154,6 +156,22 @@ pub extern "C" fn exchange_draw(
         out.old out.new count.new result }
 {
     leave(answer_draw(alloc, batch, schedule, None), out, count)
+}
+
+/// How often the schedule of a text changes the switch, and how often it is shown that one with as
+/// many settings has to: the line `changes C least L`.
+#[unsafe(no_mangle)]
+pub extern "C" fn exchange_changes(
+    alloc: Global,
+    batch: &[u8],
+    schedule: &[u8],
+    out: &mut [u8],
+    count: &mut usize,
+) -> u8
+    ensures { Leaves (IsTheOne (IsCounted widest batch.now schedule.now))
+        out.old out.new count.new result }
+{
+    leave(answer_changes(alloc, batch, schedule), out, count)
 }
 
 /// What `exchange direct` answers to the text of moves.

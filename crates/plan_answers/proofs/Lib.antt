@@ -6,5 +6,6 @@ pub mod OneVerdict
 pub mod WrongCertificates
 pub mod Ranges
 pub mod OneDrawing
+pub mod OneCounting
 pub mod DirectedThenPlanned
 pub mod PlannedThenChecked

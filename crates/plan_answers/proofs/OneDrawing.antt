@@ -101,7 +101,7 @@ same_picture : (text other : List ℕ) (range : Option SettingRange) (ts : List 
 same_picture text other range ts xs v p q = p.2 ∙ ap (picture_of ts xs v) (same_shown range (length xs) p.0 q.0 p.1 q.1) ∙ sym q.2
 
 -- what one reading of the texts shows, each does
-same_reading : (P : List Transfer → List (List ℕ) → Verdict → Type 0) (shape : Extent) → IsShape shape → (batch schedule : List ℕ) (ts us : List Transfer) (xs ys : List (List ℕ)) (v w : Verdict)
+pub same_reading : (P : List Transfer → List (List ℕ) → Verdict → Type 0) (shape : Extent) → IsShape shape → (batch schedule : List ℕ) (ts us : List Transfer) (xs ys : List (List ℕ)) (v w : Verdict)
     → IsValid shape batch schedule ts xs v → IsValid shape batch schedule us ys w → P us ys w → P ts xs v
 same_reading P shape valid batch schedule ts us xs ys v w a b p =
     let moved = same_texts (λ t x n. (u : Verdict) × IsVerdict t x n u × P t x u) shape valid batch schedule ts us xs ys a.read.certificate b.read.certificate a.read.texts b.read.texts (w, b.known, p) in

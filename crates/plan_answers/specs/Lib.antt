@@ -5,4 +5,5 @@ pub mod Texts
 pub mod Validities
 pub mod Answers
 pub mod Drawings
+pub mod Counting
 pub mod Directing

@@ -14,6 +14,7 @@
 
 mod answer;
 mod checking;
+mod counting;
 mod directing;
 mod drawing;
 pub mod laws;
@@ -26,6 +27,7 @@ mod validity;
 
 pub use answer::Answer;
 pub use checking::answer_check;
+pub use counting::answer_changes;
 pub use directing::answer_direct;
 pub use drawing::answer_draw;
 pub use limits::{DONE, REFUSED};

@@ -1,7 +1,7 @@
 -- As many settings as the busiest link has transfers are the fewest, and each schedule with a
 -- certificate has just so many.
-use Rattle.std.proofs.Common.{◌≡◌, ℕ, ◌≤◌, List, [], ◌∷◌, length, All, Option, Some, None, sym, arith, inl, inr}
-use Rattle.std.specs.Prelude.{sum_by, Contains}
+use Rattle.std.proofs.Common.{◌↔◌, ◌≡◌, ℕ, ◌≤◌, List, [], ◌∷◌, length, All, Option, Some, None, refl, sym, arith, inl, inr}
+use Rattle.std.specs.Prelude.{sum_by, Contains, IfSome, IsNone}
 use Rattle.std.specs.List.{AllByRecursion}
 use Rattle.std.proofs.lemmas.Bool.{cases_lt}
 use Rattle.std.proofs.lemmas.List.Elements.{All-head, All-tail, All-weaker}
@@ -10,7 +10,7 @@ use Rattle.batch.proofs.Lists.{at_cons}
 use Rattle.batch.specs.declared.transfer.Transfer.{Transfer}
 use Rattle.link_graph.specs.declared.link.Link.{Link}
 use Rattle.link_graph.specs.Uses.{Uses}
-use Rattle.link_graph.specs.Counts.{uses, AreUsers}
+use Rattle.link_graph.specs.Counts.{IsBusiest, uses, AreUsers}
 use Rattle.link_graph.specs.Schedules.{IsScheduleOf}
 use Rattle.link_graph.specs.Certificates.{AreDistinct, CertifiesBy}
 use Rattle.link_graph.proofs.Koenig.{at_least}
@@ -73,9 +73,13 @@ named_few batch link named all distinct =
 pub unused : (batch : List Transfer) (link : Link) → batch ≡ [] → uses batch link ≤ 0
 unused batch link empty = rw empty (omega arith)
 
-most_used : (batch : List Transfer) (busiest : Option Link) (link : Link) → IsBusiestOf batch busiest → uses batch link ≤ uses_of batch busiest
+pub most_used : (batch : List Transfer) (busiest : Option Link) (link : Link) → IsBusiestOf batch busiest → uses batch link ≤ uses_of batch busiest
 most_used batch None link is = unused batch link is
 most_used batch (Some b) link is = is.most link
+
+pub busiest_of : (batch : List Transfer) (busiest : Option Link) → (IsNone busiest ↔ (batch ≡ [])) → IfSome busiest (IsBusiest batch) → IsBusiestOf batch busiest
+busiest_of batch None none most = none.0 refl
+busiest_of batch (Some b) none most = most
 
 least_by : (batch : List Transfer) (settings : List (List ℕ)) (busiest : Option Link) → IsScheduleOf batch settings → uses_of batch busiest ≤ length settings
 least_by batch settings None s = omega arith

@@ -1,6 +1,7 @@
 pub mod Texts
 pub mod Table
 pub mod Fewest
+pub mod Needed
 pub mod OneVerdict
 pub mod Overlaps
 pub mod InView

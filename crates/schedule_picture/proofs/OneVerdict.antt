@@ -1,5 +1,5 @@
 -- A schedule with its certificate has one verdict.
-use Rattle.std.proofs.Common.{◌≡◌, ℕ, List, Option, Some, None, refl, sym, ap, ◌∙◌, arith, inl, inr, ◌⊎◌}
+use Rattle.std.proofs.Common.{◌≡◌, ℕ, List, Option, Some, None, length, refl, sym, ap, subst, ◌∙◌, arith, inl, inr, ◌⊎◌}
 use Rattle.std.proofs.lemmas.Bool.{cases_lt}
 use Rattle.batch.specs.declared.transfer.Transfer.{Transfer}
 use Rattle.link_graph.specs.declared.link.End.{End}
@@ -12,8 +12,9 @@ use Rattle.link_graph.proofs.Users.{made}
 use Rattle.schedule_picture.specs.declared.verdict.Standing.{Standing}
 use Rattle.schedule_picture.specs.declared.verdict.Standing.TheVariants.{Certified, Wrong, Missing}
 use Rattle.schedule_picture.specs.declared.verdict.Verdict.{Verdict}
-use Rattle.schedule_picture.specs.Verdicts.{IsBusiestOf, uses_of, IsStanding, link_named, AreMostPartners, IsVerdict}
+use Rattle.schedule_picture.specs.Verdicts.{IsBusiestOf, uses_of, IsStanding, link_named, AreMostPartners, AreShown, IsVerdict}
 use Rattle.schedule_picture.proofs.Fewest.{unused}
+use Rattle.schedule_picture.proofs.Needed.{same_shown}
 
 -- of two links one stands before the other, or they are one
 by_module : (e : End) (m n : ℕ) → StandsBefore (made e m) (made e n) ⊎ ((made e m ≡ made e n) ⊎ StandsBefore (made e n) (made e m))
@@ -65,9 +66,12 @@ one_verdict batch settings certificate v w p q =
     p.busiest ∙ ap (λ (l : Option Link). link_named l v.standing certificate) link ∙ ap (λ (s : Standing). link_named q.link s certificate) standing ∙ sym q.busiest in
     let changes : v.changes ≡ w.changes = p.counted ∙ sym q.counted in
     let partners : v.partners ≡ w.partners = same_most batch v.partners w.partners p.needed q.needed in
-    let all : ℕ → Option Link → Standing → ℕ → ℕ → Verdict = λ f l s c n. record { fewest = f; busiest = l; standing = s; changes = c; partners = n } in
-    ap (λ (f : ℕ). all f v.busiest v.standing v.changes v.partners) fewest
-    ∙ ap (λ (l : Option Link). all w.fewest l v.standing v.changes v.partners) busiest
-    ∙ ap (λ (s : Standing). all w.fewest w.busiest s v.changes v.partners) standing
-    ∙ ap (λ (c : ℕ). all w.fewest w.busiest w.standing c v.partners) changes
-    ∙ ap (all w.fewest w.busiest w.standing w.changes) partners
+    let shown = subst (λ (f : ℕ). AreShown batch (length settings) f v.partners v.least) fewest p.shown in
+    let least : v.least ≡ w.least = same_shown batch (length settings) w.fewest w.partners v.least w.least (subst (λ (n : ℕ). AreShown batch (length settings) w.fewest n v.least) partners shown) q.shown in
+    let all : ℕ → Option Link → Standing → ℕ → ℕ → ℕ → Verdict = λ f l s c n m. record { fewest = f; busiest = l; standing = s; changes = c; partners = n; least = m } in
+    ap (λ (f : ℕ). all f v.busiest v.standing v.changes v.partners v.least) fewest
+    ∙ ap (λ (l : Option Link). all w.fewest l v.standing v.changes v.partners v.least) busiest
+    ∙ ap (λ (s : Standing). all w.fewest w.busiest s v.changes v.partners v.least) standing
+    ∙ ap (λ (c : ℕ). all w.fewest w.busiest w.standing c v.partners v.least) changes
+    ∙ ap (λ (n : ℕ). all w.fewest w.busiest w.standing w.changes n v.least) partners
+    ∙ ap (all w.fewest w.busiest w.standing w.changes w.partners) least

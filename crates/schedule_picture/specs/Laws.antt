@@ -79,9 +79,12 @@ VerdictTellsFewest =
     (verdict : Verdict) → IsVerdict batch settings certificate verdict
     → AreFewest batch verdict.fewest
 
--- each schedule of the batch changes the switch at least as often as a verdict tells partners
+-- each schedule of the batch changes the switch at least as often as a verdict tells partners, and
+-- one with as many settings as the verdict's at least as often as it tells for these
 abbrev pub TellsNeededChanges : Type 0
 TellsNeededChanges =
     (batch : List Transfer) (settings other : List (List ℕ)) (certificate : Option Naming)
-    (verdict : Verdict) → IsVerdict batch settings certificate verdict
-    → IsScheduleOf batch other → verdict.partners ≤ changes batch other
+    (verdict : Verdict) → IsBatch batch → IsVerdict batch settings certificate verdict
+    → IsScheduleOf batch other
+    → (verdict.partners ≤ changes batch other)
+    × (length other ≡ length settings → verdict.least ≤ changes batch other)

@@ -28,11 +28,17 @@ heading_text transfers settings fewest =
     codes "transfers " ++ decimal transfers ++ codes ", settings " ++ decimal settings
     ++ length_words settings fewest
 
--- `changes N`, and `, the fewest` where a link has as many partners
-unfoldable pub changes_words : ℕ → ℕ → List ℕ
-changes_words changes partners =
-    codes "changes " ++ decimal changes
-    ++ (if changes == partners then codes ", the fewest" else [])
+-- whether no schedule has fewer changes, or none with so few settings, or how many are shown
+unfoldable pub bound_words : ℕ → ℕ → ℕ → List ℕ
+bound_words changes partners least =
+    if changes == partners then codes ", the fewest"
+    else if changes == least then codes ", the fewest with so few settings"
+    else codes ", at least " ++ decimal least
+
+-- `changes N`, and what is shown of these
+unfoldable pub changes_words : ℕ → ℕ → ℕ → List ℕ
+changes_words changes partners least =
+    codes "changes " ++ decimal changes ++ bound_words changes partners least
 
 -- `busiest link E module M`, or `busiest none` where no link is named
 abbrev pub busiest_words : Option Link → List ℕ
@@ -57,7 +63,7 @@ shown_words settings shown =
 -- certificate stands, and which settings are shown
 unfoldable pub note_text : ℕ → Verdict → Shown → List ℕ
 note_text settings verdict shown =
-    changes_words verdict.changes verdict.partners ++ codes ", " ++ busiest_words verdict.busiest
+    changes_words verdict.changes verdict.partners verdict.least ++ codes ", " ++ busiest_words verdict.busiest
     ++ standing_words verdict.standing ++ shown_words settings shown
 
 -- the looks of everything

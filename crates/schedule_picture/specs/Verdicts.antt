@@ -1,13 +1,14 @@
 -- What is known of how many settings a schedule has: how many the busiest link wants, and whether a
 -- certificate shows that no schedule is shorter. And of how often it changes the switch: how often
--- that is, and how often any schedule of the batch has to.
-use Rattle.std.specs.Prelude.{◌≡◌, ℕ, ◌≤◌, List, [], Option, Some, None}
+-- that is, and how often any schedule of the batch has to, or any with as many settings.
+use Rattle.std.specs.Prelude.{◌≡◌, ◌≢◌, ℕ, ◌≤◌, List, [], length, Option, Some, None}
 use Rattle.batch.specs.declared.transfer.Transfer.{Transfer}
 use Rattle.link_graph.specs.declared.link.Link.{Link}
 use Rattle.link_graph.specs.Counts.{uses, IsBusiest}
 use Rattle.link_graph.specs.Certificates.{Naming, IsCertificate}
 use Rattle.steady_schedule.specs.Changes.{changes}
 use Rattle.steady_schedule.specs.Partners.{partners}
+use Rattle.steady_schedule.specs.TwoLinks.{IsMostShown}
 use Rattle.schedule_picture.specs.declared.verdict.Standing.{Standing}
 use Rattle.schedule_picture.specs.declared.verdict.Standing.TheVariants.{Certified, Wrong, Missing}
 use Rattle.schedule_picture.specs.declared.verdict.Verdict.{Verdict}
@@ -46,6 +47,12 @@ pub record AreMostPartners (batch : List Transfer) (count : ℕ) : Type 0 where
   pub has : partners batch link ≡ count
   pub most : (other : Link) → partners batch other ≤ count
 
+-- So many changes are shown of a schedule with so many settings. Two links show them, no two of which
+-- show more, where these are the fewest; and else one link's partners.
+pub record AreShown (batch : List Transfer) (settings fewest partners least : ℕ) : Type 0 where
+  pub by_two : settings ≡ fewest → IsMostShown batch settings least
+  pub by_one : settings ≢ fewest → least ≡ partners
+
 -- what is known of a schedule of the batch, with the certificate that it has
 pub record IsVerdict (batch : List Transfer) (settings : List (List ℕ))
     (certificate : Option Naming) (verdict : Verdict) : Type 0 where
@@ -56,3 +63,4 @@ pub record IsVerdict (batch : List Transfer) (settings : List (List ℕ))
   pub busiest : verdict.busiest ≡ link_named link verdict.standing certificate
   pub counted : verdict.changes ≡ changes batch settings
   pub needed : AreMostPartners batch verdict.partners
+  pub shown : AreShown batch (length settings) verdict.fewest verdict.partners verdict.least

@@ -20,7 +20,8 @@ pub fn tells_fewest()
 {}
 
 /// As many changes as a verdict tells partners are the fewest: no schedule of the batch, of
-/// whatever length, changes the switch less often.
+/// whatever length, changes the switch less often. And no schedule with as many settings as the one
+/// that the verdict is on has fewer changes than it tells as the least.
 pub fn tells_needed_changes()
     ensures { TellsNeededChanges }
 {}

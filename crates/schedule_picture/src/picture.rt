@@ -4,7 +4,7 @@ ghost use Rattle.std.specs.Prelude.{◌≡◌, ◌<◌, ◌≤◌, ◌+◌, All,
 ghost use Rattle.batch.specs.Text.{IsNumber};
 ghost use Rattle.link_graph.specs.Schedules.{IsScheduleOf};
 ghost use Rattle.schedule_picture.specs.Elements.{Adds};
-ghost use Rattle.schedule_picture.specs.Picture.{changes_words, busiest_words, length_words, heading_text, standing_words, shown_words, note_text, size_text, ground_text, title_part, caption_part, opening_text, rows_text, columns_text, closing_text, picture_of};
+ghost use Rattle.schedule_picture.specs.Picture.{bound_words, changes_words, busiest_words, length_words, heading_text, standing_words, shown_words, note_text, size_text, ground_text, title_part, caption_part, opening_text, rows_text, columns_text, closing_text, picture_of};
 
 use crate::cells::push_column;
 use crate::elements::push_link;
@@ -45,15 +45,35 @@ fn push_heading(
     push_length(text, settings, fewest)
 }
 
-/// Puts at the end of the text how often the schedule changes the switch, and whether that is the
-/// fewest times, since a link has as many partners.
-fn push_changes(text: &mut String, changes: usize, partners: usize) -> Result<(), AllocError>
-    ensures { OnOk result (Adds text.old text.new (changes_words changes partners)) }
+/// Puts at the end of the text what is shown of how often a schedule changes the switch.
+fn push_bound(
+    text: &mut String,
+    changes: usize,
+    partners: usize,
+    least: usize,
+) -> Result<(), AllocError>
+    ensures { OnOk result (Adds text.old text.new (bound_words changes partners least)) }
 {
     if changes == partners {
-        return write!(text, "changes {changes}, the fewest");
+        return text.push_str(", the fewest");
     }
-    write!(text, "changes {changes}")
+    if changes == least {
+        return text.push_str(", the fewest with so few settings");
+    }
+    write!(text, ", at least {least}")
+}
+
+/// Puts at the end of the text how often the schedule changes the switch, and what is shown of that.
+fn push_changes(
+    text: &mut String,
+    changes: usize,
+    partners: usize,
+    least: usize,
+) -> Result<(), AllocError>
+    ensures { OnOk result (Adds text.old text.new (changes_words changes partners least)) }
+{
+    write!(text, "changes {changes}")?;
+    push_bound(text, changes, partners, least)
 }
 
 /// Puts the name of the busiest link at the end of the text.
@@ -105,7 +125,7 @@ fn push_note(
     requires { IsNumber (shown.first + shown.count) }
     ensures { OnOk result (Adds text.old text.new (note_text settings verdict shown)) }
 {
-    push_changes(text, verdict.changes, verdict.partners)?;
+    push_changes(text, verdict.changes, verdict.partners, verdict.least)?;
     text.push_str(", ")?;
     push_busiest(text, verdict.busiest)?;
     text.push_str(standing_word(verdict.standing))?;

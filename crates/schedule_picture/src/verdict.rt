@@ -1,16 +1,19 @@
 //! What is known of how many settings a schedule has, and of how often it changes the switch.
 
-ghost use Rattle.std.specs.Prelude.{◌≡◌, ◌≢◌, IfOk, IfErr, OnOk};
+ghost use Rattle.std.specs.Prelude.{◌≡◌, ◌≢◌, ◌≤◌, IfOk, IfErr, OnOk};
 ghost use Rattle.std.specs.Option.{option_copied};
 ghost use Rattle.link_graph.specs.declared.check_fault.CheckFault.TheVariants.{NoMemory};
+ghost use Rattle.batch.specs.declared.limits.TheConstants.{MAX_TRANSFERS};
+ghost use Rattle.link_graph.specs.declared.link.Link.{Link};
+ghost use Rattle.link_graph.specs.Counts.{uses};
 ghost use Rattle.link_graph.specs.Schedules.{IsScheduleOf};
 ghost use Rattle.link_graph.specs.Checks.{IsSettingsFault};
-ghost use Rattle.schedule_picture.specs.Verdicts.{uses_of, link_named, IsProofOf, IsStanding, AreMostPartners, IsVerdict};
+ghost use Rattle.schedule_picture.specs.Verdicts.{uses_of, link_named, IsProofOf, IsStanding, AreMostPartners, AreShown, IsVerdict};
 
 use batch::Batch;
 use link_graph::{Certificate, CheckFault, Link, LinkGraph, Schedule, check_schedule};
 use std::alloc::Global;
-use steady_schedule::{count_changes, most_partners};
+use steady_schedule::{count_changes, most_partners, most_shown};
 
 /// Whether a schedule has a certificate, and whether that shows that no schedule is shorter.
 #[derive(Clone, Copy, Debug, PartialEq, Eq)]
@@ -39,6 +42,9 @@ pub struct Verdict {
     /// How many partners a link has at most: links with which it shares transfers. No schedule of
     /// the batch changes the switch less often. 0 where there is no transfer.
     pub partners: usize,
+    /// How often a schedule with as many settings changes the switch at least, as far as it is
+    /// shown: where these are the fewest by two links, and else by one link's partners.
+    pub least: usize,
 }
 
 /// Whether a certificate shows that no schedule of the batch is shorter than this one.
@@ -121,6 +127,18 @@ fn partners(graph: &LinkGraph) -> usize
     }
 }
 
+/// How many changes are shown of a schedule with so many settings.
+fn least(graph: &LinkGraph, settings: usize, fewest: usize, partners: usize) -> usize
+    requires most { (link : Link) → uses graph.now link ≤ fewest }
+    requires few { fewest ≤ MAX_TRANSFERS }
+    ensures { AreShown graph.now settings fewest partners result }
+{
+    if settings != fewest {
+        return partners;
+    }
+    most_shown(graph, settings)
+}
+
 /// The verdict on a schedule of the batch, with the certificate that it has, or what is first wrong
 /// with its settings.
 ///
@@ -142,11 +160,14 @@ pub fn verdict_on(
     let standing = standing_of(alloc, batch, schedule, certificate)?;
     let graph = LinkGraph::of(batch)?;
     let busiest = graph.busiest();
+    let fewest = uses(&graph, busiest);
+    let partners = partners(&graph);
     Ok(Verdict {
-        fewest: uses(&graph, busiest),
+        fewest,
         busiest: named_or(busiest, standing, certificate),
         standing,
         changes: count_changes(&graph, schedule),
-        partners: partners(&graph),
+        partners,
+        least: least(&graph, schedule.settings(), fewest, partners),
     })
 }

@@ -50,7 +50,7 @@ module _ (near uses : List ℕ) (most full unseen : ℕ) (of back : List (Option
           let s = stuck y y_in f in
           let low : s.x < MAX_MODULES = has_low of s.x y m.sized ((m.each_other s.x y).1 s.joined) in
           let other : s.x ≢ x = λ e. none-some y (sym x_free ∙ (ap (partner of) (sym e) ∙ (m.each_other s.x y).1 s.joined)) in
-          let has : weight s.x ≡ most = weight_full s.x low (is_full s.x low s.is_full) s.seen in
+          let has : weight s.x ≡ most = weight_full s.x low (is_full s.x low s.is_needed) s.seen in
           let here : seen_partner y ≡ Some s.x = rw f s.joined in
           let value : at_partner (without x weight) (seen_partner y) ≡ most = ap (at_partner (without x weight)) here ∙ (without_other x s.x weight other ∙ has) in
           omega (arith, value, ap (λ (b : Bool). only (not b) most) f)

@@ -1,4 +1,5 @@
 pub mod NeedChanges
+pub mod Alone
 pub mod Ends
 pub mod Bits
 pub mod PartnerMasks
@@ -11,8 +12,12 @@ pub mod Halls
 pub mod Covers
 pub mod Waiting
 pub mod Steps
+pub mod Reaches
 pub mod Slots
 pub mod Potential
 pub mod Heads
 pub mod Needs
+pub mod Totals
+pub mod TwoLinks
+pub mod Listed
 pub mod Plans

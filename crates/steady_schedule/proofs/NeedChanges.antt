@@ -99,7 +99,7 @@ module _ (link : Link) where
       let joined : joins_to link m y ≡ true = rw (same_modules link.end x y other.4, same_modules (other_end link.end) x y other.4) one.4 in
       list_any-from_Any (joins_to link m) ys (other.0, y, other.2, other.3, joined)
 
-  same_meets : (batch : List Transfer) (one other : List ℕ) (m : ℕ) → join_same batch one other ≡ true → meets (members batch one) m ≡ meets (members batch other) m
+  pub same_meets : (batch : List Transfer) (one other : List ℕ) (m : ℕ) → join_same batch one other ≡ true → meets (members batch one) m ≡ meets (members batch other) m
   same_meets batch one other m same =
       let both = and_parts (join_within (members batch one) (members batch other)) (join_within (members batch other) (members batch one)) same in
       same_from_decides (meets (members batch one) m) (meets (members batch other) m)

@@ -10,7 +10,7 @@ use Rattle.std.proofs.lemmas.Option.{none-some, same_Some}
 use Rattle.batch.specs.declared.limits.TheConstants.{MAX_MODULES}
 use Rattle.steady_schedule.specs.Masks.{has_bit, has_pair}
 use Rattle.steady_schedule.specs.Matchings.{partner, AreMatched}
-use Rattle.steady_schedule.specs.Searches.{AreNear, IsStuck, IsInVain, IsFound, IsFreed}
+use Rattle.steady_schedule.specs.Searches.{AreNear, JoinsNear, IsStuck, IsInVain, IsFound, IsFreed}
 use Rattle.steady_schedule.proofs.Matchings.{has_low, at_set, at_other}
 
 -- ---- masks
@@ -43,9 +43,14 @@ some_is o v e = rw e refl
 along : (o p : Option ℕ) → o ≡ p → IsSome p → IsSome o
 along o p e some = rw e some
 
+-- ---- new partners
+
+pub near_still : (near : List ℕ) (of now : List (Option ℕ)) → JoinsNear near of now → AreNear near of → AreNear near now
+near_still near of now joins old x y e = elim (joins x y e) [ inl same ↦ old x y same | inr new ↦ new ]
+
 -- ---- a link is freed
 
-module _ (near : List ℕ) (full unseen y : ℕ) (of back : List (Option ℕ)) (m : AreMatched of back) where
+module _ (near : List ℕ) (needed unseen y : ℕ) (of back : List (Option ℕ)) (m : AreMatched of back) where
   module _ (x : ℕ) (joined : partner back y ≡ Some x) where
     own : partner of x ≡ Some y
     own = (m.each_other x y).1 joined
@@ -68,10 +73,10 @@ module _ (near : List ℕ) (full unseen y : ℕ) (of back : List (Option ℕ)) (
     pub x_less : partner of_less x ≡ None
     x_less = at_set of x None x_in
 
-    near_less : AreNear near of → AreNear near of_less
-    near_less n z w e = elim (cases_eq z x) [
+    less_joined : (z w : ℕ) → partner of_less z ≡ Some w → partner of z ≡ Some w
+    less_joined z w e = elim (cases_eq z x) [
       | inl here ↦ absurd (none-some w (sym x_less ∙ subst (λ (v : ℕ). partner of_less v ≡ Some w) here e))
-      | inr other ↦ n z w (sym (at_other of x z None other) ∙ e)
+      | inr other ↦ sym (at_other of x z None other) ∙ e
     ]
 
     free_less : (z : ℕ) → partner of z ≡ None → partner of_less z ≡ None
@@ -84,13 +89,13 @@ module _ (near : List ℕ) (full unseen y : ℕ) (of back : List (Option ℕ)) (
     not_x z none same = none-some y (sym none ∙ (ap (partner of) same ∙ own))
 
     -- its partner finds another
-    pub goes_elsewhere : (of_now back_now : List (Option ℕ)) → has_bit unseen y ≡ false → IsFound near full unseen x of_less of_now back_less back_now → IsFreed near full unseen y of of_now back back_now
+    pub goes_elsewhere : (of_now back_now : List (Option ℕ)) → has_bit unseen y ≡ false → IsFound near needed unseen x of_less of_now back_less back_now → IsFreed near needed unseen y of of_now back back_now
     goes_elsewhere of_now back_now y_seen f = record {
       freed = f.seen_kept y y_seen ∙ y_less;
-      near_kept = λ n. f.near_kept (near_less n);
-      full_kept = λ z is_full s. elim (cases_eq z x) [
+      joins_near = λ z w e. elim (f.joins_near z w e) [ inl old ↦ inl (less_joined z w old) | inr near ↦ inr near ];
+      needed_kept = λ z is_needed s. elim (cases_eq z x) [
         | inl here ↦ subst (λ (v : ℕ). IsSome (partner of_now v)) (sym here) f.found
-        | inr other ↦ f.full_kept z is_full (along (partner of_less z) (partner of z) (at_other of x z None other) s)
+        | inr other ↦ f.needed_kept z is_needed (along (partner of_less z) (partner of z) (at_other of x z None other) s)
       ];
       free_kept = λ z none. f.free_kept z (not_x z none) (free_less z none);
       back_kept = λ w ne s. f.back_kept w (along (partner back_less w) (partner back w) (at_other back y w None ne) s);
@@ -98,7 +103,7 @@ module _ (near : List ℕ) (full unseen y : ℕ) (of back : List (Option ℕ)) (
     }
 
     -- nobody gives way
-    module _ (of_now back_now : List (Option ℕ)) (now : ℕ) (m_now : AreMatched of_now back_now) (v : IsInVain near full unseen now of_less of_now back_less back_now) where
+    module _ (of_now back_now : List (Option ℕ)) (now : ℕ) (m_now : AreMatched of_now back_now) (v : IsInVain near needed unseen now of_less of_now back_less back_now) where
       pub x_free : partner of_now x ≡ None
       x_free = v.same x ∙ x_less
 
@@ -114,7 +119,7 @@ module _ (near : List ℕ) (full unseen y : ℕ) (of back : List (Option ℕ)) (
       back_at : partner back_again y ≡ Some x
       back_at = at_set back_now y (Some x) (omega (arith, m_now.back_sized, m.back_sized, y_in))
 
-      pub stays : IsInVain near full unseen now of of_again back back_again
+      pub stays : IsInVain near needed unseen now of of_again back back_again
       stays = record {
         same = λ z. elim (cases_eq z x) [
           | inl here ↦ subst (λ (w : ℕ). partner of_again w ≡ partner of w) (sym here) (at_set of_now x (Some y) (omega (arith, m_now.sized, m.sized, x_in)) ∙ sym own)
@@ -128,23 +133,23 @@ module _ (near : List ℕ) (full unseen y : ℕ) (of back : List (Option ℕ)) (
         stuck = λ w was is.
             let s = v.stuck w was is in
             let other : w ≢ y = λ same. none-some s.x (sym y_free ∙ (ap (partner back_now) (sym same) ∙ s.joined)) in
-            record { x = s.x; joined = at_other back_now y w (Some x) other ∙ s.joined; is_full = s.is_full; seen = s.seen };
+            record { x = s.x; joined = at_other back_now y w (Some x) other ∙ s.joined; is_needed = s.is_needed; seen = s.seen };
       }
 
 -- ---- the search from a link
 
-module _ (near : List ℕ) (full unseen now x y : ℕ) (of of_now back back_now : List (Option ℕ)) (v : IsInVain near full unseen now of of_now back back_now) (is_near : has_pair near x y ≡ true) (was : has_bit now y ≡ true) (less : ℕ) (out : has_bit less y ≡ false) (others : (i : ℕ) → i ≢ y → has_bit less i ≡ has_bit now i) where
+module _ (near : List ℕ) (needed unseen now x y : ℕ) (of of_now back back_now : List (Option ℕ)) (v : IsInVain near needed unseen now of of_now back back_now) (is_near : has_pair near x y ≡ true) (was : has_bit now y ≡ true) (less : ℕ) (out : has_bit less y ≡ false) (others : (i : ℕ) → i ≢ y → has_bit less i ≡ has_bit now i) where
   less_fewer : (i : ℕ) → has_bit less i ≡ true → has_bit now i ≡ true
   less_fewer i t = sym (others i (λ same. false≢true (sym out ∙ (ap (has_bit less) (sym same) ∙ t)))) ∙ t
 
   -- one link more is stuck
-  pub one_stuck : (after : ℕ) (of_after back_after : List (Option ℕ)) → IsInVain near full less after of_now of_after back_now back_after → IsStuck near full after back_after y → IsInVain near full unseen after of of_after back back_after
+  pub one_stuck : (after : ℕ) (of_after back_after : List (Option ℕ)) → IsInVain near needed less after of_now of_after back_now back_after → IsStuck near needed after back_after y → IsInVain near needed unseen after of of_after back back_after
   one_stuck after of_after back_after w here = record {
     same = λ z. w.same z ∙ v.same z;
     back_same = λ z. w.back_same z ∙ v.back_same z;
     fewer = λ z t. v.fewer z (less_fewer z (w.fewer z t));
     stuck = λ z t f. elim (cases_eq z y) [
-      | inl same ↦ subst (IsStuck near full after back_after) (sym same) here
+      | inl same ↦ subst (IsStuck near needed after back_after) (sym same) here
       | inr other ↦ elim (cases_Bool (has_bit now z)) [
         | inl still ↦ w.stuck z (others z other ∙ still) f
         | inr seen ↦
@@ -152,7 +157,7 @@ module _ (near : List ℕ) (full unseen now x y : ℕ) (of of_now back back_now 
             record {
               x = s.x;
               joined = w.back_same z ∙ s.joined;
-              is_full = s.is_full;
+              is_needed = s.is_needed;
               seen = λ u n. elim (cases_Bool (has_bit after u)) [
                 | inl bad ↦ absurd (false≢true (sym (s.seen u n) ∙ less_fewer u (w.fewer u bad)))
                 | inr fine ↦ fine
@@ -163,7 +168,7 @@ module _ (near : List ℕ) (full unseen now x y : ℕ) (of of_now back back_now 
   }
 
   -- a link that was freed is the partner
-  module _ (of_after back_after : List (Option ℕ)) (m : AreMatched of_after back_after) (x_in : x < MAX_MODULES) (y_in : y < MAX_MODULES) (x_free : partner of x ≡ None) (f : IsFreed near full less y of_now of_after back_now back_after) where
+  module _ (of_after back_after : List (Option ℕ)) (m : AreMatched of_after back_after) (x_in : x < MAX_MODULES) (y_in : y < MAX_MODULES) (x_free : partner of x ≡ None) (f : IsFreed near needed less y of_now of_after back_now back_after) where
     abbrev of_new : List (Option ℕ)
     of_new = set of_after x (Some y)
 
@@ -176,21 +181,18 @@ module _ (near : List ℕ) (full unseen now x y : ℕ) (of of_now back back_now 
     back_here : partner back_new y ≡ Some x
     back_here = at_set back_after y (Some x) (omega (arith, m.back_sized, y_in))
 
-    near_now : AreNear near of → AreNear near of_now
-    near_now n z w e = n z w (sym (v.same z) ∙ e)
-
-    pub found_here : IsFound near full unseen x of of_new back back_new
+    pub found_here : IsFound near needed unseen x of of_new back back_new
     found_here = record {
       found = some_is (partner of_new x) y here;
-      near_kept = λ n z w e. elim (cases_eq z x) [
+      joins_near = λ z w e. elim (cases_eq z x) [
         | inl same ↦
             let at : y ≡ w = same_Some y w (sym here ∙ subst (λ (u : ℕ). partner of_new u ≡ Some w) same e) in
-            subst (λ (u : ℕ). has_pair near u w ≡ true) (sym same) (subst (λ (u : ℕ). has_pair near x u ≡ true) at is_near)
-        | inr other ↦ f.near_kept (near_now n) z w (sym (at_other of_after x z (Some y) other) ∙ e)
+            inr (subst (λ (u : ℕ). has_pair near u w ≡ true) (sym same) (subst (λ (u : ℕ). has_pair near x u ≡ true) at is_near))
+        | inr other ↦ elim (f.joins_near z w (sym (at_other of_after x z (Some y) other) ∙ e)) [ inl old ↦ inl (sym (v.same z) ∙ old) | inr near ↦ inr near ]
       ];
-      full_kept = λ z is_full s. elim (cases_eq z x) [
+      needed_kept = λ z is_needed s. elim (cases_eq z x) [
         | inl same ↦ subst (λ (u : ℕ). IsSome (partner of_new u)) (sym same) (some_is (partner of_new x) y here)
-        | inr other ↦ along (partner of_new z) (partner of_after z) (at_other of_after x z (Some y) other) (f.full_kept z is_full (along (partner of_now z) (partner of z) (v.same z) s))
+        | inr other ↦ along (partner of_new z) (partner of_after z) (at_other of_after x z (Some y) other) (f.needed_kept z is_needed (along (partner of_now z) (partner of z) (v.same z) s))
       ];
       free_kept = λ z ne none. at_other of_after x z (Some y) ne ∙ f.free_kept z (v.same z ∙ none);
       back_kept = λ w s. elim (cases_eq w y) [

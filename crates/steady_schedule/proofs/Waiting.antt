@@ -86,10 +86,10 @@ module _ (counts : List ℕ) (a b k : ℕ) (places : length counts ≡ MAX_MODUL
 
 -- ---- no transfers
 
-none_at : (n i : ℕ) → get_or {A = ℕ} (replicate n 0) i 0 ≡ 0
+pub none_at : (n i : ℕ) → get_or {A = ℕ} (replicate n 0) i 0 ≡ 0
 none_at n i = grind (arith, elements, get_or_past {X = ℕ} (replicate n 0) i 0)
 
-no_mask : (n u v : ℕ) → has_pair (replicate n 0) u v ≡ false
+pub no_mask : (n u v : ℕ) → has_pair (replicate n 0) u v ≡ false
 no_mask n u v = grind (arith, none_at n u, bit_at-zero v)
 
 none_waits : (n : ℕ) (f : ℕ → ℕ) → ((i : ℕ) → f i ≡ 0) → sum_below n f ≡ 0
@@ -159,11 +159,11 @@ abbrev pub IsLow : Transfer → Type 0
 IsLow x = (x.initiator < MAX_MODULES) × (x.responder < MAX_MODULES)
 
 -- the numbers of a link with each of the other end
-abbrev at_end : List Transfer → End → ℕ → ℕ → ℕ
+abbrev pub at_end : List Transfer → End → ℕ → ℕ → ℕ
 at_end xs Zero m v = pair_count xs m v
 at_end xs Three m u = pair_count xs u m
 
-pair_uses : (xs : List Transfer) (end : End) (m : ℕ) → All IsLow xs → sum_below MAX_MODULES (at_end xs end m) ≡ uses xs (made end m)
+pub pair_uses : (xs : List Transfer) (end : End) (m : ℕ) → All IsLow xs → sum_below MAX_MODULES (at_end xs end m) ≡ uses xs (made end m)
 pair_uses [] Zero m low = sum_none MAX_MODULES
 pair_uses [] Three m low = sum_none MAX_MODULES
 pair_uses (x ∷ xs) Zero m low =

@@ -10,7 +10,9 @@ pub mod Searches
 pub mod Waiting
 pub mod Covers
 pub mod Steps
+pub mod Reaches
 pub mod Slots
 pub mod Potentials
 pub mod Bounds
+pub mod TwoLinks
 pub mod Laws

@@ -24,6 +24,11 @@ pair_index u v = u * MAX_MODULES + v
 abbrev pub count_at : List ℕ → ℕ → ℕ → ℕ
 count_at counts u v = slice_index counts (pair_index u v)
 
+-- how many transfers of link x of an end with link y of the other end wait
+abbrev pub count_between : List ℕ → End → ℕ → ℕ → ℕ
+count_between counts Zero x y = count_at counts x y
+count_between counts Three x y = count_at counts y x
+
 -- how many of a link wait
 abbrev pub waiting : List ℕ → End → ℕ → ℕ
 waiting counts Zero m = sum_below MAX_MODULES (λ v. count_at counts m v)

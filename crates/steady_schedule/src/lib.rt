@@ -19,6 +19,7 @@
 #![tactic(auto)]
 
 mod changing;
+mod choosing;
 mod gathering;
 pub mod laws;
 mod masks;
@@ -27,12 +28,15 @@ mod numbering;
 mod partners;
 mod plan;
 mod planning;
+mod reach;
 mod remaining;
 mod stepping;
 #[cfg(test)]
 mod tests;
+mod two_links;
 
 pub use changing::count_changes;
 pub use partners::most_partners;
 pub use plan::Steady;
 pub use planning::steady;
+pub use two_links::most_shown;

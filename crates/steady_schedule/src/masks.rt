@@ -17,6 +17,20 @@ pub(crate) fn lowest(mask: u32) -> usize
     mask.trailing_zeros() as usize
 }
 
+/// The least module of a mask that has any, among those that are preferred where it has some of them;
+/// no contract says so.
+pub(crate) fn lowest_of(mask: u32, preferred: u32) -> usize
+    requires { 0 < mask }
+    ensures within { result < MAX_MODULES }
+    ensures has { has_bit mask result ≡ true }
+{
+    let better = mask & preferred;
+    if better > 0 {
+        return lowest(better);
+    }
+    lowest(mask)
+}
+
 /// Whether a module is in a mask.
 pub(crate) fn has(mask: u32, module: usize) -> bool
     requires { «module» < MAX_MODULES }

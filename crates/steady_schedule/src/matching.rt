@@ -1,15 +1,51 @@
 //! Partners of links, and the search for them.
 
 ghost use Rattle.std.specs.Prelude.{◌≡◌, ◌<◌, ◌≤◌, Some, None, true, false, set};
+ghost use Rattle.batch.specs.declared.limits.TheConstants.{MAX_MODULES};
+ghost use Rattle.steady_schedule.specs.Covers.{AreFree};
 ghost use Rattle.steady_schedule.specs.Masks.{has_bit};
-ghost use Rattle.steady_schedule.specs.Matchings.{partner, AreMatched};
+ghost use Rattle.steady_schedule.specs.Matchings.{partner, AreMatched, AreBelow};
 ghost use Rattle.steady_schedule.specs.Searches.{AllSeen, IsStuck, IsInVain, IsFound, IsFreed};
 
-use crate::masks::{Masks, has, lowest, without_module};
+use crate::masks::{Masks, has, lowest_of, with_module, without_module};
 use batch::MAX_MODULES;
 
 /// For each module the one that its link is joined to, where it is joined.
 pub(crate) type Partners = [Option<usize>; MAX_MODULES];
+
+/// The links that are joined.
+#[derive(Drop)]
+pub(crate) struct Matching {
+    pub(crate) zero: Partners,
+    pub(crate) three: Partners,
+    ghost matched: { AreMatched zero three },
+}
+
+impl Matching {
+    /// No links.
+    pub(crate) fn none() -> Matching
+        ensures { AreBelow result.zero 0 }
+    {
+        Matching {
+            zero: [None; MAX_MODULES],
+            three: [None; MAX_MODULES],
+        }
+    }
+}
+
+/// A mask of the links that have no partner, of the first modules.
+pub(crate) fn free(partners: &Partners, modules: usize) -> u32
+    requires { modules ≤ MAX_MODULES }
+    ensures { AreFree partners.now result }
+{
+    let mut mask = 0;
+    for module in 0..modules {
+        if partners[module].is_none() {
+            mask = with_module(mask, module);
+        }
+    }
+    mask
+}
 
 /// Joins two links that are free.
 pub(crate) fn join(of: &mut Partners, back: &mut Partners, x: usize, y: usize)
@@ -38,13 +74,14 @@ pub(crate) fn part(of: &mut Partners, back: &mut Partners, x: usize, y: usize)
     back[y] = None;
 }
 
-/// Frees the link `y`, where its partner isn't full, or finds another one among those that are
+/// Frees the link `y`, where its partner isn't needed, or finds another one among those that are
 /// unseen.
 #[cycle(augment)]
 fn make_room(
     y: usize,
     near: &Masks,
-    full: u32,
+    first: &Masks,
+    needed: u32,
     of: &mut Partners,
     back: &mut Partners,
     unseen: &mut u32,
@@ -54,20 +91,20 @@ fn make_room(
     requires matched { AreMatched of.old back.old }
     ensures matched { AreMatched of.new back.new }
     ensures freed { result ≡ true
-        → IsFreed near.now full unseen.old y of.old of.new back.old back.new }
+        → IsFreed near.now needed unseen.old y of.old of.new back.old back.new }
     ensures vain { result ≡ false
-        → IsInVain near.now full unseen.old unseen.new of.old of.new back.old back.new }
-    ensures stuck { result ≡ false → IsStuck near.now full unseen.new back.new y }
+        → IsInVain near.now needed unseen.old unseen.new of.old of.new back.old back.new }
+    ensures stuck { result ≡ false → IsStuck near.now needed unseen.new back.new y }
     ensures fewer { unseen.new ≤ unseen.old }
 {
     let Some(x) = back[y] else {
         return true;
     };
     part(of, back, x, y);
-    if !has(full, x) {
+    if !has(needed, x) {
         return true;
     }
-    if augment(x, near, full, of, back, unseen) {
+    if augment(x, near, first, needed, of, back, unseen) {
         return true;
     }
     join(of, back, x, y);
@@ -75,12 +112,14 @@ fn make_room(
 }
 
 /// Finds a partner for the link `x`, which has none, among those near it that are unseen. A partner
-/// is free, or its own partner isn't full and goes without, or finds another one.
+/// is free, or its own partner isn't needed and goes without, or finds another one. It looks at
+/// those of the masks `first` before others; no contract says so.
 #[cycle(augment)]
 pub(crate) fn augment(
     x: usize,
     near: &Masks,
-    full: u32,
+    first: &Masks,
+    needed: u32,
     of: &mut Partners,
     back: &mut Partners,
     unseen: &mut u32,
@@ -90,16 +129,16 @@ pub(crate) fn augment(
     requires matched { AreMatched of.old back.old }
     ensures matched { AreMatched of.new back.new }
     ensures found { result ≡ true
-        → IsFound near.now full unseen.old x of.old of.new back.old back.new }
+        → IsFound near.now needed unseen.old x of.old of.new back.old back.new }
     ensures vain { result ≡ false
-        → IsInVain near.now full unseen.old unseen.new of.old of.new back.old back.new }
+        → IsInVain near.now needed unseen.old unseen.new of.old of.new back.old back.new }
     ensures seen { result ≡ false → AllSeen near.now unseen.new x }
     ensures fewer { unseen.new ≤ unseen.old }
 {
     'search: while near[x] & *unseen != 0 {
-        let y = lowest(near[x] & *unseen);
+        let y = lowest_of(near[x] & *unseen, first[x]);
         *unseen = without_module(*unseen, y);
-        if make_room(y, near, full, of, back, unseen) {
+        if make_room(y, near, first, needed, of, back, unseen) {
             join(of, back, x, y);
             return true;
         }

@@ -15,9 +15,9 @@ ghost use Rattle.steady_schedule.specs.Steps.{AreTaken};
 ghost use Rattle.steady_schedule.specs.Waiting.{sum_below, pair_index, count_at, ArePairCounts, HaveMost};
 
 use crate::gathering::{empty_lists, push_into};
-use crate::matching::part;
+use crate::matching::{Matching, part};
 use crate::remaining::{PAIRS, Remaining};
-use crate::stepping::{Matching, next_step};
+use crate::stepping::next_step;
 use batch::{MAX_MODULES, MAX_TRANSFERS};
 use link_graph::LinkGraph;
 use std::alloc::{AllocError, Global};
@@ -160,8 +160,9 @@ fn fill(remaining: &mut Remaining, places: &Places, slots: &mut [usize], setting
     let modules = remaining.modules();
     let mut matching = Matching::none();
     let mut first = 0;
+    let mut held = MAX_TRANSFERS;
     'steps: while first < settings {
-        let held = next_step(remaining, &mut matching, settings - first, modules);
+        held = next_step(remaining, &mut matching, settings - first, modules, held);
         hold(
             remaining,
             &mut matching,

@@ -52,7 +52,7 @@ fn place_of_most(counts: &[usize; LINKS]) -> usize
 }
 
 /// The link at this place in the order of links.
-fn link_at(index: usize) -> Link
+pub(crate) fn link_at(index: usize) -> Link
     requires { index < LINKS }
     ensures index { link_index result ≡ index }
     ensures module { result.«module» < MAX_MODULES }

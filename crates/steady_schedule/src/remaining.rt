@@ -1,14 +1,14 @@
 //! The transfers of each pair of links that wait for a setting.
 
-ghost use Rattle.std.specs.Prelude.{◌≡◌, ℕ, ◌+◌, ◌-◌, ◌<◌, ◌≤◌, [], set};
+ghost use Rattle.std.specs.Prelude.{◌≡◌, ℕ, ◌+◌, ◌-◌, ◌<◌, ◌≤◌, [], set, slice_index};
 ghost use Rattle.batch.specs.Batches.{IsBatch};
 ghost use Rattle.batch.specs.declared.limits.TheConstants.{MAX_MODULES, MAX_TRANSFERS};
 ghost use Rattle.link_graph.specs.declared.link.End.{End};
-ghost use Rattle.steady_schedule.specs.Waiting.{pair_index, count_at, waiting, ArePairCounts, AreTold, NoneWait};
+ghost use Rattle.steady_schedule.specs.Waiting.{pair_index, count_at, count_between, waiting, ArePairCounts, AreTold, NoneWait};
 
 use crate::masks::{Masks, with_module, without_module};
 use batch::MAX_MODULES;
-use link_graph::LinkGraph;
+use link_graph::{End, LinkGraph};
 
 /// How many pairs of a link 0 and a link 3 there are.
 pub(crate) const PAIRS: usize = MAX_MODULES * MAX_MODULES;
@@ -84,6 +84,29 @@ impl Remaining {
         ensures { result ≡ count_at self.now.counts zero three }
     {
         self.counts[zero * MAX_MODULES + three]
+    }
+
+    /// The links of an end.
+    pub(crate) fn side(&self, end: End) -> &Side
+        ensures uses { (m : ℕ) → m < MAX_MODULES
+            → slice_index result.now.uses m ≡ waiting self.now.counts end m }
+    {
+        match end {
+            End::Zero => &self.zero,
+            End::Three => &self.three,
+        }
+    }
+
+    /// How many transfers of a link of an end with one of the other end wait.
+    pub(crate) fn between(&self, end: End, link: usize, other: usize) -> usize
+        requires link { link < MAX_MODULES }
+        requires other { other < MAX_MODULES }
+        ensures { result ≡ count_between self.now.counts end link other }
+    {
+        match end {
+            End::Zero => self.count(link, other),
+            End::Three => self.count(other, link),
+        }
     }
 
     /// One transfer more waits.

@@ -10,30 +10,11 @@ ghost use Rattle.steady_schedule.specs.Searches.{AreNear};
 ghost use Rattle.steady_schedule.specs.Steps.{CanHold};
 ghost use Rattle.steady_schedule.specs.Waiting.{count_at, waiting, HaveMost, NoneWait};
 
-use crate::masks::{lowest, with_module, without_module};
-use crate::matching::{Partners, augment, join};
+use crate::choosing::choose;
+use crate::masks::{Masks, lowest, with_module, without_module};
+use crate::matching::{Matching, Partners, augment, free, join};
 use crate::remaining::{Remaining, Side};
 use batch::MAX_MODULES;
-
-/// The links that are joined.
-#[derive(Drop)]
-pub(crate) struct Matching {
-    pub(crate) zero: Partners,
-    pub(crate) three: Partners,
-    ghost matched: { AreMatched zero three },
-}
-
-impl Matching {
-    /// No links.
-    pub(crate) fn none() -> Matching
-        ensures { AreBelow result.zero 0 }
-    {
-        Matching {
-            zero: [None; MAX_MODULES],
-            three: [None; MAX_MODULES],
-        }
-    }
-}
 
 /// A mask of the links that have so many transfers. Those from `modules` on have none.
 fn full(uses: &[u32; MAX_MODULES], most: usize, modules: usize) -> u32
@@ -75,7 +56,7 @@ fn cover_one(x: usize, side: &Side, most: usize, full: u32, of: &mut Partners, b
         return;
     }
     let mut unseen = u32::MAX;
-    let found = augment(x, &side.near, full, of, back, &mut unseen);
+    let found = augment(x, &side.near, &side.near, full, of, back, &mut unseen);
     prove!(found);
 }
 
@@ -102,23 +83,9 @@ fn cover(side: &Side, most: usize, modules: usize, of: &mut Partners, back: &mut
     }
 }
 
-/// A mask of the links that have no partner, of the first modules.
-fn free(partners: &Partners, modules: usize) -> u32
-    requires { modules ≤ MAX_MODULES }
-    ensures { AreFree partners.now result }
-{
-    let mut mask = 0;
-    for module in 0..modules {
-        if partners[module].is_none() {
-            mask = with_module(mask, module);
-        }
-    }
-    mask
-}
-
-/// One of the free links that has transfers with this one. It finds one that has the most; no
-/// contract says so.
-fn best_free(remaining: &Remaining, zero: usize, free: u32) -> Option<usize>
+/// One of the free links that has transfers with this one, among those that it is near to. It finds
+/// one that has the most; no contract says so.
+fn best_free(remaining: &Remaining, near: &Masks, zero: usize, free: u32) -> Option<usize>
     requires { zero < MAX_MODULES }
     ensures free { IfSome result (λ three. has_bit free three ≡ true) }
     ensures low { IfSome result (λ three. three < MAX_MODULES) }
@@ -126,7 +93,7 @@ fn best_free(remaining: &Remaining, zero: usize, free: u32) -> Option<usize>
 {
     let mut best = None;
     let mut most = 0;
-    let mut rest = remaining.zero.near[zero] & free;
+    let mut rest = near[zero] & free;
     'search: while rest != 0 {
         let three = lowest(rest);
         rest = without_module(rest, three);
@@ -141,7 +108,13 @@ fn best_free(remaining: &Remaining, zero: usize, free: u32) -> Option<usize>
 
 /// Joins a link that is free to one of these that are free, where it finds one that it has
 /// transfers with.
-fn join_one(remaining: &Remaining, matching: &mut Matching, zero: usize, free: &mut u32)
+fn join_one(
+    remaining: &Remaining,
+    near: &Masks,
+    matching: &mut Matching,
+    zero: usize,
+    free: &mut u32,
+)
     requires low { zero < MAX_MODULES }
     requires free { AreFree matching.old.three free.old }
     ensures near { AreNear remaining.now.zero.near matching.old.zero
@@ -153,7 +126,7 @@ fn join_one(remaining: &Remaining, matching: &mut Matching, zero: usize, free: &
     if matching.zero[zero].is_some() {
         return;
     }
-    let Some(three) = best_free(remaining, zero, *free) else {
+    let Some(three) = best_free(remaining, near, zero, *free) else {
         return;
     };
     join(&mut matching.zero, &mut matching.three, zero, three);
@@ -162,7 +135,7 @@ fn join_one(remaining: &Remaining, matching: &mut Matching, zero: usize, free: &
 
 /// Joins links that are free and have transfers with each other, as far as it finds them: no
 /// contract says that it joins any. Those that have partners still have some.
-fn join_free(remaining: &Remaining, matching: &mut Matching, modules: usize)
+fn join_free(remaining: &Remaining, near: &Masks, matching: &mut Matching, modules: usize)
     requires within { modules ≤ MAX_MODULES }
     requires near { AreNear remaining.now.zero.near matching.old.zero }
     ensures near { AreNear remaining.now.zero.near matching.new.zero }
@@ -171,7 +144,7 @@ fn join_free(remaining: &Remaining, matching: &mut Matching, modules: usize)
 {
     let mut free = free(&matching.three, modules);
     for zero in 0..modules {
-        join_one(remaining, matching, zero, &mut free);
+        join_one(remaining, near, matching, zero, &mut free);
     }
 }
 
@@ -212,7 +185,7 @@ fn three_room(remaining: &Remaining, matching: &Matching, most: usize, module: u
 }
 
 /// For how many settings the matching can be held at most.
-fn longest(remaining: &Remaining, matching: &Matching, most: usize, modules: usize) -> usize
+fn how_long(remaining: &Remaining, matching: &Matching, most: usize, modules: usize) -> usize
     requires some { 0 < most }
     requires most { HaveMost remaining.now.counts most }
     requires within { modules ≤ MAX_MODULES }
@@ -232,23 +205,26 @@ fn longest(remaining: &Remaining, matching: &Matching, most: usize, modules: usi
 }
 
 /// Makes the next matching, and says for how many of the settings that are left it can be held, and
-/// no longer. Only the first `modules` have transfers that wait. It begins with what is left of the
-/// one before; no contract says so.
+/// no longer. Only the first `modules` have transfers that wait. It is one that can be held as long
+/// as any, up to `longest`, and joins as much of the one before as it finds; no contract says so.
 pub(crate) fn next_step(
     remaining: &Remaining,
     matching: &mut Matching,
     most: usize,
     modules: usize,
+    longest: usize,
 ) -> usize
     requires some { 0 < most }
     requires few { most ≤ MAX_TRANSFERS }
     requires most { HaveMost remaining.now.counts most }
     requires within { modules ≤ MAX_MODULES }
     requires none { NoneWait remaining.now.counts modules }
-    requires near { AreNear remaining.now.zero.near matching.old.zero }
+    requires longest { 0 < longest }
     ensures can { CanHold remaining.now.counts matching.new.zero matching.new.three most result }
     ensures low { AreBelow matching.new.zero modules }
 {
+    let choice = choose(remaining, matching, most, modules, longest);
+    *matching = choice.matching;
     cover(
         &remaining.zero,
         most,
@@ -263,6 +239,6 @@ pub(crate) fn next_step(
         &mut matching.three,
         &mut matching.zero,
     );
-    join_free(remaining, matching, modules);
-    longest(remaining, matching, most, modules)
+    join_free(remaining, &choice.reach.zero.near, matching, modules);
+    how_long(remaining, matching, most, modules)
 }

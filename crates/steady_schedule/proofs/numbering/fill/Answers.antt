@@ -18,6 +18,7 @@ steps-init c =
     let totals = c.args.places.now.totals in
     let counts = c.args.remaining.now.counts in
     record {
+      some = omega arith;
       few = omega arith;
       most = subst (HaveMost counts) (sym whole) c.requires.most;
       reached = subst (IsReached counts) (sym whole) c.requires.reached;
@@ -40,6 +41,7 @@ steps-preserved c =
     let less = falls totals c.steps.remaining.counts after m.zero m.three m.matched most k c.hold.ensures.taken c.steps.invariant.most can c.steps.invariant.numbered.within c.steps.invariant.reached in
     let less_rest : potential totals after (c.args.settings - (c.steps.first + k)) < potential totals c.steps.remaining.counts most = subst (λ (n : ℕ). potential totals after n < potential totals c.steps.remaining.counts most) rest less in
     record {
+      some = can.some;
       few = omega (arith, can.few);
       most = subst (HaveMost after) rest (less_waits m.zero m.three m.matched k c.steps.remaining.counts after c.hold.ensures.taken most c.steps.invariant.most can);
       reached = subst (IsReached after) rest (reached_now totals c.steps.remaining.counts after m.zero m.three m.matched most k c.hold.ensures.taken c.steps.invariant.most can c.steps.invariant.reached);

@@ -1,4 +1,4 @@
-use Rattle.std.proofs.Common.{◌-◌, ◌≤◌}
+use Rattle.std.proofs.Common.{◌-◌, ◌<◌, ◌≤◌}
 use Rattle.steady_schedule.specs.Potentials.{potential, IsReached}
 use Rattle.steady_schedule.specs.Searches.{AreNear}
 use Rattle.steady_schedule.specs.Slots.{AreNumbered, AreFewSteps, AreAtNeed}
@@ -7,6 +7,7 @@ use Rattle.steady_schedule.proofs.numbering.fill.Given as goal
 
 abbrev pub invariant-steps : goal.invariant-steps
 invariant-steps l = record {
+  some : 0 < l.held;
   few : l.first ≤ l.settings;
   most : HaveMost l.remaining.counts (l.settings - l.first);
   reached : IsReached l.remaining.counts (l.settings - l.first);

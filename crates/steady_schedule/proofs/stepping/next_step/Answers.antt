@@ -1,8 +1,14 @@
-use Rattle.std.proofs.Common.{◌∙◌}
+use Rattle.std.proofs.Common.{◌∙◌, arith}
 use Rattle.link_graph.specs.declared.link.End.TheVariants.{Zero, Three}
 use Rattle.steady_schedule.proofs.Matchings.{turned}
-use Rattle.steady_schedule.proofs.Steps.{zero_side, three_side, near_turned, near_back, joined_below}
+use Rattle.steady_schedule.proofs.Steps.{zero_side, three_side, near_turned, near_back, near_from_counts, joined_below}
 use Rattle.steady_schedule.proofs.stepping.next_step.Goals as goal
+
+pub cover-requires-clause-near : goal.cover-requires-clause-near
+cover-requires-clause-near c x y joined =
+    let l = c.args.remaining.now in
+    let m = c.choose-choice.result.matching in
+    near_from_counts l.counts l.zero.near l.zero.uses l.three.near l.three.uses l.told m.zero m.three m.matched x y joined (omega (arith, c.choose-choice.ensures.some, c.choose-choice.ensures.each x y joined))
 
 pub cover-requires-clause-side : goal.cover-requires-clause-side
 cover-requires-clause-side c =

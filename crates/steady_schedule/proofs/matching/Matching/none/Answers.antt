@@ -3,7 +3,7 @@ use Rattle.std.proofs.lemmas.Option.{none-some}
 use Rattle.batch.specs.declared.limits.TheConstants.{MAX_MODULES}
 use Rattle.steady_schedule.proofs.Joined.{none_there}
 use Rattle.steady_schedule.proofs.Matchings.{none_matched}
-use Rattle.steady_schedule.proofs.stepping.Matching.none.Goals as goal
+use Rattle.steady_schedule.proofs.matching.Matching.none.Goals as goal
 
 pub invariant_of-result : goal.invariant_of-result
 invariant_of-result c = record { matched = none_matched }

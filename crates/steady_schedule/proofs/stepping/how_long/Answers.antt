@@ -4,7 +4,7 @@ use Rattle.std.proofs.lemmas.Bool.{cases_eq, cases_lt}
 use Rattle.steady_schedule.specs.Steps.{CanHoldAt}
 use Rattle.steady_schedule.specs.Steps.IsTight.{all}
 use Rattle.steady_schedule.proofs.Steps.{held_less, tighter, none_held}
-use Rattle.steady_schedule.proofs.stepping.longest.Goals as goal
+use Rattle.steady_schedule.proofs.stepping.how_long.Goals as goal
 
 pub loop-module-init : goal.loop-module-init
 loop-module-init c = record { some = c.requires.some; few = omega arith; each = λ x lt. absurd (omega arith); tight = all refl }

@@ -1,6 +1,6 @@
 use Rattle.std.proofs.Common.{ℕ, ◌<◌, ◌≤◌}
 use Rattle.steady_schedule.specs.Steps.{CanHoldAt, IsTight}
-use Rattle.steady_schedule.proofs.stepping.longest.Given as goal
+use Rattle.steady_schedule.proofs.stepping.how_long.Given as goal
 
 abbrev pub invariant-loop-module : goal.invariant-loop-module
 invariant-loop-module l = record {

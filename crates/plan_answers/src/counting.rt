@@ -1,0 +1,31 @@
+//! How often the switch changes over a schedule.
+
+ghost use Rattle.std.specs.Prelude.{IfOk};
+ghost use Rattle.batch.specs.Extent.{widest};
+ghost use Rattle.plan_answers.specs.Answers.{IsOnly};
+ghost use Rattle.plan_answers.specs.Counting.{IsCounted};
+
+use crate::answer::Answer;
+use crate::schedule_texts::ScheduleTexts;
+use std::alloc::{AllocError, Global};
+
+/// How often the schedule that the schedule text says changes the switch, of the batch that the
+/// batch text denotes, and how often it is shown that one with as many settings has to: a line
+/// `changes C least L`; or the refusal of what is first wrong.
+///
+/// L is as good as two links show it where the schedule has the fewest settings, and else as one
+/// link does. No certificate is needed. The texts are looked at as by
+/// [`answer_draw`](crate::answer_draw). Takes time that grows with the lengths of the texts.
+pub fn answer_changes(alloc: Global, batch: &[u8], schedule: &[u8]) -> Result<Answer, AllocError>
+    ensures counted { IfOk result (IsCounted widest batch.now schedule.now) }
+    ensures one { IfOk result (IsOnly (IsCounted widest batch.now schedule.now)) }
+{
+    match ScheduleTexts::read(alloc, batch, schedule) {
+        Ok(texts) => {
+            let (changes, least) = (texts.verdict.changes, texts.verdict.least);
+            let line = format!(in alloc; "changes {changes} least {least}\n")?;
+            Ok(Answer::done(line.into_bytes()))
+        }
+        Err(refusal) => Answer::refused(alloc, refusal),
+    }
+}

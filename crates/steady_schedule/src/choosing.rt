@@ -1,0 +1,320 @@
+//! The choice of a step's matching: one that can be held as long as any, as far as it is found. No
+//! contract says so.
+
+ghost use Rattle.std.specs.Prelude.{◌≡◌, ℕ, ◌+◌, ◌<◌, ◌≤◌, Some, true, IfSome};
+ghost use Rattle.batch.specs.declared.limits.TheConstants.{MAX_MODULES, MAX_TRANSFERS};
+ghost use Rattle.steady_schedule.specs.Masks.{has_pair};
+ghost use Rattle.steady_schedule.specs.Matchings.{partner, AreMatched, ArePart};
+ghost use Rattle.steady_schedule.specs.Reaches.{AreHeld, HaveEach};
+ghost use Rattle.steady_schedule.specs.Searches.{AreNear, JoinsNear};
+ghost use Rattle.steady_schedule.specs.Waiting.{HaveMost};
+
+use crate::masks::{Masks, has, lowest, without_module};
+use crate::matching::{Matching, Partners, augment, free, join};
+use crate::reach::{Held, Reach};
+use crate::remaining::Remaining;
+use batch::MAX_MODULES;
+use link_graph::End;
+
+/// A link that has to be joined, and found no partner; and the links of the other end that the
+/// search didn't see.
+#[derive(Clone, Copy)]
+struct InVain {
+    link: usize,
+    unseen: u32,
+}
+
+/// A matching, and what can be held for how many settings.
+#[derive(Drop)]
+pub(crate) struct Choice {
+    pub(crate) matching: Matching,
+    pub(crate) reach: Reach,
+    /// Where the matching can't be held so long, for how many settings one could be at most.
+    shorter: usize,
+}
+
+/// Joins a link 0 as it stands, where that can be held so long.
+fn keep_one(before: &Matching, reach: &Reach, matching: &mut Matching, zero: usize)
+    requires low { zero < MAX_MODULES }
+    requires part { ArePart before.now.zero zero matching.old.zero }
+    ensures part { ArePart before.now.zero (zero + 1) matching.new.zero }
+    ensures near { AreNear reach.now.zero.near matching.old.zero
+        → AreNear reach.now.zero.near matching.new.zero }
+{
+    let Some(three) = before.zero[zero] else {
+        return;
+    };
+    if has(reach.zero.near[zero], three) {
+        join(&mut matching.zero, &mut matching.three, zero, three);
+    }
+}
+
+/// What stands, as far as it can be held so long.
+fn standing(before: &Matching, reach: &Reach, modules: usize) -> Matching
+    requires { modules ≤ MAX_MODULES }
+    ensures { AreNear reach.now.zero.near result.zero }
+{
+    let mut matching = Matching::none();
+    for zero in 0..modules {
+        keep_one(before, reach, &mut matching, zero);
+    }
+    matching
+}
+
+/// Of links that are free, the pairs that can be held just so long.
+fn open_pairs(reach: &Reach, zero: &Partners, free: u32, modules: usize) -> Masks
+    requires { modules ≤ MAX_MODULES }
+    ensures { (u v : ℕ) → has_pair result u v ≡ true → has_pair reach.now.zero.near u v ≡ true }
+{
+    let mut pairs = [0; MAX_MODULES];
+    for module in 0..modules {
+        if zero[module].is_none() {
+            pairs[module] = reach.zero.near[module] & (reach.zero.just[module] & free);
+        }
+    }
+    pairs
+}
+
+/// Finds a partner for a link 0, where it has none, by one of these pairs.
+fn join_open(pairs: &Masks, free: u32, matching: &mut Matching, zero: usize)
+    requires { zero < MAX_MODULES }
+    ensures { JoinsNear pairs.now matching.old.zero matching.new.zero }
+{
+    if matching.zero[zero].is_some() || pairs[zero] == 0 {
+        return;
+    }
+    let mut unseen = free;
+    augment(
+        zero,
+        pairs,
+        pairs,
+        u32::MAX,
+        &mut matching.zero,
+        &mut matching.three,
+        &mut unseen,
+    );
+}
+
+/// Joins links that are free by pairs that can be held just so long, and are used up then: as many
+/// as there can be.
+fn join_just(reach: &Reach, matching: &mut Matching, modules: usize)
+    requires { modules ≤ MAX_MODULES }
+    ensures { JoinsNear reach.now.zero.near matching.old.zero matching.new.zero }
+{
+    let free = free(&matching.three, modules);
+    let pairs = open_pairs(reach, &matching.zero, free, modules);
+    for zero in 0..modules {
+        join_open(&pairs, free, matching, zero);
+    }
+}
+
+/// Finds a partner for a link, where it has none: first without the links of the other end that
+/// stand, then with them. Where that is in vain, gives the links that weren't seen.
+fn join_needed_one(
+    held: &Held,
+    x: usize,
+    stand: u32,
+    of: &mut Partners,
+    back: &mut Partners,
+) -> Option<u32>
+    requires low { x < MAX_MODULES }
+    requires matched { AreMatched of.old back.old }
+    ensures matched { AreMatched of.new back.new }
+    ensures near { JoinsNear held.now.near of.old of.new }
+{
+    if of[x].is_some() {
+        return None;
+    }
+    let mut unseen = !stand;
+    if augment(
+        x,
+        &held.near,
+        &held.just,
+        held.needed,
+        of,
+        back,
+        &mut unseen,
+    ) {
+        return None;
+    }
+    unseen = u32::MAX;
+    if augment(
+        x,
+        &held.near,
+        &held.just,
+        held.needed,
+        of,
+        back,
+        &mut unseen,
+    ) {
+        return None;
+    }
+    Some(unseen)
+}
+
+/// Finds a partner for each link that has to be joined, or tells the first for which it can't.
+fn join_needed(held: &Held, stand: u32, of: &mut Partners, back: &mut Partners) -> Option<InVain>
+    requires matched { AreMatched of.old back.old }
+    ensures matched { AreMatched of.new back.new }
+    ensures near { JoinsNear held.now.near of.old of.new }
+{
+    let mut rest = held.needed;
+    'links: while rest != 0 {
+        let link = lowest(rest);
+        rest = without_module(rest, link);
+        if let Some(unseen) = join_needed_one(held, link, stand, of, back) {
+            return Some(InVain { link, unseen });
+        }
+    }
+    None
+}
+
+/// The most transfers that a link has with one of these of the other end.
+fn most_with(remaining: &Remaining, end: End, link: usize, others: u32) -> usize
+    requires { link < MAX_MODULES }
+{
+    let mut most = 0;
+    let mut rest = remaining.side(end).near[link] & others;
+    'others: while rest != 0 {
+        let other = lowest(rest);
+        rest = without_module(rest, other);
+        most = most.max(remaining.between(end, link, other));
+    }
+    most
+}
+
+/// Whether a link is joined to one that was seen.
+fn is_seen(partner: Option<usize>, unseen: u32) -> bool
+    requires { IfSome partner (λ other. other < MAX_MODULES) }
+{
+    match partner {
+        Some(other) => !has(unseen, other),
+        None => false,
+    }
+}
+
+/// For how many settings a matching could be held at most, where a link found no partner. For more
+/// the same links stand in the way: this one, and those that are joined to links that were seen.
+/// Each of them has to be joined then, and has no pair with a link that wasn't seen.
+fn shorter(
+    remaining: &Remaining,
+    end: End,
+    vain: InVain,
+    of: &Partners,
+    most: usize,
+    modules: usize,
+) -> usize
+    requires within { modules ≤ MAX_MODULES }
+    requires most { HaveMost remaining.now.counts most }
+    requires low { (x y : ℕ) → partner of.now x ≡ Some y → y < MAX_MODULES }
+{
+    let mut settings = 0;
+    for link in 0..modules {
+        if link == vain.link || is_seen(of[link], vain.unseen) {
+            settings = settings
+                .max(most - remaining.side(end).uses[link] as usize)
+                .max(most_with(remaining, end, link, vain.unseen));
+        }
+    }
+    settings
+}
+
+/// Joins all links that have to be joined. Where it can't, gives for how many settings a matching
+/// could be held at most.
+fn join_all_needed(
+    remaining: &Remaining,
+    reach: &Reach,
+    stand: (u32, u32),
+    matching: &mut Matching,
+    most: usize,
+    modules: usize,
+) -> usize
+    requires within { modules ≤ MAX_MODULES }
+    requires most { HaveMost remaining.now.counts most }
+    requires held { AreHeld remaining.now.counts reach.now.settings
+        reach.now.zero.near reach.now.three.near }
+    requires each { HaveEach remaining.now.counts reach.now.settings matching.old.zero }
+    ensures each { HaveEach remaining.now.counts reach.now.settings matching.new.zero }
+{
+    let in_vain = join_needed(
+        &reach.zero,
+        stand.1,
+        &mut matching.zero,
+        &mut matching.three,
+    );
+    if let Some(vain) = in_vain {
+        return shorter(remaining, End::Zero, vain, &matching.zero, most, modules);
+    }
+    let in_vain = join_needed(
+        &reach.three,
+        stand.0,
+        &mut matching.three,
+        &mut matching.zero,
+    );
+    match in_vain {
+        Some(vain) => shorter(remaining, End::Three, vain, &matching.three, most, modules),
+        None => 0,
+    }
+}
+
+impl Choice {
+    /// One that is held for so many settings, of what stood before as far as that can be.
+    fn of(
+        remaining: &Remaining,
+        before: &Matching,
+        most: usize,
+        modules: usize,
+        settings: usize,
+    ) -> Choice
+        requires within { modules ≤ MAX_MODULES }
+        requires few { most ≤ MAX_TRANSFERS }
+        requires most { HaveMost remaining.now.counts most }
+        requires some { 0 < settings }
+        requires left { settings ≤ most }
+        ensures each { HaveEach remaining.now.counts settings result.matching.zero }
+        ensures held { AreHeld remaining.now.counts settings
+            result.reach.zero.near result.reach.three.near }
+        ensures settings { result.reach.settings ≡ settings }
+        ensures shorter { result.shorter < settings }
+    {
+        let reach = Reach::of(remaining, most, modules, settings);
+        let mut matching = standing(before, &reach, modules);
+        let stand = (
+            u32::MAX ^ free(&matching.zero, modules),
+            u32::MAX ^ free(&matching.three, modules),
+        );
+        join_just(&reach, &mut matching, modules);
+        let shorter = join_all_needed(remaining, &reach, stand, &mut matching, most, modules);
+        Choice {
+            matching,
+            reach,
+            shorter: shorter.min(settings - 1),
+        }
+    }
+}
+
+/// A matching that can be held as long as any, of at most so many settings, with as much of what
+/// stood before as is found; no contract says so. It can be held so long as `reach` says.
+pub(crate) fn choose(
+    remaining: &Remaining,
+    before: &Matching,
+    most: usize,
+    modules: usize,
+    longest: usize,
+) -> Choice
+    requires within { modules ≤ MAX_MODULES }
+    requires some { 0 < most }
+    requires few { most ≤ MAX_TRANSFERS }
+    requires most { HaveMost remaining.now.counts most }
+    requires longest { 0 < longest }
+    ensures some { 0 < result.reach.settings }
+    ensures each { HaveEach remaining.now.counts result.reach.settings result.matching.zero }
+    ensures held { AreHeld remaining.now.counts result.reach.settings
+        result.reach.zero.near result.reach.three.near }
+{
+    let mut choice = Choice::of(remaining, before, most, modules, longest.min(most));
+    'lengths: while choice.shorter > 0 {
+        choice = Choice::of(remaining, before, most, modules, choice.shorter);
+    }
+    choice
+}

@@ -1,0 +1,115 @@
+//! What a step can hold for some settings.
+
+ghost use Rattle.std.specs.Prelude.{◌≡◌, ℕ, ◌<◌, ◌≤◌, ◌||◌, ◌&&◌, ◌==◌, false};
+ghost use Rattle.batch.specs.declared.limits.TheConstants.{MAX_MODULES, MAX_TRANSFERS};
+ghost use Rattle.steady_schedule.specs.Masks.{has_pair};
+ghost use Rattle.steady_schedule.specs.Reaches.{AreHeld, IsOverMask};
+
+use crate::masks::{Masks, lowest, with_module, without_module};
+use crate::remaining::Remaining;
+use batch::MAX_MODULES;
+
+/// Of the links of one end, what can be held for some settings.
+#[derive(Drop)]
+pub(crate) struct Held {
+    /// For each link those of the other end with which it has so many transfers.
+    pub(crate) near: Masks,
+    /// Those with which it has just so many: such a pair is used up then. No contract says so.
+    pub(crate) just: Masks,
+    /// The links that have more transfers than there are settings left then.
+    pub(crate) needed: u32,
+}
+
+/// What can be held for some settings.
+#[derive(Drop)]
+pub(crate) struct Reach {
+    /// For how many.
+    pub(crate) settings: usize,
+    pub(crate) zero: Held,
+    pub(crate) three: Held,
+}
+
+impl Held {
+    /// No pairs.
+    fn none(needed: u32) -> Held
+        ensures near { (u v : ℕ) → has_pair result.near u v ≡ false }
+        ensures needed { result.needed ≡ needed }
+    {
+        Held {
+            near: [0; MAX_MODULES],
+            just: [0; MAX_MODULES],
+            needed,
+        }
+    }
+
+    /// Adds a pair, by the link of this end.
+    fn add(&mut self, link: usize, other: usize, is_just: bool)
+        requires link { link < MAX_MODULES }
+        requires other { other < MAX_MODULES }
+        ensures near { (u v : ℕ) → has_pair self.new.near u v
+            ≡ (has_pair self.old.near u v || (link == u && other == v)) }
+        ensures needed { self.new.needed ≡ self.old.needed }
+    {
+        self.near[link] = with_module(self.near[link], other);
+        if is_just {
+            self.just[link] = with_module(self.just[link], other);
+        }
+    }
+}
+
+/// A mask of the links that have more than so many transfers, of the first modules.
+fn over(uses: &[u32; MAX_MODULES], count: usize, modules: usize) -> u32
+    requires few { count ≤ MAX_TRANSFERS }
+    requires within { modules ≤ MAX_MODULES }
+    ensures { IsOverMask uses.now count modules result }
+{
+    let mut mask = 0;
+    for module in 0..modules {
+        if uses[module] > count as u32 {
+            mask = with_module(mask, module);
+        }
+    }
+    mask
+}
+
+impl Reach {
+    /// Adds the pairs of a link 0.
+    fn add_row(&mut self, remaining: &Remaining, zero: usize)
+        requires low { zero < MAX_MODULES }
+        requires held { AreHeld remaining.now.counts self.old.settings
+            self.old.zero.near self.old.three.near }
+        ensures held { AreHeld remaining.now.counts self.new.settings
+            self.new.zero.near self.new.three.near }
+        ensures settings { self.new.settings ≡ self.old.settings }
+    {
+        let mut rest = remaining.zero.near[zero];
+        'links: while rest != 0 {
+            let three = lowest(rest);
+            rest = without_module(rest, three);
+            let count = remaining.count(zero, three);
+            if count >= self.settings {
+                self.zero.add(zero, three, count == self.settings);
+                self.three.add(three, zero, count == self.settings);
+            }
+        }
+    }
+
+    /// What can be held for so many of the settings that are left.
+    pub(crate) fn of(remaining: &Remaining, most: usize, modules: usize, settings: usize) -> Reach
+        requires few { most ≤ MAX_TRANSFERS }
+        requires left { settings ≤ most }
+        requires within { modules ≤ MAX_MODULES }
+        ensures held { AreHeld remaining.now.counts settings result.zero.near result.three.near }
+        ensures settings { result.settings ≡ settings }
+    {
+        let mut reach = Reach {
+            settings,
+            zero: Held::none(over(&remaining.zero.uses, most - settings, modules)),
+            three: Held::none(over(&remaining.three.uses, most - settings, modules)),
+        };
+        for zero in 0..modules {
+            reach.add_row(remaining, zero);
+        }
+        reach
+    }
+}
