@@ -24,13 +24,12 @@ def batch(draw, shape, most):
     modules, blocks, _ = shape
     count = draw.randint(0, most)
     apart = draw.random() < 0.5
-    free = [(m, b) for m in range(modules) for b in range(blocks)]
-    draw.shuffle(free)
+    free = draw.sample(range(modules * blocks), min(count, modules * blocks)) if apart else []
     lines = []
     while len(lines) < count and (free or not apart):
         kind = draw.choice(["push", "pull"])
         reads = (draw.randrange(modules), draw.randrange(blocks))
-        writes = free.pop() if apart else (draw.randrange(modules), draw.randrange(blocks))
+        writes = divmod(free.pop(), blocks) if apart else (draw.randrange(modules), draw.randrange(blocks))
         own, far = (reads, writes) if kind == "push" else (writes, reads)
         lines.append(f"{kind} {own[0]} {own[1]} {far[0]} {far[1]}\n")
     return f"batch {len(lines)}\n".encode() + "".join(lines).encode()

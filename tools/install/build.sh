@@ -1,14 +1,54 @@
 #!/usr/bin/env bash
 # Proves and builds the program and the library for programs in C, as far as they aren't built or are older than their sources.
+#
+# `rt ci` leaves the proved crates below that library, but no archive of it: it is made over them. Where they aren't there, or the kit has other
+# parts, `rt lib` makes it, and proves them once more.
 set -euo pipefail
 unset CDPATH
 top=$(cd "$(dirname "$(readlink -f "${BASH_SOURCE[0]}")")/../.." && pwd)
-library=$top/crates/exchange_c/out/libexchange_c.a
+built=$top/crates/exchange_c/out
+library=$built/libexchange_c.a
+
+# Takes what `rt ci` left of a crate into a folder of exchange_c, and says whether it is no older than its sources. In the crate's own folder the
+# next `rt ci` would keep it in the place of what it makes. What other commands of rt build has a stamp beside it.
+take() {
+    local crate=$top/crates/$1 left=$built/rlib/$1
+    if [ -e "$crate/out/rlib" ] && [ ! -e "$crate/out/rlib/stamp" ]; then
+        rm -rf "$left"
+        mv "$crate/out/rlib" "$left"
+    fi
+    [ -e "$left/$1.rlib/format" ] && [ ! "$top/crates.txt" -nt "$left" ] &&
+        [ -z "$(find "$crate" -mindepth 1 -path "$crate/out" -prune -o -newer "$left" -print -quit)" ]
+}
+
+# Proves exchange_c and makes its archive, over what `rt ci` left of the crates before it in crates.txt, or says what is missing.
+archive() {
+    local kit part name below words=()
+    kit=$(dirname "$(rt doc)")
+    for part in bin/rattle toolchain logic_built rlibs/std.rlib rattle/logic/antt-project.json; do
+        [ -e "$kit/$part" ] || { echo "the kit has no $part" && return 1; }
+    done
+    mapfile -t below < <(sed -E '/^#/d; /^exchange_c /Q; s/[ :].*//' "$top/crates.txt")
+    for name in "${below[@]}"; do
+        take "$name" || { echo "rt ci left no $name" && return 1; }
+        words+=(-L "dependency=$built/rlib/$name")
+    done
+    for name in $(sed -n 's/^exchange_c .*://p' "$top/crates.txt"); do
+        words+=(--extern "$name=$built/rlib/$name/$name.rlib")
+    done
+    cd "$top/crates/exchange_c"
+    "$kit/bin/rattle" build --crate-name exchange_c src/lib.rt --crate-type staticlib --links exchange_c= \
+        --extern "std=$kit/rlibs/std.rlib" -L "dependency=$kit/rlibs" "${words[@]}" --toolchain "$kit/toolchain" \
+        --antt-project "$kit/rattle/logic/antt-project.json" --logic-built "$kit/logic_built" -o "$library"
+}
 
 "$top/exchange" prove
 if [ ! -e "$library" ] ||
     [ -n "$(find "$top/crates.txt" "$top"/crates/*/src "$top"/crates/*/specs -type f -newer "$library" -print -quit)" ]; then
     echo "exchange: proving and building exchange_c .." >&2
-    said=$(cd "$top/crates/exchange_c" && rt lib 2>&1) || { echo "$said" >&2 && exit 3; }
+    mkdir -p "$built/rlib"
+    if ! said=$(archive 2>&1); then
+        said+=$'\n'$(cd "$top/crates/exchange_c" && rt lib 2>&1) || { echo "$said" >&2 && exit 3; }
+    fi
     touch "$library"
 fi
