@@ -12,7 +12,7 @@ use Rattle.batch_book.specs.Replies.{NeverFail}
 use Rattle.batch_book.specs.Values.{greatest}
 
 -- No seat is missing: the book was opened with these words, each seat's list is its history
--- filtered to the seat's session, and it has no other entries. No seat has seen more of the word
+-- filtered to the seat's session, and the history has no other entries. No seat has seen more of the word
 -- than the greatest value of the history. Where port and wires never fail, no run of it stopped.
 pub record AreClosed {P W G : Type 0} (seen : Ghosts P) (sure : W → ℕ → Type 0) (opening : Store)
     (seats : List SeatState) (c : Closed P W G) : Type 0 where

@@ -1,7 +1,8 @@
 -- The seats of an exchange, and their lists.
-use Rattle.std.specs.Prelude.{◌≡◌, ℕ, ◌≤◌, max, nat_eq, List, length, filter, sum_by, Option, Some}
+use Rattle.std.specs.Prelude.{◌≡◌, ℕ, ◌≤◌, max, List, length, sum_by, Option, Some}
 use Rattle.atomic_table.specs.Seated.{TableId}
 use Rattle.progress_word.specs.Watchers.{WatcherView}
+use Rattle.own_lists.specs.Lists.{own_of}
 use Rattle.batch_book.specs.declared.entry.Entry.{Entry}
 
 -- What contracts see of a seat: the word of its exchange, its session, its list, the greatest value
@@ -42,7 +43,7 @@ entries_of seats = sum_by (λ s. length s.log) seats
 
 -- the entries of a session
 abbrev pub own : ℕ → List Entry → List Entry
-own session history = filter (λ e. nat_eq e.session session) history
+own session history = own_of (λ e. e.session) session history
 
 -- the seat's list is the history filtered to its session
 abbrev pub LogAgrees : List Entry → SeatState → Type 0

@@ -1,5 +1,5 @@
 -- What the history keeps of a call and of a reply.
-use Rattle.std.specs.Prelude.{◌≡◌, List, Option, Some, None}
+use Rattle.std.specs.Prelude.{◌≡◌, ◌≢◌, List, Option, Some, None}
 use Rattle.batch.specs.declared.transfer.Transfer.{Transfer}
 use Rattle.batch_book.specs.declared.call.Call.{Call}
 use Rattle.batch_book.specs.declared.call.Call.TheVariants.{Submit, Fetch, Settle, Run, Show, Discard, Peek, Poke}
@@ -23,8 +23,9 @@ told (Discard id) = told_call.Discard id
 told (Peek «module» address) = told_call.Peek «module» address
 told (Poke «module» address word) = told_call.Poke «module» address word
 
--- what the history keeps of a reply: all of it, but a batch that was fetched
+-- what the history keeps of a reply: all of it, but nothing of a batch that was fetched
 abbrev pub IsKeptOf : Option Reply → Reply → Type 0
 IsKeptOf None (Fetched batch) = Unit {0}
 IsKeptOf None reply = ⊥
-IsKeptOf (Some kept) reply = kept ≡ reply
+IsKeptOf (Some kept) reply =
+    (kept ≡ reply) × ((batch : List Transfer) → reply ≢ Fetched batch)

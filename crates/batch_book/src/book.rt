@@ -122,16 +122,17 @@ impl Book {
     }
 
     /// One call of a session, and its reply. The history has both then, but where it is full, and
-    /// where there was no memory: then nothing has changed. A batch or plan of a call that is
-    /// refused is dropped.
+    /// where there was no memory: then nothing has changed. A plan of a call that is refused is
+    /// dropped.
     ///
     /// In a full history no memory is asked for. Else all of it is taken before anything changes:
-    /// for the entry, for the copy of a batch that is fetched, and for the run, if there is one.
-    /// Of a plan the entry keeps nothing, and the batch that it names is the book's own.
+    /// for the entry, for the copy of a batch that is fetched, and for the run, if there is one. An
+    /// entry keeps no plan and no batch that was fetched. It shares a batch that was handed in with
+    /// the book, while that has it.
     ///
     /// A run takes its time, `Fetch` and `Settle` take time by the batch, and `Discard` by the
-    /// batches that are held. All other calls take constant time, however long the history
-    /// is, but for those few at which its memory grows.
+    /// batches that are held. All other calls take constant time, however long the history is, but
+    /// for those few at which its memory grows.
     pub fn apply<R: Threads + Sync, P: ConfigPort, W: WireMaker + Sync, G: Gate + Sync, N: Notice>(
         &mut self,
         rt: &R,

@@ -11,8 +11,8 @@ use crate::told_call::ToldCall;
 use std::marker::Model;
 use std::snapshot::Snapshot;
 
-/// A call of the history. It keeps no plan, and the batch that was submitted is the book's own.
-/// Contracts see the whole call.
+/// A call of the history. It keeps no plan. A batch that was submitted it shares with the book,
+/// while that has it. Contracts see the whole call.
 #[derive(Drop)]
 pub struct LoggedCall {
     kept: ToldCall<SharedBatch>,
@@ -52,7 +52,7 @@ impl LoggedCall {
 #[derive(Drop)]
 pub struct LoggedReply {
     kept: Option<Reply>,
-    told: Snapshot<Reply>,
+    given: Snapshot<Reply>,
 }
 
 impl Model for LoggedReply {
@@ -61,9 +61,9 @@ impl Model for LoggedReply {
 
     ghost Value = { Reply };
 
-    ghost view = { λ r. r.told.value };
+    ghost view = { λ r. r.given.value };
 
-    ghost invariant = { λ r. IsKeptOf r.kept r.told.value };
+    ghost invariant = { λ r. IsKeptOf r.kept r.given.value };
 }
 
 impl LoggedReply {
@@ -73,7 +73,7 @@ impl LoggedReply {
     {
         LoggedReply {
             kept: reply.without_batch(),
-            told: Snapshot::of(reply),
+            given: Snapshot::of(reply),
         }
     }
 

@@ -4,7 +4,7 @@ ghost use Rattle.std.specs.Prelude.{◌≡◌, IfOk};
 ghost use Rattle.progress_word.specs.declared.limits.TheConstants.{ALL_PARTS};
 
 use crate::entry::Entry;
-use own_lists::{Fresh, Room};
+use own_lists::{Fresh, HistoryName};
 use progress_word::ALL_PARTS;
 use std::alloc::{AllocError, Global};
 use std::marker::Brand;
@@ -12,7 +12,7 @@ use std::sync::ledger::{Blank, Ledger};
 
 /// Names an exchange, so that what lies under its lock can be told to be of it: beside its ledger
 /// and its history, the words that it was opened with.
-pub trait ExchangeName: Ledger + Room {
+pub trait ExchangeName: Ledger + HistoryName {
     ghost use Rattle.module_memory.specs.Store.{Store};
 
     ghost opening: { Store };

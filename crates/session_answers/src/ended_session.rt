@@ -18,7 +18,7 @@ pub enum Ending<C> {
 /// A session at a host that has ended.
 #[derive(Drop)]
 pub struct EndedSession<L: ExchangeName, C> {
-    /// Its seat, which has the list of its calls.
+    /// Its seat. Contracts see the list of its calls.
     pub seat: Seat<L>,
     /// How it ended.
     pub ending: Ending<C>,

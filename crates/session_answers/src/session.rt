@@ -4,7 +4,7 @@ use client_session::ServeFault;
 /// A session of `serve` that has ended.
 #[derive(Drop)]
 pub struct Session<L: ExchangeName> {
-    /// Its seat, which has the list of its calls.
+    /// Its seat. Contracts see the list of its calls.
     pub seat: Seat<L>,
     /// What it was told.
     pub told: Vec<u8>,

@@ -6,5 +6,5 @@ ghosts-serve_all-L-ExchangeName g a = record { opening = a.rack }
 abbrev pub ghosts-serve_all-L-Ledger : goal.ghosts-serve_all-L-Ledger
 ghosts-serve_all-L-Ledger g a = record { name = a.blank.ledger.name; parts = a.blank.ledger.parts }
 
-abbrev pub ghosts-serve_all-L-Room : goal.ghosts-serve_all-L-Room
-ghosts-serve_all-L-Room g a = record { table = a.blank.history }
+abbrev pub ghosts-serve_all-L-HistoryName : goal.ghosts-serve_all-L-HistoryName
+ghosts-serve_all-L-HistoryName g a = record { table = a.blank.history }

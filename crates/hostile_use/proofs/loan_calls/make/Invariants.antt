@@ -6,5 +6,5 @@ ghosts-open_exchange-L-ExchangeName g a = record { opening = a.rack }
 abbrev pub ghosts-open_exchange-L-Ledger : goal.ghosts-open_exchange-L-Ledger
 ghosts-open_exchange-L-Ledger g a = record { name = a.blank.ledger.name; parts = a.blank.ledger.parts }
 
-abbrev pub ghosts-open_exchange-L-Room : goal.ghosts-open_exchange-L-Room
-ghosts-open_exchange-L-Room g a = record { table = a.blank.history }
+abbrev pub ghosts-open_exchange-L-HistoryName : goal.ghosts-open_exchange-L-HistoryName
+ghosts-open_exchange-L-HistoryName g a = record { table = a.blank.history }

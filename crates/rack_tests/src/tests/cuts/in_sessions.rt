@@ -1,4 +1,4 @@
-//! The same faults in a session: what it is told, its seat's list, the history and the words.
+//! The same faults in a session: what it is told, the history and the words.
 
 ghost use Rattle.batch_book.specs.Naming.{IsNamed};
 ghost use Rattle.std.specs.Prelude.{◌≡◌, Some};

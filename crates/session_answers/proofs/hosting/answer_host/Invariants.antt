@@ -6,5 +6,5 @@ ghosts-host_clients-L-ExchangeName g a = record { opening = a.rack }
 abbrev pub ghosts-host_clients-L-Ledger : goal.ghosts-host_clients-L-Ledger
 ghosts-host_clients-L-Ledger g a = record { name = a.blank.ledger.name; parts = a.blank.ledger.parts }
 
-abbrev pub ghosts-host_clients-L-Room : goal.ghosts-host_clients-L-Room
-ghosts-host_clients-L-Room g a = record { table = a.blank.history }
+abbrev pub ghosts-host_clients-L-HistoryName : goal.ghosts-host_clients-L-HistoryName
+ghosts-host_clients-L-HistoryName g a = record { table = a.blank.history }

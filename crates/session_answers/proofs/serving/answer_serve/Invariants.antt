@@ -6,5 +6,5 @@ ghosts-serve_scripts-L-ExchangeName g a = record { opening = a.rack }
 abbrev pub ghosts-serve_scripts-L-Ledger : goal.ghosts-serve_scripts-L-Ledger
 ghosts-serve_scripts-L-Ledger g a = record { name = a.blank.ledger.name; parts = a.blank.ledger.parts }
 
-abbrev pub ghosts-serve_scripts-L-Room : goal.ghosts-serve_scripts-L-Room
-ghosts-serve_scripts-L-Room g a = record { table = a.blank.history }
+abbrev pub ghosts-serve_scripts-L-HistoryName : goal.ghosts-serve_scripts-L-HistoryName
+ghosts-serve_scripts-L-HistoryName g a = record { table = a.blank.history }

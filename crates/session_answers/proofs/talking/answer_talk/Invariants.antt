@@ -6,5 +6,5 @@ ghosts-talk-L-ExchangeName g a = record { opening = a.rack }
 abbrev pub ghosts-talk-L-Ledger : goal.ghosts-talk-L-Ledger
 ghosts-talk-L-Ledger g a = record { name = a.blank.ledger.name; parts = a.blank.ledger.parts }
 
-abbrev pub ghosts-talk-L-Room : goal.ghosts-talk-L-Room
-ghosts-talk-L-Room g a = record { table = a.blank.history }
+abbrev pub ghosts-talk-L-HistoryName : goal.ghosts-talk-L-HistoryName
+ghosts-talk-L-HistoryName g a = record { table = a.blank.history }

@@ -6,5 +6,5 @@ ghosts-day-L-ExchangeName g a = record { opening = a.rack }
 abbrev pub ghosts-day-L-Ledger : goal.ghosts-day-L-Ledger
 ghosts-day-L-Ledger g a = record { name = a.blank.ledger.name; parts = a.blank.ledger.parts }
 
-abbrev pub ghosts-day-L-Room : goal.ghosts-day-L-Room
-ghosts-day-L-Room g a = record { table = a.blank.history }
+abbrev pub ghosts-day-L-HistoryName : goal.ghosts-day-L-HistoryName
+ghosts-day-L-HistoryName g a = record { table = a.blank.history }

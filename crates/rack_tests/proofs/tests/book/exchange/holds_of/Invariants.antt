@@ -6,5 +6,5 @@ ghosts-holds-L-ExchangeName g a = record { opening = a.rack }
 abbrev pub ghosts-holds-L-Ledger : goal.ghosts-holds-L-Ledger
 ghosts-holds-L-Ledger g a = record { name = a.blank.ledger.name; parts = a.blank.ledger.parts }
 
-abbrev pub ghosts-holds-L-Room : goal.ghosts-holds-L-Room
-ghosts-holds-L-Room g a = record { table = a.blank.history }
+abbrev pub ghosts-holds-L-HistoryName : goal.ghosts-holds-L-HistoryName
+ghosts-holds-L-HistoryName g a = record { table = a.blank.history }

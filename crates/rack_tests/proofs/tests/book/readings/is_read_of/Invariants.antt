@@ -6,5 +6,5 @@ ghosts-is_read-L-ExchangeName g a = record { opening = a.rack }
 abbrev pub ghosts-is_read-L-Ledger : goal.ghosts-is_read-L-Ledger
 ghosts-is_read-L-Ledger g a = record { name = a.blank.ledger.name; parts = a.blank.ledger.parts }
 
-abbrev pub ghosts-is_read-L-Room : goal.ghosts-is_read-L-Room
-ghosts-is_read-L-Room g a = record { table = a.blank.history }
+abbrev pub ghosts-is_read-L-HistoryName : goal.ghosts-is_read-L-HistoryName
+ghosts-is_read-L-HistoryName g a = record { table = a.blank.history }

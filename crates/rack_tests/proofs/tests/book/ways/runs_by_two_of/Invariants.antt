@@ -6,5 +6,5 @@ ghosts-runs_by_two-L-ExchangeName g a = record { opening = a.rack }
 abbrev pub ghosts-runs_by_two-L-Ledger : goal.ghosts-runs_by_two-L-Ledger
 ghosts-runs_by_two-L-Ledger g a = record { name = a.blank.ledger.name; parts = a.blank.ledger.parts }
 
-abbrev pub ghosts-runs_by_two-L-Room : goal.ghosts-runs_by_two-L-Room
-ghosts-runs_by_two-L-Room g a = record { table = a.blank.history }
+abbrev pub ghosts-runs_by_two-L-HistoryName : goal.ghosts-runs_by_two-L-HistoryName
+ghosts-runs_by_two-L-HistoryName g a = record { table = a.blank.history }

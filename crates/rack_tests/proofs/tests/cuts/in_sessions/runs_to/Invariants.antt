@@ -6,5 +6,5 @@ ghosts-is_served-L-ExchangeName g a = record { opening = a.rack }
 abbrev pub ghosts-is_served-L-Ledger : goal.ghosts-is_served-L-Ledger
 ghosts-is_served-L-Ledger g a = record { name = a.blank.ledger.name; parts = a.blank.ledger.parts }
 
-abbrev pub ghosts-is_served-L-Room : goal.ghosts-is_served-L-Room
-ghosts-is_served-L-Room g a = record { table = a.blank.history }
+abbrev pub ghosts-is_served-L-HistoryName : goal.ghosts-is_served-L-HistoryName
+ghosts-is_served-L-HistoryName g a = record { table = a.blank.history }

@@ -6,5 +6,5 @@ ghosts-is_outside-L-ExchangeName g a = record { opening = a.rack }
 abbrev pub ghosts-is_outside-L-Ledger : goal.ghosts-is_outside-L-Ledger
 ghosts-is_outside-L-Ledger g a = record { name = a.blank.ledger.name; parts = a.blank.ledger.parts }
 
-abbrev pub ghosts-is_outside-L-Room : goal.ghosts-is_outside-L-Room
-ghosts-is_outside-L-Room g a = record { table = a.blank.history }
+abbrev pub ghosts-is_outside-L-HistoryName : goal.ghosts-is_outside-L-HistoryName
+ghosts-is_outside-L-HistoryName g a = record { table = a.blank.history }

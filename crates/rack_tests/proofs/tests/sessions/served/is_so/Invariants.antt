@@ -6,5 +6,5 @@ ghosts-spend-L-ExchangeName g a = record { opening = a.rack }
 abbrev pub ghosts-spend-L-Ledger : goal.ghosts-spend-L-Ledger
 ghosts-spend-L-Ledger g a = record { name = a.blank.ledger.name; parts = a.blank.ledger.parts }
 
-abbrev pub ghosts-spend-L-Room : goal.ghosts-spend-L-Room
-ghosts-spend-L-Room g a = record { table = a.blank.history }
+abbrev pub ghosts-spend-L-HistoryName : goal.ghosts-spend-L-HistoryName
+ghosts-spend-L-HistoryName g a = record { table = a.blank.history }

@@ -6,5 +6,5 @@ ghosts-hear_on-L-ExchangeName g a = record { opening = a.rack }
 abbrev pub ghosts-hear_on-L-Ledger : goal.ghosts-hear_on-L-Ledger
 ghosts-hear_on-L-Ledger g a = record { name = a.blank.ledger.name; parts = a.blank.ledger.parts }
 
-abbrev pub ghosts-hear_on-L-Room : goal.ghosts-hear_on-L-Room
-ghosts-hear_on-L-Room g a = record { table = a.blank.history }
+abbrev pub ghosts-hear_on-L-HistoryName : goal.ghosts-hear_on-L-HistoryName
+ghosts-hear_on-L-HistoryName g a = record { table = a.blank.history }
