@@ -12,11 +12,13 @@
 //! used in each later setting. And the switch changes at most as often as there are pairs of links
 //! and links in use. How often it does is counted over the schedule itself.
 //!
-//! Which matching a step takes, no contract says: it begins with what stands, and adds pairs whose
-//! links are free. So the switch mostly changes far less often than that bound.
+//! Which matching a step takes, no contract says. It is one that can be held as long as any could be
+//! then (Gopal and Wong's rule), and of these one that joins much of what stands. So steps don't get
+//! longer, and the switch mostly changes far less often than that bound.
 //!
-//! Two counts serve any schedule of a batch: how often it changes the switch, and how many partners
-//! a link has at most, since no schedule changes the switch less often than that.
+//! Some counts serve any schedule of a batch: how often it changes the switch; how many partners a
+//! link has at most, since no schedule changes the switch less often than that; and how many changes
+//! two links show of each schedule with as many settings.
 #![tactic(auto)]
 
 mod changing;
