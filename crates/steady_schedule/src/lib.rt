@@ -30,8 +30,6 @@ mod plan;
 mod planning;
 mod remaining;
 mod stepping;
-#[cfg(test)]
-mod tests;
 
 pub use changing::count_changes;
 pub use partners::most_partners;
