@@ -13,8 +13,6 @@ mod ending;
 mod fault;
 mod opened;
 mod ports;
-#[cfg(test)]
-mod tests;
 
 pub use driving::{answer_drive, answer_drive_schedule, answer_drive_steady};
 pub use fault::DriveFault;

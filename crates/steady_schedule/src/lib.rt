@@ -33,8 +33,6 @@ mod planning;
 mod reach;
 mod remaining;
 mod stepping;
-#[cfg(test)]
-mod tests;
 mod two_links;
 
 pub use changing::count_changes;

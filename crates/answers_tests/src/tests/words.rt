@@ -1,17 +1,15 @@
 //! What the words of the command line say of workers and of schedules, which no row can show.
 
-use clap::error::ErrorKind;
-use command_words::{ArgumentsFault, Job, Planning, ScheduleSource, read_arguments};
+use command_words::{Job, Planning, ScheduleSource, read_arguments};
 use std::alloc::{AllocError, Global};
 
-/// What words say of how their schedule is made, or why they are refused.
+/// What words say of how their schedule is made.
 #[derive(Clone, Copy, PartialEq)]
 enum Said<'a> {
     Workers(usize),
     Steady,
     File(&'a str),
     Nothing,
-    Refused(ErrorKind),
 }
 
 /// Puts the words of a line, which one space parts.
@@ -74,8 +72,7 @@ fn said_by(job: &Job) -> Said<'_> {
 fn are_read_as(alloc: Global, words: &[String], said: &Said<'_>) -> bool {
     match read_arguments(alloc, words) {
         Ok(request) => said_by(&request.job) == *said,
-        Err(ArgumentsFault::Clap(error)) => Said::Refused(error.kind()) == *said,
-        Err(ArgumentsFault::NoMemory) => false,
+        Err(_) => false,
     }
 }
 
@@ -145,43 +142,4 @@ fn words_name_schedules(rt: HostRuntime) {
         ("exchange drive B P --steady --wiring W", Said::Steady),
     ];
     assert!(rt; are_all_read_as(rt.alloc(), &rows));
-}
-
-/// Options conflict where they are given, with the value of their default too.
-#[test]
-fn options_exclude_each_other(rt: HostRuntime) {
-    for line in [
-        "exchange plan F --steady --workers 2",
-        "exchange plan F --workers 1 --steady",
-        "exchange switch B --steady --workers 1",
-        "exchange switch B --workers 1 --schedule S",
-        "exchange switch B --schedule S --steady",
-        "exchange switch - --schedule -",
-        "exchange drive B P --steady --workers 1",
-        "exchange drive B P --schedule S --steady",
-        "exchange drive - P --schedule - --go-on",
-        "exchange drive - P",
-        "exchange drive B P --schedule -",
-        "exchange drive B P --wiring -",
-        "exchange drive B P --schedule S --wiring -",
-        "exchange drive - P --wiring - --go-on",
-        "exchange drive - P --schedule S --wiring - --go-on",
-        "exchange drive B P --schedule - --wiring - --go-on",
-        "exchange serve S A --image-out A",
-    ] {
-        let said = Said::Refused(ErrorKind::ArgumentConflict);
-        assert!(rt; is_read_as(rt.alloc(), line, &said));
-    }
-}
-
-#[test]
-fn other_commands_have_neither_option(rt: HostRuntime) {
-    for line in [
-        "exchange plan F --schedule S",
-        "exchange run S B --steady",
-        "exchange check B S --steady",
-    ] {
-        let said = Said::Refused(ErrorKind::UnknownArgument);
-        assert!(rt; is_read_as(rt.alloc(), line, &said));
-    }
 }

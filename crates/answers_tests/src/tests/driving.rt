@@ -4,8 +4,8 @@
 
 ghost use Rattle.std.specs.Prelude.{⊤};
 
-use crate::{DriveFault, OpenedCount, Ports, answer_drive_schedule};
 use crossbar::Traffic;
+use drive_answers::{DriveFault, OpenedCount, Ports, answer_drive_schedule};
 use plan_answers::{Answer, DONE, REFUSED};
 use refusals::Refusal;
 use std::alloc::{AllocError, Global};
@@ -299,7 +299,6 @@ fn answer_at(
     says: [Cue; 3],
     refusal: Option<Refusal>,
     wiring: Option<&[u8]>,
-    schedule: &[u8],
 ) -> Result<Answer, DriveFault> {
     let mut ports = DeskPorts {
         desk,
@@ -308,7 +307,7 @@ fn answer_at(
         count: OpenedCount::zero(),
     };
     let mut stage = DeskStage { desk, says };
-    answer_drive_schedule(alloc, wiring, BATCH, schedule, &mut ports, &mut stage)
+    answer_drive_schedule(alloc, wiring, BATCH, SCHEDULE, &mut ports, &mut stage)
 }
 
 /// Whether the answer is this line, under this status.
@@ -332,7 +331,7 @@ fn stops_behind(alloc: Global, steps: &[Step], count: usize) -> Result<bool, All
     let count = count.min(steps.len());
     let front = &steps[..count];
     let desk = Desk::of(front);
-    let answer = answer_at(alloc, &desk, ON, None, None, SCHEDULE);
+    let answer = answer_at(alloc, &desk, ON, None, None);
     let setting = told_in(front);
     let line = match steps.get(count) {
         Some(Step::Told(_)) => format!(in alloc; "left setting {setting}\n")?,
@@ -346,7 +345,7 @@ fn stops_behind(alloc: Global, steps: &[Step], count: usize) -> Result<bool, All
 fn is_caught(alloc: Global, rack: &Rack<'_>, output: u8) -> Result<bool, AllocError> {
     let steps = steps_of(alloc, rack, Some((output, 0x93)))?;
     let desk = Desk::of(steps.as_slice().get(..205).unwrap_or(&[]));
-    let answer = answer_at(alloc, &desk, ON, None, rack.wiring, SCHEDULE);
+    let answer = answer_at(alloc, &desk, ON, None, rack.wiring);
     let line = format!(in alloc; "stopped setting 1 switch {output}\n")?;
     Ok(desk.is_followed() && is_line(&answer, line.as_bytes(), REFUSED))
 }
@@ -356,7 +355,7 @@ fn in_turn(rt: HostRuntime) {
     for rack in &[USUAL, BOARD] {
         let steps = steps_of(rt.alloc(), rack, None).expect(&rt, "memory");
         let desk = Desk::of(steps.as_slice());
-        let answer = answer_at(rt.alloc(), &desk, ON, None, rack.wiring, SCHEDULE);
+        let answer = answer_at(rt.alloc(), &desk, ON, None, rack.wiring);
         assert!(rt; is_line(&answer, b"driven settings 3\n", DONE));
         assert!(rt; desk.is_followed());
     }
@@ -385,7 +384,7 @@ fn left(rt: HostRuntime) {
     let steps = steps_of(rt.alloc(), &USUAL, None).expect(&rt, "memory");
     let desk = Desk::of(steps.as_slice().get(..206).unwrap_or(&[]));
     let says = [Cue::GoOn, Cue::Leave, Cue::GoOn];
-    let answer = answer_at(rt.alloc(), &desk, says, None, None, SCHEDULE);
+    let answer = answer_at(rt.alloc(), &desk, says, None, None);
     assert!(rt; is_line(&answer, b"left setting 1\n", REFUSED));
     assert!(rt; desk.is_followed());
 }
@@ -395,39 +394,16 @@ fn untold(rt: HostRuntime) {
     let steps = steps_of(rt.alloc(), &USUAL, None).expect(&rt, "memory");
     let desk = Desk::of(steps.as_slice().get(..102).unwrap_or(&[]));
     let says = [Cue::Untold, Cue::GoOn, Cue::GoOn];
-    let answer = answer_at(rt.alloc(), &desk, says, None, None, SCHEDULE);
+    let answer = answer_at(rt.alloc(), &desk, says, None, None);
     assert!(rt; matches!(answer, Err(DriveFault::Untold)));
     assert!(rt; desk.is_followed());
 }
 
-/// Nothing is sent, and no port is asked for where the texts are wrong.
+/// A port that can't be had is asked for once, and nothing is sent.
 #[test]
 fn refused(rt: HostRuntime) {
     let desk = Desk::of(&[]);
-    let clash = answer_at(
-        rt.alloc(),
-        &desk,
-        ON,
-        None,
-        None,
-        b"settings 1\nsetting 0 1 2\n",
-    );
-    assert!(rt; is_line(&clash, b"refused check clash 0 link 0 module 0\n", REFUSED));
-    assert!(rt; desk.opened.load(Ordering::SeqCst) == 0);
-    let unopened = answer_at(rt.alloc(), &desk, ON, Some(Refusal::File), None, SCHEDULE);
-    assert!(rt; is_line(&unopened, b"refused file\n", REFUSED));
+    let answer = answer_at(rt.alloc(), &desk, ON, Some(Refusal::File), None);
+    assert!(rt; is_line(&answer, b"refused file\n", REFUSED));
     assert!(rt; desk.opened.load(Ordering::SeqCst) == 1 && desk.is_followed());
-}
-
-/// No port is asked for where the wiring's text is wrong, or wires too few modules.
-#[test]
-fn miswired(rt: HostRuntime) {
-    let desk = Desk::of(&[]);
-    let twice = b"wiring 1\nmodule 0 link 0 at 9 link 3 at 9\n";
-    let wrong = answer_at(rt.alloc(), &desk, ON, None, Some(twice), b"no schedule\n");
-    assert!(rt; is_line(&wrong, b"refused wiring line 2\n", REFUSED));
-    let one = b"wiring 1\nmodule 0 link 0 at 9 link 3 at 30\n";
-    let few = answer_at(rt.alloc(), &desk, ON, None, Some(one), SCHEDULE);
-    assert!(rt; is_line(&few, b"refused no module 0\n", REFUSED));
-    assert!(rt; desk.opened.load(Ordering::SeqCst) == 0);
 }
