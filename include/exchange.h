@@ -79,8 +79,7 @@ uint8_t exchange_switch(const uint8_t *batch, size_t batch_bytes, const uint8_t 
  *
  * An image has all words of the rack, by module, by block and by place, each as four bytes, the least
  * significant first. An answer that is done has as many bytes as the image; a refusal may have more. Plans and runs
- * nothing. Takes time that grows with the lengths of the text and of the image; only where two transfers write one
- * block may the search for the first such pair take time that grows with the square of the number of transfers. */
+ * nothing. Takes time that grows with the lengths of the text and of the image. */
 uint8_t exchange_apply(const uint8_t *shape, size_t shape_bytes, const uint8_t *batch, size_t batch_bytes,
                        const uint8_t *image, size_t image_bytes, uint8_t *out, size_t room, size_t *count);
 

@@ -44,8 +44,7 @@ fn apply_texts(alloc: Global, shape: &[u8], batch: &[u8], image: &[u8]) -> Resul
 
 /// The answer of `exchange apply`, as [`answer_apply`](crate::answer_apply) gives it. It plans and
 /// runs nothing, and starts no thread. Takes memory for the batch and for the image that it gives,
-/// and time that grows with the lengths of the texts and of the image; only where transfers overlap
-/// may it grow with the square of the number of transfers.
+/// and time that grows with the lengths of the texts and of the image.
 pub fn answer_apply_alone(
     alloc: Global,
     shape: &[u8],
