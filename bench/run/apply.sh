@@ -24,7 +24,7 @@ work=$(mktemp -d)
 trap 'rm -rf "$work"' EXIT
 
 # A tenth to a fifth more than was counted. A fifth of a session makes its rack, a tenth takes the batch and plans it, and the rest runs it.
-declare -A greatest=([apply]=32 [run]=60 [serve]=25 [call]=4)
+declare -A greatest=([apply]=32 [run]=60 [serve]=25 [call]=1.2)
 
 {
     echo "batch 2048"

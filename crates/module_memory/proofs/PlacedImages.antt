@@ -15,9 +15,9 @@ use Rattle.batch.specs.declared.transfer.Place.{Place}
 use Rattle.batch.specs.declared.transfer.Transfer.{Transfer}
 use Rattle.batch.proofs.Places.{same_place_from_index, place_index_below}
 use Rattle.module_memory.specs.Core.{FitsIn}
-use Rattle.module_memory.specs.Images.{HasImage, bytes_of_block, image_length, image_of, word_of_bytes}
+use Rattle.module_memory.specs.Images.{HasImage, bytes_of_block, image_length, word_of_bytes}
 use Rattle.module_memory.specs.Placing.{AreSources, IsPlacedImage}
-use Rattle.module_memory.specs.Store.{Store, IsWhole, block_of}
+use Rattle.module_memory.specs.Store.{Store}
 use Rattle.module_memory.proofs.Images.{AreSmall, block_bytes, bytes_again, part_at, small_take}
 
 -- ---- the numbers of the sources

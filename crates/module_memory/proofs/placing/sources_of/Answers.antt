@@ -2,7 +2,6 @@ use Rattle.std.proofs.Common.{◌≡◌, ◌<◌, ◌*◌, List, ℕ, length, sy
 use Rattle.std.specs.List.{range_with_len}
 use Rattle.batch.specs.Overlap.{destination_at, source_at, transfer_at}
 use Rattle.batch.specs.Places.{destination_of, place_index, source_of}
-use Rattle.batch.specs.declared.transfer.Place.{Place}
 use Rattle.batch.specs.declared.transfer.Transfer.{Transfer}
 use Rattle.module_memory.proofs.PlacedImages.{AreSourcesUpTo, own_sources, sources_all, sources_more}
 use Rattle.module_memory.proofs.placing.sources_of.Goals as goal

@@ -1,6 +1,5 @@
-use Rattle.std.proofs.Common.{Some, ap, refl}
+use Rattle.std.proofs.Common.{refl}
 use Rattle.std.proofs.lemmas.Result.{err_from_is_err_and}
-use Rattle.refusals.specs.Sources.{of_image}
 use Rattle.rack_answers.specs.Answers.{image_wrong, overlapping}
 use Rattle.rack_answers.proofs.Openings.{image_fault_is}
 use Rattle.rack_answers.proofs.applying.apply_batch.Goals as goal

@@ -4,9 +4,8 @@ use Rattle.std.proofs.lemmas.Bool.{false≢true}
 use Rattle.std.proofs.lemmas.List.{length-map}
 use Rattle.batch.specs.Extent.{Extent}
 use Rattle.batch.specs.Held.{AreHeldSources}
-use Rattle.batch.specs.Overlap.{IsApart, IsFirstOverlap, destination_at}
+use Rattle.batch.specs.Overlap.{destination_at}
 use Rattle.batch.specs.declared.transfer.Place.{Place}
-use Rattle.batch.specs.declared.transfer.Transfer.{Transfer}
 use Rattle.module_memory.specs.Bays.{AreFound}
 use Rattle.module_memory.specs.Core.{FitsIn, IsReady}
 use Rattle.module_memory.specs.Lending.{AreLendable, BlockAt, bays_of, found_in, store_rejoined, without}

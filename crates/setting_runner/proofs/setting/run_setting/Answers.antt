@@ -1,4 +1,4 @@
-use Rattle.std.proofs.Common.{◌≡◌, ◌<◌, ℕ, List, refl, sym, subst, rules}
+use Rattle.std.proofs.Common.{◌≡◌, ℕ, List, refl, sym, subst, rules}
 use Rattle.std.specs.Prelude.{OnOk, IfErr}
 use Rattle.std.proofs.lemmas.Result.{err_from_is_err_and}
 use Rattle.setting_runner.specs.Moves.{HaveMoved, none_sure, AllWhole}
