@@ -1,5 +1,5 @@
 -- Tables of the numbers of links, and what they have in common.
-use Rattle.std.proofs.Common.{◌≡◌, ◌≢◌, ◌==◌, ℕ, zero, suc, ◌+◌, ◌-◌, ◌*◌, ◌/◌, ◌<◌, ◌≤◌, List, length, set, get_or, Bool, true, false, cond, refl, sym, ap, subst, ◌∙◌, inl, inr, get_or-set_same, get_or-set_other, arith}
+use Rattle.std.proofs.Common.{◌≡◌, ◌≢◌, ◌==◌, ℕ, zero, suc, ◌+◌, ◌-◌, ◌*◌, ◌/◌, ◌<◌, ◌≤◌, List, length, set, get_or, Bool, true, false, refl, sym, ap, subst, ◌∙◌, inl, inr, get_or-set_same, get_or-set_other, arith}
 use Rattle.std.specs.Prelude.{◌⊎◌, max, min, nat_lt}
 use Rattle.std.proofs.Math.Nat.{min-eq_left, min-eq_right, min_comm, max-eq_left, max-eq_right}
 use Rattle.std.proofs.lemmas.Bool.{cases_eq, cases_lt, eq-eqb, ne_eqb, lt-ltb, le-ltb}
@@ -9,15 +9,15 @@ use Rattle.batch.specs.declared.transfer.Transfer.{Transfer}
 use Rattle.link_graph.specs.declared.link.End.{End}
 use Rattle.link_graph.specs.declared.link.End.TheVariants.{Zero, Three}
 use Rattle.link_graph.specs.declared.link.Link.{Link}
-use Rattle.link_graph.specs.Counts.{count_below, uses}
+use Rattle.link_graph.specs.Counts.{uses}
 use Rattle.link_graph.specs.Schedules.{IsScheduleOf}
 use Rattle.link_graph.specs.Links.{IsInRack, index_by, link_index}
 use Rattle.link_graph.specs.declared.limits.TheConstants.{LINKS}
 use Rattle.link_graph.proofs.Tables.{index_below, uses_outside}
 use Rattle.link_graph.proofs.Users.{made}
 use Rattle.steady_schedule.specs.Changes.{changes}
-use Rattle.steady_schedule.specs.TwoLinks.{number, numbers, numbers_of, common, changes_shown, listed, listed_of, common_listed, HaveAtMost, AreNumbersOf, IsTableOf, IsShownWith, IsMostWith, IsMostAmong, IsMostShown, Show}
-use Rattle.steady_schedule.specs.Waiting.{sum_below, count_at, count_between, waiting, ArePairCounts}
+use Rattle.steady_schedule.specs.TwoLinks.{number, numbers, numbers_of, common, changes_shown, listed, listed_of, common_listed, HaveAtMost, AreNumbersOf, IsTableOf, IsShownWith, IsMostWith, IsMostAmong, IsMostShown}
+use Rattle.steady_schedule.specs.Waiting.{count_at, count_between, waiting, ArePairCounts}
 use Rattle.steady_schedule.proofs.NeedChanges.{bit}
 use Rattle.steady_schedule.proofs.PartnerMasks.{count_more}
 use Rattle.steady_schedule.proofs.Sums.{sum_same, sum_none, sum_changed, at_most_sum}

@@ -1,9 +1,9 @@
 -- Pairs of links that can be held.
-use Rattle.std.proofs.Common.{◌≡◌, ◌==◌, ℕ, ◌<◌, ◌≤◌, List, length, set, get_or, true, false, ◌&&◌, ◌||◌, Option, Some, sym, ◌∙◌, subst, inl, inr, get_or-set_same, get_or-set_other, arith}
+use Rattle.std.proofs.Common.{◌≡◌, ◌==◌, ℕ, ◌<◌, ◌≤◌, List, length, set, get_or, true, ◌&&◌, ◌||◌, Option, sym, ◌∙◌, subst, inl, inr, get_or-set_same, get_or-set_other}
 use Rattle.std.specs.Int.RustNames.{bit_and}
 use Rattle.std.proofs.lemmas.Bool.{cases_eq, cases_Bool, and_parts, eqb-true}
 use Rattle.steady_schedule.specs.Masks.{has_bit, has_pair}
-use Rattle.steady_schedule.specs.Matchings.{partner, AreMatched}
+use Rattle.steady_schedule.specs.Matchings.{AreMatched}
 use Rattle.steady_schedule.specs.Reaches.{AreHeld, HaveEach}
 use Rattle.steady_schedule.specs.Searches.{AreNear, JoinsNear}
 use Rattle.steady_schedule.specs.Waiting.{count_at}

@@ -1,20 +1,20 @@
 -- The settings of a schedule have each transfer of the batch once. So what is counted over them, one by
 -- one, is counted over the batch.
-use Rattle.std.proofs.Common.{◌≡◌, ◌==◌, ℕ, zero, suc, ◌+◌, ◌<◌, ◌≤◌, List, [], ◌∷◌, ◌++◌, length, take, Bool, true, false, cond, Option, Some, None, slice_get, refl, sym, ap, ◌∙◌, inl, inr, arith}
+use Rattle.std.proofs.Common.{◌≡◌, ◌==◌, ℕ, zero, suc, ◌+◌, ◌<◌, ◌≤◌, List, [], ◌∷◌, ◌++◌, length, take, Bool, cond, Option, Some, None, slice_get, refl, sym, ap, ◌∙◌, inl, inr, arith}
 use Rattle.std.specs.Prelude.{count_by, sum_by}
 use Rattle.std.specs.List.{concat}
-use Rattle.std.proofs.lemmas.Bool.{cases_lt, cases_eq, ne_eqb, eq-eqb}
+use Rattle.std.proofs.lemmas.Bool.{cases_lt, ne_eqb, eq-eqb}
 use Rattle.std.proofs.lemmas.List.{take_all}
 use Rattle.std.proofs.lemmas.List.Sums.{sum_by-cons, sum_by-append, sum_by_push}
 use Rattle.std.proofs.lemmas.Option.{slice_get_cases}
 use Rattle.batch.specs.declared.transfer.Transfer.{Transfer}
 use Rattle.link_graph.specs.Marks.{members}
-use Rattle.link_graph.specs.Schedules.{times, IsScheduleOf}
+use Rattle.link_graph.specs.Schedules.{IsScheduleOf}
 use Rattle.link_graph.proofs.Once.{times_concat}
 use Rattle.steady_schedule.specs.Waiting.{sum_below}
 use Rattle.steady_schedule.proofs.Alone.{sum_equal, swap_below, one_at}
 use Rattle.steady_schedule.proofs.Ends.{one_more}
-use Rattle.steady_schedule.proofs.Sums.{only, sum_same, sum_more, sum_none, sum_changed, sum_zero}
+use Rattle.steady_schedule.proofs.Sums.{only, sum_same, sum_none, sum_changed}
 
 module _ (batch : List Transfer) (p : Transfer → Bool) where
   abbrev worth_of : Option Transfer → ℕ

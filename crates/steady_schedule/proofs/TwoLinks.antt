@@ -1,9 +1,8 @@
 -- Two links: over the steps of a schedule, each of which has each link with one partner, or idle.
-use Rattle.std.proofs.Common.{◌≡◌, ◌==◌, ℕ, zero, suc, ◌+◌, ◌-◌, ◌*◌, ◌<◌, ◌≤◌, List, [], ◌∷◌, length, All, Bool, true, false, ◌&&◌, cond, slice_get, refl, sym, ap, subst, ◌∙◌, inl, inr, arith}
+use Rattle.std.proofs.Common.{◌≡◌, ◌==◌, ℕ, zero, suc, ◌+◌, ◌-◌, ◌*◌, ◌<◌, ◌≤◌, List, [], ◌∷◌, length, All, Bool, true, false, ◌&&◌, cond, refl, sym, ap, ◌∙◌, inl, inr, arith}
 use Rattle.std.specs.Prelude.{count_by, min, nat_lt, sum_by}
 use Rattle.std.specs.List.{AllByRecursion, list_any}
 use Rattle.std.proofs.lemmas.Bool.{cases_Bool, cases_lt, lt-ltb, le-ltb, or_left}
-use Rattle.std.proofs.lemmas.Bool.Decides.{nat_tests}
 use Rattle.std.proofs.lemmas.List.Elements.{All-head, All-tail, All-nil, All-cons}
 use Rattle.std.proofs.lemmas.List.Sums.{sum_by-cons}
 use Rattle.std.proofs.lemmas.Option.{slice_get_cases}
@@ -22,7 +21,7 @@ use Rattle.steady_schedule.specs.Changes.{join_same, changes_after, changes}
 use Rattle.steady_schedule.specs.Partners.{joins_to}
 use Rattle.steady_schedule.specs.TwoLinks.{shared, number, numbers, numbers_of, common}
 use Rattle.steady_schedule.specs.Waiting.{sum_below}
-use Rattle.steady_schedule.proofs.Alone.{sum_equal, steps_enough, total_of}
+use Rattle.steady_schedule.proofs.Alone.{sum_equal, steps_enough}
 use Rattle.steady_schedule.proofs.Ends.{modules_low}
 use Rattle.steady_schedule.proofs.NeedChanges.{bit, same_meets}
 use Rattle.steady_schedule.proofs.Sums.{only, sum_same, sum_more, at_most_sum}

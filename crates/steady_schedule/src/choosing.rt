@@ -97,11 +97,10 @@ fn join_open(pairs: &Masks, free: u32, matching: &mut Matching, zero: usize)
 
 /// Joins links that are free by pairs that can be held just so long, and are used up then: as many
 /// as there can be.
-fn join_just(reach: &Reach, matching: &mut Matching, modules: usize)
+fn join_just(reach: &Reach, matching: &mut Matching, free: u32, modules: usize)
     requires { modules ≤ MAX_MODULES }
     ensures { JoinsNear reach.now.zero.near matching.old.zero matching.new.zero }
 {
-    let free = free(&matching.three, modules);
     let pairs = open_pairs(reach, &matching.zero, free, modules);
     for zero in 0..modules {
         join_open(&pairs, free, matching, zero);
@@ -279,11 +278,10 @@ impl Choice {
     {
         let reach = Reach::of(remaining, most, modules, settings);
         let mut matching = standing(before, &reach, modules);
-        let stand = (
-            u32::MAX ^ free(&matching.zero, modules),
-            u32::MAX ^ free(&matching.three, modules),
-        );
-        join_just(&reach, &mut matching, modules);
+        let free_zero = free(&matching.zero, modules);
+        let free_three = free(&matching.three, modules);
+        let stand = (u32::MAX ^ free_zero, u32::MAX ^ free_three);
+        join_just(&reach, &mut matching, free_three, modules);
         let shorter = join_all_needed(remaining, &reach, stand, &mut matching, most, modules);
         Choice {
             matching,

@@ -1,5 +1,4 @@
-use Rattle.steady_schedule.proofs.Matchings.{partner_low, turned}
-use Rattle.steady_schedule.proofs.Reaches.{each_joined, each_turned}
+use Rattle.steady_schedule.proofs.Matchings.{partner_low}
 use Rattle.steady_schedule.proofs.choosing.join_all_needed.Goals as goal
 
 pub shorter-requires-clause-low : goal.shorter-requires-clause-low

@@ -1,4 +1,3 @@
-use Rattle.std.proofs.Common.{◌≡◌, ◌∙◌, None, Some, ℕ, sym, arith, inl, inr, refl}
 use Rattle.steady_schedule.proofs.Matchings.{partner_low, none_back}
 use Rattle.steady_schedule.proofs.choosing.keep_one.Goals as goal
 

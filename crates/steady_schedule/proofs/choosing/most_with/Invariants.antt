@@ -1,4 +1,3 @@
-use Rattle.std.proofs.Common.{ℕ}
 use Rattle.steady_schedule.proofs.choosing.most_with.Given as goal
 
 abbrev pub decreases-others : goal.decreases-others

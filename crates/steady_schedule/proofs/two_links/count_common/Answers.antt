@@ -1,7 +1,6 @@
-use Rattle.std.proofs.Common.{◌≡◌, ◌<◌, ◌∙◌, ℕ, get_or, sym, refl, ap, arith, get_or-set_same, get_or-set_other}
+use Rattle.std.proofs.Common.{◌≡◌, ◌<◌, ◌∙◌, get_or, sym, arith, get_or-set_same, get_or-set_other}
 use Rattle.std.proofs.lemmas.List.{length-set}
-use Rattle.batch.specs.declared.limits.TheConstants.{MAX_TRANSFERS}
-use Rattle.steady_schedule.proofs.Listed.{listed_none, listed_some, listed_least, listed_few, rests_whole, rests_still, rests_less, some_left, common_none, common_same, common_more}
+use Rattle.steady_schedule.proofs.Listed.{listed_some, listed_least, listed_few, rests_whole, rests_still, rests_less, some_left, common_none, common_same, common_more}
 use Rattle.steady_schedule.proofs.two_links.count_common.Goals as goal
 use Rattle.steady_schedule.proofs.two_links.count_common.Goals.{then-left-number-gt0, else-left-number-gt0}
 

@@ -1,5 +1,4 @@
 use Rattle.std.proofs.Common.{◌<◌, refl, inl, inr, arith}
-use Rattle.batch.specs.declared.limits.TheConstants.{MAX_TRANSFERS}
 use Rattle.link_graph.specs.Counts.{uses}
 use Rattle.steady_schedule.proofs.Listed.{shown_is, uses_waiting}
 use Rattle.steady_schedule.proofs.two_links.shown_with.Goals as goal
