@@ -9,9 +9,9 @@ use Rattle.steady_schedule.specs.TwoLinks.{IsMostShown}
 use Rattle.steady_schedule.proofs.Listed.{most_needed, same_most}
 use Rattle.steady_schedule.proofs.NeedChanges.{need_changes}
 use Rattle.schedule_picture.specs.Laws.{TellsNeededChanges}
-use Rattle.schedule_picture.specs.Verdicts.{AreShown}
+use Rattle.schedule_picture.specs.Verdicts.{IsLeastShown}
 
-shown_needed : (batch : List Transfer) (count fewest partners least : ℕ) (other : List (List ℕ)) → IsBatch batch → AreShown batch count fewest partners least → IsScheduleOf batch other → partners ≤ changes batch other → length other ≡ count → least ≤ changes batch other
+shown_needed : (batch : List Transfer) (count fewest partners least : ℕ) (other : List (List ℕ)) → IsBatch batch → IsLeastShown batch count fewest partners least → IsScheduleOf batch other → partners ≤ changes batch other → length other ≡ count → least ≤ changes batch other
 shown_needed batch count fewest partners least other fits shown schedule few same = elim (cases_eq count fewest) [
   | inl e ↦ most_needed batch other least fits schedule (subst (λ (n : ℕ). IsMostShown batch n least) (sym same) (shown.by_two e))
   | inr ne ↦ omega (arith, shown.by_one ne, few)
@@ -22,7 +22,7 @@ needed batch settings other certificate verdict fits is schedule =
     let few : verdict.partners ≤ changes batch other = omega (arith, is.needed.has, need_changes batch other is.needed.link schedule) in
     (few, shown_needed batch (length settings) verdict.fewest verdict.partners verdict.least other fits is.shown schedule few)
 
-pub same_shown : (batch : List Transfer) (count fewest partners least other : ℕ) → AreShown batch count fewest partners least → AreShown batch count fewest partners other → least ≡ other
+pub same_shown : (batch : List Transfer) (count fewest partners least other : ℕ) → IsLeastShown batch count fewest partners least → IsLeastShown batch count fewest partners other → least ≡ other
 same_shown batch count fewest partners least other p q = elim (cases_eq count fewest) [
   | inl e ↦ same_most batch count least other (p.by_two e) (q.by_two e)
   | inr ne ↦ omega (arith, p.by_one ne, q.by_one ne)

@@ -12,7 +12,7 @@ use Rattle.link_graph.proofs.Users.{made}
 use Rattle.schedule_picture.specs.declared.verdict.Standing.{Standing}
 use Rattle.schedule_picture.specs.declared.verdict.Standing.TheVariants.{Certified, Wrong, Missing}
 use Rattle.schedule_picture.specs.declared.verdict.Verdict.{Verdict}
-use Rattle.schedule_picture.specs.Verdicts.{IsBusiestOf, uses_of, IsStanding, link_named, AreMostPartners, AreShown, IsVerdict}
+use Rattle.schedule_picture.specs.Verdicts.{IsBusiestOf, uses_of, IsStanding, link_named, AreMostPartners, IsLeastShown, IsVerdict}
 use Rattle.schedule_picture.proofs.Fewest.{unused}
 use Rattle.schedule_picture.proofs.Needed.{same_shown}
 
@@ -66,8 +66,8 @@ one_verdict batch settings certificate v w p q =
     p.busiest ∙ ap (λ (l : Option Link). link_named l v.standing certificate) link ∙ ap (λ (s : Standing). link_named q.link s certificate) standing ∙ sym q.busiest in
     let changes : v.changes ≡ w.changes = p.counted ∙ sym q.counted in
     let partners : v.partners ≡ w.partners = same_most batch v.partners w.partners p.needed q.needed in
-    let shown = subst (λ (f : ℕ). AreShown batch (length settings) f v.partners v.least) fewest p.shown in
-    let least : v.least ≡ w.least = same_shown batch (length settings) w.fewest w.partners v.least w.least (subst (λ (n : ℕ). AreShown batch (length settings) w.fewest n v.least) partners shown) q.shown in
+    let shown = subst (λ (f : ℕ). IsLeastShown batch (length settings) f v.partners v.least) fewest p.shown in
+    let least : v.least ≡ w.least = same_shown batch (length settings) w.fewest w.partners v.least w.least (subst (λ (n : ℕ). IsLeastShown batch (length settings) w.fewest n v.least) partners shown) q.shown in
     let all : ℕ → Option Link → Standing → ℕ → ℕ → ℕ → Verdict = λ f l s c n m. record { fewest = f; busiest = l; standing = s; changes = c; partners = n; least = m } in
     ap (λ (f : ℕ). all f v.busiest v.standing v.changes v.partners v.least) fewest
     ∙ ap (λ (l : Option Link). all w.fewest l v.standing v.changes v.partners v.least) busiest

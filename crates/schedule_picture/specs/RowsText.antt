@@ -4,7 +4,6 @@ use Rattle.std.specs.Prelude.{ℕ, ◌+◌, ◌-◌, Bool, true, false, ◌==◌
 use Rattle.std.specs.Fmt.{decimal}
 use Rattle.std.specs.List.{flat_map, range_with_len}
 use Rattle.batch.specs.declared.transfer.Transfer.{Transfer}
-use Rattle.link_graph.specs.declared.link.End.{End}
 use Rattle.link_graph.specs.declared.link.End.TheVariants.{Zero, Three}
 use Rattle.link_graph.specs.declared.link.Link.{Link}
 use Rattle.link_graph.specs.ScheduleText.{end_number}

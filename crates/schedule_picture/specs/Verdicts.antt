@@ -49,7 +49,7 @@ pub record AreMostPartners (batch : List Transfer) (count : ℕ) : Type 0 where
 
 -- So many changes are shown of a schedule with so many settings. Two links show them, no two of which
 -- show more, where these are the fewest; and else one link's partners.
-pub record AreShown (batch : List Transfer) (settings fewest partners least : ℕ) : Type 0 where
+pub record IsLeastShown (batch : List Transfer) (settings fewest partners least : ℕ) : Type 0 where
   pub by_two : settings ≡ fewest → IsMostShown batch settings least
   pub by_one : settings ≢ fewest → least ≡ partners
 
@@ -63,4 +63,4 @@ pub record IsVerdict (batch : List Transfer) (settings : List (List ℕ))
   pub busiest : verdict.busiest ≡ link_named link verdict.standing certificate
   pub counted : verdict.changes ≡ changes batch settings
   pub needed : AreMostPartners batch verdict.partners
-  pub shown : AreShown batch (length settings) verdict.fewest verdict.partners verdict.least
+  pub shown : IsLeastShown batch (length settings) verdict.fewest verdict.partners verdict.least

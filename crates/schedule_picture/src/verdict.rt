@@ -8,7 +8,7 @@ ghost use Rattle.link_graph.specs.declared.link.Link.{Link};
 ghost use Rattle.link_graph.specs.Counts.{uses};
 ghost use Rattle.link_graph.specs.Schedules.{IsScheduleOf};
 ghost use Rattle.link_graph.specs.Checks.{IsSettingsFault};
-ghost use Rattle.schedule_picture.specs.Verdicts.{uses_of, link_named, IsProofOf, IsStanding, AreMostPartners, AreShown, IsVerdict};
+ghost use Rattle.schedule_picture.specs.Verdicts.{uses_of, link_named, IsProofOf, IsStanding, AreMostPartners, IsLeastShown, IsVerdict};
 
 use batch::Batch;
 use link_graph::{Certificate, CheckFault, Link, LinkGraph, Schedule, check_schedule};
@@ -131,7 +131,7 @@ fn partners(graph: &LinkGraph) -> usize
 fn least(graph: &LinkGraph, settings: usize, fewest: usize, partners: usize) -> usize
     requires most { (link : Link) → uses graph.now link ≤ fewest }
     requires few { fewest ≤ MAX_TRANSFERS }
-    ensures { AreShown graph.now settings fewest partners result }
+    ensures { IsLeastShown graph.now settings fewest partners result }
 {
     if settings != fewest {
         return partners;

@@ -16,7 +16,7 @@ use Rattle.link_graph.specs.declared.limits.TheConstants.{LINKS}
 use Rattle.link_graph.proofs.Tables.{index_below, uses_outside}
 use Rattle.link_graph.proofs.Users.{made}
 use Rattle.steady_schedule.specs.Changes.{changes}
-use Rattle.steady_schedule.specs.TwoLinks.{number, numbers, numbers_of, common, changes_shown, listed, listed_of, common_listed, HaveAtMost, AreNumbersOf, IsTableOf, IsShownWith, IsMostWith, IsMostAmong, IsMostShown}
+use Rattle.steady_schedule.specs.TwoLinks.{link_number, link_numbers, link_numbers_of, common, changes_shown, listed, listed_of, common_listed, HaveAtMost, AreNumbersOf, IsTableOf, IsShownWith, IsMostWith, IsMostAmong, IsMostShown}
 use Rattle.steady_schedule.specs.Waiting.{count_at, count_between, waiting, ArePairCounts}
 use Rattle.steady_schedule.proofs.NeedChanges.{bit}
 use Rattle.steady_schedule.proofs.PartnerMasks.{count_more}
@@ -182,7 +182,7 @@ between_is : (batch : List Transfer) (counts : List ℕ) (end : End) (x m : ℕ)
 between_is batch counts Zero x m c x_in m_in = c.at x m x_in m_in
 between_is batch counts Three x m c x_in m_in = c.at m x m_in x_in
 
-pub number_between : (batch : List Transfer) (counts : List ℕ) (settings : ℕ) (link : Link) (m : ℕ) → ArePairCounts batch counts → IsInRack link → m < MAX_MODULES → count_between counts link.end link.«module» m ≡ number batch settings link m
+pub number_between : (batch : List Transfer) (counts : List ℕ) (settings : ℕ) (link : Link) (m : ℕ) → ArePairCounts batch counts → IsInRack link → m < MAX_MODULES → count_between counts link.end link.«module» m ≡ link_number batch settings link m
 number_between batch counts settings link m c low lt = between_is batch counts link.end link.«module» m c low lt ∙ (sym (at_link batch link.end link.«module» m) ∙ sym (number_low batch settings link m lt))
 
 pub uses_waiting : (batch : List Transfer) (counts : List ℕ) (link : Link) → IsBatch batch → ArePairCounts batch counts → IsInRack link → waiting counts link.end link.«module» ≡ uses batch link
@@ -215,19 +215,19 @@ module _ (counts : List ℕ) (settings : ℕ) (link : Link) (table : List ℕ) (
         omega (arith, ap (λ (i : ℕ). get_or whole i 0) is, last, number_idle batch settings link m le, is_used, uses_waiting batch counts link fits counted low)
   ]
 
-numbers_listed : (batch : List Transfer) (settings : ℕ) (link : Link) (table : List ℕ) → AreNumbersOf batch settings link table → numbers batch settings link ≡ listed (MAX_MODULES + 1) table
-unfolding numbers listed
-numbers_listed batch settings link table are = count_same (MAX_MODULES + 1) (λ m. nat_lt 0 (number batch settings link m)) (λ m. nat_lt 0 (get_or table m 0)) (λ m lt. ap (nat_lt 0) (sym (are m lt)))
+numbers_listed : (batch : List Transfer) (settings : ℕ) (link : Link) (table : List ℕ) → AreNumbersOf batch settings link table → link_numbers batch settings link ≡ listed (MAX_MODULES + 1) table
+unfolding link_numbers listed
+numbers_listed batch settings link table are = count_same (MAX_MODULES + 1) (λ m. nat_lt 0 (link_number batch settings link m)) (λ m. nat_lt 0 (get_or table m 0)) (λ m lt. ap (nat_lt 0) (sym (are m lt)))
 
-of_listed : (batch : List Transfer) (settings : ℕ) (link : Link) (table : List ℕ) (n : ℕ) → AreNumbersOf batch settings link table → numbers_of batch settings link n ≡ listed_of (MAX_MODULES + 1) table n
-unfolding numbers_of listed_of
-of_listed batch settings link table n are = count_same (MAX_MODULES + 1) (λ m. number batch settings link m == n) (λ m. get_or table m 0 == n) (λ m lt. ap (λ (i : ℕ). i == n) (sym (are m lt)))
+of_listed : (batch : List Transfer) (settings : ℕ) (link : Link) (table : List ℕ) (n : ℕ) → AreNumbersOf batch settings link table → link_numbers_of batch settings link n ≡ listed_of (MAX_MODULES + 1) table n
+unfolding link_numbers_of listed_of
+of_listed batch settings link table n are = count_same (MAX_MODULES + 1) (λ m. link_number batch settings link m == n) (λ m. get_or table m 0 == n) (λ m lt. ap (λ (i : ℕ). i == n) (sym (are m lt)))
 
 common_is : (batch : List Transfer) (settings : ℕ) (one other : Link) (often table others : List ℕ) → settings ≤ MAX_TRANSFERS → AreNumbersOf batch settings one table → AreNumbersOf batch settings other others → IsTableOf often table → common batch settings one other ≡ common_listed settings (MAX_MODULES + 1) often others
 unfolding common common_listed
 common_is batch settings one other often table others few are others_are stands =
-    sum_same settings (λ n. min (numbers_of batch settings one (n + 1)) (numbers_of batch settings other (n + 1))) (λ n. min (get_or often (n + 1) 0) (listed_of (MAX_MODULES + 1) others (n + 1))) (λ n lt.
-    ap (λ (i : ℕ). min i (numbers_of batch settings other (n + 1))) (of_listed batch settings one table (n + 1) are ∙ sym (stands (n + 1) (omega (arith, lt, few))))
+    sum_same settings (λ n. min (link_numbers_of batch settings one (n + 1)) (link_numbers_of batch settings other (n + 1))) (λ n. min (get_or often (n + 1) 0) (listed_of (MAX_MODULES + 1) others (n + 1))) (λ n lt.
+    ap (λ (i : ℕ). min i (link_numbers_of batch settings other (n + 1))) (of_listed batch settings one table (n + 1) are ∙ sym (stands (n + 1) (omega (arith, lt, few))))
     ∙ ap (min (get_or often (n + 1) 0)) (of_listed batch settings other others (n + 1) others_are))
 
 pub shown_is : (batch : List Transfer) (settings : ℕ) (one other : Link) (often table others : List ℕ) (count count_other in_common : ℕ) → settings ≤ MAX_TRANSFERS → AreNumbersOf batch settings one table → AreNumbersOf batch settings other others → IsTableOf often table → count ≡ listed (MAX_MODULES + 1) table → count_other ≡ listed (MAX_MODULES + 1) others → in_common ≡ common_listed settings (MAX_MODULES + 1) often others → changes_shown batch settings one other ≡ (2 * (count + count_other) + 2 - in_common) / 3
@@ -237,12 +237,12 @@ shown_is batch settings one other often table others count count_other in_common
 
 common_turned : (batch : List Transfer) (settings : ℕ) (one other : Link) → common batch settings one other ≡ common batch settings other one
 unfolding common
-common_turned batch settings one other = sum_same settings (λ n. min (numbers_of batch settings one (n + 1)) (numbers_of batch settings other (n + 1))) (λ n. min (numbers_of batch settings other (n + 1)) (numbers_of batch settings one (n + 1))) (λ n lt. min_comm (numbers_of batch settings one (n + 1)) (numbers_of batch settings other (n + 1)))
+common_turned batch settings one other = sum_same settings (λ n. min (link_numbers_of batch settings one (n + 1)) (link_numbers_of batch settings other (n + 1))) (λ n. min (link_numbers_of batch settings other (n + 1)) (link_numbers_of batch settings one (n + 1))) (λ n lt. min_comm (link_numbers_of batch settings one (n + 1)) (link_numbers_of batch settings other (n + 1)))
 
 pub shown_turned : (batch : List Transfer) (settings : ℕ) (one other : Link) → changes_shown batch settings one other ≡ changes_shown batch settings other one
 unfolding changes_shown
 shown_turned batch settings one other =
-    let sum : numbers batch settings one + numbers batch settings other ≡ numbers batch settings other + numbers batch settings one = omega arith in
+    let sum : link_numbers batch settings one + link_numbers batch settings other ≡ link_numbers batch settings other + link_numbers batch settings one = omega arith in
     rw (common_turned batch settings one other, sum) refl
 
 -- ---- the order of links
@@ -367,6 +367,6 @@ most_needed batch settings count fits schedule is = elim is.shows [
       let one = show.0 in
       let other = show.1.other in
       let law = two_links batch fits one other settings schedule in
-      let few = third (2 * (numbers batch (length settings) one + numbers batch (length settings) other) + 2 - common batch (length settings) one other) (changes batch settings) (omega (arith, law)) in
+      let few = third (2 * (link_numbers batch (length settings) one + link_numbers batch (length settings) other) + 2 - common batch (length settings) one other) (changes batch settings) (omega (arith, law)) in
       omega (arith, few, show.1.so_many)
 ]

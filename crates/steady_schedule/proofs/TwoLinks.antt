@@ -19,7 +19,7 @@ use Rattle.link_graph.specs.Uses.{IsMatching}
 use Rattle.link_graph.proofs.Sharing.{shared_from_count, shared_no_matching}
 use Rattle.steady_schedule.specs.Changes.{join_same, changes_after, changes}
 use Rattle.steady_schedule.specs.Partners.{joins_to}
-use Rattle.steady_schedule.specs.TwoLinks.{shared, number, numbers, numbers_of, common}
+use Rattle.steady_schedule.specs.TwoLinks.{shared, link_number, link_numbers, link_numbers_of, common}
 use Rattle.steady_schedule.specs.Waiting.{sum_below}
 use Rattle.steady_schedule.proofs.Alone.{sum_equal, steps_enough}
 use Rattle.steady_schedule.proofs.Ends.{modules_low}
@@ -43,10 +43,10 @@ at_link xs Three x m = sum_equal (λ t. bit (t.responder == x && t.initiator == 
 shared_uses : (xs : List Transfer) (link : Link) → All IsLow xs → sum_below MAX_MODULES (shared xs link) ≡ uses xs link
 shared_uses xs link low = sum_same MAX_MODULES (shared xs link) (at_end xs link.end link.«module») (λ m lt. at_link xs link.end link.«module» m) ∙ pair_uses xs link.end link.«module» low
 
-pub number_low : (xs : List Transfer) (n : ℕ) (link : Link) (m : ℕ) → m < MAX_MODULES → number xs n link m ≡ shared xs link m
+pub number_low : (xs : List Transfer) (n : ℕ) (link : Link) (m : ℕ) → m < MAX_MODULES → link_number xs n link m ≡ shared xs link m
 number_low xs n link m lt = rw (lt-ltb m MAX_MODULES lt) refl
 
-pub number_idle : (xs : List Transfer) (n : ℕ) (link : Link) (m : ℕ) → MAX_MODULES ≤ m → number xs n link m ≡ n - uses xs link
+pub number_idle : (xs : List Transfer) (n : ℕ) (link : Link) (m : ℕ) → MAX_MODULES ≤ m → link_number xs n link m ≡ n - uses xs link
 number_idle xs n link m le = rw (le-ltb m MAX_MODULES le) refl
 
 -- a number that is at most 1
@@ -76,7 +76,7 @@ members_low batch fits (t ∷ ts) = elim (slice_get_cases batch t).1 [
 module _ (batch : List Transfer) (fits : IsBatch batch) (link : Link) where
   -- what a setting adds to the numbers
   abbrev pub now : List ℕ → ℕ → ℕ
-  now setting = number (members batch setting) 1 link
+  now setting = link_number (members batch setting) 1 link
 
   few_uses : (setting : List ℕ) → IsMatching batch setting → uses (members batch setting) link ≤ 1
   few_uses setting matching = elim (cases_lt 1 (uses (members batch setting) link)) [
@@ -123,7 +123,7 @@ module _ (batch : List Transfer) (fits : IsBatch batch) (link : Link) where
   sums_idle [] all = refl
   sums_idle (s ∷ rest) all = omega (arith, sum_by-cons (λ setting. 1 - uses (members batch setting) link) s rest, sum_by-cons (λ setting. uses (members batch setting) link) s rest, few_uses s (All-head (IsMatching batch) s rest all), sums_idle rest (All-tail (IsMatching batch) s rest all))
 
-  pub all_numbers : (settings : List (List ℕ)) → IsScheduleOf batch settings → (m : ℕ) → sum_by (λ setting. now setting m) settings ≡ number batch (length settings) link m
+  pub all_numbers : (settings : List (List ℕ)) → IsScheduleOf batch settings → (m : ℕ) → sum_by (λ setting. now setting m) settings ≡ link_number batch (length settings) link m
   all_numbers settings schedule m = elim (cases_lt m MAX_MODULES) [
     | inl lt ↦
         sum_equal (λ setting. now setting m) (λ setting. shared (members batch setting) link m) (λ setting. number_low (members batch setting) 1 link m lt) settings
@@ -186,7 +186,7 @@ module _ (batch : List Transfer) (fits : IsBatch batch) (link : Link) where
   long_steps [] all m lt = refl
   long_steps (x ∷ rest) all m lt = long_from m lt x 1 rest (All-head (IsMatching batch) x rest all) (All-tail (IsMatching batch) x rest all) ∙ sym (sum_by-cons (λ y. only (nat_lt 0 (now batch fits link y m)) 1) x rest)
 
-  step_numbers : (settings : List (List ℕ)) → IsScheduleOf batch settings → (m : ℕ) → m < MAX_MODULES + 1 → sum_by (λ j. only (has j m) j.settings) (steps_of batch settings) ≡ number batch (length settings) link m
+  step_numbers : (settings : List (List ℕ)) → IsScheduleOf batch settings → (m : ℕ) → m < MAX_MODULES + 1 → sum_by (λ j. only (has j m) j.settings) (steps_of batch settings) ≡ link_number batch (length settings) link m
   step_numbers settings schedule m lt = long_steps settings schedule.matchings m lt ∙ (bits m lt settings schedule.matchings ∙ all_numbers batch fits link settings schedule m)
 
 pub count_same : (n : ℕ) (f g : ℕ → Bool) → ((m : ℕ) → m < n → f m ≡ g m) → count_below n f ≡ count_below n g
@@ -214,15 +214,15 @@ module _ (batch : List Transfer) (fits : IsBatch batch) (one other : Link) where
   each_step [] all = tt
   each_step (x ∷ rest) all = each_from (length (x ∷ rest)) x 1 rest (omega arith) (omega arith) (All-head (IsMatching batch) x rest all) (All-tail (IsMatching batch) x rest all)
 
-  pub two_links : (settings : List (List ℕ)) → IsScheduleOf batch settings → 2 * (numbers batch (length settings) one + numbers batch (length settings) other) ≤ 3 * changes batch settings + common batch (length settings) one other
-  unfolding numbers numbers_of common
+  pub two_links : (settings : List (List ℕ)) → IsScheduleOf batch settings → 2 * (link_numbers batch (length settings) one + link_numbers batch (length settings) other) ≤ 3 * changes batch settings + common batch (length settings) one other
+  unfolding link_numbers link_numbers_of common
   two_links settings schedule =
       let n : ℕ = MAX_MODULES + 1 in
       let most : ℕ = length settings in
       let js : List Step = steps_of batch settings in
       let enough = steps_enough n (λ j. j.settings) js (has batch fits one) (has batch fits other) most (each_step settings schedule.matchings) in
-      let ones = count_same n (λ m. nat_lt 0 (sum_by (λ j. only (has batch fits one j m) j.settings) js)) (λ m. nat_lt 0 (number batch most one m)) (λ m lt. ap (nat_lt 0) (step_numbers batch fits one settings schedule m lt)) in
-      let others = count_same n (λ m. nat_lt 0 (sum_by (λ j. only (has batch fits other j m) j.settings) js)) (λ m. nat_lt 0 (number batch most other m)) (λ m lt. ap (nat_lt 0) (step_numbers batch fits other settings schedule m lt)) in
-      let same = sum_same most (λ v. min (count_below n (λ m. sum_by (λ j. only (has batch fits one j m) j.settings) js == v + 1)) (count_below n (λ m. sum_by (λ j. only (has batch fits other j m) j.settings) js == v + 1))) (λ v. min (count_below n (λ m. number batch most one m == v + 1)) (count_below n (λ m. number batch most other m == v + 1))) (λ v v_in.
-      rw (count_same n (λ m. sum_by (λ j. only (has batch fits one j m) j.settings) js == v + 1) (λ m. number batch most one m == v + 1) (λ m lt. ap (λ (k : ℕ). k == v + 1) (step_numbers batch fits one settings schedule m lt)), count_same n (λ m. sum_by (λ j. only (has batch fits other j m) j.settings) js == v + 1) (λ m. number batch most other m == v + 1) (λ m lt. ap (λ (k : ℕ). k == v + 1) (step_numbers batch fits other settings schedule m lt))) refl) in
+      let ones = count_same n (λ m. nat_lt 0 (sum_by (λ j. only (has batch fits one j m) j.settings) js)) (λ m. nat_lt 0 (link_number batch most one m)) (λ m lt. ap (nat_lt 0) (step_numbers batch fits one settings schedule m lt)) in
+      let others = count_same n (λ m. nat_lt 0 (sum_by (λ j. only (has batch fits other j m) j.settings) js)) (λ m. nat_lt 0 (link_number batch most other m)) (λ m lt. ap (nat_lt 0) (step_numbers batch fits other settings schedule m lt)) in
+      let same = sum_same most (λ v. min (count_below n (λ m. sum_by (λ j. only (has batch fits one j m) j.settings) js == v + 1)) (count_below n (λ m. sum_by (λ j. only (has batch fits other j m) j.settings) js == v + 1))) (λ v. min (count_below n (λ m. link_number batch most one m == v + 1)) (count_below n (λ m. link_number batch most other m == v + 1))) (λ v v_in.
+      rw (count_same n (λ m. sum_by (λ j. only (has batch fits one j m) j.settings) js == v + 1) (λ m. link_number batch most one m == v + 1) (λ m lt. ap (λ (k : ℕ). k == v + 1) (step_numbers batch fits one settings schedule m lt)), count_same n (λ m. sum_by (λ j. only (has batch fits other j m) j.settings) js == v + 1) (λ m. link_number batch most other m == v + 1) (λ m lt. ap (λ (k : ℕ). k == v + 1) (step_numbers batch fits other settings schedule m lt))) refl) in
       taken_over _ _ _ _ _ _ _ _ enough ones others same (many_steps batch settings)

@@ -6,7 +6,7 @@ use Rattle.link_graph.specs.declared.link.Link.{Link}
 use Rattle.link_graph.specs.Schedules.{IsScheduleOf}
 use Rattle.steady_schedule.specs.Changes.{changes}
 use Rattle.steady_schedule.specs.Partners.{partners}
-use Rattle.steady_schedule.specs.TwoLinks.{numbers, common}
+use Rattle.steady_schedule.specs.TwoLinks.{link_numbers, common}
 
 -- each schedule changes the switch at least as often as any link has partners
 abbrev pub PartnersNeedChanges : Type 0
@@ -20,5 +20,5 @@ abbrev pub TwoLinksNeedChanges : Type 0
 TwoLinksNeedChanges =
     (batch : List Transfer) (settings : List (List ℕ)) (one other : Link) → IsBatch batch
     → IsScheduleOf batch settings
-    → 2 * (numbers batch (length settings) one + numbers batch (length settings) other)
+    → 2 * (link_numbers batch (length settings) one + link_numbers batch (length settings) other)
     ≤ 3 * changes batch settings + common batch (length settings) one other

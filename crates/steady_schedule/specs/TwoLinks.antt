@@ -14,31 +14,31 @@ abbrev pub shared : List Transfer → Link → ℕ → ℕ
 shared batch link m = count_by (joins_to link m) batch
 
 -- that; and behind all modules, in how many of so many settings the link is idle
-abbrev pub number : List Transfer → ℕ → Link → ℕ → ℕ
-number batch settings link m =
+abbrev pub link_number : List Transfer → ℕ → Link → ℕ → ℕ
+link_number batch settings link m =
     cond (nat_lt m MAX_MODULES) (shared batch link m) (settings - uses batch link)
 
 -- how many numbers the link has
-unfoldable pub numbers : List Transfer → ℕ → Link → ℕ
-numbers batch settings link =
-    count_below (MAX_MODULES + 1) (λ m. nat_lt 0 (number batch settings link m))
+unfoldable pub link_numbers : List Transfer → ℕ → Link → ℕ
+link_numbers batch settings link =
+    count_below (MAX_MODULES + 1) (λ m. nat_lt 0 (link_number batch settings link m))
 
 -- how many of them are n
-unfoldable pub numbers_of : List Transfer → ℕ → Link → ℕ → ℕ
-numbers_of batch settings link n =
-    count_below (MAX_MODULES + 1) (λ m. number batch settings link m == n)
+unfoldable pub link_numbers_of : List Transfer → ℕ → Link → ℕ → ℕ
+link_numbers_of batch settings link n =
+    count_below (MAX_MODULES + 1) (λ m. link_number batch settings link m == n)
 
 -- how many the links have in common: 4 4 7 and 4 7 7 have two
 unfoldable pub common : List Transfer → ℕ → Link → Link → ℕ
 common batch settings one other =
-    sum_below settings (λ n. min (numbers_of batch settings one (n + 1))
-    (numbers_of batch settings other (n + 1)))
+    sum_below settings (λ n. min (link_numbers_of batch settings one (n + 1))
+    (link_numbers_of batch settings other (n + 1)))
 
 -- So many changes the two links show, at least (2 (p + q) - e) / 3, where they have p and q numbers,
 -- and e of these in common. One link taken twice shows as many as it has numbers.
 unfoldable pub changes_shown : List Transfer → ℕ → Link → Link → ℕ
 changes_shown batch settings one other =
-    (2 * (numbers batch settings one + numbers batch settings other) + 2
+    (2 * (link_numbers batch settings one + link_numbers batch settings other) + 2
     - common batch settings one other) / 3
 
 -- a link in use shows so many changes with another one, or with itself
@@ -77,7 +77,7 @@ HaveAtMost table most = (m : ℕ) → m < MAX_MODULES + 1 → slice_index table 
 -- they are those of the link
 abbrev pub AreNumbersOf : List Transfer → ℕ → Link → List ℕ → Type 0
 AreNumbersOf batch settings link table =
-    (m : ℕ) → m < MAX_MODULES + 1 → slice_index table m ≡ number batch settings link m
+    (m : ℕ) → m < MAX_MODULES + 1 → slice_index table m ≡ link_number batch settings link m
 
 -- at the place of each number, how often that stands in the table
 abbrev pub IsTableOf : List ℕ → List ℕ → Type 0

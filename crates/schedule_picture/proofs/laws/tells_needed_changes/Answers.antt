@@ -1,4 +1,3 @@
-use Rattle.std.proofs.Common.{arith}
 use Rattle.schedule_picture.proofs.Needed.{needed}
 use Rattle.schedule_picture.proofs.laws.tells_needed_changes.Goals as goal
 
