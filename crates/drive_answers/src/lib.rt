@@ -13,7 +13,7 @@ mod ports;
 #[cfg(test)]
 mod tests;
 
-pub use driving::{answer_drive, answer_drive_schedule, answer_drive_steady};
+pub use driving::answer_drive;
 pub use fault::DriveFault;
 pub use opened::OpenedCount;
 pub use ports::Ports;

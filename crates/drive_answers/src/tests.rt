@@ -4,14 +4,16 @@
 
 ghost use Rattle.std.specs.Prelude.{⊤};
 
-use crate::{DriveFault, OpenedCount, Ports, answer_drive_schedule};
+use crate::{DriveFault, OpenedCount, Ports, answer_drive};
 use crossbar::Traffic;
-use plan_answers::{Answer, DONE, REFUSED};
+use exchange_limits::WorkerCount;
+use plan_answers::{Answer, DONE, REFUSED, Source};
 use refusals::Refusal;
 use std::alloc::{AllocError, Global};
 use std::io;
 use std::io::{Read, Write};
 use std::sync::atomic::{AtomicBool, AtomicUsize, Ordering};
+use std::thread::Threads;
 use switch_driver::{Cue, Stage, StreamPort, SwitchStream};
 
 /// Module 0 sends a block to each of three others.
@@ -293,8 +295,8 @@ impl Stage for DeskStage<'_> {
 }
 
 /// The answer where the desk follows its script, and the stage says this.
-fn answer_at(
-    alloc: Global,
+fn answer_at<R: AllocGlobal + Threads + Sync>(
+    rt: &R,
     desk: &Desk<'_>,
     says: [Cue; 3],
     refusal: Option<Refusal>,
@@ -308,7 +310,9 @@ fn answer_at(
         count: OpenedCount::zero(),
     };
     let mut stage = DeskStage { desk, says };
-    answer_drive_schedule(alloc, wiring, BATCH, schedule, &mut ports, &mut stage)
+    let source = Source::Text(schedule);
+    let (alloc, one) = (rt.alloc(), WorkerCount::ONE);
+    answer_drive(rt, alloc, wiring, BATCH, source, one, &mut ports, &mut stage)
 }
 
 /// Whether the answer is this line, under this status.
@@ -328,11 +332,16 @@ fn told_in(steps: &[Step]) -> usize {
 
 /// Whether a drive stops where the script ends, behind so many steps: at the port, or at the stage
 /// where a setting would be told next.
-fn stops_behind(alloc: Global, steps: &[Step], count: usize) -> Result<bool, AllocError> {
+fn stops_behind<R: AllocGlobal + Threads + Sync>(
+    rt: &R,
+    steps: &[Step],
+    count: usize,
+) -> Result<bool, AllocError> {
+    let alloc = rt.alloc();
     let count = count.min(steps.len());
     let front = &steps[..count];
     let desk = Desk::of(front);
-    let answer = answer_at(alloc, &desk, ON, None, None, SCHEDULE);
+    let answer = answer_at(rt, &desk, ON, None, None, SCHEDULE);
     let setting = told_in(front);
     let line = match steps.get(count) {
         Some(Step::Told(_)) => format!(in alloc; "left setting {setting}\n")?,
@@ -343,10 +352,15 @@ fn stops_behind(alloc: Global, steps: &[Step], count: usize) -> Result<bool, All
 
 /// Whether a reply of this output in the second setting that names an input which nothing is on
 /// stops the drive there, behind all replies of the setting.
-fn is_caught(alloc: Global, rack: &Rack<'_>, output: u8) -> Result<bool, AllocError> {
+fn is_caught<R: AllocGlobal + Threads + Sync>(
+    rt: &R,
+    rack: &Rack<'_>,
+    output: u8,
+) -> Result<bool, AllocError> {
+    let alloc = rt.alloc();
     let steps = steps_of(alloc, rack, Some((output, 0x93)))?;
     let desk = Desk::of(steps.as_slice().get(..205).unwrap_or(&[]));
-    let answer = answer_at(alloc, &desk, ON, None, rack.wiring, SCHEDULE);
+    let answer = answer_at(rt, &desk, ON, None, rack.wiring, SCHEDULE);
     let line = format!(in alloc; "stopped setting 1 switch {output}\n")?;
     Ok(desk.is_followed() && is_line(&answer, line.as_bytes(), REFUSED))
 }
@@ -356,7 +370,7 @@ fn in_turn(rt: HostRuntime) {
     for rack in &[USUAL, BOARD] {
         let steps = steps_of(rt.alloc(), rack, None).expect(&rt, "memory");
         let desk = Desk::of(steps.as_slice());
-        let answer = answer_at(rt.alloc(), &desk, ON, None, rack.wiring, SCHEDULE);
+        let answer = answer_at(&rt, &desk, ON, None, rack.wiring, SCHEDULE);
         assert!(rt; is_line(&answer, b"driven settings 3\n", DONE));
         assert!(rt; desk.is_followed());
     }
@@ -367,7 +381,7 @@ fn in_turn(rt: HostRuntime) {
 fn cut_off(rt: HostRuntime) {
     let steps = steps_of(rt.alloc(), &USUAL, None).expect(&rt, "memory");
     for count in 0..steps.len() {
-        let stops = stops_behind(rt.alloc(), steps.as_slice(), count);
+        let stops = stops_behind(&rt, steps.as_slice(), count);
         assert!(rt; stops.expect(&rt, "memory"));
     }
 }
@@ -375,8 +389,8 @@ fn cut_off(rt: HostRuntime) {
 #[test]
 fn lied_to(rt: HostRuntime) {
     for output in 0..OUTPUTS {
-        assert!(rt; is_caught(rt.alloc(), &USUAL, output).expect(&rt, "memory"));
-        assert!(rt; is_caught(rt.alloc(), &BOARD, output).expect(&rt, "memory"));
+        assert!(rt; is_caught(&rt, &USUAL, output).expect(&rt, "memory"));
+        assert!(rt; is_caught(&rt, &BOARD, output).expect(&rt, "memory"));
     }
 }
 
@@ -385,7 +399,7 @@ fn left(rt: HostRuntime) {
     let steps = steps_of(rt.alloc(), &USUAL, None).expect(&rt, "memory");
     let desk = Desk::of(steps.as_slice().get(..206).unwrap_or(&[]));
     let says = [Cue::GoOn, Cue::Leave, Cue::GoOn];
-    let answer = answer_at(rt.alloc(), &desk, says, None, None, SCHEDULE);
+    let answer = answer_at(&rt, &desk, says, None, None, SCHEDULE);
     assert!(rt; is_line(&answer, b"left setting 1\n", REFUSED));
     assert!(rt; desk.is_followed());
 }
@@ -395,7 +409,7 @@ fn untold(rt: HostRuntime) {
     let steps = steps_of(rt.alloc(), &USUAL, None).expect(&rt, "memory");
     let desk = Desk::of(steps.as_slice().get(..102).unwrap_or(&[]));
     let says = [Cue::Untold, Cue::GoOn, Cue::GoOn];
-    let answer = answer_at(rt.alloc(), &desk, says, None, None, SCHEDULE);
+    let answer = answer_at(&rt, &desk, says, None, None, SCHEDULE);
     assert!(rt; matches!(answer, Err(DriveFault::Untold)));
     assert!(rt; desk.is_followed());
 }
@@ -405,7 +419,7 @@ fn untold(rt: HostRuntime) {
 fn refused(rt: HostRuntime) {
     let desk = Desk::of(&[]);
     let clash = answer_at(
-        rt.alloc(),
+        &rt,
         &desk,
         ON,
         None,
@@ -414,7 +428,7 @@ fn refused(rt: HostRuntime) {
     );
     assert!(rt; is_line(&clash, b"refused check clash 0 link 0 module 0\n", REFUSED));
     assert!(rt; desk.opened.load(Ordering::SeqCst) == 0);
-    let unopened = answer_at(rt.alloc(), &desk, ON, Some(Refusal::File), None, SCHEDULE);
+    let unopened = answer_at(&rt, &desk, ON, Some(Refusal::File), None, SCHEDULE);
     assert!(rt; is_line(&unopened, b"refused file\n", REFUSED));
     assert!(rt; desk.opened.load(Ordering::SeqCst) == 1 && desk.is_followed());
 }
@@ -424,10 +438,10 @@ fn refused(rt: HostRuntime) {
 fn miswired(rt: HostRuntime) {
     let desk = Desk::of(&[]);
     let twice = b"wiring 1\nmodule 0 link 0 at 9 link 3 at 9\n";
-    let wrong = answer_at(rt.alloc(), &desk, ON, None, Some(twice), b"no schedule\n");
+    let wrong = answer_at(&rt, &desk, ON, None, Some(twice), b"no schedule\n");
     assert!(rt; is_line(&wrong, b"refused wiring line 2\n", REFUSED));
     let one = b"wiring 1\nmodule 0 link 0 at 9 link 3 at 30\n";
-    let few = answer_at(rt.alloc(), &desk, ON, None, Some(one), SCHEDULE);
+    let few = answer_at(&rt, &desk, ON, None, Some(one), SCHEDULE);
     assert!(rt; is_line(&few, b"refused no module 0\n", REFUSED));
     assert!(rt; desk.opened.load(Ordering::SeqCst) == 0);
 }

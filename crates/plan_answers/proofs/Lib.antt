@@ -8,3 +8,4 @@ pub mod Ranges
 pub mod OneDrawing
 pub mod DirectedThenPlanned
 pub mod PlannedThenChecked
+pub mod Denoted

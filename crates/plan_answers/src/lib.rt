@@ -3,8 +3,8 @@
 //!
 //! Each `answer_` function reads its texts, does what the command asks for, and gives an
 //! [`Answer`]: what was asked for, or the line of the refusal of what is first wrong. It reads no
-//! file and prints nothing. Only [`answer_plan`] starts threads. [`ScheduleTexts`] are for answers
-//! that are made elsewhere.
+//! file and prints nothing. Only [`answer_plan`] and [`Scheduled::read`] start threads; the latter
+//! is for answers that are made elsewhere.
 #![tactic(auto)]
 
 mod answer;
@@ -15,7 +15,9 @@ pub mod laws;
 mod limits;
 mod planning;
 mod schedule_texts;
+mod scheduled;
 mod setting_range;
+mod source;
 mod texts;
 mod validity;
 
@@ -24,5 +26,6 @@ pub use checking::answer_check;
 pub use directing::answer_direct;
 pub use drawing::answer_draw;
 pub use limits::{DONE, REFUSED};
-pub use planning::{answer_plan, answer_plan_alone, answer_plan_steady};
-pub use schedule_texts::ScheduleTexts;
+pub use planning::{answer_plan, answer_plan_alone};
+pub use scheduled::Scheduled;
+pub use source::{Planning, Source};

@@ -19,6 +19,4 @@ mod switching;
 pub use applying::answer_apply_alone;
 pub use opening::read_rack;
 pub use running::{answer_apply, answer_run};
-pub use switching::{
-    answer_switch, answer_switch_alone, answer_switch_schedule, answer_switch_steady,
-};
+pub use switching::{answer_switch, answer_switch_alone};
