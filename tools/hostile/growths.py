@@ -101,9 +101,9 @@ COMMANDS = [
     # `schedule`, `Schedule::write` and `answer_plan`. Three settings take `Table::take_back` too.
     ["plan", "three"], ["plan", "three", "--workers", "2"], ["plan", "nine"], ["plan", "nine", "--workers", "2"],
     ["plan", "wrong"], ["plan", "missing"], ["plan", "-"],
-    # `steady` and `answer_plan_steady`.
+    # `steady`.
     ["plan", "three", "--steady"], ["plan", "nine", "--steady"], ["plan", "wrong", "--steady"], ["plan", "-", "--steady"],
-    # `answer_switch`, `answer_switch_steady`, `ScheduleTexts::read` and `answer_switch_schedule`.
+    # `answer_switch` and `Scheduled::read`.
     ["switch", "three"], ["switch", "three", "--workers", "2"], ["switch", "wide"], ["switch", "wide", "--workers", "2"],
     ["switch", "wrong"], ["switch", "-"], ["switch", "three", "--steady"], ["switch", "wide", "--steady"], ["switch", "wrong", "--steady"],
     ["switch", "three", "--schedule", "schedule"], ["switch", "three", "--schedule", "long"], ["switch", "three", "--schedule", "three"],

@@ -10,10 +10,10 @@ use Rattle.command_words.specs.declared.commands.CommandName.TheVariants as name
 use Rattle.command_words.specs.declared.jobs.Job.{Job}
 use Rattle.command_words.specs.declared.jobs.Job.TheVariants.{Plan, Check, Draw, Switch, Drive, C004, Direct, Apply, Run, Serve, Host, Talk, Replay}
 use Rattle.command_words.specs.declared.jobs.Request.{Request}
-use Rattle.command_words.specs.declared.jobs.ScheduleSource.{ScheduleSource}
-use Rattle.command_words.specs.declared.jobs.ScheduleSource.TheVariants as source
+use Rattle.plan_answers.specs.declared.source.Source.{Source}
+use Rattle.plan_answers.specs.declared.source.Source.TheVariants as source
 use Rattle.command_words.specs.Program.{command_word}
-use Rattle.command_words.specs.Jobs.{AreTwo, HasJob, HasSome, HasSource, IsNoInput, IsJob, IsReading, IsRequest, IsWithinLimits, HasWanted, AreClientNames, IsOfNone, MayBeDone, NameInputOnce, clients_of, cue_files, files_of, input_name, name_of, output_of, record_of, schedule_files, switched_files}
+use Rattle.command_words.specs.Jobs.{AreTwo, HasJob, HasOption, HasSome, HasSource, HasText, IsNoInput, IsJob, IsReading, IsRequest, IsWithinLimits, HasWanted, AreClientNames, IsOfNone, MayBeDone, NameInputOnce, clients_of, cue_files, files_of, input_name, name_of, output_of, record_of, schedule_files, switched_files}
 use Rattle.command_words.specs.declared.reading.Lack.{Lack}
 use Rattle.command_words.specs.declared.reading.Lack.TheVariants.{Memory}
 use Rattle.command_words.proofs.CommandNames.{same_word}
@@ -25,12 +25,12 @@ still_lacks is lack (Err e) made why = λ some. made ∙ why some
 
 -- the rows of a job have what its command wants
 wanted : (rows : List Row) (job : Job) → HasJob rows job → HasWanted (name_of job) rows
-wanted rows (Plan file planning) has = ((file, has.0), (planning, has.1))
+wanted rows (Plan file planning workers) has = ((file, has.0), (planning, has.1), (workers, has.2))
 wanted rows (Check batch schedule) has = ((batch, has.0), (schedule, has.1))
 wanted rows (Draw batch schedule settings) has = ((batch, has.0), (schedule, has.1))
-wanted rows (Switch batch source wiring) has = ((batch, has.0), (source, has.1))
-wanted rows (Drive batch port port_b source wiring goes_on) has =
-    ((batch, has.0), (port, has.1), (source, has.3))
+wanted rows (Switch batch source wiring workers) has = ((batch, has.0), (source, has.1), (workers, has.3))
+wanted rows (Drive batch port port_b source wiring goes_on workers) has =
+    ((batch, has.0), (port, has.1), (source, has.3), (workers, has.6))
 wanted rows C004 has = tt
 wanted rows (Direct moves) has = (moves, has)
 wanted rows (Apply shape batch image workers) has = ((shape, has.0), (batch, has.1), (image, has.2), (workers, has.3))
@@ -96,22 +96,21 @@ files_in name.Host rows = option_to_list (first_of (codes "image") rows)
 files_in name.Talk rows = option_to_list (first_of (codes "image") rows) ++ input_name ∷ []
 files_in name.Replay rows = option_to_list (first_of (codes "image") rows) ++ text_in (codes "RECORD") rows ∷ []
 
-scheduled : (rows : List Row) (source : ScheduleSource) → HasSource rows source → schedule_files source ≡ option_to_list (first_of (codes "schedule") rows)
-scheduled rows (source.Plan workers) has = rw has.0 refl
-scheduled rows source.Steady has = rw has.0 refl
-scheduled rows (source.File schedule) has = rw has.0 refl
+scheduled : (rows : List Row) (source : Source Text) → HasSource rows source → schedule_files source ≡ option_to_list (first_of (codes "schedule") rows)
+scheduled rows (source.Plan planning) has = rw has.0 refl
+scheduled rows (source.Text schedule) has = rw has.0 refl
 
-switched_are : (rows : List Row) (batch : Text) (source : ScheduleSource) (wiring : Option Text) → HasJob rows (Switch batch source wiring) → switched_files batch source wiring ≡ switched_in rows
-switched_are rows batch source wiring has = rw (has.0, scheduled rows source has.1, has.2) refl
+switched_are : (rows : List Row) (batch : Text) (source : Source Text) (wiring : Option Text) → HasText (codes "BATCH") rows batch → HasSource rows source → HasOption (codes "wiring") rows wiring → switched_files batch source wiring ≡ switched_in rows
+switched_are rows batch source wiring one other more = rw (one, scheduled rows source other, more) refl
 
 files_are : (rows : List Row) (job : Job) → HasJob rows job → files_of job ≡ files_in (name_of job) rows
-files_are rows (Plan file planning) has = rw has.0 refl
+files_are rows (Plan file planning workers) has = rw has.0 refl
 files_are rows (Check batch schedule) has = rw (has.0, has.1) refl
 files_are rows (Draw batch schedule settings) has = rw (has.0, has.1) refl
-files_are rows (Switch batch source wiring) has = switched_are rows batch source wiring has
-files_are rows (Drive batch port port_b source wiring goes_on) has =
+files_are rows (Switch batch source wiring workers) has = switched_are rows batch source wiring has.0 has.1 has.2
+files_are rows (Drive batch port port_b source wiring goes_on workers) has =
     let flag = same_flag (option_and_then (λ row. row.source) (find (λ row. bytes_eq row.id (codes "go-on")) rows)) goes_on has.5 in
-    ap₂ (λ (front more : List Text). front ++ more) (switched_are rows batch source wiring (has.0, has.3, has.4)) (ap cue_files flag)
+    ap₂ (λ (front more : List Text). front ++ more) (switched_are rows batch source wiring has.0 has.3 has.4) (ap cue_files flag)
 files_are rows C004 has = refl
 files_are rows (Direct moves) has = rw has refl
 files_are rows (Apply shape batch image workers) has = rw (has.1, has.2) refl

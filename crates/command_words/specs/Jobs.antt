@@ -9,14 +9,14 @@ use Rattle.clap.specs.Values.{kind_of}
 use Rattle.clap.specs.declared.error.Error.{Error}
 use Rattle.clap.specs.declared.error.kind.ErrorKind.TheVariants.{DisplayHelp, DisplayVersion, OutOfMemory}
 use Rattle.exchange_limits.specs.declared.limits.TheConstants.{MAX_WORKERS}
+use Rattle.plan_answers.specs.declared.source.Planning.{Planning}
+use Rattle.plan_answers.specs.declared.source.Planning.TheVariants as planning
+use Rattle.plan_answers.specs.declared.source.Source.{Source}
+use Rattle.plan_answers.specs.declared.source.Source.TheVariants as source
 use Rattle.command_words.specs.declared.limits.TheConstants.{MAX_CLIENTS}
 use Rattle.command_words.specs.declared.jobs.Job.{Job}
 use Rattle.command_words.specs.declared.jobs.Job.TheVariants.{Plan, Check, Draw, Switch, Drive, C004, Direct, Apply, Run, Serve, Host, Talk, Replay}
-use Rattle.command_words.specs.declared.jobs.Planning.{Planning}
-use Rattle.command_words.specs.declared.jobs.Planning.TheVariants as planning
 use Rattle.command_words.specs.declared.jobs.Request.{Request}
-use Rattle.command_words.specs.declared.jobs.ScheduleSource.{ScheduleSource}
-use Rattle.command_words.specs.declared.jobs.ScheduleSource.TheVariants as source
 use Rattle.command_words.specs.declared.jobs.SharedRack.{SharedRack}
 use Rattle.command_words.specs.declared.jobs.ArgumentsFault.{ArgumentsFault}
 use Rattle.command_words.specs.declared.jobs.ArgumentsFault.TheVariants.{Clap, NoMemory}
@@ -60,18 +60,15 @@ HasServed id rows served = (all_of id rows ≡ Some served) × CanBeServed serve
 
 -- how a batch is to be planned: `--steady` and `--workers` exclude each other
 abbrev pub HasPlanning : List Row → Planning → Type 0
-HasPlanning rows (planning.Workers workers) =
-    (IsGiven (codes "steady") rows → ⊥) × HasWorkers rows workers
+HasPlanning rows planning.Plain = IsGiven (codes "steady") rows → ⊥
 HasPlanning rows planning.Steady =
     IsGiven (codes "steady") rows × (IsGiven (codes "workers") rows → ⊥)
 
 -- where a schedule is to come from: `--schedule` excludes both
-abbrev pub HasSource : List Row → ScheduleSource → Type 0
-HasSource rows (source.Plan workers) =
-    HasOption (codes "schedule") rows None × HasPlanning rows (planning.Workers workers)
-HasSource rows source.Steady =
-    HasOption (codes "schedule") rows None × HasPlanning rows planning.Steady
-HasSource rows (source.File file) =
+abbrev pub HasSource : List Row → Source Text → Type 0
+HasSource rows (source.Plan planning) =
+    HasOption (codes "schedule") rows None × HasPlanning rows planning
+HasSource rows (source.Text file) =
     HasOption (codes "schedule") rows (Some file) × (IsGiven (codes "steady") rows → ⊥)
     × (IsGiven (codes "workers") rows → ⊥)
 
@@ -85,11 +82,11 @@ pub record HasRack (rows : List Row) (rack : SharedRack) : Type 0 where
 
 -- the command of a job
 abbrev pub name_of : Job → CommandName
-name_of (Plan file planning) = name.Plan
+name_of (Plan file planning workers) = name.Plan
 name_of (Check batch schedule) = name.Check
 name_of (Draw batch schedule settings) = name.Draw
-name_of (Switch batch source wiring) = name.Switch
-name_of (Drive batch port port_b source wiring goes_on) = name.Drive
+name_of (Switch batch source wiring workers) = name.Switch
+name_of (Drive batch port port_b source wiring goes_on workers) = name.Drive
 name_of C004 = name.C004
 name_of (Direct moves) = name.Direct
 name_of (Apply shape batch image workers) = name.Apply
@@ -101,19 +98,21 @@ name_of (Replay shape recorded image) = name.Replay
 
 -- what the arguments and options of its command say of a job
 abbrev pub HasJob : List Row → Job → Type 0
-HasJob rows (Plan file planning) = HasText (codes "FILE") rows file × HasPlanning rows planning
+HasJob rows (Plan file planning workers) =
+    HasText (codes "FILE") rows file × HasPlanning rows planning × HasWorkers rows workers
 HasJob rows (Check batch schedule) =
     HasText (codes "BATCH") rows batch × HasText (codes "SCHEDULE") rows schedule
 HasJob rows (Draw batch schedule settings) =
     HasText (codes "BATCH") rows batch × HasText (codes "SCHEDULE") rows schedule
     × HasOption (codes "settings") rows settings
-HasJob rows (Switch batch source wiring) =
+HasJob rows (Switch batch source wiring workers) =
     HasText (codes "BATCH") rows batch × HasSource rows source
-    × HasOption (codes "wiring") rows wiring
-HasJob rows (Drive batch port port_b source wiring goes_on) =
+    × HasOption (codes "wiring") rows wiring × HasWorkers rows workers
+HasJob rows (Drive batch port port_b source wiring goes_on workers) =
     HasText (codes "BATCH") rows batch × HasText (codes "PORT") rows port
     × HasOption (codes "PORT_B") rows port_b × HasSource rows source
     × HasOption (codes "wiring") rows wiring × (IsTrue goes_on ↔ IsGiven (codes "go-on") rows)
+    × HasWorkers rows workers
 HasJob rows C004 = ⊤
 HasJob rows (Direct moves) = HasText (codes "MOVES") rows moves
 HasJob rows (Apply shape batch image workers) =
@@ -173,12 +172,12 @@ abbrev pub input_name : Text
 input_name = codes "-"
 
 -- the file that has a schedule, where one has
-abbrev pub schedule_files : ScheduleSource → List Text
-schedule_files (source.File schedule) = schedule ∷ []
-schedule_files source = []
+abbrev pub schedule_files : Source Text → List Text
+schedule_files (source.Plan planning) = []
+schedule_files (source.Text schedule) = schedule ∷ []
 
 -- those of `switch`: the wiring is read last, where a file has one
-abbrev pub switched_files : Text → ScheduleSource → Option Text → List Text
+abbrev pub switched_files : Text → Source Text → Option Text → List Text
 switched_files batch source wiring = batch ∷ (schedule_files source ++ option_to_list wiring)
 
 -- where a driver hears that it may go on, unless it goes on at once: standard input
@@ -186,18 +185,18 @@ abbrev pub cue_files : Bool → List Text
 cue_files true = []
 cue_files false = input_name ∷ []
 
-abbrev pub driven_files : Text → ScheduleSource → Option Text → Bool → List Text
+abbrev pub driven_files : Text → Source Text → Option Text → Bool → List Text
 driven_files batch source wiring goes_on =
     switched_files batch source wiring ++ cue_files goes_on
 
 -- the names of the files that a job reads itself, in this order; the client of `talk` is standard
 -- input, and so is the link of `c004`
 abbrev pub files_of : Job → List Text
-files_of (Plan file planning) = file ∷ []
+files_of (Plan file planning workers) = file ∷ []
 files_of (Check batch schedule) = batch ∷ schedule ∷ []
 files_of (Draw batch schedule settings) = batch ∷ schedule ∷ []
-files_of (Switch batch source wiring) = switched_files batch source wiring
-files_of (Drive batch port port_b source wiring goes_on) =
+files_of (Switch batch source wiring workers) = switched_files batch source wiring
+files_of (Drive batch port port_b source wiring goes_on workers) =
     driven_files batch source wiring goes_on
 files_of C004 = input_name ∷ []
 files_of (Direct moves) = moves ∷ []
@@ -330,15 +329,17 @@ HasSome {X} is = (x : X) × is x
 
 -- there is what a command wants
 abbrev pub HasWanted : CommandName → List Row → Type 0
-HasWanted name.Plan rows = HasSome (HasText (codes "FILE") rows) × HasSome (HasPlanning rows)
+HasWanted name.Plan rows =
+    HasSome (HasText (codes "FILE") rows) × HasSome (HasPlanning rows) × HasSome (HasWorkers rows)
 HasWanted name.Check rows =
     HasSome (HasText (codes "BATCH") rows) × HasSome (HasText (codes "SCHEDULE") rows)
 HasWanted name.Draw rows =
     HasSome (HasText (codes "BATCH") rows) × HasSome (HasText (codes "SCHEDULE") rows)
-HasWanted name.Switch rows = HasSome (HasText (codes "BATCH") rows) × HasSome (HasSource rows)
+HasWanted name.Switch rows =
+    HasSome (HasText (codes "BATCH") rows) × HasSome (HasSource rows) × HasSome (HasWorkers rows)
 HasWanted name.Drive rows =
     HasSome (HasText (codes "BATCH") rows) × HasSome (HasText (codes "PORT") rows)
-    × HasSome (HasSource rows)
+    × HasSome (HasSource rows) × HasSome (HasWorkers rows)
 HasWanted name.C004 rows = ⊤
 HasWanted name.Direct rows = HasSome (HasText (codes "MOVES") rows)
 HasWanted name.Apply rows =

@@ -3,8 +3,9 @@
 ghost use Rattle.std.specs.Prelude.{◌≡◌, ◌≢◌, ◌↔◌, ◌++◌, ◌∷◌, [], All, IsTrue, Some, option_to_list};
 ghost use Rattle.command_words.specs.Jobs.{NameInputOnce, driven_files, files_of, input_name, switched_files};
 
-use crate::jobs::{Job, ScheduleSource};
+use crate::jobs::Job;
 use crate::text::Text;
+use plan_answers::Source;
 
 /// Whether at most one of these names stands for standard input.
 fn name_input_once(names: &[Text]) -> bool
@@ -74,31 +75,31 @@ fn is_no_input(name: &Text, other: &Option<Text>) -> bool
 }
 
 /// Whether standard input is at most one of the batch, the schedule's file and the wiring's.
-fn switches_by_one_input(batch: &Text, source: &ScheduleSource, wiring: &Option<Text>) -> bool
+fn switches_by_one_input(batch: &Text, source: &Source<Text>, wiring: &Option<Text>) -> bool
     ensures { IsTrue result ↔ NameInputOnce (switched_files batch.now source.now wiring.now) }
 {
     match source {
-        ScheduleSource::File(schedule) if batch.is_input() => is_no_input(schedule, wiring),
-        ScheduleSource::File(schedule) => is_one_input(schedule, wiring),
-        _ => is_one_input(batch, wiring),
+        Source::Text(schedule) if batch.is_input() => is_no_input(schedule, wiring),
+        Source::Text(schedule) => is_one_input(schedule, wiring),
+        Source::Plan(_) => is_one_input(batch, wiring),
     }
 }
 
 /// Whether standard input is none of the batch, the schedule's file and the wiring's.
-fn switches_by_no_input(batch: &Text, source: &ScheduleSource, wiring: &Option<Text>) -> bool
+fn switches_by_no_input(batch: &Text, source: &Source<Text>, wiring: &Option<Text>) -> bool
     ensures { IsTrue result ↔
         All (λ name. name ≢ input_name) (switched_files batch.now source.now wiring.now) }
 {
     match source {
-        ScheduleSource::File(schedule) => !batch.is_input() && is_no_input(schedule, wiring),
-        _ => is_no_input(batch, wiring),
+        Source::Text(schedule) => !batch.is_input() && is_no_input(schedule, wiring),
+        Source::Plan(_) => is_no_input(batch, wiring),
     }
 }
 
 /// Whether standard input is at most one of those, and of what `drive` waits for.
 fn drives_by_one_input(
     batch: &Text,
-    source: &ScheduleSource,
+    source: &Source<Text>,
     wiring: &Option<Text>,
     goes_on: bool,
 ) -> bool
@@ -131,6 +132,7 @@ pub(crate) fn reads_input_once(job: &Job) -> bool
             batch,
             source,
             wiring,
+            ..
         } => switches_by_one_input(batch, source, wiring),
         Job::Drive {
             batch,

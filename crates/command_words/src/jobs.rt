@@ -8,16 +8,18 @@ use crate::text::Text;
 use crate::text_list::TextList;
 use clap::error::ErrorKind;
 use exchange_limits::WorkerCount;
+use plan_answers::{Planning, Source};
 use std::alloc::AllocError;
 use thiserror::Error;
 
 /// What the program is to do.
 #[derive(Drop)]
 pub enum Job {
-    /// Plan the batch of a file.
+    /// Plan the batch of a file, with so many workers.
     Plan {
         file: Text,
         planning: Planning,
+        workers: WorkerCount,
     },
     /// Judge the schedule of a file against the batch of another.
     Check {
@@ -32,22 +34,24 @@ pub enum Job {
         settings: Option<Text>,
     },
     /// Tell what a run of a schedule of the batch of a file sends the switches, or the one switch
-    /// of a board whose wiring a file has.
+    /// of a board whose wiring a file has. So many workers plan.
     Switch {
         batch: Text,
-        source: ScheduleSource,
+        source: Source<Text>,
         wiring: Option<Text>,
+        workers: WorkerCount,
     },
     /// Set the switches behind a port, or behind two, or the one switch of a board whose wiring a
     /// file has, as each setting of a schedule of the batch of a file calls for, and behind each
-    /// wait for a line of standard input, unless it goes on.
+    /// wait for a line of standard input, unless it goes on. So many workers plan.
     Drive {
         batch: Text,
         port: Text,
         port_b: Option<Text>,
-        source: ScheduleSource,
+        source: Source<Text>,
         wiring: Option<Text>,
         goes_on: bool,
+        workers: WorkerCount,
     },
     /// Be a switch whose configuration link is standard input and output.
     C004,
@@ -109,26 +113,6 @@ pub struct SharedRack {
     pub record_out: Option<Text>,
     /// The file to which its image goes once all sessions have ended.
     pub image_out: Option<Text>,
-}
-
-/// How a batch is planned: either way no schedule has fewer settings.
-#[derive(Clone, Copy)]
-pub enum Planning {
-    /// With so many workers.
-    Workers(WorkerCount),
-    /// So that the schedule seldom changes the switch.
-    Steady,
-}
-
-/// Where a schedule of a batch comes from.
-#[derive(Drop)]
-pub enum ScheduleSource {
-    /// The batch is planned with so many workers.
-    Plan(WorkerCount),
-    /// The batch is planned so that the schedule seldom changes the switch.
-    Steady,
-    /// A file has it.
-    File(Text),
 }
 
 /// What the arguments of the command line ask for.

@@ -21,7 +21,7 @@ mod reading;
 mod text;
 mod text_list;
 
-pub use jobs::{ArgumentsFault, Job, Planning, Request, ScheduleSource, SharedRack};
+pub use jobs::{ArgumentsFault, Job, Request, SharedRack};
 pub use limits::MAX_CLIENTS;
 pub use reading::read_arguments;
 pub use text::Text;

@@ -12,7 +12,7 @@ use crate::commands::CommandName;
 use crate::faults::{excluded, misnamed, missing, named_twice, overwritten};
 use crate::grammar::matches_of;
 use crate::input::reads_input_once;
-use crate::jobs::{ArgumentsFault, Job, Planning, Request, ScheduleSource, SharedRack};
+use crate::jobs::{ArgumentsFault, Job, Request, SharedRack};
 use crate::limits::MAX_CLIENTS;
 use crate::outputs::{keeps_client_files, keeps_inputs, keeps_record};
 use crate::text::Text;
@@ -20,6 +20,7 @@ use crate::text_list::TextList;
 use clap::ArgMatches;
 use clap::parser::ValueSource;
 use exchange_limits::WorkerCount;
+use plan_answers::{Planning, Source};
 use std::alloc::{AllocError, Global};
 
 /// What a job lacks whose arguments clap has let through.
@@ -107,7 +108,7 @@ fn planning_of(matches: &ArgMatches<'_>) -> Result<Planning, Lack>
     ensures { IsReading (HasPlanning (rows_in matches.now)) result }
 {
     if !is_given(matches, "steady") {
-        return Ok(Planning::Workers(workers_of(matches)?));
+        return Ok(Planning::Plain);
     }
     if is_given(matches, "workers") {
         return Err(Lack::Choice);
@@ -116,19 +117,16 @@ fn planning_of(matches: &ArgMatches<'_>) -> Result<Planning, Lack>
 }
 
 /// Where a schedule is to come from.
-fn source_of(alloc: Global, matches: &ArgMatches<'_>) -> Result<ScheduleSource, Lack>
+fn source_of(alloc: Global, matches: &ArgMatches<'_>) -> Result<Source<Text>, Lack>
     ensures { IsReading (HasSource (rows_in matches.now)) result }
 {
     let Some(file) = option_of(alloc, matches, "schedule")? else {
-        return match planning_of(matches)? {
-            Planning::Workers(workers) => Ok(ScheduleSource::Plan(workers)),
-            Planning::Steady => Ok(ScheduleSource::Steady),
-        };
+        return Ok(Source::Plan(planning_of(matches)?));
     };
     if is_given(matches, "steady") || is_given(matches, "workers") {
         return Err(Lack::Choice);
     }
-    Ok(ScheduleSource::File(file))
+    Ok(Source::Text(file))
 }
 
 /// The rack of an exchange.
@@ -150,6 +148,7 @@ fn plan_job(alloc: Global, found: &ArgMatches<'_>) -> Result<Job, Lack>
     Ok(Job::Plan {
         file: text_of(alloc, found, "FILE")?,
         planning: planning_of(found)?,
+        workers: workers_of(found)?,
     })
 }
 
@@ -182,6 +181,7 @@ fn switch_job(alloc: Global, found: &ArgMatches<'_>) -> Result<Job, Lack>
         batch: text_of(alloc, found, "BATCH")?,
         source: source_of(alloc, found)?,
         wiring: option_of(alloc, found, "wiring")?,
+        workers: workers_of(found)?,
     })
 }
 
@@ -196,6 +196,7 @@ fn drive_job(alloc: Global, found: &ArgMatches<'_>) -> Result<Job, Lack>
         source: source_of(alloc, found)?,
         wiring: option_of(alloc, found, "wiring")?,
         goes_on: is_given(found, "go-on"),
+        workers: workers_of(found)?,
     })
 }
 

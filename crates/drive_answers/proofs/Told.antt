@@ -1,10 +1,10 @@
 -- What is told by lines, seen as the text that stands before the answer.
 use Rattle.std.proofs.Common.{◌≡◌, [], ℕ, List, Option, refl}
-use Rattle.batch.specs.Extent.{Extent}
 use Rattle.batch.specs.declared.transfer.Transfer.{Transfer}
 use Rattle.byte_streams.proofs.Carrying.{appends_none}
 use Rattle.crossbar.specs.declared.traffic.Passing.{Passing}
 use Rattle.plan_answers.specs.Refusals.{Printed}
+use Rattle.plan_answers.specs.declared.source.Source.{Source}
 use Rattle.refusals.specs.declared.refusal.Refusal.{Refusal}
 use Rattle.switch_driver.proofs.Texts.{AsText, driven_lines, untold}
 use Rattle.switch_driver.specs.Lines.{HasToldLine, TellsLine, Dialogue}
@@ -30,21 +30,21 @@ told_tried {I} {O} {Q} refuses leads remaining contents rack batch settings aske
     none_told remaining contents told tells _ same (unopened refusal why refused refl none)
 
 -- an answer behind what was told by lines
-pub told_answer : {I O Q : Type 0} (refuses : Q → ℕ → Refusal → Type 0) (leads : Q → ℕ → Type 0) (remaining : I → Option (List ℕ)) (contents : O → Option (List ℕ)) (IsSource : Extent → List Transfer → List (List ℕ) → Type 0) (IsWrong : Extent → Refusal → Type 0) (wiring : Option (List ℕ)) (asked asks : Q) (carried : Option (List Passing)) (was opens : ℕ) (told tells : Lines I O) (printed : Printed)
-    → IsDriveAnswer refuses leads (λ a n ns c b. HasToldLine remaining contents n ns c a b) IsSource IsWrong wiring asked asks carried was opens told tells printed
-    → AsText remaining contents told tells (λ d. IsDriveAnswer refuses leads (TellsLine told.waits) IsSource IsWrong wiring asked asks carried was opens (untold remaining told) d printed)
-told_answer {I} {O} {Q} refuses leads remaining contents IsSource IsWrong wiring asked asks carried was opens told tells printed (tried board batch settings is_board source is) =
+pub told_answer : {I O Q : Type 0} (refuses : Q → ℕ → Refusal → Type 0) (leads : Q → ℕ → Type 0) (remaining : I → Option (List ℕ)) (contents : O → Option (List ℕ)) (source : Source (List ℕ)) (batch_text : List ℕ) (wiring : Option (List ℕ)) (asked asks : Q) (carried : Option (List Passing)) (was opens : ℕ) (told tells : Lines I O) (printed : Printed)
+    → IsDriveAnswer refuses leads (λ a n ns c b. HasToldLine remaining contents n ns c a b) source batch_text wiring asked asks carried was opens told tells printed
+    → AsText remaining contents told tells (λ d. IsDriveAnswer refuses leads (TellsLine told.waits) source batch_text wiring asked asks carried was opens (untold remaining told) d printed)
+told_answer {I} {O} {Q} refuses leads remaining contents source batch_text wiring asked asks carried was opens told tells printed (tried board batch settings is_board from is) =
     let so = told_tried refuses leads remaining contents (rack_for board batch) batch settings asked carried was opens told tells printed is in
-    record { text = so.text; appended = so.appended; loan = so.loan; waits = so.waits; is = tried board batch settings is_board source so.is }
-told_answer {I} {O} {Q} refuses leads remaining contents IsSource IsWrong wiring asked asks carried was opens told tells printed (wrong refusal why refused unasked same none) =
+    record { text = so.text; appended = so.appended; loan = so.loan; waits = so.waits; is = tried board batch settings is_board from so.is }
+told_answer {I} {O} {Q} refuses leads remaining contents source batch_text wiring asked asks carried was opens told tells printed (wrong refusal why refused unasked same none) =
     none_told remaining contents told tells _ same (wrong refusal why refused unasked refl none)
 
 -- the same where there is none
-pub told_failure : {I O : Type 0} (remaining : I → Option (List ℕ)) (contents : O → Option (List ℕ)) (IsSource : Extent → List Transfer → List (List ℕ) → Type 0) (wiring : Option (List ℕ)) (carried : Option (List Passing)) (was opens : ℕ) (told tells : Lines I O) (fault : DriveFault)
-    → HasFailed (λ a n ns c b. HasToldLine remaining contents n ns c a b) IsSource wiring carried was opens told tells fault
-    → AsText remaining contents told tells (λ d. HasFailed (TellsLine told.waits) IsSource wiring carried was opens (untold remaining told) d fault)
-told_failure {I} {O} remaining contents IsSource wiring carried was opens told tells Untold (board, batch, settings, is_board, source, (count, (k, over))) =
+pub told_failure : {I O : Type 0} (remaining : I → Option (List ℕ)) (contents : O → Option (List ℕ)) (source : Source (List ℕ)) (batch_text : List ℕ) (wiring : Option (List ℕ)) (carried : Option (List Passing)) (was opens : ℕ) (told tells : Lines I O) (fault : DriveFault)
+    → HasFailed (λ a n ns c b. HasToldLine remaining contents n ns c a b) source batch_text wiring carried was opens told tells fault
+    → AsText remaining contents told tells (λ d. HasFailed (TellsLine told.waits) source batch_text wiring carried was opens (untold remaining told) d fault)
+told_failure {I} {O} remaining contents source batch_text wiring carried was opens told tells Untold (board, batch, settings, is_board, from, (count, (k, over))) =
     let lines = driven_lines remaining contents (rack_for board batch) batch settings (UntoldAt k) _ told carried tells over in
-    record { text = lines.text; appended = lines.appended; loan = lines.loan; waits = lines.waits; is = (board, batch, settings, is_board, source, (count, (k, lines.is))) }
-told_failure {I} {O} remaining contents IsSource wiring carried was opens told tells NoMemory (same, none) =
+    record { text = lines.text; appended = lines.appended; loan = lines.loan; waits = lines.waits; is = (board, batch, settings, is_board, from, (count, (k, lines.is))) }
+told_failure {I} {O} remaining contents source batch_text wiring carried was opens told tells NoMemory (same, none) =
     none_told remaining contents told tells _ same (refl, none)

@@ -1,10 +1,6 @@
 -- What `drive` answers: how the settings of a schedule were put on the switches of a rack, over
 -- ports that were opened for them.
 use Rattle.std.specs.Prelude.{◌≡◌, ◌+◌, ℕ, List, [], Option, Some, None, if◌then◌else◌, nat_lt}
-use Rattle.batch.specs.Extent.{Extent}
-use Rattle.batch.specs.Faults.{IsFirstFault}
-use Rattle.batch.specs.Text.{Denotes}
-use Rattle.batch.specs.declared.fault.BatchFault.{BatchFault}
 use Rattle.batch.specs.declared.transfer.Transfer.{Transfer}
 use Rattle.board_wiring.specs.Boards.{IsBoardOf, IsMiswired, extent_of}
 use Rattle.board_wiring.specs.Sources.{of_wiring}
@@ -13,10 +9,9 @@ use Rattle.crossbar.specs.declared.board.BoardWiring.{BoardWiring}
 use Rattle.crossbar.specs.declared.switch.TheConstants.{JOINED_MODULES}
 use Rattle.crossbar.specs.declared.traffic.Passing.{Passing}
 use Rattle.plan_answers.specs.Refusals.{Printed, Refuses}
-use Rattle.refusals.specs.Sources.{of_batch}
+use Rattle.plan_answers.specs.Schedules.{IsScheduleFrom, IsWrongFrom}
+use Rattle.plan_answers.specs.declared.source.Source.{Source}
 use Rattle.refusals.specs.declared.refusal.Refusal.{Refusal}
-use Rattle.schedule_certificate.specs.Plans.{Plan, IsPlan, HasFewReinsertions}
-use Rattle.steady_schedule.specs.Plans.{SteadyPlan, IsSteady}
 use Rattle.switch_driver.specs.Driving.{IsDriven}
 use Rattle.switch_driver.specs.declared.driving.Driven.{Driven}
 use Rattle.switch_driver.specs.declared.driving.Driven.TheVariants.{Untold as UntoldAt}
@@ -27,32 +22,6 @@ use Rattle.switch_settings.specs.declared.rack_wiring.RackWiring.TheVariants.{Us
 use Rattle.drive_answers.specs.Endings.{IsEnding}
 use Rattle.drive_answers.specs.declared.fault.DriveFault.{DriveFault}
 use Rattle.drive_answers.specs.declared.fault.DriveFault.TheVariants.{Untold, NoMemory}
-
--- ---- where a schedule comes from
-
--- these are the settings of a plan of the batch that the text denotes
-pub record IsPlannedBy (shape : Extent) (text : List ℕ) (batch : List Transfer)
-    (settings : List (List ℕ)) : Type 0 where
-  pub plan : Plan
-  pub of_batch : plan.batch ≡ batch
-  pub of_settings : plan.settings ≡ settings
-  pub denotes : Denotes shape text plan.batch
-  pub is : IsPlan plan
-  pub few : HasFewReinsertions plan
-
--- the same of a steady plan
-pub record IsSteadyBy (shape : Extent) (text : List ℕ) (batch : List Transfer)
-    (settings : List (List ℕ)) : Type 0 where
-  pub plan : SteadyPlan
-  pub of_batch : plan.batch ≡ batch
-  pub of_settings : plan.settings ≡ settings
-  pub denotes : Denotes shape text plan.batch
-  pub is : IsSteady plan
-
--- this is the first fault of the batch text
-abbrev pub IsWrongBatch : Extent → List ℕ → Refusal → Type 0
-IsWrongBatch shape text refusal =
-    (fault : BatchFault) × IsFirstFault shape text fault × (refusal ≡ of_batch fault)
 
 -- ---- what was done with it
 
@@ -102,40 +71,38 @@ HasFailedOver {S} hears rack batch settings carried was opens told tells NoMemor
 
 -- what is first wrong with the texts: that of the wiring is looked at first, and then the others
 -- against a rack with the modules that it wires
-pub data IsFirstDriveWrong (IsWrong : Extent → Refusal → Type 0) (wiring : Option (List ℕ))
+pub data IsFirstDriveWrong (source : Source (List ℕ)) (text : List ℕ) (wiring : Option (List ℕ))
     (refusal : Refusal) : Type 0 where
   wiring_wrong : (fault : WiringFault) → IsMiswired wiring fault → refusal ≡ of_wiring fault
-      → IsFirstDriveWrong IsWrong wiring refusal
+      → IsFirstDriveWrong source text wiring refusal
   texts_wrong : (board : Option BoardWiring) → IsBoardOf wiring board
-      → IsWrong (extent_of board) refusal → IsFirstDriveWrong IsWrong wiring refusal
+      → IsWrongFrom source (extent_of board) text refusal
+      → IsFirstDriveWrong source text wiring refusal
 
--- what was done with a schedule from such a source on the rack that is wired so; or the refusal of
--- what is first wrong with its texts: then no port was asked for, none was opened, and nothing was
--- told
+-- what was done with a schedule from this source, of the batch that the text denotes, on the rack
+-- that is wired so; or the refusal of what is first wrong with the texts: then no port was asked
+-- for, none was opened, and nothing was told
 pub data IsDriveAnswer {Q S : Type 0} (refuses : Q → ℕ → Refusal → Type 0) (leads : Q → ℕ → Type 0)
-    (hears : S → ℕ → List ℕ → Cue → S → Type 0)
-    (IsSource : Extent → List Transfer → List (List ℕ) → Type 0)
-    (IsWrong : Extent → Refusal → Type 0) (wiring : Option (List ℕ)) (asked asks : Q)
-    (carried : Option (List Passing)) (was opens : ℕ) (told tells : S) (printed : Printed)
-    : Type 0 where
+    (hears : S → ℕ → List ℕ → Cue → S → Type 0) (source : Source (List ℕ)) (text : List ℕ)
+    (wiring : Option (List ℕ)) (asked asks : Q) (carried : Option (List Passing)) (was opens : ℕ)
+    (told tells : S) (printed : Printed) : Type 0 where
   tried : (board : Option BoardWiring) (batch : List Transfer) (settings : List (List ℕ))
-      → IsBoardOf wiring board → IsSource (extent_of board) batch settings
+      → IsBoardOf wiring board → IsScheduleFrom source (extent_of board) text batch settings
       → IsTried refuses leads hears (rack_for board batch) batch settings asked carried was opens
       told tells printed
-      → IsDriveAnswer refuses leads hears IsSource IsWrong wiring asked asks carried was opens
+      → IsDriveAnswer refuses leads hears source text wiring asked asks carried was opens
       told tells printed
-  wrong : (refusal : Refusal) → IsFirstDriveWrong IsWrong wiring refusal
+  wrong : (refusal : Refusal) → IsFirstDriveWrong source text wiring refusal
       → Refuses refusal printed → asks ≡ asked → tells ≡ told → opens ≡ was
-      → IsDriveAnswer refuses leads hears IsSource IsWrong wiring asked asks carried was opens
+      → IsDriveAnswer refuses leads hears source text wiring asked asks carried was opens
       told tells printed
 
 -- why there is none: of such a schedule, on that rack
-abbrev pub HasFailed : {S : Type 0} → (S → ℕ → List ℕ → Cue → S → Type 0)
-    → (Extent → List Transfer → List (List ℕ) → Type 0) → Option (List ℕ) → Option (List Passing)
-    → ℕ → ℕ → S → S → DriveFault → Type 0
-HasFailed {S} hears IsSource wiring carried was opens told tells Untold =
+abbrev pub HasFailed : {S : Type 0} → (S → ℕ → List ℕ → Cue → S → Type 0) → Source (List ℕ)
+    → List ℕ → Option (List ℕ) → Option (List Passing) → ℕ → ℕ → S → S → DriveFault → Type 0
+HasFailed {S} hears source text wiring carried was opens told tells Untold =
     (board : Option BoardWiring) × (batch : List Transfer) × (settings : List (List ℕ))
-    × IsBoardOf wiring board × IsSource (extent_of board) batch settings
+    × IsBoardOf wiring board × IsScheduleFrom source (extent_of board) text batch settings
     × HasFailedOver hears (rack_for board batch) batch settings carried was opens told tells Untold
-HasFailed {S} hears IsSource wiring carried was opens told tells NoMemory =
+HasFailed {S} hears source text wiring carried was opens told tells NoMemory =
     (tells ≡ told) × (opens ≡ was)

@@ -5,10 +5,10 @@ ghost use Rattle.c004_commands.specs.declared.port.TheConstants.{PORTS as MOST};
 ghost use Rattle.crossbar.specs.Wired.{links_of};
 ghost use Rattle.link_graph.specs.Schedules.{IsScheduleOf};
 ghost use Rattle.plan_answers.specs.Lent.{bytes_of};
-ghost use Rattle.plan_answers.specs.Validities.{IsScheduleRead, IsInvalid};
+ghost use Rattle.plan_answers.specs.Schedules.{said_by};
 ghost use Rattle.switch_settings.specs.RackWirings.{wired_in};
 ghost use Rattle.switch_settings.specs.Racks.{HasModulesOf, joined_by};
-ghost use Rattle.drive_answers.specs.Answers.{IsPlannedBy, IsSteadyBy, IsWrongBatch, rack_for, switches_in, IsTried, HasFailedOver, IsDriveAnswer, HasFailed};
+ghost use Rattle.drive_answers.specs.Answers.{rack_for, switches_in, IsTried, HasFailedOver, IsDriveAnswer, HasFailed};
 
 use crate::ending::ending;
 use crate::fault::DriveFault;
@@ -20,11 +20,9 @@ use crossbar::{BoardWiring, JOINED_MODULES};
 use exchange_limits::WorkerCount;
 use line_words::LINE_ROOM;
 use link_graph::Schedule;
-use plan_answers::{Answer, ScheduleTexts};
-use schedule_certificate::{OpenGate, schedule};
+use plan_answers::{Answer, Scheduled, Source};
 use std::alloc::Global;
 use std::thread::Threads;
-use steady_schedule::steady;
 use switch_driver::{Stage, drive};
 use switch_settings::{RackWiring, is_wide};
 
@@ -95,18 +93,19 @@ fn drive_over<Q: Ports, S: Stage>(
     }
 }
 
-/// What `exchange drive` answers behind what the stage was told: the settings of a plan of the
+/// What `exchange drive` answers behind what the stage was told: the settings of a schedule of the
 /// batch that the text denotes are put on the switches, one after another, over ports that are
-/// opened for them; or the refusal of the text's first fault, or of the ports. Where it refuses, no
-/// port is opened, so nothing is sent, and nothing is told; a port is asked for only where the text
-/// is right.
+/// opened for them; or the refusal of what is first wrong, as
+/// [`Scheduled::read`](plan_answers::Scheduled::read) looks at it, or of the ports. Where it
+/// refuses, no port is opened, so nothing is sent, and nothing is told; a port is asked for only
+/// where the texts are right.
 ///
 /// The last line is `driven settings S` under the status [`DONE`](plan_answers::DONE), where all
 /// settings stood; or, under [`REFUSED`](plan_answers::REFUSED), `stopped setting K port` where the
 /// port failed, `stopped setting K switch O` where that output is the first that doesn't reply what
 /// setting K calls for, or `left setting K` where the stage wants no other setting. The rack has
 /// two switches where the batch names a module above 15. The batch is read against the widest
-/// shape. Planning is given so many workers. Want of memory comes before a port is opened.
+/// shape. So many workers make a plain plan. Want of memory comes before a port is opened.
 ///
 /// Where there is a text of a board's wiring, the settings are put on the board's one switch, and O
 /// is its output's own number. That text is looked at first, and `refused wiring line N` tells its
@@ -116,95 +115,27 @@ pub fn answer_drive<R: Threads + Sync, Q: Ports, S: Stage>(
     alloc: Global,
     wiring: Option<&[u8]>,
     batch: &[u8],
+    source: Source<&[u8]>,
     workers: WorkerCount,
     ports: &mut Q,
     stage: &mut S,
 ) -> Result<Answer, DriveFault>
     ensures answer { IfOk result (IsDriveAnswer Q.refuses Q.leads S.hears
-        (λ shape. IsPlannedBy shape batch.now) (λ shape. IsWrongBatch shape batch.now)
-        (bytes_of wiring.entry) ports.old ports.new (Q.carried ports.new)
-        (Q.opened ports.old) (Q.opened ports.new) stage.old stage.new) }
+        (said_by source.entry) batch.now (bytes_of wiring.entry) ports.old ports.new
+        (Q.carried ports.new) (Q.opened ports.old) (Q.opened ports.new) stage.old stage.new) }
     ensures fault { IfErr result
-        (HasFailed S.hears (λ shape. IsPlannedBy shape batch.now) (bytes_of wiring.entry)
-        (Q.carried ports.new) (Q.opened ports.old) (Q.opened ports.new)
-        stage.old stage.new) }
+        (HasFailed S.hears (said_by source.entry) batch.now (bytes_of wiring.entry)
+        (Q.carried ports.new) (Q.opened ports.old) (Q.opened ports.new) stage.old stage.new) }
 {
     let board = match read_board(wiring) {
         Ok(board) => board,
         Err(fault) => return Ok(Answer::refused(alloc, fault.into())?),
     };
-    match Batch::read(alloc, batch, shape_of(&board)) {
-        Ok(batch) => {
-            let plan = schedule(rt, alloc, batch, workers, &OpenGate)?;
-            let batch = plan.batch();
+    match Scheduled::read(rt, alloc, shape_of(&board), batch, source, workers) {
+        Ok(scheduled) => {
+            let batch = scheduled.batch();
             let rack = rack_of(&board, batch);
-            drive_over(alloc, rack, batch, plan.schedule(), ports, stage)
-        }
-        Err(fault) => Ok(Answer::refused(alloc, fault.into())?),
-    }
-}
-
-/// What `exchange drive --steady` answers, as [`answer_drive`], of a steady plan of the batch.
-pub fn answer_drive_steady<Q: Ports, S: Stage>(
-    alloc: Global,
-    wiring: Option<&[u8]>,
-    batch: &[u8],
-    ports: &mut Q,
-    stage: &mut S,
-) -> Result<Answer, DriveFault>
-    ensures answer { IfOk result (IsDriveAnswer Q.refuses Q.leads S.hears
-        (λ shape. IsSteadyBy shape batch.now) (λ shape. IsWrongBatch shape batch.now)
-        (bytes_of wiring.entry) ports.old ports.new (Q.carried ports.new)
-        (Q.opened ports.old) (Q.opened ports.new) stage.old stage.new) }
-    ensures fault { IfErr result
-        (HasFailed S.hears (λ shape. IsSteadyBy shape batch.now) (bytes_of wiring.entry)
-        (Q.carried ports.new) (Q.opened ports.old) (Q.opened ports.new)
-        stage.old stage.new) }
-{
-    let board = match read_board(wiring) {
-        Ok(board) => board,
-        Err(fault) => return Ok(Answer::refused(alloc, fault.into())?),
-    };
-    match Batch::read(alloc, batch, shape_of(&board)) {
-        Ok(batch) => {
-            let plan = steady(alloc, &batch)?;
-            let rack = rack_of(&board, &batch);
-            drive_over(alloc, rack, &batch, plan.schedule(), ports, stage)
-        }
-        Err(fault) => Ok(Answer::refused(alloc, fault.into())?),
-    }
-}
-
-/// What `exchange drive --schedule` answers, as [`answer_drive`], of the schedule that the schedule
-/// text says, which may be any schedule of the batch; or the refusal of what is first wrong, as
-/// [`ScheduleTexts::read`](plan_answers::ScheduleTexts::read) looks at it.
-pub fn answer_drive_schedule<Q: Ports, S: Stage>(
-    alloc: Global,
-    wiring: Option<&[u8]>,
-    batch: &[u8],
-    schedule: &[u8],
-    ports: &mut Q,
-    stage: &mut S,
-) -> Result<Answer, DriveFault>
-    ensures answer { IfOk result (IsDriveAnswer Q.refuses Q.leads S.hears
-        (λ shape. IsScheduleRead shape batch.now schedule.now)
-        (λ shape. IsInvalid shape batch.now schedule.now)
-        (bytes_of wiring.entry) ports.old ports.new (Q.carried ports.new)
-        (Q.opened ports.old) (Q.opened ports.new) stage.old stage.new) }
-    ensures fault { IfErr result
-        (HasFailed S.hears (λ shape. IsScheduleRead shape batch.now schedule.now)
-        (bytes_of wiring.entry) (Q.carried ports.new)
-        (Q.opened ports.old) (Q.opened ports.new) stage.old stage.new) }
-{
-    let board = match read_board(wiring) {
-        Ok(board) => board,
-        Err(fault) => return Ok(Answer::refused(alloc, fault.into())?),
-    };
-    match ScheduleTexts::read_within(alloc, shape_of(&board), batch, schedule) {
-        Ok(texts) => {
-            let batch = texts.batch();
-            let rack = rack_of(&board, batch);
-            drive_over(alloc, rack, batch, texts.schedule(), ports, stage)
+            drive_over(alloc, rack, batch, scheduled.schedule(), ports, stage)
         }
         Err(refusal) => Ok(Answer::refused(alloc, refusal)?),
     }

@@ -14,7 +14,7 @@ mod fault;
 mod opened;
 mod ports;
 
-pub use driving::{answer_drive, answer_drive_schedule, answer_drive_steady};
+pub use driving::answer_drive;
 pub use fault::DriveFault;
 pub use opened::OpenedCount;
 pub use ports::Ports;

@@ -4,10 +4,10 @@ use Rattle.std.specs.Prelude.{◌≢◌, All, option_to_list}
 use Rattle.std.proofs.Math.Seq.{get_or-append_seam}
 use Rattle.std.proofs.lemmas.List.{get_or_append_left, get_or_default, map-append}
 use Rattle.command_words.specs.Jobs.{NameInputOnce, cue_files, input_name, switched_files}
-use Rattle.command_words.specs.declared.jobs.ScheduleSource.{ScheduleSource}
-use Rattle.command_words.specs.declared.jobs.ScheduleSource.TheVariants as source
+use Rattle.plan_answers.specs.declared.source.Source.{Source}
+use Rattle.plan_answers.specs.declared.source.Source.TheVariants.{Plan, Text}
 use Rattle.command_words.proofs.Inputs.{behind_first, none_where_waits, once_where_goes_on}
-use Rattle.exchange.specs.Files.{IsFileContent, IsHeldSchedule, IsImageContent, AreFileContents}
+use Rattle.exchange.specs.Files.{IsFileContent, IsSourceContent, IsImageContent, AreFileContents}
 
 -- where files that were read before aren't standard input, this has the bytes that it had then
 pub content_later : (old now : Option (List ℕ)) (name bytes : List ℕ) → (name ≡ input_name → now ≡ old) → IsFileContent now name bytes → IsFileContent old name bytes
@@ -60,23 +60,23 @@ one_more_file input names files i name file below is count before here =
 -- ---- a batch, a schedule and a wiring
 
 -- a schedule's file has the bytes that it had before the batch was read
-pub schedule_later : (old mid : Option (List ℕ)) (batch : List ℕ) (from : ScheduleSource) (wiring : Option (List ℕ)) (schedule : List ℕ) → NameInputOnce (switched_files batch from wiring)
-    → (batch ≢ input_name → mid ≡ old) → IsHeldSchedule mid from schedule → IsHeldSchedule old from schedule
-schedule_later old mid batch (source.File file) wiring schedule once unread content =
+pub source_later : (old mid : Option (List ℕ)) (batch : List ℕ) (from held : Source (List ℕ)) (wiring : Option (List ℕ)) → NameInputOnce (switched_files batch from wiring)
+    → (batch ≢ input_name → mid ≡ old) → IsSourceContent mid from held → IsSourceContent old from held
+source_later old mid batch (Plan planning) (Plan held) wiring once unread content = content
+source_later old mid batch (Plan planning) (Text schedule) wiring once unread content = content
+source_later old mid batch (Text file) (Plan held) wiring once unread content = content
+source_later old mid batch (Text file) (Text schedule) wiring once unread content =
     content_later old mid file schedule (λ is. unread (λ e. once 0 1 batch (omega arith) (omega arith) e is)) content
-schedule_later old mid batch (source.Plan workers) wiring schedule once unread content = tt
-schedule_later old mid batch source.Steady wiring schedule once unread content = tt
 
 -- neither of the other two is standard input where the wiring is
-others_by_wiring : (batch : List ℕ) (from : ScheduleSource) (wiring : List ℕ) → NameInputOnce (switched_files batch from (Some wiring)) → wiring ≡ input_name → (batch ≢ input_name) × (from ≢ source.File input_name)
-others_by_wiring batch (source.File file) wiring once is =
+others_by_wiring : (batch : List ℕ) (from : Source (List ℕ)) (wiring : List ℕ) → NameInputOnce (switched_files batch from (Some wiring)) → wiring ≡ input_name → (batch ≢ input_name) × (from ≢ Text input_name)
+others_by_wiring batch (Text file) wiring once is =
     (λ e. once 0 2 batch (omega arith) (omega arith) e is, λ e. (let same : file ≡ input_name = cc in once 1 2 file (omega arith) (omega arith) same is))
-others_by_wiring batch (source.Plan workers) wiring once is = (λ e. once 0 1 batch (omega arith) (omega arith) e is, λ e. cc)
-others_by_wiring batch source.Steady wiring once is = (λ e. once 0 1 batch (omega arith) (omega arith) e is, λ e. cc)
+others_by_wiring batch (Plan planning) wiring once is = (λ e. once 0 1 batch (omega arith) (omega arith) e is, λ e. cc)
 
 -- a wiring's file has the bytes that it had before the other two were read
-pub wiring_later : (old mid late : Option (List ℕ)) (batch : List ℕ) (from : ScheduleSource) (wiring bytes : Option (List ℕ)) → NameInputOnce (switched_files batch from wiring)
-    → (batch ≢ input_name → mid ≡ old) → (from ≢ source.File input_name → late ≡ mid) → IsImageContent late wiring bytes → IsImageContent old wiring bytes
+pub wiring_later : (old mid late : Option (List ℕ)) (batch : List ℕ) (from : Source (List ℕ)) (wiring bytes : Option (List ℕ)) → NameInputOnce (switched_files batch from wiring)
+    → (batch ≢ input_name → mid ≡ old) → (from ≢ Text input_name → late ≡ mid) → IsImageContent late wiring bytes → IsImageContent old wiring bytes
 wiring_later old mid late batch from None None once first second content = tt
 wiring_later old mid late batch from None (Some bytes) once first second content = content
 wiring_later old mid late batch from (Some wiring) None once first second content = content
@@ -84,21 +84,19 @@ wiring_later old mid late batch from (Some wiring) (Some bytes) once first secon
     content_later old late wiring bytes (λ is. (let others = others_by_wiring batch from wiring once is in second others.1 ∙ first others.0)) content
 
 -- where none of the three is standard input, none of it was read
-pub three_unread : (old mid late new : Option (List ℕ)) (batch : List ℕ) (from : ScheduleSource) (wiring : Option (List ℕ)) → (batch ≢ input_name → mid ≡ old) → (from ≢ source.File input_name → late ≡ mid) → (wiring ≢ Some input_name → new ≡ late)
+pub three_unread : (old mid late new : Option (List ℕ)) (batch : List ℕ) (from : Source (List ℕ)) (wiring : Option (List ℕ)) → (batch ≢ input_name → mid ≡ old) → (from ≢ Text input_name → late ≡ mid) → (wiring ≢ Some input_name → new ≡ late)
     → All (λ name. name ≢ input_name) (switched_files batch from wiring) → new ≡ old
 three_unread old mid late new batch from wiring first second third none =
     third (λ e. last from wiring none e) ∙ (second (λ e. middle from none e) ∙ first (λ e. none 0 batch (omega arith) e))
   where
-    middle : (from : ScheduleSource) → All (λ name. name ≢ input_name) (switched_files batch from wiring) → from ≢ source.File input_name
-    middle (source.File file) none = λ e. (let same : file ≡ input_name = cc in none 1 file (omega arith) same)
-    middle (source.Plan workers) none = λ e. cc
-    middle source.Steady none = λ e. cc
+    middle : (from : Source (List ℕ)) → All (λ name. name ≢ input_name) (switched_files batch from wiring) → from ≢ Text input_name
+    middle (Text file) none = λ e. (let same : file ≡ input_name = cc in none 1 file (omega arith) same)
+    middle (Plan planning) none = λ e. cc
 
-    last : (from : ScheduleSource) (wiring : Option (List ℕ)) → All (λ name. name ≢ input_name) (switched_files batch from wiring) → wiring ≢ Some input_name
+    last : (from : Source (List ℕ)) (wiring : Option (List ℕ)) → All (λ name. name ≢ input_name) (switched_files batch from wiring) → wiring ≢ Some input_name
     last from None none = λ e. cc
-    last (source.File file) (Some name) none = λ e. (let same : name ≡ input_name = cc in none 2 name (omega arith) same)
-    last (source.Plan workers) (Some name) none = λ e. (let same : name ≡ input_name = cc in none 1 name (omega arith) same)
-    last source.Steady (Some name) none = λ e. (let same : name ≡ input_name = cc in none 1 name (omega arith) same)
+    last (Text file) (Some name) none = λ e. (let same : name ≡ input_name = cc in none 2 name (omega arith) same)
+    last (Plan planning) (Some name) none = λ e. (let same : name ≡ input_name = cc in none 1 name (omega arith) same)
 
 -- no two of the files that are read before lines are waited for are standard input
 pub once_before_cues : (names : List (List ℕ)) (goes_on : Bool) → NameInputOnce (names ++ cue_files goes_on) → NameInputOnce names

@@ -2,7 +2,7 @@
 use Rattle.std.specs.Prelude.{◌≡◌, ◌⊎◌, ℕ, List, [], ◌++◌, Option, Some, None, ⊤, true, length, slice_index_or}
 use Rattle.std.specs.Io.KnownBytes.{Consumes, IsAtEnd}
 use Rattle.batch.specs.Extent.{widest}
-use Rattle.plan_answers.specs.Answers.{IsPlanned, IsSteadilyPlanned, IsChecked}
+use Rattle.plan_answers.specs.Answers.{IsPlanned, IsChecked}
 use Rattle.rack_answers.specs.Answers.{IsRunAnswer, image_alone}
 use Rattle.plan_answers.specs.Drawings.{IsDrawn}
 use Rattle.plan_answers.specs.Directing.{IsDirected}
@@ -19,8 +19,7 @@ use Rattle.replay_answers.specs.Replays.{IsReplayPrinted}
 use Rattle.plan_answers.specs.declared.limits.TheConstants.{DONE, REFUSED}
 use Rattle.command_words.specs.declared.jobs.Job.{Job}
 use Rattle.command_words.specs.declared.jobs.Job.TheVariants.{Plan, Check, Draw, Switch, Drive, C004, Direct, Apply, Run, Serve, Host, Talk, Replay}
-use Rattle.command_words.specs.declared.jobs.Planning.TheVariants as planning
-use Rattle.command_words.specs.declared.jobs.ScheduleSource.TheVariants as source
+use Rattle.plan_answers.specs.declared.source.Planning.{Planning}
 use Rattle.command_words.specs.declared.jobs.SharedRack.{SharedRack}
 use Rattle.refusals.specs.declared.refusal.Refusal.{Refusal}
 use Rattle.refusals.specs.declared.refusal.Refusal.TheVariants as refusal
@@ -33,14 +32,9 @@ use Rattle.exchange.specs.declared.unanswered.Unanswered.{Unanswered}
 use Rattle.exchange.specs.declared.unanswered.Unanswered.TheVariants.{File, NoMemory}
 
 -- an answer of `plan` to what this file contains
-abbrev pub IsSomePlan : Option (List ℕ) → List ℕ → Printed → Type 0
-IsSomePlan input file answer =
-    (batch : List ℕ) × IsFileContent input file batch × IsPlanned widest batch answer
-
--- an answer of `plan --steady` to it
-abbrev pub IsSomeSteadyPlan : Option (List ℕ) → List ℕ → Printed → Type 0
-IsSomeSteadyPlan input file answer =
-    (batch : List ℕ) × IsFileContent input file batch × IsSteadilyPlanned widest batch answer
+abbrev pub IsSomePlan : Option (List ℕ) → Planning → List ℕ → Printed → Type 0
+IsSomePlan input planning file answer =
+    (batch : List ℕ) × IsFileContent input file batch × IsPlanned planning widest batch answer
 
 -- an answer of `check` to what these files contain
 abbrev pub IsSomeCheck : Option (List ℕ) → List ℕ → List ℕ → Printed → Type 0
@@ -126,17 +120,17 @@ behind_told told printed = record { text = told ++ printed.text; status = printe
 
 -- the answer to a job, whatever bytes its files hold, but for those of standard input
 abbrev pub IsAnswerTo : Option (List ℕ) → Job → Printed → Type 0
-IsAnswerTo input (Plan file (planning.Workers workers)) answer = IsSomePlan input file answer
-IsAnswerTo input (Plan file planning.Steady) answer = IsSomeSteadyPlan input file answer
+IsAnswerTo input (Plan file planning workers) answer = IsSomePlan input planning file answer
 IsAnswerTo input (Check batch schedule) answer = IsSomeCheck input batch schedule answer
 IsAnswerTo input (Draw batch schedule settings) answer =
     IsSomeDraw input batch schedule settings answer
-IsAnswerTo input (Switch batch source wiring) answer = IsSomeSwitch input batch source wiring answer
+IsAnswerTo input (Switch batch source wiring workers) answer =
+    IsSomeSwitch input batch source wiring answer
 IsAnswerTo input (Direct moves) answer = IsSomeDirect input moves answer
 IsAnswerTo input (Apply shape batch image workers) answer =
     IsSomeApply input shape batch image answer
 IsAnswerTo input (Run shape batch image workers) answer = IsSomeRun input shape batch image answer
-IsAnswerTo input (Drive batch port port_b source wiring goes_on) answer =
+IsAnswerTo input (Drive batch port port_b source wiring goes_on workers) answer =
     (told : List ℕ) × (end : Printed) × (answer ≡ behind_told told end)
     × IsSomeDrive input batch source wiring goes_on
     (record { named = ports_named port_b; carried = None; opened = 0 }) told end
@@ -161,7 +155,7 @@ IsTalk job = ⊥
 -- what is told before there is an answer: to the session of `talk`, of settings that stand, and
 -- what `c004` replies
 abbrev pub IsToldBy : Job → List ℕ → Type 0
-IsToldBy (Drive batch port port_b source wiring goes_on) told = ⊤
+IsToldBy (Drive batch port port_b source wiring goes_on workers) told = ⊤
 IsToldBy (Talk rack) told = ⊤
 IsToldBy C004 told = ⊤
 IsToldBy job told = told ≡ []

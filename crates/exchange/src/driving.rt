@@ -3,75 +3,48 @@
 ghost use Rattle.std.specs.Prelude.{◌≡◌, [], List, ℕ, IfOk, IfErr, IfSome, option_map, string_bytes};
 ghost use Rattle.std.specs.Io.KnownBytes.{Appends};
 ghost use Rattle.command_words.specs.Jobs.{NameInputOnce, driven_files};
-ghost use Rattle.drive_answers.specs.Answers.{IsDriveAnswer, HasFailed};
 ghost use Rattle.drive_answers.specs.declared.fault.DriveFault.TheVariants.{NoMemory};
-ghost use Rattle.exchange.specs.Drives.{IsDriveBy, IsFrom, IsSomeDrive, IsWrongFrom, ways_lead, ways_refuse};
+ghost use Rattle.exchange.specs.Drives.{IsDriveBy, IsSomeDrive};
 ghost use Rattle.exchange.specs.Notes.{IsNoteOn, IsWholeLine};
 ghost use Rattle.exchange.specs.Outcomes.{HasNote, IsUntold};
 ghost use Rattle.exchange.specs.Switches.{contents_in};
 
-use crate::files::slice_of;
+use crate::files::{lent, slice_of};
 use crate::lost::Lost;
 use crate::notes::{Answered, NoAnswer, with_note};
 use crate::ports::NamedPorts;
 use crate::switch_texts::SwitchTexts;
-use command_words::{ScheduleSource, Text};
-use drive_answers::{DriveFault, answer_drive, answer_drive_schedule, answer_drive_steady};
-use plan_answers::Answer;
+use command_words::Text;
+use drive_answers::{DriveFault, answer_drive};
+use exchange_limits::WorkerCount;
+use plan_answers::{Answer, Source};
 use refusals::Refusal;
 use std::io::{Read, Write};
 use std::rt::Files;
 use std::thread::Threads;
-use switch_driver::{Lines, Stage};
+use switch_driver::Lines;
 
-/// What is answered to these texts behind what the stage is told, for a schedule from this source.
-fn answer_from<R: AllocGlobal + Files + Threads + Sync, S: Stage>(
-    rt: &R,
-    texts: &SwitchTexts,
-    source: &ScheduleSource,
-    ports: &mut NamedPorts<'_, R, R::File>,
-    stage: &mut S,
-) -> Result<Answer, DriveFault>
-    ensures answer { let contents = contents_in texts.now in
-        IfOk result (IsDriveAnswer ways_refuse ways_lead S.hears
-        (IsFrom source.now contents) (IsWrongFrom source.now contents) contents.wiring
-        ports.old ports.new ports.new.carried ports.old.opened ports.new.opened
-        stage.old stage.new) }
-    ensures fault { let contents = contents_in texts.now in
-        IfErr result (HasFailed S.hears (IsFrom source.now contents) contents.wiring
-        ports.new.carried ports.old.opened ports.new.opened stage.old stage.new) }
-{
-    let (alloc, batch, wiring) = (rt.alloc(), texts.batch.as_slice(), slice_of(&texts.wiring));
-    match source {
-        ScheduleSource::Plan(workers) => {
-            answer_drive(rt, alloc, wiring, batch, *workers, ports, stage)
-        }
-        ScheduleSource::Steady => answer_drive_steady(alloc, wiring, batch, ports, stage),
-        ScheduleSource::File(_) => {
-            let schedule = texts.schedule.as_slice();
-            answer_drive_schedule(alloc, wiring, batch, schedule, ports, stage)
-        }
-    }
-}
-
-/// The same behind lines that are told on `out`. Behind each a line of `input` is waited for,
-/// unless it goes on.
+/// What is answered to these texts behind lines that are told on `out`. Behind each a line of
+/// `input` is waited for, unless it goes on.
 fn answer_lines<R: AllocGlobal + Files + Threads + Sync, I: Read, O: Write>(
     rt: &R,
+    workers: WorkerCount,
     texts: &SwitchTexts,
-    source: &ScheduleSource,
     ports: &mut NamedPorts<'_, R, R::File>,
     goes_on: bool,
     input: &mut I,
     out: &mut O,
 ) -> Result<Answer, DriveFault>
     ensures { (told : List ℕ) × Appends (O.contents out.old) (O.contents out.new) told
-        × IfOk result (IsDriveBy source.now (contents_in texts.now) goes_on
+        × IfOk result (IsDriveBy (contents_in texts.now) goes_on
         (I.remaining input.old) ports.old told)
         × IfErr result (λ fault. fault ≡ NoMemory → told ≡ []) }
 {
+    let (content, board) = (texts.batch.as_slice(), slice_of(&texts.wiring));
+    let source = lent(&texts.source);
+    let alloc = rt.alloc();
     let mut lines = Lines::new(input, out, !goes_on);
-    let end = answer_from(rt, texts, source, ports, &mut lines);
+    let end = answer_drive(rt, alloc, board, content, source, workers, ports, &mut lines);
     // It does nothing when the program runs: the proof reads from it what `out` holds.
     lines.into_out();
     end
@@ -101,9 +74,10 @@ fn with_reason(answer: Answer, reason: Option<String>) -> Answered
 pub(crate) fn drive<R: AllocGlobal + Files + Threads + Sync, I: Read, O: Write>(
     rt: &R,
     batch: &Text,
-    source: &ScheduleSource,
+    source: &Source<Text>,
     wiring: &Option<Text>,
     goes_on: bool,
+    workers: WorkerCount,
     mut ports: NamedPorts<'_, R, R::File>,
     input: &mut I,
     out: &mut O,
@@ -117,7 +91,7 @@ pub(crate) fn drive<R: AllocGlobal + Files + Threads + Sync, I: Read, O: Write>(
     ensures note { HasNote result }
 {
     let texts = SwitchTexts::read(rt, batch, source, wiring, input)?;
-    let answer = answer_lines(rt, &texts, source, &mut ports, goes_on, input, out)?;
+    let answer = answer_lines(rt, workers, &texts, &mut ports, goes_on, input, out)?;
     if let Some(Refusal::Port(_)) = answer.refusal() {
         return Ok(with_reason(answer, ports.reason(rt.alloc())));
     }

@@ -3,12 +3,14 @@
 ghost use Rattle.std.specs.Prelude.{◌≡◌, ◌≢◌, ◌∷◌, [], IfOk, IfErr, Some, map, option_map};
 ghost use Rattle.plan_answers.specs.Lent.{bytes_of};
 ghost use Rattle.command_words.specs.Jobs.{NameInputOnce, input_name};
-ghost use Rattle.command_words.specs.declared.jobs.ScheduleSource.TheVariants.{File};
-ghost use Rattle.exchange.specs.Files.{IsFileContent, IsHeldSchedule, IsImageContent, AreFileContents};
+ghost use Rattle.plan_answers.specs.Schedules.{said_by, source_map};
+ghost use Rattle.plan_answers.specs.declared.source.Source.TheVariants as source_of;
+ghost use Rattle.exchange.specs.Files.{IsFileContent, IsSourceContent, IsImageContent, AreFileContents};
 ghost use Rattle.exchange.specs.Outcomes.{IsNoAnswer};
 
 use crate::notes::{NoAnswer, unread};
-use command_words::{ScheduleSource, Text};
+use command_words::Text;
+use plan_answers::Source;
 use std::alloc::AllocError;
 use std::io::Read;
 use std::rt::Files;
@@ -31,20 +33,30 @@ pub(crate) fn read_image<R: AllocGlobal + Files, I: Read>(
     }
 }
 
-/// What a schedule's file contains: nothing, where none has it.
-pub(crate) fn read_schedule<R: AllocGlobal + Files, I: Read>(
+/// Where a schedule comes from, with what its file contains, where one has it.
+pub(crate) fn read_source<R: AllocGlobal + Files, I: Read>(
     rt: &R,
-    source: &ScheduleSource,
+    source: &Source<Text>,
     input: &mut I,
-) -> Result<Vec<u8>, NoAnswer>
-    ensures content { IfOk result (λ file.
-        IsHeldSchedule (I.remaining input.old) source.now file.items) }
+) -> Result<Source<Vec<u8>>, NoAnswer>
+    ensures content { IfOk result (λ held. IsSourceContent (I.remaining input.old) source.now
+        (source_map (λ file. file.items) held)) }
     ensures note { IfErr result (λ missed. IsNoAnswer missed) }
-    ensures unread { source.now ≢ File input_name → I.remaining input.new ≡ I.remaining input.old }
+    ensures unread { source.now ≢ source_of.Text input_name → I.remaining input.new ≡ I.remaining input.old }
 {
     match source {
-        ScheduleSource::File(file) => read_file(rt, file, input),
-        _ => Ok(Vec::new(rt.alloc())),
+        Source::Plan(planning) => Ok(Source::Plan(*planning)),
+        Source::Text(file) => Ok(Source::Text(read_file(rt, file, input)?)),
+    }
+}
+
+/// The same with the bytes of its text.
+pub(crate) fn lent(source: &Source<Vec<u8>>) -> Source<&[u8]>
+    ensures { said_by result ≡ source_map (λ file. file.items) source.now }
+{
+    match source {
+        Source::Plan(planning) => Source::Plan(*planning),
+        Source::Text(schedule) => Source::Text(schedule.as_slice()),
     }
 }
 

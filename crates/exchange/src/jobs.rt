@@ -6,8 +6,7 @@ ghost use Rattle.batch_book.specs.History.{Account};
 ghost use Rattle.client_session.specs.Listening.{TellsOfRefusals};
 ghost use Rattle.plan_answers.specs.Lent.{bytes_of};
 ghost use Rattle.command_words.specs.Jobs.{CanBeServed, IsWithinLimits, NameInputOnce, files_of, input_name};
-ghost use Rattle.command_words.specs.declared.jobs.Job.TheVariants.{Plan};
-ghost use Rattle.exchange.specs.Responses.{IsSomeCheck, IsSomeDraw, IsSomeDirect, IsSomeApply, IsSomeRun, IsSomeC004, IsSomeServe, IsSomeHost, IsSomeTalk};
+ghost use Rattle.exchange.specs.Responses.{IsSomePlan, IsSomeCheck, IsSomeDraw, IsSomeDirect, IsSomeApply, IsSomeRun, IsSomeC004, IsSomeServe, IsSomeHost, IsSomeTalk};
 ghost use Rattle.exchange.specs.Responses.{IsAnswerTo, IsToldBy, behind_told};
 ghost use Rattle.exchange.specs.Notes.{IsBeside};
 ghost use Rattle.exchange.specs.Outputs.{AreOutputsWritten};
@@ -27,10 +26,10 @@ use crate::replaying::replay;
 use crate::switching::switch;
 use crate::unwritten::Unwritten;
 use client_session::{Listener, NoListener};
-use command_words::{Job, Planning, Request, ScheduleSource, SharedRack, Text, TextList};
+use command_words::{Job, Request, SharedRack, Text, TextList};
 use exchange_limits::WorkerCount;
 use plan_answers::{
-    Answer, answer_check, answer_direct, answer_draw, answer_plan, answer_plan_steady,
+    Answer, Planning, answer_check, answer_direct, answer_draw, answer_plan,
 };
 use rack_answers::{answer_apply, answer_run};
 use refusal_notes::Listing;
@@ -68,7 +67,11 @@ pub(crate) fn answer_to<R: System, I: Read, O: Write, E: Write>(
 {
     let Request { job, is_quiet } = request;
     match job {
-        Job::Plan { file, planning } => plan(rt, &file, planning, input),
+        Job::Plan {
+            file,
+            planning,
+            workers,
+        } => plan(rt, &file, planning, workers, input),
         Job::Check { batch, schedule } => check(rt, &batch, &schedule, input),
         Job::Draw {
             batch,
@@ -79,7 +82,8 @@ pub(crate) fn answer_to<R: System, I: Read, O: Write, E: Write>(
             batch,
             source,
             wiring,
-        } => switch(rt, &batch, &source, &wiring, input),
+            workers,
+        } => switch(rt, &batch, &source, &wiring, workers, input),
         Job::Direct { moves } => direct(rt, &moves, input),
         Job::Apply {
             shape,
@@ -100,9 +104,12 @@ pub(crate) fn answer_to<R: System, I: Read, O: Write, E: Write>(
             source,
             wiring,
             goes_on,
+            workers,
         } => {
             let ports = NamedPorts::new(rt, &port, &port_b);
-            drive(rt, &batch, &source, &wiring, goes_on, ports, input, out)
+            drive(
+                rt, &batch, &source, &wiring, goes_on, workers, ports, input, out,
+            )
         }
         Job::C004 if is_quiet => c004(rt.alloc(), input, out, &mut io::sink()),
         Job::C004 => c004(rt.alloc(), input, out, err),
@@ -142,23 +149,21 @@ pub(crate) fn answer_to<R: System, I: Read, O: Write, E: Write>(
     }
 }
 
-/// The answer of `exchange plan FILE`, by some workers or steady.
+/// The answer of `exchange plan FILE`.
 fn plan<R: AllocGlobal + Files + Threads + Sync, I: Read>(
     rt: &R,
     file: &Text,
     planning: Planning,
+    workers: WorkerCount,
     input: &mut I,
 ) -> Result<Answered, NoAnswer>
     ensures answer { IfOk result (λ done.
-        IsAnswerTo (I.remaining input.old) (Plan file.now planning) done.answer) }
+        IsSomePlan (I.remaining input.old) planning file.now done.answer) }
     ensures note { HasNote result }
 {
     let content = read_file(rt, file, input)?;
     let text = content.as_slice();
-    let answer = match planning {
-        Planning::Workers(workers) => answer_plan(rt, rt.alloc(), text, workers),
-        Planning::Steady => answer_plan_steady(rt.alloc(), text),
-    }?;
+    let answer = answer_plan(rt, rt.alloc(), text, planning, workers)?;
     let texts = of_list(named(file, text), Listing::Transfers);
     Ok(with_note(rt.alloc(), answer, texts))
 }

@@ -5,9 +5,10 @@ ghost use Rattle.command_words.specs.Jobs.{NameInputOnce, input_name, switched_f
 ghost use Rattle.exchange.specs.Outcomes.{IsNoAnswer};
 ghost use Rattle.exchange.specs.Switches.{AreSwitchContents, contents_in};
 
-use crate::files::{read_file, read_image, read_schedule, slice_of};
+use crate::files::{read_file, read_image, read_source, slice_of};
 use crate::notes::{NoAnswer, named, named_image, of_list, of_schedule};
-use command_words::{ScheduleSource, Text};
+use command_words::Text;
+use plan_answers::Source;
 use refusal_notes::{Listing, Texts};
 use refusals::Validity;
 use std::io::Read;
@@ -17,8 +18,7 @@ use std::rt::Files;
 #[derive(Drop)]
 pub(crate) struct SwitchTexts {
     pub(crate) batch: Vec<u8>,
-    /// Nothing, where no file has the schedule.
-    pub(crate) schedule: Vec<u8>,
+    pub(crate) source: Source<Vec<u8>>,
     pub(crate) wiring: Option<Vec<u8>>,
 }
 
@@ -27,7 +27,7 @@ impl SwitchTexts {
     pub(crate) fn read<R: AllocGlobal + Files, I: Read>(
         rt: &R,
         batch: &Text,
-        source: &ScheduleSource,
+        source: &Source<Text>,
         wiring: &Option<Text>,
         input: &mut I,
     ) -> Result<SwitchTexts, NoAnswer>
@@ -40,11 +40,11 @@ impl SwitchTexts {
             → I.remaining input.new ≡ I.remaining input.old }
     {
         let first = read_file(rt, batch, input)?;
-        let second = read_schedule(rt, source, input)?;
+        let second = read_source(rt, source, input)?;
         let third = read_image(rt, wiring, input)?;
         Ok(SwitchTexts {
             batch: first,
-            schedule: second,
+            source: second,
             wiring: third,
         })
     }
@@ -53,13 +53,13 @@ impl SwitchTexts {
     pub(crate) fn named<'a>(
         &'a self,
         batch: &'a Text,
-        source: &'a ScheduleSource,
+        source: &'a Source<Text>,
         wiring: &'a Option<Text>,
     ) -> Texts<'a> {
         let list = named(batch, self.batch.as_slice());
-        let texts = match source {
-            ScheduleSource::File(file) => {
-                let schedule = named(file, self.schedule.as_slice());
+        let texts = match (source, &self.source) {
+            (Source::Text(file), Source::Text(text)) => {
+                let schedule = named(file, text.as_slice());
                 of_schedule(list, schedule, "", Validity::Unknown)
             }
             _ => of_list(list, Listing::Transfers),

@@ -1,13 +1,18 @@
 -- What the call of `switch` answers.
-use Rattle.std.specs.Prelude.{◌≡◌, ◌≢◌, ℕ, List, None, length}
+use Rattle.std.specs.Prelude.{ℕ, List, [], ◌∷◌, None}
 use Rattle.plan_answers.specs.Refusals.{Printed}
-use Rattle.rack_answers.specs.Switching.{IsSwitched, IsSwitchedAs}
+use Rattle.plan_answers.specs.declared.source.Planning.TheVariants.{Plain}
+use Rattle.plan_answers.specs.declared.source.Source.{Source}
+use Rattle.plan_answers.specs.declared.source.Source.TheVariants.{Plan, Text}
+use Rattle.rack_answers.specs.Switching.{IsSwitched}
 use Rattle.exchange_c.specs.Writing.{IsTheOne}
 
--- what `switch` answers: for a plan of the batch where the schedule's text is empty, and else for
--- the schedule that it says
-pub data IsSwitchedBy (batch schedule : List ℕ) (printed : Printed) : Type 0 where
-  of_plan : length schedule ≡ 0 → IsSwitched None batch printed
-      → IsSwitchedBy batch schedule printed
-  of_schedule : length schedule ≢ 0 → IsTheOne (IsSwitchedAs None batch schedule) printed
-      → IsSwitchedBy batch schedule printed
+-- where the schedule comes from: a plan where its text is empty, and else that text
+abbrev pub source_for : List ℕ → Source (List ℕ)
+source_for [] = Plan Plain
+source_for (byte ∷ bytes) = Text (byte ∷ bytes)
+
+-- what `switch` answers for a schedule from there; of a text no other answer is right
+abbrev pub IsSwitchedBy : List ℕ → List ℕ → Printed → Type 0
+IsSwitchedBy batch [] = IsSwitched (Plan Plain) None batch
+IsSwitchedBy batch (byte ∷ bytes) = IsTheOne (IsSwitched (Text (byte ∷ bytes)) None batch)

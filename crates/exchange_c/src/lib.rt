@@ -11,23 +11,25 @@
 //! empty, and else by that schedule (`IsSwitchedBy` of `specs/Switching.antt`).
 #![tactic(auto)]
 
-ghost use Rattle.std.specs.Prelude.{IfOk, OnErr, None, Some};
+ghost use Rattle.std.specs.Prelude.{◌≡◌, IfOk, OnErr, None, Some};
 ghost use Rattle.batch.specs.Extent.{widest};
-ghost use Rattle.plan_answers.specs.Answers.{IsPlanned, IsSteadilyPlanned, IsChecked};
+ghost use Rattle.plan_answers.specs.Answers.{IsPlanned, IsChecked};
 ghost use Rattle.plan_answers.specs.Counting.{IsCounted};
 ghost use Rattle.plan_answers.specs.Directing.{IsDirected};
 ghost use Rattle.plan_answers.specs.Drawings.{IsDrawn};
+ghost use Rattle.plan_answers.specs.Schedules.{said_by};
+ghost use Rattle.plan_answers.specs.declared.source.Planning.TheVariants.{Plain, Steady};
 ghost use Rattle.rack_answers.specs.Answers.{IsRunAnswer, image_alone};
-ghost use Rattle.exchange_c.specs.Switching.{IsSwitchedBy};
+ghost use Rattle.exchange_c.specs.Switching.{source_for, IsSwitchedBy};
 ghost use Rattle.exchange_c.specs.Writing.{Puts, IsOutOfMemory, Leaves, IsTheOne};
 
 mod status;
 
 use plan_answers::{
-    Answer, answer_changes, answer_check, answer_direct, answer_draw, answer_plan_alone,
-    answer_plan_steady,
+    Answer, Planning, Source, answer_changes, answer_check, answer_direct, answer_draw,
+    answer_plan_alone,
 };
-use rack_answers::{answer_apply_alone, answer_switch_alone, answer_switch_schedule};
+use rack_answers::{answer_apply_alone, answer_switch_alone};
 pub use status::{NO_MEMORY, NO_ROOM};
 use std::alloc::{AllocError, Global};
 
@@ -67,9 +69,10 @@ pub extern "C" fn exchange_plan(
     out: &mut [u8],
     count: &mut usize,
 ) -> u8
-    ensures { Leaves (IsPlanned widest batch.now) out.old out.new count.new result }
+    ensures { Leaves (IsPlanned Plain widest batch.now) out.old out.new count.new result }
 {
-    leave(answer_plan_alone(alloc, batch), out, count)
+    let answer = answer_plan_alone(alloc, batch, Planning::Plain);
+    leave(answer, out, count)
 }
 
 /// What `exchange plan --steady` answers to the text of a batch.
@@ -80,9 +83,10 @@ pub extern "C" fn exchange_plan_steady(
     out: &mut [u8],
     count: &mut usize,
 ) -> u8
-    ensures { Leaves (IsSteadilyPlanned widest batch.now) out.old out.new count.new result }
+    ensures { Leaves (IsPlanned Steady widest batch.now) out.old out.new count.new result }
 {
-    leave(answer_plan_steady(alloc, batch), out, count)
+    let answer = answer_plan_alone(alloc, batch, Planning::Steady);
+    leave(answer, out, count)
 }
 
 /// What `exchange check` answers to the texts of a batch and of a schedule.
@@ -100,14 +104,15 @@ pub extern "C" fn exchange_check(
     leave(answer_check(alloc, batch, schedule), out, count)
 }
 
-/// The bytes for the schedule of a text, or for a plan where that text is empty.
-fn answer_switch(alloc: Global, batch: &[u8], schedule: &[u8]) -> Result<Answer, AllocError>
-    ensures { IfOk result (IsSwitchedBy batch.now schedule.now) }
+/// Where the schedule comes from: its text, or a plan where that is empty.
+fn source_of(schedule: &[u8]) -> Source<&[u8]>
+    ensures { said_by result ≡ source_for schedule.now }
 {
     if schedule.is_empty() {
-        return answer_switch_alone(alloc, batch);
+        Source::Plan(Planning::Plain)
+    } else {
+        Source::Text(schedule)
     }
-    answer_switch_schedule(alloc, None, batch, schedule)
 }
 
 /// What `exchange switch` answers to the text of a batch, and `exchange switch --schedule` to that
@@ -122,7 +127,8 @@ pub extern "C" fn exchange_switch(
 ) -> u8
     ensures { Leaves (IsSwitchedBy batch.now schedule.now) out.old out.new count.new result }
 {
-    leave(answer_switch(alloc, batch, schedule), out, count)
+    let answer = answer_switch_alone(alloc, batch, source_of(schedule));
+    leave(answer, out, count)
 }
 
 /// What `exchange apply` answers to the texts of a shape and of a batch, and to an image.

@@ -11,18 +11,20 @@ use Rattle.plan_answers.specs.Answers as answered
 use Rattle.plan_answers.specs.Directing as directing
 use Rattle.plan_answers.specs.Laws.{TellsFewest, DirectedThenPlanned}
 use Rattle.plan_answers.specs.Refusals.{Printed}
+use Rattle.plan_answers.specs.declared.source.Planning.{Planning}
+use Rattle.plan_answers.proofs.PlanText.{certified_plan}
 use Rattle.plan_answers.proofs.Widest.{widest_fits}
 
 -- the plan's batch is the one that does the moves
-told : (moves : List Move) (given printed : Printed) → directing.SaysDirections moves given.text → answered.IsPlanned widest given.text printed → TellsFewest moves printed
-told moves given printed says (answered.planned plan denotes is few tells done) =
-    let same : plan.batch ≡ says.batch = batch_reading.one_batch widest widest_fits given.text plan.batch says.batch denotes says.says in
-    let certified = subst (λ (batch : List Transfer). IsCertified batch plan.settings plan.named) same (record { schedule = is.shortest.schedule; certificate = is.certificate }) in
+told : (moves : List Move) (planning : Planning) (given printed : Printed) → directing.SaysDirections moves given.text → answered.IsPlanned planning widest given.text printed → TellsFewest moves printed
+told moves planning given printed says (answered.planned transfers denotes plan done) =
+    let same : transfers ≡ says.batch = batch_reading.one_batch widest widest_fits given.text transfers says.batch denotes says.says in
+    let certified = subst (λ (batch : List Transfer). IsCertified batch plan.settings plan.named) same (certified_plan planning transfers plan.settings plan.named plan.is) in
     let least = fewest moves says.batch says.directs says.halves plan.settings plan.named certified in
-    record { plan = plan; tells = (tells, done); count = least.0; fewest = least.1 }
-told moves given printed says (answered.refused fault first line) = absurd (batch_reading.apart widest widest_fits given.text says.batch fault says.says first)
+    record { settings = plan.settings; named = plan.named; says = plan.says; status = done; count = least.0; fewest = least.1 }
+told moves planning given printed says (answered.refused fault first line) = absurd (batch_reading.apart widest widest_fits given.text says.batch fault says.says first)
 
 pub directed_then_planned : DirectedThenPlanned
-directed_then_planned text moves given printed denotes (directing.directed list reads says done) answers =
-    told moves given printed (subst (λ (them : List Move). directing.SaysDirections them given.text) (moves_reading.one_list text list moves reads denotes) says) answers
-directed_then_planned text moves given printed denotes (directing.refused fault first line) answers = absurd (moves_reading.apart text moves fault denotes first)
+directed_then_planned text moves planning given printed denotes (directing.directed list reads says done) answers =
+    told moves planning given printed (subst (λ (them : List Move). directing.SaysDirections them given.text) (moves_reading.one_list text list moves reads denotes) says) answers
+directed_then_planned text moves planning given printed denotes (directing.refused fault first line) answers = absurd (moves_reading.apart text moves fault denotes first)

@@ -14,10 +14,10 @@ use Rattle.refusals.specs.declared.refusal.Refusal.{Refusal}
 use Rattle.refusals.specs.declared.refusal.Refusal.TheVariants.{NoCertificate}
 use Rattle.refusals.specs.Refusals.{refusal_words}
 use Rattle.refusals.specs.Sources.{of_batch, of_check}
-use Rattle.schedule_certificate.specs.Plans.{Plan, IsPlan, HasFewReinsertions}
-use Rattle.steady_schedule.specs.Plans.{SteadyPlan, IsSteady}
 use Rattle.plan_answers.specs.declared.limits.TheConstants.{DONE}
+use Rattle.plan_answers.specs.declared.source.Planning.{Planning}
 use Rattle.plan_answers.specs.Refusals.{Printed, IsRefused}
+use Rattle.plan_answers.specs.Schedules.{IsPlannedAs}
 use Rattle.plan_answers.specs.Texts.{AreTexts, IsTextWrong}
 
 -- no other answer is such
@@ -30,27 +30,22 @@ IsOnly IsAnswer answer = (other : Printed) → IsAnswer other → other ≡ answ
 abbrev pub SaysCertified : List (List ℕ) → Naming → List ℕ → Type 0
 SaysCertified settings named text = Says text (said settings (Some named))
 
--- that text, under its status
-abbrev pub TellsCertified : List (List ℕ) → Naming → Printed → Type 0
-TellsCertified settings named printed =
-    SaysCertified settings named printed.text × (printed.status ≡ DONE)
+-- the text says such a plan of the batch, with its certificate
+pub record SaysPlan (planning : Planning) (batch : List Transfer) (text : List ℕ) : Type 0 where
+  pub settings : List (List ℕ)
+  pub named : Naming
+  pub is : IsPlannedAs planning batch settings named
+  pub says : SaysCertified settings named text
 
--- a text that says a plan of the batch that the batch text denotes, or the refusal of that text's
--- first fault, each under its status
-pub data IsPlanned (shape : Extent) (batch : List ℕ) (printed : Printed) : Type 0 where
-  planned : (plan : Plan) → Denotes shape batch plan.batch → IsPlan plan → HasFewReinsertions plan
-      → SaysCertified plan.settings plan.named printed.text → printed.status ≡ DONE
-      → IsPlanned shape batch printed
+-- a text that says such a plan of the batch that the batch text denotes, or the refusal of that
+-- text's first fault, each under its status
+pub data IsPlanned (planning : Planning) (shape : Extent) (batch : List ℕ) (printed : Printed)
+    : Type 0 where
+  planned : (transfers : List Transfer) → Denotes shape batch transfers
+      → SaysPlan planning transfers printed.text → printed.status ≡ DONE
+      → IsPlanned planning shape batch printed
   refused : (fault : BatchFault) → IsFirstFault shape batch fault
-      → IsRefused (refusal_words (of_batch fault)) printed → IsPlanned shape batch printed
-
--- the same of a steady plan
-pub data IsSteadilyPlanned (shape : Extent) (batch : List ℕ) (printed : Printed) : Type 0 where
-  planned : (plan : SteadyPlan) → Denotes shape batch plan.batch → IsSteady plan
-      → SaysCertified plan.settings plan.named printed.text → printed.status ≡ DONE
-      → IsSteadilyPlanned shape batch printed
-  refused : (fault : BatchFault) → IsFirstFault shape batch fault
-      → IsRefused (refusal_words (of_batch fault)) printed → IsSteadilyPlanned shape batch printed
+      → IsRefused (refusal_words (of_batch fault)) printed → IsPlanned planning shape batch printed
 
 -- ---- `check`
 

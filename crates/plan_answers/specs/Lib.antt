@@ -3,6 +3,8 @@ pub mod Lent
 pub mod Refusals
 pub mod Texts
 pub mod Validities
+pub mod Schedules
+pub mod Made
 pub mod Answers
 pub mod Drawings
 pub mod Counting

@@ -7,6 +7,7 @@ ghost use Rattle.plan_answers.specs.Counting.{IsCounted};
 
 use crate::answer::Answer;
 use crate::schedule_texts::ScheduleTexts;
+use batch::Shape;
 use std::alloc::{AllocError, Global};
 
 /// How often the schedule that the schedule text says changes the switch, of the batch that the
@@ -20,7 +21,7 @@ pub fn answer_changes(alloc: Global, batch: &[u8], schedule: &[u8]) -> Result<An
     ensures counted { IfOk result (IsCounted widest batch.now schedule.now) }
     ensures one { IfOk result (IsOnly (IsCounted widest batch.now schedule.now)) }
 {
-    match ScheduleTexts::read(alloc, batch, schedule) {
+    match ScheduleTexts::read(alloc, Shape::WIDEST, batch, schedule) {
         Ok(texts) => {
             let (changes, least) = (texts.verdict.changes, texts.verdict.least);
             let line = format!(in alloc; "changes {changes} least {least}\n")?;

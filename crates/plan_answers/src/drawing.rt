@@ -13,6 +13,7 @@ ghost use Rattle.plan_answers.specs.Lent.{bytes_of};
 use crate::answer::Answer;
 use crate::schedule_texts::ScheduleTexts;
 use crate::setting_range::SettingRange;
+use batch::Shape;
 use refusals::Refusal;
 use schedule_picture::{Shown, draw};
 use std::alloc::{AllocError, Global};
@@ -89,7 +90,7 @@ fn picture(
         → IsFirstUndrawn widest batch.now schedule.now (bytes_of settings.entry) refusal) }
 {
     let range = read_range(settings)?;
-    let texts = ScheduleTexts::read(alloc, batch, schedule)?;
+    let texts = ScheduleTexts::read(alloc, Shape::WIDEST, batch, schedule)?;
     draw_range(alloc, &texts, range)
 }
 

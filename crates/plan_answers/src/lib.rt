@@ -3,12 +3,12 @@
 //!
 //! Each `answer_` function reads its texts, does what the command asks for, and gives an
 //! [`Answer`]: what was asked for, or the line of the refusal of what is first wrong. It reads no
-//! file and prints nothing. Only [`answer_plan`] starts threads. [`ScheduleTexts`] are for answers
-//! that are made elsewhere.
+//! file and prints nothing. Only [`answer_plan`] and [`Scheduled::read`] start threads; the latter
+//! is for answers that are made elsewhere.
 //!
-//! What the answers are is said by `IsPlanned`, `IsSteadilyPlanned` and `IsChecked` of
-//! `specs/Answers.antt`, `IsDrawn` of `specs/Drawings.antt` and `IsDirected` of
-//! `specs/Directing.antt`. Of `check` and `draw` there is one answer at most.
+//! What the answers are is said by `IsPlanned` and `IsChecked` of `specs/Answers.antt`, `IsDrawn`
+//! of `specs/Drawings.antt` and `IsDirected` of `specs/Directing.antt`; what a schedule's source
+//! gives, by `specs/Schedules.antt`. Of `check` and `draw` there is one answer at most.
 //! `laws::planned_then_checked` and `laws::directed_then_planned` put two of them together.
 #![tactic(auto)]
 
@@ -21,7 +21,9 @@ pub mod laws;
 mod limits;
 mod planning;
 mod schedule_texts;
+mod scheduled;
 mod setting_range;
+mod source;
 mod texts;
 mod validity;
 
@@ -31,5 +33,6 @@ pub use counting::answer_changes;
 pub use directing::answer_direct;
 pub use drawing::answer_draw;
 pub use limits::{DONE, REFUSED};
-pub use planning::{answer_plan, answer_plan_alone, answer_plan_steady};
-pub use schedule_texts::ScheduleTexts;
+pub use planning::{answer_plan, answer_plan_alone};
+pub use scheduled::Scheduled;
+pub use source::{Planning, Source};

@@ -2,9 +2,11 @@
 
 ghost use Rattle.std.specs.Prelude.{IfOk};
 ghost use Rattle.batch.specs.Extent.{widest};
-ghost use Rattle.plan_answers.specs.Answers.{TellsCertified, IsPlanned, IsSteadilyPlanned};
+ghost use Rattle.plan_answers.specs.Answers.{SaysPlan, IsPlanned};
+ghost use Rattle.plan_answers.specs.declared.source.Planning.TheVariants.{Plain};
 
 use crate::answer::Answer;
+use crate::source::Planning;
 use batch::{Batch, Shape};
 use exchange_limits::WorkerCount;
 use schedule_certificate::{OpenGate, Planned, schedule, schedule_alone};
@@ -12,58 +14,78 @@ use std::alloc::{AllocError, Global};
 use std::thread::Threads;
 use steady_schedule::steady;
 
-/// The answer that says a plan.
-fn plan_answer(planned: &Planned) -> Result<Answer, AllocError>
-    ensures { IfOk result (TellsCertified planned.now.settings planned.now.named) }
+/// The text that says a plain plan, with its certificate.
+fn planned_text(planned: &Planned) -> Result<Vec<u8>, AllocError>
+    ensures { IfOk result (λ text. SaysPlan Plain planned.now.batch text.items) }
 {
-    let text = planned.schedule().write(Some(planned.certificate()))?;
-    Ok(Answer::done(text))
+    // Asked for its law alone: few transfers were put in one by one.
+    let _few = planned.reinserted();
+    planned.schedule().write(Some(planned.certificate()))
+}
+
+/// The text that says such a plan of the batch, with its certificate. So many workers make a plain
+/// one.
+fn plan_text<R: Threads + Sync>(
+    rt: &R,
+    alloc: Global,
+    batch: Batch,
+    planning: Planning,
+    workers: WorkerCount,
+) -> Result<Vec<u8>, AllocError>
+    ensures { IfOk result (λ text. SaysPlan planning batch text.items) }
+{
+    match planning {
+        Planning::Plain => planned_text(&schedule(rt, alloc, batch, workers, &OpenGate)?),
+        Planning::Steady => plan_text_alone(alloc, batch, planning),
+    }
+}
+
+/// The same, where the caller alone makes it.
+fn plan_text_alone(alloc: Global, batch: Batch, planning: Planning) -> Result<Vec<u8>, AllocError>
+    ensures { IfOk result (λ text. SaysPlan planning batch text.items) }
+{
+    match planning {
+        Planning::Plain => planned_text(&schedule_alone(alloc, batch)?),
+        Planning::Steady => {
+            let plan = steady(alloc, &batch)?;
+            // An allocator has less to do where large memory goes before the settings' lists.
+            drop(batch);
+            plan.schedule().write(Some(plan.certificate()))
+        }
+    }
 }
 
 /// The answer of `exchange plan`: the text of a shortest schedule for the batch that the text
 /// denotes, with the certificate that shows that none is shorter; or the refusal of the text's
 /// first fault.
 ///
-/// The batch is read against the widest shape. Planning is given so many workers.
+/// The batch is read against the widest shape. A plain plan is made by so many workers, a steady
+/// one by the caller alone, in time that grows with the length of the text.
 pub fn answer_plan<R: Threads + Sync>(
     rt: &R,
     alloc: Global,
     batch: &[u8],
+    planning: Planning,
     workers: WorkerCount,
 ) -> Result<Answer, AllocError>
-    ensures { IfOk result (λ answer. IsPlanned widest batch.now answer) }
+    ensures { IfOk result (IsPlanned planning widest batch.now) }
 {
     match Batch::read(alloc, batch, Shape::WIDEST) {
-        Ok(batch) => plan_answer(&schedule(rt, alloc, batch, workers, &OpenGate)?),
+        Ok(batch) => Ok(Answer::done(plan_text(rt, alloc, batch, planning, workers)?)),
         Err(fault) => Answer::refused(alloc, fault.into()),
     }
 }
 
 /// The answer of `exchange plan`, as [`answer_plan`] gives it with one worker. It starts no thread.
-pub fn answer_plan_alone(alloc: Global, batch: &[u8]) -> Result<Answer, AllocError>
-    ensures { IfOk result (λ answer. IsPlanned widest batch.now answer) }
+pub fn answer_plan_alone(
+    alloc: Global,
+    batch: &[u8],
+    planning: Planning,
+) -> Result<Answer, AllocError>
+    ensures { IfOk result (IsPlanned planning widest batch.now) }
 {
     match Batch::read(alloc, batch, Shape::WIDEST) {
-        Ok(batch) => plan_answer(&schedule_alone(alloc, batch)?),
-        Err(fault) => Answer::refused(alloc, fault.into()),
-    }
-}
-
-/// The answer of `exchange plan --steady`: the text of a shortest schedule that seldom changes the
-/// switch, with its certificate; or the refusal of the batch text's first fault.
-///
-/// The batch is read against the widest shape. Takes time that grows with the length of its text.
-pub fn answer_plan_steady(alloc: Global, batch: &[u8]) -> Result<Answer, AllocError>
-    ensures { IfOk result (λ answer. IsSteadilyPlanned widest batch.now answer) }
-{
-    match Batch::read(alloc, batch, Shape::WIDEST) {
-        Ok(batch) => {
-            let plan = steady(alloc, &batch)?;
-            // An allocator has less to do where large memory goes before the settings' lists.
-            drop(batch);
-            let text = plan.schedule().write(Some(plan.certificate()))?;
-            Ok(Answer::done(text))
-        }
+        Ok(batch) => Ok(Answer::done(plan_text_alone(alloc, batch, planning)?)),
         Err(fault) => Answer::refused(alloc, fault.into()),
     }
 }

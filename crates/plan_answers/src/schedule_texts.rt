@@ -1,7 +1,6 @@
 //! A schedule of a batch, as two texts say it.
 
 ghost use Rattle.std.specs.Prelude.{◌≡◌, ◌≢◌, IfOk, IfErr};
-ghost use Rattle.batch.specs.Extent.{widest};
 ghost use Rattle.link_graph.specs.Schedules.{IsScheduleOf};
 ghost use Rattle.refusals.specs.declared.refusal.Refusal.TheVariants.{NoMemory};
 ghost use Rattle.plan_answers.specs.Validities.{IsValid, IsInvalid};
@@ -17,7 +16,7 @@ use std::marker::Model;
 
 /// A batch and a schedule of it, as two texts say them, and what is known of the schedule.
 #[derive(Drop)]
-pub struct ScheduleTexts {
+pub(crate) struct ScheduleTexts {
     texts: ReadTexts,
     /// What is known of the schedule.
     pub(crate) verdict: Verdict,
@@ -41,21 +40,10 @@ impl Model for ScheduleTexts {
 impl ScheduleTexts {
     /// What the texts of a batch and of a schedule of it say, or what is first wrong.
     ///
-    /// The batch text is looked at first, against the widest shape; then the schedule text; then
-    /// faults of its settings, in the order of [`CheckFault`](link_graph::CheckFault). A
-    /// certificate that is missing or wrong is no fault. Takes time that grows with the lengths of
-    /// the texts.
-    pub fn read(alloc: Global, batch: &[u8], schedule: &[u8]) -> Result<ScheduleTexts, Refusal>
-        ensures valid { IfOk result (λ read.
-            IsValid widest batch.now schedule.now read.batch read.settings read.verdict) }
-        ensures invalid { IfErr result (λ refusal. refusal ≢ NoMemory
-            → IsInvalid widest batch.now schedule.now refusal) }
-    {
-        ScheduleTexts::read_within(alloc, Shape::WIDEST, batch, schedule)
-    }
-
-    /// The same, where the batch text is looked at against this shape.
-    pub fn read_within(
+    /// The batch text is looked at first, against the shape; then the schedule text; then faults of
+    /// its settings, in the order of [`CheckFault`](link_graph::CheckFault). A certificate that is
+    /// missing or wrong is no fault. Takes time that grows with the lengths of the texts.
+    pub(crate) fn read(
         alloc: Global,
         shape: Shape,
         batch: &[u8],
@@ -72,14 +60,14 @@ impl ScheduleTexts {
     }
 
     /// The batch.
-    pub fn batch(&self) -> &Batch
+    pub(crate) fn batch(&self) -> &Batch
         ensures { result.now ≡ self.now.batch }
     {
         &self.texts.batch
     }
 
     /// The schedule.
-    pub fn schedule(&self) -> &Schedule
+    pub(crate) fn schedule(&self) -> &Schedule
         ensures schedule { result.now ≡ self.now.settings }
         ensures valid { IsScheduleOf self.now.batch self.now.settings }
     {

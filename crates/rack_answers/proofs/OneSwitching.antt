@@ -1,24 +1,40 @@
--- The texts of a batch and of a schedule have one answer of `switch` at most.
-use Rattle.std.proofs.Common.{◌≡◌, ℕ, List, Option, refl, sym, ◌∙◌, subst}
+-- A batch's text and a schedule's have one answer of `switch` at most.
+use Rattle.std.proofs.Common.{◌≡◌, ℕ, List, Option, None, Result, Ok, Err, IfOk, refl, sym, ◌∙◌, subst}
+use Rattle.std.specs.Borrow.{Bor}
 use Rattle.batch.specs.declared.transfer.Transfer.{Transfer}
-use Rattle.batch.specs.Extent.{IsShape}
-use Rattle.board_wiring.specs.Boards.{extent_of}
-use Rattle.crossbar.specs.declared.board.BoardWiring.{BoardWiring}
+use Rattle.batch.specs.Extent.{widest}
 use Rattle.refusals.specs.declared.refusal.Refusal.{Refusal}
 use Rattle.refusals.specs.Refusals.{refusal_words}
+use Rattle.plan_answers.specs.Answers.{IsOnly}
 use Rattle.plan_answers.specs.Refusals.{Printed, IsRefused}
+use Rattle.plan_answers.specs.Schedules.{IsText, said_by}
 use Rattle.plan_answers.specs.Validities.{IsScheduleRead}
+use Rattle.plan_answers.specs.declared.source.Source.{Source}
+use Rattle.plan_answers.specs.declared.source.Source.TheVariants.{Plan, Text}
 use Rattle.plan_answers.proofs.OneDrawing.{read_right, one_invalid}
 use Rattle.plan_answers.proofs.OneReading.{same_texts}
 use Rattle.plan_answers.proofs.Printing.{printed_same, refused_same}
-use Rattle.rack_answers.specs.Switching.{settings_bytes_text, IsSwitchedAs, switched, invalid}
+use Rattle.plan_answers.proofs.Widest.{widest_fits}
+use Rattle.rack_answers.specs.Switching.{settings_bytes_text, IsOn, IsSwitched, switched, wrong}
 
-same_text : (board : Option BoardWiring) → IsShape (extent_of board) → (batch schedule : List ℕ) (ts us : List Transfer) (xs ys : List (List ℕ)) → IsScheduleRead (extent_of board) batch schedule ts xs → IsScheduleRead (extent_of board) batch schedule us ys → settings_bytes_text board ts xs ≡ settings_bytes_text board us ys
-same_text board valid batch schedule ts us xs ys a b = same_texts (λ t x m. settings_bytes_text board t x ≡ settings_bytes_text board us ys) (extent_of board) valid batch schedule ts us xs ys a.certificate b.certificate a.texts b.texts refl
+same_text : (batch schedule : List ℕ) (ts us : List Transfer) (xs ys : List (List ℕ)) → IsScheduleRead widest batch schedule ts xs → IsScheduleRead widest batch schedule us ys → settings_bytes_text None ts xs ≡ settings_bytes_text None us ys
+same_text batch schedule ts us xs ys a b = same_texts (λ t x m. settings_bytes_text None t x ≡ settings_bytes_text None us ys) widest widest_fits batch schedule ts us xs ys a.certificate b.certificate a.texts b.texts refl
 
-pub one_switching : (board : Option BoardWiring) → IsShape (extent_of board) → (batch schedule : List ℕ) (p q : Printed) → IsSwitchedAs board batch schedule p → IsSwitchedAs board batch schedule q → q ≡ p
-one_switching board valid batch schedule p q (switched ts xs a tells) (switched us ys b told) = printed_same q p (told.0 ∙ same_text board valid batch schedule us ts ys xs b a ∙ sym tells.0) (told.1 ∙ sym tells.1)
-one_switching board valid batch schedule p q (switched ts xs a tells) (invalid g b is) = absurd (read_right (extent_of board) valid batch schedule ts xs g a b)
-one_switching board valid batch schedule p q (invalid f a is) (switched us ys b told) = absurd (read_right (extent_of board) valid batch schedule us ys f b a)
-one_switching board valid batch schedule p q (invalid f a is) (invalid g b was) =
-    refused_same (refusal_words g) q p was (subst (λ (r : Refusal). IsRefused (refusal_words r) p) (one_invalid (extent_of board) valid batch schedule f g a b) is)
+one_switching : (schedule batch : List ℕ) (p q : Printed) → IsSwitched (Text schedule) None batch p → IsSwitched (Text schedule) None batch q → q ≡ p
+one_switching schedule batch p q (switched ts xs a tells) (switched us ys b told) = printed_same q p (told.0 ∙ same_text batch schedule us ts ys xs b a ∙ sym tells.0) (told.1 ∙ sym tells.1)
+one_switching schedule batch p q (switched ts xs a tells) (wrong g b is) = absurd (read_right widest widest_fits batch schedule ts xs g a b)
+one_switching schedule batch p q (wrong f a is) (switched us ys b told) = absurd (read_right widest widest_fits batch schedule us ys f b a)
+one_switching schedule batch p q (wrong f a is) (wrong g b was) =
+    refused_same (refusal_words g) q p was (subst (λ (r : Refusal). IsRefused (refusal_words r) p) (one_invalid widest widest_fits batch schedule f g a b) is)
+
+-- so an answer to them is the only one
+pub one_of_text : {E : Type 0} (r : Result Printed E) (source : Source (Bor (List ℕ))) (batch : List ℕ) → IsText source → IfOk r (IsSwitched (said_by source) None batch) → IfOk r (IsOnly (IsSwitched (said_by source) None batch))
+one_of_text r (Plan planning) batch is answer = absurd is
+one_of_text (Err e) (Text lent) batch is answer = tt
+one_of_text (Ok p) (Text lent) batch is answer = λ other. one_switching lent.now batch p other answer
+
+-- and so it is where there is no text of a wiring
+pub one_usual : {E : Type 0} (r : Result Printed E) (source : Source (Bor (List ℕ))) (wiring : Option (List ℕ)) (batch : List ℕ) → IsText source → wiring ≡ None
+    → IfOk r (IsOn (λ board. IsSwitched (said_by source) board batch) wiring) → IfOk r (IsOnly (IsSwitched (said_by source) None batch))
+one_usual r source wiring batch is usual answer =
+    one_of_text r source batch is (subst (λ (text : Option (List ℕ)). IfOk r (IsOn (λ board. IsSwitched (said_by source) board batch) text)) usual answer)

@@ -3,10 +3,7 @@
 use Rattle.std.specs.Prelude.{◌≡◌, ℕ, ◌++◌, Bool, List, [], Option, Some, None, if◌then◌else◌, codes, length}
 use Rattle.std.specs.Fmt.{decimal}
 use Rattle.std.specs.List.{flat_map, range_with_len}
-use Rattle.batch.specs.declared.fault.BatchFault.{BatchFault}
 use Rattle.batch.specs.declared.transfer.Transfer.{Transfer}
-use Rattle.batch.specs.Text.{Denotes}
-use Rattle.batch.specs.Faults.{IsFirstFault}
 use Rattle.c004_commands.specs.Commands.{text}
 use Rattle.c004_commands.specs.declared.command.Command.{Command}
 use Rattle.board_wiring.specs.Boards.{extent_of}
@@ -20,15 +17,14 @@ use Rattle.crossbar.specs.declared.chip.Wiring.{Wiring}
 use Rattle.crossbar.specs.declared.chip.Wiring.TheVariants.{Both, Forth, Back, Board}
 use Rattle.refusals.specs.declared.refusal.Refusal.{Refusal}
 use Rattle.refusals.specs.Refusals.{refusal_words}
-use Rattle.refusals.specs.Sources.{of_batch}
-use Rattle.schedule_certificate.specs.Plans.{Plan, IsPlan, HasFewReinsertions}
-use Rattle.steady_schedule.specs.Plans.{SteadyPlan, IsSteady}
+use Rattle.schedule_certificate.specs.Plans.{Plan}
 use Rattle.switch_settings.specs.Racks.{is_wide}
 use Rattle.switch_settings.specs.Sending.{sent_for}
 use Rattle.line_words.specs.HexWords.{hex2}
 use Rattle.plan_answers.specs.declared.limits.TheConstants.{DONE}
 use Rattle.plan_answers.specs.Refusals.{Printed, IsRefused}
-use Rattle.plan_answers.specs.Validities.{IsScheduleRead, IsInvalid}
+use Rattle.plan_answers.specs.Schedules.{IsScheduleFrom, IsWrongFrom}
+use Rattle.plan_answers.specs.declared.source.Source.{Source}
 
 -- bytes of two hexadecimal digits each, with a space before each
 abbrev pub bytes_text : List ℕ → List ℕ
@@ -76,28 +72,16 @@ abbrev pub TellsSwitch : Option BoardWiring → List Transfer → List (List ℕ
 TellsSwitch board batch settings printed =
     (printed.text ≡ settings_bytes_text board batch settings) × (printed.status ≡ DONE)
 
--- those of the schedule that the texts say, or the refusal of what is first wrong, each under its
--- status
-pub data IsSwitchedAs (board : Option BoardWiring) (batch schedule : List ℕ) (printed : Printed)
-    : Type 0 where
+-- those of a schedule from this source, or the refusal of what is first wrong, each under its status
+pub data IsSwitched (source : Source (List ℕ)) (board : Option BoardWiring) (batch : List ℕ)
+    (printed : Printed) : Type 0 where
   switched : (transfers : List Transfer) (settings : List (List ℕ))
-      → IsScheduleRead (extent_of board) batch schedule transfers settings
-      → TellsSwitch board transfers settings printed → IsSwitchedAs board batch schedule printed
-  invalid : (refusal : Refusal) → IsInvalid (extent_of board) batch schedule refusal
-      → IsRefused (refusal_words refusal) printed → IsSwitchedAs board batch schedule printed
+      → IsScheduleFrom source (extent_of board) batch transfers settings
+      → TellsSwitch board transfers settings printed → IsSwitched source board batch printed
+  wrong : (refusal : Refusal) → IsWrongFrom source (extent_of board) batch refusal
+      → IsRefused (refusal_words refusal) printed → IsSwitched source board batch printed
 
 -- ---- plans
-
--- those of a steady plan of the batch that the batch text denotes, or the refusal of that text's
--- first fault, each under its status
-pub data IsSwitchedSteadily (board : Option BoardWiring) (batch : List ℕ) (printed : Printed)
-    : Type 0 where
-  switched : (plan : SteadyPlan) → Denotes (extent_of board) batch plan.batch → IsSteady plan
-      → TellsSwitch board plan.batch plan.settings printed
-      → IsSwitchedSteadily board batch printed
-  unplanned : (fault : BatchFault) → IsFirstFault (extent_of board) batch fault
-      → IsRefused (refusal_words (of_batch fault)) printed
-      → IsSwitchedSteadily board batch printed
 
 -- the lines of a plan's setting: what a run sends for it
 abbrev pub setting_lines : Plan → ℕ → List ℕ
@@ -107,14 +91,6 @@ setting_lines plan k =
 -- the lines of all settings, in their order
 abbrev pub switch_text : Plan → List ℕ
 switch_text plan = flat_map (setting_lines plan) (range_with_len 0 (length plan.settings))
-
--- those of a plan of that batch, or that refusal
-pub data IsSwitched (board : Option BoardWiring) (batch : List ℕ) (printed : Printed) : Type 0 where
-  switched : (plan : Plan) → Denotes (extent_of board) batch plan.batch → IsPlan plan
-      → HasFewReinsertions plan → TellsSwitch board plan.batch plan.settings printed
-      → IsSwitched board batch printed
-  unplanned : (fault : BatchFault) → IsFirstFault (extent_of board) batch fault
-      → IsRefused (refusal_words (of_batch fault)) printed → IsSwitched board batch printed
 
 -- ---- the text of a wiring
 

@@ -7,9 +7,9 @@
 //! first wrong. It reads no file and prints nothing. Only those that are given workers start
 //! threads, and need a handle.
 //!
-//! What the answers are is said by `IsRunAnswer` of `specs/Answers.antt`, and by `IsSwitched`,
-//! `IsSwitchedSteadily` and `IsSwitchedAs` of `specs/Switching.antt`. There is one answer at most
-//! of `run`, of `apply`, and of `switch` by a schedule on the usual wiring.
+//! What the answers are is said by `IsRunAnswer` of `specs/Answers.antt` and by `IsSwitched` of
+//! `specs/Switching.antt`. There is one answer at most of `run`, of `apply`, and of `switch` by a
+//! schedule's text on the usual wiring.
 #![tactic(auto)]
 
 mod applying;
@@ -23,6 +23,4 @@ mod switching;
 pub use applying::answer_apply_alone;
 pub use opening::read_rack;
 pub use running::{answer_apply, answer_run};
-pub use switching::{
-    answer_switch, answer_switch_alone, answer_switch_schedule, answer_switch_steady,
-};
+pub use switching::{answer_switch, answer_switch_alone};

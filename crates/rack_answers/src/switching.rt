@@ -6,10 +6,11 @@ ghost use Rattle.crossbar.specs.Pairs.{ArePairs, room_of};
 ghost use Rattle.link_graph.specs.Schedules.{IsScheduleOf};
 ghost use Rattle.plan_answers.specs.Answers.{IsOnly};
 ghost use Rattle.plan_answers.specs.Lent.{bytes_of};
+ghost use Rattle.plan_answers.specs.Schedules.{IsText, said_by};
 ghost use Rattle.switch_settings.specs.Sending.{turning};
 ghost use Rattle.rack_answers.specs.Boards.{WiresAll, joined_on};
 ghost use Rattle.rack_answers.specs.Reports.{Adds};
-ghost use Rattle.rack_answers.specs.Switching.{bytes_text, setting_head as head_of, switch_line, lines_on, TellsSwitch, IsOn, IsSwitched, IsSwitchedSteadily, IsSwitchedAs};
+ghost use Rattle.rack_answers.specs.Switching.{bytes_text, setting_head as head_of, switch_line, lines_on, TellsSwitch, IsOn, IsSwitched};
 
 use crate::spaced::push_spaced;
 use batch::{Batch, Shape};
@@ -18,11 +19,9 @@ use crossbar::{BoardWiring, Pair, Wiring};
 use exchange_limits::WorkerCount;
 use line_words::{Line, hex2_of};
 use link_graph::Schedule;
-use plan_answers::{Answer, ScheduleTexts};
-use schedule_certificate::{OpenGate, schedule, schedule_alone};
+use plan_answers::{Answer, Scheduled, Source};
 use std::alloc::{AllocError, Global};
 use std::thread::Threads;
-use steady_schedule::steady;
 use switch_settings::{PairList, WIDE_CHANGE_BYTES, bytes_for, is_wide, numbers_of_setting};
 
 /// Puts bytes at the end of the text, each after a space and as two hexadecimal digits.
@@ -118,69 +117,33 @@ fn switch_answer(
     Ok(Answer::done(text))
 }
 
-/// The answer for a plan of the batch that the text denotes, or the refusal of the text's first
-/// fault.
-fn switch_plan<R: Threads + Sync>(
+/// The answer for a schedule from this source, or the refusal of what is first wrong.
+fn switch_on<R: Threads + Sync>(
     rt: &R,
     alloc: Global,
     board: &Option<BoardWiring>,
     batch: &[u8],
+    source: Source<&[u8]>,
     workers: WorkerCount,
 ) -> Result<Answer, AllocError>
     requires some { WiresSome board.now }
-    ensures { IfOk result (IsSwitched board.now batch.now) }
+    ensures { IfOk result (IsSwitched (said_by source.entry) board.now batch.now) }
 {
-    match Batch::read(alloc, batch, shape_of(board)) {
-        Ok(batch) => {
-            let plan = schedule(rt, alloc, batch, workers, &OpenGate)?;
-            switch_answer(alloc, board, plan.batch(), plan.schedule())
-        }
-        Err(fault) => Answer::refused(alloc, fault.into()),
-    }
-}
-
-/// The answer for a steady plan of it, or that refusal.
-fn switch_steady(
-    alloc: Global,
-    board: &Option<BoardWiring>,
-    batch: &[u8],
-) -> Result<Answer, AllocError>
-    requires some { WiresSome board.now }
-    ensures { IfOk result (IsSwitchedSteadily board.now batch.now) }
-{
-    match Batch::read(alloc, batch, shape_of(board)) {
-        Ok(batch) => {
-            let plan = steady(alloc, &batch)?;
-            switch_answer(alloc, board, &batch, plan.schedule())
-        }
-        Err(fault) => Answer::refused(alloc, fault.into()),
-    }
-}
-
-/// The answer for the schedule that the texts say, or the refusal of what is first wrong with them.
-fn switch_schedule(
-    alloc: Global,
-    board: &Option<BoardWiring>,
-    batch: &[u8],
-    schedule: &[u8],
-) -> Result<Answer, AllocError>
-    requires some { WiresSome board.now }
-    ensures { IfOk result (IsSwitchedAs board.now batch.now schedule.now) }
-{
-    match ScheduleTexts::read_within(alloc, shape_of(board), batch, schedule) {
-        Ok(texts) => switch_answer(alloc, board, texts.batch(), texts.schedule()),
+    match Scheduled::read(rt, alloc, shape_of(board), batch, source, workers) {
+        Ok(scheduled) => switch_answer(alloc, board, scheduled.batch(), scheduled.schedule()),
         Err(refusal) => Answer::refused(alloc, refusal),
     }
 }
 
-/// The answer of `exchange switch`: what a run of a plan of the batch that the text denotes sends
-/// over the configuration link, setting by setting; or the refusal of the text's first fault.
+/// The answer of `exchange switch`: what a run of a schedule of the batch that the text denotes
+/// sends over the configuration link, setting by setting; or the refusal of what is first wrong, as
+/// [`Scheduled::read`](plan_answers::Scheduled::read) looks at it.
 ///
 /// A line is `setting S`, with the bytes behind it as pairs of hexadecimal digits: those of the
 /// first setting set a switch, whatever it was, and those of each later one change the switch of
 /// the setting before. Where the batch names a module above 15, a setting has two lines, `setting S
 /// a ..` for the switch of the way forth and `setting S b ..` for that of the way back. The batch
-/// is read against the widest shape. Planning is given so many workers.
+/// is read against the widest shape. So many workers make a plain plan.
 ///
 /// Where there is a text of a board's wiring, the links are those of this wiring, and all goes to
 /// the board's one switch. That text is looked at first, and the batch is read against a shape with
@@ -190,65 +153,34 @@ pub fn answer_switch<R: Threads + Sync>(
     alloc: Global,
     wiring: Option<&[u8]>,
     batch: &[u8],
+    source: Source<&[u8]>,
     workers: WorkerCount,
 ) -> Result<Answer, AllocError>
-    ensures { IfOk result (IsOn (λ board. IsSwitched board batch.now) (bytes_of wiring.entry)) }
+    ensures switched { IfOk result
+        (IsOn (λ board. IsSwitched (said_by source.entry) board batch.now) (bytes_of wiring.entry)) }
+    // Of a schedule's text and the usual wiring no other answer is right.
+    ensures one { IsText source.entry → bytes_of wiring.entry ≡ None →
+        IfOk result (IsOnly (IsSwitched (said_by source.entry) None batch.now)) }
 {
     match read_board(wiring) {
-        Ok(board) => switch_plan(rt, alloc, &board, batch, workers),
+        Ok(board) => switch_on(rt, alloc, &board, batch, source, workers),
         Err(fault) => Answer::refused(alloc, fault.into()),
     }
 }
 
 /// The answer of `exchange switch`, as [`answer_switch`] gives it for the usual wiring with one
 /// worker. It starts no thread.
-pub fn answer_switch_alone(alloc: Global, batch: &[u8]) -> Result<Answer, AllocError>
-    ensures { IfOk result (IsSwitched None batch.now) }
-{
-    match Batch::read(alloc, batch, Shape::WIDEST) {
-        Ok(batch) => {
-            let plan = schedule_alone(alloc, batch)?;
-            switch_answer(alloc, &None, plan.batch(), plan.schedule())
-        }
-        Err(fault) => Answer::refused(alloc, fault.into()),
-    }
-}
-
-/// The answer of `exchange switch --steady`: such lines for a steady plan of the batch that the
-/// text denotes; or the refusal of the text's first fault. Takes time that grows with the length of
-/// the text. A wiring is as for [`answer_switch`].
-pub fn answer_switch_steady(
+pub fn answer_switch_alone(
     alloc: Global,
-    wiring: Option<&[u8]>,
     batch: &[u8],
+    source: Source<&[u8]>,
 ) -> Result<Answer, AllocError>
-    ensures { IfOk result
-        (IsOn (λ board. IsSwitchedSteadily board batch.now) (bytes_of wiring.entry)) }
+    ensures switched { IfOk result (IsSwitched (said_by source.entry) None batch.now) }
+    ensures one { IsText source.entry →
+        IfOk result (IsOnly (IsSwitched (said_by source.entry) None batch.now)) }
 {
-    match read_board(wiring) {
-        Ok(board) => switch_steady(alloc, &board, batch),
-        Err(fault) => Answer::refused(alloc, fault.into()),
-    }
-}
-
-/// The answer of `exchange switch --schedule`: such lines for the schedule that the schedule text
-/// says, of the batch that the batch text denotes; or the refusal of what is first wrong, as
-/// [`ScheduleTexts::read`](plan_answers::ScheduleTexts::read) looks at it. Takes time that grows
-/// with the lengths of the texts. A wiring is as for [`answer_switch`].
-pub fn answer_switch_schedule(
-    alloc: Global,
-    wiring: Option<&[u8]>,
-    batch: &[u8],
-    schedule: &[u8],
-) -> Result<Answer, AllocError>
-    ensures switched { IfOk result
-        (IsOn (λ board. IsSwitchedAs board batch.now schedule.now) (bytes_of wiring.entry)) }
-    // Of the usual wiring no other answer is right.
-    ensures one { bytes_of wiring.entry ≡ None →
-        IfOk result (IsOnly (IsSwitchedAs None batch.now schedule.now)) }
-{
-    match read_board(wiring) {
-        Ok(board) => switch_schedule(alloc, &board, batch, schedule),
-        Err(fault) => Answer::refused(alloc, fault.into()),
+    match Scheduled::read_alone(alloc, Shape::WIDEST, batch, source) {
+        Ok(scheduled) => switch_answer(alloc, &None, scheduled.batch(), scheduled.schedule()),
+        Err(refusal) => Answer::refused(alloc, refusal),
     }
 }

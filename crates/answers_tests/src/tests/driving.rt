@@ -5,13 +5,15 @@
 ghost use Rattle.std.specs.Prelude.{⊤};
 
 use crossbar::Traffic;
-use drive_answers::{DriveFault, OpenedCount, Ports, answer_drive_schedule};
-use plan_answers::{Answer, DONE, REFUSED};
+use drive_answers::{DriveFault, OpenedCount, Ports, answer_drive};
+use exchange_limits::WorkerCount;
+use plan_answers::{Answer, DONE, REFUSED, Source};
 use refusals::Refusal;
 use std::alloc::{AllocError, Global};
 use std::io;
 use std::io::{Read, Write};
 use std::sync::atomic::{AtomicBool, AtomicUsize, Ordering};
+use std::thread::Threads;
 use switch_driver::{Cue, Stage, StreamPort, SwitchStream};
 
 /// Module 0 sends a block to each of three others.
@@ -293,8 +295,8 @@ impl Stage for DeskStage<'_> {
 }
 
 /// The answer where the desk follows its script, and the stage says this.
-fn answer_at(
-    alloc: Global,
+fn answer_at<R: AllocGlobal + Threads + Sync>(
+    rt: &R,
     desk: &Desk<'_>,
     says: [Cue; 3],
     refusal: Option<Refusal>,
@@ -307,7 +309,9 @@ fn answer_at(
         count: OpenedCount::zero(),
     };
     let mut stage = DeskStage { desk, says };
-    answer_drive_schedule(alloc, wiring, BATCH, SCHEDULE, &mut ports, &mut stage)
+    let source = Source::Text(SCHEDULE);
+    let (alloc, one) = (rt.alloc(), WorkerCount::ONE);
+    answer_drive(rt, alloc, wiring, BATCH, source, one, &mut ports, &mut stage)
 }
 
 /// Whether the answer is this line, under this status.
@@ -327,11 +331,16 @@ fn told_in(steps: &[Step]) -> usize {
 
 /// Whether a drive stops where the script ends, behind so many steps: at the port, or at the stage
 /// where a setting would be told next.
-fn stops_behind(alloc: Global, steps: &[Step], count: usize) -> Result<bool, AllocError> {
+fn stops_behind<R: AllocGlobal + Threads + Sync>(
+    rt: &R,
+    steps: &[Step],
+    count: usize,
+) -> Result<bool, AllocError> {
+    let alloc = rt.alloc();
     let count = count.min(steps.len());
     let front = &steps[..count];
     let desk = Desk::of(front);
-    let answer = answer_at(alloc, &desk, ON, None, None);
+    let answer = answer_at(rt, &desk, ON, None, None);
     let setting = told_in(front);
     let line = match steps.get(count) {
         Some(Step::Told(_)) => format!(in alloc; "left setting {setting}\n")?,
@@ -342,10 +351,15 @@ fn stops_behind(alloc: Global, steps: &[Step], count: usize) -> Result<bool, All
 
 /// Whether a reply of this output in the second setting that names an input which nothing is on
 /// stops the drive there, behind all replies of the setting.
-fn is_caught(alloc: Global, rack: &Rack<'_>, output: u8) -> Result<bool, AllocError> {
+fn is_caught<R: AllocGlobal + Threads + Sync>(
+    rt: &R,
+    rack: &Rack<'_>,
+    output: u8,
+) -> Result<bool, AllocError> {
+    let alloc = rt.alloc();
     let steps = steps_of(alloc, rack, Some((output, 0x93)))?;
     let desk = Desk::of(steps.as_slice().get(..205).unwrap_or(&[]));
-    let answer = answer_at(alloc, &desk, ON, None, rack.wiring);
+    let answer = answer_at(rt, &desk, ON, None, rack.wiring);
     let line = format!(in alloc; "stopped setting 1 switch {output}\n")?;
     Ok(desk.is_followed() && is_line(&answer, line.as_bytes(), REFUSED))
 }
@@ -355,7 +369,7 @@ fn in_turn(rt: HostRuntime) {
     for rack in &[USUAL, BOARD] {
         let steps = steps_of(rt.alloc(), rack, None).expect(&rt, "memory");
         let desk = Desk::of(steps.as_slice());
-        let answer = answer_at(rt.alloc(), &desk, ON, None, rack.wiring);
+        let answer = answer_at(&rt, &desk, ON, None, rack.wiring);
         assert!(rt; is_line(&answer, b"driven settings 3\n", DONE));
         assert!(rt; desk.is_followed());
     }
@@ -366,7 +380,7 @@ fn in_turn(rt: HostRuntime) {
 fn cut_off(rt: HostRuntime) {
     let steps = steps_of(rt.alloc(), &USUAL, None).expect(&rt, "memory");
     for count in 0..steps.len() {
-        let stops = stops_behind(rt.alloc(), steps.as_slice(), count);
+        let stops = stops_behind(&rt, steps.as_slice(), count);
         assert!(rt; stops.expect(&rt, "memory"));
     }
 }
@@ -374,8 +388,8 @@ fn cut_off(rt: HostRuntime) {
 #[test]
 fn lied_to(rt: HostRuntime) {
     for output in 0..OUTPUTS {
-        assert!(rt; is_caught(rt.alloc(), &USUAL, output).expect(&rt, "memory"));
-        assert!(rt; is_caught(rt.alloc(), &BOARD, output).expect(&rt, "memory"));
+        assert!(rt; is_caught(&rt, &USUAL, output).expect(&rt, "memory"));
+        assert!(rt; is_caught(&rt, &BOARD, output).expect(&rt, "memory"));
     }
 }
 
@@ -384,7 +398,7 @@ fn left(rt: HostRuntime) {
     let steps = steps_of(rt.alloc(), &USUAL, None).expect(&rt, "memory");
     let desk = Desk::of(steps.as_slice().get(..206).unwrap_or(&[]));
     let says = [Cue::GoOn, Cue::Leave, Cue::GoOn];
-    let answer = answer_at(rt.alloc(), &desk, says, None, None);
+    let answer = answer_at(&rt, &desk, says, None, None);
     assert!(rt; is_line(&answer, b"left setting 1\n", REFUSED));
     assert!(rt; desk.is_followed());
 }
@@ -394,7 +408,7 @@ fn untold(rt: HostRuntime) {
     let steps = steps_of(rt.alloc(), &USUAL, None).expect(&rt, "memory");
     let desk = Desk::of(steps.as_slice().get(..102).unwrap_or(&[]));
     let says = [Cue::Untold, Cue::GoOn, Cue::GoOn];
-    let answer = answer_at(rt.alloc(), &desk, says, None, None);
+    let answer = answer_at(&rt, &desk, says, None, None);
     assert!(rt; matches!(answer, Err(DriveFault::Untold)));
     assert!(rt; desk.is_followed());
 }
@@ -403,7 +417,7 @@ fn untold(rt: HostRuntime) {
 #[test]
 fn refused(rt: HostRuntime) {
     let desk = Desk::of(&[]);
-    let answer = answer_at(rt.alloc(), &desk, ON, Some(Refusal::File), None);
+    let answer = answer_at(&rt, &desk, ON, Some(Refusal::File), None);
     assert!(rt; is_line(&answer, b"refused file\n", REFUSED));
     assert!(rt; desk.opened.load(Ordering::SeqCst) == 1 && desk.is_followed());
 }

@@ -1,6 +1,7 @@
 //! What the words of the command line say of workers and of schedules, which no row can show.
 
-use command_words::{Job, Planning, ScheduleSource, read_arguments};
+use command_words::{Job, read_arguments};
+use plan_answers::{Planning, Source};
 use std::alloc::{AllocError, Global};
 
 /// What words say of how their schedule is made.
@@ -24,41 +25,32 @@ fn push_words(alloc: Global, words: &mut Vec<String>, line: &str) -> Result<(), 
 fn said_by(job: &Job) -> Said<'_> {
     match job {
         Job::Plan {
-            planning: Planning::Workers(workers),
-            ..
-        }
-        | Job::Switch {
-            source: ScheduleSource::Plan(workers),
-            ..
-        }
-        | Job::Drive {
-            source: ScheduleSource::Plan(workers),
-            ..
-        }
-        | Job::Apply { workers, .. }
-        | Job::Run { workers, .. }
-        | Job::Serve { workers, .. }
-        | Job::Host { workers, .. } => Said::Workers(workers.get()),
-        Job::Plan {
             planning: Planning::Steady,
             ..
         }
         | Job::Switch {
-            source: ScheduleSource::Steady,
+            source: Source::Plan(Planning::Steady),
             ..
         }
         | Job::Drive {
-            source: ScheduleSource::Steady,
+            source: Source::Plan(Planning::Steady),
             ..
         } => Said::Steady,
         Job::Switch {
-            source: ScheduleSource::File(file),
+            source: Source::Text(file),
             ..
         }
         | Job::Drive {
-            source: ScheduleSource::File(file),
+            source: Source::Text(file),
             ..
         } => Said::File(file.as_str()),
+        Job::Plan { workers, .. }
+        | Job::Switch { workers, .. }
+        | Job::Drive { workers, .. }
+        | Job::Apply { workers, .. }
+        | Job::Run { workers, .. }
+        | Job::Serve { workers, .. }
+        | Job::Host { workers, .. } => Said::Workers(workers.get()),
         Job::Check { .. }
         | Job::Draw { .. }
         | Job::C004

@@ -29,7 +29,7 @@ returns-in-Some-Port-clause-answer g c =
     let contents = contents_in c.in_ok-texts.texts in
     let rest = g.I.Read.remaining c.read.new.input in
     let t = c.answer_lines.ensures in
-    let is = IsDriveBy c.args.source.now contents c.args.goes_on rest c.args.ports t.0 in
+    let is = IsDriveBy contents c.args.goes_on rest c.args.ports t.0 in
     let driven : is c.in_ok-answer.answer = rw c.in_ok-answer.was at t.2 in
     let same : c.args.goes_on ≡ false → rest ≡ g.I.Read.remaining c.args.input.now = λ waits. c.read.ensures.unread ((none_where_waits files c.args.goes_on waits).1 c.requires) in
     (t.0, t.1, (contents, rest, c.in_ok-texts.ensures.contents, same, same_answer is _ _ c.with_reason.ensures.answer driven), tt)
@@ -40,7 +40,7 @@ returns-clause-answer g c =
     let contents = contents_in c.in_ok-texts.texts in
     let rest = g.I.Read.remaining c.read.new.input in
     let t = c.answer_lines.ensures in
-    let is = IsDriveBy c.args.source.now contents c.args.goes_on rest c.args.ports t.0 in
+    let is = IsDriveBy contents c.args.goes_on rest c.args.ports t.0 in
     let driven : is c.in_ok-answer.answer = rw c.in_ok-answer.was at t.2 in
     let same : c.args.goes_on ≡ false → rest ≡ g.I.Read.remaining c.args.input.now = λ waits. c.read.ensures.unread ((none_where_waits files c.args.goes_on waits).1 c.requires) in
     (t.0, t.1, (contents, rest, c.in_ok-texts.ensures.contents, same, same_answer is _ _ c.with_note.ensures.answer driven), tt)

@@ -8,7 +8,7 @@ use Rattle.exchange.proofs.Told.{behind_none, left_behind, switched, talked, unt
 use Rattle.exchange.proofs.jobs.answer_to.Goals as goal
 
 pub returns-in-Plan : goal.returns-in-Plan
-returns-in-Plan g c = rw c.in-Plan.is (record { response = ([], Appends-nil _, refl, untold c.plan.result _ c.plan.ensures.answer, c.plan.ensures.note, behind_none c.plan.result (Plan c.in-Plan.file c.in-Plan.planning) refl); beside = inl refl })
+returns-in-Plan g c = rw c.in-Plan.is (record { response = ([], Appends-nil _, refl, untold c.plan.result _ c.plan.ensures.answer, c.plan.ensures.note, behind_none c.plan.result (Plan c.in-Plan.file c.in-Plan.planning c.in-Plan.workers) refl); beside = inl refl })
 
 pub returns-in-Check : goal.returns-in-Check
 returns-in-Check g c = rw c.in-Check.is (record { response = ([], Appends-nil _, refl, untold c.check.result _ c.check.ensures.answer, c.check.ensures.note, behind_none c.check.result (Check c.in-Check.batch c.in-Check.schedule) refl); beside = inl refl })
@@ -17,7 +17,7 @@ pub returns-in-Draw : goal.returns-in-Draw
 returns-in-Draw g c = rw c.in-Draw.is (record { response = ([], Appends-nil _, refl, untold c.draw.result _ c.draw.ensures.answer, c.draw.ensures.note, behind_none c.draw.result (Draw c.in-Draw.batch c.in-Draw.schedule c.in-Draw.settings) refl); beside = inl refl })
 
 pub returns-in-Switch : goal.returns-in-Switch
-returns-in-Switch g c = rw c.in-Switch.is (record { response = ([], Appends-nil _, refl, untold c.switch.result _ c.switch.ensures.answer, c.switch.ensures.note, behind_none c.switch.result (Switch c.in-Switch.batch c.in-Switch.source c.in-Switch.wiring) refl); beside = inl refl })
+returns-in-Switch g c = rw c.in-Switch.is (record { response = ([], Appends-nil _, refl, untold c.switch.result _ c.switch.ensures.answer, c.switch.ensures.note, behind_none c.switch.result (Switch c.in-Switch.batch c.in-Switch.source c.in-Switch.wiring c.in-Switch.workers) refl); beside = inl refl })
 
 pub returns-in-Direct : goal.returns-in-Direct
 returns-in-Direct g c = rw c.in-Direct.is (record { response = ([], Appends-nil _, refl, untold c.direct.result _ c.direct.ensures.answer, c.direct.ensures.note, behind_none c.direct.result (Direct c.in-Direct.moves) refl); beside = inl refl })
@@ -29,7 +29,7 @@ pub returns-in-Run : goal.returns-in-Run
 returns-in-Run g c = rw c.in-Run.is (record { response = ([], Appends-nil _, refl, untold c.run.result _ c.run.ensures.answer, c.run.ensures.note, behind_none c.run.result (Run c.in-Run.shape c.in-Run.batch c.in-Run.image c.in-Run.workers) refl); beside = inl refl })
 
 pub returns-in-Drive : goal.returns-in-Drive
-returns-in-Drive g c = rw c.in-Drive.is (record { response = settings_told c.drive.result _ _ c.in-Drive.port _ _ _ c.in-Drive.goes_on _ _ _ c.new-ports.ensures c.drive.ensures.answer c.drive.ensures.note; beside = inl refl })
+returns-in-Drive g c = rw c.in-Drive.is (record { response = settings_told c.drive.result _ _ c.in-Drive.port _ _ _ c.in-Drive.goes_on c.in-Drive.workers _ _ _ c.new-ports.ensures c.drive.ensures.answer c.drive.ensures.note; beside = inl refl })
 
 pub returns-in-C004 : goal.returns-in-C004
 returns-in-C004 g c = rw c.in-C004.is (record { response = switched c.c004.result _ _ _ c.c004.ensures.answer c.c004.ensures.note; beside = inl refl })

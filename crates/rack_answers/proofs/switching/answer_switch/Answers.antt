@@ -1,26 +1,37 @@
-use Rattle.std.proofs.Common.{Option}
+use Rattle.std.proofs.Common.{Option, None, subst, List, ℕ}
 use Rattle.std.proofs.lemmas.Result.{IfOk-weaker}
 use Rattle.board_wiring.specs.Sources.{of_wiring}
 use Rattle.board_wiring.proofs.ReadBoards.{wires_some}
 use Rattle.crossbar.specs.declared.board.BoardWiring.{BoardWiring}
+use Rattle.plan_answers.specs.Answers.{IsOnly}
 use Rattle.plan_answers.specs.Lent.{bytes_of}
-use Rattle.plan_answers.specs.Refusals.{Refuses}
+use Rattle.plan_answers.specs.Refusals.{Refuses, Printed}
+use Rattle.plan_answers.specs.Schedules.{said_by}
+use Rattle.plan_answers.specs.declared.source.Source.{Source}
 use Rattle.rack_answers.specs.Switching.{IsOn, IsSwitched}
 use Rattle.rack_answers.proofs.OnBoards.{on_board, on_fault}
+use Rattle.rack_answers.proofs.OneSwitching.{one_usual}
 use Rattle.rack_answers.proofs.switching.answer_switch.Goals as goal
 
-pub switch_plan-requires-clause-some : goal.switch_plan-requires-clause-some
-switch_plan-requires-clause-some g c = λ κs lives. wires_some _ c.in-Ok.board c.in-Ok.ensures.board
+abbrev By : Source (List ℕ) → List ℕ → Option BoardWiring → Printed → Type 0
+By source batch board = IsSwitched source board batch
 
-pub returns-in-Ok : goal.returns-in-Ok
-returns-in-Ok g c =
-    let wiring = bytes_of c.args.wiring in
-    IfOk-weaker c.switch_plan.result (IsSwitched c.in-Ok.board c.args.batch.now) (IsOn (λ (board : Option BoardWiring). IsSwitched board c.args.batch.now) wiring)
-    (λ p is. on_board (λ (board : Option BoardWiring). IsSwitched board c.args.batch.now) c.args.wiring c.in-Ok.board p c.in-Ok.ensures.board is) c.switch_plan.ensures
+pub switch_on-requires-clause-some : goal.switch_on-requires-clause-some
+switch_on-requires-clause-some g c = λ κs lives. wires_some _ c.in-Ok.board c.in-Ok.ensures.board
 
-pub returns-in-Err : goal.returns-in-Err
-returns-in-Err g c =
-    let wiring = bytes_of c.args.wiring in
+pub returns-in-Ok-clause-switched : goal.returns-in-Ok-clause-switched
+returns-in-Ok-clause-switched g c =
+    let Is = By (said_by c.args.source) c.args.batch.now in
+    IfOk-weaker c.switch_on.result (Is c.in-Ok.board) (IsOn Is (bytes_of c.args.wiring)) (λ p is. on_board Is c.args.wiring c.in-Ok.board p c.in-Ok.ensures.board is) c.switch_on.ensures
+
+pub returns-in-Ok-clause-one : goal.returns-in-Ok-clause-one
+returns-in-Ok-clause-one g c = λ text usual. one_usual c.switch_on.result c.args.source (bytes_of c.args.wiring) c.args.batch.now text usual (returns-in-Ok-clause-switched g c)
+
+pub returns-in-Err-clause-switched : goal.returns-in-Err-clause-switched
+returns-in-Err-clause-switched g c =
+    let Is = By (said_by c.args.source) c.args.batch.now in
     let refuses = rw c.into.ensures at c.refused.ensures in
-    IfOk-weaker c.refused.result (Refuses (of_wiring c.in-Err.fault)) (IsOn (λ (board : Option BoardWiring). IsSwitched board c.args.batch.now) wiring)
-    (λ p is. on_fault (λ (board : Option BoardWiring). IsSwitched board c.args.batch.now) c.args.wiring c.in-Err.fault p c.in-Err.ensures.fault is.1) refuses
+    IfOk-weaker c.refused.result (Refuses (of_wiring c.in-Err.fault)) (IsOn Is (bytes_of c.args.wiring)) (λ p is. on_fault Is c.args.wiring c.in-Err.fault p c.in-Err.ensures.fault is.1) refuses
+
+pub returns-in-Err-clause-one : goal.returns-in-Err-clause-one
+returns-in-Err-clause-one g c = λ text usual. one_usual c.refused.result c.args.source (bytes_of c.args.wiring) c.args.batch.now text usual (returns-in-Err-clause-switched g c)

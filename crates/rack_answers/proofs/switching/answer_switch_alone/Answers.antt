@@ -1,20 +1,25 @@
-use Rattle.std.proofs.Common.{None, ap}
+use Rattle.std.proofs.Common.{None}
 use Rattle.std.proofs.lemmas.Result.{IfOk-weaker}
-use Rattle.refusals.specs.Sources.{of_batch}
 use Rattle.plan_answers.specs.Refusals.{Refuses}
-use Rattle.rack_answers.specs.Switching.{TellsSwitch, IsSwitched, switched, unplanned}
+use Rattle.plan_answers.specs.Schedules.{said_by}
+use Rattle.rack_answers.specs.Switching.{TellsSwitch, IsSwitched, switched, wrong}
+use Rattle.rack_answers.proofs.OneSwitching.{one_of_text}
 use Rattle.rack_answers.proofs.switching.answer_switch_alone.Goals as goal
 
-pub returns-in_ok-plan-in-Ok : goal.returns-in_ok-plan-in-Ok
-returns-in_ok-plan-in-Ok c =
-    let plan = c.in_ok-plan-in-Ok.plan in
-    let its = c.in_ok-plan-in-Ok.ensures in
-    let tells = rw (c.batch.ensures.batch, c.schedule.ensures.schedule) at c.switch_answer.ensures in
-    IfOk-weaker c.switch_answer.result (TellsSwitch None plan.batch plan.settings) (IsSwitched None c.args.batch.now)
-    (λ p tells. switched plan (rw its.batch c.in-Ok.ensures.batch) its.plan its.reinserted tells) tells
+pub returns-in-Ok-clause-switched : goal.returns-in-Ok-clause-switched
+returns-in-Ok-clause-switched c =
+    let its = c.in-Ok.scheduled in
+    let tells = rw (c.batch.ensures, c.schedule.ensures.schedule) at c.switch_answer.ensures in
+    IfOk-weaker c.switch_answer.result (TellsSwitch None its.batch its.settings) (IsSwitched (said_by c.args.source) None c.args.batch.now)
+    (λ p told. switched its.batch its.settings c.in-Ok.ensures.schedule told) tells
 
-pub returns-in-Err : goal.returns-in-Err
-returns-in-Err c =
-    let refuses = rw c.into.ensures at c.refused.ensures in
-    IfOk-weaker c.refused.result (Refuses (of_batch c.in-Err.fault)) (IsSwitched None c.args.batch.now)
-    (λ p is. unplanned c.in-Err.fault (c.in-Err.ensures.fault (λ e. is.0 (ap of_batch e))) is.1) refuses
+pub returns-in-Ok-clause-one : goal.returns-in-Ok-clause-one
+returns-in-Ok-clause-one c = λ text. one_of_text c.switch_answer.result c.args.source c.args.batch.now text (returns-in-Ok-clause-switched c)
+
+pub returns-in-Err-clause-switched : goal.returns-in-Err-clause-switched
+returns-in-Err-clause-switched c =
+    IfOk-weaker c.refused.result (Refuses c.in-Err.refusal) (IsSwitched (said_by c.args.source) None c.args.batch.now)
+    (λ p is. wrong c.in-Err.refusal (c.in-Err.ensures.wrong is.0) is.1) c.refused.ensures
+
+pub returns-in-Err-clause-one : goal.returns-in-Err-clause-one
+returns-in-Err-clause-one c = λ text. one_of_text c.refused.result c.args.source c.args.batch.now text (returns-in-Err-clause-switched c)

@@ -1,6 +1,6 @@
 use Rattle.std.proofs.lemmas.Result.{err_from_is_err_and}
 use Rattle.plan_answers.specs.Validities.{unread, unscheduled}
-use Rattle.plan_answers.proofs.schedule_texts.ScheduleTexts.read_within.Goals as goal
+use Rattle.plan_answers.proofs.schedule_texts.ScheduleTexts.read.Goals as goal
 
 pub returns-in_err-texts-clause-invalid : goal.returns-in_err-texts-clause-invalid
 returns-in_err-texts-clause-invalid c =
