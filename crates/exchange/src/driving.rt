@@ -44,7 +44,9 @@ fn answer_lines<R: AllocGlobal + Files + Threads + Sync, I: Read, O: Write>(
     let source = lent(&texts.source);
     let alloc = rt.alloc();
     let mut lines = Lines::new(input, out, !goes_on);
-    let end = answer_drive(rt, alloc, board, content, source, workers, ports, &mut lines);
+    let end = answer_drive(
+        rt, alloc, board, content, source, workers, ports, &mut lines,
+    );
     // It does nothing when the program runs: the proof reads from it what `out` holds.
     lines.into_out();
     end

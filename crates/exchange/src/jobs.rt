@@ -28,9 +28,7 @@ use crate::unwritten::Unwritten;
 use client_session::{Listener, NoListener};
 use command_words::{Job, Request, SharedRack, Text, TextList};
 use exchange_limits::WorkerCount;
-use plan_answers::{
-    Answer, Planning, answer_check, answer_direct, answer_draw, answer_plan,
-};
+use plan_answers::{Answer, Planning, answer_check, answer_direct, answer_draw, answer_plan};
 use rack_answers::{answer_apply, answer_run};
 use refusal_notes::Listing;
 use session_answers::{Hosted, answer_host, answer_serve, answer_talk};

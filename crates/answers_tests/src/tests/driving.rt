@@ -311,7 +311,9 @@ fn answer_at<R: AllocGlobal + Threads + Sync>(
     let mut stage = DeskStage { desk, says };
     let source = Source::Text(SCHEDULE);
     let (alloc, one) = (rt.alloc(), WorkerCount::ONE);
-    answer_drive(rt, alloc, wiring, BATCH, source, one, &mut ports, &mut stage)
+    answer_drive(
+        rt, alloc, wiring, BATCH, source, one, &mut ports, &mut stage,
+    )
 }
 
 /// Whether the answer is this line, under this status.
