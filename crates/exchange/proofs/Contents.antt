@@ -1,5 +1,5 @@
 -- What files hold of which one may be standard input.
-use Rattle.std.proofs.Common.{◌≡◌, ◌<◌, ◌+◌, ℕ, List, [], ◌∷◌, ◌++◌, Option, Some, None, zero, suc, IfSome, Bool, true, false, length, get_or, map, Result, is_ok, if◌then◌else◌, refl, ap, sym, ◌∙◌, subst, arith, below_more}
+use Rattle.std.proofs.Common.{◌≡◌, ◌<◌, ◌+◌, ℕ, List, [], ◌∷◌, ◌++◌, Option, Some, None, suc, IfSome, Bool, true, false, length, get_or, map, Result, is_ok, if◌then◌else◌, refl, ap, sym, ◌∙◌, subst, arith, below_more}
 use Rattle.std.specs.Prelude.{◌≢◌, All, option_to_list}
 use Rattle.std.proofs.Math.Seq.{get_or-append_seam}
 use Rattle.std.proofs.lemmas.List.{get_or_append_left, get_or_default, map-append}

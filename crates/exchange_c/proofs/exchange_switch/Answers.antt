@@ -1,4 +1,4 @@
-use Rattle.std.proofs.Common.{◌≡◌, [], ◌∷◌, ℕ, List, Result, IfOk, None, subst}
+use Rattle.std.proofs.Common.{◌≡◌, [], ◌∷◌, ℕ, List, Result, IfOk, None}
 use Rattle.std.specs.Borrow.{Bor}
 use Rattle.plan_answers.specs.Answers.{IsOnly}
 use Rattle.plan_answers.specs.Refusals.{Printed}

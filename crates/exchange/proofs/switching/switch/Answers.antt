@@ -1,4 +1,3 @@
-use Rattle.std.proofs.lemmas.Result.{IfOk-weaker}
 use Rattle.exchange.specs.Switches.{IsSwitchedFor, contents_in}
 use Rattle.exchange.proofs.Told.{same_answer}
 use Rattle.exchange.proofs.switching.switch.Goals as goal
