@@ -15,6 +15,7 @@ of_three_transfers =
       standing = Certified;
       changes = 2;
       partners = 2;
+      least = 2;
     }
 
 -- the schedule of no settings, without one
@@ -26,6 +27,7 @@ of_empty_batch =
       standing = Missing;
       changes = 0;
       partners = 0;
+      least = 0;
     }
 
 -- three transfers of link 0 of module 0: two to module 1, and one to module 2

@@ -33,11 +33,13 @@ fn the_definitions_give_cells()
     ensures responder { partner_of (pull 3 0 31 5) Three ≡ 3 }
 {}
 
-/// As many changes as partners are the fewest. How often the switch changes is said first below the
-/// heading, and behind the heading in the title.
+/// As many changes as partners are the fewest, and as many as two links show the fewest with so few
+/// settings. How often the switch changes is said first below the heading, and behind the heading
+/// in the title.
 fn the_definitions_say_changes()
-    ensures fewest { changes_words 2 2 ≡ codes "changes 2, the fewest" }
-    ensures more { changes_words 3 2 ≡ codes "changes 3" }
+    ensures fewest { changes_words 2 2 2 ≡ codes "changes 2, the fewest" }
+    ensures few { changes_words 3 2 3 ≡ codes "changes 3, the fewest with so few settings" }
+    ensures more { changes_words 4 2 3 ≡ codes "changes 4, at least 3" }
     ensures note { note_text 2 of_three_transfers (all_shown 2)
         ≡ codes "changes 2, the fewest, busiest link 0 module 0, certified" }
     ensures empty_batch { note_text 0 of_empty_batch (all_shown 0)
