@@ -10,4 +10,3 @@ pub mod Exchanges
 pub mod Closing
 pub mod Laws
 pub mod Naming
-pub mod Told

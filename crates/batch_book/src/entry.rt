@@ -1,9 +1,10 @@
 ghost use Rattle.std.specs.Prelude.{◌≡◌, ◌++◌, ◌<◌, [], ◌∷◌, vec_len, vec_capacity, if◌then◌else◌};
 ghost use Rattle.batch_book.specs.History.{entry};
-ghost use Rattle.batch_book.specs.Replies.{is_logged};
+ghost use Rattle.batch_book.specs.Replies.{is_logged, SpareFits};
 
-use crate::logged::{LoggedCall, LoggedReply};
+use crate::call::Call;
 use crate::reply::Reply;
+use batch::Batch;
 use own_lists::OfSession;
 
 /// What a session asked, and what it was answered.
@@ -11,9 +12,9 @@ pub struct Entry {
     /// The number of the session.
     pub session: usize,
     /// What it asked.
-    pub call: LoggedCall,
+    pub call: Call,
     /// What it was answered.
-    pub reply: LoggedReply,
+    pub reply: Reply,
 }
 
 // Said once, so that no function that lets go of one has to say it again.
@@ -31,18 +32,28 @@ impl OfSession for Entry {
     ghost session = { λ e. e.session };
 }
 
+/// Copies of what a call and its reply hold.
+#[derive(Drop)]
+pub(crate) struct Copies {
+    pub(crate) call: Call,
+    /// The batch of the reply, if it has one.
+    pub(crate) spare: Option<Batch>,
+}
+
 /// Adds an entry to a list with room, where a history has it.
-pub(crate) fn list(log: &mut Vec<Entry>, session: usize, call: LoggedCall, reply: &Reply)
+pub(crate) fn list(log: &mut Vec<Entry>, session: usize, copies: Copies, reply: &Reply)
     requires room { vec_len log.old < vec_capacity log.old }
+    requires spare { SpareFits copies.spare reply.now }
     ensures { log.new.items ≡ (if is_logged reply.now
-        then log.old.items ++ entry session call reply.now ∷ []
+        then log.old.items ++ entry session copies.call reply.now ∷ []
         else log.old.items) }
 {
     if reply.is_logged() {
+        let Copies { call, spare } = copies;
         let entry = Entry {
             session,
             call,
-            reply: LoggedReply::of(reply),
+            reply: reply.copy_with(spare),
         };
         log.push(entry).unwrap();
     }

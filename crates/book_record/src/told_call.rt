@@ -1,8 +1,10 @@
-/// What a history tells of a call: all of it, but the plan that is settled.
+use batch::Batch;
+
+/// What a record tells of a call: all of it, but the plan that is settled.
 #[derive(Drop)]
-pub enum ToldCall<B: Drop> {
+pub enum ToldCall {
     /// Accept this batch.
-    Submit(B),
+    Submit(Batch),
     /// Give a copy of a batch.
     Fetch(usize),
     /// Take a plan for a batch.
