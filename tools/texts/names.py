@@ -19,12 +19,15 @@ ALLOWED = os.path.join(os.path.dirname(os.path.abspath(__file__)), "names.txt")
 # How a definition begins: behind these words stands its name.
 HEAD = re.compile(r"(?:abbrev pub|unfoldable pub|(?:pub )?record|(?:pub )?data) +(?=([^\s:({]+))")
 
+# Where the next part of a file begins: a definition, in a block of them or not, or a line of another kind.
+PARTS = re.compile(r"\n *(?=(?:abbrev|unfoldable) pub |(?:pub )?(?:record (?!\{)|data |use )|module )")
+
 
 def definitions(path):
     """The names that a file of definitions defines, each with its text."""
     with open(path, encoding="utf-8") as file:
         text = re.sub(r"(?m)^ *--.*\n", "", file.read())
-    for part in re.split(r"\n(?=\S+ pub |pub |record |data |use )", f"\n{text}"):
+    for part in PARTS.split(f"\n{text}"):
         head = HEAD.match(part)
         if head:
             yield head[1], " ".join(part[head.end() :].split())

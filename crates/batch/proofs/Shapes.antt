@@ -4,7 +4,7 @@ use Rattle.std.specs.Prelude.{◌↔◌, IsOk, IfErr}
 use Rattle.std.specs.Fmt.{decimal}
 use Rattle.std.proofs.lemmas.Fmt.{decimal_injective}
 use Rattle.std.proofs.lemmas.Bool.{false≢true}
-use Rattle.batch.specs.Extent.{Extent, extent, IsShape}
+use Rattle.batch.specs.Extent.{Extent, extent, IsShape, widest}
 use Rattle.batch.specs.Text.{IsNumber, number}
 use Rattle.batch.specs.declared.shape_reading.TheConstants.{SEPARATOR}
 use Rattle.batch.specs.ShapeText.{shape_text, DenotesShape, IsBadShape}
@@ -61,3 +61,13 @@ no_shape text a (Ok s) read fits accepted = tt
 no_shape text a (Err f) read fits accepted = λ b denotes.
     let same : b ≡ a = one_extent text b a (of_shape b denotes.allowed) fits denotes.spelled read in
     false≢true (accepted.1 (subst IsShape same denotes.allowed))
+
+pub widest_shape : IsShape widest
+widest_shape = record {
+  some_module = omega arith;
+  few_modules = omega arith;
+  some_block = omega arith;
+  few_blocks = omega arith;
+  some_word = omega arith;
+  few_words = omega arith;
+}

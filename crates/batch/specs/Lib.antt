@@ -1,5 +1,8 @@
 pub mod Extent
 pub mod Places
+pub mod Numbers
+pub mod Lists
+pub mod ListFaults
 pub mod Text
 pub mod Faults
 pub mod Batches

@@ -2,13 +2,14 @@ ghost use Rattle.std.specs.Prelude.{◌≡◌, ◌↔◌, [], length, slice_get,
 ghost use Rattle.std.specs.Slice.Iter.{iter_rest};
 ghost use Rattle.batch.specs.Batches.{IsBatch};
 ghost use Rattle.batch.specs.Text.{Denotes, batch_text};
-ghost use Rattle.batch.specs.Faults.{ButForMemory, ForMemory, IsFirstFault, NeedsMemory};
+ghost use Rattle.batch.specs.Faults.{IsFirstFault, NeedsMemory};
+ghost use Rattle.batch.specs.ListFaults.{ButForMemory, ForMemory};
 
 use crate::fault::BatchFault;
-use crate::limits::MAX_TRANSFERS;
+use crate::list_reading::read_list;
+use crate::list_writing::write_list;
 use crate::shape::Shape;
 use crate::transfer::Transfer;
-use crate::{reading, writing};
 use std::alloc::{AllocError, Global};
 use std::marker::Model;
 use std::slice;
@@ -52,16 +53,7 @@ impl Batch {
         ensures fault { IfErr result (ButForMemory (IsFirstFault shape text.now)) }
         ensures memory { IfErr result (ForMemory (NeedsMemory shape text.now)) }
     {
-        let Some((count, lines)) = reading::first_line(text) else {
-            return Err(BatchFault::Line(1));
-        };
-        if count > MAX_TRANSFERS {
-            return Err(BatchFault::TooMany);
-        }
-        let (transfers, rest) = reading::transfers(alloc, lines, count, shape)?;
-        if !rest.is_empty() {
-            return Err(BatchFault::Count);
-        }
+        let transfers = read_list(alloc, text, shape)?;
         Ok(Batch { transfers })
     }
 
@@ -70,7 +62,7 @@ impl Batch {
     pub fn write(&self) -> Result<Vec<u8>, AllocError>
         ensures { IfOk result (λ text. text.items ≡ batch_text self.now) }
     {
-        writing::transfers_text(*self.transfers.allocator(), self.transfers.as_slice())
+        write_list(*self.transfers.allocator(), self.transfers.as_slice())
     }
 
     /// How many transfers there are.

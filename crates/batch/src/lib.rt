@@ -7,10 +7,13 @@
 //! [`Batch::read`] gives the batch that a text denotes (`Denotes` of `specs/Text.antt`), or the
 //! text's first fault (`IsFirstFault` of `specs/Faults.antt`). A text has one of each at most, and
 //! never both (`laws::one_reading`). Lack of memory comes only where a good line of a transfer
-//! stands (`NeedsMemory`). [`Batch::write`] gives the one text of a batch. [`Shape::new`] and
-//! [`Shape::read`] take just the shapes within the limits. [`Batch::first_overlap`] finds the first
-//! two transfers that write one block, and none exactly where no two do (`specs/Overlap.antt`).
-//! [`Batch::held_sources`] gives each block once that is both read and written (`specs/Held.antt`).
+//! stands (`NeedsMemory`). [`Batch::write`] gives the one text of a batch. [`read_list`] and
+//! [`write_list`] do so for whatever is [`Listed`] (`specs/Lists.antt`, `specs/ListFaults.antt`).
+//!
+//! [`Shape::new`] and [`Shape::read`] take just the shapes within the limits.
+//! [`Batch::first_overlap`] finds the first two transfers that write one block, and none exactly
+//! where no two do (`specs/Overlap.antt`). [`Batch::held_sources`] gives each block once that is
+//! both read and written (`specs/Held.antt`).
 #![tactic(auto)]
 
 mod batch;
@@ -18,17 +21,22 @@ mod fault;
 mod held;
 pub mod laws;
 mod limits;
+mod list_reading;
+mod list_writing;
+mod listed;
 mod overlap;
 mod reading;
 mod shape;
 mod shape_reading;
 mod transfer;
-mod writing;
 mod written;
 
 pub use batch::Batch;
 pub use fault::{BatchFault, ShapeFault};
 pub use limits::{MAX_BLOCKS, MAX_DIGITS, MAX_MODULES, MAX_TRANSFERS, MAX_WORDS};
+pub use list_reading::read_list;
+pub use list_writing::write_list;
+pub use listed::Listed;
 pub use reading::{number_before, number_from_digits, position_of};
 pub use shape::Shape;
 pub use transfer::{Kind, Place, Transfer};

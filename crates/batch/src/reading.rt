@@ -1,15 +1,10 @@
-//! The parts of a batch text, read from the left. Each reader gives what it has read and the rest.
+//! The numbers of a text, read from the left. Each reader gives what it has read and the rest.
 
 ghost use Rattle.std.specs.Prelude.{◌≡◌, ◌≢◌, ℕ, ◌<◌, ◌≤◌, ◌++◌, IfSome, IfNone, IfOk, IfErr, length, position, ◌==◌, ◌↔◌, IsTrue, slice_index};
 ghost use Rattle.std.specs.Fmt.{decimal};
-ghost use Rattle.batch.specs.Text.{BeginsWithNoNumber, BeginsWithNoWord, IsNumber, IsDigit, number, first_word, line, IsWithin};
-ghost use Rattle.batch.specs.Faults.{AreTransfers, BeginsWithLine, BeginsWithNoLine, ButForMemory, ForMemory, HasGrown, HasNoHead, IsHeaded, IsLineFault, StopsAt};
+ghost use Rattle.batch.specs.Numbers.{BeginsWithNoNumber, IsNumber, IsDigit, number};
 
-use crate::fault::BatchFault;
-use crate::limits::{MAX_DIGITS, MAX_TRANSFERS};
-use crate::shape::Shape;
-use crate::transfer::{Kind, Transfer};
-use std::alloc::Global;
+use crate::limits::MAX_DIGITS;
 
 /// Whether these are several digits, the first of which is 0.
 fn has_leading_zero(digits: &[u8]) -> bool
@@ -77,87 +72,4 @@ pub fn number_before(bytes: &[u8], end: u8) -> Option<(usize, &[u8])>
     let at = position_of(bytes, end)?;
     let n = number_from_digits(&bytes[..at])?;
     Some((n, &bytes[at + 1..]))
-}
-
-/// The first line of a batch text.
-pub(crate) fn first_line(text: &[u8]) -> Option<(usize, &[u8])>
-    ensures some { IfSome result (λ x. IsHeaded text.now x.0 x.1.now) }
-    ensures none { IfNone result (HasNoHead text.now) }
-{
-    number_before(text.strip_prefix(b"batch ")?, b'\n')
-}
-
-/// The word that a transfer's line begins with.
-fn kind_word(bytes: &[u8]) -> Option<(Kind, &[u8])>
-    ensures some { IfSome result (λ x. bytes.now ≡ first_word x.0 ++ x.1.now) }
-    ensures none { IfNone result (BeginsWithNoWord bytes.now) }
-{
-    if let Some(rest) = bytes.strip_prefix(b"push ") {
-        return Some((Kind::Push, rest));
-    }
-    let rest = bytes.strip_prefix(b"pull ")?;
-    Some((Kind::Pull, rest))
-}
-
-/// The line of a transfer.
-fn transfer_line(bytes: &[u8]) -> Option<(Transfer, &[u8])>
-    ensures some { IfSome result (λ x. BeginsWithLine bytes.now x.0 x.1.now) }
-    ensures none { IfNone result (BeginsWithNoLine bytes.now) }
-{
-    let (kind, rest) = kind_word(bytes)?;
-    let (initiator, rest) = number_before(rest, b' ')?;
-    let (own_block, rest) = number_before(rest, b' ')?;
-    let (responder, rest) = number_before(rest, b' ')?;
-    let (far_block, rest) = number_before(rest, b'\n')?;
-    let transfer = Transfer {
-        kind,
-        initiator,
-        own_block,
-        responder,
-        far_block,
-    };
-    Some((transfer, rest))
-}
-
-/// Transfer `t`, which the shape must have.
-fn next_transfer(rest: &[u8], t: usize, shape: Shape) -> Result<(Transfer, &[u8]), BatchFault>
-    requires { t < MAX_TRANSFERS }
-    ensures ok { IfOk result (λ x. IsWithin shape x.0 × (rest.now ≡ line x.0 ++ x.1.now)) }
-    ensures err { IfErr result (λ fault. IsLineFault shape t rest.now fault) }
-{
-    if rest.is_empty() {
-        return Err(BatchFault::Count);
-    }
-    let Some((transfer, after)) = transfer_line(rest) else {
-        return Err(BatchFault::Line(t + 2));
-    };
-    if transfer.initiator >= shape.modules() || transfer.responder >= shape.modules() {
-        return Err(BatchFault::NoModule(t));
-    }
-    if transfer.own_block >= shape.blocks() || transfer.far_block >= shape.blocks() {
-        return Err(BatchFault::NoBlock(t));
-    }
-    Ok((transfer, after))
-}
-
-/// As many transfers as the first line announces.
-pub(crate) fn transfers(
-    alloc: Global,
-    lines: &[u8],
-    count: usize,
-    shape: Shape,
-) -> Result<(Vec<Transfer>, &[u8]), BatchFault>
-    requires { count ≤ MAX_TRANSFERS }
-    ensures ok { IfOk result (λ x. AreTransfers shape lines.now count x.0.items x.1.now) }
-    ensures err { IfErr result (ButForMemory (StopsAt shape lines.now count)) }
-    ensures memory { IfErr result (ForMemory (HasGrown shape lines.now count)) }
-{
-    let mut transfers = Vec::new(alloc);
-    let mut rest = lines;
-    for t in 0..count {
-        let (transfer, after) = next_transfer(rest, t, shape)?;
-        transfers.push(transfer)?;
-        rest = after;
-    }
-    Ok((transfers, rest))
 }

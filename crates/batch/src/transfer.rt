@@ -1,6 +1,8 @@
 ghost use Rattle.std.specs.Prelude.{◌≡◌};
 ghost use Rattle.batch.specs.Places.{own_place, far_place, source_of, destination_of};
 
+use crate::listed::Listed;
+
 /// Which way a transfer moves its block.
 #[derive(Clone, Copy, Debug, PartialEq, Eq)]
 pub enum Kind {
@@ -69,5 +71,48 @@ impl Transfer {
             module: self.responder,
             block: self.far_block,
         }
+    }
+}
+
+impl Listed for Transfer {
+    ghost use Rattle.batch.specs.Text.{batch_form, first_word};
+
+    type Word = Kind;
+
+    ghost form = { batch_form };
+
+    ghost spelling = { first_word };
+
+    fn heading() -> &'static str {
+        "batch "
+    }
+
+    fn read_word(text: &[u8]) -> Option<(Kind, &[u8])> {
+        if let Some(rest) = text.strip_prefix(b"push ") {
+            return Some((Kind::Push, rest));
+        }
+        let rest = text.strip_prefix(b"pull ")?;
+        Some((Kind::Pull, rest))
+    }
+
+    fn of(kind: Kind, own: Place, far: Place) -> Transfer {
+        Transfer {
+            kind,
+            initiator: own.module,
+            own_block: own.block,
+            responder: far.module,
+            far_block: far.block,
+        }
+    }
+
+    fn word(&self) -> &'static str {
+        match self.kind {
+            Kind::Push => "push ",
+            Kind::Pull => "pull ",
+        }
+    }
+
+    fn places(&self) -> (Place, Place) {
+        (self.own_place(), self.far_place())
     }
 }

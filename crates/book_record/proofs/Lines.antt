@@ -19,8 +19,8 @@ use Rattle.batch.specs.declared.transfer.Transfer.{Transfer}
 use Rattle.batch.proofs.Lines.{IsFirst, position_from_first}
 use Rattle.batch.proofs.Numbers.{form}
 use Rattle.batch.proofs.OneReading.{apart, spellable}
+use Rattle.batch.proofs.Shapes.{widest_shape}
 use Rattle.book_record.specs.Reading.{behind_end, behind_line, behind_lines}
-use Rattle.book_record.proofs.BatchTexts.{widest_shape}
 
 abbrev NoFeed : ℕ → Type 0
 NoFeed b = b ≢ line_feed
@@ -60,7 +60,7 @@ head_word = above 98 (97 ∷ 116 ∷ 99 ∷ 104 ∷ 32 ∷ []) (omega arith) (ab
 
 -- ---- the lines of a batch
 
-line_form : (w a b c d x : List ℕ) → ((((w ++ a) ++ b) ++ c) ++ (d ++ line_feed ∷ [])) ++ x ≡ ((((w ++ a) ++ b) ++ c) ++ d) ++ line_feed ∷ x
+line_form : (w a b c d x : List ℕ) → ((w ++ (a ++ b)) ++ (c ++ (d ++ line_feed ∷ []))) ++ x ≡ ((((w ++ a) ++ b) ++ c) ++ d) ++ line_feed ∷ x
 line_form w a b c d x = simp append_assoc
 
 head_form : (w d x : List ℕ) → (w ++ (d ++ line_feed ∷ [])) ++ x ≡ (w ++ d) ++ line_feed ∷ x
@@ -73,10 +73,10 @@ behind_transfer t x fits =
     All-append NoFeed w (decimal t.far_block)
     (All-append NoFeed (first_word t.kind ++ number t.initiator space ++ number t.own_block space) (number t.responder space)
     (All-append NoFeed (first_word t.kind ++ number t.initiator space) (number t.own_block space)
-    (All-append NoFeed (first_word t.kind) (number t.initiator space) (kind_word t.kind) (spaced t.initiator fits.initiator))
-    (spaced t.own_block fits.own_block))
-    (spaced t.responder fits.responder))
-    (digits t.far_block fits.far_block) in
+    (All-append NoFeed (first_word t.kind) (number t.initiator space) (kind_word t.kind) (spaced t.initiator fits.0.0))
+    (spaced t.own_block fits.0.1))
+    (spaced t.responder fits.1.0))
+    (digits t.far_block fits.1.1) in
     ap behind_line (line_form (first_word t.kind) (number t.initiator space) (number t.own_block space) (number t.responder space) (decimal t.far_block) x) ∙ behind_front (w ++ decimal t.far_block) x none
 
 behind_transfers : (ts : List Transfer) (x : List ℕ) → All (IsWithin widest) ts → behind_lines (length ts) (Some (flat_map line ts ++ x)) ≡ Some x

@@ -20,7 +20,8 @@ use Rattle.euler_split.specs.Pairs.{passing}
 use Rattle.move_directions.specs.declared.moves.Move.{Move}
 use Rattle.move_directions.specs.Directions.{directed, link_of, AreDirected, HalvesEnds}
 use Rattle.move_directions.specs.Ends.{module_of_end, HalvesModules}
-use Rattle.move_directions.specs.Moves.{end_count, ends_of, half_ends, move_of, Directs, IsMoveList, IsWithin}
+use Rattle.move_directions.specs.Moves.{end_count, ends_of, half_ends, move_of, Directs, IsMoveList}
+use Rattle.move_directions.specs.Text.{IsWithin}
 use Rattle.move_directions.proofs.EndPairs.{source_module, destination_module}
 
 -- ---- one transfer

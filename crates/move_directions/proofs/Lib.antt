@@ -1,5 +1,3 @@
-pub mod Lines
-pub mod Growing
 pub mod OneReading
 pub mod EndPairs
 pub mod Directed

@@ -1,6 +1,6 @@
+pub mod Text
+pub mod Faults
 pub mod Moves
 pub mod Directions
 pub mod Ends
-pub mod Text
-pub mod Faults
 pub mod Laws

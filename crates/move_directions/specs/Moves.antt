@@ -1,22 +1,11 @@
 -- Moves of blocks, lists of them, and how many of their ends are at a module. A move has no
 -- direction: either of its two ends may start the transfer that does it.
-use Rattle.std.specs.Prelude.{◌≡◌, ℕ, ◌+◌, ◌/◌, ◌<◌, ◌≤◌, ◌==◌, cond, List, length, map, All, sum_by}
-use Rattle.batch.specs.declared.limits.TheConstants.{MAX_BLOCKS, MAX_MODULES, MAX_TRANSFERS}
+use Rattle.std.specs.Prelude.{◌≡◌, ℕ, ◌+◌, ◌/◌, ◌≤◌, ◌==◌, cond, List, length, map, All, sum_by}
+use Rattle.batch.specs.declared.limits.TheConstants.{MAX_TRANSFERS}
 use Rattle.batch.specs.declared.transfer.Transfer.{Transfer}
 use Rattle.batch.specs.Places.{source_of, destination_of}
 use Rattle.move_directions.specs.declared.moves.Move.{Move}
-
--- a rack may have the move's modules
-abbrev pub HasModules : Move → Type 0
-HasModules x = (x.source.«module» < MAX_MODULES) × (x.destination.«module» < MAX_MODULES)
-
--- a module may have its blocks
-abbrev pub HasBlocks : Move → Type 0
-HasBlocks x = (x.source.block < MAX_BLOCKS) × (x.destination.block < MAX_BLOCKS)
-
--- it is between blocks of the widest shape
-abbrev pub IsWithin : Move → Type 0
-IsWithin x = HasModules x × HasBlocks x
+use Rattle.move_directions.specs.Text.{IsWithin}
 
 -- what every list of moves keeps: not too many, all of them between blocks of the widest shape
 pub record IsMoveList (moves : List Move) : Type 0 where

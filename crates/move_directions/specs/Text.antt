@@ -1,32 +1,28 @@
--- The text of a list of moves, in the manner of a batch text. The form is this project's choice.
-use Rattle.std.specs.Prelude.{◌≡◌, ℕ, List, ◌++◌, length, codes}
-use Rattle.std.specs.List.{flat_map}
-use Rattle.batch.specs.declared.transfer.Place.{Place}
-use Rattle.batch.specs.Text.{number, space, line_feed}
+-- The text of a list of moves. The form is this project's choice.
+use Rattle.std.specs.Prelude.{List, ℕ, codes}
+use Rattle.batch.specs.Extent.{widest}
+use Rattle.batch.specs.Lists as lists
+use Rattle.batch.specs.Lists.{Form}
 use Rattle.move_directions.specs.declared.moves.Move.{Move}
-use Rattle.move_directions.specs.Moves.{IsMoveList}
 
--- the line `moves N`
-abbrev pub head : ℕ → List ℕ
-head n = codes "moves " ++ number n line_feed
+-- the form of a list of moves: the line `moves N`, then N lines `move M b N c`
+abbrev pub moves_form : Form Move
+moves_form =
+    record {
+      heading = codes "moves ";
+      first_word = λ _. codes "move ";
+      first = λ x. x.source;
+      second = λ x. x.destination;
+    }
 
--- the numbers of a place, and the byte that ends them
-abbrev pub place_text : Place → ℕ → List ℕ
-place_text p end = number p.«module» space ++ number p.block end
-
--- what the line of a move begins with
-abbrev pub first_word : List ℕ
-first_word = codes "move "
-
--- the line `move M b N c`
-abbrev pub line : Move → List ℕ
-line x = first_word ++ place_text x.source space ++ place_text x.destination line_feed
+-- it is between blocks of the widest shape
+abbrev pub IsWithin : Move → Type 0
+IsWithin = lists.IsWithin moves_form widest
 
 -- the one text of a list of moves
 abbrev pub moves_text : List Move → List ℕ
-moves_text moves = head (length moves) ++ flat_map line moves
+moves_text = lists.list_text moves_form
 
 -- the text is that of these moves, which the limits allow
-pub record Denotes (text : List ℕ) (moves : List Move) : Type 0 where
-  pub spelled : text ≡ moves_text moves
-  pub allowed : IsMoveList moves
+abbrev pub Denotes : List ℕ → List Move → Type 0
+Denotes = lists.Denotes moves_form widest

@@ -18,8 +18,6 @@ mod directing;
 mod ends;
 pub mod laws;
 mod moves;
-mod reading;
-mod writing;
 
 pub use directing::direct;
 pub use moves::{Move, MoveList};

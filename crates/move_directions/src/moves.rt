@@ -1,11 +1,10 @@
-ghost use Rattle.std.specs.Prelude.{◌≡◌, ◌≢◌, ◌↔◌, [], length, IsTrue, IfOk, IfErr};
-ghost use Rattle.batch.specs.declared.fault.BatchFault.TheVariants.{NoMemory};
+ghost use Rattle.std.specs.Prelude.{◌≡◌, ◌↔◌, [], length, IsTrue, IfOk, IfErr};
+ghost use Rattle.batch.specs.ListFaults.{ButForMemory, ForMemory};
 ghost use Rattle.move_directions.specs.Faults.{IsFirstFault, NeedsMemory};
 ghost use Rattle.move_directions.specs.Moves.{IsMoveList};
 ghost use Rattle.move_directions.specs.Text.{Denotes, moves_text};
 
-use crate::{reading, writing};
-use batch::{BatchFault, MAX_TRANSFERS, Place};
+use batch::{BatchFault, Listed, Place, Shape, read_list, write_list};
 use std::alloc::{AllocError, Global};
 use std::marker::Model;
 
@@ -15,6 +14,41 @@ use std::marker::Model;
 pub struct Move {
     pub source: Place,
     pub destination: Place,
+}
+
+impl Listed for Move {
+    ghost use Rattle.std.specs.Prelude.{codes};
+    ghost use Rattle.move_directions.specs.Text.{moves_form};
+
+    type Word = ();
+
+    ghost form = { moves_form };
+
+    ghost spelling = { λ _. codes "move " };
+
+    fn heading() -> &'static str {
+        "moves "
+    }
+
+    fn read_word(text: &[u8]) -> Option<((), &[u8])> {
+        let rest = text.strip_prefix(b"move ")?;
+        Some(((), rest))
+    }
+
+    fn of(_word: (), source: Place, destination: Place) -> Move {
+        Move {
+            source,
+            destination,
+        }
+    }
+
+    fn word(&self) -> &'static str {
+        "move "
+    }
+
+    fn places(&self) -> (Place, Place) {
+        (self.source, self.destination)
+    }
 }
 
 /// A list of moves, numbered from 0: at most [`MAX_TRANSFERS`] of them, all of them between blocks
@@ -46,19 +80,10 @@ impl MoveList {
     /// of the text.
     pub fn read(alloc: Global, text: &[u8]) -> Result<MoveList, BatchFault>
         ensures moves { IfOk result (λ moves. Denotes text.now moves) }
-        ensures fault { IfErr result (λ fault. fault ≢ NoMemory → IsFirstFault text.now fault) }
-        ensures memory { IfErr result (λ fault. fault ≡ NoMemory → NeedsMemory text.now) }
+        ensures fault { IfErr result (ButForMemory (IsFirstFault text.now)) }
+        ensures memory { IfErr result (ForMemory (NeedsMemory text.now)) }
     {
-        let Some((count, lines)) = reading::first_line(text) else {
-            return Err(BatchFault::Line(1));
-        };
-        if count > MAX_TRANSFERS {
-            return Err(BatchFault::TooMany);
-        }
-        let (moves, rest) = reading::moves(alloc, lines, count)?;
-        if !rest.is_empty() {
-            return Err(BatchFault::Count);
-        }
+        let moves = read_list(alloc, text, Shape::WIDEST)?;
         Ok(MoveList { moves })
     }
 
@@ -67,7 +92,7 @@ impl MoveList {
     pub fn write(&self) -> Result<Vec<u8>, AllocError>
         ensures { IfOk result (λ text. text.items ≡ moves_text self.now) }
     {
-        writing::moves_text(*self.moves.allocator(), self.moves.as_slice())
+        write_list(*self.moves.allocator(), self.moves.as_slice())
     }
 
     /// How many moves there are.

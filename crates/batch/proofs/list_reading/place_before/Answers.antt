@@ -1,5 +1,5 @@
-use Rattle.move_directions.proofs.Lines.{behind_module}
-use Rattle.move_directions.proofs.reading.place_before.Goals as goal
+use Rattle.batch.proofs.Lines.{behind_module}
+use Rattle.batch.proofs.list_reading.place_before.Goals as goal
 
 pub returns-in_err-block-clause-none : goal.returns-in_err-block-clause-none
 returns-in_err-block-clause-none c = rw c.from_residual-in_err-block.ensures (λ p rest begins.
