@@ -1,5 +1,5 @@
 -- A text denotes one batch or has one first fault, and not both.
-use Rattle.std.proofs.Common.{◌≡◌, ℕ, List, ◌++◌, length, All, get_or, refl, sym, ap, arith}
+use Rattle.std.proofs.Common.{◌≡◌, ℕ, List, ◌++◌, length, All, get_or, refl, ap, arith}
 use Rattle.std.specs.List.{flat_map}
 use Rattle.batch.specs.declared.transfer.Kind.{Kind}
 use Rattle.batch.specs.declared.transfer.Kind.TheVariants.{Push, Pull}
@@ -13,15 +13,12 @@ use Rattle.batch.proofs.Equal.{same_transfer_parts}
 use Rattle.batch.proofs.Lines.{Tells}
 use Rattle.batch.proofs.OneList as lists
 
-differ : (a b : ℕ) → a ≡ 115 → b ≡ 108 → a ≡ b → ⊥
-differ a b p q e = omega arith
-
 -- one word, and one rest
 pub one_word : (k l : Kind) (x y : List ℕ) → first_word k ++ x ≡ first_word l ++ y → (k ≡ l) × (x ≡ y)
 one_word Push Push x y e = (refl, cc)
 one_word Pull Pull x y e = (refl, cc)
-one_word Push Pull x y e = absurd (differ 115 108 refl refl (ap (λ (bs : List ℕ). get_or bs 2 0) e))
-one_word Pull Push x y e = absurd (differ 115 108 refl refl (ap (λ (bs : List ℕ). get_or bs 2 0) (sym e)))
+one_word Push Pull x y e = let other : 115 ≡ 108 = ap (λ (bs : List ℕ). get_or bs 2 0) e in absurd (omega (arith, other))
+one_word Pull Push x y e = let other : 108 ≡ 115 = ap (λ (bs : List ℕ). get_or bs 2 0) e in absurd (omega (arith, other))
 
 pub transfers_tell : Tells batch_form
 transfers_tell t u a b e =
