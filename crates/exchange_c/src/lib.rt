@@ -11,7 +11,7 @@
 //! empty, and else by that schedule (`IsSwitchedBy` of `specs/Switching.antt`).
 #![tactic(auto)]
 
-ghost use Rattle.std.specs.Prelude.{◌≡◌, IfOk, OnErr, None, Some};
+ghost use Rattle.std.specs.Prelude.{◌≡◌, IfOk, OnErr, None};
 ghost use Rattle.batch.specs.Extent.{widest};
 ghost use Rattle.plan_answers.specs.Answers.{IsPlanned, IsChecked};
 ghost use Rattle.plan_answers.specs.Counting.{IsCounted};
@@ -19,7 +19,7 @@ ghost use Rattle.plan_answers.specs.Directing.{IsDirected};
 ghost use Rattle.plan_answers.specs.Drawings.{IsDrawn};
 ghost use Rattle.plan_answers.specs.Schedules.{said_by};
 ghost use Rattle.plan_answers.specs.declared.source.Planning.TheVariants.{Plain, Steady};
-ghost use Rattle.rack_answers.specs.Answers.{IsRunAnswer, image_alone};
+ghost use Rattle.rack_answers.specs.Answers.{IsApplied};
 ghost use Rattle.exchange_c.specs.Switching.{source_for, IsSwitchedBy};
 ghost use Rattle.exchange_c.specs.Writing.{Puts, IsOutOfMemory, Leaves, IsTheOne};
 
@@ -141,8 +141,7 @@ pub extern "C" fn exchange_apply(
     out: &mut [u8],
     count: &mut usize,
 ) -> u8
-    ensures { Leaves
-        (IsTheOne (IsRunAnswer image_alone shape.now batch.now (Some image.now)))
+    ensures { Leaves (IsTheOne (IsApplied shape.now batch.now image.now))
         out.old out.new count.new result }
 {
     leave(answer_apply_alone(alloc, shape, batch, image), out, count)

@@ -9,4 +9,4 @@ pub mod OneDrawing
 pub mod OneCounting
 pub mod DirectedThenPlanned
 pub mod PlannedThenChecked
-pub mod Denoted
+pub mod OneSource

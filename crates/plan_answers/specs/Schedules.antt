@@ -57,6 +57,12 @@ IsScheduleFrom (Plan planning) shape text batch settings =
 IsScheduleFrom (Text schedule) shape text batch settings =
     IsScheduleRead shape text schedule batch settings
 
+-- the texts are those of such a batch, and of a schedule of it, where a text says one
+abbrev pub AreRight : Source (List ℕ) → Extent → List ℕ → List Transfer → Type 0
+AreRight (Plan planning) shape text batch = Denotes shape text batch
+AreRight (Text schedule) shape text batch =
+    (settings : List (List ℕ)) × IsScheduleRead shape text schedule batch settings
+
 -- this is what is first wrong: the text of the batch is looked at first, then that of a schedule
 abbrev pub IsWrongFrom : Source (List ℕ) → Extent → List ℕ → Refusal → Type 0
 IsWrongFrom (Plan planning) shape text refusal =

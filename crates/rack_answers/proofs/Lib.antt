@@ -1,8 +1,9 @@
 pub mod OneRun
 pub mod Reporting
-pub mod Fewest
+pub mod Fitting
 pub mod Switches
 pub mod OnBoards
 pub mod OneSwitching
 pub mod Openings
 pub mod HeldSettings
+pub mod Ran

@@ -1,10 +1,8 @@
 -- What `run` and `apply` answer.
-use Rattle.std.specs.Prelude.{◌≡◌, ℕ, List, length, Option}
-use Rattle.batch.specs.declared.fault.BatchFault.{BatchFault}
+use Rattle.std.specs.Prelude.{◌≡◌, ℕ, List, Option, Some}
 use Rattle.batch.specs.declared.transfer.Transfer.{Transfer}
 use Rattle.batch.specs.Extent.{Extent}
 use Rattle.batch.specs.Text.{Denotes}
-use Rattle.batch.specs.Faults.{IsFirstFault}
 use Rattle.batch.specs.Overlap.{IsApart, IsFirstOverlap}
 use Rattle.batch.specs.ShapeText.{DenotesShape, IsBadShape}
 use Rattle.module_memory.specs.declared.fault.ImageFault.{ImageFault}
@@ -14,49 +12,55 @@ use Rattle.module_memory.specs.Core.{IsPlaced}
 use Rattle.refusals.specs.declared.refusal.Refusal.{Refusal}
 use Rattle.refusals.specs.declared.refusal.Refusal.TheVariants.{Shape, Overlap}
 use Rattle.refusals.specs.Refusals.{refusal_words}
-use Rattle.refusals.specs.Sources.{of_batch, of_image}
-use Rattle.schedule_certificate.specs.Plans.{Plan}
-use Rattle.schedule_certificate.specs.Parts.{IsDegree}
+use Rattle.refusals.specs.Sources.{of_image}
 use Rattle.plan_answers.specs.declared.limits.TheConstants.{DONE}
 use Rattle.plan_answers.specs.Refusals.{Printed, IsRefused}
+use Rattle.plan_answers.specs.Schedules.{AreRight, BatchSchedule, IsScheduleFrom, IsWrongFrom}
+use Rattle.plan_answers.specs.declared.source.Planning.TheVariants.{Plain}
+use Rattle.plan_answers.specs.declared.source.Source.{Source}
+use Rattle.plan_answers.specs.declared.source.Source.TheVariants.{Plan}
+use Rattle.rack_answers.specs.Reports.{report_for}
 use Rattle.rack_answers.specs.Openings.{IsOfImageOrMarked, IsWrongImage, IsRightImage}
 
--- what is printed of transfers that were placed in so many settings, and of the store after them
-abbrev pub RunText : Type 0
-RunText = List Transfer → ℕ → Store → List ℕ
+-- what `apply` prints of a run that left this store: its image
+abbrev pub IsImage : Extent → List ℕ → List Transfer → Store → List ℕ → Type 0
+IsImage extent batch transfers left text = text ≡ image_of left
 
--- what `apply` prints: the image of that store
-abbrev pub image_alone : RunText
-image_alone transfers settings placed = image_of placed
+-- what `run` prints of it: its report, where the transfers moved by a schedule from this source
+pub record IsReport (source : Source (List ℕ)) (extent : Extent) (batch : List ℕ)
+    (transfers : List Transfer) (left : Store) (text : List ℕ) : Type 0 where
+  pub settings : List (List ℕ)
+  pub scheduled : IsScheduleFrom source extent batch transfers settings
+  pub printed : text ≡ report_for source transfers settings left
 
--- The texts are those of a shape and of a batch of which no transfers overlap. Over a rack of the
--- shape, whose words are those of the image, or told where they stood where there is none, the
--- batch is placed, in as many settings as the busiest link has uses, and this is printed of it.
-pub record IsResult (told : RunText) (shape batch : List ℕ) (image : Option (List ℕ))
-    (text : List ℕ) : Type 0 where
-  pub extent : Extent
-  pub transfers : List Transfer
+-- A run of transfers on a rack of the shape, whose words are first those of the image, or tell where
+-- they stand where there is none: no transfers overlap, and they are placed in what is left.
+pub record IsLeftBy (extent : Extent) (image : Option (List ℕ)) (transfers : List Transfer)
+    (left : Store) : Type 0 where
   pub opening : Store
-  pub placed : Store
-  pub settings : ℕ
-  pub shape_read : DenotesShape shape extent
-  pub batch_read : Denotes extent batch transfers
   pub apart : IsApart transfers
   pub is_opening : IsOfImageOrMarked extent image opening
-  pub is_placed : IsPlaced opening transfers placed
-  pub fewest : IsDegree transfers settings
-  pub printed : text ≡ told transfers settings placed
+  pub is_placed : IsPlaced opening transfers left
 
--- A run of the plan on a rack of the shape with such words: no transfers overlap, the batch is
--- placed, and this is printed of it.
-pub record IsResultOf (told : RunText) (extent : Extent) (image : Option (List ℕ)) (plan : Plan)
-    (text : List ℕ) : Type 0 where
-  pub opening : Store
-  pub placed : Store
-  pub apart : IsApart plan.batch
-  pub is_opening : IsOfImageOrMarked extent image opening
-  pub is_placed : IsPlaced opening plan.batch placed
-  pub printed : text ≡ told plan.batch (length plan.settings) placed
+-- the texts are those of a shape and of a batch, and this is printed of a run of the batch on a rack
+-- of the shape
+pub record IsResult (IsTold : Extent → List ℕ → List Transfer → Store → List ℕ → Type 0)
+    (shape batch : List ℕ) (image : Option (List ℕ)) (text : List ℕ) : Type 0 where
+  pub extent : Extent
+  pub transfers : List Transfer
+  pub left : Store
+  pub shape_read : DenotesShape shape extent
+  pub batch_read : Denotes extent batch transfers
+  pub is_left : IsLeftBy extent image transfers left
+  pub told : IsTold extent batch transfers left text
+
+-- such a run of the text's batch by a schedule from this source, on a rack of the text's shape
+pub record HasRunFrom (source : Source (List ℕ)) (shape batch : List ℕ) (image : Option (List ℕ))
+    (ran : BatchSchedule) (left : Store) : Type 0 where
+  pub extent : Extent
+  pub shape_read : DenotesShape shape extent
+  pub scheduled : IsScheduleFrom source extent batch ran.batch ran.settings
+  pub is_left : IsLeftBy extent image ran.batch left
 
 -- what is wrong with running transfers: the first two that overlap
 abbrev pub IsOverlapOf : List Transfer → Refusal → Type 0
@@ -72,21 +76,33 @@ pub data IsWrongOf (extent : Extent) (image : Option (List ℕ)) (transfers : Li
   overlapping : IsRightImage extent image → IsOverlapOf transfers refusal
       → IsWrongOf extent image transfers refusal
 
--- what is first wrong: the shape text is looked at first, then the batch text, then what is run
-pub data IsFirstRunWrong (shape batch : List ℕ) (image : Option (List ℕ)) (refusal : Refusal)
-    : Type 0 where
-  shape_wrong : IsBadShape shape → refusal ≡ Shape → IsFirstRunWrong shape batch image refusal
-  batch_wrong : (extent : Extent) (fault : BatchFault) → DenotesShape shape extent
-      → IsFirstFault extent batch fault → refusal ≡ of_batch fault
-      → IsFirstRunWrong shape batch image refusal
+-- what is first wrong: the shape text is looked at first, then the texts of the batch and of the
+-- schedule, where a text says it, then what is run
+pub data IsFirstRunWrong (source : Source (List ℕ)) (shape batch : List ℕ)
+    (image : Option (List ℕ)) (refusal : Refusal) : Type 0 where
+  shape_wrong : IsBadShape shape → refusal ≡ Shape
+      → IsFirstRunWrong source shape batch image refusal
+  texts_wrong : (extent : Extent) → DenotesShape shape extent
+      → IsWrongFrom source extent batch refusal
+      → IsFirstRunWrong source shape batch image refusal
   run_wrong : (extent : Extent) (transfers : List Transfer) → DenotesShape shape extent
-      → Denotes extent batch transfers → IsWrongOf extent image transfers refusal
-      → IsFirstRunWrong shape batch image refusal
+      → AreRight source extent batch transfers → IsWrongOf extent image transfers refusal
+      → IsFirstRunWrong source shape batch image refusal
 
 -- what is printed of the run, or what is first wrong, each under its status
-pub data IsRunAnswer (told : RunText) (shape batch : List ℕ) (image : Option (List ℕ))
+pub data IsAnswerBy (IsTold : Extent → List ℕ → List Transfer → Store → List ℕ → Type 0)
+    (source : Source (List ℕ)) (shape batch : List ℕ) (image : Option (List ℕ))
     (printed : Printed) : Type 0 where
-  ran : IsResult told shape batch image printed.text → printed.status ≡ DONE
-      → IsRunAnswer told shape batch image printed
-  run_refused : (refusal : Refusal) → IsFirstRunWrong shape batch image refusal
-      → IsRefused (refusal_words refusal) printed → IsRunAnswer told shape batch image printed
+  ran : IsResult IsTold shape batch image printed.text → printed.status ≡ DONE
+      → IsAnswerBy IsTold source shape batch image printed
+  run_refused : (refusal : Refusal) → IsFirstRunWrong source shape batch image refusal
+      → IsRefused (refusal_words refusal) printed
+      → IsAnswerBy IsTold source shape batch image printed
+
+-- what `run` answers, by a schedule from this source
+abbrev pub IsRunAnswer : Source (List ℕ) → List ℕ → List ℕ → Option (List ℕ) → Printed → Type 0
+IsRunAnswer source = IsAnswerBy (IsReport source) source
+
+-- what `apply` answers: whatever schedule the transfers moved by, the image is the same
+abbrev pub IsApplied : List ℕ → List ℕ → List ℕ → Printed → Type 0
+IsApplied shape batch image = IsAnswerBy IsImage (Plan Plain) shape batch (Some image)

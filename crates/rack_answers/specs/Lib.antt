@@ -1,7 +1,6 @@
 pub mod Reports
 pub mod Openings
 pub mod Answers
-pub mod Tellings
 pub mod Boards
 pub mod Switching
 pub mod Laws

@@ -1,5 +1,5 @@
 -- What `run` prints of a run that was completed. The texts are this project's choice.
-use Rattle.std.specs.Prelude.{◌≡◌, ℕ, ◌*◌, List, [], ◌++◌, if◌then◌else◌, codes, length}
+use Rattle.std.specs.Prelude.{◌≡◌, ℕ, ◌*◌, List, [], ◌++◌, Bool, true, false, Option, Some, None, if◌then◌else◌, codes, length}
 use Rattle.std.specs.Global.{Vec}
 use Rattle.std.specs.Fmt.{decimal}
 use Rattle.std.specs.List.{flat_map, range_with_len}
@@ -9,6 +9,10 @@ use Rattle.batch.specs.Held.{is_written}
 use Rattle.module_memory.specs.Store.{Store, block_of}
 use Rattle.setting_runner.specs.LineBits.{bits_of}
 use Rattle.line_words.specs.HexWords.{hex8}
+use Rattle.plan_answers.specs.declared.source.Planning.TheVariants.{Plain, Steady}
+use Rattle.plan_answers.specs.declared.source.Source.{Source}
+use Rattle.plan_answers.specs.declared.source.Source.TheVariants.{Plan, Text}
+use Rattle.steady_schedule.specs.Changes.{changes}
 
 -- `ran settings S words X bits Y`
 abbrev pub ran_line : ℕ → ℕ → List ℕ
@@ -39,11 +43,35 @@ block_text batch s m b =
 abbrev pub module_text : List Transfer → Store → ℕ → List ℕ
 module_text batch s m = flat_map (block_text batch s m) (range_with_len 0 s.shape.blocks)
 
--- how much was done, and then the words of each block that was written, by module and then by block
-abbrev pub report_of : List Transfer → ℕ → Store → List ℕ
-report_of batch settings s =
-    ran_line settings (length batch * s.shape.words)
-    ++ flat_map (module_text batch s) (range_with_len 0 s.shape.modules)
+-- the words of each block that was written, by module and then by block
+abbrev pub blocks_text : List Transfer → Store → List ℕ
+blocks_text batch s = flat_map (module_text batch s) (range_with_len 0 s.shape.modules)
+
+-- `changes N`, where it is told how often the switch changed
+abbrev pub changes_text : Option ℕ → List ℕ
+changes_text None = []
+changes_text (Some changes) = codes "changes " ++ decimal changes ++ codes "\n"
+
+-- how much was done, and then those words
+abbrev pub report_of : List Transfer → ℕ → Option ℕ → Store → List ℕ
+report_of batch settings changed s =
+    ran_line settings (length batch * s.shape.words) ++ changes_text changed ++ blocks_text batch s
+
+-- whether it is told how often the switch changed over a schedule from this source: not over a
+-- plain plan
+abbrev pub tells_changes : Source (List ℕ) → Bool
+tells_changes (Plan Plain) = false
+tells_changes (Plan Steady) = true
+tells_changes (Text schedule) = true
+
+-- how often it changes over these settings, where that is told
+abbrev pub told_changes : Bool → List Transfer → List (List ℕ) → Option ℕ
+told_changes told batch settings = if told then Some (changes batch settings) else None
+
+-- the report of a run of a schedule from this source
+abbrev pub report_for : Source (List ℕ) → List Transfer → List (List ℕ) → Store → List ℕ
+report_for source batch settings s =
+    report_of batch (length settings) (told_changes (tells_changes source) batch settings) s
 
 -- these bytes were put at the end of a text
 abbrev pub Adds : Vec ℕ → Vec ℕ → List ℕ → Type 0

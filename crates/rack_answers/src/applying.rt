@@ -6,7 +6,9 @@ ghost use Rattle.batch.specs.Overlap.{IsApart};
 ghost use Rattle.module_memory.specs.Core.{FitsIn};
 ghost use Rattle.module_memory.specs.Placing.{IsPlacedImage};
 ghost use Rattle.plan_answers.specs.Answers.{IsOnly};
-ghost use Rattle.rack_answers.specs.Answers.{IsResult, IsWrongOf, IsFirstRunWrong, IsRunAnswer, image_alone};
+ghost use Rattle.plan_answers.specs.declared.source.Planning.TheVariants.{Plain};
+ghost use Rattle.plan_answers.specs.declared.source.Source.TheVariants.{Plan};
+ghost use Rattle.rack_answers.specs.Answers.{IsResult, IsWrongOf, IsFirstRunWrong, IsApplied, IsImage};
 ghost use Rattle.refusals.specs.declared.refusal.Refusal.TheVariants.{NoMemory};
 
 use batch::{Batch, Shape};
@@ -33,9 +35,9 @@ fn apply_batch(alloc: Global, shape: Shape, batch: &Batch, image: &[u8]) -> Resu
 /// The image that a run of the batch leaves, or what is first wrong.
 fn apply_texts(alloc: Global, shape: &[u8], batch: &[u8], image: &[u8]) -> Result<Vec<u8>, Refusal>
     ensures result { IfOk result (λ text.
-        IsResult image_alone shape.now batch.now (Some image.now) text.items) }
+        IsResult IsImage shape.now batch.now (Some image.now) text.items) }
     ensures wrong { IfErr result (λ refusal. refusal ≢ NoMemory
-        → IsFirstRunWrong shape.now batch.now (Some image.now) refusal) }
+        → IsFirstRunWrong (Plan Plain) shape.now batch.now (Some image.now) refusal) }
 {
     let shape = Shape::read(shape)?;
     let batch = Batch::read(alloc, batch, shape)?;
@@ -51,9 +53,9 @@ pub fn answer_apply_alone(
     batch: &[u8],
     image: &[u8],
 ) -> Result<Answer, AllocError>
-    ensures ran { IfOk result (IsRunAnswer image_alone shape.now batch.now (Some image.now)) }
+    ensures ran { IfOk result (IsApplied shape.now batch.now image.now) }
     ensures one { IfOk result
-        (IsOnly (IsRunAnswer image_alone shape.now batch.now (Some image.now))) }
+        (IsOnly (IsApplied shape.now batch.now image.now)) }
 {
     match apply_texts(alloc, shape, batch, image) {
         Ok(text) => Ok(Answer::done(text)),

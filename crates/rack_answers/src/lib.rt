@@ -7,9 +7,9 @@
 //! first wrong. It reads no file and prints nothing. Only those that are given workers start
 //! threads, and need a handle.
 //!
-//! What the answers are is said by `IsRunAnswer` of `specs/Answers.antt` and by `IsSwitched` of
-//! `specs/Switching.antt`. There is one answer at most of `run`, of `apply`, and of `switch` by a
-//! schedule's text on the usual wiring.
+//! What the answers are is said by `IsRunAnswer` and `IsApplied` of `specs/Answers.antt`, and by
+//! `IsSwitched` of `specs/Switching.antt`. There is one answer at most of `apply`, of `run` but by a
+//! steady plan, and of `switch` by a schedule's text on the usual wiring.
 #![tactic(auto)]
 
 mod applying;

@@ -3,7 +3,7 @@
 ghost use Rattle.std.specs.Prelude.{◌≡◌, ◌<◌, IfOk, OnOk};
 ghost use Rattle.batch.specs.Extent.{IsShape};
 ghost use Rattle.batch.specs.Places.{HasPlace};
-ghost use Rattle.rack_answers.specs.Reports.{words_text, block_head as head_of, block_text, module_text, report_of, Adds};
+ghost use Rattle.rack_answers.specs.Reports.{words_text, block_head as head_of, block_text, module_text, changes_text, report_of, Adds};
 
 use crate::spaced::push_spaced;
 use batch::{Batch, Place, WrittenBlocks};
@@ -76,8 +76,20 @@ fn push_module(
     Ok(())
 }
 
+/// Puts the line of so many changes at the end of the text, where there is such a number.
+fn push_changes(alloc: Global, text: &mut Vec<u8>, changes: Option<usize>) -> Result<(), AllocError>
+    ensures { OnOk result (Adds text.old text.new (changes_text changes)) }
+{
+    if let Some(changes) = changes {
+        let line = format!(in alloc; "changes {changes}\n")?;
+        text.extend_from_slice(line.as_bytes())?;
+    }
+    Ok(())
+}
+
 /// The report of a run that placed the blocks of a batch in so many settings and left the rack: how
-/// much was done, and the words of each block that the batch writes, by module and then by block.
+/// much was done, how often the switch changed, where that is told, and the words of each block that
+/// the batch writes, by module and then by block.
 ///
 /// Takes time that grows with the number of transfers, of blocks, and of words written.
 pub fn report(
@@ -85,8 +97,9 @@ pub fn report(
     rack: &Rack,
     batch: &Batch,
     settings: usize,
+    changes: Option<usize>,
 ) -> Result<Vec<u8>, AllocError>
-    ensures { IfOk result (λ text. text.items ≡ report_of batch.now settings rack.now) }
+    ensures { IfOk result (λ text. text.items ≡ report_of batch.now settings changes rack.now) }
 {
     let shape = rack.shape();
     let words = batch.len() * shape.words();
@@ -94,6 +107,7 @@ pub fn report(
     let mut text = format!(in alloc;
         "ran settings {settings} words {words} bits {bits}\n"
     )?.into_bytes();
+    push_changes(alloc, &mut text, changes)?;
     let written = batch.written_blocks();
     for module in 0..shape.modules() {
         push_module(&mut text, rack, &written, module)?;

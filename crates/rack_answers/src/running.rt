@@ -1,39 +1,36 @@
 //! The commands `run` and `apply`.
 
-ghost use Rattle.std.specs.Prelude.{◌≡◌, ◌≢◌, IfOk, IfErr, Some, length};
+ghost use Rattle.std.specs.Prelude.{◌≡◌, ◌≢◌, IfOk, IfErr, length};
 ghost use Rattle.batch.specs.Overlap.{IsApart};
 ghost use Rattle.link_graph.specs.Schedules.{IsScheduleOf};
 ghost use Rattle.module_memory.specs.declared.fault.ImageFault.TheVariants as image_fault;
 ghost use Rattle.module_memory.specs.Core.{FitsIn, IsPlaced};
 ghost use Rattle.plan_answers.specs.Answers.{IsOnly};
-ghost use Rattle.rack_answers.specs.Answers.{IsResultOf, IsResult, IsOverlapOf, IsWrongOf, IsFirstRunWrong, IsRunAnswer, image_alone};
+ghost use Rattle.rack_answers.specs.Answers.{IsLeftBy, HasRunFrom, IsOverlapOf, IsWrongOf, IsFirstRunWrong, IsRunAnswer, IsApplied};
 ghost use Rattle.plan_answers.specs.Lent.{bytes_of};
 ghost use Rattle.rack_answers.specs.Openings.{IsOfImageOrMarked, IsWrongImage};
 ghost use Rattle.refusals.specs.declared.refusal.Refusal.TheVariants.{NoMemory};
-ghost use Rattle.rack_answers.specs.Reports.{report_of};
-ghost use Rattle.rack_answers.specs.Tellings.{told_by};
+ghost use Rattle.plan_answers.specs.Schedules.{said_by};
+ghost use Rattle.plan_answers.specs.declared.source.Planning.TheVariants.{Steady};
+ghost use Rattle.plan_answers.specs.declared.source.Source.TheVariants.{Plan};
+ghost use Rattle.rack_answers.specs.Reports.{report_of, tells_changes as tells, told_changes};
+ghost use Rattle.steady_schedule.specs.Changes.{changes};
 
 use crate::opening::opening_rack;
 use crate::report::report;
 use batch::{Batch, Shape, laws};
 use crossbar::MemoryPort;
 use exchange_limits::WorkerCount;
-use link_graph::Schedule;
+use link_graph::{LinkGraph, Schedule};
 use module_memory::{ImageFault, Rack};
 use peek_poke::PlainWires;
-use plan_answers::Answer;
+use plan_answers::{Answer, Planning, Scheduled, Source};
 use refusals::Refusal;
-use schedule_certificate::{OpenGate, Planned, schedule};
+use schedule_certificate::OpenGate;
 use setting_runner::{Notice, Outcome, Plant, RunRefusal, run};
 use std::alloc::{AllocError, Global};
 use std::thread::Threads;
-
-/// What is printed of a run: its report, or the image of the rack that it leaves.
-#[derive(Clone, Copy)]
-enum Telling {
-    Report,
-    Image,
-}
+use steady_schedule::count_changes;
 
 /// Nobody is told how far a run has come.
 #[derive(Drop)]
@@ -59,7 +56,7 @@ fn marked_rack(alloc: Global, shape: Shape, image: Option<&[u8]>) -> Result<Rack
 }
 
 /// Runs a batch on a rack by a schedule of it, over a port and wires that never fail. Gives the
-/// rack as the run leaves it, and how many settings there were.
+/// rack as the run leaves it.
 fn run_plain<R: Threads + Sync>(
     rt: &R,
     alloc: Global,
@@ -67,11 +64,10 @@ fn run_plain<R: Threads + Sync>(
     batch: &Batch,
     schedule: &Schedule,
     workers: WorkerCount,
-) -> Result<(Rack, usize), Refusal>
+) -> Result<Rack, Refusal>
     requires fits { FitsIn rack.shape batch.now }
     requires schedule { IsScheduleOf batch.now schedule.now }
-    ensures settings { IfOk result (λ ran. ran.1 ≡ length schedule.now) }
-    ensures placed { IfOk result (λ ran. IsPlaced rack batch.now ran.0) }
+    ensures placed { IfOk result (IsPlaced rack batch.now) }
     ensures apart { IfOk result (λ _. IsApart batch.now) }
     ensures wrong { IfErr result (λ e. e ≢ NoMemory → IsOverlapOf batch.now e) }
 {
@@ -84,7 +80,7 @@ fn run_plain<R: Threads + Sync>(
     };
     let (rack, outcome) = run(rt, alloc, rack, &mut plant, batch, schedule, &mut NoNotice);
     match outcome {
-        Outcome::Completed { settings, .. } => Ok((rack, settings)),
+        Outcome::Completed { .. } => Ok(rack),
         Outcome::Refused(why) => match why {
             RunRefusal::Overlap(i, j) => Err(Refusal::Overlap(i, j)),
             RunRefusal::Shape => unreachable!(),
@@ -94,112 +90,125 @@ fn run_plain<R: Threads + Sync>(
     }
 }
 
-/// What is printed of a run of the batch in so many settings that left the rack.
-fn result_text(
-    alloc: Global,
-    rack: &Rack,
-    batch: &Batch,
-    settings: usize,
-    telling: Telling,
-) -> Result<Vec<u8>, AllocError>
-    ensures { IfOk result (λ text. text.items ≡ told_by telling batch.now settings rack.now) }
-{
-    match telling {
-        Telling::Report => report(alloc, rack, batch, settings),
-        Telling::Image => rack.image(),
-    }
-}
-
-/// What is printed of a run of the plan on a rack of the shape that begins with the image's words,
-/// or with marks where there is no image; or what is wrong.
-fn tell_plan<R: Threads + Sync>(
+/// Runs a schedule on a rack of the shape that begins with the image's words, or with marks where
+/// there is no image. Gives the rack as the run leaves it, or what is wrong.
+fn run_on<R: Threads + Sync>(
     rt: &R,
     alloc: Global,
     shape: Shape,
     image: Option<&[u8]>,
-    planned: &Planned,
+    scheduled: &Scheduled,
     workers: WorkerCount,
-    telling: Telling,
-) -> Result<Vec<u8>, Refusal>
-    requires fits { FitsIn shape planned.now.batch }
-    ensures result { IfOk result (λ text.
-        IsResultOf (told_by telling) shape (bytes_of image.entry) planned.now text.items) }
+) -> Result<Rack, Refusal>
+    requires fits { FitsIn shape scheduled.now.batch }
+    ensures left { IfOk result (IsLeftBy shape (bytes_of image.entry) scheduled.now.batch) }
     ensures wrong { IfErr result (λ e. e ≢ NoMemory
-        → IsWrongOf shape (bytes_of image.entry) planned.now.batch e) }
+        → IsWrongOf shape (bytes_of image.entry) scheduled.now.batch e) }
 {
     let rack = marked_rack(alloc, shape, image)?;
-    let batch = planned.batch();
-    let schedule = planned.schedule();
-    let (rack, settings) = run_plain(rt, alloc, rack, batch, schedule, workers)?;
-    Ok(result_text(alloc, &rack, batch, settings, telling)?)
+    run_plain(
+        rt,
+        alloc,
+        rack,
+        scheduled.batch(),
+        scheduled.schedule(),
+        workers,
+    )
 }
 
-/// What is printed of the run, or what is first wrong.
-fn tell_run<R: Threads + Sync>(
+/// The schedule from this source, and the rack that its run leaves; or what is first wrong.
+fn run_texts<R: Threads + Sync>(
     rt: &R,
     alloc: Global,
     shape: &[u8],
     batch: &[u8],
+    source: Source<&[u8]>,
     image: Option<&[u8]>,
     workers: WorkerCount,
-    telling: Telling,
-) -> Result<Vec<u8>, Refusal>
-    ensures result { IfOk result (λ text. IsResult (told_by telling) shape.now batch.now
-        (bytes_of image.entry) text.items) }
+) -> Result<(Scheduled, Rack), Refusal>
+    ensures ran { IfOk result (λ ran. HasRunFrom (said_by source.entry) shape.now batch.now
+        (bytes_of image.entry) ran.0 ran.1) }
     ensures wrong { IfErr result (λ refusal. refusal ≢ NoMemory
-        → IsFirstRunWrong shape.now batch.now (bytes_of image.entry) refusal) }
+        → IsFirstRunWrong (said_by source.entry) shape.now batch.now (bytes_of image.entry)
+        refusal) }
 {
     let shape = Shape::read(shape)?;
-    let batch = Batch::read(alloc, batch, shape)?;
-    let planned = schedule(rt, alloc, batch, workers, &OpenGate)?;
-    tell_plan(rt, alloc, shape, image, &planned, workers, telling)
+    let scheduled = Scheduled::read(rt, alloc, shape, batch, source, workers)?;
+    let rack = run_on(rt, alloc, shape, image, &scheduled, workers)?;
+    Ok((scheduled, rack))
 }
 
-/// What is printed of the run, under its status, or the refusal of what is first wrong.
-fn answer_telling<R: Threads + Sync>(
-    rt: &R,
-    alloc: Global,
-    shape: &[u8],
-    batch: &[u8],
-    image: Option<&[u8]>,
-    workers: WorkerCount,
-    telling: Telling,
-) -> Result<Answer, AllocError>
-    ensures ran { IfOk result
-        (IsRunAnswer (told_by telling) shape.now batch.now (bytes_of image.entry)) }
-    ensures one { IfOk result
-        (IsOnly (IsRunAnswer (told_by telling) shape.now batch.now (bytes_of image.entry))) }
+/// Whether it is told how often the switch changed over a schedule from this source.
+fn tells_changes(source: &Source<&[u8]>) -> bool
+    ensures { result ≡ tells (said_by source.now) }
 {
-    match tell_run(rt, alloc, shape, batch, image, workers, telling) {
-        Ok(text) => Ok(Answer::done(text)),
-        Err(refusal) => Answer::refused(alloc, refusal),
+    match source {
+        Source::Plan(Planning::Plain) => false,
+        Source::Plan(Planning::Steady) | Source::Text(_) => true,
     }
+}
+
+/// How often the switch changes over the schedule.
+fn changes_of(scheduled: &Scheduled) -> Result<usize, AllocError>
+    ensures { IfOk result (λ n. n ≡ changes scheduled.now.batch scheduled.now.settings) }
+{
+    let graph = LinkGraph::of(scheduled.batch())?;
+    Ok(count_changes(&graph, scheduled.schedule()))
+}
+
+/// The report of a run of the schedule that left the rack, which may tell how often the switch
+/// changed.
+fn report_text(
+    alloc: Global,
+    scheduled: &Scheduled,
+    rack: &Rack,
+    told: bool,
+) -> Result<Vec<u8>, AllocError>
+    ensures { IfOk result (λ text. text.items ≡ report_of scheduled.now.batch
+        (length scheduled.now.settings)
+        (told_changes told scheduled.now.batch scheduled.now.settings) rack.now) }
+{
+    let changes = if told {
+        Some(changes_of(scheduled)?)
+    } else {
+        None
+    };
+    let settings = scheduled.schedule().settings();
+    report(alloc, rack, scheduled.batch(), settings, changes)
 }
 
 /// The answer of `exchange run`: the report of a run of the batch that the batch text denotes, on a
 /// rack of the shape that the shape text denotes, whose words are first those of the image or,
 /// where there is none, tell where they stand; or the refusal of what is first wrong.
 ///
-/// The shape text `MxKxW` is looked at first; then the batch text, against that shape; then whether
+/// The shape text `MxKxW` is looked at first; then the batch text, against that shape, and the text
+/// of a schedule, as [`Scheduled::read`](plan_answers::Scheduled::read) looks at them; then whether
 /// the image has as many bytes as the rack's words have, four each; then whether transfers overlap.
-/// The report is `ran settings S words X bits Y`, and the line `block M B` with the words, of eight
-/// hexadecimal digits each, of every block that the batch writes, by module and then by block. Such
-/// a run has as few settings as the batch allows, and goes to its end, since its port and its wires
-/// never fail. Planning and the run are given so many workers each.
+/// The report is `ran settings S words X bits Y`; the line `changes N`, how often the switch
+/// changed, but for a plain plan; and the line `block M B` with the words, of eight hexadecimal
+/// digits each, of every block that the batch writes, by module and then by block. Such a run goes
+/// to its end, since its port and its wires never fail. A plan's has as few settings as the batch
+/// allows. Planning and the run are given so many workers each.
 pub fn answer_run<R: Threads + Sync>(
     rt: &R,
     alloc: Global,
     shape: &[u8],
     batch: &[u8],
+    source: Source<&[u8]>,
     image: Option<&[u8]>,
     workers: WorkerCount,
 ) -> Result<Answer, AllocError>
     ensures ran { IfOk result
-        (IsRunAnswer report_of shape.now batch.now (bytes_of image.entry)) }
-    ensures one { IfOk result
-        (IsOnly (IsRunAnswer report_of shape.now batch.now (bytes_of image.entry))) }
+        (IsRunAnswer (said_by source.entry) shape.now batch.now (bytes_of image.entry)) }
+    // Steady plans of a batch may differ in how often they change the switch.
+    ensures one { source.entry ≢ Plan Steady → IfOk result
+        (IsOnly (IsRunAnswer (said_by source.entry) shape.now batch.now (bytes_of image.entry))) }
 {
-    answer_telling(rt, alloc, shape, batch, image, workers, Telling::Report)
+    let told = tells_changes(&source);
+    match run_texts(rt, alloc, shape, batch, source, image, workers) {
+        Ok((scheduled, rack)) => Ok(Answer::done(report_text(alloc, &scheduled, &rack, told)?)),
+        Err(refusal) => Answer::refused(alloc, refusal),
+    }
 }
 
 /// The answer of `exchange apply`: the image with the blocks of the batch placed, by a run on a
@@ -207,8 +216,8 @@ pub fn answer_run<R: Threads + Sync>(
 /// [`answer_run`] looks at it.
 ///
 /// An image has all words of a rack, by module, by block and by place, each as four bytes, the
-/// least significant first, and nothing else. The run has as few settings as the batch allows,
-/// which isn't printed, and goes to its end. The answer doesn't depend on the number of workers.
+/// least significant first, and nothing else. The run is of a plain plan. The answer doesn't depend
+/// on the number of workers.
 pub fn answer_apply<R: Threads + Sync>(
     rt: &R,
     alloc: Global,
@@ -217,17 +226,12 @@ pub fn answer_apply<R: Threads + Sync>(
     image: &[u8],
     workers: WorkerCount,
 ) -> Result<Answer, AllocError>
-    ensures ran { IfOk result (IsRunAnswer image_alone shape.now batch.now (Some image.now)) }
-    ensures one { IfOk result
-        (IsOnly (IsRunAnswer image_alone shape.now batch.now (Some image.now))) }
+    ensures ran { IfOk result (IsApplied shape.now batch.now image.now) }
+    ensures one { IfOk result (IsOnly (IsApplied shape.now batch.now image.now)) }
 {
-    answer_telling(
-        rt,
-        alloc,
-        shape,
-        batch,
-        Some(image),
-        workers,
-        Telling::Image,
-    )
+    let source = Source::Plan(Planning::Plain);
+    match run_texts(rt, alloc, shape, batch, source, Some(image), workers) {
+        Ok((_, rack)) => Ok(Answer::done(rack.image()?)),
+        Err(refusal) => Answer::refused(alloc, refusal),
+    }
 }

@@ -1,11 +1,10 @@
-use Rattle.std.proofs.Common.{Some}
-use Rattle.rack_answers.specs.Answers.{IsRunAnswer, image_alone}
+use Rattle.rack_answers.specs.Answers.{IsApplied}
 use Rattle.exchange_c.specs.Writing.{IsTheOne}
 use Rattle.exchange_c.proofs.Writing.{left, the_one}
 use Rattle.exchange_c.proofs.exchange_apply.Goals as goal
 
 pub returns : goal.returns
 returns c =
-    let IsAnswer = IsRunAnswer image_alone c.args.shape.now c.args.batch.now (Some c.args.image.now) in
+    let IsAnswer = IsApplied c.args.shape.now c.args.batch.now c.args.image.now in
     let is = the_one c.answer_apply_alone.result IsAnswer c.answer_apply_alone.ensures.ran c.answer_apply_alone.ensures.one in
     left _ (IsTheOne IsAnswer) c.args.out.now c.leave.new.out c.leave.new.count c.leave.result is c.leave.ensures.some c.leave.ensures.none

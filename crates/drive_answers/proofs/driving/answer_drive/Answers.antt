@@ -4,7 +4,7 @@ use Rattle.batch.specs.declared.transfer.Transfer.{Transfer}
 use Rattle.board_wiring.specs.Boards.{extent_of}
 use Rattle.crossbar.specs.Wired.{links_of}
 use Rattle.crossbar.specs.declared.board.BoardWiring.{BoardWiring}
-use Rattle.plan_answers.proofs.Denoted.{denoted}
+use Rattle.plan_answers.proofs.OneSource.{denoted}
 use Rattle.switch_settings.specs.Racks.{HasModulesOf}
 use Rattle.std.proofs.lemmas.Result.{IfOk-weaker}
 use Rattle.board_wiring.specs.Sources.{of_wiring}

@@ -1,9 +1,8 @@
-use Rattle.std.proofs.Common.{Option, None, subst, List, ℕ}
+use Rattle.std.proofs.Common.{Option, List, ℕ}
 use Rattle.std.proofs.lemmas.Result.{IfOk-weaker}
 use Rattle.board_wiring.specs.Sources.{of_wiring}
 use Rattle.board_wiring.proofs.ReadBoards.{wires_some}
 use Rattle.crossbar.specs.declared.board.BoardWiring.{BoardWiring}
-use Rattle.plan_answers.specs.Answers.{IsOnly}
 use Rattle.plan_answers.specs.Lent.{bytes_of}
 use Rattle.plan_answers.specs.Refusals.{Refuses, Printed}
 use Rattle.plan_answers.specs.Schedules.{said_by}

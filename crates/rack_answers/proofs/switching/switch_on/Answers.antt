@@ -5,7 +5,7 @@ use Rattle.batch.specs.declared.transfer.Transfer.{Transfer}
 use Rattle.board_wiring.specs.Boards.{extent_of}
 use Rattle.crossbar.specs.declared.board.BoardWiring.{BoardWiring}
 use Rattle.rack_answers.specs.Boards.{WiresAll}
-use Rattle.plan_answers.proofs.Denoted.{denoted}
+use Rattle.plan_answers.proofs.OneSource.{denoted}
 use Rattle.plan_answers.specs.Refusals.{Refuses}
 use Rattle.plan_answers.specs.Schedules.{said_by}
 use Rattle.rack_answers.specs.Switching.{TellsSwitch, IsSwitched, switched, wrong}
