@@ -90,7 +90,7 @@ name_of (Drive batch port port_b source wiring goes_on workers) = name.Drive
 name_of C004 = name.C004
 name_of (Direct moves) = name.Direct
 name_of (Apply shape batch image workers) = name.Apply
-name_of (Run shape batch image workers) = name.Run
+name_of (Run shape batch source image workers) = name.Run
 name_of (Serve rack scripts workers) = name.Serve
 name_of (Host rack clients workers) = name.Host
 name_of (Talk rack) = name.Talk
@@ -118,9 +118,9 @@ HasJob rows (Direct moves) = HasText (codes "MOVES") rows moves
 HasJob rows (Apply shape batch image workers) =
     HasText (codes "SHAPE") rows shape × HasText (codes "BATCH") rows batch
     × HasText (codes "IMAGE") rows image × HasWorkers rows workers
-HasJob rows (Run shape batch image workers) =
+HasJob rows (Run shape batch source image workers) =
     HasText (codes "SHAPE") rows shape × HasText (codes "BATCH") rows batch
-    × HasOption (codes "image") rows image × HasWorkers rows workers
+    × HasSource rows source × HasOption (codes "image") rows image × HasWorkers rows workers
 HasJob rows (Serve rack scripts workers) =
     HasRack rows rack × HasServed (codes "SCRIPT") rows scripts × HasWorkers rows workers
 HasJob rows (Host rack clients workers) =
@@ -189,6 +189,10 @@ abbrev pub driven_files : Text → Source Text → Option Text → Bool → List
 driven_files batch source wiring goes_on =
     switched_files batch source wiring ++ cue_files goes_on
 
+-- those of `run`: the image is read first, where a file has it
+abbrev pub run_files : Option Text → Text → Source Text → List Text
+run_files image batch source = option_to_list image ++ switched_files batch source None
+
 -- the names of the files that a job reads itself, in this order; the client of `talk` is standard
 -- input, and so is the link of `c004`
 abbrev pub files_of : Job → List Text
@@ -201,7 +205,7 @@ files_of (Drive batch port port_b source wiring goes_on workers) =
 files_of C004 = input_name ∷ []
 files_of (Direct moves) = moves ∷ []
 files_of (Apply shape batch image workers) = batch ∷ image ∷ []
-files_of (Run shape batch image workers) = option_to_list image ++ batch ∷ []
+files_of (Run shape batch source image workers) = run_files image batch source
 files_of (Serve rack scripts workers) = option_to_list rack.image ++ scripts
 files_of (Host rack clients workers) = option_to_list rack.image
 files_of (Talk rack) = option_to_list rack.image ++ input_name ∷ []
@@ -347,7 +351,7 @@ HasWanted name.Apply rows =
     × HasSome (HasText (codes "IMAGE") rows) × HasSome (HasWorkers rows)
 HasWanted name.Run rows =
     HasSome (HasText (codes "SHAPE") rows) × HasSome (HasText (codes "BATCH") rows)
-    × HasSome (HasWorkers rows)
+    × HasSome (HasSource rows) × HasSome (HasWorkers rows)
 HasWanted name.Serve rows =
     HasSome (HasRack rows) × HasSome (HasServed (codes "SCRIPT") rows) × HasSome (HasWorkers rows)
 HasWanted name.Host rows =

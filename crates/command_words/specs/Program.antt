@@ -92,7 +92,10 @@ sheet_of Drive = (
 sheet_of C004 = (codes "c004", Quiet ∷ [])
 sheet_of Direct = (codes "direct", Moves ∷ Quiet ∷ [])
 sheet_of Apply = (codes "apply", Shape ∷ Batch ∷ Image ∷ Workers ∷ Quiet ∷ [])
-sheet_of Run = (codes "run", Shape ∷ Batch ∷ ImageOption ∷ Workers ∷ Quiet ∷ [])
+sheet_of Run = (
+  codes "run",
+  Shape ∷ Batch ∷ ImageOption ∷ ScheduleOption ∷ Steady ∷ Workers ∷ Quiet ∷ [],
+)
 sheet_of Serve = (
   codes "serve",
   Shape ∷ Scripts ∷ ImageOption ∷ RecordOut ∷ ImageOut ∷ Workers ∷ Quiet ∷ [],

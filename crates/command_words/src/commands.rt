@@ -138,7 +138,18 @@ impl CommandName {
             CommandName::C004 => ("c004", &[Quiet]),
             CommandName::Direct => ("direct", &[Moves, Quiet]),
             CommandName::Apply => ("apply", &[Shape, Batch, Image, Workers, Quiet]),
-            CommandName::Run => ("run", &[Shape, Batch, ImageOption, Workers, Quiet]),
+            CommandName::Run => (
+                "run",
+                &[
+                    Shape,
+                    Batch,
+                    ImageOption,
+                    ScheduleOption,
+                    Steady,
+                    Workers,
+                    Quiet,
+                ],
+            ),
             CommandName::Serve => (
                 "serve",
                 &[

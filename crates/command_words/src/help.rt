@@ -334,19 +334,29 @@ SHAPE is MxKxW: M modules, from 1 to 32, each of K blocks, from 1 to 64, each
 of W words, from 1 to 256. BATCH is a batch text, in the form that
 `exchange plan --help` shows, with modules below M and blocks below K.
 
+It runs by a plan, by the plan of `exchange plan --steady` with --steady, or with
+--schedule by the schedule of FILE, any schedule text of BATCH, with the
+certificate part or without it. --workers, --steady and --schedule exclude each
+other.
+
 Word j of block b of module m is 65536 m + 256 b + j before the run, or that of
 the image where there is one. The answer is the line
 `ran settings S words X bits Y`: how many settings the switches had, how many
-words were moved, and how many bits went over the links for them. Then comes
-each block that was written, by module and then by block:
+words were moved, and how many bits went over the links for them. With --steady
+or --schedule a second line tells how often the switch changed, the first
+setting counted:
+  changes N
+Then comes each block that was written, by module and then by block:
   block M B hex8 ..   its words, of eight hexadecimal digits each
 
 Else nothing is run, and the answer is the first of these that is wrong:
-  refused file          the image or BATCH can't be read
-  refused shape         SHAPE is no shape
-  refused ..            BATCH, as `exchange plan --help` shows, in this rack
-  refused image L W     the image has L bytes, and the shape wants W
-  refused overlap I J   transfers I and J write one block
+  refused file            the image, BATCH or FILE can't be read
+  refused shape           SHAPE is no shape
+  refused ..              BATCH, as `exchange plan --help` shows, in this rack
+  refused schedule line N line N of FILE, as `exchange check --help` shows
+  refused check ..        the same, where FILE has no schedule of BATCH
+  refused image L W       the image has L bytes, and the shape wants W
+  refused overlap I J     transfers I and J write one block
 Such a batch isn't run: the result would depend on which transfer came last. Of
 several such pairs the one with the smallest I is told, then the smallest J. A
 block may be read and written: moved is what it held before the run.

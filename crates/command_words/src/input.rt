@@ -1,7 +1,7 @@
 //! Which files are standard input.
 
 ghost use Rattle.std.specs.Prelude.{◌≡◌, ◌≢◌, ◌↔◌, ◌++◌, ◌∷◌, [], All, IsTrue, Some, option_to_list};
-ghost use Rattle.command_words.specs.Jobs.{NameInputOnce, driven_files, files_of, input_name, switched_files};
+ghost use Rattle.command_words.specs.Jobs.{NameInputOnce, driven_files, files_of, input_name, run_files, switched_files};
 
 use crate::jobs::Job;
 use crate::text::Text;
@@ -112,6 +112,16 @@ fn drives_by_one_input(
     switches_by_no_input(batch, source, wiring)
 }
 
+/// Whether standard input is at most one of the image's file, the batch, and the schedule's file.
+fn runs_by_one_input(image: &Option<Text>, batch: &Text, source: &Source<Text>) -> bool
+    ensures { IsTrue result ↔ NameInputOnce (run_files image.now batch.now source.now) }
+{
+    if is_input(image) {
+        return switches_by_no_input(batch, source, &None);
+    }
+    switches_by_one_input(batch, source, &None)
+}
+
 /// Whether at most one of a job's files is standard input.
 pub(crate) fn reads_input_once(job: &Job) -> bool
     ensures { IsTrue result ↔ NameInputOnce (files_of job.now) }
@@ -141,12 +151,17 @@ pub(crate) fn reads_input_once(job: &Job) -> bool
             goes_on,
             ..
         } => drives_by_one_input(batch, source, wiring, *goes_on),
-        Job::Run { batch, image, .. }
-        | Job::Replay {
-            recorded: batch,
+        Job::Run {
+            batch,
+            source,
             image,
             ..
-        } => !(is_input(image) && batch.is_input()),
+        } => runs_by_one_input(image, batch, source),
+        Job::Replay {
+            recorded,
+            image,
+            ..
+        } => !(is_input(image) && recorded.is_input()),
         Job::Serve { rack, scripts, .. } => name_input_once_behind(&rack.image, scripts.as_slice()),
         Job::Talk { rack } => !is_input(&rack.image),
         Job::Plan { .. } | Job::C004 | Job::Direct { .. } | Job::Host { .. } => true,

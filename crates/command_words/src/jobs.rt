@@ -67,11 +67,12 @@ pub enum Job {
         image: Text,
         workers: WorkerCount,
     },
-    /// Run the batch of a file on a rack of the shape, which may begin with the words of an image's
-    /// file, with so many workers.
+    /// Run a schedule of the batch of a file on a rack of the shape, which may begin with the words
+    /// of an image's file, with so many workers.
     Run {
         shape: Text,
         batch: Text,
+        source: Source<Text>,
         image: Option<Text>,
         workers: WorkerCount,
     },

@@ -228,6 +228,7 @@ fn run_job(alloc: Global, found: &ArgMatches<'_>) -> Result<Job, Lack>
     Ok(Job::Run {
         shape: text_of(alloc, found, "SHAPE")?,
         batch: text_of(alloc, found, "BATCH")?,
+        source: source_of(alloc, found)?,
         image: option_of(alloc, found, "image")?,
         workers: workers_of(found)?,
     })
