@@ -1,9 +1,9 @@
 -- What the program prints for a job.
-use Rattle.std.specs.Prelude.{◌≡◌, ◌⊎◌, ℕ, List, [], ◌++◌, Option, Some, None, ⊤, true, length, slice_index_or}
+use Rattle.std.specs.Prelude.{◌≡◌, ◌⊎◌, ℕ, List, [], ◌++◌, Option, None, ⊤, true, length, slice_index_or}
 use Rattle.std.specs.Io.KnownBytes.{Consumes, IsAtEnd}
 use Rattle.batch.specs.Extent.{widest}
 use Rattle.plan_answers.specs.Answers.{IsPlanned, IsChecked}
-use Rattle.rack_answers.specs.Answers.{IsRunAnswer, image_alone}
+use Rattle.rack_answers.specs.Answers.{IsRunAnswer, IsApplied}
 use Rattle.plan_answers.specs.Drawings.{IsDrawn}
 use Rattle.plan_answers.specs.Directing.{IsDirected}
 use Rattle.crossbar.specs.Switch.{idle}
@@ -12,7 +12,7 @@ use Rattle.session_answers.specs.HostAnswers.{KnownClients, SessionEnd, IsHostAn
 use Rattle.switch_end.specs.End.{EndState}
 use Rattle.switch_end.specs.Answering.{HasRun}
 use Rattle.plan_answers.specs.Refusals.{Printed}
-use Rattle.rack_answers.specs.Reports.{report_of}
+use Rattle.plan_answers.specs.declared.source.Source.{Source}
 use Rattle.session_answers.specs.Serving.{IsServeAnswer}
 use Rattle.session_answers.specs.Talking.{IsTalkAnswer}
 use Rattle.replay_answers.specs.Replays.{IsReplayPrinted}
@@ -24,7 +24,7 @@ use Rattle.command_words.specs.declared.jobs.SharedRack.{SharedRack}
 use Rattle.refusals.specs.declared.refusal.Refusal.{Refusal}
 use Rattle.refusals.specs.declared.refusal.Refusal.TheVariants as refusal
 use Rattle.refusals.specs.Refusals.{refusal_line}
-use Rattle.exchange.specs.Files.{IsFileContent, IsImageContent, AreFileContents}
+use Rattle.exchange.specs.Files.{IsFileContent, IsImageContent, IsSourceContent, AreFileContents}
 use Rattle.exchange.specs.Drives.{IsSomeDrive}
 use Rattle.exchange.specs.Ports.{ports_named}
 use Rattle.exchange.specs.Switches.{IsSomeSwitch}
@@ -59,13 +59,15 @@ IsSomeDirect input file answer =
 abbrev pub IsSomeApply : Option (List ℕ) → List ℕ → List ℕ → List ℕ → Printed → Type 0
 IsSomeApply input shape file image_file answer =
     (batch image : List ℕ) × IsFileContent input file batch × IsFileContent input image_file image
-    × IsRunAnswer image_alone shape batch (Some image) answer
+    × IsApplied shape batch image answer
 
 -- an answer of `run` to this shape's text and to what these files contain
-abbrev pub IsSomeRun : Option (List ℕ) → List ℕ → List ℕ → Option (List ℕ) → Printed → Type 0
-IsSomeRun input shape file image_file answer =
-    (batch : List ℕ) × (image : Option (List ℕ)) × IsFileContent input file batch
-    × IsImageContent input image_file image × IsRunAnswer report_of shape batch image answer
+abbrev pub IsSomeRun : Option (List ℕ) → List ℕ → List ℕ → Source (List ℕ) → Option (List ℕ)
+    → Printed → Type 0
+IsSomeRun input shape file source image_file answer =
+    (batch : List ℕ) × (held : Source (List ℕ)) × (image : Option (List ℕ))
+    × IsFileContent input file batch × IsSourceContent input source held
+    × IsImageContent input image_file image × IsRunAnswer held shape batch image answer
 
 -- what `c004` replied to what came of standard input, to its end, or as far as it could be read; it
 -- prints nothing behind that
@@ -129,7 +131,8 @@ IsAnswerTo input (Switch batch source wiring workers) answer =
 IsAnswerTo input (Direct moves) answer = IsSomeDirect input moves answer
 IsAnswerTo input (Apply shape batch image workers) answer =
     IsSomeApply input shape batch image answer
-IsAnswerTo input (Run shape batch image workers) answer = IsSomeRun input shape batch image answer
+IsAnswerTo input (Run shape batch source image workers) answer =
+    IsSomeRun input shape batch source image answer
 IsAnswerTo input (Drive batch port port_b source wiring goes_on workers) answer =
     (told : List ℕ) × (end : Printed) × (answer ≡ behind_told told end)
     × IsSomeDrive input batch source wiring goes_on

@@ -5,7 +5,7 @@ ghost use Rattle.std.specs.Io.KnownBytes.{Appends};
 ghost use Rattle.batch_book.specs.History.{Account};
 ghost use Rattle.client_session.specs.Listening.{TellsOfRefusals};
 ghost use Rattle.plan_answers.specs.Lent.{bytes_of};
-ghost use Rattle.command_words.specs.Jobs.{CanBeServed, IsWithinLimits, NameInputOnce, files_of, input_name};
+ghost use Rattle.command_words.specs.Jobs.{CanBeServed, IsWithinLimits, NameInputOnce, files_of, input_name, run_files};
 ghost use Rattle.exchange.specs.Responses.{IsSomePlan, IsSomeCheck, IsSomeDraw, IsSomeDirect, IsSomeApply, IsSomeRun, IsSomeC004, IsSomeServe, IsSomeHost, IsSomeTalk};
 ghost use Rattle.exchange.specs.Responses.{IsAnswerTo, IsToldBy, behind_told};
 ghost use Rattle.exchange.specs.Notes.{IsBeside};
@@ -15,10 +15,10 @@ ghost use Rattle.exchange.specs.Outcomes.{HasNote, IsUntold, MayStandBehind};
 use crate::beside::Beside;
 use crate::client_streams::{ClientFiles, FileStreams, System};
 use crate::driving::drive;
-use crate::files::{read_file, read_files, read_image, read_texts, slice_of};
+use crate::files::{lent, read_file, read_files, read_image, read_source, read_texts, slice_of};
 use crate::notes::{
-    Answered, NoAnswer, alone, closed, named, named_image, of_list, of_rack, of_schedule,
-    reason_line, tell_note, with_note,
+    Answered, NoAnswer, alone, closed, named, named_image, named_schedule, of_list, of_rack,
+    of_run, of_schedule, reason_line, tell_note, with_note,
 };
 use crate::outputs::{Outputs, open_outputs};
 use crate::ports::NamedPorts;
@@ -28,7 +28,9 @@ use crate::unwritten::Unwritten;
 use client_session::{Listener, NoListener};
 use command_words::{Job, Request, SharedRack, Text, TextList};
 use exchange_limits::WorkerCount;
-use plan_answers::{Answer, Planning, answer_check, answer_direct, answer_draw, answer_plan};
+use plan_answers::{
+    Answer, Planning, Source, answer_check, answer_direct, answer_draw, answer_plan,
+};
 use rack_answers::{answer_apply, answer_run};
 use refusal_notes::Listing;
 use session_answers::{Hosted, answer_host, answer_serve, answer_talk};
@@ -92,9 +94,10 @@ pub(crate) fn answer_to<R: System, I: Read, O: Write, E: Write>(
         Job::Run {
             shape,
             batch,
+            source,
             image,
             workers,
-        } => run(rt, &shape, &batch, &image, workers, input),
+        } => run(rt, &shape, &batch, &source, &image, workers, input),
         Job::Drive {
             batch,
             port,
@@ -266,27 +269,44 @@ fn apply<R: AllocGlobal + Files + Threads + Sync, I: Read>(
     Ok(with_note(rt.alloc(), answer, texts))
 }
 
-/// The answer of `exchange run SHAPE BATCH`. The image's file, if one is named, is read first, and
-/// then the batch's, before the shape is looked at.
+/// The answer of `exchange run SHAPE BATCH`. The image's file, if one is named, is read first, then
+/// the batch's, and then the schedule's, if one is named, before the shape is looked at.
 fn run<R: AllocGlobal + Files + Threads + Sync, I: Read>(
     rt: &R,
     shape: &Text,
     batch: &Text,
+    source: &Source<Text>,
     image: &Option<Text>,
     workers: WorkerCount,
     input: &mut I,
 ) -> Result<Answered, NoAnswer>
-    requires input { NameInputOnce (option_to_list image.now ++ batch.now ∷ []) }
-    ensures answer { IfOk result (λ done.
-        IsSomeRun (I.remaining input.old) shape.now batch.now image.now done.answer) }
+    requires input { NameInputOnce (run_files image.now batch.now source.now) }
+    ensures answer { IfOk result (λ done. IsSomeRun (I.remaining input.old)
+        shape.now batch.now source.now image.now done.answer) }
     ensures note { HasNote result }
 {
     let words = read_image(rt, image, input)?;
     let content = read_file(rt, batch, input)?;
+    let held = read_source(rt, source, input)?;
     let shape = shape.as_str();
     let (content, words) = (content.as_slice(), slice_of(&words));
-    let answer = answer_run(rt, rt.alloc(), shape.as_bytes(), content, words, workers)?;
-    let texts = of_rack(shape, named(batch, content), named_image(image, words));
+    let from = lent(&held);
+    let answer = answer_run(
+        rt,
+        rt.alloc(),
+        shape.as_bytes(),
+        content,
+        from,
+        words,
+        workers,
+    )?;
+    let texts = of_run(
+        &answer,
+        shape,
+        named(batch, content),
+        named_image(image, words),
+        named_schedule(source, &held),
+    );
     Ok(with_note(rt.alloc(), answer, texts))
 }
 

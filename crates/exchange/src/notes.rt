@@ -14,10 +14,10 @@ use byte_streams::write_bytes;
 use command_words::{SharedRack, Text};
 use drive_answers::DriveFault;
 use module_memory::Rack;
-use plan_answers::Answer;
+use plan_answers::{Answer, Source};
 use record_replay::RecordError;
 use refusal_notes::{Listing, Named, Texts, file_line, second_line};
-use refusals::Validity;
+use refusals::{Refusal, Validity};
 use session_answers::Closing;
 use std::alloc::{AllocError, Global};
 use std::fs::OpenFile;
@@ -158,6 +158,21 @@ pub(crate) fn of_rack<'a>(shape: &'a str, batch: Named<'a>, image: Named<'a>) ->
     }
 }
 
+/// The word of a rack's shape, a batch, and the image of the rack where it is refused, else the
+/// schedule. Either may be none.
+pub(crate) fn of_run<'a>(
+    answer: &Answer,
+    shape: &'a str,
+    batch: Named<'a>,
+    image: Named<'a>,
+    schedule: Named<'a>,
+) -> Texts<'a> {
+    match answer.refusal() {
+        Some(Refusal::Image { .. }) => of_rack(shape, batch, image),
+        _ => of_rack(shape, batch, schedule),
+    }
+}
+
 /// The word of a rack's shape, a record, the image of the rack, which may be none, and what is
 /// wrong with the record, where something is.
 pub(crate) fn of_record<'a>(
@@ -215,6 +230,14 @@ pub(crate) fn reason_line(alloc: Global, name: &str, error: &io::Error) -> Optio
 pub(crate) fn named_image<'a>(name: &'a Option<Text>, image: Option<&'a [u8]>) -> Named<'a> {
     match (name, image) {
         (Some(name), Some(text)) => named(name, text),
+        _ => Named::NONE,
+    }
+}
+
+/// The name of a schedule's file, and what that contains, where one has it.
+pub(crate) fn named_schedule<'a>(source: &'a Source<Text>, held: &'a Source<Vec<u8>>) -> Named<'a> {
+    match (source, held) {
+        (Source::Text(name), Source::Text(text)) => named(name, text.as_slice()),
         _ => Named::NONE,
     }
 }

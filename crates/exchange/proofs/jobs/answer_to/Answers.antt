@@ -26,7 +26,7 @@ pub returns-in-Apply : goal.returns-in-Apply
 returns-in-Apply g c = rw c.in-Apply.is (record { response = ([], Appends-nil _, refl, untold c.apply.result _ c.apply.ensures.answer, c.apply.ensures.note, behind_none c.apply.result (Apply c.in-Apply.shape c.in-Apply.batch c.in-Apply.image c.in-Apply.workers) refl); beside = inl refl })
 
 pub returns-in-Run : goal.returns-in-Run
-returns-in-Run g c = rw c.in-Run.is (record { response = ([], Appends-nil _, refl, untold c.run.result _ c.run.ensures.answer, c.run.ensures.note, behind_none c.run.result (Run c.in-Run.shape c.in-Run.batch c.in-Run.image c.in-Run.workers) refl); beside = inl refl })
+returns-in-Run g c = rw c.in-Run.is (record { response = ([], Appends-nil _, refl, untold c.run.result _ c.run.ensures.answer, c.run.ensures.note, behind_none c.run.result (Run c.in-Run.shape c.in-Run.batch c.in-Run.source c.in-Run.image c.in-Run.workers) refl); beside = inl refl })
 
 pub returns-in-Drive : goal.returns-in-Drive
 returns-in-Drive g c = rw c.in-Drive.is (record { response = settings_told c.drive.result _ _ c.in-Drive.port _ _ _ c.in-Drive.goes_on c.in-Drive.workers _ _ _ c.new-ports.ensures c.drive.ensures.answer c.drive.ensures.note; beside = inl refl })
