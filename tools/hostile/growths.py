@@ -119,7 +119,7 @@ COMMANDS = [
     ["draw", "three", "schedule"], ["draw", "three", "three"],
     # `Rack::new` and `part`, `run` and `answer_run`. Where blocks are swapped, `Batch::held_sources` and a `Rack::part` that holds them.
     ["run", "3x2x2", "two"], ["run", "3x2x2", "two", "--workers", "2"], ["run", "2x1x1", "swap"], ["run", "3x2", "two"],
-    ["run", "3x2x2", "two", "--image", "image"],
+    ["run", "3x2x2", "two", "--image", "image"], ["run", "3x2x2", "three", "--steady"], ["run", "3x2x2", "three", "--schedule", "schedule"],
     # `TextList::of`, `Rack::copy`, `Book::new`, `Shared::new`, `serve` and `answer_serve`.
     ["serve", "2x2x2", "script", "other"], ["serve", "2x2x2", "script", "other", "--workers", "2"],
     ["serve", "3x2x2", "pushes", "--workers", "2"], ["serve", "2x1x1", "refusals"], ["serve", "2x2", "script"],

@@ -284,11 +284,15 @@ def answer_check(batch, schedule):
         return f"refused {why}\n".encode()
 
 
-def report(shape, transfers, word_at):
+def planned(transfers):
+    """How many settings a plan has, and the lines that tell how often it changes the switch: none."""
+    return len(busiest(transfers)[1]), []
+
+
+def report(shape, transfers, word_at, settings, changes):
     """What is told of a completed run, where word_at gives the words that were there before it."""
     moved = len(transfers) * shape[2]
-    settings = len(busiest(transfers)[1])
-    lines = [f"ran settings {settings} words {moved} bits {117 * moved}"]
+    lines = [f"ran settings {settings} words {moved} bits {117 * moved}", *changes]
     for transfer in sorted(transfers, key=destination):
         words = [f"{word_at(*source(transfer), j):08x}" for j in range(shape[2])]
         lines.append("block {} {} {}".format(*destination(transfer), " ".join(words)))
@@ -308,15 +312,17 @@ def read_image(shape, image):
     return word_at
 
 
-def answer_run(shape, batch, image=None):
+def answer_run(shape, batch, image=None, run_by=planned):
+    """What `run` answers, where run_by tells of the schedule of transfers what `planned` tells of a plan, or refuses it."""
     try:
         shape = read_shape(shape)
         transfers = read_batch(batch, shape)
+        schedule = run_by(transfers)
         word_at = mark if image is None else read_image(shape, image)
         overlap = first_overlap(transfers)
         if overlap:
             raise Refused("overlap {} {}".format(*overlap))
-        return report(shape, transfers, word_at).encode()
+        return report(shape, transfers, word_at, *schedule).encode()
     except Refused as why:
         return f"refused {why}\n".encode()
 

@@ -31,6 +31,17 @@ def changes(transfers, settings):
     return sum(now != before for before, now in zip([None, *pairs], pairs))
 
 
+def scheduled(text):
+    """What tells of transfers how many settings their schedule in a text has, and in a line how often that changes the switch."""
+
+    def run_by(transfers):
+        settings, _ = plain.read_schedule(text)
+        plain.check_settings(transfers, settings)
+        return len(settings), [f"changes {changes(transfers, settings)}"]
+
+    return run_by
+
+
 def most_partners(transfers):
     """How many partners a link has at most. No schedule changes the switch less often."""
     partners = Counter(link for pair in pairs_of(transfers) for link in links_of([pair]))

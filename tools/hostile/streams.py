@@ -93,7 +93,8 @@ def unreadable_files(room):
             ("plan", name), ("plan", name, "--steady"), ("switch", name), ("switch", name, "--steady"), ("switch", name, "--schedule", "plan"),
             ("switch", "three", "--schedule", name), ("switch", "three", "--wiring", name), ("drive", "three", "missing", "--wiring", name),
             ("drive", name, "missing"), ("check", name, "plan"), ("check", "three", name), ("draw", name, "plan"), ("draw", "three", name),
-            ("run", "3x2x2", name), ("run", "0", name), ("serve", "2x2x2", "script", name), ("serve", "0", name), ("apply", "2x1x1", name, "image"),
+            ("run", "3x2x2", name), ("run", "0", name), ("run", "0", "three", "--schedule", name), ("serve", "2x2x2", "script", name),
+            ("serve", "0", name), ("apply", "2x1x1", name, "image"),
             ("apply", "0", "three", name), ("run", "0", "three", "--image", name), ("serve", "0", "script", "--image", name), ("direct", name),
             ("replay", "0", name), ("replay", "0", "three", "--image", name),
         ]:  # fmt: skip
@@ -190,6 +191,7 @@ INPUTS = [
     (("draw", "-", "plan"), "three", picture.answer_draw(THREE_TRANSFERS, PLAN)),
     (("draw", "three", "-"), "plan", picture.answer_draw(THREE_TRANSFERS, PLAN)),
     (("run", "3x2x2", "-"), "three", plain.answer_run(b"3x2x2", THREE_TRANSFERS)),
+    (("run", "3x2x2", "three", "--schedule", "-"), "plan", plain.answer_run(b"3x2x2", THREE_TRANSFERS, run_by=steady.scheduled(PLAN))),
     (("run", "2x1x1", "swap", "--image", "-"), "image", plain.answer_run(b"2x1x1", SWAP, IMAGE)),
     (("apply", "2x1x1", "-", "image"), "swap", SWAPPED),
     (("apply", "2x1x1", "swap", "-"), "image", SWAPPED),

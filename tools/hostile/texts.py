@@ -1,8 +1,8 @@
 #!/usr/bin/env python3
 """Spoilt texts: what the program answers to them, and what the plain implementation does.
 
-    texts.py [COUNT]        COUNT texts of each kind, 10000 where it isn't said; of patterns for several workers, of schedules and of wirings for
-                            `switch` and of scripts for `talk` a quarter, of scripts side by side a twentieth
+    texts.py [COUNT]        COUNT texts of each kind, 10000 where it isn't said; of patterns for several workers, of schedules for `switch` and
+                            `run`, of wirings and of scripts for `talk` a quarter, of scripts side by side a twentieth
 
 Text number n of a kind is the same each time. A plan isn't the only one of its batch, so `plan` is judged by what a plan is, or a steady one,
 and `switch` by the plan that `plan` gives; all other answers are compared byte by byte. Of a pattern several workers have to give the plan of
@@ -182,7 +182,8 @@ def kind_of_bytes(answer):
 
 
 def try_run(draw):
-    """A spoilt batch text, put to `run` with a shape that the batch fits, or fitted."""
+    """A spoilt batch text, put to `run` with a shape that the batch fits, or fitted. A steady plan changes the switch as often as the one that
+    `plan` gives."""
     shape = spoil.shape(draw)
     text = spoil.spoil(draw, spoil.batch(draw, shape, draw.choice([3, 10, 20])))
     if draw.random() < 0.1:
@@ -190,10 +191,12 @@ def try_run(draw):
     words = "{}x{}x{}".format(*shape)
     files = [keep("batch", text)]
     image, option = image_option(draw, shape, files)
-    answer = ask_of(draw, ["run", words], [files[0], *option, *files[1:]])
-    wanted = plain.answer_run(words.encode(), text, image)
+    options = steadiness_of(draw)
+    answer = ask_of(draw, ["run", words, *options], [files[0], *option, *files[1:]])
+    run_by = steady.scheduled(ask("plan", "batch", "--steady").out) if options else plain.planned
+    wanted = plain.answer_run(words.encode(), text, image, run_by)
     asked = notes.Asked("batch", named(answer, "batch", text), named(answer, "image", image), words.encode())
-    told = is_well_told(answer, asked, wanted, lambda it: plain.answer_run(it.shape, it.list[1], image))
+    told = is_well_told(answer, asked, wanted, lambda it: plain.answer_run(it.shape, it.list[1], image, run_by))
     return is_answer(answer, wanted) and told, wanted, [words.encode(), text, image], answer
 
 
@@ -297,6 +300,24 @@ def try_switch_by(draw):
     is_told = wanted.startswith(b"refused ")
     well = is_answer(answer, wanted) and told and (is_told or switching.is_switched(batch, text, wanted))
     return well, wanted if is_told else kind_of_bytes(wanted), [batch, text], answer
+
+
+def try_run_by(draw):
+    """A spoilt schedule text, put to `run` with a shape that the batch fits. Its certificate is no matter."""
+    shape = spoil.shape(draw)
+    batch, text = spoilt_schedule(draw, shape, draw.choice([3, 10, 20]), plain.busiest)
+    words = "{}x{}x{}".format(*shape)
+    files = [keep("batch", batch), "--schedule", keep("schedule", text)]
+    image, option = image_option(draw, shape, files)
+    answer = ask_of(draw, ["run", words], [*files[:3], *option, *files[3:]])
+    wanted = plain.answer_run(words.encode(), batch, image, steady.scheduled(text))
+    is_image = wanted.startswith(b"refused image ")
+    other = named(answer, "image", image) if is_image else named(answer, "schedule", text)
+    asked = notes.Asked("batch", named(answer, "batch", batch), other, words.encode())
+    told = is_well_told(
+        answer, asked, wanted, lambda it: plain.answer_run(it.shape, it.list[1], image, steady.scheduled(text if is_image else it.other[1]))
+    )
+    return is_answer(answer, wanted) and told, wanted, [words.encode(), batch, text, image], answer
 
 
 def try_wiring(draw):
@@ -447,6 +468,7 @@ KINDS = {
     "schedules to switch by": try_switch_by,
     "wirings to switch by": try_wiring,
     "batches to run": try_run,
+    "schedules to run by": try_run_by,
     "images to apply a batch to": try_apply,
     "moves to direct": try_direct,
     "schedules to check": try_check,
@@ -485,7 +507,7 @@ def try_some(share):
 
 def main():
     count = int(sys.argv[1]) if len(sys.argv) > 1 else 10000
-    parts = {try_pattern: 4, try_switch_by: 4, try_wiring: 4, try_talk: 4, try_scripts: 20}
+    parts = {try_pattern: 4, try_switch_by: 4, try_run_by: 4, try_wiring: 4, try_talk: 4, try_scripts: 20}
     counts = {kind: count // parts.get(try_it, 1) for kind, try_it in KINDS.items()}
     shares = [(kind, range(at, min(at + 250, most))) for kind, most in counts.items() for at in range(0, most, 250)]
     classes, wrong = {kind: Counter() for kind in KINDS}, []

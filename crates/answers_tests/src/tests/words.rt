@@ -35,12 +35,20 @@ fn said_by(job: &Job) -> Said<'_> {
         | Job::Drive {
             source: Source::Plan(Planning::Steady),
             ..
+        }
+        | Job::Run {
+            source: Source::Plan(Planning::Steady),
+            ..
         } => Said::Steady,
         Job::Switch {
             source: Source::Text(file),
             ..
         }
         | Job::Drive {
+            source: Source::Text(file),
+            ..
+        }
+        | Job::Run {
             source: Source::Text(file),
             ..
         } => Said::File(file.as_str()),
@@ -132,6 +140,11 @@ fn words_name_schedules(rt: HostRuntime) {
             Said::Steady,
         ),
         ("exchange drive B P --steady --wiring W", Said::Steady),
+        ("exchange run S B --steady", Said::Steady),
+        ("exchange run S B --schedule T", Said::File("T")),
+        ("exchange run S - --schedule=T --image I", Said::File("T")),
+        ("exchange run S B --image - --schedule T", Said::File("T")),
+        ("exchange run S B --image I --schedule -", Said::File("-")),
     ];
     assert!(rt; are_all_read_as(rt.alloc(), &rows));
 }
