@@ -50,7 +50,7 @@ mistaken kind error (Clap e) is help version by =
     (subst IsOfArguments (sym by.1) by.0, λ asks. elim asks [ inl h ↦ help (sym same ∙ h) | inr v ↦ version (sym same ∙ v) ])
 
 -- a mistake is told of arguments that fit, where the job that they hold may not be done
-pub declined : (arguments : List Text) (request : Request) (fault : ArgumentsFault) → IsTaken arguments → GivesRequest arguments request → IsMistake fault → (MayBeDone request.job → ⊥) → IsFaultIn arguments fault
+pub declined : (arguments : List Text) (request : Request) (fault : ArgumentsFault) → IsTaken arguments → GivesRequest arguments request → IsMistake fault → (fault ≢ NoMemory → MayBeDone request.job → ⊥) → IsFaultIn arguments fault
 declined arguments request NoMemory taken gives mistake barred = tt
 declined arguments request (Clap error) taken gives mistake barred =
-    (mistake.0, inr (taken, mistake, λ other asks. barred (same_done (subcommand_of program arguments) other request asks.gives gives asks.job)))
+    (mistake.0, inr (taken, mistake, λ other asks. barred (λ e. (let bad : Clap error ≡ NoMemory = e in cc)) (same_done (subcommand_of program arguments) other request asks.gives gives asks.job)))

@@ -1,19 +1,21 @@
 -- What the rows have of a job that arguments hold.
 use Rattle.std.proofs.Common.{◌≡◌, ◌∙◌, ◌↔◌, ap, ap₂, sym, subst, List, [], ◌∷◌, Option, Some, None, Bool, true, false, IsTrue, codes, refl, Result, Ok, Err, IsErrAnd}
-use Rattle.std.specs.Prelude.{IfSome, MatchOption, ◌++◌, find, option_and_then, option_to_list, unwrap_or}
+use Rattle.std.specs.Prelude.{MatchOption, ◌++◌, find, flat_map, map, option_and_then, option_to_list, unwrap_or}
 use Rattle.std.specs.Str.{bytes_eq}
 use Rattle.clap.specs.Words.{Row, Text, all_of, first_of}
 use Rattle.clap.specs.declared.parser.matches.ValueSource.{ValueSource}
 use Rattle.clap.specs.declared.parser.matches.ValueSource.TheVariants.{CommandLine, DefaultValue}
 use Rattle.command_words.specs.declared.commands.CommandName.{CommandName}
 use Rattle.command_words.specs.declared.commands.CommandName.TheVariants as name
+use Rattle.command_words.specs.declared.uses.Access.TheVariants.{Read, Write}
+use Rattle.command_words.specs.declared.uses.FileUse.{FileUse}
 use Rattle.command_words.specs.declared.jobs.Job.{Job}
 use Rattle.command_words.specs.declared.jobs.Job.TheVariants.{Plan, Check, Draw, Switch, Drive, C004, Direct, Apply, Run, Serve, Host, Talk, Replay}
 use Rattle.command_words.specs.declared.jobs.Request.{Request}
 use Rattle.plan_answers.specs.declared.source.Source.{Source}
 use Rattle.plan_answers.specs.declared.source.Source.TheVariants as source
 use Rattle.command_words.specs.Program.{command_word}
-use Rattle.command_words.specs.Jobs.{AreTwo, HasJob, HasOption, HasSome, HasSource, HasText, IsNoInput, IsJob, IsReading, IsRequest, IsWithinLimits, HasWanted, AreClientNames, IsOfNone, MayBeDone, NameInputOnce, clients_of, cue_files, files_of, input_name, name_of, output_of, record_of, schedule_files, switched_files}
+use Rattle.command_words.specs.Jobs.{HasJob, HasOption, HasSome, HasSource, HasText, HaveNames, IsJob, IsReading, IsRequest, IsWithinLimits, HasWanted, AreClientNames, MayBeDone, NameInputOnce, client_files, clients_of, cue_files, file, files_beside, files_of, input_name, name_of, port_files, schedule_files, switched_files}
 use Rattle.command_words.specs.declared.reading.Lack.{Lack}
 use Rattle.command_words.specs.declared.reading.Lack.TheVariants.{Memory}
 use Rattle.command_words.proofs.CommandNames.{same_word}
@@ -120,32 +122,6 @@ files_are rows (Host rack clients workers) has = rw has.0.image refl
 files_are rows (Talk rack) has = rw has.image refl
 files_are rows (Replay shape recorded image) has = rw (has.1, has.2) refl
 
--- where the image of a command's job goes
-abbrev output_in : CommandName → List Row → Option Text
-output_in name.Serve rows = first_of (codes "image-out") rows
-output_in name.Host rows = first_of (codes "image-out") rows
-output_in name.Talk rows = first_of (codes "image-out") rows
-output_in other rows = None
-
-output_is : (rows : List Row) (job : Job) → HasJob rows job → output_of job ≡ output_in (name_of job) rows
-output_is rows (Serve rack scripts workers) has = sym has.0.out
-output_is rows (Host rack clients workers) has = sym has.0.out
-output_is rows (Talk rack) has = sym has.out
-output_is rows job has = refl
-
--- where its record goes
-abbrev record_in : CommandName → List Row → Option Text
-record_in name.Serve rows = first_of (codes "record") rows
-record_in name.Host rows = first_of (codes "record") rows
-record_in name.Talk rows = first_of (codes "record") rows
-record_in other rows = None
-
-record_is : (rows : List Row) (job : Job) → HasJob rows job → record_of job ≡ record_in (name_of job) rows
-record_is rows (Serve rack scripts workers) has = sym has.0.recorded
-record_is rows (Host rack clients workers) has = sym has.0.recorded
-record_is rows (Talk rack) has = sym has.recorded
-record_is rows job has = refl
-
 -- the names of the clients of a command
 abbrev clients_in : CommandName → List Row → List Text
 clients_in name.Host rows = unwrap_or (all_of (codes "CLIENT") rows) []
@@ -155,6 +131,24 @@ clients_are : (rows : List Row) (job : Job) → HasJob rows job → clients_of j
 clients_are rows (Host rack clients workers) has = rw has.1.0 refl
 clients_are rows job has = refl
 
+-- the files beside those of a command
+abbrev kept_in : List Row → List FileUse
+kept_in rows = map (file Write) (option_to_list (first_of (codes "record") rows) ++ option_to_list (first_of (codes "image-out") rows))
+
+abbrev beside_in : CommandName → List Row → List FileUse
+beside_in name.Drive rows = flat_map port_files (text_in (codes "PORT") rows ∷ option_to_list (first_of (codes "PORT_B") rows))
+beside_in name.Serve rows = kept_in rows
+beside_in name.Host rows = kept_in rows ++ flat_map client_files (clients_in name.Host rows)
+beside_in name.Talk rows = kept_in rows
+beside_in other rows = []
+
+beside_are : (rows : List Row) (job : Job) → HasJob rows job → files_beside job ≡ beside_in (name_of job) rows
+beside_are rows (Drive batch port port_b source wiring goes_on workers) has = rw (has.1, has.2) refl
+beside_are rows (Serve rack scripts workers) has = rw (has.0.recorded, has.0.out) refl
+beside_are rows (Host rack clients workers) has = rw (has.0.recorded, has.0.out, has.1.0) refl
+beside_are rows (Talk rack) has = rw (has.recorded, has.out) refl
+beside_are rows job has = refl
+
 -- two jobs that the same arguments hold have one command, so the same files and clients: both may
 -- be done, or neither
 pub same_done : (o : Option (Text × List Row)) (a b : Request) → MatchOption o ⊥ (λ p. IsRequest p.0 p.1 a) → MatchOption o ⊥ (λ p. IsRequest p.0 p.1 b) → MayBeDone a.job → MayBeDone b.job
@@ -162,17 +156,10 @@ same_done None a b one other done = absurd one
 same_done (Some p) a b one other done =
     let same = same_word (name_of a.job) (name_of b.job) (sym one.job.0 ∙ other.job.0) in
     let files = files_are p.1 a.job one.job.1 ∙ ap (λ (n : CommandName). files_in n p.1) same ∙ sym (files_are p.1 b.job other.job.1) in
-    let output = output_is p.1 a.job one.job.1 ∙ ap (λ (n : CommandName). output_in n p.1) same ∙ sym (output_is p.1 b.job other.job.1) in
+    let beside = beside_are p.1 a.job one.job.1 ∙ ap (λ (n : CommandName). beside_in n p.1) same ∙ sym (beside_are p.1 b.job other.job.1) in
     let clients = clients_are p.1 a.job one.job.1 ∙ ap (λ (n : CommandName). clients_in n p.1) same ∙ sym (clients_are p.1 b.job other.job.1) in
-    let recorded = record_is p.1 a.job one.job.1 ∙ ap (λ (n : CommandName). record_in n p.1) same ∙ sym (record_is p.1 b.job other.job.1) in
-    let apart : (o u : Option Text) → o ≡ u → IsNoInput o (files_of a.job) → IsNoInput u (files_of b.job) =
-    λ o u same is. subst (λ (x : Option Text). IsNoInput x (files_of b.job)) same (subst (IsNoInput o) files is) in
-    let kept : (o u : Option Text) → o ≡ u → IfSome o (IsOfNone (clients_of a.job)) → IfSome u (IsOfNone (clients_of b.job)) =
-    λ o u same is. subst (λ (names : List Text). IfSome u (IsOfNone names)) clients (subst (λ (x : Option Text). IfSome x (IsOfNone (clients_of a.job))) same is) in
     record {
       input = subst NameInputOnce files done.input;
-      output = (apart _ _ recorded done.output.0, apart _ _ output done.output.1);
-      outputs = subst (λ (o : Option Text). AreTwo o (output_of b.job)) recorded (subst (AreTwo (record_of a.job)) output done.outputs);
-      client_files = (kept _ _ recorded done.client_files.0, kept _ _ output done.client_files.1);
+      files = subst HaveNames (ap₂ (λ (names : List Text) (more : List FileUse). map (file Read) names ++ more) files beside) done.files;
       clients = subst AreClientNames clients done.clients;
     }

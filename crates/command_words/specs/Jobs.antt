@@ -1,5 +1,5 @@
 -- The job that the arguments of the command line name.
-use Rattle.std.specs.Prelude.{◌≡◌, ◌≢◌, ◌⊎◌, ◌↔◌, ℕ, ◌≤◌, List, [], ◌∷◌, ◌++◌, Some, None, String, codes, length, map, find, string_bytes, Option, All, AllPairs, IsTrue, IfSome, Bool, true, false, option_and_then, option_to_list, MatchOption, Result, Ok, Err, ⊤}
+use Rattle.std.specs.Prelude.{◌≡◌, ◌≢◌, ◌⊎◌, ◌↔◌, ℕ, ◌≤◌, List, [], ◌∷◌, ◌++◌, Some, None, String, codes, length, map, find, flat_map, string_bytes, Option, All, AllPairs, IsTrue, Bool, true, false, option_and_then, option_to_list, MatchOption, Result, Ok, Err, ⊤}
 use Rattle.std.specs.Str.{bytes_eq}
 use Rattle.std.specs.Str.Parse.{IsNumeral, digits_value, without_leading_plus}
 use Rattle.clap.specs.Words.{Row, Text, Kinds, IsAmong, all_of, fault_of, first_of, found_of, one_of, rows_of, subcommand_of, subcommand_rows_of}
@@ -14,6 +14,9 @@ use Rattle.plan_answers.specs.declared.source.Planning.TheVariants as planning
 use Rattle.plan_answers.specs.declared.source.Source.{Source}
 use Rattle.plan_answers.specs.declared.source.Source.TheVariants as source
 use Rattle.command_words.specs.declared.limits.TheConstants.{MAX_CLIENTS}
+use Rattle.command_words.specs.declared.uses.Access.{Access}
+use Rattle.command_words.specs.declared.uses.Access.TheVariants.{Read, Write, Port}
+use Rattle.command_words.specs.declared.uses.FileUse.{FileUse}
 use Rattle.command_words.specs.declared.jobs.Job.{Job}
 use Rattle.command_words.specs.declared.jobs.Job.TheVariants.{Plan, Check, Draw, Switch, Drive, C004, Direct, Apply, Run, Serve, Host, Talk, Replay}
 use Rattle.command_words.specs.declared.jobs.Request.{Request}
@@ -215,57 +218,61 @@ files_of (Replay shape recorded image) = option_to_list image ++ recorded ∷ []
 abbrev pub NameInputOnce : List Text → Type 0
 NameInputOnce names = AllPairs (λ name later. name ≡ input_name → later ≢ input_name) names
 
--- the file to which the record of a job's sessions goes, where it goes to one
-abbrev pub record_of : Job → Option Text
-record_of (Serve rack scripts workers) = rack.record_out
-record_of (Host rack clients workers) = rack.record_out
-record_of (Talk rack) = rack.record_out
-record_of job = None
+-- a file of this name, of which a job makes this use
+abbrev pub file : Access → Text → FileUse
+file access name = record { name = name; access = access }
 
--- the file to which the image goes that a job leaves, where it goes to one
-abbrev pub output_of : Job → Option Text
-output_of (Serve rack scripts workers) = rack.image_out
-output_of (Host rack clients workers) = rack.image_out
-output_of (Talk rack) = rack.image_out
-output_of job = None
+-- the files to which go the record of the sessions on a rack, and the image that they leave
+abbrev pub kept_files : SharedRack → List FileUse
+kept_files rack =
+    map (file Write) (option_to_list rack.record_out ++ option_to_list rack.image_out)
 
--- a file that is written is none of these, and isn't `-`
-abbrev pub IsOther : List Text → Text → Type 0
-IsOther names out = (out ≢ input_name) × All (λ name. name ≢ out) names
+-- a client's files: from the one it is heard, and by the other it is told
+abbrev pub client_files : Text → List FileUse
+client_files client =
+    file Read (client ++ codes ".in") ∷ file Write (client ++ codes ".out") ∷ []
 
-abbrev pub IsNoInput : Option Text → List Text → Type 0
-IsNoInput out names = IfSome out (IsOther names)
+-- the files of a port: it is a device, or two pipes, to the switch and from it
+abbrev pub port_files : Text → List FileUse
+port_files port =
+    file Port port ∷ file Port (port ++ codes ".in") ∷ file Read (port ++ codes ".out") ∷ []
 
--- what a job writes goes to no file that it reads
-abbrev pub KeepsInputs : Job → Type 0
-KeepsInputs job =
-    IsNoInput (record_of job) (files_of job) × IsNoInput (output_of job) (files_of job)
+-- the files beside those of `files_of` that a job reads or writes
+abbrev pub files_beside : Job → List FileUse
+files_beside (Drive batch port port_b source wiring goes_on workers) =
+    flat_map port_files (port ∷ option_to_list port_b)
+files_beside (Serve rack scripts workers) = kept_files rack
+files_beside (Host rack clients workers) = kept_files rack ++ flat_map client_files clients
+files_beside (Talk rack) = kept_files rack
+files_beside job = []
 
--- two files that are written are apart, where there are two
-abbrev pub AreTwo : Option Text → Option Text → Type 0
-AreTwo out later = IfSome out (λ out. All (λ name. name ≢ out) (option_to_list later))
+-- all files that a job names
+abbrev pub uses_of : Job → List FileUse
+uses_of job = map (file Read) (files_of job) ++ files_beside job
 
--- the record and the image go to two files
-abbrev pub KeepsRecord : Job → Type 0
-KeepsRecord job = AreTwo (record_of job) (output_of job)
+-- files of these uses have to be two: one of them is written, and they aren't both a port's
+abbrev pub Exclude : Access → Access → Type 0
+Exclude Read Read = ⊥
+Exclude Port Port = ⊥
+Exclude one other = ⊤
+
+-- what is written isn't `-`
+abbrev pub MayHaveName : FileUse → Type 0
+MayHaveName it = Exclude it.access Read → it.name ≢ input_name
+
+-- they have two names, where they have to be two
+abbrev pub HaveTwoNames : FileUse → FileUse → Type 0
+HaveTwoNames one other = Exclude one.access other.access → one.name ≢ other.name
+
+-- nothing is written that is read, or written too, as far as names say
+pub record HaveNames (files : List FileUse) : Type 0 where
+  pub each : All MayHaveName files
+  pub apart : AllPairs HaveTwoNames files
 
 -- the names of a job's live clients; `host` has some
 abbrev pub clients_of : Job → List Text
 clients_of (Host rack clients workers) = clients
 clients_of job = []
-
--- a file of this name is one of a client's: of what it says, or of what it is told
-abbrev pub IsFileOf : Text → Text → Type 0
-IsFileOf client file = (file ≡ client ++ codes ".in") ⊎ (file ≡ client ++ codes ".out")
-
-abbrev pub IsOfNone : List Text → Text → Type 0
-IsOfNone clients file = All (λ client. IsFileOf client file → ⊥) clients
-
--- what a job writes goes to none of its clients' files
-abbrev pub KeepsClientFiles : Job → Type 0
-KeepsClientFiles job =
-    IfSome (record_of job) (IsOfNone (clients_of job))
-    × IfSome (output_of job) (IsOfNone (clients_of job))
 
 -- the byte that ends a line
 abbrev pub line_feed : ℕ
@@ -280,13 +287,11 @@ pub record AreClientNames (names : List Text) : Type 0 where
   pub each : All IsClientName names
   pub apart : AllPairs (λ name later. name ≢ later) names
 
--- a job may be done: one of its files at most is standard input, what it writes goes to no file
--- that it reads, nor to one of a client's, nor to one file, and its clients can be told apart
+-- a job may be done: one of its files at most is standard input, it writes to none that it reads or
+-- writes too, and its clients can be told apart
 pub record MayBeDone (job : Job) : Type 0 where
   pub input : NameInputOnce (files_of job)
-  pub output : KeepsInputs job
-  pub outputs : KeepsRecord job
-  pub client_files : KeepsClientFiles job
+  pub files : HaveNames (uses_of job)
   pub clients : AreClientNames (clients_of job)
 
 -- the arguments ask for this: they fit the grammar, and hold a job that may be done

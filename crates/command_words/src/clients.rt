@@ -15,7 +15,7 @@ fn is_client_name(name: &Text) -> bool
 }
 
 /// Whether none of these is the name.
-pub(crate) fn is_none_of(name: &Text, names: &[Text]) -> bool
+fn is_none_of(name: &Text, names: &[Text]) -> bool
     ensures { IsTrue result ↔ All (λ other. other ≢ name.now) names.now }
 {
     for other in names {
@@ -27,7 +27,7 @@ pub(crate) fn is_none_of(name: &Text, names: &[Text]) -> bool
 }
 
 /// Whether clients may have these names: each may, and no two are the same.
-pub(crate) fn are_client_names(names: &[Text]) -> bool
+fn are_client_names(names: &[Text]) -> bool
     ensures { IsTrue result ↔ AreClientNames names.now }
 {
     for i in 0..names.len() {

@@ -55,13 +55,13 @@ pub(crate) fn named_twice(alloc: Global) -> ArgumentsFault
     misused(alloc, ErrorKind::ArgumentConflict, message)
 }
 
-/// The fault of arguments whose record or image would be written over what is read, over a client's
-/// file, over one another, or to standard output.
+/// The fault of arguments by which a file would be written that is read, or written too, or
+/// standard output.
 pub(crate) fn overwritten(alloc: Global) -> ArgumentsFault
     ensures { IsMistake result }
 {
     let message =
-        "the files of `--record` and `--image-out` can't be `-`, nor one that is read, nor one of a client's, nor the same";
+        "a file that is written, for `--record`, `--image-out`, a client or PORT, can't be `-`, nor one that is read, or written too";
     misused(alloc, ErrorKind::ArgumentConflict, message)
 }
 

@@ -20,9 +20,11 @@ mod outputs;
 mod reading;
 mod text;
 mod text_list;
+mod uses;
 
 pub use jobs::{ArgumentsFault, Job, Request, SharedRack};
 pub use limits::MAX_CLIENTS;
 pub use reading::read_arguments;
 pub use text::Text;
 pub use text_list::TextList;
+pub use uses::{Access, FileUse, uses_of};

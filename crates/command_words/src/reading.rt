@@ -1,6 +1,6 @@
 //! From the arguments to what they ask for, by what clap finds in them.
 
-ghost use Rattle.std.specs.Prelude.{◌≡◌, ◌↔◌, IfErr, IfOk, IsTrue, OnErr, OnOk};
+ghost use Rattle.std.specs.Prelude.{◌≡◌, ◌≢◌, ◌↔◌, IfErr, IfOk, IsTrue, OnErr, OnOk};
 ghost use Rattle.command_words.specs.declared.jobs.Job.{Job};
 ghost use Rattle.command_words.specs.declared.jobs.Request.{Request};
 ghost use Rattle.command_words.specs.declared.jobs.ArgumentsFault.TheVariants.{NoMemory};
@@ -14,9 +14,10 @@ use crate::grammar::matches_of;
 use crate::input::reads_input_once;
 use crate::jobs::{ArgumentsFault, Job, Request, SharedRack};
 use crate::limits::MAX_CLIENTS;
-use crate::outputs::{keeps_client_files, keeps_inputs, keeps_record};
+use crate::outputs::have_names;
 use crate::text::Text;
 use crate::text_list::TextList;
+use crate::uses::uses_of;
 use clap::ArgMatches;
 use clap::parser::ValueSource;
 use exchange_limits::WorkerCount;
@@ -328,22 +329,23 @@ fn request_named(alloc: Global, arguments: &[String]) -> Result<Request, Argumen
     }
 }
 
-/// Whether a job may be done: its fault, where several of its files are standard input, or a record
-/// or an image would go to a file that is read or a client's, or to standard output, or both to one
-/// file, or its clients can't be told apart.
+/// Whether a job may be done: its fault, where several of its files are standard input, its clients
+/// can't be told apart, or what is written would go to a file that is read or written too, or to
+/// standard output.
 fn judged(alloc: Global, job: &Job) -> Result<(), ArgumentsFault>
     ensures done { OnOk result (MayBeDone job.now) }
-    ensures refused { OnErr result (MayBeDone job.now → ⊥) }
+    ensures refused { IfErr result (λ fault. fault ≢ NoMemory → MayBeDone job.now → ⊥) }
     ensures mistake { IfErr result IsMistake }
 {
     if !reads_input_once(job) {
         return Err(named_twice(alloc));
     }
-    if !keeps_inputs(job) || !keeps_record(job) || !keeps_client_files(job) {
-        return Err(overwritten(alloc));
-    }
     if !names_clients(job) {
         return Err(misnamed(alloc));
+    }
+    let files = uses_of(alloc, job)?;
+    if !have_names(files.as_slice()) {
+        return Err(overwritten(alloc));
     }
     Ok(())
 }
@@ -354,9 +356,8 @@ fn judged(alloc: Global, job: &Job) -> Result<(), ArgumentsFault>
 /// texts and its number of workers, and whether it is quiet. Other arguments are clap's error of
 /// what is at fault in them, which holds the text to print; a demand for help or for the program's
 /// version is one. So are arguments that fit, but give two of `--workers`, `--steady` and
-/// `--schedule`, or name a job of which several files are `-`, standard input, or a record or an
-/// image that would go to one of its files, to a client's, to `-` or to the other's, or clients
-/// whose names are no names.
+/// `--schedule`, or name a job of which several files are `-`, standard input, clients whose names
+/// are no names, or a file to be written that is read or written too, or that is `-`.
 /// Where there was no memory, nothing is said about the arguments: clap's error of that kind is
 /// [`ArgumentsFault::NoMemory`], too.
 pub fn read_arguments(alloc: Global, arguments: &[String]) -> Result<Request, ArgumentsFault>

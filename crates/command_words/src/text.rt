@@ -1,4 +1,4 @@
-ghost use Rattle.std.specs.Prelude.{◌≡◌, ◌↔◌, IfOk, IsTrue};
+ghost use Rattle.std.specs.Prelude.{◌≡◌, ◌↔◌, ◌++◌, IfOk, IsTrue};
 ghost use Rattle.command_words.specs.Jobs.{input_name};
 
 use std::alloc::{AllocError, Global};
@@ -29,6 +29,15 @@ impl Text {
         ensures { IfOk result (λ t. t ≡ text.now) }
     {
         let text = String::from_str(alloc, text)?;
+        Ok(Text { text })
+    }
+
+    /// The text with an ending.
+    pub(crate) fn with_ending(&self, alloc: Global, ending: &str) -> Result<Text, AllocError>
+        ensures { IfOk result (λ t. t ≡ self.now ++ ending.now) }
+    {
+        let mut text = String::from_str(alloc, self.as_str())?;
+        text.push_str(ending)?;
         Ok(Text { text })
     }
 

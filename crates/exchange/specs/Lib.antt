@@ -1,3 +1,4 @@
+pub mod Apart
 pub mod Files
 pub mod Ports
 pub mod Switches

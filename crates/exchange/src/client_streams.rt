@@ -1,5 +1,6 @@
 //! The files of the clients of a host.
 
+use crate::apart::Places;
 use command_words::Text;
 use session_answers::{AllThere, ClientStreams};
 use std::alloc::Global;
@@ -10,9 +11,9 @@ use std::sync::Wait;
 use std::thread::Threads;
 
 /// What the program asks of the system.
-pub trait System: AllocGlobal + Files + Threads + Wait + ClientFiles + Sync {}
+pub trait System: AllocGlobal + Files + Threads + Wait + ClientFiles + Places + Sync {}
 
-impl<R: AllocGlobal + Files + Threads + Wait + ClientFiles + Sync> System for R {}
+impl<R: AllocGlobal + Files + Threads + Wait + ClientFiles + Places + Sync> System for R {}
 
 /// What opens the files of clients, in the thread of each. No contract says what the system's files
 /// hold.

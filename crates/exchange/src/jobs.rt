@@ -12,6 +12,7 @@ ghost use Rattle.exchange.specs.Notes.{IsBeside};
 ghost use Rattle.exchange.specs.Outputs.{AreOutputsWritten};
 ghost use Rattle.exchange.specs.Outcomes.{HasNote, IsUntold, MayStandBehind};
 
+use crate::apart::look_apart;
 use crate::beside::Beside;
 use crate::client_streams::{ClientFiles, FileStreams, System};
 use crate::driving::drive;
@@ -46,8 +47,9 @@ use switch_end::{EndFault, SwitchEnd, answer_commands};
 /// The answer to a job, or why it has none, with what is told beside it. A session of `talk` is
 /// told its replies on `out` before, and a line on `err` beside each that is a refusal, but for
 /// lack of memory. `drive` tells its settings on `out` before, and `c004` writes its answers to
-/// enquiries there, and tells on `err` what it drops. The files for the record of sessions and for
-/// the image that they leave are opened before any other is read.
+/// enquiries there, and tells on `err` what it drops. It is looked first where names lead. Then the
+/// files for the record of sessions and for the image that they leave are opened, before any other
+/// is read.
 pub(crate) fn answer_to<R: System, I: Read, O: Write, E: Write>(
     rt: &R,
     request: Request,
@@ -66,6 +68,7 @@ pub(crate) fn answer_to<R: System, I: Read, O: Write, E: Write>(
     ensures beside { IsBeside request (E.contents err.old) (E.contents err.new) }
 {
     let Request { job, is_quiet } = request;
+    look_apart(rt, &job)?;
     match job {
         Job::Plan {
             file,

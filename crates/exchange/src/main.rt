@@ -12,6 +12,7 @@
 //! these `keep` says, which is private (`specs/Outputs.antt`).
 #![tactic(auto)]
 
+mod apart;
 mod beside;
 mod client_streams;
 mod driving;
@@ -29,12 +30,20 @@ mod switching;
 mod unanswered;
 mod unwritten;
 
+use crate::limits::UNWRITTEN;
 use crate::responding::respond;
+use crate::unwritten::Unwritten;
+use std::fs::{File, OpenOptions};
+use std::os::fd::{AsRawFd, IntoRawFd};
 use std::process::ExitCode;
-use std::rt::Env;
-use std::{env, io};
+use std::rt::{Env, Files};
+use std::{env, io, mem};
 
 fn main(rt: HostRuntime) -> ExitCode {
+    if let Err(error) = take_standard(&rt) {
+        Unwritten::from(error).tell(&mut rt.stderr());
+        return ExitCode::from(UNWRITTEN);
+    }
     let arguments = command_line(&rt);
     respond(
         &rt,
@@ -48,4 +57,22 @@ fn main(rt: HostRuntime) -> ExitCode {
 /// The arguments of the command line, the first of which is the program's name.
 fn command_line<R: AllocGlobal + Env>(rt: &R) -> io::Result<Vec<String>> {
     Ok(env::args(rt)?.collect(rt.alloc())?)
+}
+
+/// Sees to it that no file can become standard input, output or error: where one is closed, its
+/// number, 0 to 2, is taken by the null device, so that using it fails. The system gives the lowest
+/// number that is free.
+fn take_standard<R: Files<File = File>>(rt: &R) -> io::Result<()> {
+    for _ in 0..3 {
+        let null = OpenOptions::new().write(true).open(rt, "/dev/null")?;
+        match null.as_raw_fd() {
+            0 => mem::forget(null),
+            1 | 2 => {
+                drop(null);
+                File::open(rt, "/dev/null")?.into_raw_fd();
+            }
+            _ => break,
+        }
+    }
+    Ok(())
 }

@@ -79,6 +79,16 @@ impl<'a, R, F> NamedPorts<'a, R, F> {
     }
 }
 
+/// Looks whether a file may be a port: a plain one that has something in it is none.
+fn look_at_port<R: Files>(rt: &R, name: &str) -> io::Result<()> {
+    let metadata = fs::metadata(rt, name)?;
+    if metadata.is_file() && metadata.len() > 0 {
+        let why = "a plain file with something in it; a port is a device or a pair of pipes";
+        return Err(io::Error::other(why));
+    }
+    Ok(())
+}
+
 /// Opens both ways of a port: `NAME.in` to the switch, and then `NAME.out` from it, where both are
 /// there; else `NAME` both to read and to write. Nothing is made, and nothing emptied.
 fn open_stream<R: AllocGlobal + Files>(
@@ -88,10 +98,12 @@ fn open_stream<R: AllocGlobal + Files>(
     let to = format!(in rt.alloc(); "{name}.in")?;
     let from = format!(in rt.alloc(); "{name}.out")?;
     if fs::exists(rt, to.as_str())? && fs::exists(rt, from.as_str())? {
+        look_at_port(rt, to.as_str())?;
         let writer = OpenOptions::new().write(true).open(rt, to.as_str())?;
         let reader = OpenOptions::new().read(true).open(rt, from.as_str())?;
         return Ok(SwitchStream { reader, writer });
     }
+    look_at_port(rt, name)?;
     let reader = OpenOptions::new().read(true).write(true).open(rt, name)?;
     let writer = reader.try_clone()?;
     Ok(SwitchStream { reader, writer })

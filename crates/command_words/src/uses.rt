@@ -1,0 +1,256 @@
+//! The files that a job names, and what it does with each.
+
+ghost use Rattle.std.specs.Prelude.{◌≡◌, ◌↔◌, ◌++◌, ◌∷◌, [], IfOk, IsTrue, OnOk, flat_map, map, option_to_list};
+ghost use Rattle.command_words.specs.Jobs.{Exclude, client_files, file, files_beside, files_of, input_name, kept_files, port_files, switched_files, uses_of as the_uses};
+
+use crate::jobs::{Job, SharedRack};
+use crate::text::Text;
+use plan_answers::Source;
+use std::alloc::{AllocError, Global};
+use std::marker::Model;
+
+/// What a job does with a file.
+#[derive(Clone, Copy)]
+pub enum Access {
+    /// It reads it.
+    Read,
+    /// It writes it.
+    Write,
+    /// It sends a switch its commands there.
+    Port,
+}
+
+impl Access {
+    /// Whether files of these uses have to be two.
+    pub fn excludes(self, other: Access) -> bool
+        ensures { IsTrue result ↔ Exclude self other }
+    {
+        match (self, other) {
+            (Access::Read, Access::Read) | (Access::Port, Access::Port) => false,
+            _ => true,
+        }
+    }
+}
+
+/// The name of a file, and what a job does with it.
+#[derive(Drop)]
+pub struct FileUse {
+    pub name: Text,
+    pub access: Access,
+}
+
+/// The files of a job, as far as they are gathered.
+#[derive(Drop)]
+struct Gathered {
+    alloc: Global,
+    uses: Vec<FileUse>,
+}
+
+impl Model for Gathered {
+    ghost use Rattle.std.specs.Prelude.{List};
+    ghost use Rattle.command_words.specs.declared.uses.FileUse.{FileUse};
+
+    ghost Value = { List FileUse };
+
+    ghost view = { λ g. g.uses.items };
+}
+
+impl Gathered {
+    /// A file of this name.
+    fn add_text(&mut self, access: Access, name: Text) -> Result<(), AllocError>
+        ensures { OnOk result (self.new ≡ self.old ++ file access name ∷ []) }
+    {
+        self.uses.push(FileUse { name, access })?;
+        Ok(())
+    }
+
+    /// A file of this name.
+    fn add(&mut self, access: Access, name: &Text) -> Result<(), AllocError>
+        ensures { OnOk result (self.new ≡ self.old ++ file access name.now ∷ []) }
+    {
+        let name = Text::of(self.alloc, name.as_str())?;
+        self.add_text(access, name)
+    }
+
+    /// A file of this name with an ending.
+    fn add_ending(&mut self, access: Access, name: &Text, ending: &str) -> Result<(), AllocError>
+        ensures { OnOk result (self.new ≡ self.old ++ file access (name.now ++ ending.now) ∷ []) }
+    {
+        let name = name.with_ending(self.alloc, ending)?;
+        self.add_text(access, name)
+    }
+
+    /// A file of this name, where there is one.
+    fn add_option(&mut self, access: Access, name: &Option<Text>) -> Result<(), AllocError>
+        ensures { OnOk result
+            (self.new ≡ self.old ++ map (file access) (option_to_list name.now)) }
+    {
+        match name {
+            Some(name) => self.add(access, name),
+            None => Ok(()),
+        }
+    }
+
+    /// Files of these names, which are read.
+    fn read_all(&mut self, names: &[Text]) -> Result<(), AllocError>
+        ensures { OnOk result (self.new ≡ self.old ++ map (file Access.Read) names.now) }
+    {
+        for name in names {
+            self.add(Access::Read, name)?;
+        }
+        Ok(())
+    }
+
+    /// Standard input.
+    fn read_input(&mut self) -> Result<(), AllocError>
+        ensures { OnOk result (self.new ≡ self.old ++ file Access.Read input_name ∷ []) }
+    {
+        let name = Text::of(self.alloc, "-")?;
+        self.add_text(Access::Read, name)
+    }
+
+    /// The files of a batch, of a schedule and of a wiring.
+    fn read_switched(
+        &mut self,
+        batch: &Text,
+        source: &Source<Text>,
+        wiring: &Option<Text>,
+    ) -> Result<(), AllocError>
+        ensures { OnOk result (self.new
+            ≡ self.old ++ map (file Access.Read) (switched_files batch.now source.now wiring.now)) }
+    {
+        self.add(Access::Read, batch)?;
+        if let Source::Text(schedule) = source {
+            self.add(Access::Read, schedule)?;
+        }
+        self.add_option(Access::Read, wiring)
+    }
+
+    /// The files that a job reads itself, in their order.
+    fn read_files(&mut self, job: &Job) -> Result<(), AllocError>
+        ensures { OnOk result (self.new ≡ self.old ++ map (file Access.Read) (files_of job.now)) }
+    {
+        match job {
+            Job::Plan { file: name, .. } | Job::Direct { moves: name } => {
+                self.add(Access::Read, name)
+            }
+            Job::Check {
+                batch,
+                schedule: other,
+            }
+            | Job::Draw {
+                batch,
+                schedule: other,
+                ..
+            }
+            | Job::Apply {
+                batch,
+                image: other,
+                ..
+            } => {
+                self.add(Access::Read, batch)?;
+                self.add(Access::Read, other)
+            }
+            Job::Switch {
+                batch,
+                source,
+                wiring,
+                ..
+            } => self.read_switched(batch, source, wiring),
+            Job::Drive {
+                batch,
+                source,
+                wiring,
+                goes_on,
+                ..
+            } => {
+                self.read_switched(batch, source, wiring)?;
+                if *goes_on { Ok(()) } else { self.read_input() }
+            }
+            Job::Run {
+                batch: name,
+                image,
+                ..
+            }
+            | Job::Replay {
+                recorded: name,
+                image,
+                ..
+            } => {
+                self.add_option(Access::Read, image)?;
+                self.add(Access::Read, name)
+            }
+            Job::C004 => self.read_input(),
+            Job::Serve { rack, scripts, .. } => {
+                self.add_option(Access::Read, &rack.image)?;
+                self.read_all(scripts.as_slice())
+            }
+            Job::Host { rack, .. } => self.add_option(Access::Read, &rack.image),
+            Job::Talk { rack } => {
+                self.add_option(Access::Read, &rack.image)?;
+                self.read_input()
+            }
+        }
+    }
+
+    /// The files for the record of sessions and for the image that they leave.
+    fn add_kept(&mut self, rack: &SharedRack) -> Result<(), AllocError>
+        ensures { OnOk result (self.new ≡ self.old ++ kept_files rack.now) }
+    {
+        self.add_option(Access::Write, &rack.record_out)?;
+        self.add_option(Access::Write, &rack.image_out)
+    }
+
+    /// The files of clients.
+    fn add_clients(&mut self, clients: &[Text]) -> Result<(), AllocError>
+        ensures { OnOk result (self.new ≡ self.old ++ flat_map client_files clients.now) }
+    {
+        for client in clients {
+            self.add_ending(Access::Read, client, ".in")?;
+            self.add_ending(Access::Write, client, ".out")?;
+        }
+        Ok(())
+    }
+
+    /// The files of a port.
+    fn add_port(&mut self, port: &Text) -> Result<(), AllocError>
+        ensures { OnOk result (self.new ≡ self.old ++ port_files port.now) }
+    {
+        self.add(Access::Port, port)?;
+        self.add_ending(Access::Port, port, ".in")?;
+        self.add_ending(Access::Read, port, ".out")
+    }
+
+    /// The files that a job reads or writes beside.
+    fn add_beside(&mut self, job: &Job) -> Result<(), AllocError>
+        ensures { OnOk result (self.new ≡ self.old ++ files_beside job.now) }
+    {
+        match job {
+            Job::Serve { rack, .. } | Job::Talk { rack } => self.add_kept(rack),
+            Job::Host { rack, clients, .. } => {
+                self.add_kept(rack)?;
+                self.add_clients(clients.as_slice())
+            }
+            Job::Drive { port, port_b, .. } => {
+                self.add_port(port)?;
+                match port_b {
+                    Some(port) => self.add_port(port),
+                    None => Ok(()),
+                }
+            }
+            _ => Ok(()),
+        }
+    }
+}
+
+/// All files that a job names: first those that it reads itself, in their order.
+pub fn uses_of(alloc: Global, job: &Job) -> Result<Vec<FileUse>, AllocError>
+    ensures { IfOk result (λ uses. uses.items ≡ the_uses job.now) }
+{
+    let uses = Vec::new(alloc);
+    let mut gathered = Gathered { alloc, uses };
+    gathered.read_files(job)?;
+    gathered.add_beside(job)?;
+    let Gathered { uses, .. } = gathered;
+    Ok(uses)
+}

@@ -1,0 +1,163 @@
+//! Which files the names of a job lead to: none that it writes is one that it reads, or writes too.
+
+ghost use Rattle.std.specs.Prelude.{◌≡◌, ◌⊎◌, ◌↔◌, ℕ, List, Option, All, AllPairs, IfErr, IfOk, IsTrue, OnOk};
+ghost use Rattle.command_words.specs.Jobs.{uses_of as the_uses};
+ghost use Rattle.command_words.specs.declared.uses.Access.TheVariants.{Port};
+ghost use Rattle.exchange.specs.declared.apart.Place.{Place};
+ghost use Rattle.exchange.specs.Apart.{AreOneFile, AreSeenApart};
+ghost use Rattle.exchange.specs.Outcomes.{IsNoAnswer};
+
+use crate::notes::NoAnswer;
+use crate::unanswered::Unanswered;
+use command_words::{Access, FileUse, Job, uses_of};
+use refusal_notes::{Named, file_line};
+use std::alloc::{AllocError, Global};
+use std::fs::Metadata;
+use std::io::ErrorKind;
+use std::os::unix::fs::{FileTypeExt, MetadataExt};
+use std::path::Path;
+use std::rt::Files;
+use std::fs;
+
+/// The file that a name leads to.
+#[derive(Clone, Copy)]
+pub struct Place<'a> {
+    /// The device on which it is, or its folder.
+    pub device: u64,
+    /// Its number there, or that of its folder.
+    pub number: u64,
+    /// Its name in that folder, where it isn't there yet, and else nothing.
+    pub name: &'a str,
+    /// Whether it is a character device, as a terminal is.
+    pub is_device: bool,
+}
+
+/// What tells which files names lead to. It opens none. No contract says where the system's names
+/// lead.
+pub trait Places {
+    /// A name leads to this file, or no file can be told.
+    ghost leads: { Self → List ℕ → Option Place → Type 0 };
+
+    /// The file that a name leads to, where that can be told.
+    fn place<'a>(&self, name: &'a str) -> Result<Option<Place<'a>>, AllocError>
+        ensures { IfOk result (leads self.now name.entry.now) };
+}
+
+impl Places for HostRuntime {
+    ghost use Rattle.std.specs.Prelude.{⊤};
+
+    ghost leads = { λ _ _ _. ⊤ };
+
+    fn place<'a>(&self, name: &'a str) -> Result<Option<Place<'a>>, AllocError> {
+        let path = if name == "-" { "/dev/stdin" } else { name };
+        if let Some(metadata) = look(self, path)? {
+            return Ok(Some(place_of(&metadata, "")));
+        }
+        let path = Path::new(path);
+        let (Some(folder), Some(name)) = (path.parent(), path.file_name()) else {
+            return Ok(None);
+        };
+        let folder = if folder.as_str().is_empty() {
+            "."
+        } else {
+            folder.as_str()
+        };
+        match look(self, folder)? {
+            Some(metadata) => Ok(Some(place_of(&metadata, name))),
+            None => Ok(None),
+        }
+    }
+}
+
+/// What the system says of a file, where it says anything.
+fn look<R: Files>(rt: &R, path: &str) -> Result<Option<Metadata>, AllocError> {
+    match fs::metadata(rt, path) {
+        Ok(metadata) => Ok(Some(metadata)),
+        Err(error) if error.kind() == ErrorKind::OutOfMemory => Err(AllocError),
+        Err(_) => Ok(None),
+    }
+}
+
+/// The file of which the system says this, or one of this name in that folder.
+fn place_of<'a>(metadata: &Metadata, name: &'a str) -> Place<'a> {
+    Place {
+        device: metadata.dev(),
+        number: metadata.ino(),
+        name,
+        is_device: metadata.file_type().is_char_device(),
+    }
+}
+
+/// Whether both are one file.
+fn are_one_file(one: &Place<'_>, other: &Place<'_>) -> bool
+    ensures { IsTrue result ↔ AreOneFile one.now other.now }
+{
+    one.device == other.device && one.number == other.number && one.name == other.name
+}
+
+/// Whether two files that have to be two are one. A character device may be one, but as a port.
+fn clash<R: Places>(rt: &R, one: &FileUse, other: &FileUse) -> Result<bool, AllocError>
+    ensures { IfOk result (λ clash. (clash ≡ false) → AreSeenApart (R.leads rt.now) one.now other.now) }
+{
+    if !one.access.excludes(other.access) {
+        return Ok(false);
+    }
+    let is_port = matches!(one.access, Access::Port) || matches!(other.access, Access::Port);
+    match (rt.place(one.name.as_str())?, rt.place(other.name.as_str())?) {
+        (Some(place), Some(there)) => {
+            Ok(are_one_file(&place, &there) && (is_port || !place.is_device))
+        }
+        _ => Ok(false),
+    }
+}
+
+/// Why a job isn't done where two of its files are one, and what is told of them.
+fn refused(alloc: Global, one: &FileUse, other: &FileUse) -> NoAnswer
+    ensures { IsNoAnswer result }
+{
+    let first = Named {
+        name: one.name.as_str(),
+        text: &[],
+    };
+    let note = match format!(in alloc; "the same file as {first}, and one of the two is written") {
+        Ok(reason) => file_line(alloc, other.name.as_str(), reason.as_str()),
+        Err(_) => None,
+    };
+    NoAnswer::Refused {
+        why: Unanswered::File,
+        note,
+    }
+}
+
+/// Looks whether a file and each of others are two, where they have to be.
+fn look_at<R: Places>(
+    rt: &R,
+    alloc: Global,
+    file: &FileUse,
+    others: &[FileUse],
+) -> Result<(), NoAnswer>
+    ensures apart { OnOk result
+        (All (λ other. AreSeenApart (R.leads rt.now) other file.now) others.now) }
+    ensures note { IfErr result (λ missed. IsNoAnswer missed) }
+{
+    for other in others {
+        if clash(rt, other, file)? {
+            return Err(refused(alloc, other, file));
+        }
+    }
+    Ok(())
+}
+
+/// Looks whether the files that a job writes are others than those that it reads, and than each
+/// other, as far as the system says where names lead. Nothing is opened.
+pub(crate) fn look_apart<R: Places + AllocGlobal>(rt: &R, job: &Job) -> Result<(), NoAnswer>
+    ensures apart { OnOk result (AllPairs (AreSeenApart (R.leads rt.now)) (the_uses job.now)) }
+    ensures note { IfErr result (λ missed. IsNoAnswer missed) }
+{
+    let alloc = rt.alloc();
+    let files = uses_of(alloc, job)?;
+    for i in 0..files.len() {
+        look_at(rt, alloc, &files[i], &files[..i])?;
+    }
+    Ok(())
+}
