@@ -5,6 +5,8 @@
 # and built first. It also looks for names with several meanings.
 set -eu
 cd "$(dirname "$(readlink -f "${BASH_SOURCE[0]}")")/.."
+# By these libraries a crate would open and write files past std.
+! grep -E ':.* (io|os|libc)( |$)' crates.txt || exit 1
 tools/start/run.sh
 tools/rows/run.py
 tools/c/run.sh

@@ -247,8 +247,8 @@ files_beside (Talk rack) = kept_files rack
 files_beside job = []
 
 -- all files that a job names
-abbrev pub uses_of : Job → List FileUse
-uses_of job = map (file Read) (files_of job) ++ files_beside job
+abbrev pub file_uses : Job → List FileUse
+file_uses job = map (file Read) (files_of job) ++ files_beside job
 
 -- files of these uses have to be two: one of them is written, and they aren't both a port's
 abbrev pub Exclude : Access → Access → Type 0
@@ -291,7 +291,7 @@ pub record AreClientNames (names : List Text) : Type 0 where
 -- writes too, and its clients can be told apart
 pub record MayBeDone (job : Job) : Type 0 where
   pub input : NameInputOnce (files_of job)
-  pub files : HaveNames (uses_of job)
+  pub files : HaveNames (file_uses job)
   pub clients : AreClientNames (clients_of job)
 
 -- the arguments ask for this: they fit the grammar, and hold a job that may be done

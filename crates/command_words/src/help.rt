@@ -229,11 +229,12 @@ raw alters bytes and may hold them. Both are settled before, for a device:
   stty -F PORT raw -echo min 0 time 20
 
 Else nothing is sent, and the answer is the first of these that is wrong:
-  refused file            a file can't be read
+  refused file            a file can't be read, or PORT leads to one that is read
   refused ..              a file, as `exchange switch --help` shows
   refused ports W         W ports are wanted: 2 where BATCH names a module above
                           15, else 1
-  refused port a          PORT can't be opened; `port b`: PORT_B can't
+  refused port a          PORT can't be opened, or is a plain file with something
+                          in it; `port b`: PORT_B
 
 Status: 0 all settings stood, 1 they didn't, or it was refused or there was no
 memory, 2 the words fit no command, 3 standard output couldn't be written.",
@@ -434,8 +435,9 @@ emptied only then. It can't be `-`, nor by its name one that is read, one of a
 client's or the other's.
 
 Else nothing is served, and the answer is the first of these that is wrong:
-  refused file               the image or a SCRIPT can't be read, or the FILE of
-                             --record or --image-out can't be opened
+  refused file               the image or a SCRIPT can't be read, the FILE of
+                             --record or --image-out can't be opened, or leads to
+                             one that is read or written too
   refused shape              SHAPE is no shape
   refused image L W          the image has L bytes, and the shape wants W
 
@@ -485,8 +487,9 @@ Of --record and --image-out `exchange serve --help` tells.
 
 Else nobody is served and no pipe is opened, and the answer is the first of
 these that is wrong:
-  refused file       the image can't be read, or the FILE of --record or
-                     --image-out can't be opened
+  refused file       the image can't be read, the FILE of --record or --image-out
+                     can't be opened, or a file that is written leads to one
+                     that is read or written too
   refused shape      SHAPE is no shape
   refused image L W  the image has L bytes, and the shape wants W
   refused threads    the system has no thread for each client
@@ -516,8 +519,9 @@ The session ends with the input or by `bye`; where it doesn't, its last line is
 --image-out.
 
 Else nothing is read, and the answer is the first of these that is wrong:
-  refused file       the image can't be read, or the FILE of --record or
-                     --image-out can't be opened
+  refused file       the image can't be read, the FILE of --record or --image-out
+                     can't be opened, or a file that is written leads to one
+                     that is read or written too
   refused shape      SHAPE is no shape
   refused image L W  the image has L bytes, and the shape wants W
 

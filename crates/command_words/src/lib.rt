@@ -27,4 +27,4 @@ pub use limits::MAX_CLIENTS;
 pub use reading::read_arguments;
 pub use text::Text;
 pub use text_list::TextList;
-pub use uses::{Access, FileUse, uses_of};
+pub use uses::{Access, FileUse, file_uses};

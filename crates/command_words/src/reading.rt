@@ -17,7 +17,7 @@ use crate::limits::MAX_CLIENTS;
 use crate::outputs::have_names;
 use crate::text::Text;
 use crate::text_list::TextList;
-use crate::uses::uses_of;
+use crate::uses::file_uses;
 use clap::ArgMatches;
 use clap::parser::ValueSource;
 use exchange_limits::WorkerCount;
@@ -343,7 +343,7 @@ fn judged(alloc: Global, job: &Job) -> Result<(), ArgumentsFault>
     if !names_clients(job) {
         return Err(misnamed(alloc));
     }
-    let files = uses_of(alloc, job)?;
+    let files = file_uses(alloc, job)?;
     if !have_names(files.as_slice()) {
         return Err(overwritten(alloc));
     }

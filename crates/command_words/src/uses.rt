@@ -1,7 +1,7 @@
 //! The files that a job names, and what it does with each.
 
 ghost use Rattle.std.specs.Prelude.{◌≡◌, ◌↔◌, ◌++◌, ◌∷◌, [], IfOk, IsTrue, OnOk, flat_map, map, option_to_list};
-ghost use Rattle.command_words.specs.Jobs.{Exclude, client_files, file, files_beside, files_of, input_name, kept_files, port_files, switched_files, uses_of as the_uses};
+ghost use Rattle.command_words.specs.Jobs.{Exclude, client_files, file, files_beside, files_of, input_name, kept_files, port_files, switched_files, file_uses as the_uses};
 
 use crate::jobs::{Job, SharedRack};
 use crate::text::Text;
@@ -244,7 +244,7 @@ impl Gathered {
 }
 
 /// All files that a job names: first those that it reads itself, in their order.
-pub fn uses_of(alloc: Global, job: &Job) -> Result<Vec<FileUse>, AllocError>
+pub fn file_uses(alloc: Global, job: &Job) -> Result<Vec<FileUse>, AllocError>
     ensures { IfOk result (λ uses. uses.items ≡ the_uses job.now) }
 {
     let uses = Vec::new(alloc);

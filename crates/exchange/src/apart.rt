@@ -1,23 +1,23 @@
 //! Which files the names of a job lead to: none that it writes is one that it reads, or writes too.
 
-ghost use Rattle.std.specs.Prelude.{◌≡◌, ◌⊎◌, ◌↔◌, ℕ, List, Option, All, AllPairs, IfErr, IfOk, IsTrue, OnOk};
-ghost use Rattle.command_words.specs.Jobs.{uses_of as the_uses};
+ghost use Rattle.std.specs.Prelude.{◌≡◌, ◌↔◌, ℕ, List, Option, All, IfErr, IfOk, IsTrue, OnOk, false};
+ghost use Rattle.command_words.specs.Jobs.{file_uses as the_uses};
 ghost use Rattle.command_words.specs.declared.uses.Access.TheVariants.{Port};
 ghost use Rattle.exchange.specs.declared.apart.Place.{Place};
-ghost use Rattle.exchange.specs.Apart.{AreOneFile, AreSeenApart};
+ghost use Rattle.exchange.specs.Apart.{AreOneFile, AreSeenApart, Clash, IsClashSeen, IsSeen};
 ghost use Rattle.exchange.specs.Outcomes.{IsNoAnswer};
 
 use crate::notes::NoAnswer;
 use crate::unanswered::Unanswered;
-use command_words::{Access, FileUse, Job, uses_of};
+use command_words::{Access, FileUse, Job, file_uses};
 use refusal_notes::{Named, file_line};
 use std::alloc::{AllocError, Global};
+use std::fs;
 use std::fs::Metadata;
 use std::io::ErrorKind;
 use std::os::unix::fs::{FileTypeExt, MetadataExt};
 use std::path::Path;
 use std::rt::Files;
-use std::fs;
 
 /// The file that a name leads to.
 #[derive(Clone, Copy)]
@@ -95,20 +95,45 @@ fn are_one_file(one: &Place<'_>, other: &Place<'_>) -> bool
     one.device == other.device && one.number == other.number && one.name == other.name
 }
 
-/// Whether two files that have to be two are one. A character device may be one, but as a port.
-fn clash<R: Places>(rt: &R, one: &FileUse, other: &FileUse) -> Result<bool, AllocError>
-    ensures { IfOk result (λ clash. (clash ≡ false) → AreSeenApart (R.leads rt.now) one.now other.now) }
+/// Whether it is a port.
+fn is_port(access: Access) -> bool
+    ensures { IsTrue result ↔ (access ≡ Port) }
 {
-    if !one.access.excludes(other.access) {
-        return Ok(false);
+    matches!(access, Access::Port)
+}
+
+/// Whether files of these uses have to be two, and are one. A character device may be one, but as a
+/// port.
+fn clash_at(one: Access, other: Access, place: &Place<'_>, there: &Place<'_>) -> bool
+    ensures { IsTrue result ↔ Clash one other place.now there.now }
+{
+    one.excludes(other)
+        && are_one_file(place, there)
+        && (!place.is_device || is_port(one) || is_port(other))
+}
+
+/// The same, where both can be told.
+fn clash_seen(
+    one: Access,
+    other: Access,
+    place: &Option<Place<'_>>,
+    there: &Option<Place<'_>>,
+) -> bool
+    ensures { IsTrue result ↔ IsClashSeen one other place.now there.now }
+{
+    match (place, there) {
+        (Some(place), Some(there)) => clash_at(one, other, place, there),
+        _ => false,
     }
-    let is_port = matches!(one.access, Access::Port) || matches!(other.access, Access::Port);
-    match (rt.place(one.name.as_str())?, rt.place(other.name.as_str())?) {
-        (Some(place), Some(there)) => {
-            Ok(are_one_file(&place, &there) && (is_port || !place.is_device))
-        }
-        _ => Ok(false),
-    }
+}
+
+/// Whether two files that have to be two are one, as far as that can be told.
+fn clash<R: Places>(rt: &R, one: &FileUse, other: &FileUse) -> Result<bool, AllocError>
+    ensures { IfOk result (λ clash. IsSeen (R.leads rt.now) one.now other.now clash) }
+{
+    let place = rt.place(one.name.as_str())?;
+    let there = rt.place(other.name.as_str())?;
+    Ok(clash_seen(one.access, other.access, &place, &there))
 }
 
 /// Why a job isn't done where two of its files are one, and what is told of them.
@@ -137,7 +162,7 @@ fn look_at<R: Places>(
     others: &[FileUse],
 ) -> Result<(), NoAnswer>
     ensures apart { OnOk result
-        (All (λ other. AreSeenApart (R.leads rt.now) other file.now) others.now) }
+        (All (λ other. IsSeen (R.leads rt.now) other file.now false) others.now) }
     ensures note { IfErr result (λ missed. IsNoAnswer missed) }
 {
     for other in others {
@@ -148,16 +173,23 @@ fn look_at<R: Places>(
     Ok(())
 }
 
-/// Looks whether the files that a job writes are others than those that it reads, and than each
-/// other, as far as the system says where names lead. Nothing is opened.
-pub(crate) fn look_apart<R: Places + AllocGlobal>(rt: &R, job: &Job) -> Result<(), NoAnswer>
-    ensures apart { OnOk result (AllPairs (AreSeenApart (R.leads rt.now)) (the_uses job.now)) }
+/// Looks whether each two of these files are two, where they have to be.
+fn look_through<R: Places>(rt: &R, alloc: Global, files: &[FileUse]) -> Result<(), NoAnswer>
+    ensures apart { OnOk result (AreSeenApart (R.leads rt.now) files.now) }
     ensures note { IfErr result (λ missed. IsNoAnswer missed) }
 {
-    let alloc = rt.alloc();
-    let files = uses_of(alloc, job)?;
     for i in 0..files.len() {
         look_at(rt, alloc, &files[i], &files[..i])?;
     }
     Ok(())
+}
+
+/// Looks whether the files that a job writes are others than those that it reads, and than each
+/// other, as far as the system tells where their names lead. Nothing is opened.
+pub(crate) fn look_apart<R: Places + AllocGlobal>(rt: &R, job: &Job) -> Result<(), NoAnswer>
+    ensures apart { OnOk result (AreSeenApart (R.leads rt.now) (the_uses job.now)) }
+    ensures note { IfErr result (λ missed. IsNoAnswer missed) }
+{
+    let files = file_uses(rt.alloc(), job)?;
+    look_through(rt, rt.alloc(), files.as_slice())
 }
