@@ -1,15 +1,16 @@
 //! Which files the names of a job lead to: none that it writes is one that it reads, or writes too.
 
-ghost use Rattle.std.specs.Prelude.{◌≡◌, ◌↔◌, ℕ, List, Option, All, IfErr, IfOk, IsTrue, OnOk, false};
+ghost use Rattle.std.specs.Prelude.{◌≡◌, ◌↔◌, ℕ, List, Option, All, IfErr, IfOk, IfSome, IsTrue, OnOk, false, string_bytes};
 ghost use Rattle.command_words.specs.Jobs.{file_uses as the_uses};
 ghost use Rattle.command_words.specs.declared.uses.Access.TheVariants.{Port};
 ghost use Rattle.exchange.specs.declared.apart.Place.{Place};
 ghost use Rattle.exchange.specs.Apart.{AreOneFile, AreSeenApart, Clash, IsClashSeen, IsSeen};
+ghost use Rattle.exchange.specs.Notes.{IsWholeLine};
 ghost use Rattle.exchange.specs.Outcomes.{IsNoAnswer};
 
 use crate::notes::NoAnswer;
 use crate::unanswered::Unanswered;
-use command_words::{Access, FileUse, Job, file_uses};
+use command_words::{Access, FileUse, Job, Text, file_uses};
 use refusal_notes::{Named, file_line};
 use std::alloc::{AllocError, Global};
 use std::fs;
@@ -136,18 +137,25 @@ fn clash<R: Places>(rt: &R, one: &FileUse, other: &FileUse) -> Result<bool, Allo
     Ok(clash_seen(one.access, other.access, &place, &there))
 }
 
+/// What is told of two names that lead to one file.
+fn one_file_line(alloc: Global, one: &Text, other: &Text) -> Option<String>
+    ensures { IfSome result (λ line. IsWholeLine (string_bytes line)) }
+{
+    let first = Named {
+        name: one.as_str(),
+        text: &[],
+    };
+    match format!(in alloc; "the same file as {first}, and one of the two is written") {
+        Ok(reason) => file_line(alloc, other.as_str(), reason.as_str()),
+        Err(_) => None,
+    }
+}
+
 /// Why a job isn't done where two of its files are one, and what is told of them.
 fn refused(alloc: Global, one: &FileUse, other: &FileUse) -> NoAnswer
     ensures { IsNoAnswer result }
 {
-    let first = Named {
-        name: one.name.as_str(),
-        text: &[],
-    };
-    let note = match format!(in alloc; "the same file as {first}, and one of the two is written") {
-        Ok(reason) => file_line(alloc, other.name.as_str(), reason.as_str()),
-        Err(_) => None,
-    };
+    let note = one_file_line(alloc, &one.name, &other.name);
     NoAnswer::Refused {
         why: Unanswered::File,
         note,

@@ -2,10 +2,28 @@ use Rattle.std.proofs.Common.{[], refl, inl, rules, subst}
 use Rattle.std.proofs.KnownBytes.{Appends-nil}
 use Rattle.command_words.specs.Jobs.{NameInputOnce, files_of}
 use Rattle.command_words.specs.declared.jobs.Job.{Job}
-use Rattle.command_words.specs.declared.jobs.Job.TheVariants.{Plan, Check, Draw, Switch, Direct, Apply, Run, Serve, Host, Talk, Replay}
+use Rattle.command_words.specs.declared.jobs.Job.TheVariants.{Plan, Check, Draw, Switch, Drive, C004, Direct, Apply, Run, Serve, Host, Talk, Replay}
+use Rattle.exchange.specs.Responses.{IsToldBy, IsToldUnanswered}
 use Rattle.exchange.proofs.Lines.{settings_told}
 use Rattle.exchange.proofs.Told.{behind_none, left_behind, switched, talked, untold}
 use Rattle.exchange.proofs.jobs.answer_to.Goals as goal
+
+-- nothing is told before where names lead is looked at
+told_nothing : (job : Job) → IsToldBy job []
+told_nothing (Drive batch port port_b source wiring goes_on workers) = tt
+told_nothing C004 = tt
+told_nothing (Talk rack) = tt
+told_nothing job = refl
+
+none_before : (job : Job) → IsToldUnanswered job []
+none_before (Talk rack) = tt
+none_before job = refl
+
+pub returns-in_err-look_apart-clause-response : goal.returns-in_err-look_apart-clause-response
+returns-in_err-look_apart-clause-response g c =
+    let r = c.from_residual.result in
+    let job = c.args.request.job in
+    ([], Appends-nil _, told_nothing job, search rules, search rules, behind_none r job (none_before job))
 
 pub returns-in-Plan : goal.returns-in-Plan
 returns-in-Plan g c = rw c.in-Plan.is (record { response = ([], Appends-nil _, refl, untold c.plan.result _ c.plan.ensures.answer, c.plan.ensures.note, behind_none c.plan.result (Plan c.in-Plan.file c.in-Plan.planning c.in-Plan.workers) refl); beside = inl refl })
@@ -49,7 +67,7 @@ drive-requires-after_bounds g c = λ lifetimes bounds.
 
 pub returns-in_err-outputs-in-Serve-clause-response : goal.returns-in_err-outputs-in-Serve-clause-response
 returns-in_err-outputs-in-Serve-clause-response g c =
-    let r = c.from_residual.result in
+    let r = c.from_residual-in_err-outputs-in-Serve.result in
     rw c.in-Serve.is ([], Appends-nil _, refl, search rules, search rules, behind_none r (Serve c.in-Serve.rack c.in-Serve.scripts c.in-Serve.workers) refl)
 
 pub returns-in_err-outputs-in-Host-clause-response : goal.returns-in_err-outputs-in-Host-clause-response
