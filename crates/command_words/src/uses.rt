@@ -168,17 +168,21 @@ impl Gathered {
                 if *goes_on { Ok(()) } else { self.read_input() }
             }
             Job::Run {
-                batch: name,
-                image,
-                ..
-            }
-            | Job::Replay {
-                recorded: name,
+                batch,
+                source,
                 image,
                 ..
             } => {
                 self.add_option(Access::Read, image)?;
-                self.add(Access::Read, name)
+                self.read_switched(batch, source, &None)
+            }
+            Job::Replay {
+                recorded,
+                image,
+                ..
+            } => {
+                self.add_option(Access::Read, image)?;
+                self.add(Access::Read, recorded)
             }
             Job::C004 => self.read_input(),
             Job::Serve { rack, scripts, .. } => {
