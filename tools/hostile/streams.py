@@ -91,8 +91,8 @@ def unreadable_files(room):
     for what, name in files(room):
         for words in [
             ("plan", name), ("plan", name, "--steady"), ("switch", name), ("switch", name, "--steady"), ("switch", name, "--schedule", "plan"),
-            ("switch", "three", "--schedule", name), ("switch", "three", "--wiring", name), ("drive", "three", "missing", "--wiring", name),
-            ("drive", name, "missing"), ("check", name, "plan"), ("check", "three", name), ("draw", name, "plan"), ("draw", "three", name),
+            ("switch", "three", "--schedule", name), ("switch", "three", "--wiring", name), ("drive", "three", "gone", "--wiring", name),
+            ("drive", name, "gone"), ("check", name, "plan"), ("check", "three", name), ("draw", name, "plan"), ("draw", "three", name),
             ("run", "3x2x2", name), ("run", "0", name), ("run", "0", "three", "--schedule", name), ("serve", "2x2x2", "script", name),
             ("serve", "0", name), ("apply", "2x1x1", name, "image"),
             ("apply", "0", "three", name), ("run", "0", "three", "--image", name), ("serve", "0", "script", "--image", name), ("direct", name),
