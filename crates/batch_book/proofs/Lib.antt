@@ -9,3 +9,4 @@ pub mod Unstopped
 pub mod Answering
 pub mod Seats
 pub mod Dealing
+pub mod Crossing

@@ -35,10 +35,6 @@ abbrev pub batch_in : Option KeptBatch → Option (List Transfer)
 batch_in None = None
 batch_in (Some h) = Some h.batch
 
-abbrev pub spare_of : Machine → ℕ → Call → Option (List Transfer)
-spare_of m session (Fetch id) = batch_in (batch_of m session id)
-spare_of m session call = None
-
 -- Behind a run that left the machine's words: the reply that tells of it, and the next machine.
 -- Where there was no memory for the run, there is no reply.
 abbrev pub EndsRun : {E : Type 0} → Machine → ℕ → Outcome → Result Reply E → Machine → Type 0

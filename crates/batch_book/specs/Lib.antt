@@ -10,3 +10,4 @@ pub mod Exchanges
 pub mod Closing
 pub mod Laws
 pub mod Naming
+pub mod Told

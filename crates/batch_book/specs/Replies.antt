@@ -1,13 +1,12 @@
 -- Replies: which of them the history has, and what of a run they tell.
-use Rattle.std.specs.Prelude.{◌≡◌, ◌≢◌, ℕ, Option, Some, Bool, true, false, IsTrue, List, Result, Ok, Err}
-use Rattle.batch.specs.declared.transfer.Transfer.{Transfer}
+use Rattle.std.specs.Prelude.{◌≡◌, ◌≢◌, ℕ, Bool, true, false, IsTrue, List, Result, Ok, Err}
 use Rattle.crossbar.specs.declared.port.ConfigPort.{Ghosts}
 use Rattle.setting_runner.specs.declared.outcome.Outcome.{Outcome}
 use Rattle.setting_runner.specs.declared.outcome.Outcome.TheVariants as outcome
 use Rattle.setting_runner.specs.declared.outcome.RunRefusal.TheVariants as run_refusal
 use Rattle.setting_runner.specs.declared.outcome.StopCause.{StopCause}
 use Rattle.batch_book.specs.declared.reply.Reply.{Reply}
-use Rattle.batch_book.specs.declared.reply.Reply.TheVariants.{Fetched, Ran, Stopped, Refused}
+use Rattle.batch_book.specs.declared.reply.Reply.TheVariants.{Ran, Stopped, Refused}
 use Rattle.batch_book.specs.declared.refusal.BookRefusal.TheVariants.{HistoryFull, NoMemory}
 
 -- the history has all replies but these two
@@ -41,11 +40,11 @@ abbrev pub outcome_in : {E : Type 0} → Result Reply E → Outcome
 outcome_in (Ok reply) = outcome_of reply
 outcome_in (Err e) = outcome.Refused run_refusal.NoMemory
 
+-- the same where something stands before the reply
+abbrev pub outcome_beside : {T E : Type 0} → Result (T × Reply) E → Outcome
+outcome_beside (Ok answered) = outcome_of answered.1
+outcome_beside (Err e) = outcome.Refused run_refusal.NoMemory
+
 -- no run went, whether there was a reply or not
 abbrev pub TellsNoRun : Outcome → Type 0
 TellsNoRun o = o ≡ outcome.Refused run_refusal.NoMemory
-
--- a reply with a batch has a copy of it at hand
-abbrev pub SpareFits : Option (List Transfer) → Reply → Type 0
-SpareFits spare (Fetched batch) = spare ≡ Some batch
-SpareFits spare reply = Unit {0}

@@ -4,16 +4,17 @@ ghost use Rattle.std.specs.Option.{option_copied};
 ghost use Rattle.std.specs.Prelude.{◌+◌, ◌≡◌, ◌↔◌, ◌≤◌, ◌<◌, ◌++◌, ◌∷◌, [], ℕ, true, false, IfOk, IfErr, OnOk, OnErr, length, vec_len, vec_capacity};
 ghost use Rattle.setting_runner.specs.Plants.{LeavesPlant};
 ghost use Rattle.setting_runner.specs.Runs.{TellsOutcome};
-ghost use Rattle.batch_book.specs.Holdings.{batch_in, spare_of};
+ghost use Rattle.batch_book.specs.Holdings.{batch_in};
 ghost use Rattle.batch_book.specs.Machine.{opened, batch_of};
 ghost use Rattle.batch_book.specs.Running.{plan_to_run};
 ghost use Rattle.batch_book.specs.Replies.{is_logged, outcome_of, outcome_in};
 ghost use Rattle.batch_book.specs.History.{new_account, IsReplay, IsLegal, IsFull, IsGrown, IsSound};
 
 use crate::call::Call;
-use crate::entry::{Copies, Entry, list};
+use crate::entry::{Entry, list};
 use crate::holdings::Holdings;
 use crate::limits::MAX_ENTRIES;
+use crate::logged::LoggedCall;
 use crate::refusal::BookRefusal;
 use crate::reply::Reply;
 use batch::Batch;
@@ -24,6 +25,7 @@ use schedule_certificate::Gate;
 use setting_runner::{Notice, Plant};
 use std::alloc::{AllocError, Global};
 use std::marker::Model;
+use std::snapshot::Snapshot;
 use std::thread::Threads;
 
 /// The batches that sessions have submitted, the rack that these are run on, and the history of
@@ -120,16 +122,17 @@ impl Book {
     }
 
     /// One call of a session, and its reply. The history has both then, but where it is full, and
-    /// where there was no memory: then nothing has changed. A batch or plan of a call that is
-    /// refused is dropped.
+    /// where there was no memory: then nothing has changed. A plan of a call that is refused is
+    /// dropped.
     ///
     /// In a full history no memory is asked for. Else all of it is taken before anything changes:
-    /// for the entry, for copies of what the call and the reply hold, and for the run, if there is
-    /// one.
+    /// for the entry, for the copy of a batch that is fetched, and for the run, if there is one. An
+    /// entry keeps no plan and no batch that was fetched. It shares a batch that was handed in with
+    /// the book, while that has it.
     ///
-    /// A run takes its time, `Submit`, `Fetch` and `Settle` take time by the batch, and `Discard`
-    /// by the batches that are held. All other calls take constant time, however long the history
-    /// is, but for those few at which its memory grows.
+    /// A run takes its time, `Fetch` and `Settle` take time by the batch, and `Discard` by the
+    /// batches that are held. All other calls take constant time, however long the history is, but
+    /// for those few at which its memory grows.
     pub fn apply<R: Threads + Sync, P: ConfigPort, W: WireMaker + Sync, G: Gate + Sync, N: Notice>(
         &mut self,
         rt: &R,
@@ -179,9 +182,15 @@ impl Book {
             (plan_to_run self.old.machine session call) (outcome_in result) plant.old plant.new }
         ensures told { TellsOutcome N.hears notice.old (outcome_in result) notice.new }
     {
-        let copies = self.holdings.prepare(&mut self.history, session, &call)?;
-        let reply = self.holdings.answer(rt, session, call, plant, notice)?;
-        list(&mut self.history, session, copies, &reply);
+        self.history.reserve(1)?;
+        let asked = Snapshot::of(&call);
+        let (told, reply) = self.holdings.answer(rt, session, call, plant, notice)?;
+        list(
+            &mut self.history,
+            session,
+            LoggedCall::new(asked, told),
+            &reply,
+        );
         Ok(reply)
     }
 }

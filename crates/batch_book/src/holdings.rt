@@ -7,17 +7,19 @@ ghost use Rattle.crossbar.specs.Switch.{Switch};
 ghost use Rattle.module_memory.specs.Store.{Store};
 ghost use Rattle.setting_runner.specs.Plants.{LeavesPlant};
 ghost use Rattle.setting_runner.specs.Runs.{TellsOutcome};
-ghost use Rattle.batch_book.specs.Holdings.{EndsRun, batch_in, spare_of};
+ghost use Rattle.batch_book.specs.Holdings.{EndsRun, batch_in};
 ghost use Rattle.batch_book.specs.Machine.{Machine, opened, owned, batch_of, set_stage, Gives, submit, fetch, settle, show, discard, peek, poke, run_to, IsRunStep, IsMachineStep};
 ghost use Rattle.batch_book.specs.Running.{plan_in, plan_to_run};
-ghost use Rattle.batch_book.specs.Replies.{TellsNoRun, outcome_of, outcome_in};
+ghost use Rattle.batch_book.specs.Replies.{TellsNoRun, outcome_of, outcome_in, outcome_beside};
+ghost use Rattle.batch_book.specs.Told.{told};
 
 use crate::call::Call;
-use crate::entry::{Copies, Entry};
 use crate::kept::{KeptBatch, Stage};
 use crate::limits::{MAX_BATCHES, MAX_ENTRIES};
 use crate::refusal::BookRefusal;
 use crate::reply::Reply;
+use crate::shared_batch::SharedBatch;
+use crate::told_call::ToldCall;
 use batch::Batch;
 use crossbar::ConfigPort;
 use indexmap::IndexMap;
@@ -125,7 +127,7 @@ impl Holdings {
         ensures { option_copied result ≡ batch_in (batch_of self.now session id) }
     {
         match owned_by(&self.batches, session, id) {
-            Some(found) => Some(&found.batch),
+            Some(found) => Some(found.batch.batch()),
             None => None,
         }
     }
@@ -137,42 +139,7 @@ impl Holdings {
         self.runs
     }
 
-    /// Makes room in a list for an entry, and copies the call, and the batch that the reply to it
-    /// has, if it has one.
-    pub fn prepare(
-        &self,
-        log: &mut Vec<Entry>,
-        session: usize,
-        call: &Call,
-    ) -> Result<Copies, AllocError>
-        ensures items { log.new.items ≡ log.old.items }
-        ensures room { OnOk result (vec_len log.new < vec_capacity log.new) }
-        ensures call { IfOk result (λ copies. copies.call ≡ call.now) }
-        ensures spare { IfOk result
-            (λ copies. copies.spare ≡ spare_of self.now session call.now) }
-    {
-        log.reserve(1)?;
-        let spare = self.spare(session, call)?;
-        Ok(Copies {
-            call: call.copy()?,
-            spare,
-        })
-    }
-
-    /// A copy of the batch that the reply to this call has, if it has one.
-    fn spare(&self, session: usize, call: &Call) -> Result<Option<Batch>, AllocError>
-        ensures { IfOk result (λ spare. spare ≡ spare_of self.now session call.now) }
-    {
-        let Call::Fetch(id) = call else {
-            return Ok(None);
-        };
-        match owned_by(&self.batches, session, *id) {
-            Some(found) => Ok(Some(found.batch.copy()?)),
-            None => Ok(None),
-        }
-    }
-
-    fn submit(&mut self, session: usize, batch: Batch) -> Result<Reply, AllocError>
+    fn submit(&mut self, session: usize, batch: SharedBatch) -> Result<Reply, AllocError>
         requires { self.old.given < MAX_ENTRIES }
         ensures step { IfOk result (λ reply. Gives (submit self.old session batch) reply self.new) }
         ensures quiet { TellsNoRun (outcome_in result) }
@@ -200,7 +167,7 @@ impl Holdings {
         ensures quiet { TellsNoRun (outcome_in result) }
     {
         match owned_by(&self.batches, session, id) {
-            Some(found) => Ok(Reply::Fetched(found.batch.copy()?)),
+            Some(found) => Ok(Reply::Fetched(found.batch.batch().copy()?)),
             None => Ok(Reply::Refused(BookRefusal::Unknown)),
         }
     }
@@ -213,7 +180,7 @@ impl Holdings {
         let Some(found) = owned_by(&self.batches, session, id) else {
             return Reply::Refused(BookRefusal::Unknown);
         };
-        if found.batch != *planned.batch() {
+        if *found.batch.batch() != *planned.batch() {
             return Reply::Refused(BookRefusal::Stranger);
         }
         match found.stage {
@@ -232,7 +199,7 @@ impl Holdings {
     {
         match owned_by(&self.batches, session, id) {
             Some(found) => Reply::Shown {
-                transfers: found.batch.len(),
+                transfers: found.batch.batch().len(),
                 state: found.stage.state(),
             },
             None => Reply::Refused(BookRefusal::Unknown),
@@ -355,7 +322,8 @@ impl Holdings {
         }
     }
 
-    /// One call of a session. For want of memory nothing changes.
+    /// One call of a session: what a history tells of it, and the reply. For want of memory nothing
+    /// changes.
     pub fn answer<R: Threads + Sync, P: ConfigPort, W: WireMaker + Sync, G: Gate + Sync, N: Notice>(
         &mut self,
         rt: &R,
@@ -363,26 +331,39 @@ impl Holdings {
         call: Call,
         plant: &mut Plant<P, W, G>,
         notice: &mut N,
-    ) -> Result<Reply, AllocError>
+    ) -> Result<(ToldCall<SharedBatch>, Reply), AllocError>
         requires id { self.old.given < MAX_ENTRIES }
         requires number { self.old.runs < MAX_ENTRIES }
 
-        ensures step { IfOk result (λ reply. IsMachineStep self.old session call reply self.new) }
+        ensures call { IfOk result (λ answered. answered.0 ≡ told call) }
+        ensures step { IfOk result
+            (λ answered. IsMachineStep self.old session call answered.1 self.new) }
         ensures unchanged { OnErr result (self.new ≡ self.old) }
 
         ensures plant { LeavesPlant P.ConfigPort W.is_sure self.old.store.shape
-            (plan_to_run self.old session call) (outcome_in result) plant.old plant.new }
-        ensures told { TellsOutcome N.hears notice.old (outcome_in result) notice.new }
+            (plan_to_run self.old session call) (outcome_beside result) plant.old plant.new }
+        ensures told { TellsOutcome N.hears notice.old (outcome_beside result) notice.new }
     {
         match call {
-            Call::Submit(batch) => self.submit(session, batch),
-            Call::Fetch(id) => self.fetch(session, id),
-            Call::Settle(id, planned) => Ok(self.settle(session, id, planned)),
-            Call::Run(id) => self.run(rt, session, id, plant, notice),
-            Call::Show(id) => Ok(self.show(session, id)),
-            Call::Discard(id) => Ok(self.discard(session, id)),
-            Call::Peek(module, address) => Ok(self.peek(module, address)),
-            Call::Poke(module, address, word) => Ok(self.poke(module, address, word)),
+            Call::Submit(batch) => {
+                let batch = SharedBatch::new(*self.batches.allocator(), batch)?;
+                let told = ToldCall::Submit(batch.share()?);
+                Ok((told, self.submit(session, batch)?))
+            }
+            Call::Fetch(id) => Ok((ToldCall::Fetch(id), self.fetch(session, id)?)),
+            Call::Settle(id, planned) => {
+                Ok((ToldCall::Settle(id), self.settle(session, id, planned)))
+            }
+            Call::Run(id) => Ok((ToldCall::Run(id), self.run(rt, session, id, plant, notice)?)),
+            Call::Show(id) => Ok((ToldCall::Show(id), self.show(session, id))),
+            Call::Discard(id) => Ok((ToldCall::Discard(id), self.discard(session, id))),
+            Call::Peek(module, address) => {
+                Ok((ToldCall::Peek(module, address), self.peek(module, address)))
+            }
+            Call::Poke(module, address, word) => {
+                let told = ToldCall::Poke(module, address, word);
+                Ok((told, self.poke(module, address, word)))
+            }
         }
     }
 }

@@ -1,6 +1,6 @@
 //! The batches that the book keeps, and how far they have come.
 
-use batch::Batch;
+use crate::shared_batch::SharedBatch;
 use schedule_certificate::Planned;
 
 /// How far a batch of the book has come.
@@ -51,7 +51,7 @@ pub struct KeptBatch {
     /// The session that submitted it, and that alone may name it.
     pub owner: usize,
     /// Its transfers.
-    pub batch: Batch,
+    pub batch: SharedBatch,
     /// How far it has come.
     pub stage: Stage,
 }

@@ -1,5 +1,6 @@
 ghost use Rattle.std.specs.Prelude.{◌≡◌};
-ghost use Rattle.batch_book.specs.Replies.{SpareFits, is_logged};
+ghost use Rattle.batch_book.specs.Replies.{is_logged};
+ghost use Rattle.batch_book.specs.Told.{IsKeptOf};
 
 use crate::kept::BatchState;
 use crate::refusal::BookRefusal;
@@ -70,14 +71,13 @@ impl Reply {
         )
     }
 
-    /// An equal reply. It takes no memory: of its batch, if it has one, a copy is handed in.
-    pub(crate) fn copy_with(&self, spare: Option<Batch>) -> Reply
-        requires { SpareFits spare self.now }
-        ensures { result ≡ self.now }
+    /// An equal reply, where it has no batch. It takes no memory.
+    pub(crate) fn without_batch(&self) -> Option<Reply>
+        ensures { IsKeptOf result self.now }
     {
-        match self {
+        let kept = match self {
+            Reply::Fetched(_) => return None,
             Reply::Accepted(id) => Reply::Accepted(*id),
-            Reply::Fetched(_) => Reply::Fetched(spare.unwrap()),
             Reply::Settled { settings } => Reply::Settled {
                 settings: *settings,
             },
@@ -110,6 +110,7 @@ impl Reply {
             Reply::Word(word) => Reply::Word(*word),
             Reply::Poked => Reply::Poked,
             Reply::Refused(refusal) => Reply::Refused(*refusal),
-        }
+        };
+        Some(kept)
     }
 }

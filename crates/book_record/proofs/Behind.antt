@@ -6,7 +6,7 @@ use Rattle.batch.specs.Text.{IsNumber, number, batch_text, line, space, line_fee
 use Rattle.batch.specs.declared.transfer.Transfer.{Transfer}
 use Rattle.line_words.specs.HexWords.{hex8}
 use Rattle.line_words.proofs.Numbers.{behind_word, behind_number}
-use Rattle.book_record.specs.declared.told_call.ToldCall.TheVariants.{Submit, Fetch, Settle, Run, Show, Discard, Peek, Poke}
+use Rattle.batch_book.specs.declared.told_call.ToldCall.TheVariants.{Submit, Fetch, Settle, Run, Show, Discard, Peek, Poke}
 use Rattle.book_record.specs.RecordText.{call_text}
 use Rattle.book_record.specs.Reading.{BeginsWithNoneNamed, BeginsWithNoPeek, BeginsWithNoPoke, BeginsWithNoLine, BeginsWithNoBatch, BeginsWithNoCall, BeginsWithNoEntry}
 use Rattle.book_record.proofs.CallTexts.{named_form, peek_form, poke_form, one_ending, at_index}

@@ -6,8 +6,8 @@ use Rattle.batch.specs.Text.{IsNumber, number, space, line_feed}
 use Rattle.batch.proofs.Lines.{one_number, ends_line}
 use Rattle.line_words.specs.HexWords.{IsWord, hex8}
 use Rattle.line_words.proofs.Numbers.{space_ends, one_hex8, hex8_in_front}
-use Rattle.book_record.specs.declared.told_call.ToldCall.{ToldCall}
-use Rattle.book_record.specs.declared.told_call.ToldCall.TheVariants.{Submit, Fetch, Settle, Run, Show, Discard, Peek, Poke}
+use Rattle.batch_book.specs.Told.{PlanlessCall}
+use Rattle.batch_book.specs.declared.told_call.ToldCall.TheVariants.{Submit, Fetch, Settle, Run, Show, Discard, Peek, Poke}
 use Rattle.book_record.specs.RecordText.{call_text, CanSay}
 use Rattle.book_record.proofs.BatchTexts.{one_batch_front}
 
@@ -43,14 +43,14 @@ at_index i x y e = ap (λ (l : List ℕ). get_or l i 0) e
 one_named : (w : List ℕ) (m n : ℕ) (x y : List ℕ) → IsNumber m → IsNumber n → ((w ++ decimal m) ++ line_feed ∷ []) ++ x ≡ ((w ++ decimal n) ++ line_feed ∷ []) ++ y → (m ≡ n) × (x ≡ y)
 one_named w m n x y fm fn same = one_ending w m n x y fm fn (sym (named_form w m x) ∙ same ∙ named_form w n y)
 
-one_peek : (m n a b : ℕ) (x y : List ℕ) → CanSay (Peek m a) → CanSay (Peek n b) → call_text (Peek m a) ++ x ≡ call_text (Peek n b) ++ y → (Peek m a ≡ Peek n b) × (x ≡ y)
+one_peek : (m n a b : ℕ) (x y : List ℕ) → CanSay (Peek m a) → CanSay (Peek n b) → call_text (Peek m a) ++ x ≡ call_text (Peek n b) ++ y → (◌≡◌ {A = PlanlessCall} (Peek m a) (Peek n b)) × (x ≡ y)
 one_peek m n a b x y can can_too same =
     let first = one_behind (codes "peek ") m n _ _ can.0 can_too.0
     (sym (peek_form (codes "peek ") (number m space) (hex8 a) x) ∙ same ∙ peek_form (codes "peek ") (number n space) (hex8 b) y) in
     let second = one_hex_front a b line_feed x y can.1 can_too.1 first.1 in
     (ap (λ (v : ℕ). Peek v a) first.0 ∙ ap (Peek n) second.0, second.1)
 
-one_poke : (m n a b v w : ℕ) (x y : List ℕ) → CanSay (Poke m a v) → CanSay (Poke n b w) → call_text (Poke m a v) ++ x ≡ call_text (Poke n b w) ++ y → (Poke m a v ≡ Poke n b w) × (x ≡ y)
+one_poke : (m n a b v w : ℕ) (x y : List ℕ) → CanSay (Poke m a v) → CanSay (Poke n b w) → call_text (Poke m a v) ++ x ≡ call_text (Poke n b w) ++ y → (◌≡◌ {A = PlanlessCall} (Poke m a v) (Poke n b w)) × (x ≡ y)
 one_poke m n a b v w x y can can_too same =
     let first = one_behind (codes "poke ") m n _ _ can.0 can_too.0
     (sym (poke_form (codes "poke ") (number m space) (hex8 a) (hex8 v) x) ∙ same ∙ poke_form (codes "poke ") (number n space) (hex8 b) (hex8 w) y) in
@@ -59,7 +59,7 @@ one_poke m n a b v w x y can can_too same =
     (ap (λ (k : ℕ). Poke k a v) first.0 ∙ ap (λ (k : ℕ). Poke n k v) second.0 ∙ ap (Poke n b) third.0, third.1)
 
 -- a call's lines, and what stands behind them
-pub one_call : (a b : ToldCall) (x y : List ℕ) → CanSay a → CanSay b → call_text a ++ x ≡ call_text b ++ y → (a ≡ b) × (x ≡ y)
+pub one_call : (a b : PlanlessCall) (x y : List ℕ) → CanSay a → CanSay b → call_text a ++ x ≡ call_text b ++ y → (a ≡ b) × (x ≡ y)
 one_call (Submit c) (Submit d) x y p q same =
     let one = one_batch_front c d x y p q same in
     (ap Submit one.0, one.1)

@@ -28,7 +28,8 @@ use Rattle.batch_book.specs.declared.call.Call.{Call}
 use Rattle.batch_book.specs.declared.call.Call.TheVariants.{Submit, Fetch, Settle, Run, Show, Discard, Peek, Poke}
 use Rattle.batch_book.specs.Machine.{Machine, owned, batch_of, run_to, Gives, refuse, submit, fetch, settle_at, settle, show, discard, peek, poke, IsRunOf, IsRunAt, IsRunStep, IsMachineStep}
 use Rattle.batch_book.specs.History.{HasOwnPlan, HaveOwnPlans}
-use Rattle.book_record.specs.RecordText.{told, CanBeReplied}
+use Rattle.batch_book.specs.Told.{told}
+use Rattle.book_record.specs.RecordText.{CanBeReplied}
 use Rattle.book_record.proofs.Alike.{us, uh, um, up, Alike, settle_by, batch_untold, run_to_untold, submit_untold, fetched, settled, shown, discarded, peek_untold, poke_untold}
 
 -- one reply, and machines alike

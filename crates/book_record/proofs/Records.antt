@@ -13,8 +13,9 @@ use Rattle.batch_book.specs.Machine.{Machine, opened, IsMachineStep}
 use Rattle.batch_book.specs.History.{HaveOwnPlans, IsReplay}
 use Rattle.batch_book.proofs.OwnPlans.{plans_stay}
 use Rattle.batch_book.proofs.Steps.{small_step}
-use Rattle.book_record.specs.declared.told_call.ToldCall.{ToldCall}
-use Rattle.book_record.specs.RecordText.{told, id_of, call_text, reply_text, entry_text, record_head, CanTell}
+use Rattle.batch_book.specs.Told.{PlanlessCall}
+use Rattle.batch_book.specs.Told.{told}
+use Rattle.book_record.specs.RecordText.{id_of, call_text, reply_text, entry_text, record_head, CanTell}
 use Rattle.book_record.specs.Untold.{ToldEntry, told_entry}
 use Rattle.book_record.specs.Laws.{OneRecord}
 use Rattle.book_record.proofs.Alike.{um, Alike}
@@ -56,8 +57,8 @@ pub record OneEntry (e f : Entry) (k l : Machine) (x y : List ℕ) : Type 0 wher
 
 same_entry : (e f : Entry) → e.session ≡ f.session → told e.call ≡ told f.call → e.reply ≡ f.reply → told_entry e ≡ told_entry f
 same_entry e f s c r =
-    let make : ℕ → ToldCall → Reply → ToldEntry = λ t d q. record { session = t; call = d; reply = q } in
-    ap (λ (t : ℕ). make t (told e.call) e.reply) s ∙ ap (λ (d : ToldCall). make f.session d e.reply) c ∙ ap (make f.session (told f.call)) r
+    let make : ℕ → PlanlessCall → Reply → ToldEntry = λ t d q. record { session = t; call = d; reply = q } in
+    ap (λ (t : ℕ). make t (told e.call) e.reply) s ∙ ap (λ (d : PlanlessCall). make f.session d e.reply) c ∙ ap (make f.session (told f.call)) r
 
 -- a call's lines, and what stands behind them
 pub one_asked : (m n : Machine) (e f : Entry) (k l : Machine) (x y : List ℕ) → Alike m n → IsFit m → IsFit n → CanTell e → CanTell f

@@ -8,9 +8,10 @@ use Rattle.batch_book.specs.declared.entry.Entry.{Entry}
 use Rattle.batch_book.specs.declared.reply.Reply.{Reply}
 use Rattle.batch_book.specs.Machine.{Machine, opened}
 use Rattle.module_memory.proofs.Blocks.{all_blocks}
-use Rattle.book_record.specs.declared.told_call.ToldCall.{ToldCall}
-use Rattle.book_record.specs.declared.told_call.ToldCall.TheVariants as told_call
-use Rattle.book_record.specs.RecordText.{told, id_of, call_text, reply_text, entry_text, record_head, record_text}
+use Rattle.batch_book.specs.Told.{PlanlessCall}
+use Rattle.batch_book.specs.declared.told_call.ToldCall.TheVariants as told_call
+use Rattle.batch_book.specs.Told.{told}
+use Rattle.book_record.specs.RecordText.{id_of, call_text, reply_text, entry_text, record_head, record_text}
 use Rattle.book_record.specs.Untold.{IsReplanned, IsReplannedEntry, AreReplanned}
 use Rattle.book_record.specs.Laws.{PlansAreUntold}
 use Rattle.book_record.proofs.Again.{replay_again}
@@ -22,8 +23,8 @@ same_told c d is = ap told is
 
 same_entry : (e f : Entry) → IsReplannedEntry e f → entry_text f ≡ entry_text e
 same_entry e f is =
-    let make : ℕ → ToldCall → Reply → List ℕ = λ s c r. number s space ++ (call_text c ++ reply_text (id_of c) r) in
-    ap (λ (s : ℕ). make s (told f.call) f.reply) is.session ∙ ap (λ (c : ToldCall). make e.session c f.reply) (same_told e.call f.call is.call) ∙ ap (make e.session (told e.call)) is.reply
+    let make : ℕ → PlanlessCall → Reply → List ℕ = λ s c r. number s space ++ (call_text c ++ reply_text (id_of c) r) in
+    ap (λ (s : ℕ). make s (told f.call) f.reply) is.session ∙ ap (λ (c : PlanlessCall). make e.session c f.reply) (same_told e.call f.call is.call) ∙ ap (make e.session (told e.call)) is.reply
 
 same_count : (es fs : List Entry) → AreReplanned es fs → length fs ≡ length es
 same_count [] [] is = refl

@@ -4,8 +4,8 @@ use Rattle.batch.specs.Batches.{IsBatch}
 use Rattle.batch.specs.Text.{IsNumber, number, batch_text, space, line_feed}
 use Rattle.batch.specs.declared.transfer.Transfer.{Transfer}
 use Rattle.line_words.specs.HexWords.{IsWord, hex8}
-use Rattle.book_record.specs.declared.told_call.ToldCall.{ToldCall}
-use Rattle.book_record.specs.declared.told_call.ToldCall.TheVariants.{Submit}
+use Rattle.batch_book.specs.declared.told_call.ToldCall.TheVariants.{Submit}
+use Rattle.batch_book.specs.Told.{PlanlessCall}
 use Rattle.book_record.specs.RecordText.{call_text, CanSay}
 
 -- ---- lines
@@ -44,14 +44,14 @@ BeginsWithNoPoke text =
     ++ (hex8 address ++ space ∷ (hex8 word ++ line_feed ∷ rest)))
 
 -- the call has one line
-abbrev pub HasOneLine : ToldCall → Type 0
+abbrev pub HasOneLine : PlanlessCall → Type 0
 HasOneLine (Submit batch) = ⊥
 HasOneLine call = Unit {0}
 
 -- the text begins with no call of one line
 abbrev pub BeginsWithNoLine : List ℕ → Type 0
 BeginsWithNoLine text =
-    (call : ToldCall) (rest : List ℕ) → HasOneLine call → CanSay call
+    (call : PlanlessCall) (rest : List ℕ) → HasOneLine call → CanSay call
     → text ≢ call_text call ++ rest
 
 -- the text begins with no batch of so many transfers
@@ -63,10 +63,10 @@ BeginsWithNoBatch text count =
 -- the text begins with the lines of no call
 abbrev pub BeginsWithNoCall : List ℕ → Type 0
 BeginsWithNoCall text =
-    (call : ToldCall) (rest : List ℕ) → CanSay call → text ≢ call_text call ++ rest
+    (call : PlanlessCall) (rest : List ℕ) → CanSay call → text ≢ call_text call ++ rest
 
 -- the text begins with no session's number and call
 abbrev pub BeginsWithNoEntry : List ℕ → Type 0
 BeginsWithNoEntry text =
-    (session : ℕ) (call : ToldCall) (rest : List ℕ) → IsNumber session → CanSay call
+    (session : ℕ) (call : PlanlessCall) (rest : List ℕ) → IsNumber session → CanSay call
     → text ≢ number session space ++ (call_text call ++ rest)

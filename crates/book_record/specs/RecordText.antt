@@ -9,8 +9,9 @@ use Rattle.batch.specs.Text.{IsNumber, number, batch_text, space, line_feed}
 use Rattle.line_words.specs.HexWords.{IsWord}
 use Rattle.batch_book.specs.declared.limits.TheConstants.{MAX_ENTRIES}
 use Rattle.batch_book.specs.declared.entry.Entry.{Entry}
-use Rattle.batch_book.specs.declared.call.Call.{Call}
-use Rattle.batch_book.specs.declared.call.Call.TheVariants.{Submit, Fetch, Settle, Run, Show, Discard, Peek, Poke}
+use Rattle.batch_book.specs.declared.told_call.ToldCall.{ToldCall}
+use Rattle.batch_book.specs.declared.told_call.ToldCall.TheVariants as told_call
+use Rattle.batch_book.specs.Told.{PlanlessCall, told}
 use Rattle.batch_book.specs.declared.refusal.BookRefusal.TheVariants.{Stranger}
 use Rattle.batch_book.specs.declared.reply.Reply.{Reply}
 use Rattle.batch_book.specs.declared.reply.Reply.TheVariants.{Fetched, Refused}
@@ -19,24 +20,11 @@ use Rattle.client_session.specs.declared.command.SessionCommand.TheVariants as c
 use Rattle.client_session.specs.Commands.{line_of}
 use Rattle.client_session.specs.Replies.{reply_line, with_feed}
 use Rattle.client_session.specs.Steps.{CanBeTold}
-use Rattle.book_record.specs.declared.told_call.ToldCall.{ToldCall}
-use Rattle.book_record.specs.declared.told_call.ToldCall.TheVariants as told_call
 
 -- ---- the texts
 
--- what a record tells of a call
-abbrev pub told : Call → ToldCall
-told (Submit batch) = told_call.Submit batch
-told (Fetch id) = told_call.Fetch id
-told (Settle id plan) = told_call.Settle id
-told (Run id) = told_call.Run id
-told (Show id) = told_call.Show id
-told (Discard id) = told_call.Discard id
-told (Peek «module» address) = told_call.Peek «module» address
-told (Poke «module» address word) = told_call.Poke «module» address word
-
 -- the batch that a call names, or 0
-abbrev pub id_of : ToldCall → ℕ
+abbrev pub id_of : {B : Type 0} → ToldCall B → ℕ
 id_of (told_call.Fetch id) = id
 id_of (told_call.Settle id) = id
 id_of (told_call.Run id) = id
@@ -45,7 +33,7 @@ id_of (told_call.Discard id) = id
 id_of call = 0
 
 -- the lines of a call: a batch text, or the line of the session's command; `plan ID` is two calls
-abbrev pub call_text : ToldCall → List ℕ
+abbrev pub call_text : PlanlessCall → List ℕ
 call_text (told_call.Submit batch) = batch_text batch
 call_text (told_call.Fetch id) = with_feed (codes "fetch " ++ decimal id)
 call_text (told_call.Settle id) = with_feed (codes "settle " ++ decimal id)
@@ -83,7 +71,7 @@ CanBePut reply = CanBeTold reply
 -- ---- what a record can tell
 
 -- its numbers are such as a line can hold
-abbrev pub CanSay : ToldCall → Type 0
+abbrev pub CanSay : PlanlessCall → Type 0
 CanSay (told_call.Submit batch) = IsBatch batch
 CanSay (told_call.Fetch id) = IsNumber id
 CanSay (told_call.Settle id) = IsNumber id

@@ -5,8 +5,7 @@ use Rattle.batch_book.specs.declared.call.Call.{Call}
 use Rattle.batch_book.specs.declared.call.Call.TheVariants.{Settle}
 use Rattle.batch_book.specs.declared.entry.Entry.{Entry}
 use Rattle.batch_book.specs.declared.reply.Reply.{Reply}
-use Rattle.book_record.specs.declared.told_call.ToldCall.{ToldCall}
-use Rattle.book_record.specs.RecordText.{told}
+use Rattle.batch_book.specs.Told.{PlanlessCall, told}
 
 -- the same call, but for another shortest plan of the same batch
 abbrev pub IsReplanned : Call → Call → Type 0
@@ -28,7 +27,7 @@ AreReplanned es fs = ⊥
 -- what a record tells of an entry
 pub record ToldEntry : Type 0 where
   pub session : ℕ
-  pub call : ToldCall
+  pub call : PlanlessCall
   pub reply : Reply
 
 abbrev pub told_entry : Entry → ToldEntry

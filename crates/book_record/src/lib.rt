@@ -10,9 +10,7 @@
 
 pub mod laws;
 mod reading;
-mod told_call;
 mod writing;
 
 pub use reading::{read_entry, read_head};
-pub use told_call::ToldCall;
 pub use writing::{id_of, push_reply, write_record};

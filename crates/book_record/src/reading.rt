@@ -7,8 +7,8 @@ ghost use Rattle.line_words.specs.HexWords.{IsWord, hex8, BeginsWithNoHex8};
 ghost use Rattle.book_record.specs.Reading.{behind_lines, BeginsWithNoneNamed, BeginsWithNoPeek, BeginsWithNoPoke, BeginsWithNoLine, BeginsWithNoBatch, BeginsWithNoCall, BeginsWithNoEntry};
 ghost use Rattle.book_record.specs.RecordText.{CanSay, call_text, record_head};
 
-use crate::told_call::ToldCall;
 use batch::{Batch, BatchFault, Shape, number_before, position_of};
+use batch_book::ToldCall;
 use line_words::{HEX_DIGITS, behind, hex8_and_rest, number_and_rest, word_from_hex8};
 use std::alloc::{AllocError, Global};
 
@@ -73,7 +73,7 @@ fn poke(text: &[u8]) -> Option<(usize, u32, u32, &[u8])>
 }
 
 /// A call of one line that the text begins with, and the rest.
-fn short_call(text: &[u8]) -> Option<(ToldCall, &[u8])>
+fn short_call(text: &[u8]) -> Option<(ToldCall<Batch>, &[u8])>
     ensures some { IfSome result (λ x. CanSay x.0 × (text.now ≡ call_text x.0 ++ x.1.now)) }
     ensures none { IfNone result (BeginsWithNoLine text.now) }
 {
@@ -137,7 +137,7 @@ fn batch_and_rest(
 }
 
 /// The call that the text begins with, and the rest.
-fn read_call(alloc: Global, text: &[u8]) -> Result<Option<(ToldCall, &[u8])>, AllocError>
+fn read_call(alloc: Global, text: &[u8]) -> Result<Option<(ToldCall<Batch>, &[u8])>, AllocError>
     ensures some { IfOk result (λ read. IfSome read (λ x.
         CanSay x.0 × (text.now ≡ call_text x.0 ++ x.1.now))) }
     ensures none { IfOk result (λ read. IfNone read (BeginsWithNoCall text.now)) }
@@ -156,7 +156,7 @@ fn read_call(alloc: Global, text: &[u8]) -> Result<Option<(ToldCall, &[u8])>, Al
 pub fn read_entry(
     alloc: Global,
     text: &[u8],
-) -> Result<Option<(usize, ToldCall, &[u8])>, AllocError>
+) -> Result<Option<(usize, ToldCall<Batch>, &[u8])>, AllocError>
     ensures some { IfOk result (λ read. IfSome read (λ x. IsNumber x.0 × CanSay x.1
         × (text.now ≡ number x.0 space ++ (call_text x.1 ++ x.2.now)))) }
     ensures none { IfOk result (λ read. IfNone read (BeginsWithNoEntry text.now)) }

@@ -5,9 +5,9 @@ ghost use Rattle.std.specs.Fmt.{decimal};
 ghost use Rattle.batch.specs.Text.{number, space};
 ghost use Rattle.line_words.specs.declared.limits.TheConstants.{NUMBER_ROOM};
 ghost use Rattle.client_session.specs.Replies.{with_feed};
-ghost use Rattle.book_record.specs.RecordText.{CanBePut, told, id_of, call_text, reply_text, entry_text, record_text};
+ghost use Rattle.book_record.specs.RecordText.{CanBePut, id_of, call_text, reply_text, entry_text, record_text};
 
-use batch_book::{Book, Call, Entry, Reply};
+use batch_book::{Book, Entry, LoggedReply, Reply, SharedBatch, ToldCall};
 use client_session::SessionCommand;
 use client_session::reply_line::ReplyLine;
 use line_words::Line;
@@ -35,30 +35,34 @@ fn push_line(text: &mut Vec<u8>, words: &[u8]) -> Result<(), AllocError>
 }
 
 /// Puts the lines of a call.
-fn push_call(text: &mut Vec<u8>, call: &Call) -> Result<(), AllocError>
-    ensures { OnOk result (text.new.items ≡ text.old.items ++ call_text (told call.now)) }
+fn push_call(text: &mut Vec<u8>, call: &ToldCall<SharedBatch>) -> Result<(), AllocError>
+    ensures { OnOk result (text.new.items ≡ text.old.items ++ call_text call.now) }
 {
     let line = match call {
-        Call::Submit(batch) => return text.extend_from_slice(batch.write()?.as_slice()),
-        Call::Fetch(id) => named(b"fetch ", *id),
-        Call::Settle(id, _) => named(b"settle ", *id),
-        Call::Run(id) => SessionCommand::Run(*id).line(),
-        Call::Show(id) => SessionCommand::Show(*id).line(),
-        Call::Discard(id) => SessionCommand::Drop(*id).line(),
-        Call::Peek(module, address) => SessionCommand::Peek(*module, *address).line(),
-        Call::Poke(module, address, word) => SessionCommand::Poke(*module, *address, *word).line(),
+        ToldCall::Submit(shared) => {
+            return text.extend_from_slice(shared.batch().write()?.as_slice());
+        }
+        ToldCall::Fetch(id) => named(b"fetch ", *id),
+        ToldCall::Settle(id) => named(b"settle ", *id),
+        ToldCall::Run(id) => SessionCommand::Run(*id).line(),
+        ToldCall::Show(id) => SessionCommand::Show(*id).line(),
+        ToldCall::Discard(id) => SessionCommand::Drop(*id).line(),
+        ToldCall::Peek(module, address) => SessionCommand::Peek(*module, *address).line(),
+        ToldCall::Poke(module, address, word) => {
+            SessionCommand::Poke(*module, *address, *word).line()
+        }
     };
     push_line(text, line.as_bytes())
 }
 
 /// The batch that a call names, or 0.
-pub fn id_of(call: &Call) -> usize
-    ensures { result ≡ id_of (told call.now) }
+pub fn id_of<B: Drop>(call: &ToldCall<B>) -> usize
+    ensures { result ≡ id_of call.now }
 {
     match call {
-        Call::Fetch(id) | Call::Settle(id, _) | Call::Run(id) => *id,
-        Call::Show(id) | Call::Discard(id) => *id,
-        Call::Submit(_) | Call::Peek(..) | Call::Poke(..) => 0,
+        ToldCall::Fetch(id) | ToldCall::Settle(id) | ToldCall::Run(id) => *id,
+        ToldCall::Show(id) | ToldCall::Discard(id) => *id,
+        ToldCall::Submit(_) | ToldCall::Peek(..) | ToldCall::Poke(..) => 0,
     }
 }
 
@@ -73,6 +77,17 @@ pub fn push_reply(text: &mut Vec<u8>, id: usize, reply: &Reply) -> Result<(), Al
     let mut line = ReplyLine::new();
     line.tell(id, reply);
     text.extend_from_slice(line.as_bytes())
+}
+
+/// Puts the line of a reply of the history.
+fn push_logged(text: &mut Vec<u8>, id: usize, reply: &LoggedReply) -> Result<(), AllocError>
+    requires { CanBePut reply.now }
+    ensures { OnOk result (text.new.items ≡ text.old.items ++ reply_text id reply.now) }
+{
+    match reply.kept() {
+        Some(reply) => push_reply(text, id, reply),
+        None => push_line(text, b"fetched"),
+    }
 }
 
 /// Puts the session's number, and a space.
@@ -90,8 +105,9 @@ fn push_entry(text: &mut Vec<u8>, entry: &Entry) -> Result<(), AllocError>
     ensures { OnOk result (text.new.items ≡ text.old.items ++ entry_text entry.now) }
 {
     push_session(text, entry.session)?;
-    push_call(text, &entry.call)?;
-    push_reply(text, id_of(&entry.call), &entry.reply)
+    let call = entry.call.told();
+    push_call(text, call)?;
+    push_logged(text, id_of(call), &entry.reply)
 }
 
 /// The text of these entries.

@@ -25,8 +25,9 @@ use Rattle.batch_book.specs.Machine.{Machine, batch_of, opened, settle, settle_a
 use Rattle.batch_book.specs.History.{Account, IsGrown, IsReplay, entry}
 use Rattle.batch.specs.Text.{IsNumber, number, space, line_feed}
 use Rattle.batch.proofs.Lines.{one_number, ends_line}
-use Rattle.book_record.specs.declared.told_call.ToldCall.{ToldCall}
-use Rattle.book_record.specs.RecordText.{told, id_of, call_text, reply_text, entry_text, record_head, CanSay, CanBeReplied, CanTell, IsRecordOf}
+use Rattle.batch_book.specs.Told.{PlanlessCall}
+use Rattle.batch_book.specs.Told.{told}
+use Rattle.book_record.specs.RecordText.{id_of, call_text, reply_text, entry_text, record_head, CanSay, CanBeReplied, CanTell, IsRecordOf}
 use Rattle.book_record.proofs.Records.{entry_parts}
 use Rattle.record_replay.specs.declared.fault.RecordError.{RecordError}
 use Rattle.record_replay.specs.declared.fault.RecordFault.TheVariants as fault
@@ -64,11 +65,11 @@ came old new text replied rest session c r fits can may grown asks answers = rec
 }
 
 -- the text goes on with the line of the reply
-pub came_as : (old new : Account) (text replied rest : List ℕ) (session : ℕ) (tc : ToldCall) (c : Call) (r : Reply) → told c ≡ tc → IsNumber session → CanSay tc → CanBeReplied r → IsGrown old session c r new
+pub came_as : (old new : Account) (text replied rest : List ℕ) (session : ℕ) (tc : PlanlessCall) (c : Call) (r : Reply) → told c ≡ tc → IsNumber session → CanSay tc → CanBeReplied r → IsGrown old session c r new
     → text ≡ number session space ++ (call_text tc ++ replied) → replied ≡ reply_text (id_of tc) r ++ rest → GoesOnBy old new text rest
 came_as old new text replied rest session tc c r is fits can may grown asks answers =
     came old new text replied rest session c r fits (subst CanSay (sym is) can) may grown
-    (subst (λ (x : ToldCall). text ≡ number session space ++ (call_text x ++ replied)) (sym is) asks) (subst (λ (x : ToldCall). replied ≡ reply_text (id_of x) r ++ rest) (sym is) answers)
+    (subst (λ (x : PlanlessCall). text ≡ number session space ++ (call_text x ++ replied)) (sym is) asks) (subst (λ (x : PlanlessCall). replied ≡ reply_text (id_of x) r ++ rest) (sym is) answers)
 
 -- ---- how far a record was made again
 

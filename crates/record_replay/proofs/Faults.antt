@@ -10,7 +10,8 @@ use Rattle.batch_book.specs.declared.entry.Entry.{Entry}
 use Rattle.batch_book.specs.Machine.{Machine, opened, IsMachineStep}
 use Rattle.batch_book.specs.History.{IsReplay, entry}
 use Rattle.book_record.specs.Reading.{BeginsWithNoEntry}
-use Rattle.book_record.specs.RecordText.{told, id_of, call_text, reply_text, entry_text, record_head, record_text, CanTell, IsRecordOf}
+use Rattle.batch_book.specs.Told.{told}
+use Rattle.book_record.specs.RecordText.{id_of, call_text, reply_text, entry_text, record_head, record_text, CanTell, IsRecordOf}
 use Rattle.batch_book.specs.declared.limits.TheConstants.{MAX_ENTRIES}
 use Rattle.book_record.specs.Untold.{ToldEntry, told_entry}
 use Rattle.book_record.proofs.Alike.{Alike}

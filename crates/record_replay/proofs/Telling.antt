@@ -7,7 +7,8 @@ use Rattle.batch_book.specs.declared.entry.Entry.{Entry}
 use Rattle.batch_book.specs.declared.refusal.BookRefusal.TheVariants.{Stranger}
 use Rattle.batch_book.specs.declared.reply.Reply.TheVariants as reply
 use Rattle.batch_book.specs.Seats.{own}
-use Rattle.book_record.specs.RecordText.{told, CanSay, CanTell}
+use Rattle.batch_book.specs.Told.{told}
+use Rattle.book_record.specs.RecordText.{CanSay, CanTell}
 use Rattle.batch_book.specs.Replies.{IsUnstopped}
 use Rattle.record_replay.specs.Fetched.{SettleFetched}
 use Rattle.record_replay.specs.SessionLaws.{SessionsAreTold}

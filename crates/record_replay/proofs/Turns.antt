@@ -13,7 +13,8 @@ use Rattle.batch_book.specs.declared.reply.Reply.{Reply}
 use Rattle.batch_book.specs.declared.reply.Reply.TheVariants.{Refused}
 use Rattle.batch_book.specs.History.{entry}
 use Rattle.batch_book.specs.Replies.{is_logged}
-use Rattle.book_record.specs.RecordText.{told, CanSay}
+use Rattle.batch_book.specs.Told.{told}
+use Rattle.book_record.specs.RecordText.{CanSay}
 use Rattle.client_session.specs.Commands.{Means}
 use Rattle.client_session.specs.Seats.{SeatView, logged}
 use Rattle.client_session.specs.Sessions.{IsSession, added_entries}

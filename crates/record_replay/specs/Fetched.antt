@@ -6,7 +6,8 @@ use Rattle.batch_book.specs.declared.call.Call.TheVariants.{Fetch, Settle}
 use Rattle.batch_book.specs.declared.entry.Entry.{Entry}
 use Rattle.batch_book.specs.declared.reply.Reply.{Reply}
 use Rattle.batch_book.specs.declared.reply.Reply.TheVariants.{Fetched}
-use Rattle.book_record.specs.RecordText.{told, CanSay}
+use Rattle.batch_book.specs.Told.{told}
+use Rattle.book_record.specs.RecordText.{CanSay}
 
 -- the number and the transfers of the batch that a call has fetched, if it has
 abbrev pub fetched_by : Call → Reply → Option (ℕ × List Transfer)

@@ -13,7 +13,8 @@ use Rattle.batch_book.specs.declared.reply.Reply.{Reply}
 use Rattle.batch_book.specs.History.{Account, IsGrown, IsReplay}
 use Rattle.batch_book.specs.Machine.{Machine, batch_of, opened, IsMachineStep}
 use Rattle.book_record.specs.Reading.{BeginsWithNoEntry}
-use Rattle.book_record.specs.RecordText.{told, id_of, call_text, reply_text, entry_text, record_head, CanSay, CanBeReplied, CanTell}
+use Rattle.batch_book.specs.Told.{told}
+use Rattle.book_record.specs.RecordText.{id_of, call_text, reply_text, entry_text, record_head, CanSay, CanBeReplied, CanTell}
 use Rattle.record_replay.specs.declared.fault.EntryFault.{EntryFault}
 use Rattle.record_replay.specs.declared.fault.EntryFault.TheVariants as entry_fault
 use Rattle.record_replay.specs.declared.fault.RecordError.{RecordError}

@@ -5,12 +5,12 @@ ghost use Rattle.batch_book.specs.declared.limits.TheConstants.{MAX_ENTRIES};
 ghost use Rattle.batch_book.specs.Answering.{IsReplyTo};
 ghost use Rattle.batch_book.specs.History.{IsGrown};
 ghost use Rattle.batch_book.specs.Machine.{batch_of};
-ghost use Rattle.book_record.specs.RecordText.{told, CanBeReplied};
+ghost use Rattle.batch_book.specs.Told.{told};
+ghost use Rattle.book_record.specs.RecordText.{CanBeReplied};
 ghost use Rattle.record_replay.specs.Replays.{IsPlanFor, HasOwnPlanIn};
 
 use batch::Batch;
-use batch_book::{Book, BookRefusal, Call, Reply};
-use book_record::ToldCall;
+use batch_book::{Book, BookRefusal, Call, Reply, ToldCall};
 use crossbar::MemoryPort;
 use exchange_limits::WorkerCount;
 use peek_poke::PlainWires;
@@ -57,7 +57,7 @@ pub(crate) fn call_of<R: Threads + Sync>(
     alloc: Global,
     book: &Book,
     session: usize,
-    call: ToldCall,
+    call: ToldCall<Batch>,
     workers: WorkerCount,
 ) -> Result<Call, AllocError>
     ensures told { IfOk result (λ made. told made ≡ call) }

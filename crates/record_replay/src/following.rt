@@ -42,8 +42,8 @@ pub(crate) fn follow<'a, R: Threads + Sync>(
     let Some((session, told, replied)) = read_entry(alloc, text)? else {
         return Err(EntryFault::Call);
     };
+    let id = id_of(&told);
     let call = call_of(rt, alloc, book, session, told, workers)?;
-    let id = id_of(&call);
     let reply = ask(rt, book, plant, session, call)?;
     let due = due_line(alloc, id, &reply)?;
     match behind(replied, due.as_slice()) {

@@ -12,7 +12,8 @@ use Rattle.batch_book.specs.declared.entry.Entry.{Entry}
 use Rattle.batch_book.specs.History.{Account}
 use Rattle.batch_book.specs.Seats.{own}
 use Rattle.rack_answers.specs.Openings.{IsOfImageOrZeros}
-use Rattle.book_record.specs.RecordText.{record_text, told, CanSay, CanTell}
+use Rattle.batch_book.specs.Told.{told}
+use Rattle.book_record.specs.RecordText.{record_text, CanSay, CanTell}
 use Rattle.replay_answers.specs.Replays.{led, replayed, IsRecordTo}
 use Rattle.record_replay.specs.Fetched.{AreOfLines}
 use Rattle.record_replay.specs.SessionLaws.{SessionsAreTold, SessionsSay}

@@ -1,3 +1,4 @@
 pub mod Sessions
 pub mod Talks
 pub mod HostedSessions
+pub mod Crossing

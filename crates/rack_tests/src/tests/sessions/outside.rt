@@ -7,7 +7,7 @@ ghost use Rattle.std.specs.Prelude.{◌≡◌, ◌≤◌, length, take};
 use super::served::{NO_FUSE, Saying, serve_at_once};
 use crate::tests::common::{with_wires, zeros};
 use crate::tests::office::{close, open_pair};
-use batch_book::{Call, Entry, ExchangeBlank, ExchangeName};
+use batch_book::{Entry, ExchangeBlank, ExchangeName, ToldCall};
 use module_memory::Rack;
 use peek_poke::FuseWires;
 use schedule_certificate::OpenGate;
@@ -156,7 +156,7 @@ fn has_entry_between(history: &[Entry]) -> bool {
                 return true;
             }
         } else {
-            is_fetched = matches!(entry.call, Call::Fetch(_));
+            is_fetched = matches!(entry.call.told(), ToldCall::Fetch(_));
         }
     }
     false

@@ -4,7 +4,12 @@ use Rattle.std.specs.Vec.Iter.{into_iter_items}
 use Rattle.batch_book.specs.Seats.{SeatState}
 use Rattle.session_answers.specs.Hosting.{IsFresh}
 use Rattle.session_answers.proofs.HostedSessions.{one_more_thread, all_pushed}
+use Rattle.std.proofs.Crossing.{crosses}
+use Rattle.batch_book.proofs.Crossing.{seat_send}
+use Rattle.session_answers.proofs.Crossing.{context_sync}
 use Rattle.session_answers.proofs.hosting.start_all.Goals as goal
+use denote.Param.{param}
+use denote.Param.Send.{sendable}
 
 pub spawn_with-requires-clause-runs : goal.spawn_with-requires-clause-runs
 spawn_with-requires-clause-runs g c =
@@ -34,3 +39,16 @@ loop-seat-preserved g c =
 
 pub returns-clause-seats : goal.returns-clause-seats
 returns-clause-seats g c = grind (arith, common_steps)
+
+pub spawn_with-requires-send-F : goal.spawn_with-requires-send-F
+spawn_with-requires-send-F g c κs within =
+    let r = c.type_bounds.sync-R in
+    let d = c.type_bounds.sync-D in
+    let s = seat_send (param 1 g.row.L) g.L.ExchangeName g.L.HistoryName g.L.Ledger in
+    search (context_sync, crosses, sendable) depth 60 fits 20000
+
+pub spawn_with-requires-send-T : goal.spawn_with-requires-send-T
+spawn_with-requires-send-T g c κs within =
+    let k = c.type_bounds.send-D-Receipt in
+    let s = seat_send (param 1 g.row.L) g.L.ExchangeName g.L.HistoryName g.L.Ledger in
+    search (crosses, sendable) depth 60 fits 20000

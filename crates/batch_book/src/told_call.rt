@@ -1,10 +1,8 @@
-use batch::Batch;
-
-/// What a record tells of a call: all of it, but the plan that is settled.
+/// What a history tells of a call: all of it, but the plan that is settled.
 #[derive(Drop)]
-pub enum ToldCall {
+pub enum ToldCall<B: Drop> {
     /// Accept this batch.
-    Submit(Batch),
+    Submit(B),
     /// Give a copy of a batch.
     Fetch(usize),
     /// Take a plan for a batch.

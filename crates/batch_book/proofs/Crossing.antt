@@ -1,0 +1,73 @@
+-- An exchange may be shared, and a seat may go to another thread. In parts, since a search through all that they hold runs out of steps.
+use Rattle.std.proofs.Crossing.{crosses}
+use Rattle.std.proofs.sync.Mutex.TheSendSync as mutex
+use Rattle.std.proofs.sync.ledger.Book.TheSendSync as total
+use Rattle.std.specs.declared.sync.ledger.Ledger as Ledger
+use Rattle.progress_word.proofs.word.ProgressWord.TheSendSync as word
+use Rattle.batch.proofs.shape.Shape.TheSendSync as extent
+use Rattle.crossbar.specs.declared.port.ConfigPort as ConfigPort
+use Rattle.peek_poke.specs.declared.wire.Wire as Wire
+use Rattle.peek_poke.specs.declared.wire.WireMaker as WireMaker
+use Rattle.crossbar.specs.contracts.port.MemoryPort as MemoryPort
+use Rattle.crossbar.specs.contracts.port.MemoryPortConfigPort.TheImpl as port
+use Rattle.crossbar.proofs.port.MemoryPort.TheSendSync as memory_port
+use Rattle.peek_poke.specs.contracts.plain.PlainWire as PlainWire
+use Rattle.peek_poke.specs.contracts.plain.PlainWires as PlainWires
+use Rattle.peek_poke.specs.contracts.plain.PlainWireWire.TheImpl as wire
+use Rattle.peek_poke.specs.contracts.plain.PlainWiresWireMaker.TheImpl as wires
+use Rattle.peek_poke.proofs.plain.PlainWires.TheSendSync as plain_wires
+use Rattle.schedule_certificate.specs.contracts.gate.OpenGate as OpenGate
+use Rattle.schedule_certificate.proofs.gate.OpenGate.TheSendSync as open_gate
+use Rattle.own_lists.specs.declared.keeper.HistoryName as HistoryName
+use Rattle.own_lists.specs.contracts.keeper.Keeper as Keeper
+use Rattle.own_lists.specs.contracts.keeper.OwnList as OwnList
+use Rattle.own_lists.proofs.keeper.Keeper.TheSendSync as keeper
+use Rattle.own_lists.proofs.keeper.OwnList.TheSendSync as own
+use Rattle.setting_runner.proofs.plant.Plant.TheSendSync as plant
+use Rattle.batch_book.specs.declared.naming.ExchangeName as ExchangeName
+use Rattle.batch_book.specs.contracts.book.Book as Book
+use Rattle.batch_book.specs.contracts.entry.Entry as Entry
+use Rattle.batch_book.specs.contracts.entry.EntryOfSession.TheImpl.{ghosts}
+use Rattle.batch_book.specs.contracts.locked.Locked as Locked
+use Rattle.batch_book.specs.contracts.seat.Place as Place
+use Rattle.batch_book.specs.contracts.seat.Seat as Seat
+use Rattle.batch_book.specs.contracts.shared.Shared as Shared
+use Rattle.batch_book.specs.contracts.shared.Shared.TheInside as Inside
+use Rattle.batch_book.proofs.access.ExchangeAccess.TheSendSync as access
+use denote.RattleType.{RattleType}
+use denote.Param.Send.{IsSend, IsSync, recorded_send, recorded_sync, struct_send, struct_sync, view_sync, sendable}
+use denote.Struct.Declared.{shape}
+
+entry_send : IsSend Entry.the_row
+entry_send = search (crosses, sendable) depth 60 fits 20000
+
+book_send : IsSend Book.the_row
+book_send = let e = entry_send in search (crosses, sendable) depth 60 fits 20000
+
+module _ (L : RattleType) (n : ExchangeName.Ghosts L.Denot) (h : HistoryName.Ghosts L.Denot) (l : Ledger.Ghosts L.Denot) where
+  keeper_send : IsSend (Keeper.the_row Entry.the_row L ghosts h)
+  keeper_send = keeper.the_send Entry.the_row L ghosts h entry_send
+
+  place_send : IsSend (Place.the_field L n h l).row
+  place_send = struct_send (shape (Place.the_type L n h l)) (access.the_field_send L n h l, (own.the_send Entry.the_row L h entry_send, tt))
+
+  pub seat_send : IsSend (Seat.the_row L n h l)
+  seat_send = let p = place_send in search sendable depth 20
+
+  module _ (P W G I : RattleType) (p : ConfigPort.Ghosts P.Denot) (w : WireMaker.Ghosts W.Denot I.Denot) (i : Wire.Ghosts I.Denot) where
+    locked_send : IsSend P → IsSend W → IsSend G → IsSend (Locked.the_row L P W G I n h p w i l)
+    locked_send sp sw sg =
+        let T = Locked.the_type L P W G I n h p w i l in
+        recorded_send (Locked.the_field L P W G I n h p w i l).row _ _ T.to_one
+        (struct_send (shape T) (book_send, (plant.the_field_send P W G sp sw sg, (total.the_send L l, (keeper_send, tt)))))
+
+    pub shared_sync : IsSend P → IsSend W → IsSend G → IsSync (Shared.the_row L P W G I n h p w i l)
+    shared_sync sp sw sg =
+        let T = Inside.the_type L P W G I n h p w i l in
+        view_sync (Inside.the_row L P W G I n h p w i l) _ _ _ _
+        (recorded_sync (Inside.the_field L P W G I n h p w i l).row _ _ T.to_one
+        (struct_sync (shape T) (mutex.the_sync (Locked.the_row L P W G I n h p w i l) (locked_send sp sw sg), (word.the_sync, (extent.the_sync, tt)))))
+
+-- where port and wires never fail
+pub plain_sync : (L : RattleType) (n : ExchangeName.Ghosts L.Denot) (h : HistoryName.Ghosts L.Denot) (l : Ledger.Ghosts L.Denot) → IsSync (Shared.the_row L MemoryPort.the_row PlainWires.the_row OpenGate.the_row PlainWire.the_row n h port.ghosts wires.ghosts wire.ghosts l)
+plain_sync L n h l = shared_sync L n h l MemoryPort.the_row PlainWires.the_row OpenGate.the_row PlainWire.the_row port.ghosts wires.ghosts wire.ghosts memory_port.the_send plain_wires.the_send open_gate.the_send

@@ -1,0 +1,16 @@
+use Rattle.std.proofs.Crossing.{crosses}
+use Rattle.crossbar.proofs.port.MemoryPort.TheSendSync as memory_port
+use Rattle.schedule_certificate.proofs.gate.OpenGate.TheSendSync as open_gate
+use Rattle.batch_book.proofs.Crossing.{seat_send, shared_sync}
+use Rattle.rack_tests.proofs.tests.book.readings.run_and_look.Goals as goal
+use denote.Param.{param}
+use denote.Param.Send.{sendable}
+
+pub join-requires-send-F : goal.join-requires-send-F
+join-requires-send-F g c κs within =
+    let r = c.type_bounds.sync-R in
+    let w = c.type_bounds.send-W in
+    let p = memory_port.the_send in
+    let o = open_gate.the_send in
+    let s = seat_send (param 0 g.row.L) g.L.ExchangeName g.L.HistoryName g.L.Ledger in
+    search (shared_sync, crosses, sendable) depth 60 fits 20000
