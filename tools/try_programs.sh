@@ -2,11 +2,14 @@
 # Tries the built programs: the start script, the rows of each command, what the documents show, live
 # clients, switches that stand somewhere else, the calls from C and Python, what is installed, the
 # instructions that planning, runs and sessions take, and hostile use. What isn't built yet is proved
-# and built first. It also looks for names with several meanings.
+# and built first. It also looks for names with several meanings, and for libraries that open files
+# past every handle.
 set -eu
 cd "$(dirname "$(readlink -f "${BASH_SOURCE[0]}")")/.."
-# By these libraries a crate would open and write files past std.
-! grep -E ':.* (io|os|libc)( |$)' crates.txt || exit 1
+if grep -nE '^[^#:]*:.* (io|os|libc)( |$)' crates.txt; then
+    echo "crates.txt: a crate lists io, os or libc" >&2
+    exit 1
+fi
 tools/start/run.sh
 tools/rows/run.py
 tools/c/run.sh

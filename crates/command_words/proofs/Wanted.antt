@@ -1,6 +1,6 @@
 -- What the rows have of a job that arguments hold.
-use Rattle.std.proofs.Common.{◌≡◌, ◌∙◌, ◌↔◌, ap, ap₂, sym, subst, List, [], ◌∷◌, Option, Some, None, Bool, true, false, IsTrue, codes, refl, Result, Ok, Err, IsErrAnd}
-use Rattle.std.specs.Prelude.{MatchOption, ◌++◌, find, flat_map, map, option_and_then, option_to_list, unwrap_or}
+use Rattle.std.proofs.Common.{◌≡◌, ◌∙◌, ◌↔◌, ap, sym, subst, not, List, [], ◌∷◌, Option, Some, None, Bool, true, false, IsTrue, codes, refl, Result, Ok, Err, IsErrAnd}
+use Rattle.std.specs.Prelude.{MatchOption, ◌++◌, if◌then◌else◌, find, flat_map, map, option_and_then, option_to_list, unwrap_or}
 use Rattle.std.specs.Str.{bytes_eq}
 use Rattle.clap.specs.Words.{Row, Text, all_of, first_of}
 use Rattle.clap.specs.declared.parser.matches.ValueSource.{ValueSource}
@@ -15,7 +15,7 @@ use Rattle.command_words.specs.declared.jobs.Request.{Request}
 use Rattle.plan_answers.specs.declared.source.Source.{Source}
 use Rattle.plan_answers.specs.declared.source.Source.TheVariants as source
 use Rattle.command_words.specs.Program.{command_word}
-use Rattle.command_words.specs.Jobs.{HasJob, HasOption, HasSome, HasSource, HasText, HaveNames, IsJob, IsReading, IsRequest, IsWithinLimits, HasWanted, AreClientNames, MayBeDone, NameInputOnce, client_files, clients_of, cue_files, file, files_beside, files_of, input_name, name_of, port_files, schedule_files, switched_files}
+use Rattle.command_words.specs.Jobs.{Files, HasJob, HasSome, HasSource, HaveNames, IsJob, IsReading, IsRequest, IsWithinLimits, HasWanted, AreClientNames, MayBeDone, ReadsInputOnce, all_files, client_files, clients_of, file, files_beside, files_of, hears_input, input_name, of_list, name_of, on_image, port_files, schedule_in, scripts_on}
 use Rattle.command_words.specs.declared.reading.Lack.{Lack}
 use Rattle.command_words.specs.declared.reading.Lack.TheVariants.{Memory}
 use Rattle.command_words.proofs.CommandNames.{same_word}
@@ -77,42 +77,37 @@ same_flag (Some DefaultValue) true given = absurd (let bad : Some DefaultValue �
 same_flag None false given = refl
 same_flag (Some DefaultValue) false given = refl
 
--- the names of the files of `switch`
-abbrev switched_in : List Row → List Text
+-- what a command reads whose first file is a batch, with a schedule and a wiring
+abbrev switched_in : List Row → Files Text
 switched_in rows =
-    text_in (codes "BATCH") rows ∷ (option_to_list (first_of (codes "schedule") rows) ++ option_to_list (first_of (codes "wiring") rows))
+    of_list (text_in (codes "BATCH") rows) (first_of (codes "schedule") rows) (first_of (codes "wiring") rows)
 
 -- the names of the files of a command
-abbrev files_in : CommandName → List Row → List Text
-files_in name.Plan rows = text_in (codes "FILE") rows ∷ []
-files_in name.Check rows = text_in (codes "BATCH") rows ∷ text_in (codes "SCHEDULE") rows ∷ []
-files_in name.Draw rows = text_in (codes "BATCH") rows ∷ text_in (codes "SCHEDULE") rows ∷ []
+abbrev files_in : CommandName → List Row → Files Text
+files_in name.Plan rows = of_list (text_in (codes "FILE") rows) None None
+files_in name.Check rows = of_list (text_in (codes "BATCH") rows) (first_of (codes "SCHEDULE") rows) None
+files_in name.Draw rows = of_list (text_in (codes "BATCH") rows) (first_of (codes "SCHEDULE") rows) None
 files_in name.Switch rows = switched_in rows
-files_in name.Drive rows = switched_in rows ++ cue_files (given_in (codes "go-on") rows)
-files_in name.C004 rows = input_name ∷ []
-files_in name.Direct rows = text_in (codes "MOVES") rows ∷ []
-files_in name.Apply rows = text_in (codes "BATCH") rows ∷ text_in (codes "IMAGE") rows ∷ []
-files_in name.Run rows = option_to_list (first_of (codes "image") rows) ++ text_in (codes "BATCH") rows ∷ (option_to_list (first_of (codes "schedule") rows) ++ [])
-files_in name.Serve rows = option_to_list (first_of (codes "image") rows) ++ unwrap_or (all_of (codes "SCRIPT") rows) []
-files_in name.Host rows = option_to_list (first_of (codes "image") rows)
-files_in name.Talk rows = option_to_list (first_of (codes "image") rows) ++ input_name ∷ []
-files_in name.Replay rows = option_to_list (first_of (codes "image") rows) ++ text_in (codes "RECORD") rows ∷ []
+files_in name.Drive rows = switched_in rows
+files_in name.C004 rows = scripts_on None []
+files_in name.Direct rows = of_list (text_in (codes "MOVES") rows) None None
+files_in name.Apply rows = of_list (text_in (codes "BATCH") rows) (first_of (codes "IMAGE") rows) None
+files_in name.Run rows = on_image (first_of (codes "image") rows) (text_in (codes "BATCH") rows) (first_of (codes "schedule") rows)
+files_in name.Serve rows = scripts_on (first_of (codes "image") rows) (unwrap_or (all_of (codes "SCRIPT") rows) [])
+files_in name.Host rows = scripts_on (first_of (codes "image") rows) []
+files_in name.Talk rows = scripts_on (first_of (codes "image") rows) []
+files_in name.Replay rows = on_image (first_of (codes "image") rows) (text_in (codes "RECORD") rows) None
 
-scheduled : (rows : List Row) (source : Source Text) → HasSource rows source → schedule_files source ≡ option_to_list (first_of (codes "schedule") rows)
-scheduled rows (source.Plan planning) has = rw has.0 refl
-scheduled rows (source.Text schedule) has = rw has.0 refl
-
-switched_are : (rows : List Row) (batch : Text) (source : Source Text) (wiring : Option Text) → HasText (codes "BATCH") rows batch → HasSource rows source → HasOption (codes "wiring") rows wiring → switched_files batch source wiring ≡ switched_in rows
-switched_are rows batch source wiring one other more = rw (one, scheduled rows source other, more) refl
+scheduled : (rows : List Row) (source : Source Text) → HasSource rows source → first_of (codes "schedule") rows ≡ schedule_in source
+scheduled rows (source.Plan planning) has = has.0
+scheduled rows (source.Text schedule) has = has.0
 
 files_are : (rows : List Row) (job : Job) → HasJob rows job → files_of job ≡ files_in (name_of job) rows
 files_are rows (Plan file planning workers) has = rw has.0 refl
 files_are rows (Check batch schedule) has = rw (has.0, has.1) refl
 files_are rows (Draw batch schedule settings) has = rw (has.0, has.1) refl
-files_are rows (Switch batch source wiring workers) has = switched_are rows batch source wiring has.0 has.1 has.2
-files_are rows (Drive batch port port_b source wiring goes_on workers) has =
-    let flag = same_flag (option_and_then (λ row. row.source) (find (λ row. bytes_eq row.id (codes "go-on")) rows)) goes_on has.5 in
-    ap₂ (λ (front more : List Text). front ++ more) (switched_are rows batch source wiring has.0 has.3 has.4) (ap cue_files flag)
+files_are rows (Switch batch source wiring workers) has = rw (has.0, scheduled rows source has.1, has.2) refl
+files_are rows (Drive batch port port_b source wiring goes_on workers) has = rw (has.0, scheduled rows source has.3, has.4) refl
 files_are rows C004 has = refl
 files_are rows (Direct moves) has = rw has refl
 files_are rows (Apply shape batch image workers) has = rw (has.1, has.2) refl
@@ -121,6 +116,18 @@ files_are rows (Serve rack scripts workers) has = rw (has.0.image, has.1.0) refl
 files_are rows (Host rack clients workers) has = rw has.0.image refl
 files_are rows (Talk rack) has = rw has.image refl
 files_are rows (Replay shape recorded image) has = rw (has.1, has.2) refl
+
+-- whether a command hears standard input itself
+abbrev hears_in : CommandName → List Row → Bool
+hears_in name.Drive rows = not (given_in (codes "go-on") rows)
+hears_in name.C004 rows = true
+hears_in name.Talk rows = true
+hears_in other rows = false
+
+hears_is : (rows : List Row) (job : Job) → HasJob rows job → hears_input job ≡ hears_in (name_of job) rows
+hears_is rows (Drive batch port port_b source wiring goes_on workers) has =
+    ap not (same_flag (option_and_then (λ row. row.source) (find (λ row. bytes_eq row.id (codes "go-on")) rows)) goes_on has.5)
+hears_is rows job has = refl
 
 -- the names of the clients of a command
 abbrev clients_in : CommandName → List Row → List Text
@@ -158,8 +165,13 @@ same_done (Some p) a b one other done =
     let files = files_are p.1 a.job one.job.1 ∙ ap (λ (n : CommandName). files_in n p.1) same ∙ sym (files_are p.1 b.job other.job.1) in
     let beside = beside_are p.1 a.job one.job.1 ∙ ap (λ (n : CommandName). beside_in n p.1) same ∙ sym (beside_are p.1 b.job other.job.1) in
     let clients = clients_are p.1 a.job one.job.1 ∙ ap (λ (n : CommandName). clients_in n p.1) same ∙ sym (clients_are p.1 b.job other.job.1) in
+    let hears = hears_is p.1 a.job one.job.1 ∙ ap (λ (n : CommandName). hears_in n p.1) same ∙ sym (hears_is p.1 b.job other.job.1) in
+    let Names : Files Text → Bool → List FileUse → Type 0 =
+    λ names hears more. HaveNames (map (file Read) (all_files names ++ (if hears then input_name ∷ [] else [])) ++ more) in
     record {
-      input = subst NameInputOnce files done.input;
-      files = subst HaveNames (ap₂ (λ (names : List Text) (more : List FileUse). map (file Read) names ++ more) files beside) done.files;
+      input = subst (ReadsInputOnce (files_of b.job)) hears (subst (λ (f : Files Text). ReadsInputOnce f (hears_input a.job)) files done.input);
+      files = subst (Names (files_of b.job) (hears_input b.job)) beside
+          (subst (λ (h : Bool). Names (files_of b.job) h (files_beside a.job)) hears
+          (subst (λ (f : Files Text). Names f (hears_input a.job) (files_beside a.job)) files done.files));
       clients = subst AreClientNames clients done.clients;
     }

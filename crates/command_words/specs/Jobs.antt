@@ -1,5 +1,5 @@
 -- The job that the arguments of the command line name.
-use Rattle.std.specs.Prelude.{◌≡◌, ◌≢◌, ◌⊎◌, ◌↔◌, ℕ, ◌≤◌, List, [], ◌∷◌, ◌++◌, Some, None, String, codes, length, map, find, flat_map, string_bytes, Option, All, AllPairs, IsTrue, Bool, true, false, option_and_then, option_to_list, MatchOption, Result, Ok, Err, ⊤}
+use Rattle.std.specs.Prelude.{◌≡◌, ◌≢◌, ◌⊎◌, ◌↔◌, ℕ, ◌+◌, ◌≤◌, List, [], ◌∷◌, ◌++◌, Some, None, String, codes, length, map, find, count_by, flat_map, string_bytes, Option, All, AllPairs, IsTrue, Bool, true, false, not, if◌then◌else◌, option_and_then, option_to_list, MatchOption, Result, Ok, Err, ⊤}
 use Rattle.std.specs.Str.{bytes_eq}
 use Rattle.std.specs.Str.Parse.{IsNumeral, digits_value, without_leading_plus}
 use Rattle.clap.specs.Words.{Row, Text, Kinds, IsAmong, all_of, fault_of, first_of, found_of, one_of, rows_of, subcommand_of, subcommand_rows_of}
@@ -174,49 +174,74 @@ IsWithinLimits job = ⊤
 abbrev pub input_name : Text
 input_name = codes "-"
 
+-- What a job's files are for, in the order in which they are read: the image with whose words a rack
+-- begins; the batch, the moves or the record; behind it the schedule, or the image of `apply`; the
+-- wiring of a board; the scripts of sessions.
+pub record Files (A : Type 0) : Type 0 where
+  pub image : Option A
+  pub list : Option A
+  pub other : Option A
+  pub wiring : Option A
+  pub scripts : List A
+
+-- all of them, in that order
+abbrev pub all_files : {A : Type 0} → Files A → List A
+all_files files =
+    option_to_list files.image
+    ++ (option_to_list files.list
+    ++ (option_to_list files.other ++ (option_to_list files.wiring ++ files.scripts)))
+
+-- one text, what may be read with it, and a wiring
+abbrev pub of_list : {A : Type 0} → A → Option A → Option A → Files A
+of_list text other wiring =
+    record { image = None; list = Some text; other = other; wiring = wiring; scripts = [] }
+
+-- one text, and what may be read with it, on a rack with this image
+abbrev pub on_image : {A : Type 0} → Option A → A → Option A → Files A
+on_image image text other =
+    record { image = image; list = Some text; other = other; wiring = None; scripts = [] }
+
+-- scripts, on a rack with this image
+abbrev pub scripts_on : {A : Type 0} → Option A → List A → Files A
+scripts_on image scripts =
+    record { image = image; list = None; other = None; wiring = None; scripts = scripts }
+
 -- the file that has a schedule, where one has
-abbrev pub schedule_files : Source Text → List Text
-schedule_files (source.Plan planning) = []
-schedule_files (source.Text schedule) = schedule ∷ []
+abbrev pub schedule_in : Source Text → Option Text
+schedule_in (source.Plan planning) = None
+schedule_in (source.Text schedule) = Some schedule
 
--- those of `switch`: the wiring is read last, where a file has one
-abbrev pub switched_files : Text → Source Text → Option Text → List Text
-switched_files batch source wiring = batch ∷ (schedule_files source ++ option_to_list wiring)
-
--- where a driver hears that it may go on, unless it goes on at once: standard input
-abbrev pub cue_files : Bool → List Text
-cue_files true = []
-cue_files false = input_name ∷ []
-
-abbrev pub driven_files : Text → Source Text → Option Text → Bool → List Text
-driven_files batch source wiring goes_on =
-    switched_files batch source wiring ++ cue_files goes_on
-
--- those of `run`: the image is read first, where a file has it
-abbrev pub run_files : Option Text → Text → Source Text → List Text
-run_files image batch source = option_to_list image ++ switched_files batch source None
-
--- the names of the files that a job reads itself, in this order; the client of `talk` is standard
--- input, and so is the link of `c004`
-abbrev pub files_of : Job → List Text
-files_of (Plan file planning workers) = file ∷ []
-files_of (Check batch schedule) = batch ∷ schedule ∷ []
-files_of (Draw batch schedule settings) = batch ∷ schedule ∷ []
-files_of (Switch batch source wiring workers) = switched_files batch source wiring
+-- the names of the files that a job reads
+abbrev pub files_of : Job → Files Text
+files_of (Plan file planning workers) = of_list file None None
+files_of (Check batch schedule) = of_list batch (Some schedule) None
+files_of (Draw batch schedule settings) = of_list batch (Some schedule) None
+files_of (Switch batch source wiring workers) = of_list batch (schedule_in source) wiring
 files_of (Drive batch port port_b source wiring goes_on workers) =
-    driven_files batch source wiring goes_on
-files_of C004 = input_name ∷ []
-files_of (Direct moves) = moves ∷ []
-files_of (Apply shape batch image workers) = batch ∷ image ∷ []
-files_of (Run shape batch source image workers) = run_files image batch source
-files_of (Serve rack scripts workers) = option_to_list rack.image ++ scripts
-files_of (Host rack clients workers) = option_to_list rack.image
-files_of (Talk rack) = option_to_list rack.image ++ input_name ∷ []
-files_of (Replay shape recorded image) = option_to_list image ++ recorded ∷ []
+    of_list batch (schedule_in source) wiring
+files_of C004 = scripts_on None []
+files_of (Direct moves) = of_list moves None None
+files_of (Apply shape batch image workers) = of_list batch (Some image) None
+files_of (Run shape batch source image workers) = on_image image batch (schedule_in source)
+files_of (Serve rack scripts workers) = scripts_on rack.image scripts
+files_of (Host rack clients workers) = scripts_on rack.image []
+files_of (Talk rack) = scripts_on rack.image []
+files_of (Replay shape recorded image) = on_image image recorded None
 
--- no two of these names stand for standard input
-abbrev pub NameInputOnce : List Text → Type 0
-NameInputOnce names = AllPairs (λ name later. name ≡ input_name → later ≢ input_name) names
+-- a job hears standard input itself: `c004`, `talk`, and `drive` where it waits for lines
+abbrev pub hears_input : Job → Bool
+hears_input (Drive batch port port_b source wiring goes_on workers) = not goes_on
+hears_input C004 = true
+hears_input (Talk rack) = true
+hears_input job = false
+
+-- how many of these names stand for standard input
+abbrev pub inputs_in : List Text → ℕ
+inputs_in names = count_by (λ name. bytes_eq name input_name) names
+
+-- standard input is one of a job's files at most, and none of them where it hears it itself
+abbrev pub ReadsInputOnce : Files Text → Bool → Type 0
+ReadsInputOnce files hears = inputs_in (all_files files) + (if hears then 1 else 0) ≤ 1
 
 -- a file of this name, of which a job makes this use
 abbrev pub file : Access → Text → FileUse
@@ -246,9 +271,13 @@ files_beside (Host rack clients workers) = kept_files rack ++ flat_map client_fi
 files_beside (Talk rack) = kept_files rack
 files_beside job = []
 
+-- the names of all files that a job reads itself; where it hears standard input, that is the last
+abbrev pub files_read : Job → List Text
+files_read job = all_files (files_of job) ++ (if hears_input job then input_name ∷ [] else [])
+
 -- all files that a job names
 abbrev pub file_uses : Job → List FileUse
-file_uses job = map (file Read) (files_of job) ++ files_beside job
+file_uses job = map (file Read) (files_read job) ++ files_beside job
 
 -- files of these uses have to be two: one of them is written, and they aren't both a port's
 abbrev pub Exclude : Access → Access → Type 0
@@ -290,7 +319,7 @@ pub record AreClientNames (names : List Text) : Type 0 where
 -- a job may be done: one of its files at most is standard input, it writes to none that it reads or
 -- writes too, and its clients can be told apart
 pub record MayBeDone (job : Job) : Type 0 where
-  pub input : NameInputOnce (files_of job)
+  pub input : ReadsInputOnce (files_of job) (hears_input job)
   pub files : HaveNames (file_uses job)
   pub clients : AreClientNames (clients_of job)
 

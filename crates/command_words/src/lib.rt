@@ -11,6 +11,7 @@
 mod clients;
 mod commands;
 mod faults;
+mod files;
 mod grammar;
 mod help;
 mod input;
@@ -22,6 +23,7 @@ mod text;
 mod text_list;
 mod uses;
 
+pub use files::JobFiles;
 pub use jobs::{ArgumentsFault, Job, Request, SharedRack};
 pub use limits::MAX_CLIENTS;
 pub use reading::read_arguments;

@@ -1,4 +1,5 @@
 ghost use Rattle.std.specs.Prelude.{◌≡◌, ◌↔◌, ◌++◌, IfOk, IsTrue};
+ghost use Rattle.std.specs.Str.{bytes_eq};
 ghost use Rattle.command_words.specs.Jobs.{input_name};
 
 use std::alloc::{AllocError, Global};
@@ -50,7 +51,8 @@ impl Text {
 
     /// Whether the text is the name of a file that stands for standard input, `-`.
     pub fn is_input(&self) -> bool
-        ensures { IsTrue result ↔ (self.now ≡ input_name) }
+        ensures is { IsTrue result ↔ (self.now ≡ input_name) }
+        ensures test { result ≡ bytes_eq self.now input_name }
     {
         self.as_str() == "-"
     }

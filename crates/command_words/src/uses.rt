@@ -1,11 +1,12 @@
 //! The files that a job names, and what it does with each.
 
-ghost use Rattle.std.specs.Prelude.{◌≡◌, ◌↔◌, ◌++◌, ◌∷◌, [], IfOk, IsTrue, OnOk, flat_map, map, option_to_list};
-ghost use Rattle.command_words.specs.Jobs.{Exclude, client_files, file, files_beside, files_of, input_name, kept_files, port_files, switched_files, file_uses as the_uses};
+ghost use Rattle.std.specs.Prelude.{◌≡◌, ◌↔◌, ◌++◌, ◌∷◌, [], IfOk, IsTrue, OnOk, flat_map, if◌then◌else◌, map, option_to_list};
+ghost use Rattle.plan_answers.specs.Lent.{bytes_of};
+ghost use Rattle.command_words.specs.Jobs.{Exclude, client_files, file, files_beside, files_read, input_name, kept_files, port_files, file_uses as the_uses};
 
+use crate::files::lent;
 use crate::jobs::{Job, SharedRack};
 use crate::text::Text;
-use plan_answers::Source;
 use std::alloc::{AllocError, Global};
 use std::marker::Model;
 
@@ -81,9 +82,9 @@ impl Gathered {
     }
 
     /// A file of this name, where there is one.
-    fn add_option(&mut self, access: Access, name: &Option<Text>) -> Result<(), AllocError>
+    fn add_option(&mut self, access: Access, name: Option<&Text>) -> Result<(), AllocError>
         ensures { OnOk result
-            (self.new ≡ self.old ++ map (file access) (option_to_list name.now)) }
+            (self.new ≡ self.old ++ map (file access) (option_to_list (bytes_of name.entry))) }
     {
         match name {
             Some(name) => self.add(access, name),
@@ -101,108 +102,37 @@ impl Gathered {
         Ok(())
     }
 
-    /// Standard input.
-    fn read_input(&mut self) -> Result<(), AllocError>
-        ensures { OnOk result (self.new ≡ self.old ++ file Access.Read input_name ∷ []) }
+    /// Standard input, where it is heard.
+    fn read_input(&mut self, is_heard: bool) -> Result<(), AllocError>
+        ensures { OnOk result (self.new
+            ≡ self.old ++ map (file Access.Read) (if is_heard then input_name ∷ [] else [])) }
     {
+        if !is_heard {
+            return Ok(());
+        }
         let name = Text::of(self.alloc, "-")?;
         self.add_text(Access::Read, name)
     }
 
-    /// The files of a batch, of a schedule and of a wiring.
-    fn read_switched(
-        &mut self,
-        batch: &Text,
-        source: &Source<Text>,
-        wiring: &Option<Text>,
-    ) -> Result<(), AllocError>
-        ensures { OnOk result (self.new
-            ≡ self.old ++ map (file Access.Read) (switched_files batch.now source.now wiring.now)) }
-    {
-        self.add(Access::Read, batch)?;
-        if let Source::Text(schedule) = source {
-            self.add(Access::Read, schedule)?;
-        }
-        self.add_option(Access::Read, wiring)
-    }
-
     /// The files that a job reads itself, in their order.
     fn read_files(&mut self, job: &Job) -> Result<(), AllocError>
-        ensures { OnOk result (self.new ≡ self.old ++ map (file Access.Read) (files_of job.now)) }
+        ensures { OnOk result (self.new ≡ self.old ++ map (file Access.Read) (files_read job.now)) }
     {
-        match job {
-            Job::Plan { file: name, .. } | Job::Direct { moves: name } => {
-                self.add(Access::Read, name)
-            }
-            Job::Check {
-                batch,
-                schedule: other,
-            }
-            | Job::Draw {
-                batch,
-                schedule: other,
-                ..
-            }
-            | Job::Apply {
-                batch,
-                image: other,
-                ..
-            } => {
-                self.add(Access::Read, batch)?;
-                self.add(Access::Read, other)
-            }
-            Job::Switch {
-                batch,
-                source,
-                wiring,
-                ..
-            } => self.read_switched(batch, source, wiring),
-            Job::Drive {
-                batch,
-                source,
-                wiring,
-                goes_on,
-                ..
-            } => {
-                self.read_switched(batch, source, wiring)?;
-                if *goes_on { Ok(()) } else { self.read_input() }
-            }
-            Job::Run {
-                batch,
-                source,
-                image,
-                ..
-            } => {
-                self.add_option(Access::Read, image)?;
-                self.read_switched(batch, source, &None)
-            }
-            Job::Replay {
-                recorded,
-                image,
-                ..
-            } => {
-                self.add_option(Access::Read, image)?;
-                self.add(Access::Read, recorded)
-            }
-            Job::C004 => self.read_input(),
-            Job::Serve { rack, scripts, .. } => {
-                self.add_option(Access::Read, &rack.image)?;
-                self.read_all(scripts.as_slice())
-            }
-            Job::Host { rack, .. } => self.add_option(Access::Read, &rack.image),
-            Job::Talk { rack } => {
-                self.add_option(Access::Read, &rack.image)?;
-                self.read_input()
-            }
-        }
+        let files = job.files();
+        self.add_option(Access::Read, files.image)?;
+        self.add_option(Access::Read, files.list)?;
+        self.add_option(Access::Read, files.other)?;
+        self.add_option(Access::Read, files.wiring)?;
+        self.read_all(files.scripts)?;
+        self.read_input(job.hears_input())
     }
 
     /// The files for the record of sessions and for the image that they leave.
     fn add_kept(&mut self, rack: &SharedRack) -> Result<(), AllocError>
         ensures { OnOk result (self.new ≡ self.old ++ kept_files rack.now) }
     {
-        self.add_option(Access::Write, &rack.record_out)?;
-        self.add_option(Access::Write, &rack.image_out)
+        self.add_option(Access::Write, lent(&rack.record_out))?;
+        self.add_option(Access::Write, lent(&rack.image_out))
     }
 
     /// The files of clients.

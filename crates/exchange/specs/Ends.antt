@@ -1,5 +1,5 @@
 -- How the program ends.
-use Rattle.std.specs.Prelude.{◌≡◌, ◌≢◌, ◌⊎◌, ℕ, List, [], Option, Result, Ok, Err, IfErr, IfOk, ⊤, codes}
+use Rattle.std.specs.Prelude.{◌≡◌, ◌≢◌, ◌⊎◌, ◌++◌, ℕ, List, [], Option, Result, Ok, Err, IfErr, IfOk, ⊤, codes}
 use Rattle.std.specs.Io.KnownBytes.{Appends}
 use Rattle.plan_answers.specs.Refusals.{Printed}
 use Rattle.plan_answers.specs.declared.limits.TheConstants.{DONE}
@@ -9,7 +9,8 @@ use Rattle.command_words.specs.declared.jobs.ArgumentsFault.TheVariants as argum
 use Rattle.command_words.specs.Jobs.{AskFor, AsksForHelp, IsFaultIn}
 use Rattle.exchange.specs.declared.limits.TheConstants.{MISUSED}
 use Rattle.exchange.specs.declared.unanswered.Unanswered.TheVariants.{NoMemory}
-use Rattle.exchange.specs.Responses.{IsResponseTo, unanswered}
+use Rattle.exchange.specs.Contents.{Holding}
+use Rattle.exchange.specs.Responses.{IsResponseTo, Response, unanswered}
 use Rattle.exchange.specs.Notes.{IsNoted, IsToldInPart}
 use Rattle.exchange.specs.Outputs.{IsLostTold, lost_none}
 use Rattle.exchange.specs.declared.notes.Answered.{Answered}
@@ -53,12 +54,17 @@ streams_of out_before out_after err_before err_after =
       err_after = err_after;
     }
 
+-- what is printed, behind what was told before
+abbrev pub printed_of : Response → Printed
+printed_of response =
+    record { text = response.told ++ response.end.text; status = response.end.status }
+
 -- the response to what is asked for was printed, with a line beside it where there is one to tell
-abbrev pub IsDone : Option (List ℕ) → Request → Streams → ℕ → Type 0
-IsDone input request streams code =
-    (printed : Printed) × IsResponseTo input request.job printed
-    × IsPrinted streams.out_before streams.out_after printed code
-    × IsNoted request printed streams.err_before streams.err_after
+abbrev pub IsDone : Holding → Option (List ℕ) → Request → Streams → ℕ → Type 0
+IsDone holds input request streams code =
+    (response : Response) × IsResponseTo holds input request.job response
+    × IsPrinted streams.out_before streams.out_after (printed_of response) code
+    × IsNoted request response.end streams.err_before streams.err_after
 
 -- nothing was told on standard error
 abbrev pub IsSilent : Streams → Type 0
@@ -66,19 +72,20 @@ IsSilent streams = Appends streams.err_before streams.err_after []
 
 -- how the program ends where standard input had these bytes and the arguments ask for this, or are
 -- at fault: what it prints behind what stood there, and its status
-abbrev pub IsEndFor : Option (List ℕ) → Result Request ArgumentsFault → Streams → ℕ → Type 0
-IsEndFor input (Ok request) streams code = IsDone input request streams code
-IsEndFor input (Err arguments_fault.NoMemory) streams code =
+abbrev pub IsEndFor : Holding → Option (List ℕ) → Result Request ArgumentsFault → Streams → ℕ
+    → Type 0
+IsEndFor holds input (Ok request) streams code = IsDone holds input request streams code
+IsEndFor holds input (Err arguments_fault.NoMemory) streams code =
     IsPrinted streams.out_before streams.out_after (unanswered NoMemory) code × IsSilent streams
-IsEndFor input (Err (arguments_fault.Clap error)) streams code =
+IsEndFor holds input (Err (arguments_fault.Clap error)) streams code =
     (AsksForHelp error → (code ≡ DONE) × IsSilent streams)
     × ((AsksForHelp error → ⊥) → (code ≡ MISUSED) × (streams.out_after ≡ streams.out_before))
 
 -- how it ends for these arguments
-abbrev pub IsEndForArguments : List (List ℕ) → Option (List ℕ) → Streams → ℕ → Type 0
-IsEndForArguments arguments input streams code =
+abbrev pub IsEndForArguments : Holding → List (List ℕ) → Option (List ℕ) → Streams → ℕ → Type 0
+IsEndForArguments holds arguments input streams code =
     (request : Result Request ArgumentsFault) × IfOk request (AskFor arguments)
-    × IfErr request (IsFaultIn arguments) × IsEndFor input request streams code
+    × IfErr request (IsFaultIn arguments) × IsEndFor holds input request streams code
 
 -- how it ends where the arguments can't be had as texts
 abbrev pub IsEndWithoutArguments : Option (List ℕ) → Option (List ℕ) → ℕ → Type 0

@@ -1,7 +1,6 @@
 pub mod Apart
-pub mod Files
+pub mod Contents
 pub mod Ports
-pub mod Switches
 pub mod Drives
 pub mod Responses
 pub mod Outputs

@@ -11,7 +11,7 @@ use Rattle.refusals.specs.declared.refusal.Refusal.{Refusal}
 use Rattle.refusals.specs.declared.refusal.Refusal.TheVariants.{NoMemory}
 use Rattle.refusals.specs.Refusals.{refusal_line}
 use Rattle.refusal_notes.specs.Told.{line_told}
-use Rattle.exchange.specs.Responses.{IsTalk, IsToldBy}
+use Rattle.exchange.specs.Responses.{IsTalk}
 
 -- ---- of what a line is told
 
@@ -23,7 +23,7 @@ SaysRefusal line = (refusal : Refusal) × (refusal ≢ NoMemory) × (line ≡ re
 abbrev pub IsWholeLine : List ℕ → Type 0
 IsWholeLine line = (words : List ℕ) × (line ≡ line_told words)
 
--- the line is told of what is printed: of a refusal, and of nothing else
+-- the line is told of an answer: of a refusal, and of nothing else
 pub record HasSecondLine (printed : Printed) (line : List ℕ) : Type 0 where
   pub refused : printed.status ≡ REFUSED
   pub of : SaysRefusal printed.text
@@ -45,12 +45,6 @@ abbrev pub IsToldUnless : Bool → Option (List ℕ) → Option (List ℕ) → O
 IsToldUnless quiet note before after =
     Appends before after []
     ⊎ ((quiet ≡ false) × (line : List ℕ) × (note ≡ Some line) × IsToldInPart before after line)
-
--- a line is told of what is printed behind what a session of this job was told
-abbrev pub IsNoteFor : Job → Printed → List ℕ → Type 0
-IsNoteFor job printed line =
-    (told : List ℕ) × (end : Printed) × IsToldBy job told × (printed.text ≡ told ++ end.text)
-    × (printed.status ≡ end.status) × HasSecondLine end line
 
 -- what may be told beside a session of a reply that is a refusal: nothing, or as much of a whole
 -- line as could be written, and of want of memory nothing
@@ -78,11 +72,11 @@ IsBeside request before after =
     ⊎ ((request.is_quiet ≡ false) × IsC004 request.job
     × ((told : List ℕ) × Appends before after told))
 
--- what was told on standard error of what is printed, behind what was told beside a session:
--- nothing, or one text of a refusal, and nothing where the arguments ask for that
+-- what was told on standard error of an answer, behind what was told beside a session: nothing, or
+-- one text of a refusal, and nothing where the arguments ask for that
 abbrev pub IsNoted : Request → Printed → Option (List ℕ) → Option (List ℕ) → Type 0
-IsNoted request printed before after =
+IsNoted request end before after =
     (mid : Option (List ℕ)) × IsBeside request before mid
     × (Appends mid after []
-    ⊎ ((request.is_quiet ≡ false) × (line : List ℕ) × IsNoteFor request.job printed line
+    ⊎ ((request.is_quiet ≡ false) × (line : List ℕ) × HasSecondLine end line
     × IsToldInPart mid after line))

@@ -1,12 +1,13 @@
 -- What is told beside an answer, or where there is none.
-use Rattle.std.specs.Prelude.{◌≡◌, ⊤, ℕ, List, [], None, MatchResult, Result, option_map, string_bytes}
+use Rattle.std.specs.Prelude.{◌≡◌, ⊤, ℕ, List, [], Option, None, MatchResult, Result, IfOk, IfErr, option_map, string_bytes}
+use Rattle.std.specs.Io.KnownBytes.{Appends}
 use Rattle.exchange.specs.declared.notes.Answered.{Answered}
 use Rattle.exchange.specs.declared.notes.NoAnswer.{NoAnswer}
 use Rattle.exchange.specs.declared.notes.NoAnswer.TheVariants.{Refused, Unwritten}
 use Rattle.exchange.specs.Notes.{IsNoteOn}
-use Rattle.exchange.specs.Responses.{IsToldUnanswered, unanswered}
+use Rattle.exchange.specs.Responses.{Response, unanswered}
+use Rattle.exchange.specs.declared.found.Found.{Found}
 use Rattle.exchange.specs.declared.unanswered.Unanswered.TheVariants.{NoMemory as Memory}
-use Rattle.command_words.specs.declared.jobs.Job.{Job}
 use Rattle.drive_answers.specs.declared.fault.DriveFault.{DriveFault}
 use Rattle.drive_answers.specs.declared.fault.DriveFault.TheVariants.{Untold, NoMemory}
 
@@ -20,21 +21,33 @@ IsNoAnswer (Refused why note) =
     IsNoteOn (unanswered why) (option_map (λ line. string_bytes line) note)
 IsNoAnswer (Unwritten what) = ⊤
 
--- what was told before a job was refused; what can't be written may stand behind anything
-abbrev pub MayStandBehind : Job → List ℕ → NoAnswer → Type 0
-MayStandBehind job told (Refused why line) = IsToldUnanswered job told
-MayStandBehind job told (Unwritten what) = ⊤
+-- what is so where there is no answer for this reason, unless something couldn't be written, which
+-- may stand behind anything
+abbrev pub IfRefused : NoAnswer → Type 0 → Type 0
+IfRefused (Refused why line) so = so
+IfRefused (Unwritten what) so = ⊤
 
--- the same of a job that is told nothing then
-abbrev pub IsUntold : List ℕ → NoAnswer → Type 0
-IsUntold told (Refused why line) = told ≡ []
-IsUntold told (Unwritten what) = ⊤
+-- Something was told behind what stood there. What is answered is so behind it; or this is so of
+-- it, and it is refused.
+abbrev pub HasTold : {X : Type 0} → Option (List ℕ) → Option (List ℕ) → (List ℕ → X → Type 0)
+    → (List ℕ → Type 0) → Result X NoAnswer → Type 0
+HasTold before after is behind result =
+    (told : List ℕ) × Appends before after told × IfOk result (is told)
+    × IfErr result (λ missed. IfRefused missed (behind told))
+
+-- nothing was told
+abbrev pub IsNothing : List ℕ → Type 0
+IsNothing told = told ≡ []
 
 -- why there is nothing to print behind settings: only want of memory is refused
 abbrev pub IsMissedFor : DriveFault → NoAnswer → Type 0
-IsMissedFor Untold (Refused why line) = ⊥
-IsMissedFor Untold (Unwritten what) = ⊤
+IsMissedFor Untold missed = IfRefused missed ⊥
 IsMissedFor NoMemory missed = missed ≡ Refused Memory None
+
+-- what comes of a job that was told this before
+abbrev pub response_of : List ℕ → Found → Response
+response_of told found =
+    record { told = told; end = found.answer; left = found.book }
 
 abbrev pub HasNote : Result Answered NoAnswer → Type 0
 HasNote result = MatchResult result IsAnswered IsNoAnswer

@@ -5,7 +5,8 @@ use Rattle.byte_streams.specs.Writing.{IsCutShort}
 use Rattle.module_memory.specs.Images.{image_of}
 use Rattle.batch_book.specs.History.{Account}
 use Rattle.book_record.specs.RecordText.{record_text}
-use Rattle.command_words.specs.declared.jobs.SharedRack.{SharedRack}
+use Rattle.command_words.specs.declared.jobs.Job.{Job}
+use Rattle.command_words.specs.declared.jobs.Job.TheVariants.{Serve, Host, Talk}
 use Rattle.exchange.specs.Notes.{IsToldInPart}
 use Rattle.exchange.specs.declared.lost.Lost.{Lost}
 use Rattle.exchange.specs.declared.lost.Reason.{Reason}
@@ -34,11 +35,24 @@ IsLostTold lost before after =
 abbrev pub name_of : {F : Type 0} → Option (OutFile F) → Option (List ℕ)
 name_of out = option_map (λ out. out.name.now) out
 
--- the files that are open are those that are named for the record and for the image of sessions on
--- this rack
-pub record AreOutputsNamed {F : Type 0} (rack : SharedRack) (outputs : Outputs F) : Type 0 where
-  pub recorded : name_of outputs.recorded ≡ rack.record_out
-  pub image : name_of outputs.image ≡ rack.image_out
+-- the file to which the record of a job's sessions goes, where it goes to one
+abbrev pub record_of : Job → Option (List ℕ)
+record_of (Serve rack scripts workers) = rack.record_out
+record_of (Host rack clients workers) = rack.record_out
+record_of (Talk rack) = rack.record_out
+record_of job = None
+
+-- the file to which the image goes that a job leaves, where it goes to one
+abbrev pub output_of : Job → Option (List ℕ)
+output_of (Serve rack scripts workers) = rack.image_out
+output_of (Host rack clients workers) = rack.image_out
+output_of (Talk rack) = rack.image_out
+output_of job = None
+
+-- the files that are open are those that a job names for its record and for its image
+pub record AreOutputsNamed {F : Type 0} (job : Job) (outputs : Outputs F) : Type 0 where
+  pub recorded : name_of outputs.recorded ≡ record_of job
+  pub image : name_of outputs.image ≡ output_of job
 
 -- these bytes were written to the file for them, if there is one; or a front of them, where it is
 -- told why not all

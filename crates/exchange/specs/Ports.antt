@@ -22,6 +22,10 @@ abbrev pub ports_named : Option (List ℕ) → ℕ
 ports_named None = 1
 ports_named (Some name) = 2
 
+-- ports of which none is open as yet
+abbrev pub unopened_ways : Option (List ℕ) → Ways
+unopened_ways port_b = record { named = ports_named port_b; carried = None; opened = 0 }
+
 -- why there are no ways to so many switches: other than as many ports are named, or as many, and
 -- one of them can't be opened
 abbrev pub IsUnopened : ℕ → ℕ → Refusal → Type 0

@@ -1,89 +1,63 @@
 -- What the program prints for a job.
-use Rattle.std.specs.Prelude.{◌≡◌, ◌⊎◌, ℕ, List, [], ◌++◌, Option, None, ⊤, true, length, slice_index_or}
+use Rattle.std.specs.Prelude.{◌≡◌, ◌⊎◌, ℕ, List, [], Option, None, ⊤, true, length, slice_index_or, unwrap_or}
 use Rattle.std.specs.Io.KnownBytes.{Consumes, IsAtEnd}
 use Rattle.batch.specs.Extent.{widest}
 use Rattle.plan_answers.specs.Answers.{IsPlanned, IsChecked}
-use Rattle.rack_answers.specs.Answers.{IsRunAnswer, IsApplied}
+use Rattle.rack_answers.specs.Answers.{IsApplied, IsRunAnswer}
+use Rattle.rack_answers.specs.Switching.{IsOn, IsSwitched}
 use Rattle.plan_answers.specs.Drawings.{IsDrawn}
 use Rattle.plan_answers.specs.Directing.{IsDirected}
+use Rattle.plan_answers.specs.Schedules.{source_map}
+use Rattle.plan_answers.specs.declared.source.Source.{Source}
 use Rattle.crossbar.specs.Switch.{idle}
 use Rattle.batch_book.specs.History.{Account}
 use Rattle.session_answers.specs.HostAnswers.{KnownClients, SessionEnd, IsHostAnswer}
 use Rattle.switch_end.specs.End.{EndState}
 use Rattle.switch_end.specs.Answering.{HasRun}
 use Rattle.plan_answers.specs.Refusals.{Printed}
-use Rattle.plan_answers.specs.declared.source.Source.{Source}
 use Rattle.session_answers.specs.Serving.{IsServeAnswer}
 use Rattle.session_answers.specs.Talking.{IsTalkAnswer}
 use Rattle.replay_answers.specs.Replays.{IsReplayPrinted}
 use Rattle.plan_answers.specs.declared.limits.TheConstants.{DONE, REFUSED}
+use Rattle.command_words.specs.Jobs.{Files, files_of}
 use Rattle.command_words.specs.declared.jobs.Job.{Job}
 use Rattle.command_words.specs.declared.jobs.Job.TheVariants.{Plan, Check, Draw, Switch, Drive, C004, Direct, Apply, Run, Serve, Host, Talk, Replay}
-use Rattle.plan_answers.specs.declared.source.Planning.{Planning}
-use Rattle.command_words.specs.declared.jobs.SharedRack.{SharedRack}
 use Rattle.refusals.specs.declared.refusal.Refusal.{Refusal}
 use Rattle.refusals.specs.declared.refusal.Refusal.TheVariants as refusal
 use Rattle.refusals.specs.Refusals.{refusal_line}
-use Rattle.exchange.specs.Files.{IsFileContent, IsImageContent, IsSourceContent, AreFileContents}
-use Rattle.exchange.specs.Drives.{IsSomeDrive}
-use Rattle.exchange.specs.Ports.{ports_named}
-use Rattle.exchange.specs.Switches.{IsSomeSwitch}
+use Rattle.exchange.specs.Contents.{AreContents, Holding}
+use Rattle.exchange.specs.Drives.{IsDriveBy}
+use Rattle.exchange.specs.Ports.{unopened_ways}
 use Rattle.exchange.specs.declared.unanswered.Unanswered.{Unanswered}
 use Rattle.exchange.specs.declared.unanswered.Unanswered.TheVariants.{File, NoMemory}
 
--- an answer of `plan` to what this file contains
-abbrev pub IsSomePlan : Option (List ℕ) → Planning → List ℕ → Printed → Type 0
-IsSomePlan input planning file answer =
-    (batch : List ℕ) × IsFileContent input file batch × IsPlanned planning widest batch answer
+-- what comes of a job: what is told before its answer, this itself, and the book that sessions
+-- leave
+pub record Response : Type 0 where
+  pub told : List ℕ
+  pub end : Printed
+  pub left : Option Account
 
--- an answer of `check` to what these files contain
-abbrev pub IsSomeCheck : Option (List ℕ) → List ℕ → List ℕ → Printed → Type 0
-IsSomeCheck input batch_file schedule_file answer =
-    (batch schedule : List ℕ) × IsFileContent input batch_file batch
-    × IsFileContent input schedule_file schedule
-    × IsChecked widest batch schedule answer
+-- an answer alone: nothing is told before it, and no book is left
+abbrev pub IsAlone : Response → Type 0
+IsAlone response = (response.told ≡ []) × (response.left ≡ None)
 
--- an answer of `draw` to what these files contain, with the range of settings where one is given
-abbrev pub IsSomeDraw : Option (List ℕ) → List ℕ → List ℕ → Option (List ℕ) → Printed → Type 0
-IsSomeDraw input batch_file schedule_file settings answer =
-    (batch schedule : List ℕ) × IsFileContent input batch_file batch
-    × IsFileContent input schedule_file schedule
-    × IsDrawn widest batch schedule settings answer
+-- the bytes of a file; none where none was read
+abbrev pub text_in : Option (List ℕ) → List ℕ
+text_in file = unwrap_or file []
 
--- an answer of `direct` to what this file contains
-abbrev pub IsSomeDirect : Option (List ℕ) → List ℕ → Printed → Type 0
-IsSomeDirect input file answer =
-    (moves : List ℕ) × IsFileContent input file moves × IsDirected moves answer
-
--- an answer of `apply` to this shape's text and to what these files contain
-abbrev pub IsSomeApply : Option (List ℕ) → List ℕ → List ℕ → List ℕ → Printed → Type 0
-IsSomeApply input shape file image_file answer =
-    (batch image : List ℕ) × IsFileContent input file batch × IsFileContent input image_file image
-    × IsApplied shape batch image answer
-
--- an answer of `run` to this shape's text and to what these files contain
-abbrev pub IsSomeRun : Option (List ℕ) → List ℕ → List ℕ → Source (List ℕ) → Option (List ℕ)
-    → Printed → Type 0
-IsSomeRun input shape file source image_file answer =
-    (batch : List ℕ) × (held : Source (List ℕ)) × (image : Option (List ℕ))
-    × IsFileContent input file batch × IsSourceContent input source held
-    × IsImageContent input image_file image × IsRunAnswer held shape batch image answer
+-- where a schedule comes from, with its text, where a file has one
+abbrev pub source_in : Source (List ℕ) → List ℕ → Source (List ℕ)
+source_in source text = source_map (λ _. text) source
 
 -- what `c004` replied to what came of standard input, to its end, or as far as it could be read; it
 -- prints nothing behind that
-abbrev pub IsSomeC004 : Option (List ℕ) → List ℕ → Printed → Type 0
-IsSomeC004 input replies end =
+abbrev pub IsC004By : Option (List ℕ) → List ℕ → Printed → Type 0
+IsC004By input replies end =
     (came told : List ℕ) × (after : Option (List ℕ)) × (switch : EndState)
     × Consumes input after came
     × HasRun (record { switch = idle; begun = [] }) came replies told switch × (end.text ≡ [])
     × ((IsAtEnd after × (end.status ≡ DONE)) ⊎ (end.status ≡ REFUSED))
-
--- an answer of `serve` on this rack to what these files contain, which leaves this one
-abbrev pub IsSomeServe : Option (List ℕ) → SharedRack → List (List ℕ) → Printed → Option Account
-    → Type 0
-IsSomeServe input rack files answer left =
-    (scripts : List (List ℕ)) × (image : Option (List ℕ)) × AreFileContents input files scripts
-    × IsImageContent input rack.image image × IsServeAnswer rack.shape image scripts answer left
 
 -- the clients of these names, of whose files no bytes are known
 abbrev pub clients_named : List (List ℕ) → KnownClients
@@ -96,72 +70,67 @@ clients_named names =
       may_fail = λ _. true;
     }
 
--- an answer of `host` on this rack to what these clients say, which leaves this one
-abbrev pub IsSomeHost : Option (List ℕ) → SharedRack → List (List ℕ) → Printed → Option Account
-    → Type 0
-IsSomeHost input rack clients answer left =
-    (image : Option (List ℕ)) × (ends : List SessionEnd) × IsImageContent input rack.image image
-    × IsHostAnswer rack.shape image (clients_named clients) ends answer left
+-- The answer to a job whose files contain this, where this is left of standard input.
+abbrev pub IsAnswerTo : Job → Files (List ℕ) → Option (List ℕ) → Response → Type 0
+IsAnswerTo (Plan file planning workers) files input response =
+    IsAlone response × IsPlanned planning widest (text_in files.list) response.end
+IsAnswerTo (Check batch schedule) files input response =
+    IsAlone response
+    × IsChecked widest (text_in files.list) (text_in files.other) response.end
+IsAnswerTo (Draw batch schedule settings) files input response =
+    IsAlone response
+    × IsDrawn widest (text_in files.list) (text_in files.other) settings response.end
+IsAnswerTo (Switch batch source wiring workers) files input response =
+    IsAlone response
+    × IsOn (λ board. IsSwitched (source_in source (text_in files.other)) board
+    (text_in files.list)) files.wiring response.end
+IsAnswerTo (Drive batch port port_b source wiring goes_on workers) files input response =
+    (response.left ≡ None)
+    × IsDriveBy (source_in source (text_in files.other)) (text_in files.list) files.wiring goes_on
+    input (unopened_ways port_b) response.told response.end
+IsAnswerTo C004 files input response =
+    (response.left ≡ None) × IsC004By input response.told response.end
+IsAnswerTo (Direct moves) files input response =
+    IsAlone response × IsDirected (text_in files.list) response.end
+IsAnswerTo (Apply shape batch image workers) files input response =
+    IsAlone response
+    × IsApplied shape (text_in files.list) (text_in files.other) response.end
+IsAnswerTo (Run shape batch source image workers) files input response =
+    IsAlone response
+    × IsRunAnswer (source_in source (text_in files.other)) shape (text_in files.list) files.image
+    response.end
+IsAnswerTo (Serve rack scripts workers) files input response =
+    (response.told ≡ [])
+    × IsServeAnswer rack.shape files.image files.scripts response.end response.left
+IsAnswerTo (Host rack clients workers) files input response =
+    (response.told ≡ [])
+    × ((ends : List SessionEnd) × IsHostAnswer rack.shape files.image (clients_named clients) ends
+    response.end response.left)
+IsAnswerTo (Talk rack) files input response =
+    (after : Option (List ℕ))
+    × IsTalkAnswer rack.shape files.image input after response.told response.end response.left
+IsAnswerTo (Replay shape recorded image) files input response =
+    IsAlone response × IsReplayPrinted shape (text_in files.list) files.image response.end
 
--- an answer of `talk` on this rack to standard input, where the session was told this, which leaves
--- this one
-abbrev pub IsSomeTalk : Option (List ℕ) → SharedRack → List ℕ → Printed → Option Account → Type 0
-IsSomeTalk input rack told answer left =
-    (image after : Option (List ℕ)) × IsImageContent input rack.image image
-    × IsTalkAnswer rack.shape image input after told answer left
+-- the files of a job are all that it asks for
+abbrev pub IsOfTexts : Job → Type 0
+IsOfTexts (Drive batch port port_b source wiring goes_on workers) = ⊥
+IsOfTexts C004 = ⊥
+IsOfTexts (Serve rack scripts workers) = ⊥
+IsOfTexts (Host rack clients workers) = ⊥
+IsOfTexts (Talk rack) = ⊥
+IsOfTexts job = ⊤
 
--- an answer of `replay` to this shape's text and to what these files contain
-abbrev pub IsSomeReplay : Option (List ℕ) → List ℕ → List ℕ → Option (List ℕ) → Printed → Type 0
-IsSomeReplay input shape file image_file answer =
-    (text : List ℕ) × (image : Option (List ℕ)) × IsFileContent input file text
-    × IsImageContent input image_file image × IsReplayPrinted shape text image answer
-
--- what is printed, behind what a session was told before
-abbrev pub behind_told : List ℕ → Printed → Printed
-behind_told told printed = record { text = told ++ printed.text; status = printed.status }
-
--- the answer to a job, whatever bytes its files hold, but for those of standard input
-abbrev pub IsAnswerTo : Option (List ℕ) → Job → Printed → Type 0
-IsAnswerTo input (Plan file planning workers) answer = IsSomePlan input planning file answer
-IsAnswerTo input (Check batch schedule) answer = IsSomeCheck input batch schedule answer
-IsAnswerTo input (Draw batch schedule settings) answer =
-    IsSomeDraw input batch schedule settings answer
-IsAnswerTo input (Switch batch source wiring workers) answer =
-    IsSomeSwitch input batch source wiring answer
-IsAnswerTo input (Direct moves) answer = IsSomeDirect input moves answer
-IsAnswerTo input (Apply shape batch image workers) answer =
-    IsSomeApply input shape batch image answer
-IsAnswerTo input (Run shape batch source image workers) answer =
-    IsSomeRun input shape batch source image answer
-IsAnswerTo input (Drive batch port port_b source wiring goes_on workers) answer =
-    (told : List ℕ) × (end : Printed) × (answer ≡ behind_told told end)
-    × IsSomeDrive input batch source wiring goes_on
-    (record { named = ports_named port_b; carried = None; opened = 0 }) told end
-IsAnswerTo input C004 answer =
-    (replies : List ℕ) × (end : Printed) × (answer ≡ behind_told replies end)
-    × IsSomeC004 input replies end
-IsAnswerTo input (Serve rack scripts workers) answer =
-    (left : Option Account) × IsSomeServe input rack scripts answer left
-IsAnswerTo input (Host rack clients workers) answer =
-    (left : Option Account) × IsSomeHost input rack clients answer left
-IsAnswerTo input (Talk rack) answer =
-    (told : List ℕ) × (end : Printed) × (left : Option Account) × (answer ≡ behind_told told end)
-    × IsSomeTalk input rack told end left
-IsAnswerTo input (Replay shape recorded image) answer =
-    IsSomeReplay input shape recorded image answer
+-- the answer to a job, where its files have been read
+abbrev pub IsJobAnswer : Holding → Option (List ℕ) → Job → Response → Type 0
+IsJobAnswer holds input job response =
+    (files : Files (List ℕ)) × (rest : Option (List ℕ))
+    × AreContents holds input (files_of job) files rest × IsAnswerTo job files rest response
 
 -- the job is `talk`
 abbrev pub IsTalk : Job → Type 0
 IsTalk (Talk rack) = ⊤
 IsTalk job = ⊥
-
--- what is told before there is an answer: to the session of `talk`, of settings that stand, and
--- what `c004` replies
-abbrev pub IsToldBy : Job → List ℕ → Type 0
-IsToldBy (Drive batch port port_b source wiring goes_on workers) told = ⊤
-IsToldBy (Talk rack) told = ⊤
-IsToldBy C004 told = ⊤
-IsToldBy job told = told ≡ []
 
 -- which refusal that is
 abbrev pub refusal_of : Unanswered → Refusal
@@ -178,9 +147,9 @@ abbrev pub IsToldUnanswered : Job → List ℕ → Type 0
 IsToldUnanswered (Talk rack) told = ⊤
 IsToldUnanswered job told = told ≡ []
 
--- the answer to a job, behind what was told before, or why there is none
-abbrev pub IsResponseTo : Option (List ℕ) → Job → Printed → Type 0
-IsResponseTo input job printed =
-    IsAnswerTo input job printed
-    ⊎ ((told : List ℕ) × (why : Unanswered) × IsToldUnanswered job told
-    × (printed ≡ behind_told told (unanswered why)))
+-- the answer to a job, or why there is none, behind what was told before
+abbrev pub IsResponseTo : Holding → Option (List ℕ) → Job → Response → Type 0
+IsResponseTo holds input job response =
+    IsJobAnswer holds input job response
+    ⊎ (IsToldUnanswered job response.told
+    × ((why : Unanswered) × (response.end ≡ unanswered why)))

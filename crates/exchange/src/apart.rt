@@ -129,11 +129,11 @@ fn clash_seen(
 }
 
 /// Whether two files that have to be two are one, as far as that can be told.
-fn clash<R: Places>(rt: &R, one: &FileUse, other: &FileUse) -> Result<bool, AllocError>
-    ensures { IfOk result (λ clash. IsSeen (R.leads rt.now) one.now other.now clash) }
+fn clash<S: Places>(system: &S, one: &FileUse, other: &FileUse) -> Result<bool, AllocError>
+    ensures { IfOk result (λ clash. IsSeen (S.leads system.now) one.now other.now clash) }
 {
-    let place = rt.place(one.name.as_str())?;
-    let there = rt.place(other.name.as_str())?;
+    let place = system.place(one.name.as_str())?;
+    let there = system.place(other.name.as_str())?;
     Ok(clash_seen(one.access, other.access, &place, &there))
 }
 
@@ -163,18 +163,18 @@ fn refused(alloc: Global, one: &FileUse, other: &FileUse) -> NoAnswer
 }
 
 /// Looks whether a file and each of others are two, where they have to be.
-fn look_at<R: Places>(
-    rt: &R,
+fn look_at<S: Places>(
+    system: &S,
     alloc: Global,
     file: &FileUse,
     others: &[FileUse],
 ) -> Result<(), NoAnswer>
     ensures apart { OnOk result
-        (All (λ other. IsSeen (R.leads rt.now) other file.now false) others.now) }
+        (All (λ other. IsSeen (S.leads system.now) other file.now false) others.now) }
     ensures note { IfErr result (λ missed. IsNoAnswer missed) }
 {
     for other in others {
-        if clash(rt, other, file)? {
+        if clash(system, other, file)? {
             return Err(refused(alloc, other, file));
         }
     }
@@ -182,22 +182,22 @@ fn look_at<R: Places>(
 }
 
 /// Looks whether each two of these files are two, where they have to be.
-fn look_through<R: Places>(rt: &R, alloc: Global, files: &[FileUse]) -> Result<(), NoAnswer>
-    ensures apart { OnOk result (AreSeenApart (R.leads rt.now) files.now) }
+fn look_through<S: Places>(system: &S, alloc: Global, files: &[FileUse]) -> Result<(), NoAnswer>
+    ensures apart { OnOk result (AreSeenApart (S.leads system.now) files.now) }
     ensures note { IfErr result (λ missed. IsNoAnswer missed) }
 {
     for i in 0..files.len() {
-        look_at(rt, alloc, &files[i], &files[..i])?;
+        look_at(system, alloc, &files[i], &files[..i])?;
     }
     Ok(())
 }
 
 /// Looks whether the files that a job writes are others than those that it reads, and than each
 /// other, as far as the system tells where their names lead. Nothing is opened.
-pub(crate) fn look_apart<R: Places + AllocGlobal>(rt: &R, job: &Job) -> Result<(), NoAnswer>
-    ensures apart { OnOk result (AreSeenApart (R.leads rt.now) (the_uses job.now)) }
+pub(crate) fn look_apart<S: Places>(system: &S, alloc: Global, job: &Job) -> Result<(), NoAnswer>
+    ensures apart { OnOk result (AreSeenApart (S.leads system.now) (the_uses job.now)) }
     ensures note { IfErr result (λ missed. IsNoAnswer missed) }
 {
-    let files = file_uses(rt.alloc(), job)?;
-    look_through(rt, rt.alloc(), files.as_slice())
+    let files = file_uses(alloc, job)?;
+    look_through(system, alloc, files.as_slice())
 }

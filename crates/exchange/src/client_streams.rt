@@ -1,6 +1,5 @@
 //! The files of the clients of a host.
 
-use crate::apart::Places;
 use command_words::Text;
 use session_answers::{AllThere, ClientStreams};
 use std::alloc::Global;
@@ -10,10 +9,10 @@ use std::rt::Files;
 use std::sync::Wait;
 use std::thread::Threads;
 
-/// What the program asks of the system.
-pub trait System: AllocGlobal + Files + Threads + Wait + ClientFiles + Places + Sync {}
+/// What the program runs on.
+pub trait Runtime: AllocGlobal + Files + Threads + Wait + ClientFiles + Sync {}
 
-impl<R: AllocGlobal + Files + Threads + Wait + ClientFiles + Places + Sync> System for R {}
+impl<R: AllocGlobal + Files + Threads + Wait + ClientFiles + Sync> Runtime for R {}
 
 /// What opens the files of clients, in the thread of each. No contract says what the system's files
 /// hold.

@@ -1,45 +1,40 @@
 //! The answer to each job.
 
-ghost use Rattle.std.specs.Prelude.{◌≡◌, ◌∷◌, ◌++◌, [], List, ℕ, IfOk, IfErr, Option, option_to_list};
+ghost use Rattle.std.specs.Prelude.{◌≡◌, [], List, ℕ, IfErr, IfOk, Option, None, length, ⊤};
 ghost use Rattle.std.specs.Io.KnownBytes.{Appends};
 ghost use Rattle.batch_book.specs.History.{Account};
 ghost use Rattle.client_session.specs.Listening.{TellsOfRefusals};
 ghost use Rattle.plan_answers.specs.Lent.{bytes_of};
-ghost use Rattle.command_words.specs.Jobs.{CanBeServed, IsWithinLimits, NameInputOnce, files_of, input_name, run_files};
-ghost use Rattle.exchange.specs.Responses.{IsSomePlan, IsSomeCheck, IsSomeDraw, IsSomeDirect, IsSomeApply, IsSomeRun, IsSomeC004, IsSomeServe, IsSomeHost, IsSomeTalk};
-ghost use Rattle.exchange.specs.Responses.{IsAnswerTo, IsToldBy, behind_told};
+ghost use Rattle.command_words.specs.Jobs.{CanBeServed, IsWithinLimits, files_of};
+ghost use Rattle.session_answers.specs.HostAnswers.{SessionEnd, IsHostAnswer};
+ghost use Rattle.session_answers.specs.Serving.{IsServeAnswer};
+ghost use Rattle.session_answers.specs.Talking.{IsTalkAnswer};
+ghost use Rattle.exchange.specs.Contents.{contents_in};
+ghost use Rattle.exchange.specs.Responses.{IsJobAnswer, IsAnswerTo, IsC004By, IsOfTexts, IsToldUnanswered, clients_named};
 ghost use Rattle.exchange.specs.Notes.{IsBeside};
-ghost use Rattle.exchange.specs.Outputs.{AreOutputsWritten};
-ghost use Rattle.exchange.specs.Outcomes.{HasNote, IsUntold, MayStandBehind};
+ghost use Rattle.exchange.specs.Outcomes.{HasNote, HasTold, IsNoAnswer, IsNothing, response_of};
 
 use crate::apart::look_apart;
 use crate::beside::Beside;
-use crate::client_streams::{ClientFiles, FileStreams, System};
+use crate::client_streams::{ClientFiles, FileStreams, Runtime};
+use crate::contents::{Contents, read_contents, slice_of, source_with, text_of};
 use crate::driving::drive;
-use crate::files::{lent, read_file, read_files, read_image, read_source, read_texts, slice_of};
-use crate::notes::{
-    Answered, NoAnswer, alone, closed, named, named_image, named_schedule, of_list, of_rack,
-    of_run, of_schedule, reason_line, tell_note, with_note,
-};
-use crate::outputs::{Outputs, open_outputs};
+use crate::found::Found;
+use crate::notes::{Answered, NoAnswer, finished, reason_line, tell_note};
+use crate::outputs::open_outputs;
 use crate::ports::NamedPorts;
-use crate::replaying::replay;
-use crate::switching::switch;
+use crate::system::System;
 use crate::unwritten::Unwritten;
 use client_session::{Listener, NoListener};
-use command_words::{Job, Request, SharedRack, Text, TextList};
+use command_words::{Job, Request, SharedRack, Text};
 use exchange_limits::WorkerCount;
-use plan_answers::{
-    Answer, Planning, Source, answer_check, answer_direct, answer_draw, answer_plan,
-};
-use rack_answers::{answer_apply, answer_run};
-use refusal_notes::Listing;
+use plan_answers::{Answer, answer_check, answer_direct, answer_draw, answer_plan};
+use rack_answers::{answer_apply, answer_run, answer_switch};
+use replay_answers::answer_replay;
 use session_answers::{Hosted, answer_host, answer_serve, answer_talk};
-use std::alloc::Global;
-use std::fs::OpenFile;
+use std::alloc::{AllocError, Global};
 use std::io;
 use std::io::{Read, Write};
-use std::rt::Files;
 use std::sync::Wait;
 use std::thread::Threads;
 use switch_end::{EndFault, SwitchEnd, answer_commands};
@@ -49,169 +44,144 @@ use switch_end::{EndFault, SwitchEnd, answer_commands};
 /// lack of memory. `drive` tells its settings on `out` before, and `c004` writes its answers to
 /// enquiries there, and tells on `err` what it drops. It is looked first where names lead. Then the
 /// files for the record of sessions and for the image that they leave are opened, before any other
-/// is read.
-pub(crate) fn answer_to<R: System, I: Read, O: Write, E: Write>(
+/// is read, and all that are read are read before anything is answered.
+pub(crate) fn answer_to<R: Runtime, S: System, I: Read, O: Write, E: Write>(
     rt: &R,
-    request: Request,
+    system: &S,
+    request: &Request,
     input: &mut I,
     out: &mut O,
     err: &mut E,
 ) -> Result<Answered, NoAnswer>
-    requires limits { IsWithinLimits request.job }
-    requires input { NameInputOnce (files_of request.job) }
-    ensures response { (told : List ℕ) × Appends (O.contents out.old) (O.contents out.new) told
-        × IsToldBy request.job told
-        × IfOk result (λ done.
-        IsAnswerTo (I.remaining input.old) request.job (behind_told told done.answer))
-        × HasNote result
-        × IfErr result (MayStandBehind request.job told) }
-    ensures beside { IsBeside request (E.contents err.old) (E.contents err.new) }
+    requires limits { IsWithinLimits request.now.job }
+    ensures response { HasTold (O.contents out.old) (O.contents out.new)
+        (λ told done. (left : Option Account) × IsJobAnswer (S.holds system.now)
+        (I.remaining input.old) request.now.job
+        (record { told = told; end = done.answer; left = left }))
+        (IsToldUnanswered request.now.job) result }
+    ensures note { HasNote result }
+    ensures beside { IsBeside request.now (E.contents err.old) (E.contents err.new) }
 {
-    let Request { job, is_quiet } = request;
-    look_apart(rt, &job)?;
-    match job {
-        Job::Plan {
-            file,
-            planning,
-            workers,
-        } => plan(rt, &file, planning, workers, input),
-        Job::Check { batch, schedule } => check(rt, &batch, &schedule, input),
-        Job::Draw {
-            batch,
-            schedule,
-            settings,
-        } => draw(rt, &batch, &schedule, &settings, input),
-        Job::Switch {
-            batch,
-            source,
-            wiring,
-            workers,
-        } => switch(rt, &batch, &source, &wiring, workers, input),
-        Job::Direct { moves } => direct(rt, &moves, input),
-        Job::Apply {
-            shape,
-            batch,
-            image,
-            workers,
-        } => apply(rt, &shape, &batch, &image, workers, input),
-        Job::Run {
-            shape,
-            batch,
-            source,
-            image,
-            workers,
-        } => run(rt, &shape, &batch, &source, &image, workers, input),
+    let job = &request.job;
+    look_apart(system, rt.alloc(), job)?;
+    let mut outputs = open_outputs(rt, job)?;
+    let contents = read_contents(system, rt.alloc(), job.files(), input)?;
+    let found = answer_job(rt, request, &contents, input, out, err)?;
+    Ok(finished(rt.alloc(), found, job, &contents, &mut outputs))
+}
+
+/// The answer to a job whose files contain this.
+fn answer_job<R: Runtime, I: Read, O: Write, E: Write>(
+    rt: &R,
+    request: &Request,
+    contents: &Contents,
+    input: &mut I,
+    out: &mut O,
+    err: &mut E,
+) -> Result<Found, NoAnswer>
+    requires limits { IsWithinLimits request.now.job }
+    requires scripts { length (contents_in contents.now).scripts
+        ≡ length (files_of request.now.job).scripts }
+    ensures response { HasTold (O.contents out.old) (O.contents out.new)
+        (λ told found. IsAnswerTo request.now.job (contents_in contents.now)
+        (I.remaining input.old) (response_of told found))
+        (IsToldUnanswered request.now.job) result }
+    ensures note { IfErr result (λ missed. IsNoAnswer missed) }
+    ensures beside { IsBeside request.now (E.contents err.old) (E.contents err.new) }
+{
+    match &request.job {
         Job::Drive {
-            batch,
             port,
             port_b,
             source,
-            wiring,
             goes_on,
             workers,
+            ..
         } => {
-            let ports = NamedPorts::new(rt, &port, &port_b);
-            drive(
-                rt, &batch, &source, &wiring, goes_on, workers, ports, input, out,
-            )
+            let ports = NamedPorts::new(rt, port, port_b);
+            drive(rt, *workers, source, contents, ports, *goes_on, input, out)
         }
-        Job::C004 if is_quiet => c004(rt.alloc(), input, out, &mut io::sink()),
+        Job::C004 if request.is_quiet => c004(rt.alloc(), input, out, &mut io::sink()),
         Job::C004 => c004(rt.alloc(), input, out, err),
-        Job::Serve {
-            rack,
-            scripts,
-            workers,
-        } => {
-            let mut outputs = open_outputs(rt, &rack)?;
-            serve(rt, &rack, &scripts, workers, input, &mut outputs)
-        }
+        Job::Serve { rack, workers, .. } => serve(rt, rack, *workers, contents),
         Job::Host {
             rack,
             clients,
             workers,
-        } => {
-            let mut outputs = open_outputs(rt, &rack)?;
-            host(rt, &rack, &clients, workers, input, &mut outputs)
-        }
-        Job::Replay {
-            shape,
-            recorded,
-            image,
-        } => replay(rt, &shape, &recorded, &image, input),
-        Job::Talk { rack } if is_quiet => {
-            let mut outputs = open_outputs(rt, &rack)?;
-            talk(rt, &rack, input, out, &mut NoListener, &mut outputs)
+        } => host(rt, rack, clients.as_slice(), *workers, contents),
+        Job::Talk { rack } if request.is_quiet => {
+            talk(rt, rack, contents, input, out, &mut NoListener)
         }
         Job::Talk { rack } => {
-            let mut outputs = open_outputs(rt, &rack)?;
             let mut beside = Beside::new(rt.alloc(), rack.shape.as_str(), err);
-            let end = talk(rt, &rack, input, out, &mut beside, &mut outputs);
+            let end = talk(rt, rack, contents, input, out, &mut beside);
             // It does nothing when the program runs: the proof reads from it what `err` holds.
             beside.into_stream();
             end
         }
+        job => Ok(answer_texts(rt, job, contents)?),
     }
 }
 
-/// The answer of `exchange plan FILE`.
-fn plan<R: AllocGlobal + Files + Threads + Sync, I: Read>(
+/// The answer to a job whose files are all that it asks for. It waits for nobody.
+fn answer_texts<R: AllocGlobal + Threads + Sync>(
     rt: &R,
-    file: &Text,
-    planning: Planning,
-    workers: WorkerCount,
-    input: &mut I,
-) -> Result<Answered, NoAnswer>
-    ensures answer { IfOk result (λ done.
-        IsSomePlan (I.remaining input.old) planning file.now done.answer) }
-    ensures note { HasNote result }
+    job: &Job,
+    contents: &Contents,
+) -> Result<Found, AllocError>
+    requires { IsOfTexts job.now }
+    ensures { (input : Option (List ℕ)) → IfOk result (λ found.
+        IsAnswerTo job.now (contents_in contents.now) input (response_of [] found)) }
 {
-    let content = read_file(rt, file, input)?;
-    let text = content.as_slice();
-    let answer = answer_plan(rt, rt.alloc(), text, planning, workers)?;
-    let texts = of_list(named(file, text), Listing::Transfers);
-    Ok(with_note(rt.alloc(), answer, texts))
-}
-
-/// The answer of `exchange check BATCH SCHEDULE`.
-fn check<R: AllocGlobal + Files, I: Read>(
-    rt: &R,
-    batch: &Text,
-    schedule: &Text,
-    input: &mut I,
-) -> Result<Answered, NoAnswer>
-    requires { NameInputOnce (batch.now ∷ schedule.now ∷ []) }
-    ensures answer { IfOk result (λ done.
-        IsSomeCheck (I.remaining input.old) batch.now schedule.now done.answer) }
-    ensures note { HasNote result }
-{
-    let (first, second) = read_texts(rt, batch, schedule, input)?;
-    let (first, second) = (first.as_slice(), second.as_slice());
-    let answer = answer_check(rt.alloc(), first, second)?;
-    let (batch, schedule) = (named(batch, first), named(schedule, second));
-    let texts = of_schedule(batch, schedule, "", answer.validity());
-    Ok(with_note(rt.alloc(), answer, texts))
-}
-
-/// The answer of `exchange draw BATCH SCHEDULE`. The files are read before the range of settings is
-/// looked at.
-fn draw<R: AllocGlobal + Files, I: Read>(
-    rt: &R,
-    batch: &Text,
-    schedule: &Text,
-    settings: &Option<Text>,
-    input: &mut I,
-) -> Result<Answered, NoAnswer>
-    requires { NameInputOnce (batch.now ∷ schedule.now ∷ []) }
-    ensures answer { IfOk result (λ done.
-        IsSomeDraw (I.remaining input.old) batch.now schedule.now settings.now done.answer) }
-    ensures note { HasNote result }
-{
-    let (first, second) = read_texts(rt, batch, schedule, input)?;
-    let (first, second) = (first.as_slice(), second.as_slice());
-    let answer = answer_draw(rt.alloc(), first, second, bytes_in(settings))?;
-    let (batch, schedule) = (named(batch, first), named(schedule, second));
-    let texts = of_schedule(batch, schedule, word_in(settings), answer.validity());
-    Ok(with_note(rt.alloc(), answer, texts))
+    let alloc = rt.alloc();
+    let (list, other) = (text_of(&contents.list), text_of(&contents.other));
+    let image = slice_of(&contents.image);
+    match job {
+        Job::Plan {
+            planning,
+            workers,
+            ..
+        } => Ok(Found::alone(answer_plan(rt, alloc, list, *planning, *workers)?)),
+        Job::Check { .. } => Ok(Found::alone(answer_check(alloc, list, other)?)),
+        Job::Draw { settings, .. } => {
+            let range = bytes_in(settings);
+            Ok(Found::alone(answer_draw(alloc, list, other, range)?))
+        }
+        Job::Switch {
+            source,
+            workers,
+            ..
+        } => {
+            let source = source_with(source, other);
+            let wiring = slice_of(&contents.wiring);
+            let answer = answer_switch(rt, alloc, wiring, list, source, *workers)?;
+            Ok(Found::alone(answer))
+        }
+        Job::Direct { .. } => Ok(Found::alone(answer_direct(alloc, list)?)),
+        Job::Apply { shape, workers, .. } => {
+            let shape = shape.as_str().as_bytes();
+            let answer = answer_apply(rt, alloc, shape, list, other, *workers)?;
+            Ok(Found::alone(answer))
+        }
+        Job::Run {
+            shape,
+            source,
+            workers,
+            ..
+        } => {
+            let shape = shape.as_str().as_bytes();
+            let source = source_with(source, other);
+            let answer = answer_run(rt, alloc, shape, list, source, image, *workers)?;
+            Ok(Found::alone(answer))
+        }
+        Job::Replay { shape, .. } => {
+            let shape = shape.as_str().as_bytes();
+            let workers = WorkerCount::ONE;
+            let replayed = answer_replay(rt, alloc, shape, list, image, workers)?;
+            Ok(Found::replayed(replayed))
+        }
+        _ => unreachable!(),
+    }
 }
 
 /// The bytes of a text, where there is one.
@@ -224,95 +194,6 @@ fn bytes_in(text: &Option<Text>) -> Option<&[u8]>
     }
 }
 
-/// A word, where there is one.
-fn word_in(text: &Option<Text>) -> &str {
-    match text {
-        Some(text) => text.as_str(),
-        None => "",
-    }
-}
-
-/// The answer of `exchange direct MOVES`.
-fn direct<R: AllocGlobal + Files, I: Read>(
-    rt: &R,
-    moves: &Text,
-    input: &mut I,
-) -> Result<Answered, NoAnswer>
-    ensures answer { IfOk result (λ done.
-        IsSomeDirect (I.remaining input.old) moves.now done.answer) }
-    ensures note { HasNote result }
-{
-    let content = read_file(rt, moves, input)?;
-    let text = content.as_slice();
-    let answer = answer_direct(rt.alloc(), text)?;
-    let texts = of_list(named(moves, text), Listing::Moves);
-    Ok(with_note(rt.alloc(), answer, texts))
-}
-
-/// The answer of `exchange apply SHAPE BATCH IMAGE`. The files are read before the shape is looked
-/// at.
-fn apply<R: AllocGlobal + Files + Threads + Sync, I: Read>(
-    rt: &R,
-    shape: &Text,
-    batch: &Text,
-    image: &Text,
-    workers: WorkerCount,
-    input: &mut I,
-) -> Result<Answered, NoAnswer>
-    requires input { NameInputOnce (batch.now ∷ image.now ∷ []) }
-    ensures answer { IfOk result (λ done.
-        IsSomeApply (I.remaining input.old) shape.now batch.now image.now done.answer) }
-    ensures note { HasNote result }
-{
-    let (first, second) = read_texts(rt, batch, image, input)?;
-    let shape = shape.as_str();
-    let (first, second) = (first.as_slice(), second.as_slice());
-    let answer = answer_apply(rt, rt.alloc(), shape.as_bytes(), first, second, workers)?;
-    let texts = of_rack(shape, named(batch, first), named(image, second));
-    Ok(with_note(rt.alloc(), answer, texts))
-}
-
-/// The answer of `exchange run SHAPE BATCH`. The image's file, if one is named, is read first, then
-/// the batch's, and then the schedule's, if one is named, before the shape is looked at.
-fn run<R: AllocGlobal + Files + Threads + Sync, I: Read>(
-    rt: &R,
-    shape: &Text,
-    batch: &Text,
-    source: &Source<Text>,
-    image: &Option<Text>,
-    workers: WorkerCount,
-    input: &mut I,
-) -> Result<Answered, NoAnswer>
-    requires input { NameInputOnce (run_files image.now batch.now source.now) }
-    ensures answer { IfOk result (λ done. IsSomeRun (I.remaining input.old)
-        shape.now batch.now source.now image.now done.answer) }
-    ensures note { HasNote result }
-{
-    let words = read_image(rt, image, input)?;
-    let content = read_file(rt, batch, input)?;
-    let held = read_source(rt, source, input)?;
-    let shape = shape.as_str();
-    let (content, words) = (content.as_slice(), slice_of(&words));
-    let from = lent(&held);
-    let answer = answer_run(
-        rt,
-        rt.alloc(),
-        shape.as_bytes(),
-        content,
-        from,
-        words,
-        workers,
-    )?;
-    let texts = of_run(
-        &answer,
-        shape,
-        named(batch, content),
-        named_image(image, words),
-        named_schedule(source, &held),
-    );
-    Ok(with_note(rt.alloc(), answer, texts))
-}
-
 /// The answer of `exchange c004`, behind its answers to enquiries on `out`. What it drops is told
 /// on `err`, and so is why standard input can't be read any further.
 fn c004<I: Read, O: Write, E: Write>(
@@ -320,106 +201,85 @@ fn c004<I: Read, O: Write, E: Write>(
     input: &mut I,
     out: &mut O,
     err: &mut E,
-) -> Result<Answered, NoAnswer>
-    ensures answer { (told : List ℕ) × Appends (O.contents out.old) (O.contents out.new) told
-        × IfOk result (λ done. IsSomeC004 (I.remaining input.old) told done.answer)
-        × IfErr result (IsUntold told) }
-    ensures note { HasNote result }
+) -> Result<Found, NoAnswer>
+    ensures answer { HasTold (O.contents out.old) (O.contents out.new)
+        (λ told found. (found.book ≡ None) × IsC004By (I.remaining input.old) told found.answer)
+        IsNothing result }
+    ensures note { IfErr result (λ missed. IsNoAnswer missed) }
     ensures beside { (told : List ℕ) × Appends (E.contents err.old) (E.contents err.new) told }
 {
     let mut end = SwitchEnd::new();
     match answer_commands(&mut end, input, out, err) {
-        Ok(()) => Ok(alone(Answer::done(Vec::new(alloc)))),
+        Ok(()) => Ok(Found::alone(Answer::done(Vec::new(alloc)))),
         Err(EndFault::Read(error)) => {
             tell_note(&reason_line(alloc, "-", &error), false, err);
-            Ok(alone(Answer::failed(Vec::new(alloc))))
+            Ok(Found::alone(Answer::failed(Vec::new(alloc))))
         }
         Err(EndFault::Write(error)) => Err(NoAnswer::Unwritten(Unwritten::from(error))),
     }
 }
 
-/// The answer of `exchange serve SHAPE SCRIPT..`, behind which the record and the image of the
-/// rack are in their files. The image that it begins with, if one is named, is read first, and then
-/// the scripts' files in the order of the arguments, before the shape is looked at.
-fn serve<R: AllocGlobal + Files + Threads + Wait + Sync, I: Read, F: Write + OpenFile>(
+/// The answer of `exchange serve SHAPE SCRIPT..`.
+fn serve<R: AllocGlobal + Threads + Wait + Sync>(
     rt: &R,
     rack: &SharedRack,
-    scripts: &TextList,
     workers: WorkerCount,
-    input: &mut I,
-    outputs: &mut Outputs<'_, F>,
-) -> Result<Answered, NoAnswer>
-    requires scripts { CanBeServed scripts.now }
-    requires input { NameInputOnce (option_to_list rack.now.image ++ scripts.now) }
-    ensures answer { IfOk result (λ done. (left : Option Account)
-        × IsSomeServe (I.remaining input.old) rack.now scripts.now done.answer left
-        × AreOutputsWritten F.contents left outputs.old outputs.new done.lost) }
-    ensures note { HasNote result }
+    contents: &Contents,
+) -> Result<Found, NoAnswer>
+    requires { CanBeServed (contents_in contents.now).scripts }
+    ensures answer { IfOk result (λ found. let files = contents_in contents.now in
+        IsServeAnswer rack.now.shape files.image files.scripts found.answer found.book) }
+    ensures note { IfErr result (λ missed. IsNoAnswer missed) }
 {
-    let words = read_image(rt, &rack.image, input)?;
-    let files = read_files(rt, scripts.as_slice(), input)?;
     let shape = rack.shape.as_str().as_bytes();
-    let (files, words) = (files.as_slice(), slice_of(&words));
-    let closing = answer_serve(rt, rt.alloc(), shape, words, workers, files)?;
-    Ok(closed(rt.alloc(), closing, rack, words, outputs))
+    let image = slice_of(&contents.image);
+    let scripts = contents.scripts.as_slice();
+    let closing = answer_serve(rt, rt.alloc(), shape, image, workers, scripts)?;
+    Ok(Found::closed(closing))
 }
 
-/// The answer of `exchange host SHAPE CLIENT..`, behind the sessions of the clients, and behind
-/// which the record and the image of the rack are in their files. The image that it begins with, if
-/// one is named, is read first.
-fn host<R: AllocGlobal + Files + Threads + Wait + ClientFiles + Sync, I: Read, F: Write + OpenFile>(
+/// The answer of `exchange host SHAPE CLIENT..`, behind the sessions of the clients.
+fn host<R: AllocGlobal + Threads + Wait + ClientFiles + Sync>(
     rt: &R,
     rack: &SharedRack,
-    clients: &TextList,
+    clients: &[Text],
     workers: WorkerCount,
-    input: &mut I,
-    outputs: &mut Outputs<'_, F>,
-) -> Result<Answered, NoAnswer>
-    requires clients { CanBeServed clients.now }
-    ensures answer { IfOk result (λ done. (left : Option Account)
-        × IsSomeHost (I.remaining input.old) rack.now clients.now done.answer left
-        × AreOutputsWritten F.contents left outputs.old outputs.new done.lost) }
-    ensures note { HasNote result }
+    contents: &Contents,
+) -> Result<Found, NoAnswer>
+    requires { CanBeServed clients.now }
+    ensures answer { IfOk result (λ found. (ends : List SessionEnd)
+        × IsHostAnswer rack.now.shape (contents_in contents.now).image (clients_named clients.now)
+        ends found.answer found.book) }
+    ensures note { IfErr result (λ missed. IsNoAnswer missed) }
 {
-    let words = read_image(rt, &rack.image, input)?;
     let shape = rack.shape.as_str().as_bytes();
-    let words = slice_of(&words);
+    let image = slice_of(&contents.image);
     let alloc = rt.alloc();
-    let clients = clients.as_slice();
     let streams = FileStreams { rt, alloc, clients };
-    let hosted = answer_host(rt, alloc, shape, words, workers, &streams)?;
+    let hosted = answer_host(rt, alloc, shape, image, workers, &streams)?;
     let Hosted { closing, .. } = hosted;
-    Ok(closed(alloc, closing, rack, words, outputs))
+    Ok(Found::closed(closing))
 }
 
 /// The answer of `exchange talk SHAPE`, behind a session over `input` and `out`, of whose refusals
-/// the listener is told, and behind which the record and the image of the rack are in their files.
-/// The image that it begins with, if one is named, is read first.
-fn talk<
-    R: AllocGlobal + Files + Threads + Wait + Sync,
-    I: Read,
-    O: Write,
-    H: Listener,
-    F: Write + OpenFile,
->(
+/// the listener is told.
+fn talk<R: AllocGlobal + Threads + Wait + Sync, I: Read, O: Write, H: Listener>(
     rt: &R,
     rack: &SharedRack,
+    contents: &Contents,
     input: &mut I,
     out: &mut O,
     listener: &mut H,
-    outputs: &mut Outputs<'_, F>,
-) -> Result<Answered, NoAnswer>
-    requires input { NameInputOnce (option_to_list rack.now.image ++ input_name ∷ []) }
-    ensures answer { (told : List ℕ) × Appends (O.contents out.old) (O.contents out.new) told
-        × IfOk result (λ done. (left : Option Account)
-        × IsSomeTalk (I.remaining input.old) rack.now told done.answer left
-        × AreOutputsWritten F.contents left outputs.old outputs.new done.lost) }
-    ensures note { HasNote result }
+) -> Result<Found, NoAnswer>
+    ensures answer { HasTold (O.contents out.old) (O.contents out.new)
+        (λ told found. (after : Option (List ℕ)) × IsTalkAnswer rack.now.shape
+        (contents_in contents.now).image (I.remaining input.old) after told found.answer
+        found.book) (λ told. ⊤) result }
+    ensures note { IfErr result (λ missed. IsNoAnswer missed) }
     ensures beside { TellsOfRefusals H.may_tell (H.told listener.old) (H.told listener.new) }
 {
-    let words = read_image(rt, &rack.image, input)?;
     let shape = rack.shape.as_str().as_bytes();
-    let words = slice_of(&words);
-    let closing = answer_talk(rt, rt.alloc(), shape, words, input, out, listener)?;
-    Ok(closed(rt.alloc(), closing, rack, words, outputs))
+    let image = slice_of(&contents.image);
+    let closing = answer_talk(rt, rt.alloc(), shape, image, input, out, listener)?;
+    Ok(Found::closed(closing))
 }

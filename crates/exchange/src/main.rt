@@ -4,10 +4,11 @@
 //! the system's own streams and arguments: it hands them to [`respond`].
 //!
 //! Unless it ends with status 3, [`respond`] prints the answer to the job that the words ask for,
-//! to whatever bytes its files have, or the line that says why there is none; or it ends as for an
-//! error of clap (`IsEndFor` of `specs/Ends.antt`, `IsResponseTo` of `specs/Responses.antt`). Of
-//! the files it knows only standard input. Beside what it prints for a job, standard error gets at
-//! most a front of one text of a refusal, and what is told beside `talk` and `c004` (`IsNoted` of
+//! by what the files of their names contain, or the line that says why there is none; or it ends as
+//! for an error of clap (`IsEndFor` of `specs/Ends.antt`, `IsAnswerTo` of `specs/Responses.antt`).
+//! Which bytes a file holds [`System`](system::System) tells: of the real system it knows none but
+//! those of standard input. Beside what it prints for a job, standard error gets at most a front of
+//! one text of a refusal, and what is told beside `talk` and `c004` (`IsNoted` of
 //! `specs/Notes.antt`). It says nothing of the files of `--record` and `--image-out`: what goes to
 //! these `keep` says, which is private (`specs/Outputs.antt`).
 #![tactic(auto)]
@@ -15,18 +16,18 @@
 mod apart;
 mod beside;
 mod client_streams;
+mod contents;
 mod driving;
-mod files;
+mod found;
 mod jobs;
 mod limits;
 mod lost;
 mod notes;
 mod outputs;
 mod ports;
-mod replaying;
 mod responding;
-mod switch_texts;
-mod switching;
+mod system;
+mod texts;
 mod unanswered;
 mod unwritten;
 
@@ -46,6 +47,7 @@ fn main(rt: HostRuntime) -> ExitCode {
     }
     let arguments = command_line(&rt);
     respond(
+        &rt,
         &rt,
         arguments,
         &mut rt.reader(),

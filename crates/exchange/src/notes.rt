@@ -1,24 +1,23 @@
 //! What is told beside an answer.
 
-ghost use Rattle.std.specs.Prelude.{◌≡◌, IfSome, None, option_map, string_bytes};
-ghost use Rattle.exchange.specs.Outputs.{AreOutputsWritten, lost_none};
+ghost use Rattle.std.specs.Prelude.{◌≡◌, IfSome, option_map, string_bytes};
+ghost use Rattle.exchange.specs.Outputs.{AreOutputsWritten};
 ghost use Rattle.exchange.specs.Notes.{IsToldInPart, IsNoteOn, IsToldUnless, IsWholeLine};
 ghost use Rattle.exchange.specs.Outcomes.{IsNoAnswer};
 
-use crate::files::slice_of;
+use crate::contents::Contents;
+use crate::found::Found;
 use crate::lost::Lost;
 use crate::outputs::{Outputs, keep};
+use crate::texts::{port_of, texts_of};
 use crate::unanswered::Unanswered;
 use crate::unwritten::Unwritten;
 use byte_streams::write_bytes;
-use command_words::{SharedRack, Text};
+use command_words::{Job, Text};
 use drive_answers::DriveFault;
-use module_memory::Rack;
-use plan_answers::{Answer, Source};
-use record_replay::RecordError;
-use refusal_notes::{Listing, Named, Texts, file_line, second_line};
-use refusals::{Refusal, Validity};
-use session_answers::Closing;
+use plan_answers::Answer;
+use refusal_notes::{Texts, file_line, second_line};
+use refusals::Refusal;
 use std::alloc::{AllocError, Global};
 use std::fs::OpenFile;
 use std::io;
@@ -73,133 +72,45 @@ impl From<DriveFault> for NoAnswer {
     }
 }
 
-/// An answer to these texts, with what is told beside it where it is a refusal.
-pub(crate) fn with_note(alloc: Global, answer: Answer, texts: Texts<'_>) -> Answered
-    ensures answer { result.answer ≡ answer }
-    ensures note { IsNoteOn result.answer (option_map (λ line. string_bytes line) result.note) }
-{
-    let note = note_on(alloc, &answer, texts);
-    Answered {
-        answer,
-        note,
-        lost: Lost::none(),
-    }
-}
-
-/// An answer beside which there is nothing to tell.
-pub(crate) fn alone(answer: Answer) -> Answered
-    ensures { result ≡ record { answer = answer; note = None; lost = lost_none } }
-{
-    Answered {
-        answer,
-        note: None,
-        lost: Lost::none(),
-    }
-}
-
-/// An answer of sessions on the rack that was asked for, whose image had these bytes, with what is
-/// told beside it where that is a refusal. The record of the sessions, and the image of the rack
-/// that they leave, go to the files for them.
-pub(crate) fn closed<'a, F: Write + OpenFile>(
+/// The answer to a job whose files contain this, with what is told beside it where it is a refusal.
+/// The record of sessions, and the image of the rack that they leave, go to the files for them.
+pub(crate) fn finished<F: Write + OpenFile>(
     alloc: Global,
-    closing: Closing,
-    rack: &'a SharedRack,
-    words: Option<&'a [u8]>,
+    found: Found,
+    job: &Job,
+    contents: &Contents,
     outputs: &mut Outputs<'_, F>,
 ) -> Answered
-    ensures answer { result.answer ≡ closing.answer }
+    ensures answer { result.answer ≡ found.answer }
     ensures note { IsNoteOn result.answer (option_map (λ line. string_bytes line) result.note) }
-    ensures kept { AreOutputsWritten F.contents closing.book outputs.old outputs.new result.lost }
+    ensures kept { AreOutputsWritten F.contents found.book outputs.old outputs.new result.lost }
 {
-    let Closing { answer, book } = closing;
-    let texts = of_rack(
-        rack.shape.as_str(),
-        Named::NONE,
-        named_image(&rack.image, words),
-    );
-    let note = note_on(alloc, &answer, texts);
+    let Found {
+        answer,
+        book,
+        error,
+        unopened,
+    } = found;
+    let texts = texts_of(job, contents, &answer, &error);
+    let note = note_on(alloc, &answer, texts, job, &unopened);
     let lost = keep(alloc, &book, outputs);
     Answered { answer, note, lost }
 }
 
-/// A batch, or moves, alone.
-pub(crate) fn of_list<'a>(list: Named<'a>, listing: Listing) -> Texts<'a> {
-    Texts {
-        list,
-        listing,
-        ..Texts::NONE
-    }
-}
-
-/// A batch and a schedule, the word of the settings to draw, which may be empty, and what is known
-/// of the schedule.
-pub(crate) fn of_schedule<'a>(
-    batch: Named<'a>,
-    schedule: Named<'a>,
-    range: &'a str,
-    validity: Validity,
-) -> Texts<'a> {
-    Texts {
-        list: batch,
-        other: schedule,
-        range,
-        validity,
-        ..Texts::NONE
-    }
-}
-
-/// The word of a rack's shape, a batch, and the image of the rack, which may be none.
-pub(crate) fn of_rack<'a>(shape: &'a str, batch: Named<'a>, image: Named<'a>) -> Texts<'a> {
-    Texts {
-        list: batch,
-        other: image,
-        shape,
-        ..Texts::NONE
-    }
-}
-
-/// The word of a rack's shape, a batch, and the image of the rack where it is refused, else the
-/// schedule. Either may be none.
-pub(crate) fn of_run<'a>(
+/// What is told beside an answer to these texts, or of a job's port that can't be opened.
+fn note_on(
+    alloc: Global,
     answer: &Answer,
-    shape: &'a str,
-    batch: Named<'a>,
-    image: Named<'a>,
-    schedule: Named<'a>,
-) -> Texts<'a> {
-    match answer.refusal() {
-        Some(Refusal::Image { .. }) => of_rack(shape, batch, image),
-        _ => of_rack(shape, batch, schedule),
-    }
-}
-
-/// The word of a rack's shape, a record, the image of the rack, which may be none, and what is
-/// wrong with the record, where something is.
-pub(crate) fn of_record<'a>(
-    shape: &'a str,
-    recorded: Named<'a>,
-    image: Named<'a>,
-    error: &'a Option<RecordError>,
-) -> Texts<'a> {
-    let texts = Texts {
-        recorded,
-        ..of_rack(shape, Named::NONE, image)
-    };
-    match error {
-        Some(error) => Texts {
-            offset: error.offset,
-            due: slice_of(&error.due).unwrap_or(&[]),
-            ..texts
-        },
-        None => texts,
-    }
-}
-
-/// What is told beside an answer to these texts.
-fn note_on(alloc: Global, answer: &Answer, texts: Texts<'_>) -> Option<String>
+    texts: Texts<'_>,
+    job: &Job,
+    unopened: &Option<io::Error>,
+) -> Option<String>
     ensures { IsNoteOn answer.now (option_map (λ line. string_bytes line) result) }
 {
-    second_line(alloc, answer.refusal()?, texts)
+    match (answer.refusal()?, unopened) {
+        (Refusal::Port(port), Some(error)) => reason_line(alloc, port_of(job, port), error),
+        (refusal, _) => second_line(alloc, refusal, texts),
+    }
 }
 
 /// Why there is no answer where a file of this name can't be read, or opened, and what is told of
@@ -223,32 +134,6 @@ pub(crate) fn reason_line(alloc: Global, name: &str, error: &io::Error) -> Optio
     match error.to_string(alloc) {
         Ok(reason) => file_line(alloc, name, reason.as_str()),
         Err(_) => None,
-    }
-}
-
-/// The name of the file of an image, or of a wiring, and what that contains, where there is one.
-pub(crate) fn named_image<'a>(name: &'a Option<Text>, image: Option<&'a [u8]>) -> Named<'a> {
-    match (name, image) {
-        (Some(name), Some(text)) => named(name, text),
-        _ => Named::NONE,
-    }
-}
-
-/// The name of a schedule's file, and what that contains, where one has it.
-pub(crate) fn named_schedule<'a>(source: &'a Source<Text>, held: &'a Source<Vec<u8>>) -> Named<'a> {
-    match (source, held) {
-        (Source::Text(name), Source::Text(text)) => named(name, text.as_slice()),
-        _ => Named::NONE,
-    }
-}
-
-/// A file's name, and what it contains.
-pub(crate) fn named<'a>(name: &'a Text, text: &'a [u8]) -> Named<'a>
-    ensures { (result.name.now ≡ name.entry.now) × (result.text ≡ text.entry) }
-{
-    Named {
-        name: name.as_str(),
-        text,
     }
 }
 

@@ -13,7 +13,7 @@ use crate::notes::{NoAnswer, unread};
 use batch_book::Book;
 use book_record::write_record;
 use byte_streams::write_bytes;
-use command_words::{SharedRack, Text};
+use command_words::{Job, Text};
 use module_memory::Rack;
 use std::alloc::Global;
 use std::fs::{OpenFile, OpenOptions};
@@ -59,17 +59,26 @@ fn open_file<'a, R: AllocGlobal + Files>(
     }
 }
 
-/// Opens the files for the record and for the image of sessions on this rack, where they are named.
+/// Opens the files for the record and for the image that a job's sessions leave, where they are
+/// named.
 pub(crate) fn open_outputs<'a, R: AllocGlobal + Files>(
     rt: &R,
-    rack: &'a SharedRack,
+    job: &'a Job,
 ) -> Result<Outputs<'a, R::File>, NoAnswer>
-    ensures named { IfOk result (AreOutputsNamed rack.entry.now) }
+    ensures named { IfOk result (AreOutputsNamed job.entry.now) }
     ensures note { IfErr result (λ missed. IsNoAnswer missed) }
 {
-    let recorded = open_file(rt, &rack.record_out)?;
-    let image = open_file(rt, &rack.image_out)?;
-    Ok(Outputs { recorded, image })
+    match job {
+        Job::Serve { rack, .. } | Job::Host { rack, .. } | Job::Talk { rack } => {
+            let recorded = open_file(rt, &rack.record_out)?;
+            let image = open_file(rt, &rack.image_out)?;
+            Ok(Outputs { recorded, image })
+        }
+        _ => Ok(Outputs {
+            recorded: None,
+            image: None,
+        }),
+    }
 }
 
 /// Writes bytes to a file, which is emptied first where it isn't a device or a pipe.

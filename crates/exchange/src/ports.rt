@@ -1,15 +1,12 @@
 //! The ports of switches, by the names of their files.
 
-ghost use Rattle.std.specs.Prelude.{◌≡◌, ◌≢◌, None, IfErr, IfSome, string_bytes};
+ghost use Rattle.std.specs.Prelude.{◌≡◌, ◌≢◌, None, IfErr};
 ghost use Rattle.refusals.specs.declared.refusal.Refusal.TheVariants.{NoMemory, Port};
-ghost use Rattle.exchange.specs.Notes.{IsWholeLine};
-ghost use Rattle.exchange.specs.Ports.{ports_named};
+ghost use Rattle.exchange.specs.Ports.{unopened_ways};
 
-use crate::notes::reason_line;
 use command_words::Text;
 use drive_answers::{OpenedCount, Ports};
 use refusals::{PortName, Refusal};
-use std::alloc::Global;
 use std::fs::{OpenFile, OpenOptions};
 use std::io::ErrorKind;
 use std::marker::Model;
@@ -25,7 +22,7 @@ pub(crate) struct NamedPorts<'a, R, F> {
     rt: &'a R,
     port: &'a Text,
     port_b: &'a Option<Text>,
-    failed: Option<(&'a Text, io::Error)>,
+    failed: Option<io::Error>,
     closed: Option<StreamPort<F, F>>,
     opened: OpenedCount,
 }
@@ -45,8 +42,7 @@ impl<'a, R, F> Model for NamedPorts<'a, R, F> {
 impl<'a, R, F> NamedPorts<'a, R, F> {
     /// Ports of these names, none of which is open.
     pub(crate) fn new(rt: &'a R, port: &'a Text, port_b: &'a Option<Text>) -> NamedPorts<'a, R, F>
-        ensures { result
-            ≡ record { named = ports_named port_b.entry.now; carried = None; opened = 0 } }
+        ensures { result ≡ unopened_ways port_b.entry.now }
     {
         NamedPorts {
             rt,
@@ -67,15 +63,12 @@ impl<'a, R, F> NamedPorts<'a, R, F> {
             None => 1,
         }
     }
+}
 
-    /// What is told of the one that can't be opened, once that was tried: the system's reason.
-    pub(crate) fn reason(&self, alloc: Global) -> Option<String>
-        ensures { IfSome result (λ line. IsWholeLine (string_bytes line)) }
-    {
-        match &self.failed {
-            Some((name, error)) => reason_line(alloc, name.as_str(), error),
-            None => None,
-        }
+impl<'a, R, F: Drop> NamedPorts<'a, R, F> {
+    /// Why one of them couldn't be opened, where that was tried.
+    pub(crate) fn into_failure(self) -> Option<io::Error> {
+        self.failed
     }
 }
 
@@ -114,7 +107,7 @@ impl<'a, R: AllocGlobal + Files> NamedPorts<'a, R, R::File> {
     fn open_one(
         &mut self,
         port: PortName,
-        name: &'a Text,
+        name: &Text,
     ) -> Result<SwitchStream<R::File, R::File>, Refusal>
         ensures refused { IfErr result (λ refusal. refusal ≢ NoMemory → refusal ≡ Port port) }
         ensures same { self.new ≡ self.old }
@@ -123,7 +116,7 @@ impl<'a, R: AllocGlobal + Files> NamedPorts<'a, R, R::File> {
             Ok(stream) => Ok(stream),
             Err(error) if error.kind() == ErrorKind::OutOfMemory => Err(Refusal::NoMemory),
             Err(error) => {
-                self.failed = Some((name, error));
+                self.failed = Some(error);
                 Err(Refusal::Port(port))
             }
         }

@@ -10,10 +10,11 @@ ghost use Rattle.exchange.specs.Outputs.{lost_none};
 ghost use Rattle.exchange.specs.Ends.{IsPrinted, streams_of, IsEndForArguments, IsEndWithoutArguments};
 ghost use Rattle.exchange.specs.Ends.{IsUnwrittenOf, IsUnwrittenTold};
 
-use crate::client_streams::System;
+use crate::client_streams::Runtime;
 use crate::jobs::answer_to;
 use crate::limits::{MISUSED, UNWRITTEN};
 use crate::notes::{Answered, NoAnswer, tell_note};
+use crate::system::System;
 use crate::unanswered::Unanswered;
 use crate::unwritten::Unwritten;
 use command_words::{ArgumentsFault, read_arguments};
@@ -29,15 +30,16 @@ use std::process::ExitCode;
 ///
 /// A file that is `-` is read from `input`. Answers, refusals and the texts of help go to `out`;
 /// arguments that fit no command are answered on `err`.
-pub fn respond<R: System, I: Read, O: Write, E: Write>(
+pub fn respond<R: Runtime, S: System, I: Read, O: Write, E: Write>(
     rt: &R,
+    system: &S,
     arguments: io::Result<Vec<String>>,
     input: &mut I,
     out: &mut O,
     err: &mut E,
 ) -> ExitCode
     ensures arguments { IfOk arguments (λ w. (exit_status result ≡ UNWRITTEN)
-        ⊎ IsEndForArguments (texts_of w.items) (I.remaining input.old)
+        ⊎ IsEndForArguments (S.holds system.now) (texts_of w.items) (I.remaining input.old)
         (streams_of (O.contents out.old)
         (O.contents out.new) (E.contents err.old) (E.contents err.new)) (exit_status result)) }
     ensures none { OnErr arguments ((exit_status result ≡ UNWRITTEN)
@@ -45,7 +47,7 @@ pub fn respond<R: System, I: Read, O: Write, E: Write>(
 {
     match arguments {
         Ok(arguments) => status_of(
-            print_response(rt, arguments.as_slice(), input, out, err),
+            print_response(rt, system, arguments.as_slice(), input, out, err),
             err,
         ),
         Err(error) => status_of(print_without_arguments(&error, out, err), err),
@@ -86,21 +88,22 @@ fn print_without_arguments<O: Write, E: Write>(
 
 /// Does what the arguments ask for, prints its answer, or why it has none, and tells a line beside
 /// a refusal. The error is that of writing the answer.
-fn print_response<R: System, I: Read, O: Write, E: Write>(
+fn print_response<R: Runtime, S: System, I: Read, O: Write, E: Write>(
     rt: &R,
+    system: &S,
     arguments: &[String],
     input: &mut I,
     out: &mut O,
     err: &mut E,
 ) -> Result<u8, Unwritten>
-    ensures { IfOk result (IsEndForArguments (texts_of arguments.now) (I.remaining input.old)
+    ensures { IfOk result (IsEndForArguments (S.holds system.now) (texts_of arguments.now) (I.remaining input.old)
         (streams_of (O.contents out.old) (O.contents out.new) (E.contents err.old)
         (E.contents err.new))) }
 {
     match read_arguments(rt.alloc(), arguments) {
         Ok(request) => {
             let is_quiet = request.is_quiet;
-            match answer_to(rt, request, input, out, err) {
+            match answer_to(rt, system, &request, input, out, err) {
                 Ok(done) => print_noted(done, is_quiet, out, err),
                 Err(NoAnswer::Refused { why, note }) => refuse_noted(
                     why, &note, is_quiet, out, err,

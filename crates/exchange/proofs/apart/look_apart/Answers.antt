@@ -5,5 +5,5 @@ use Rattle.exchange.proofs.apart.look_apart.Goals as goal
 
 pub returns-clause-apart : goal.returns-clause-apart
 returns-clause-apart g c =
-    subst (λ (files : List FileUse). OnOk c.look_through.result (AreSeenApart (g.R.Places.leads c.args.rt.now) files))
+    subst (λ (files : List FileUse). OnOk c.look_through.result (AreSeenApart (g.S.Places.leads c.args.system.now) files))
     (c.as_slice.ensures.value ∙ c.in_ok-files.ensures) c.look_through.ensures.apart

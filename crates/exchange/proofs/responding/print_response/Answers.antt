@@ -1,7 +1,7 @@
 use Rattle.std.proofs.Common.{Err, inl, inr, refl}
-use Rattle.std.proofs.KnownBytes.{Appends-nil}
 use Rattle.command_words.specs.declared.jobs.ArgumentsFault.TheVariants as arguments_fault
-use Rattle.exchange.specs.Outcomes.{IsNoAnswer, MayStandBehind}
+use Rattle.exchange.specs.Outcomes.{IsNoAnswer}
+use Rattle.exchange.specs.Responses.{IsToldUnanswered}
 use Rattle.exchange.specs.declared.notes.NoAnswer.TheVariants.{Refused}
 use Rattle.exchange.proofs.Told.{answered, asked, faulty, not_answered, without_arguments}
 use Rattle.exchange.proofs.responding.print_response.Goals as goal
@@ -9,33 +9,25 @@ use Rattle.exchange.proofs.responding.print_response.Goals as goal
 pub returns-in-Ok-answer_to : goal.returns-in-Ok-answer_to
 returns-in-Ok-answer_to g c =
     let t = c.in-Ok-answer_to.ensures.response in
-    asked c.print_noted.result _ _ c.in-Ok.request _ c.in-Ok.ensures.request
-    (answered c.print_noted.result _ c.in-Ok.request t.0 c.in-Ok-answer_to.done _ _ _ _ _ _ t.1 t.2 t.3 t.4 c.in-Ok-answer_to.ensures.beside c.print_noted.ensures.printed c.print_noted.ensures.told)
+    asked c.print_noted.result _ _ _ c.in-Ok.request _ c.in-Ok.ensures.request
+    (answered c.print_noted.result _ _ c.in-Ok.request t.0 t.2.0 c.in-Ok-answer_to.done _ _ _ _ _ _ t.1 t.2.1 c.in-Ok-answer_to.ensures.note c.in-Ok-answer_to.ensures.beside c.print_noted.ensures.printed c.print_noted.ensures.told)
 
 pub returns-in-Err-Refused : goal.returns-in-Err-Refused
 returns-in-Err-Refused g c =
     let t = c.in-Err-Refused.ensures.response in
-    let note : IsNoAnswer (Refused c.in-Err-Refused.why c.in-Err-Refused.note) = rw c.in-Err-Refused.field-0-is at t.4 in
-    let none : MayStandBehind c.in-Ok.request.job t.0 (Refused c.in-Err-Refused.why c.in-Err-Refused.note) = rw c.in-Err-Refused.field-0-is at t.5 in
-    asked c.refuse_noted.result _ _ c.in-Ok.request _ c.in-Ok.ensures.request
-    (not_answered c.refuse_noted.result _ c.in-Ok.request t.0 c.in-Err-Refused.why c.in-Err-Refused.note _ _ _ _ _ _ t.1 t.2 none note c.in-Err-Refused.ensures.beside c.refuse_noted.ensures.printed c.refuse_noted.ensures.told)
+    let note : IsNoAnswer (Refused c.in-Err-Refused.why c.in-Err-Refused.note) = rw c.in-Err-Refused.field-0-is at c.in-Err-Refused.ensures.note in
+    let none : IsToldUnanswered c.in-Ok.request.job t.0 = rw c.in-Err-Refused.field-0-is at t.3 in
+    asked c.refuse_noted.result _ _ _ c.in-Ok.request _ c.in-Ok.ensures.request
+    (not_answered c.refuse_noted.result _ _ c.in-Ok.request t.0 c.in-Err-Refused.why c.in-Err-Refused.note _ _ _ _ _ _ t.1 none note c.in-Err-Refused.ensures.beside c.refuse_noted.ensures.printed c.refuse_noted.ensures.told)
 
 pub returns-in-Err-NoMemory : goal.returns-in-Err-NoMemory
-returns-in-Err-NoMemory g c = faulty c.refuse.result _ _ arguments_fault.NoMemory _ tt (without_arguments c.refuse.result (g.I.Read.remaining c.args.input.now) (g.O.Write.contents c.args.out.now) (g.O.Write.contents c.refuse.new.out) (g.E.Write.contents c.args.err.now) c.refuse.ensures)
+returns-in-Err-NoMemory g c = faulty c.refuse.result _ _ _ arguments_fault.NoMemory _ tt (without_arguments c.refuse.result (g.S.System.holds c.args.system.now) (g.I.Read.remaining c.args.input.now) (g.O.Write.contents c.args.out.now) (g.O.Write.contents c.refuse.new.out) (g.E.Write.contents c.args.err.now) c.refuse.ensures)
 
-pub returns-in_ok-write-in-Err-Clap : goal.returns-in_ok-write-in-Err-Clap
-returns-in_ok-write-in-Err-Clap g c =
+pub returns-in-Err-Clap : goal.returns-in-Err-Clap
+returns-in-Err-Clap g c =
     let fault = c.use_stderr.ensures.0 c.if-use_stderr.true in (
       Err (arguments_fault.Clap c.in-Err-Clap.error),
       tt,
       rw (c.in-Err-Clap.is, c.in-Err-Clap.field-0-is) at c.read_arguments.ensures.fault,
       ((λ help. elim help [ inl is ↦ absurd (fault.0 is) | inr is ↦ absurd (fault.1 is) ]), (λ other. (refl, refl))),
     )
-
-pub returns-in_ok-write_help-in-Err-Clap-2 : goal.returns-in_ok-write_help-in-Err-Clap-2
-returns-in_ok-write_help-in-Err-Clap-2 g c = (
-  Err (arguments_fault.Clap c.in-Err-Clap.error),
-  tt,
-  rw (c.in-Err-Clap.is, c.in-Err-Clap.field-0-is) at c.read_arguments.ensures.fault,
-  ((λ help. (refl, Appends-nil _)), (λ other. absurd (let yes = c.use_stderr.ensures.1 ((λ e. other (inl e)), (λ e. other (inr e))) in let no = c.if-use_stderr.false in cc))),
-)
