@@ -17,15 +17,16 @@ use Rattle.exchange.specs.declared.unanswered.Unanswered.TheVariants.{File, NoMe
 use Rattle.exchange.specs.Outputs.{lost_none}
 use Rattle.exchange.specs.declared.notes.Answered.{Answered}
 use Rattle.exchange.specs.declared.notes.NoAnswer.{NoAnswer}
-use Rattle.exchange.specs.Responses.{IsAlone, IsJobAnswer, IsToldUnanswered, unanswered}
+use Rattle.exchange.specs.Apart.{AreSeenApart}
+use Rattle.exchange.specs.Responses.{IsAlone, IsJobAnswer, IsToldUnanswered, Named, unanswered}
 use Rattle.exchange.specs.Notes.{IsToldInPart, IsBeside, IsNoteOn, IsNoted, IsToldUnless, IsWholeLine}
 use Rattle.exchange.specs.Outcomes.{HasTold, IsAnswered, IsNothing, response_of}
 use Rattle.exchange.specs.declared.found.Found.{Found}
 use Rattle.command_words.specs.declared.jobs.ArgumentsFault.{ArgumentsFault}
 use Rattle.command_words.specs.declared.jobs.ArgumentsFault.TheVariants as arguments_fault
-use Rattle.command_words.specs.Jobs.{AskFor, IsFaultIn}
+use Rattle.command_words.specs.Jobs.{AskFor, IsFaultIn, file_uses}
 use Rattle.exchange.specs.declared.limits.TheConstants.{UNWRITTEN}
-use Rattle.exchange.specs.Ends.{Streams, IsDone, IsEndFor, IsEndForArguments, IsPrinted, streams_of}
+use Rattle.exchange.specs.Ends.{Streams, IsDone, IsEndForArguments, IsFaultEnd, IsPrinted, streams_of}
 
 -- nothing was told before what is answered, or refused
 pub told_nothing : {X : Type 0} (r : Result X NoAnswer) (before : Option (List ℕ)) (is : List ℕ → X → Type 0) (behind : List ℕ → Type 0) → behind [] → IfOk r (is []) → HasTold before before is behind r
@@ -67,30 +68,32 @@ file_told None h = tt
 file_told (Some text) h = record { refused = refl; of = (refusal.File, (λ e. cc), refl); whole = h }
 
 -- an answer that is printed behind it
-pub answered : {E : Type 0} (r : Result ℕ E) (holds : List ℕ → List ℕ → Type 0) (input : Option (List ℕ)) (request : Request) (told : List ℕ) (left : Option Account) (done : Answered) (out_before out_after has eb em ea : Option (List ℕ))
-    → Appends out_before out_after told → IsJobAnswer holds input request.job (record { told = told; end = done.answer; left = left }) → IsAnswered done
+pub answered : {E : Type 0} (r : Result ℕ E) (named : Named) (keeps : Job → Option Account → Type 0) (input : Option (List ℕ)) (request : Request) (told : List ℕ) (left : Option Account) (done : Answered) (out_before out_after has eb em ea : Option (List ℕ))
+    → Appends out_before out_after told → AreSeenApart named.leads (file_uses request.job) → IsJobAnswer named.holds input request.job (record { told = told; end = done.answer; left = left }) → (done.lost ≡ lost_none → keeps request.job left) → IsAnswered done
     → IsBeside request eb em → IfOk r (λ status. IsPrinted out_after has done.answer status × (done.lost ≡ lost_none)) → IsToldUnless request.is_quiet (bytes_of_line done.note) em ea
-    → IfOk r (IsDone holds input request (streams_of out_before has eb ea))
-answered (Ok status) holds input request told left done out_before out_after has eb em ea first is note beside then said = (
+    → IfOk r (IsDone named keeps input request (streams_of out_before has eb ea))
+answered (Ok status) named keeps input request told left done out_before out_after has eb em ea first apart is kept note beside then said = (
   record { told = told; end = done.answer; left = left },
-  inl is,
+  inl (apart, is),
+  kept then.1,
   record { text = Appends-trans out_before out_after has told done.answer.text first then.0.text; status = then.0.status },
   noted request done.answer (bytes_of_line done.note) eb em ea note beside said,
 )
-answered (Err e) holds input request told left done out_before out_after has eb em ea first is note beside then said = tt
+answered (Err e) named keeps input request told left done out_before out_after has eb em ea first apart is kept note beside then said = tt
 
 -- and why there is none
-pub not_answered : {E : Type 0} (r : Result ℕ E) (holds : List ℕ → List ℕ → Type 0) (input : Option (List ℕ)) (request : Request) (told : List ℕ) (why : Unanswered) (line : Option (String Global)) (out_before out_after has eb em ea : Option (List ℕ))
-    → Appends out_before out_after told → IsToldUnanswered request.job told → IsNoteOn (unanswered why) (bytes_of_line line)
+pub not_answered : {E : Type 0} (r : Result ℕ E) (named : Named) (keeps : Job → Option Account → Type 0) (input : Option (List ℕ)) (request : Request) (told : List ℕ) (why : Unanswered) (line : Option (String Global)) (out_before out_after has eb em ea : Option (List ℕ))
+    → Appends out_before out_after told → IsToldUnanswered request.job told → keeps request.job None → IsNoteOn (unanswered why) (bytes_of_line line)
     → IsBeside request eb em → IfOk r (IsPrinted out_after has (unanswered why)) → IsToldUnless request.is_quiet (bytes_of_line line) em ea
-    → IfOk r (IsDone holds input request (streams_of out_before has eb ea))
-not_answered (Ok status) holds input request told why line out_before out_after has eb em ea first none note beside then said = (
+    → IfOk r (IsDone named keeps input request (streams_of out_before has eb ea))
+not_answered (Ok status) named keeps input request told why line out_before out_after has eb em ea first none kept note beside then said = (
   record { told = told; end = unanswered why; left = None },
   inr (none, (why, refl)),
+  kept,
   record { text = Appends-trans out_before out_after has told (unanswered why).text first then.text; status = then.status },
   noted request (unanswered why) (bytes_of_line line) eb em ea note beside said,
 )
-not_answered (Err e) holds input request told why line out_before out_after has eb em ea first none note beside then said = tt
+not_answered (Err e) named keeps input request told why line out_before out_after has eb em ea first none kept note beside then said = tt
 
 -- what the program ends with, where what is printed has this as its status, or can't be written
 pub ended : {E : Type 0} (r : Result ℕ E) (exit : ℕ) (P : Option (List ℕ) → ℕ → Type 0) (before after : Option (List ℕ))
@@ -99,18 +102,18 @@ ended (Ok status) exit P before after is done unwritten = inr (subst (λ (e : Op
 ended (Err e) exit P before after is done unwritten = inl unwritten
 
 -- the end for a request, and for arguments that are at fault
-pub asked : {E : Type 0} (r : Result ℕ E) (holds : List ℕ → List ℕ → Type 0) (arguments : List (List ℕ)) (input : Option (List ℕ)) (request : Request) (streams : Streams) → AskFor arguments request → IfOk r (IsDone holds input request streams) → IfOk r (IsEndForArguments holds arguments input streams)
-asked (Ok status) holds arguments input request streams ask is = (Ok request, ask, tt, is)
-asked (Err e) holds arguments input request streams ask is = tt
+pub asked : {E : Type 0} (r : Result ℕ E) (named : Named) (keeps : Job → Option Account → Type 0) (none : Type 0) (arguments : List (List ℕ)) (input : Option (List ℕ)) (request : Request) (streams : Streams) → AskFor arguments request → IfOk r (IsDone named keeps input request streams) → IfOk r (IsEndForArguments named keeps none arguments input streams)
+asked (Ok status) named keeps none arguments input request streams ask is = (Ok request, ask, tt, is)
+asked (Err e) named keeps none arguments input request streams ask is = tt
 
-pub faulty : {E : Type 0} (r : Result ℕ E) (holds : List ℕ → List ℕ → Type 0) (arguments : List (List ℕ)) (input : Option (List ℕ)) (fault : ArgumentsFault) (streams : Streams) → IsFaultIn arguments fault → IfOk r (IsEndFor holds input (Err fault) streams) → IfOk r (IsEndForArguments holds arguments input streams)
-faulty (Ok status) holds arguments input fault streams wrong is = (Err fault, tt, wrong, is)
-faulty (Err e) holds arguments input fault streams wrong is = tt
+pub faulty : {E : Type 0} (r : Result ℕ E) (named : Named) (keeps : Job → Option Account → Type 0) (none : Type 0) (arguments : List (List ℕ)) (input : Option (List ℕ)) (fault : ArgumentsFault) (streams : Streams) → IsFaultIn arguments fault → none → IfOk r (IsFaultEnd fault streams) → IfOk r (IsEndForArguments named keeps none arguments input streams)
+faulty (Ok status) named keeps none arguments input fault streams wrong opened is = (Err fault, tt, wrong, (opened, is))
+faulty (Err e) named keeps none arguments input fault streams wrong opened is = tt
 
 -- want of memory for the arguments
-pub without_arguments : {E : Type 0} (r : Result ℕ E) (holds : List ℕ → List ℕ → Type 0) (input out_before has err : Option (List ℕ)) → IfOk r (IsPrinted out_before has (unanswered NoMemory)) → IfOk r (IsEndFor holds input (Err arguments_fault.NoMemory) (streams_of out_before has err err))
-without_arguments (Ok status) holds input out_before has err is = (is, Appends-nil err)
-without_arguments (Err e) holds input out_before has err is = tt
+pub without_arguments : {E : Type 0} (r : Result ℕ E) (out_before has err : Option (List ℕ)) → IfOk r (IsPrinted out_before has (unanswered NoMemory)) → IfOk r (IsFaultEnd arguments_fault.NoMemory (streams_of out_before has err err))
+without_arguments (Ok status) out_before has err is = (is, Appends-nil err)
+without_arguments (Err e) out_before has err is = tt
 
 -- as much of a line as could be written
 pub begun : {T E : Type 0} (r : Result T E) (before after : Option (List ℕ)) (line : List ℕ) → OnOk r (Appends before after line) → OnErr r (IsCutShort before after line) → IsToldInPart before after line

@@ -3,19 +3,24 @@ use Rattle.std.specs.Prelude.{◌≡◌, ◌≢◌, ◌⊎◌, ◌++◌, ℕ, Li
 use Rattle.std.specs.Io.KnownBytes.{Appends}
 use Rattle.plan_answers.specs.Refusals.{Printed}
 use Rattle.plan_answers.specs.declared.limits.TheConstants.{DONE}
+use Rattle.batch_book.specs.History.{Account}
+use Rattle.command_words.specs.declared.jobs.Job.{Job}
 use Rattle.command_words.specs.declared.jobs.Request.{Request}
 use Rattle.command_words.specs.declared.jobs.ArgumentsFault.{ArgumentsFault}
 use Rattle.command_words.specs.declared.jobs.ArgumentsFault.TheVariants as arguments_fault
 use Rattle.command_words.specs.Jobs.{AskFor, AsksForHelp, IsFaultIn}
 use Rattle.exchange.specs.declared.limits.TheConstants.{MISUSED}
 use Rattle.exchange.specs.declared.unanswered.Unanswered.TheVariants.{NoMemory}
-use Rattle.exchange.specs.Contents.{Holding}
-use Rattle.exchange.specs.Responses.{IsResponseTo, Response, unanswered}
+use Rattle.exchange.specs.Responses.{IsResponseTo, Named, Response, unanswered}
 use Rattle.exchange.specs.Notes.{IsNoted, IsToldInPart}
 use Rattle.exchange.specs.Outputs.{IsLostTold, lost_none}
 use Rattle.exchange.specs.declared.notes.Answered.{Answered}
 use Rattle.exchange.specs.declared.unwritten.Unwritten.{Unwritten}
 use Rattle.exchange.specs.declared.unwritten.Unwritten.TheVariants.{Answer, Setting, Kept}
+
+-- so is what is left of the files that a job's sessions write, where they leave this book
+abbrev pub Keeping : Type 1
+Keeping = Job → Option Account → Type 0
 
 -- this was printed behind what stood there, and ends with its status
 pub record IsPrinted (before after : Option (List ℕ)) (printed : Printed) (code : ℕ) : Type 0 where
@@ -59,10 +64,12 @@ abbrev pub printed_of : Response → Printed
 printed_of response =
     record { text = response.told ++ response.end.text; status = response.end.status }
 
--- the response to what is asked for was printed, with a line beside it where there is one to tell
-abbrev pub IsDone : Holding → Option (List ℕ) → Request → Streams → ℕ → Type 0
-IsDone holds input request streams code =
-    (response : Response) × IsResponseTo holds input request.job response
+-- The response to what is asked for was printed, with a line beside it where there is one to tell,
+-- and what sessions leave was kept.
+abbrev pub IsDone : Named → Keeping → Option (List ℕ) → Request → Streams → ℕ → Type 0
+IsDone named keeps input request streams code =
+    (response : Response) × IsResponseTo named input request.job response
+    × keeps request.job response.left
     × IsPrinted streams.out_before streams.out_after (printed_of response) code
     × IsNoted request response.end streams.err_before streams.err_after
 
@@ -70,22 +77,28 @@ IsDone holds input request streams code =
 abbrev pub IsSilent : Streams → Type 0
 IsSilent streams = Appends streams.err_before streams.err_after []
 
--- how the program ends where standard input had these bytes and the arguments ask for this, or are
--- at fault: what it prints behind what stood there, and its status
-abbrev pub IsEndFor : Holding → Option (List ℕ) → Result Request ArgumentsFault → Streams → ℕ
-    → Type 0
-IsEndFor holds input (Ok request) streams code = IsDone holds input request streams code
-IsEndFor holds input (Err arguments_fault.NoMemory) streams code =
+-- how the program ends where its arguments are at fault, or ask for help
+abbrev pub IsFaultEnd : ArgumentsFault → Streams → ℕ → Type 0
+IsFaultEnd arguments_fault.NoMemory streams code =
     IsPrinted streams.out_before streams.out_after (unanswered NoMemory) code × IsSilent streams
-IsEndFor holds input (Err (arguments_fault.Clap error)) streams code =
+IsFaultEnd (arguments_fault.Clap error) streams code =
     (AsksForHelp error → (code ≡ DONE) × IsSilent streams)
     × ((AsksForHelp error → ⊥) → (code ≡ MISUSED) × (streams.out_after ≡ streams.out_before))
 
+-- how the program ends where standard input had these bytes and the arguments ask for this, or are
+-- at fault: what it prints behind what stood there, what it leaves, and its status
+abbrev pub IsEndFor : Named → Keeping → Type 0 → Option (List ℕ) → Result Request ArgumentsFault
+    → Streams → ℕ → Type 0
+IsEndFor named keeps none input (Ok request) streams code =
+    IsDone named keeps input request streams code
+IsEndFor named keeps none input (Err fault) streams code = none × IsFaultEnd fault streams code
+
 -- how it ends for these arguments
-abbrev pub IsEndForArguments : Holding → List (List ℕ) → Option (List ℕ) → Streams → ℕ → Type 0
-IsEndForArguments holds arguments input streams code =
+abbrev pub IsEndForArguments : Named → Keeping → Type 0 → List (List ℕ) → Option (List ℕ)
+    → Streams → ℕ → Type 0
+IsEndForArguments named keeps none arguments input streams code =
     (request : Result Request ArgumentsFault) × IfOk request (AskFor arguments)
-    × IfErr request (IsFaultIn arguments) × IsEndFor holds input request streams code
+    × IfErr request (IsFaultIn arguments) × IsEndFor named keeps none input request streams code
 
 -- how it ends where the arguments can't be had as texts
 abbrev pub IsEndWithoutArguments : Option (List ℕ) → Option (List ℕ) → ℕ → Type 0

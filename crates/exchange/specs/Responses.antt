@@ -19,12 +19,13 @@ use Rattle.session_answers.specs.Serving.{IsServeAnswer}
 use Rattle.session_answers.specs.Talking.{IsTalkAnswer}
 use Rattle.replay_answers.specs.Replays.{IsReplayPrinted}
 use Rattle.plan_answers.specs.declared.limits.TheConstants.{DONE, REFUSED}
-use Rattle.command_words.specs.Jobs.{Files, files_of}
+use Rattle.command_words.specs.Jobs.{Files, file_uses, files_of}
 use Rattle.command_words.specs.declared.jobs.Job.{Job}
 use Rattle.command_words.specs.declared.jobs.Job.TheVariants.{Plan, Check, Draw, Switch, Drive, C004, Direct, Apply, Run, Serve, Host, Talk, Replay}
 use Rattle.refusals.specs.declared.refusal.Refusal.{Refusal}
 use Rattle.refusals.specs.declared.refusal.Refusal.TheVariants as refusal
 use Rattle.refusals.specs.Refusals.{refusal_line}
+use Rattle.exchange.specs.Apart.{AreSeenApart, Leading}
 use Rattle.exchange.specs.Contents.{AreContents, Holding}
 use Rattle.exchange.specs.Drives.{IsDriveBy}
 use Rattle.exchange.specs.Ports.{unopened_ways}
@@ -147,9 +148,18 @@ abbrev pub IsToldUnanswered : Job → List ℕ → Type 0
 IsToldUnanswered (Talk rack) told = ⊤
 IsToldUnanswered job told = told ≡ []
 
--- the answer to a job, or why there is none, behind what was told before
-abbrev pub IsResponseTo : Holding → Option (List ℕ) → Job → Response → Type 0
-IsResponseTo holds input job response =
-    IsJobAnswer holds input job response
+-- what a system has by name: what its files hold, and where names lead
+pub record Named : Type 1 where
+  pub holds : Holding
+  pub leads : Leading
+
+abbrev pub named_by : Holding → Leading → Named
+named_by holds leads = record { holds = holds; leads = leads }
+
+-- The answer to a job, and then what it writes was seen to be apart from what it reads; or why
+-- there is none, behind what was told before.
+abbrev pub IsResponseTo : Named → Option (List ℕ) → Job → Response → Type 0
+IsResponseTo named input job response =
+    (AreSeenApart named.leads (file_uses job) × IsJobAnswer named.holds input job response)
     ⊎ (IsToldUnanswered job response.told
     × ((why : Unanswered) × (response.end ≡ unanswered why)))

@@ -1,27 +1,28 @@
 //! The answer to each job.
 
-ghost use Rattle.std.specs.Prelude.{◌≡◌, [], List, ℕ, IfErr, IfOk, Option, None, length, ⊤};
+ghost use Rattle.std.specs.Prelude.{◌≡◌, [], List, ℕ, IfErr, IfOk, IsOk, OnErr, OnOk, Option, None, length, ⊤};
 ghost use Rattle.std.specs.Io.KnownBytes.{Appends};
 ghost use Rattle.batch_book.specs.History.{Account};
 ghost use Rattle.client_session.specs.Listening.{TellsOfRefusals};
 ghost use Rattle.plan_answers.specs.Lent.{bytes_of};
-ghost use Rattle.command_words.specs.Jobs.{CanBeServed, IsWithinLimits, files_of};
+ghost use Rattle.command_words.specs.Jobs.{CanBeServed, IsWithinLimits, file_uses, files_of};
 ghost use Rattle.session_answers.specs.HostAnswers.{SessionEnd, IsHostAnswer};
 ghost use Rattle.session_answers.specs.Serving.{IsServeAnswer};
 ghost use Rattle.session_answers.specs.Talking.{IsTalkAnswer};
+ghost use Rattle.exchange.specs.Apart.{AreSeenApart};
 ghost use Rattle.exchange.specs.Contents.{contents_in};
 ghost use Rattle.exchange.specs.Responses.{IsJobAnswer, IsAnswerTo, IsC004By, IsOfTexts, IsToldUnanswered, clients_named};
 ghost use Rattle.exchange.specs.Notes.{IsBeside};
+ghost use Rattle.exchange.specs.Outputs.{AreKept, AreOutputsWritten, lost_none};
 ghost use Rattle.exchange.specs.Outcomes.{HasNote, HasTold, IsNoAnswer, IsNothing, response_of};
 
-use crate::apart::look_apart;
 use crate::beside::Beside;
 use crate::client_streams::{ClientFiles, FileStreams, Runtime};
 use crate::contents::{Contents, read_contents, slice_of, source_with, text_of};
 use crate::driving::drive;
 use crate::found::Found;
 use crate::notes::{Answered, NoAnswer, finished, reason_line, tell_note};
-use crate::outputs::open_outputs;
+use crate::outputs::{Outputs, Receipts, close_outputs, open_apart};
 use crate::ports::NamedPorts;
 use crate::system::System;
 use crate::unwritten::Unwritten;
@@ -39,6 +40,12 @@ use std::sync::Wait;
 use std::thread::Threads;
 use switch_end::{EndFault, SwitchEnd, answer_commands};
 
+/// How a job ended, and what is left of what was opened for it to be written.
+pub(crate) struct Ended<C> {
+    pub(crate) end: Result<Answered, NoAnswer>,
+    pub(crate) receipts: Receipts<C>,
+}
+
 /// The answer to a job, or why it has none, with what is told beside it. A session of `talk` is
 /// told its replies on `out` before, and a line on `err` beside each that is a refusal, but for
 /// lack of memory. `drive` tells its settings on `out` before, and `c004` writes its answers to
@@ -52,22 +59,59 @@ pub(crate) fn answer_to<R: Runtime, S: System, I: Read, O: Write, E: Write>(
     input: &mut I,
     out: &mut O,
     err: &mut E,
-) -> Result<Answered, NoAnswer>
+) -> Ended<S::Receipt>
     requires limits { IsWithinLimits request.now.job }
     ensures response { HasTold (O.contents out.old) (O.contents out.new)
         (λ told done. (left : Option Account) × IsJobAnswer (S.holds system.now)
         (I.remaining input.old) request.now.job
-        (record { told = told; end = done.answer; left = left }))
+        (record { told = told; end = done.answer; left = left })
+        × (done.lost ≡ lost_none → AreKept (S.begins system.now) S.received request.now.job left
+        result.receipts))
+        (IsToldUnanswered request.now.job) result.end }
+    ensures note { HasNote result.end }
+    ensures beside { IsBeside request.now (E.contents err.old) (E.contents err.new) }
+    ensures apart { OnOk result.end
+        (AreSeenApart (S.leads system.now) (file_uses request.now.job)) }
+    ensures unkept { OnErr result.end
+        (AreKept (S.begins system.now) S.received request.now.job None result.receipts) }
+{
+    let (mut outputs, opened) = open_apart(system, rt.alloc(), &request.job);
+    let end = answer_opened(rt, system, request, opened, &mut outputs, input, out, err);
+    Ended {
+        end,
+        receipts: close_outputs(system, outputs),
+    }
+}
+
+/// The same, with the files that could be opened to be written, or why they aren't open.
+fn answer_opened<R: Runtime, S: System, I: Read, O: Write, E: Write>(
+    rt: &R,
+    system: &S,
+    request: &Request,
+    opened: Result<(), NoAnswer>,
+    outputs: &mut Outputs<'_, S::Stream>,
+    input: &mut I,
+    out: &mut O,
+    err: &mut E,
+) -> Result<Answered, NoAnswer>
+    requires limits { IsWithinLimits request.now.job }
+    requires note { IfErr opened (λ missed. IsNoAnswer missed) }
+    ensures response { HasTold (O.contents out.old) (O.contents out.new)
+        (λ told done. (left : Option Account) × IsJobAnswer (S.holds system.now)
+        (I.remaining input.old) request.now.job
+        (record { told = told; end = done.answer; left = left })
+        × AreOutputsWritten S.Stream.contents left outputs.old outputs.new done.lost)
         (IsToldUnanswered request.now.job) result }
     ensures note { HasNote result }
     ensures beside { IsBeside request.now (E.contents err.old) (E.contents err.new) }
+    ensures unkept { OnErr result (outputs.new ≡ outputs.old) }
+    ensures opened { OnOk result (IsOk opened) }
 {
+    opened?;
     let job = &request.job;
-    look_apart(system, rt.alloc(), job)?;
-    let mut outputs = open_outputs(rt, job)?;
     let contents = read_contents(system, rt.alloc(), job.files(), input)?;
     let found = answer_job(rt, request, &contents, input, out, err)?;
-    Ok(finished(rt.alloc(), found, job, &contents, &mut outputs))
+    Ok(finished(system, rt.alloc(), found, job, &contents, outputs))
 }
 
 /// The answer to a job whose files contain this.

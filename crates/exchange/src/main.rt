@@ -19,6 +19,7 @@ mod client_streams;
 mod contents;
 mod driving;
 mod found;
+mod host_system;
 mod jobs;
 mod limits;
 mod lost;
@@ -32,7 +33,7 @@ mod unanswered;
 mod unwritten;
 
 use crate::limits::UNWRITTEN;
-use crate::responding::respond;
+use crate::responding::{Left, respond};
 use crate::unwritten::Unwritten;
 use std::fs::{File, OpenOptions};
 use std::os::fd::{AsRawFd, IntoRawFd};
@@ -46,14 +47,15 @@ fn main(rt: HostRuntime) -> ExitCode {
         return ExitCode::from(UNWRITTEN);
     }
     let arguments = command_line(&rt);
-    respond(
+    let Left { code, receipts: _ } = respond(
         &rt,
         &rt,
         arguments,
         &mut rt.reader(),
         &mut io::writer(&rt),
         &mut rt.stderr(),
-    )
+    );
+    code
 }
 
 /// The arguments of the command line, the first of which is the program's name.

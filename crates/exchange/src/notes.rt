@@ -9,6 +9,7 @@ use crate::contents::Contents;
 use crate::found::Found;
 use crate::lost::Lost;
 use crate::outputs::{Outputs, keep};
+use crate::system::System;
 use crate::texts::{port_of, texts_of};
 use crate::unanswered::Unanswered;
 use crate::unwritten::Unwritten;
@@ -19,7 +20,6 @@ use plan_answers::Answer;
 use refusal_notes::{Texts, file_line, second_line};
 use refusals::Refusal;
 use std::alloc::{AllocError, Global};
-use std::fs::OpenFile;
 use std::io;
 use std::io::{ErrorKind, Write};
 
@@ -74,16 +74,17 @@ impl From<DriveFault> for NoAnswer {
 
 /// The answer to a job whose files contain this, with what is told beside it where it is a refusal.
 /// The record of sessions, and the image of the rack that they leave, go to the files for them.
-pub(crate) fn finished<F: Write + OpenFile>(
+pub(crate) fn finished<S: System>(
+    system: &S,
     alloc: Global,
     found: Found,
     job: &Job,
     contents: &Contents,
-    outputs: &mut Outputs<'_, F>,
+    outputs: &mut Outputs<'_, S::Stream>,
 ) -> Answered
     ensures answer { result.answer ≡ found.answer }
     ensures note { IsNoteOn result.answer (option_map (λ line. string_bytes line) result.note) }
-    ensures kept { AreOutputsWritten F.contents found.book outputs.old outputs.new result.lost }
+    ensures kept { AreOutputsWritten S.Stream.contents found.book outputs.old outputs.new result.lost }
 {
     let Found {
         answer,
@@ -93,7 +94,7 @@ pub(crate) fn finished<F: Write + OpenFile>(
     } = found;
     let texts = texts_of(job, contents, &answer, &error);
     let note = note_on(alloc, &answer, texts, job, &unopened);
-    let lost = keep(alloc, &book, outputs);
+    let lost = keep(system, alloc, &book, outputs);
     Answered { answer, note, lost }
 }
 

@@ -4,16 +4,17 @@
 ghost use Rattle.std.specs.Prelude.{◌≡◌, ◌⊎◌, IfErr, IfOk, OnErr, option_map, string_bytes};
 ghost use Rattle.std.specs.Process.{exit_status};
 ghost use Rattle.command_words.specs.Jobs.{texts_of};
-ghost use Rattle.exchange.specs.Responses.{unanswered};
+ghost use Rattle.exchange.specs.Responses.{named_by, unanswered};
 ghost use Rattle.exchange.specs.Notes.{IsToldUnless};
-ghost use Rattle.exchange.specs.Outputs.{lost_none};
-ghost use Rattle.exchange.specs.Ends.{IsPrinted, streams_of, IsEndForArguments, IsEndWithoutArguments};
+ghost use Rattle.exchange.specs.Outputs.{AreKept, lost_none, none_opened};
+ghost use Rattle.exchange.specs.Ends.{IsPrinted, streams_of, IsEndForArguments, IsEndWithoutArguments, IsFaultEnd};
 ghost use Rattle.exchange.specs.Ends.{IsUnwrittenOf, IsUnwrittenTold};
 
 use crate::client_streams::Runtime;
-use crate::jobs::answer_to;
+use crate::jobs::{Ended, answer_to};
 use crate::limits::{MISUSED, UNWRITTEN};
 use crate::notes::{Answered, NoAnswer, tell_note};
+use crate::outputs::Receipts;
 use crate::system::System;
 use crate::unanswered::Unanswered;
 use crate::unwritten::Unwritten;
@@ -24,6 +25,14 @@ use std::alloc::{AllocError, Global};
 use std::io;
 use std::io::{ErrorKind, Read, Write};
 use std::process::ExitCode;
+
+/// How the program ends, and what is left of what it opened to be written.
+pub struct Left<C> {
+    /// The status that it ends with.
+    pub code: ExitCode,
+    /// What is left of the files of a record and of an image.
+    pub receipts: Receipts<C>,
+}
 
 /// Does what the arguments ask for, prints what there is to say of it, and gives the status that
 /// the program ends with: [`UNWRITTEN`] where that can't be printed.
@@ -37,20 +46,30 @@ pub fn respond<R: Runtime, S: System, I: Read, O: Write, E: Write>(
     input: &mut I,
     out: &mut O,
     err: &mut E,
-) -> ExitCode
-    ensures arguments { IfOk arguments (λ w. (exit_status result ≡ UNWRITTEN)
-        ⊎ IsEndForArguments (S.holds system.now) (texts_of w.items) (I.remaining input.old)
+) -> Left<S::Receipt>
+    ensures arguments { IfOk arguments (λ w. (exit_status result.code ≡ UNWRITTEN)
+        ⊎ IsEndForArguments (named_by (S.holds system.now) (S.leads system.now))
+        (λ job left. AreKept (S.begins system.now) S.received job left result.receipts)
+        (result.receipts ≡ none_opened)
+        (texts_of w.items) (I.remaining input.old)
         (streams_of (O.contents out.old)
-        (O.contents out.new) (E.contents err.old) (E.contents err.new)) (exit_status result)) }
-    ensures none { OnErr arguments ((exit_status result ≡ UNWRITTEN)
-        ⊎ IsEndWithoutArguments (O.contents out.old) (O.contents out.new) (exit_status result)) }
+        (O.contents out.new) (E.contents err.old) (E.contents err.new))
+        (exit_status result.code)) }
+    ensures none { OnErr arguments ((exit_status result.code ≡ UNWRITTEN)
+        ⊎ IsEndWithoutArguments (O.contents out.old) (O.contents out.new)
+        (exit_status result.code)) }
 {
     match arguments {
-        Ok(arguments) => status_of(
-            print_response(rt, system, arguments.as_slice(), input, out, err),
-            err,
-        ),
-        Err(error) => status_of(print_without_arguments(&error, out, err), err),
+        Ok(arguments) => {
+            let (end, receipts) = print_response(rt, system, arguments.as_slice(), input, out, err);
+            let code = status_of(end, err);
+            Left { code, receipts }
+        }
+        Err(error) => {
+            let code = status_of(print_without_arguments(&error, out, err), err);
+            let receipts = Receipts::none();
+            Left { code, receipts }
+        }
     }
 }
 
@@ -95,29 +114,49 @@ fn print_response<R: Runtime, S: System, I: Read, O: Write, E: Write>(
     input: &mut I,
     out: &mut O,
     err: &mut E,
-) -> Result<u8, Unwritten>
-    ensures { IfOk result (IsEndForArguments (S.holds system.now) (texts_of arguments.now) (I.remaining input.old)
+) -> (Result<u8, Unwritten>, Receipts<S::Receipt>)
+    ensures { IfOk result.0 (IsEndForArguments (named_by (S.holds system.now) (S.leads system.now))
+        (λ job left. AreKept (S.begins system.now) S.received job left result.1)
+        (result.1 ≡ none_opened)
+        (texts_of arguments.now) (I.remaining input.old)
         (streams_of (O.contents out.old) (O.contents out.new) (E.contents err.old)
         (E.contents err.new))) }
 {
     match read_arguments(rt.alloc(), arguments) {
         Ok(request) => {
+            let Ended { end, receipts } = answer_to(rt, system, &request, input, out, err);
             let is_quiet = request.is_quiet;
-            match answer_to(rt, system, &request, input, out, err) {
-                Ok(done) => print_noted(done, is_quiet, out, err),
-                Err(NoAnswer::Refused { why, note }) => refuse_noted(
-                    why, &note, is_quiet, out, err,
-                ),
-                Err(NoAnswer::Unwritten(unwritten)) => Err(unwritten),
+            match end {
+                Ok(done) => (print_noted(done, is_quiet, out, err), receipts),
+                Err(NoAnswer::Refused { why, note }) => {
+                    (refuse_noted(why, &note, is_quiet, out, err), receipts)
+                }
+                Err(NoAnswer::Unwritten(unwritten)) => (Err(unwritten), receipts),
             }
         }
-        Err(ArgumentsFault::NoMemory) => refuse(Unanswered::NoMemory, out),
-        Err(ArgumentsFault::Clap(error)) if error.use_stderr() => {
+        Err(fault) => (print_fault(rt.alloc(), arguments, fault, out, err), Receipts::none()),
+    }
+}
+
+/// Prints what is at fault in the arguments, or the help that they ask for.
+fn print_fault<O: Write, E: Write>(
+    alloc: Global,
+    arguments: &[String],
+    fault: ArgumentsFault,
+    out: &mut O,
+    err: &mut E,
+) -> Result<u8, Unwritten>
+    ensures { IfOk result (IsFaultEnd fault (streams_of (O.contents out.old) (O.contents out.new)
+        (E.contents err.old) (E.contents err.new))) }
+{
+    match fault {
+        ArgumentsFault::NoMemory => refuse(Unanswered::NoMemory, out),
+        ArgumentsFault::Clap(error) if error.use_stderr() => {
             write!(err, "{error}")?;
             Ok(MISUSED)
         }
-        Err(ArgumentsFault::Clap(help)) => {
-            write_help(rt.alloc(), arguments, &help, out)?;
+        ArgumentsFault::Clap(help) => {
+            write_help(alloc, arguments, &help, out)?;
             Ok(DONE)
         }
     }

@@ -9,25 +9,18 @@ use Rattle.exchange.proofs.responding.print_response.Goals as goal
 pub returns-in-Ok-answer_to : goal.returns-in-Ok-answer_to
 returns-in-Ok-answer_to g c =
     let t = c.in-Ok-answer_to.ensures.response in
-    asked c.print_noted.result _ _ _ c.in-Ok.request _ c.in-Ok.ensures.request
-    (answered c.print_noted.result _ _ c.in-Ok.request t.0 t.2.0 c.in-Ok-answer_to.done _ _ _ _ _ _ t.1 t.2.1 c.in-Ok-answer_to.ensures.note c.in-Ok-answer_to.ensures.beside c.print_noted.ensures.printed c.print_noted.ensures.told)
+    asked c.print_noted.result _ _ _ _ _ c.in-Ok.request _ c.in-Ok.ensures.request
+    (answered c.print_noted.result _ _ _ c.in-Ok.request t.0 t.2.0 c.in-Ok-answer_to.done _ _ _ _ _ _ t.1 c.in-Ok-answer_to.ensures.apart t.2.1 t.2.2 c.in-Ok-answer_to.ensures.note c.in-Ok-answer_to.ensures.beside c.print_noted.ensures.printed c.print_noted.ensures.told)
 
 pub returns-in-Err-Refused : goal.returns-in-Err-Refused
 returns-in-Err-Refused g c =
     let t = c.in-Err-Refused.ensures.response in
     let note : IsNoAnswer (Refused c.in-Err-Refused.why c.in-Err-Refused.note) = rw c.in-Err-Refused.field-0-is at c.in-Err-Refused.ensures.note in
     let none : IsToldUnanswered c.in-Ok.request.job t.0 = rw c.in-Err-Refused.field-0-is at t.3 in
-    asked c.refuse_noted.result _ _ _ c.in-Ok.request _ c.in-Ok.ensures.request
-    (not_answered c.refuse_noted.result _ _ c.in-Ok.request t.0 c.in-Err-Refused.why c.in-Err-Refused.note _ _ _ _ _ _ t.1 none note c.in-Err-Refused.ensures.beside c.refuse_noted.ensures.printed c.refuse_noted.ensures.told)
+    let unkept = rw c.in-Err-Refused.field-0-is at c.in-Err-Refused.ensures.unkept in
+    asked c.refuse_noted.result _ _ _ _ _ c.in-Ok.request _ c.in-Ok.ensures.request
+    (not_answered c.refuse_noted.result _ _ _ c.in-Ok.request t.0 c.in-Err-Refused.why c.in-Err-Refused.note _ _ _ _ _ _ t.1 none unkept note c.in-Err-Refused.ensures.beside c.refuse_noted.ensures.printed c.refuse_noted.ensures.told)
 
-pub returns-in-Err-NoMemory : goal.returns-in-Err-NoMemory
-returns-in-Err-NoMemory g c = faulty c.refuse.result _ _ _ arguments_fault.NoMemory _ tt (without_arguments c.refuse.result (g.S.System.holds c.args.system.now) (g.I.Read.remaining c.args.input.now) (g.O.Write.contents c.args.out.now) (g.O.Write.contents c.refuse.new.out) (g.E.Write.contents c.args.err.now) c.refuse.ensures)
-
-pub returns-in-Err-Clap : goal.returns-in-Err-Clap
-returns-in-Err-Clap g c =
-    let fault = c.use_stderr.ensures.0 c.if-use_stderr.true in (
-      Err (arguments_fault.Clap c.in-Err-Clap.error),
-      tt,
-      rw (c.in-Err-Clap.is, c.in-Err-Clap.field-0-is) at c.read_arguments.ensures.fault,
-      ((λ help. elim help [ inl is ↦ absurd (fault.0 is) | inr is ↦ absurd (fault.1 is) ]), (λ other. (refl, refl))),
-    )
+pub returns-in-Err : goal.returns-in-Err
+returns-in-Err g c =
+    faulty c.print_fault.result _ _ _ _ _ c.in-Err.fault _ (rw c.in-Err.is at c.read_arguments.ensures.fault) c.none.ensures c.print_fault.ensures

@@ -6,7 +6,7 @@ use Rattle.exchange.proofs.responding.respond.Goals as goal
 
 pub returns-in-Ok-clause-arguments : goal.returns-in-Ok-clause-arguments
 returns-in-Ok-clause-arguments g c =
-    rw c.in-Ok.is (ended c.print_response.result _ (λ (e : Option (List ℕ)) (code : ℕ). IsEndForArguments (g.S.System.holds c.args.system.now) (texts_of c.in-Ok.arguments.items) (g.I.Read.remaining c.args.input.now) (streams_of (g.O.Write.contents c.args.out.now) (g.O.Write.contents c.print_response.new.out) (g.E.Write.contents c.args.err.now) e) code) _ _
+    rw c.in-Ok.is (ended c.print_response.result _ (λ (e : Option (List ℕ)) (code : ℕ). IsEndForArguments (named_by (g.S.System.holds c.args.system.now) (g.S.Places.leads c.args.system.now)) _ _ (texts_of c.in-Ok.arguments.items) (g.I.Read.remaining c.args.input.now) (streams_of (g.O.Write.contents c.args.out.now) (g.O.Write.contents c.print_response.new.out) (g.E.Write.contents c.args.err.now) e) code) _ _
     (rw c.as_slice.ensures.value at c.print_response.ensures) c.status_of.ensures.done c.status_of.ensures.unwritten)
 
 pub returns-in-Err-clause-none : goal.returns-in-Err-clause-none

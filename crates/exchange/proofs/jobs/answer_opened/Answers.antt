@@ -1,0 +1,35 @@
+use Rattle.std.proofs.Common.{List, ℕ, rules, subst, sym}
+use Rattle.plan_answers.specs.Refusals.{Printed}
+use Rattle.command_words.specs.Jobs.{Files}
+use Rattle.exchange.specs.Contents.{AreContents, contents_in}
+use Rattle.exchange.specs.Responses.{IsAnswerTo}
+use Rattle.exchange.proofs.Reading.{as_many}
+use Rattle.exchange.proofs.Told.{none_told, told_nothing}
+use Rattle.exchange.proofs.jobs.answer_opened.Goals as goal
+
+pub answer_job-requires-clause-scripts : goal.answer_job-requires-clause-scripts
+answer_job-requires-clause-scripts g c = λ lifetimes bounds.
+    let holds = g.S.System.holds c.args.system.now in
+    let old = g.I.Read.remaining c.args.input.now in
+    let rest = g.I.Read.remaining c.read_contents.new.input in
+    let are = subst (λ (names : Files (List ℕ)). AreContents holds old names (contents_in c.in_ok-contents.contents) rest) c.files.ensures c.in_ok-contents.ensures.contents in
+    as_many _ _ _ _ _ are.8
+
+pub returns-in_err-opened-clause-response : goal.returns-in_err-opened-clause-response
+returns-in_err-opened-clause-response g c = told_nothing c.from_residual.result _ _ _ (none_told _) (search rules)
+
+pub returns-in_err-contents-clause-response : goal.returns-in_err-contents-clause-response
+returns-in_err-contents-clause-response g c = told_nothing c.from_residual-in_err-contents.result _ _ _ (none_told _) (search rules)
+
+pub returns-clause-response : goal.returns-clause-response
+returns-clause-response g c =
+    let t = c.in_ok-found.ensures.response in
+    let holds = g.S.System.holds c.args.system.now in
+    let old = g.I.Read.remaining c.args.input.now in
+    let rest = g.I.Read.remaining c.read_contents.new.input in
+    let job = c.args.request.now.job in
+    let files = contents_in c.in_ok-contents.contents in
+    let left = c.in_ok-found.found.book in
+    let are = subst (λ (names : Files (List ℕ)). AreContents holds old names files rest) c.files.ensures c.in_ok-contents.ensures.contents in
+    let is = subst (λ (end : Printed). IsAnswerTo job files rest (record { told = t.0; end = end; left = left })) (sym c.finished.ensures.answer) t.2 in
+    (t.0, t.1, (left, (files, rest, are, is), c.finished.ensures.kept), tt)

@@ -1,0 +1,17 @@
+use Rattle.std.proofs.Common.{inl, inr, refl}
+use Rattle.std.proofs.KnownBytes.{Appends-nil}
+use Rattle.exchange.proofs.Told.{without_arguments}
+use Rattle.exchange.proofs.responding.print_fault.Goals as goal
+
+pub returns-in-NoMemory : goal.returns-in-NoMemory
+returns-in-NoMemory g c =
+    rw c.in-NoMemory.is (without_arguments c.refuse.result (g.O.Write.contents c.args.out.now) (g.O.Write.contents c.refuse.new.out) (g.E.Write.contents c.args.err.now) c.refuse.ensures)
+
+pub returns-in_ok-write-in-Clap : goal.returns-in_ok-write-in-Clap
+returns-in_ok-write-in-Clap g c =
+    let fault = c.use_stderr.ensures.0 c.if-use_stderr.true in
+    rw c.in-Clap.is ((λ help. elim help [ inl is ↦ absurd (fault.0 is) | inr is ↦ absurd (fault.1 is) ]), (λ other. (refl, refl)))
+
+pub returns-in_ok-write_help-in-Clap-2 : goal.returns-in_ok-write_help-in-Clap-2
+returns-in_ok-write_help-in-Clap-2 g c =
+    rw c.in-Clap-2.is ((λ help. (refl, Appends-nil _)), (λ other. absurd (let yes = c.use_stderr.ensures.1 ((λ e. other (inl e)), (λ e. other (inr e))) in let no = c.if-use_stderr.false in cc)))
