@@ -2,16 +2,16 @@
 use Rattle.std.proofs.Common.{◌≡◌, [], ℕ, List, Option, refl}
 use Rattle.batch.specs.declared.transfer.Transfer.{Transfer}
 use Rattle.byte_streams.proofs.Carrying.{appends_none}
-use Rattle.crossbar.specs.declared.traffic.Passing.{Passing}
 use Rattle.plan_answers.specs.Refusals.{Printed}
 use Rattle.plan_answers.specs.declared.source.Source.{Source}
-use Rattle.refusals.specs.declared.refusal.Refusal.{Refusal}
 use Rattle.switch_driver.proofs.Texts.{AsText, driven_lines, untold}
 use Rattle.switch_driver.specs.Lines.{HasToldLine, TellsLine, Dialogue}
+use Rattle.switch_driver.specs.declared.driving.Driven.{Driven}
 use Rattle.switch_driver.specs.declared.driving.Driven.TheVariants.{Untold as UntoldAt}
 use Rattle.switch_driver.specs.declared.lines.Lines.{Lines}
 use Rattle.switch_settings.specs.declared.rack_wiring.RackWiring.{RackWiring}
-use Rattle.drive_answers.specs.Answers.{rack_for, IsTried, driven, unopened, IsDriveAnswer, tried, wrong, HasFailed}
+use Rattle.drive_answers.specs.Answers.{rack_for, IsDrivenOver, IsTried, driven, unopened, IsDriveAnswer, tried, wrong, HasFailed}
+use Rattle.drive_answers.specs.Ways.{Names, Ways}
 use Rattle.drive_answers.specs.declared.fault.DriveFault.{DriveFault}
 use Rattle.drive_answers.specs.declared.fault.DriveFault.TheVariants.{Untold, NoMemory}
 
@@ -20,31 +20,44 @@ none_told : {I O : Type 0} (remaining : I → Option (List ℕ)) (contents : O �
 none_told remaining contents told tells Is same is =
     rw same (record { text = []; appended = appends_none (contents told.out.now); loan = refl; waits = refl; is = is })
 
-told_tried : {I O Q : Type 0} (refuses : Q → ℕ → Refusal → Type 0) (leads : Q → ℕ → Type 0) (remaining : I → Option (List ℕ)) (contents : O → Option (List ℕ)) (rack : RackWiring) (batch : List Transfer) (settings : List (List ℕ)) (asked : Q) (carried : Option (List Passing)) (was opens : ℕ) (told tells : Lines I O) (printed : Printed)
-    → IsTried refuses leads (λ a n ns c b. HasToldLine remaining contents n ns c a b) rack batch settings asked carried was opens told tells printed
-    → AsText remaining contents told tells (λ d. IsTried refuses leads (TellsLine told.waits) rack batch settings asked carried was opens (untold remaining told) d printed)
-told_tried {I} {O} {Q} refuses leads remaining contents rack batch settings asked carried was opens told tells printed (driven how over ending count led) =
-    let lines = driven_lines remaining contents rack batch settings how _ told carried tells over in
-    record { text = lines.text; appended = lines.appended; loan = lines.loan; waits = lines.waits; is = driven how lines.is ending count led }
-told_tried {I} {O} {Q} refuses leads remaining contents rack batch settings asked carried was opens told tells printed (unopened refusal why refused same none) =
+told_over : {I O : Type 0} (remaining : I → Option (List ℕ)) (contents : O → Option (List ℕ)) (rack : RackWiring) (batch : List Transfer) (settings : List (List ℕ)) (how : Driven) (names : Names) (was opens : Ways) (told tells : Lines I O)
+    → IsDrivenOver (λ a n ns c b. HasToldLine remaining contents n ns c a b) rack batch settings how names was opens told tells
+    → AsText remaining contents told tells (λ d. IsDrivenOver (TellsLine told.waits) rack batch settings how names was opens (untold remaining told) d)
+told_over {I} {O} remaining contents rack batch settings how names was opens told tells over =
+    let lines = driven_lines remaining contents rack batch settings how _ told over.carried tells over.went in
+    record {
+      text = lines.text;
+      appended = lines.appended;
+      loan = lines.loan;
+      waits = lines.waits;
+      is = record { carried = over.carried; failed = over.failed; ways = over.ways; went = lines.is; cause = over.cause };
+    }
+
+told_tried : {I O : Type 0} (remaining : I → Option (List ℕ)) (contents : O → Option (List ℕ)) (rack : RackWiring) (batch : List Transfer) (settings : List (List ℕ)) (names : Names) (was opens : Ways) (told tells : Lines I O) (printed : Printed)
+    → IsTried (λ a n ns c b. HasToldLine remaining contents n ns c a b) rack batch settings names was opens told tells printed
+    → AsText remaining contents told tells (λ d. IsTried (TellsLine told.waits) rack batch settings names was opens (untold remaining told) d printed)
+told_tried {I} {O} remaining contents rack batch settings names was opens told tells printed (driven how many over ending) =
+    let so = told_over remaining contents rack batch settings how names was opens told tells over in
+    record { text = so.text; appended = so.appended; loan = so.loan; waits = so.waits; is = driven how many so.is ending }
+told_tried {I} {O} remaining contents rack batch settings names was opens told tells printed (unopened refusal why refused same none) =
     none_told remaining contents told tells _ same (unopened refusal why refused refl none)
 
 -- an answer behind what was told by lines
-pub told_answer : {I O Q : Type 0} (refuses : Q → ℕ → Refusal → Type 0) (leads : Q → ℕ → Type 0) (remaining : I → Option (List ℕ)) (contents : O → Option (List ℕ)) (source : Source (List ℕ)) (batch_text : List ℕ) (wiring : Option (List ℕ)) (asked asks : Q) (carried : Option (List Passing)) (was opens : ℕ) (told tells : Lines I O) (printed : Printed)
-    → IsDriveAnswer refuses leads (λ a n ns c b. HasToldLine remaining contents n ns c a b) source batch_text wiring asked asks carried was opens told tells printed
-    → AsText remaining contents told tells (λ d. IsDriveAnswer refuses leads (TellsLine told.waits) source batch_text wiring asked asks carried was opens (untold remaining told) d printed)
-told_answer {I} {O} {Q} refuses leads remaining contents source batch_text wiring asked asks carried was opens told tells printed (tried board batch settings is_board from is) =
-    let so = told_tried refuses leads remaining contents (rack_for board batch) batch settings asked carried was opens told tells printed is in
+pub told_answer : {I O : Type 0} (remaining : I → Option (List ℕ)) (contents : O → Option (List ℕ)) (source : Source (List ℕ)) (batch_text : List ℕ) (wiring : Option (List ℕ)) (names : Names) (was opens : Ways) (told tells : Lines I O) (printed : Printed)
+    → IsDriveAnswer (λ a n ns c b. HasToldLine remaining contents n ns c a b) source batch_text wiring names was opens told tells printed
+    → AsText remaining contents told tells (λ d. IsDriveAnswer (TellsLine told.waits) source batch_text wiring names was opens (untold remaining told) d printed)
+told_answer {I} {O} remaining contents source batch_text wiring names was opens told tells printed (tried board batch settings is_board from is) =
+    let so = told_tried remaining contents (rack_for board batch) batch settings names was opens told tells printed is in
     record { text = so.text; appended = so.appended; loan = so.loan; waits = so.waits; is = tried board batch settings is_board from so.is }
-told_answer {I} {O} {Q} refuses leads remaining contents source batch_text wiring asked asks carried was opens told tells printed (wrong refusal why refused unasked same none) =
-    none_told remaining contents told tells _ same (wrong refusal why refused unasked refl none)
+told_answer {I} {O} remaining contents source batch_text wiring names was opens told tells printed (wrong refusal why refused same none) =
+    none_told remaining contents told tells _ same (wrong refusal why refused refl none)
 
 -- the same where there is none
-pub told_failure : {I O : Type 0} (remaining : I → Option (List ℕ)) (contents : O → Option (List ℕ)) (source : Source (List ℕ)) (batch_text : List ℕ) (wiring : Option (List ℕ)) (carried : Option (List Passing)) (was opens : ℕ) (told tells : Lines I O) (fault : DriveFault)
-    → HasFailed (λ a n ns c b. HasToldLine remaining contents n ns c a b) source batch_text wiring carried was opens told tells fault
-    → AsText remaining contents told tells (λ d. HasFailed (TellsLine told.waits) source batch_text wiring carried was opens (untold remaining told) d fault)
-told_failure {I} {O} remaining contents source batch_text wiring carried was opens told tells Untold (board, batch, settings, is_board, from, (count, (k, over))) =
-    let lines = driven_lines remaining contents (rack_for board batch) batch settings (UntoldAt k) _ told carried tells over in
-    record { text = lines.text; appended = lines.appended; loan = lines.loan; waits = lines.waits; is = (board, batch, settings, is_board, from, (count, (k, lines.is))) }
-told_failure {I} {O} remaining contents source batch_text wiring carried was opens told tells NoMemory (same, none) =
+pub told_failure : {I O : Type 0} (remaining : I → Option (List ℕ)) (contents : O → Option (List ℕ)) (source : Source (List ℕ)) (batch_text : List ℕ) (wiring : Option (List ℕ)) (names : Names) (was opens : Ways) (told tells : Lines I O) (fault : DriveFault)
+    → HasFailed (λ a n ns c b. HasToldLine remaining contents n ns c a b) source batch_text wiring names was opens told tells fault
+    → AsText remaining contents told tells (λ d. HasFailed (TellsLine told.waits) source batch_text wiring names was opens (untold remaining told) d fault)
+told_failure {I} {O} remaining contents source batch_text wiring names was opens told tells Untold (board, batch, settings, is_board, from, (k, over)) =
+    let so = told_over remaining contents (rack_for board batch) batch settings (UntoldAt k) names was opens told tells over in
+    record { text = so.text; appended = so.appended; loan = so.loan; waits = so.waits; is = (board, batch, settings, is_board, from, (k, so.is)) }
+told_failure {I} {O} remaining contents source batch_text wiring names was opens told tells NoMemory (same, none) =
     none_told remaining contents told tells _ same (refl, none)

@@ -1,6 +1,6 @@
 -- What `drive` answers: how the settings of a schedule were put on the switches of a rack, over
--- ports that were opened for them.
-use Rattle.std.specs.Prelude.{◌≡◌, ◌+◌, ℕ, List, [], Option, Some, None, if◌then◌else◌, nat_lt}
+-- ports of these names, which were opened for them.
+use Rattle.std.specs.Prelude.{◌≡◌, ◌<◌, ℕ, List, [], Option, Some, None, if◌then◌else◌, nat_lt}
 use Rattle.batch.specs.declared.transfer.Transfer.{Transfer}
 use Rattle.board_wiring.specs.Boards.{IsBoardOf, IsMiswired, extent_of}
 use Rattle.board_wiring.specs.Sources.{of_wiring}
@@ -14,14 +14,16 @@ use Rattle.plan_answers.specs.declared.source.Source.{Source}
 use Rattle.refusals.specs.declared.refusal.Refusal.{Refusal}
 use Rattle.switch_driver.specs.Driving.{IsDriven}
 use Rattle.switch_driver.specs.declared.driving.Driven.{Driven}
-use Rattle.switch_driver.specs.declared.driving.Driven.TheVariants.{Untold as UntoldAt}
+use Rattle.switch_driver.specs.declared.driving.Driven.TheVariants.{Stopped, Untold as UntoldAt}
 use Rattle.switch_driver.specs.declared.stage.Cue.{Cue}
 use Rattle.switch_settings.specs.Racks.{is_wide, joined_by}
+use Rattle.switch_settings.specs.declared.fault.ConfigureFault.TheVariants.{Port}
 use Rattle.switch_settings.specs.declared.rack_wiring.RackWiring.{RackWiring}
 use Rattle.switch_settings.specs.declared.rack_wiring.RackWiring.TheVariants.{Usual, Own}
 use Rattle.drive_answers.specs.Endings.{IsEnding}
 use Rattle.drive_answers.specs.declared.fault.DriveFault.{DriveFault}
 use Rattle.drive_answers.specs.declared.fault.DriveFault.TheVariants.{Untold, NoMemory}
+use Rattle.drive_answers.specs.Ways.{IsUnopened, Names, Ways, how_many, used}
 
 -- ---- what was done with it
 
@@ -36,35 +38,41 @@ abbrev pub switches_in : RackWiring → ℕ
 switches_in (Usual modules) = if nat_lt JOINED_MODULES modules then 2 else 1
 switches_in (Own board) = 1
 
--- The settings were driven so over a port, over which nothing had passed before, and this had
--- passed as it was given back.
-abbrev pub IsDrivenOver : {S : Type 0} → (S → ℕ → List ℕ → Cue → S → Type 0) → RackWiring
-    → List Transfer → List (List ℕ) → Driven → Option (List Passing) → S → S → Type 0
-IsDrivenOver {S} hears rack batch settings how carried told tells =
-    IsDriven hears rack batch settings how (Some []) told carried tells
+-- a setting stopped at its port where that failed, and there alone
+abbrev pub HasPortFailed : Driven → ℕ → Type 0
+HasPortFailed (Stopped k Port) failed = 0 < failed
+HasPortFailed how failed = failed ≡ 0
 
--- The ports were opened, once more than they were, and lead to as many switches as the rack has;
--- the settings were driven, and it was said how that ended. Or the ports were refused, none was
--- handed over, and nothing was told.
-pub data IsTried {Q S : Type 0} (refuses : Q → ℕ → Refusal → Type 0) (leads : Q → ℕ → Type 0)
-    (hears : S → ℕ → List ℕ → Cue → S → Type 0) (rack : RackWiring) (batch : List Transfer)
-    (settings : List (List ℕ)) (asked : Q) (carried : Option (List Passing)) (was opens : ℕ)
+-- The settings were driven so over the ports of these names: they were opened, once; nothing had
+-- passed over them before, and this had passed as they were given back.
+pub record IsDrivenOver {S : Type 0} (hears : S → ℕ → List ℕ → Cue → S → Type 0)
+    (rack : RackWiring) (batch : List Transfer) (settings : List (List ℕ)) (how : Driven)
+    (names : Names) (was opens : Ways) (told tells : S) : Type 0 where
+  pub carried : Option (List Passing)
+  pub failed : ℕ
+  pub ways : opens ≡ used names carried failed was
+  pub went : IsDriven hears rack batch settings how (Some []) told carried tells
+  pub cause : HasPortFailed how failed
+
+-- The ports lead to as many switches as the rack has; the settings were driven, and it was said how
+-- that ended. Or the ports were refused, none was handed over, and nothing was told.
+pub data IsTried {S : Type 0} (hears : S → ℕ → List ℕ → Cue → S → Type 0) (rack : RackWiring)
+    (batch : List Transfer) (settings : List (List ℕ)) (names : Names) (was opens : Ways)
     (told tells : S) (printed : Printed) : Type 0 where
-  driven : (how : Driven) → IsDrivenOver hears rack batch settings how carried told tells
-      → IsEnding how printed → opens ≡ was + 1 → leads asked (switches_in rack)
-      → IsTried refuses leads hears rack batch settings asked carried was opens told tells printed
-  unopened : (refusal : Refusal) → refuses asked (switches_in rack) refusal
+  driven : (how : Driven) → how_many names ≡ switches_in rack
+      → IsDrivenOver hears rack batch settings how names was opens told tells
+      → IsEnding how printed → IsTried hears rack batch settings names was opens told tells printed
+  unopened : (refusal : Refusal) → IsUnopened names (switches_in rack) refusal
       → Refuses refusal printed → tells ≡ told → opens ≡ was
-      → IsTried refuses leads hears rack batch settings asked carried was opens told tells printed
+      → IsTried hears rack batch settings names was opens told tells printed
 
 -- a setting stood that couldn't be told; or there was no memory, no port was opened, and nothing
 -- was told
 abbrev pub HasFailedOver : {S : Type 0} → (S → ℕ → List ℕ → Cue → S → Type 0) → RackWiring
-    → List Transfer → List (List ℕ) → Option (List Passing) → ℕ → ℕ → S → S → DriveFault → Type 0
-HasFailedOver {S} hears rack batch settings carried was opens told tells Untold =
-    (opens ≡ was + 1)
-    × ((k : ℕ) × IsDrivenOver hears rack batch settings (UntoldAt k) carried told tells)
-HasFailedOver {S} hears rack batch settings carried was opens told tells NoMemory =
+    → List Transfer → List (List ℕ) → Names → Ways → Ways → S → S → DriveFault → Type 0
+HasFailedOver {S} hears rack batch settings names was opens told tells Untold =
+    (k : ℕ) × IsDrivenOver hears rack batch settings (UntoldAt k) names was opens told tells
+HasFailedOver {S} hears rack batch settings names was opens told tells NoMemory =
     (tells ≡ told) × (opens ≡ was)
 
 -- ---- the answer
@@ -80,29 +88,25 @@ pub data IsFirstDriveWrong (source : Source (List ℕ)) (text : List ℕ) (wirin
       → IsFirstDriveWrong source text wiring refusal
 
 -- what was done with a schedule from this source, of the batch that the text denotes, on the rack
--- that is wired so; or the refusal of what is first wrong with the texts: then no port was asked
--- for, none was opened, and nothing was told
-pub data IsDriveAnswer {Q S : Type 0} (refuses : Q → ℕ → Refusal → Type 0) (leads : Q → ℕ → Type 0)
-    (hears : S → ℕ → List ℕ → Cue → S → Type 0) (source : Source (List ℕ)) (text : List ℕ)
-    (wiring : Option (List ℕ)) (asked asks : Q) (carried : Option (List Passing)) (was opens : ℕ)
-    (told tells : S) (printed : Printed) : Type 0 where
+-- that is wired so, over the ports of these names; or the refusal of what is first wrong with the
+-- texts: then no port was opened, and nothing was told
+pub data IsDriveAnswer {S : Type 0} (hears : S → ℕ → List ℕ → Cue → S → Type 0)
+    (source : Source (List ℕ)) (text : List ℕ) (wiring : Option (List ℕ)) (names : Names)
+    (was opens : Ways) (told tells : S) (printed : Printed) : Type 0 where
   tried : (board : Option BoardWiring) (batch : List Transfer) (settings : List (List ℕ))
       → IsBoardOf wiring board → IsScheduleFrom source (extent_of board) text batch settings
-      → IsTried refuses leads hears (rack_for board batch) batch settings asked carried was opens
-      told tells printed
-      → IsDriveAnswer refuses leads hears source text wiring asked asks carried was opens
-      told tells printed
+      → IsTried hears (rack_for board batch) batch settings names was opens told tells printed
+      → IsDriveAnswer hears source text wiring names was opens told tells printed
   wrong : (refusal : Refusal) → IsFirstDriveWrong source text wiring refusal
-      → Refuses refusal printed → asks ≡ asked → tells ≡ told → opens ≡ was
-      → IsDriveAnswer refuses leads hears source text wiring asked asks carried was opens
-      told tells printed
+      → Refuses refusal printed → tells ≡ told → opens ≡ was
+      → IsDriveAnswer hears source text wiring names was opens told tells printed
 
 -- why there is none: of such a schedule, on that rack
 abbrev pub HasFailed : {S : Type 0} → (S → ℕ → List ℕ → Cue → S → Type 0) → Source (List ℕ)
-    → List ℕ → Option (List ℕ) → Option (List Passing) → ℕ → ℕ → S → S → DriveFault → Type 0
-HasFailed {S} hears source text wiring carried was opens told tells Untold =
+    → List ℕ → Option (List ℕ) → Names → Ways → Ways → S → S → DriveFault → Type 0
+HasFailed {S} hears source text wiring names was opens told tells Untold =
     (board : Option BoardWiring) × (batch : List Transfer) × (settings : List (List ℕ))
     × IsBoardOf wiring board × IsScheduleFrom source (extent_of board) text batch settings
-    × HasFailedOver hears (rack_for board batch) batch settings carried was opens told tells Untold
-HasFailed {S} hears source text wiring carried was opens told tells NoMemory =
+    × HasFailedOver hears (rack_for board batch) batch settings names was opens told tells Untold
+HasFailed {S} hears source text wiring names was opens told tells NoMemory =
     (tells ≡ told) × (opens ≡ was)

@@ -1,2 +1,4 @@
 pub mod Endings
+pub mod Ways
+pub mod Seen
 pub mod Answers

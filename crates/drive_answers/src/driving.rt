@@ -9,9 +9,11 @@ ghost use Rattle.plan_answers.specs.Schedules.{said_by};
 ghost use Rattle.switch_settings.specs.RackWirings.{wired_in};
 ghost use Rattle.switch_settings.specs.Racks.{HasModulesOf, joined_by};
 ghost use Rattle.drive_answers.specs.Answers.{rack_for, switches_in, IsTried, HasFailedOver, IsDriveAnswer, HasFailed};
+ghost use Rattle.drive_answers.specs.Ways.{names_of};
 
 use crate::ending::ending;
 use crate::fault::DriveFault;
+use crate::names::PortNames;
 use crate::ports::Ports;
 use batch::Batch;
 use board_wiring::{read_board, shape_of};
@@ -21,6 +23,7 @@ use exchange_limits::WorkerCount;
 use line_words::LINE_ROOM;
 use link_graph::Schedule;
 use plan_answers::{Answer, Scheduled, Source};
+use refusals::Refusal;
 use std::alloc::Global;
 use std::thread::Threads;
 use switch_driver::{Stage, drive};
@@ -61,13 +64,14 @@ fn switches_of(rack: RackWiring) -> usize
     }
 }
 
-/// Drives a schedule of the batch on the rack, over ports that are opened for it, and says how that
-/// ended.
+/// Drives a schedule of the batch on the rack, over the ports of these names, which are opened for
+/// it, and says how that ended.
 fn drive_over<Q: Ports, S: Stage>(
     alloc: Global,
     rack: RackWiring,
     batch: &Batch,
     schedule: &Schedule,
+    names: PortNames<'_>,
     ports: &mut Q,
     stage: &mut S,
 ) -> Result<Answer, DriveFault>
@@ -75,15 +79,19 @@ fn drive_over<Q: Ports, S: Stage>(
     requires modules { HasModulesOf (wired_in rack) batch.now }
     requires schedule { IsScheduleOf batch.now schedule.now }
     ensures answer { IfOk result
-        (IsTried Q.refuses Q.leads S.hears rack batch.now schedule.now ports.old
-        (Q.carried ports.new) (Q.opened ports.old) (Q.opened ports.new) stage.old stage.new) }
+        (IsTried S.hears rack batch.now schedule.now (names_of names) (Q.ways ports.old)
+        (Q.ways ports.new) stage.old stage.new) }
     ensures fault { IfErr result
-        (HasFailedOver S.hears rack batch.now schedule.now (Q.carried ports.new)
-        (Q.opened ports.old) (Q.opened ports.new) stage.old stage.new) }
+        (HasFailedOver S.hears rack batch.now schedule.now (names_of names) (Q.ways ports.old)
+        (Q.ways ports.new) stage.old stage.new) }
 {
     // The last line's room is kept before anything is sent.
     let room = Vec::with_capacity(alloc, LINE_ROOM)?;
-    match ports.open(switches_of(rack)) {
+    let switches = switches_of(rack);
+    if names.count() != switches {
+        return Ok(Answer::refused(alloc, Refusal::Ports(switches))?);
+    }
+    match ports.open(names) {
         Ok(mut port) => {
             let how = drive(&mut port, rack, batch, schedule, stage);
             ports.close(port);
@@ -94,8 +102,8 @@ fn drive_over<Q: Ports, S: Stage>(
 }
 
 /// What `exchange drive` answers behind what the stage was told: the settings of a schedule of the
-/// batch that the text denotes are put on the switches, one after another, over ports that are
-/// opened for them; or the refusal of what is first wrong, as
+/// batch that the text denotes are put on the switches, one after another, over the ports of these
+/// names, which are opened for them; or the refusal of what is first wrong, as
 /// [`Scheduled::read`](plan_answers::Scheduled::read) looks at it, or of the ports. Where it
 /// refuses, no port is opened, so nothing is sent, and nothing is told; a port is asked for only
 /// where the texts are right.
@@ -117,15 +125,16 @@ pub fn answer_drive<R: Threads + Sync, Q: Ports, S: Stage>(
     batch: &[u8],
     source: Source<&[u8]>,
     workers: WorkerCount,
+    names: PortNames<'_>,
     ports: &mut Q,
     stage: &mut S,
 ) -> Result<Answer, DriveFault>
-    ensures answer { IfOk result (IsDriveAnswer Q.refuses Q.leads S.hears
-        (said_by source.entry) batch.now (bytes_of wiring.entry) ports.old ports.new
-        (Q.carried ports.new) (Q.opened ports.old) (Q.opened ports.new) stage.old stage.new) }
+    ensures answer { IfOk result (IsDriveAnswer S.hears (said_by source.entry) batch.now
+        (bytes_of wiring.entry) (names_of names.entry) (Q.ways ports.old) (Q.ways ports.new)
+        stage.old stage.new) }
     ensures fault { IfErr result
         (HasFailed S.hears (said_by source.entry) batch.now (bytes_of wiring.entry)
-        (Q.carried ports.new) (Q.opened ports.old) (Q.opened ports.new) stage.old stage.new) }
+        (names_of names.entry) (Q.ways ports.old) (Q.ways ports.new) stage.old stage.new) }
 {
     let board = match read_board(wiring) {
         Ok(board) => board,
@@ -135,7 +144,7 @@ pub fn answer_drive<R: Threads + Sync, Q: Ports, S: Stage>(
         Ok(scheduled) => {
             let batch = scheduled.batch();
             let rack = rack_of(&board, batch);
-            drive_over(alloc, rack, batch, scheduled.schedule(), ports, stage)
+            drive_over(alloc, rack, batch, scheduled.schedule(), names, ports, stage)
         }
         Err(refusal) => Ok(Answer::refused(alloc, refusal)?),
     }

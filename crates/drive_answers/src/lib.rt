@@ -1,20 +1,22 @@
 //! The answer of the command that drives the switches of a rack, from the bytes of its texts to the
 //! last line that is printed and its status.
 //!
-//! The ways to the switches, and whoever is told that a setting stands, are the caller's: [`Ports`]
-//! and [`Stage`](switch_driver::Stage). The settings were driven over a port that was opened for
-//! them, once, and the last line says how that ended. Or it is a refusal: then no port was opened,
-//! and nothing was told (`IsDriveAnswer` of `specs/Answers.antt`; `HasFailed` where there is no
-//! answer).
+//! The ports of the switches, and whoever is told that a setting stands, are the caller's:
+//! [`Ports`] and [`Stage`](switch_driver::Stage). The settings were driven over the ports of these
+//! names, which were opened for them, once, and the last line says how that ended. Or it is a
+//! refusal: then no port was opened, and nothing was told (`IsDriveAnswer` of `specs/Answers.antt`;
+//! `HasFailed` where there is no answer).
 #![tactic(auto)]
 
 mod driving;
 mod ending;
 mod fault;
-mod opened;
+mod names;
+mod port_ways;
 mod ports;
 
 pub use driving::answer_drive;
 pub use fault::DriveFault;
-pub use opened::OpenedCount;
+pub use names::PortNames;
+pub use port_ways::PortWays;
 pub use ports::Ports;

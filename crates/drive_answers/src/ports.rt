@@ -1,39 +1,32 @@
-//! What opens the ways to the switches of a rack, and takes them back.
+//! What opens the ports of the switches of a rack, and takes them back.
 
-ghost use Rattle.std.specs.Prelude.{◌≡◌, ◌≢◌, ◌+◌, ◌⊎◌, ℕ, List, [], Option, Some, IfOk, IfErr, OnOk, OnErr};
-ghost use Rattle.crossbar.specs.declared.traffic.Passing.{Passing};
-ghost use Rattle.refusals.specs.declared.refusal.Refusal.{Refusal};
+ghost use Rattle.std.specs.Prelude.{◌≡◌, ◌≢◌, [], Some, IfOk, IfErr, OnOk, OnErr};
 ghost use Rattle.refusals.specs.declared.refusal.Refusal.TheVariants.{NoMemory};
+ghost use Rattle.drive_answers.specs.Ways.{Ways, IsPortRefused, given_back, names_of, opened_by};
 
+use crate::names::PortNames;
 use crossbar::ConfigPort;
 use refusals::Refusal;
 
-/// What opens the ways to the switches of a rack, and takes them back.
+/// What opens the ports of the switches of a rack by their names, and takes them back.
 pub trait Ports {
-    /// The way to them.
+    /// The ports that are open.
     type Port: ConfigPort + Drop;
 
-    // Why the ways to so many switches can't be had.
-    ghost refuses: { Self → ℕ → Refusal → Type 0 };
-    // They lead to so many switches.
-    ghost leads: { Self → ℕ → Type 0 };
-    // What had passed over the port that was given back last.
-    ghost carried: { Self → Option (List Passing) };
-    // How often they were opened.
-    ghost opened: { Self → ℕ };
+    // How often they were opened, by which names, and what passed over them.
+    ghost ways: { Self → Ways };
 
-    /// Opens the ways to so many switches, over which nothing has passed as yet. It sends nothing.
-    fn open(&mut self, switches: usize) -> Result<Self::Port, Refusal>
-        requires { (switches ≡ 1) ⊎ (switches ≡ 2) }
-        ensures counted { OnOk result (opened self.new ≡ opened self.old + 1) }
-        ensures unopened { OnErr result (opened self.new ≡ opened self.old) }
-        ensures led { OnOk result (leads self.old switches) }
+    /// Opens the ports of these names, over which nothing has passed as yet. It sends nothing.
+    fn open(&mut self, names: PortNames<'_>) -> Result<Self::Port, Refusal>
+        ensures opened { OnOk result (ways self.new ≡ opened_by (names_of names) (ways self.old)) }
+        ensures unopened { OnErr result (ways self.new ≡ ways self.old) }
         ensures fresh { IfOk result (λ port. Self.Port.passed port ≡ Some []) }
+        ensures unfailed { IfOk result (λ port. Self.Port.failures port ≡ 0) }
         ensures refused { IfErr result (λ refusal. refusal ≢ NoMemory →
-            refuses self.old switches refusal) };
+            IsPortRefused (names_of names) refusal) };
 
-    /// Takes back a port that was opened.
+    /// Takes back ports that were opened.
     fn close(&mut self, port: Self::Port)
-        ensures carried { carried self.new ≡ Self.Port.passed port }
-        ensures kept { opened self.new ≡ opened self.old };
+        ensures { ways self.new
+            ≡ given_back (Self.Port.passed port) (Self.Port.failures port) (ways self.old) };
 }

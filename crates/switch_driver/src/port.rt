@@ -36,17 +36,17 @@ impl<I, O> StreamPort<I, O> {
 }
 
 impl<I: Drop, O: Drop> StreamPort<I, O> {
-    /// What has passed over the streams, which are let go.
-    pub fn into_traffic(self) -> Traffic
-        ensures { result ≡ self.traffic }
+    /// What has passed over the streams, which are let go, and how often the port has failed.
+    pub fn into_passed(self) -> (Traffic, FailureCount)
+        ensures { (result.0 ≡ self.traffic) × (result.1 ≡ self.failed) }
     {
         let StreamPort {
             a: _,
             b: _,
             traffic,
-            failed: _,
+            failed,
         } = self;
-        traffic
+        (traffic, failed)
     }
 }
 

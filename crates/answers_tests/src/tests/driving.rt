@@ -4,11 +4,10 @@
 
 ghost use Rattle.std.specs.Prelude.{⊤};
 
-use crossbar::Traffic;
-use drive_answers::{DriveFault, OpenedCount, Ports, answer_drive};
+use drive_answers::{DriveFault, PortNames, PortWays, Ports, answer_drive};
 use exchange_limits::WorkerCount;
 use plan_answers::{Answer, DONE, REFUSED, Source};
-use refusals::Refusal;
+use refusals::{PortName, Refusal};
 use std::alloc::{AllocError, Global};
 use std::io;
 use std::io::{Read, Write};
@@ -230,47 +229,38 @@ impl Write for ToSwitch<'_> {
     }
 }
 
-/// The one port to the desk, or its refusal.
+/// The one port to the desk, which may be refused.
 #[derive(Drop)]
 struct DeskPorts<'a> {
     desk: &'a Desk<'a>,
-    refusal: Option<Refusal>,
-    passed: Option<Traffic>,
-    count: OpenedCount,
+    is_refused: bool,
+    ways: PortWays,
 }
 
 impl<'a> Ports for DeskPorts<'a> {
-    ghost use Rattle.std.specs.Prelude.{⊤};
-
     type Port = StreamPort<FromSwitch<'a>, ToSwitch<'a>>;
 
-    ghost refuses = { λ _ _ _. ⊤ };
+    ghost ways = { λ p. p.ways };
 
-    ghost leads = { λ _ _. ⊤ };
-
-    ghost carried = { λ p. p.passed };
-
-    ghost opened = { λ p. p.count };
-
-    fn open(&mut self, switches: usize) -> Result<Self::Port, Refusal> {
+    fn open(&mut self, names: PortNames<'_>) -> Result<Self::Port, Refusal> {
         self.desk.opened.fetch_add(1, Ordering::SeqCst);
-        if switches != 1 {
+        if names.port != "desk" || names.port_b.is_some() {
             self.desk.is_wrong.store(true, Ordering::SeqCst);
         }
-        if let Some(refusal) = self.refusal {
-            return Err(refusal);
+        if self.is_refused {
+            return Err(Refusal::Port(PortName::A));
         }
         let desk = self.desk;
         let stream = SwitchStream {
             reader: FromSwitch { desk },
             writer: ToSwitch { desk },
         };
-        self.count.raise();
+        self.ways.open(names);
         Ok(StreamPort::new(stream, None))
     }
 
     fn close(&mut self, port: StreamPort<FromSwitch<'a>, ToSwitch<'a>>) {
-        self.passed = Some(port.into_traffic());
+        self.ways.give_back(port);
     }
 }
 
@@ -299,20 +289,23 @@ fn answer_at<R: AllocGlobal + Threads + Sync>(
     rt: &R,
     desk: &Desk<'_>,
     says: [Cue; 3],
-    refusal: Option<Refusal>,
+    is_refused: bool,
     wiring: Option<&[u8]>,
 ) -> Result<Answer, DriveFault> {
     let mut ports = DeskPorts {
         desk,
-        refusal,
-        passed: None,
-        count: OpenedCount::zero(),
+        is_refused,
+        ways: PortWays::none(),
+    };
+    let names = PortNames {
+        port: "desk",
+        port_b: None,
     };
     let mut stage = DeskStage { desk, says };
     let source = Source::Text(SCHEDULE);
     let (alloc, one) = (rt.alloc(), WorkerCount::ONE);
     answer_drive(
-        rt, alloc, wiring, BATCH, source, one, &mut ports, &mut stage,
+        rt, alloc, wiring, BATCH, source, one, names, &mut ports, &mut stage,
     )
 }
 
@@ -342,7 +335,7 @@ fn stops_behind<R: AllocGlobal + Threads + Sync>(
     let count = count.min(steps.len());
     let front = &steps[..count];
     let desk = Desk::of(front);
-    let answer = answer_at(rt, &desk, ON, None, None);
+    let answer = answer_at(rt, &desk, ON, false, None);
     let setting = told_in(front);
     let line = match steps.get(count) {
         Some(Step::Told(_)) => format!(in alloc; "left setting {setting}\n")?,
@@ -361,7 +354,7 @@ fn is_caught<R: AllocGlobal + Threads + Sync>(
     let alloc = rt.alloc();
     let steps = steps_of(alloc, rack, Some((output, 0x93)))?;
     let desk = Desk::of(steps.as_slice().get(..205).unwrap_or(&[]));
-    let answer = answer_at(rt, &desk, ON, None, rack.wiring);
+    let answer = answer_at(rt, &desk, ON, false, rack.wiring);
     let line = format!(in alloc; "stopped setting 1 switch {output}\n")?;
     Ok(desk.is_followed() && is_line(&answer, line.as_bytes(), REFUSED))
 }
@@ -371,7 +364,7 @@ fn in_turn(rt: HostRuntime) {
     for rack in &[USUAL, BOARD] {
         let steps = steps_of(rt.alloc(), rack, None).expect(&rt, "memory");
         let desk = Desk::of(steps.as_slice());
-        let answer = answer_at(&rt, &desk, ON, None, rack.wiring);
+        let answer = answer_at(&rt, &desk, ON, false, rack.wiring);
         assert!(rt; is_line(&answer, b"driven settings 3\n", DONE));
         assert!(rt; desk.is_followed());
     }
@@ -400,7 +393,7 @@ fn left(rt: HostRuntime) {
     let steps = steps_of(rt.alloc(), &USUAL, None).expect(&rt, "memory");
     let desk = Desk::of(steps.as_slice().get(..206).unwrap_or(&[]));
     let says = [Cue::GoOn, Cue::Leave, Cue::GoOn];
-    let answer = answer_at(&rt, &desk, says, None, None);
+    let answer = answer_at(&rt, &desk, says, false, None);
     assert!(rt; is_line(&answer, b"left setting 1\n", REFUSED));
     assert!(rt; desk.is_followed());
 }
@@ -410,7 +403,7 @@ fn untold(rt: HostRuntime) {
     let steps = steps_of(rt.alloc(), &USUAL, None).expect(&rt, "memory");
     let desk = Desk::of(steps.as_slice().get(..102).unwrap_or(&[]));
     let says = [Cue::Untold, Cue::GoOn, Cue::GoOn];
-    let answer = answer_at(&rt, &desk, says, None, None);
+    let answer = answer_at(&rt, &desk, says, false, None);
     assert!(rt; matches!(answer, Err(DriveFault::Untold)));
     assert!(rt; desk.is_followed());
 }
@@ -419,7 +412,7 @@ fn untold(rt: HostRuntime) {
 #[test]
 fn refused(rt: HostRuntime) {
     let desk = Desk::of(&[]);
-    let answer = answer_at(&rt, &desk, ON, Some(Refusal::File), None);
-    assert!(rt; is_line(&answer, b"refused file\n", REFUSED));
+    let answer = answer_at(&rt, &desk, ON, true, None);
+    assert!(rt; is_line(&answer, b"refused port a\n", REFUSED));
     assert!(rt; desk.opened.load(Ordering::SeqCst) == 1 && desk.is_followed());
 }

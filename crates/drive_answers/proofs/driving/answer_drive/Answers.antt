@@ -11,6 +11,7 @@ use Rattle.board_wiring.specs.Sources.{of_wiring}
 use Rattle.plan_answers.specs.Lent.{bytes_of}
 use Rattle.plan_answers.specs.Schedules.{said_by}
 use Rattle.drive_answers.specs.Answers.{rack_for, IsTried, IsDriveAnswer, tried, wrong, wiring_wrong, texts_wrong}
+use Rattle.drive_answers.specs.Ways.{names_of}
 use Rattle.drive_answers.proofs.Wirings.{board_of, fault_of}
 use Rattle.drive_answers.proofs.driving.answer_drive.Goals as goal
 
@@ -30,7 +31,7 @@ pub returns-in-Err-clause-answer : goal.returns-in-Err-clause-answer
 returns-in-Err-clause-answer g c =
     let fault = c.in-Err.fault in
     let is = rw c.into.ensures at c.in_ok-refused-in-Err.ensures in
-    wrong (of_wiring fault) (wiring_wrong fault (fault_of c.args.wiring fault c.in-Err.ensures.fault) refl) is refl refl refl
+    wrong (of_wiring fault) (wiring_wrong fault (fault_of c.args.wiring fault c.in-Err.ensures.fault) refl) is refl refl
 
 pub returns-in-Ok-read-clause-answer : goal.returns-in-Ok-read-clause-answer
 returns-in-Ok-read-clause-answer g c =
@@ -38,8 +39,11 @@ returns-in-Ok-read-clause-answer g c =
     let board = c.in-Ok.board in
     let from = rw c.shape_of.ensures at c.in-Ok-read.ensures.schedule in
     let is = rw (c.rack_of-rack.ensures.rack, c.batch-batch.ensures, c.schedule.ensures.schedule) at c.drive_over.ensures.answer in
-    IfOk-weaker c.drive_over.result (IsTried g.Q.Ports.refuses g.Q.Ports.leads g.S.Stage.hears (rack_for board its.batch) its.batch its.settings c.args.ports.now (g.Q.Ports.carried c.drive_over.new.ports) (g.Q.Ports.opened c.args.ports.now) (g.Q.Ports.opened c.drive_over.new.ports) c.args.stage.now c.drive_over.new.stage)
-    (IsDriveAnswer g.Q.Ports.refuses g.Q.Ports.leads g.S.Stage.hears (said_by c.args.source) c.args.batch.now (bytes_of c.args.wiring) c.args.ports.now c.drive_over.new.ports (g.Q.Ports.carried c.drive_over.new.ports) (g.Q.Ports.opened c.args.ports.now) (g.Q.Ports.opened c.drive_over.new.ports) c.args.stage.now c.drive_over.new.stage)
+    let names = names_of c.args.names in
+    let was = g.Q.Ports.ways c.args.ports.now in
+    let opens = g.Q.Ports.ways c.drive_over.new.ports in
+    IfOk-weaker c.drive_over.result (IsTried g.S.Stage.hears (rack_for board its.batch) its.batch its.settings names was opens c.args.stage.now c.drive_over.new.stage)
+    (IsDriveAnswer g.S.Stage.hears (said_by c.args.source) c.args.batch.now (bytes_of c.args.wiring) names was opens c.args.stage.now c.drive_over.new.stage)
     (λ p driven. tried board its.batch its.settings (board_of c.args.wiring board c.in-Ok.ensures.board) from driven) is
 
 pub returns-in_ok-refused-in-Err-read-clause-answer : goal.returns-in_ok-refused-in-Err-read-clause-answer
@@ -47,4 +51,4 @@ returns-in_ok-refused-in-Err-read-clause-answer g c =
     let board = c.in-Ok.board in
     let is = c.in_ok-refused-in-Err-read.ensures in
     let first = rw c.shape_of.ensures at (c.in-Err-read.ensures.wrong is.0) in
-    wrong c.in-Err-read.refusal (texts_wrong board (board_of c.args.wiring board c.in-Ok.ensures.board) first) is refl refl refl
+    wrong c.in-Err-read.refusal (texts_wrong board (board_of c.args.wiring board c.in-Ok.ensures.board) first) is refl refl
