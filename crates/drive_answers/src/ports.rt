@@ -7,6 +7,7 @@ ghost use Rattle.drive_answers.specs.Ways.{Ways, IsPortRefused, given_back, name
 use crate::names::PortNames;
 use crossbar::ConfigPort;
 use refusals::Refusal;
+use std::io;
 
 /// What opens the ports of the switches of a rack by their names, and takes them back.
 pub trait Ports {
@@ -24,6 +25,10 @@ pub trait Ports {
         ensures unfailed { IfOk result (λ port. Self.Port.failures port ≡ 0) }
         ensures refused { IfErr result (λ refusal. refusal ≢ NoMemory →
             IsPortRefused (names_of names) refusal) };
+
+    /// Why a port couldn't be opened, where one couldn't. It is told once.
+    fn take_failure(&mut self) -> Option<io::Error>
+        ensures { ways self.new ≡ ways self.old };
 
     /// Takes back ports that were opened.
     fn close(&mut self, port: Self::Port)

@@ -18,9 +18,11 @@ use Rattle.exchange.specs.Outputs.{lost_none}
 use Rattle.exchange.specs.declared.notes.Answered.{Answered}
 use Rattle.exchange.specs.declared.notes.NoAnswer.{NoAnswer}
 use Rattle.exchange.specs.Apart.{AreSeenApart}
-use Rattle.exchange.specs.Responses.{IsAlone, IsJobAnswer, IsToldUnanswered, Named, unanswered}
+use Rattle.drive_answers.specs.Ways.{Ways}
+use Rattle.exchange.specs.Drives.{Given}
+use Rattle.exchange.specs.Responses.{IsAlone, IsJobAnswer, IsToldUnanswered, Named, Response, unanswered}
 use Rattle.exchange.specs.Notes.{IsToldInPart, IsBeside, IsNoteOn, IsNoted, IsToldUnless, IsWholeLine}
-use Rattle.exchange.specs.Outcomes.{HasTold, IsAnswered, IsNothing, response_of}
+use Rattle.exchange.specs.Outcomes.{HasTold, IsAnswered, IsUnanswered, response_of}
 use Rattle.exchange.specs.declared.found.Found.{Found}
 use Rattle.command_words.specs.declared.jobs.ArgumentsFault.{ArgumentsFault}
 use Rattle.command_words.specs.declared.jobs.ArgumentsFault.TheVariants as arguments_fault
@@ -35,19 +37,28 @@ told_nothing (Err (missed.Refused why line)) before is behind none so = ([], App
 told_nothing (Err (missed.Unwritten what)) before is behind none so = ([], Appends-nil before, tt, tt)
 
 -- no job has anything to be told before a refusal
-pub none_told : (job : Job) → IsToldUnanswered job []
+none_told : (job : Job) → IsToldUnanswered job []
 none_told (Talk rack) = tt
 none_told job = refl
 
+pub none_asked : (job : Job) (ports : Ways) → IsUnanswered job ports ports []
+none_asked job ports = (none_told job, refl)
+
 -- the same, where that is said of the answer
-pub nothing_before : {X : Type 0} (r : Result X NoAnswer) (before : Option (List ℕ)) (P : X → Type 0) → IfOk r P → HasTold before before (λ told x. (told ≡ []) × P x) IsNothing r
-nothing_before (Ok x) before P so = ([], Appends-nil before, (refl, so), tt)
-nothing_before (Err (missed.Refused why line)) before P so = ([], Appends-nil before, tt, refl)
-nothing_before (Err (missed.Unwritten what)) before P so = ([], Appends-nil before, tt, tt)
+pub nothing_before : {X : Type 0} (r : Result X NoAnswer) (before : Option (List ℕ)) (ports : Ways) (P : X → Type 0) → IfOk r P → HasTold before before (λ told x. (told ≡ []) × P x) (λ told. (told ≡ []) × (ports ≡ ports)) r
+nothing_before (Ok x) before ports P so = ([], Appends-nil before, (refl, so), tt)
+nothing_before (Err (missed.Refused why line)) before ports P so = ([], Appends-nil before, tt, (refl, refl))
+nothing_before (Err (missed.Unwritten what)) before ports P so = ([], Appends-nil before, tt, tt)
+
+-- no port was asked for
+pub unasked : {X : Type 0} (r : Result X NoAnswer) (before after : Option (List ℕ)) (is : List ℕ → X → Type 0) (behind : List ℕ → Type 0) (ports : Ways) → HasTold before after is behind r → HasTold before after is (λ told. behind told × (ports ≡ ports)) r
+unasked (Ok x) before after is behind ports t = (t.0, t.1, t.2, tt)
+unasked (Err (missed.Refused why line)) before after is behind ports t = (t.0, t.1, tt, (t.3, refl))
+unasked (Err (missed.Unwritten what)) before after is behind ports t = (t.0, t.1, tt, tt)
 
 -- an answer alone
-pub alone : (P : Printed → Type 0) (found : Found) (answer : Printed) → (found.answer ≡ answer) × (found.book ≡ None) → P answer → IsAlone (response_of [] found) × P found.answer
-alone P found answer is so = ((refl, is.1), subst P (sym is.0) so)
+pub alone : (P : Printed → Type 0) (ports : Ways) (found : Found) (answer : Printed) → (found.answer ≡ answer) × (found.book ≡ None) → P answer → IsAlone (response_of [] found ports) × P found.answer
+alone P ports found answer is so = ((refl, is.1), subst P (sym is.0) so)
 
 -- the bytes of a line, if there is one
 abbrev pub bytes_of_line : Option (String Global) → Option (List ℕ)
@@ -68,32 +79,32 @@ file_told None h = tt
 file_told (Some text) h = record { refused = refl; of = (refusal.File, (λ e. cc), refl); whole = h }
 
 -- an answer that is printed behind it
-pub answered : {E : Type 0} (r : Result ℕ E) (named : Named) (keeps : Job → Option Account → Type 0) (input : Option (List ℕ)) (request : Request) (told : List ℕ) (left : Option Account) (done : Answered) (out_before out_after has eb em ea : Option (List ℕ))
-    → Appends out_before out_after told → AreSeenApart named.leads (file_uses request.job) → IsJobAnswer named.holds input request.job (record { told = told; end = done.answer; left = left }) → (done.lost ≡ lost_none → keeps request.job left) → IsAnswered done
+pub answered : {E : Type 0} (r : Result ℕ E) (named : Named) (keeps : Job → Response → Type 0) (given : Given) (request : Request) (told : List ℕ) (left : Option Account) (ports : Ways) (done : Answered) (out_before out_after has eb em ea : Option (List ℕ))
+    → Appends out_before out_after told → AreSeenApart named.leads (file_uses request.job) → IsJobAnswer named.holds given request.job (record { told = told; end = done.answer; left = left; ports = ports }) → (done.lost ≡ lost_none → keeps request.job (record { told = told; end = done.answer; left = left; ports = ports })) → IsAnswered done
     → IsBeside request eb em → IfOk r (λ status. IsPrinted out_after has done.answer status × (done.lost ≡ lost_none)) → IsToldUnless request.is_quiet (bytes_of_line done.note) em ea
-    → IfOk r (IsDone named keeps input request (streams_of out_before has eb ea))
-answered (Ok status) named keeps input request told left done out_before out_after has eb em ea first apart is kept note beside then said = (
-  record { told = told; end = done.answer; left = left },
+    → IfOk r (IsDone named keeps given request (streams_of out_before has eb ea))
+answered (Ok status) named keeps given request told left ports done out_before out_after has eb em ea first apart is kept note beside then said = (
+  record { told = told; end = done.answer; left = left; ports = ports },
   inl (apart, is),
   kept then.1,
   record { text = Appends-trans out_before out_after has told done.answer.text first then.0.text; status = then.0.status },
   noted request done.answer (bytes_of_line done.note) eb em ea note beside said,
 )
-answered (Err e) named keeps input request told left done out_before out_after has eb em ea first apart is kept note beside then said = tt
+answered (Err e) named keeps given request told left ports done out_before out_after has eb em ea first apart is kept note beside then said = tt
 
 -- and why there is none
-pub not_answered : {E : Type 0} (r : Result ℕ E) (named : Named) (keeps : Job → Option Account → Type 0) (input : Option (List ℕ)) (request : Request) (told : List ℕ) (why : Unanswered) (line : Option (String Global)) (out_before out_after has eb em ea : Option (List ℕ))
-    → Appends out_before out_after told → IsToldUnanswered request.job told → keeps request.job None → IsNoteOn (unanswered why) (bytes_of_line line)
+pub not_answered : {E : Type 0} (r : Result ℕ E) (named : Named) (keeps : Job → Response → Type 0) (given : Given) (request : Request) (told : List ℕ) (why : Unanswered) (line : Option (String Global)) (out_before out_after has eb em ea : Option (List ℕ))
+    → Appends out_before out_after told → IsToldUnanswered request.job told → keeps request.job (record { told = told; end = unanswered why; left = None; ports = given.ports }) → IsNoteOn (unanswered why) (bytes_of_line line)
     → IsBeside request eb em → IfOk r (IsPrinted out_after has (unanswered why)) → IsToldUnless request.is_quiet (bytes_of_line line) em ea
-    → IfOk r (IsDone named keeps input request (streams_of out_before has eb ea))
-not_answered (Ok status) named keeps input request told why line out_before out_after has eb em ea first none kept note beside then said = (
-  record { told = told; end = unanswered why; left = None },
-  inr (none, (why, refl)),
+    → IfOk r (IsDone named keeps given request (streams_of out_before has eb ea))
+not_answered (Ok status) named keeps given request told why line out_before out_after has eb em ea first none kept note beside then said = (
+  record { told = told; end = unanswered why; left = None; ports = given.ports },
+  inr (none, refl, (why, refl)),
   kept,
   record { text = Appends-trans out_before out_after has told (unanswered why).text first then.text; status = then.status },
   noted request (unanswered why) (bytes_of_line line) eb em ea note beside said,
 )
-not_answered (Err e) named keeps input request told why line out_before out_after has eb em ea first none kept note beside then said = tt
+not_answered (Err e) named keeps given request told why line out_before out_after has eb em ea first none kept note beside then said = tt
 
 -- what the program ends with, where what is printed has this as its status, or can't be written
 pub ended : {E : Type 0} (r : Result ℕ E) (exit : ℕ) (P : Option (List ℕ) → ℕ → Type 0) (before after : Option (List ℕ))
@@ -102,13 +113,13 @@ ended (Ok status) exit P before after is done unwritten = inr (subst (λ (e : Op
 ended (Err e) exit P before after is done unwritten = inl unwritten
 
 -- the end for a request, and for arguments that are at fault
-pub asked : {E : Type 0} (r : Result ℕ E) (named : Named) (keeps : Job → Option Account → Type 0) (none : Type 0) (arguments : List (List ℕ)) (input : Option (List ℕ)) (request : Request) (streams : Streams) → AskFor arguments request → IfOk r (IsDone named keeps input request streams) → IfOk r (IsEndForArguments named keeps none arguments input streams)
-asked (Ok status) named keeps none arguments input request streams ask is = (Ok request, ask, tt, is)
-asked (Err e) named keeps none arguments input request streams ask is = tt
+pub asked : {E : Type 0} (r : Result ℕ E) (named : Named) (keeps : Job → Response → Type 0) (none : Type 0) (arguments : List (List ℕ)) (given : Given) (request : Request) (streams : Streams) → AskFor arguments request → IfOk r (IsDone named keeps given request streams) → IfOk r (IsEndForArguments named keeps none arguments given streams)
+asked (Ok status) named keeps none arguments given request streams ask is = (Ok request, ask, tt, is)
+asked (Err e) named keeps none arguments given request streams ask is = tt
 
-pub faulty : {E : Type 0} (r : Result ℕ E) (named : Named) (keeps : Job → Option Account → Type 0) (none : Type 0) (arguments : List (List ℕ)) (input : Option (List ℕ)) (fault : ArgumentsFault) (streams : Streams) → IsFaultIn arguments fault → none → IfOk r (IsFaultEnd fault streams) → IfOk r (IsEndForArguments named keeps none arguments input streams)
-faulty (Ok status) named keeps none arguments input fault streams wrong opened is = (Err fault, tt, wrong, (opened, is))
-faulty (Err e) named keeps none arguments input fault streams wrong opened is = tt
+pub faulty : {E : Type 0} (r : Result ℕ E) (named : Named) (keeps : Job → Response → Type 0) (none : Type 0) (arguments : List (List ℕ)) (given : Given) (fault : ArgumentsFault) (streams : Streams) → IsFaultIn arguments fault → none → IfOk r (IsFaultEnd fault streams) → IfOk r (IsEndForArguments named keeps none arguments given streams)
+faulty (Ok status) named keeps none arguments given fault streams wrong opened is = (Err fault, tt, wrong, (opened, is))
+faulty (Err e) named keeps none arguments given fault streams wrong opened is = tt
 
 -- want of memory for the arguments
 pub without_arguments : {E : Type 0} (r : Result ℕ E) (out_before has err : Option (List ℕ)) → IfOk r (IsPrinted out_before has (unanswered NoMemory)) → IfOk r (IsFaultEnd arguments_fault.NoMemory (streams_of out_before has err err))

@@ -2,25 +2,28 @@
 use Rattle.std.specs.Prelude.{◌≡◌, ℕ, Bool, not, List, [], Option}
 use Rattle.plan_answers.specs.Refusals.{Printed}
 use Rattle.plan_answers.specs.declared.source.Source.{Source}
-use Rattle.refusals.specs.declared.refusal.Refusal.{Refusal}
 use Rattle.switch_driver.specs.Lines.{TellsLine}
 use Rattle.drive_answers.specs.Answers.{IsDriveAnswer}
-use Rattle.exchange.specs.Ports.{IsUnopened, Ways}
+use Rattle.drive_answers.specs.Ways.{Names, Ways}
 
--- why ports that are named aren't opened
-abbrev pub ways_refuse : Ways → ℕ → Refusal → Type 0
-ways_refuse ways switches refusal = IsUnopened ways.named switches refusal
+-- the ports of these names
+abbrev pub names_in : List ℕ → Option (List ℕ) → Names
+names_in port port_b = record { port = port; port_b = port_b }
 
--- they lead to as many switches as ports are named
-abbrev pub ways_lead : Ways → ℕ → Type 0
-ways_lead ways switches = ways.named ≡ switches
+-- what is given to a job besides its files: what is left of standard input, as far as that is
+-- known, and the ports
+pub record Given : Type 0 where
+  pub input : Option (List ℕ)
+  pub ports : Ways
 
--- An answer to these texts over these ports, behind lines that were told. Behind each a line of the
--- input was waited for; where it goes on, for none, and nothing was read.
-abbrev pub IsDriveBy : Source (List ℕ) → List ℕ → Option (List ℕ) → Bool → Option (List ℕ) → Ways
+abbrev pub given_by : Option (List ℕ) → Ways → Given
+given_by input ports = record { input = input; ports = ports }
+
+-- An answer to these texts over the ports of these names, behind lines that were told. Behind each
+-- a line of the input was waited for; where it goes on, for none, and nothing was read.
+abbrev pub IsDriveBy : Source (List ℕ) → List ℕ → Option (List ℕ) → Bool → Names → Given → Ways
     → List ℕ → Printed → Type 0
-IsDriveBy source batch wiring goes_on input asked told end =
-    (asks : Ways) × (left : Option (List ℕ))
-    × IsDriveAnswer ways_refuse ways_lead (TellsLine (not goes_on)) source batch wiring
-    asked asks asks.carried asked.opened asks.opened
-    (record { told = []; left = input }) (record { told = told; left = left }) end
+IsDriveBy source batch wiring goes_on names given opens told end =
+    (left : Option (List ℕ))
+    × IsDriveAnswer (TellsLine (not goes_on)) source batch wiring names given.ports opens
+    (record { told = []; left = given.input }) (record { told = told; left = left }) end

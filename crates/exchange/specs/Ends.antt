@@ -3,7 +3,7 @@ use Rattle.std.specs.Prelude.{◌≡◌, ◌≢◌, ◌⊎◌, ◌++◌, ℕ, Li
 use Rattle.std.specs.Io.KnownBytes.{Appends}
 use Rattle.plan_answers.specs.Refusals.{Printed}
 use Rattle.plan_answers.specs.declared.limits.TheConstants.{DONE}
-use Rattle.batch_book.specs.History.{Account}
+use Rattle.drive_answers.specs.Ways.{Ways}
 use Rattle.command_words.specs.declared.jobs.Job.{Job}
 use Rattle.command_words.specs.declared.jobs.Request.{Request}
 use Rattle.command_words.specs.declared.jobs.ArgumentsFault.{ArgumentsFault}
@@ -11,16 +11,28 @@ use Rattle.command_words.specs.declared.jobs.ArgumentsFault.TheVariants as argum
 use Rattle.command_words.specs.Jobs.{AskFor, AsksForHelp, IsFaultIn}
 use Rattle.exchange.specs.declared.limits.TheConstants.{MISUSED}
 use Rattle.exchange.specs.declared.unanswered.Unanswered.TheVariants.{NoMemory}
+use Rattle.exchange.specs.Drives.{Given}
 use Rattle.exchange.specs.Responses.{IsResponseTo, Named, Response, unanswered}
 use Rattle.exchange.specs.Notes.{IsNoted, IsToldInPart}
-use Rattle.exchange.specs.Outputs.{IsLostTold, lost_none}
+use Rattle.exchange.specs.Outputs.{AreKept, Beginning, IsLostTold, lost_none, none_opened}
+use Rattle.exchange.specs.declared.outputs.Receipts.{Receipts}
 use Rattle.exchange.specs.declared.notes.Answered.{Answered}
 use Rattle.exchange.specs.declared.unwritten.Unwritten.{Unwritten}
 use Rattle.exchange.specs.declared.unwritten.Unwritten.TheVariants.{Answer, Setting, Kept}
 
--- so is what is left of the files that a job's sessions write, where they leave this book
+-- so is what is left of what was opened for a job, where this comes of it
 abbrev pub Keeping : Type 1
-Keeping = Job → Option Account → Type 0
+Keeping = Job → Response → Type 0
+
+-- these files were kept, and the ports are so
+abbrev pub IsLeft : {C : Type 0} → Beginning → (C → Option (List ℕ)) → Receipts C → Ways → Job
+    → Response → Type 0
+IsLeft begins received receipts ports job response =
+    AreKept begins received job response.left receipts × (response.ports ≡ ports)
+
+-- no file was opened to be written, and no port
+abbrev pub IsNoneLeft : {C : Type 0} → Receipts C → Ways → Ways → Type 0
+IsNoneLeft receipts was opens = (receipts ≡ none_opened) × (opens ≡ was)
 
 -- this was printed behind what stood there, and ends with its status
 pub record IsPrinted (before after : Option (List ℕ)) (printed : Printed) (code : ℕ) : Type 0 where
@@ -66,10 +78,10 @@ printed_of response =
 
 -- The response to what is asked for was printed, with a line beside it where there is one to tell,
 -- and what sessions leave was kept.
-abbrev pub IsDone : Named → Keeping → Option (List ℕ) → Request → Streams → ℕ → Type 0
-IsDone named keeps input request streams code =
-    (response : Response) × IsResponseTo named input request.job response
-    × keeps request.job response.left
+abbrev pub IsDone : Named → Keeping → Given → Request → Streams → ℕ → Type 0
+IsDone named keeps given request streams code =
+    (response : Response) × IsResponseTo named given request.job response
+    × keeps request.job response
     × IsPrinted streams.out_before streams.out_after (printed_of response) code
     × IsNoted request response.end streams.err_before streams.err_after
 
@@ -85,20 +97,20 @@ IsFaultEnd (arguments_fault.Clap error) streams code =
     (AsksForHelp error → (code ≡ DONE) × IsSilent streams)
     × ((AsksForHelp error → ⊥) → (code ≡ MISUSED) × (streams.out_after ≡ streams.out_before))
 
--- how the program ends where standard input had these bytes and the arguments ask for this, or are
--- at fault: what it prints behind what stood there, what it leaves, and its status
-abbrev pub IsEndFor : Named → Keeping → Type 0 → Option (List ℕ) → Result Request ArgumentsFault
+-- how the program ends where this is given and the arguments ask for this, or are at fault: what it
+-- prints behind what stood there, what it leaves, and its status
+abbrev pub IsEndFor : Named → Keeping → Type 0 → Given → Result Request ArgumentsFault
     → Streams → ℕ → Type 0
-IsEndFor named keeps none input (Ok request) streams code =
-    IsDone named keeps input request streams code
-IsEndFor named keeps none input (Err fault) streams code = none × IsFaultEnd fault streams code
+IsEndFor named keeps none given (Ok request) streams code =
+    IsDone named keeps given request streams code
+IsEndFor named keeps none given (Err fault) streams code = none × IsFaultEnd fault streams code
 
 -- how it ends for these arguments
-abbrev pub IsEndForArguments : Named → Keeping → Type 0 → List (List ℕ) → Option (List ℕ)
-    → Streams → ℕ → Type 0
-IsEndForArguments named keeps none arguments input streams code =
+abbrev pub IsEndForArguments : Named → Keeping → Type 0 → List (List ℕ) → Given → Streams
+    → ℕ → Type 0
+IsEndForArguments named keeps none arguments given streams code =
     (request : Result Request ArgumentsFault) × IfOk request (AskFor arguments)
-    × IfErr request (IsFaultIn arguments) × IsEndFor named keeps none input request streams code
+    × IfErr request (IsFaultIn arguments) × IsEndFor named keeps none given request streams code
 
 -- how it ends where the arguments can't be had as texts
 abbrev pub IsEndWithoutArguments : Option (List ℕ) → Option (List ℕ) → ℕ → Type 0

@@ -1,6 +1,5 @@
 pub mod Apart
 pub mod Contents
-pub mod Ports
 pub mod Drives
 pub mod Responses
 pub mod Outputs

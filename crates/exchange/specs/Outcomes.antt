@@ -5,7 +5,9 @@ use Rattle.exchange.specs.declared.notes.Answered.{Answered}
 use Rattle.exchange.specs.declared.notes.NoAnswer.{NoAnswer}
 use Rattle.exchange.specs.declared.notes.NoAnswer.TheVariants.{Refused, Unwritten}
 use Rattle.exchange.specs.Notes.{IsNoteOn}
-use Rattle.exchange.specs.Responses.{Response, unanswered}
+use Rattle.command_words.specs.declared.jobs.Job.{Job}
+use Rattle.drive_answers.specs.Ways.{Ways}
+use Rattle.exchange.specs.Responses.{IsToldUnanswered, Response, unanswered}
 use Rattle.exchange.specs.declared.found.Found.{Found}
 use Rattle.exchange.specs.declared.unanswered.Unanswered.TheVariants.{NoMemory as Memory}
 use Rattle.drive_answers.specs.declared.fault.DriveFault.{DriveFault}
@@ -44,10 +46,14 @@ abbrev pub IsMissedFor : DriveFault → NoAnswer → Type 0
 IsMissedFor Untold missed = IfRefused missed ⊥
 IsMissedFor NoMemory missed = missed ≡ Refused Memory None
 
--- what comes of a job that was told this before
-abbrev pub response_of : List ℕ → Found → Response
-response_of told found =
-    record { told = told; end = found.answer; left = found.book }
+-- what comes of a job that was told this before, and left the ports so
+abbrev pub response_of : List ℕ → Found → Ways → Response
+response_of told found ports =
+    record { told = told; end = found.answer; left = found.book; ports = ports }
+
+-- where a job has no answer, this was told before, and no port was opened
+abbrev pub IsUnanswered : Job → Ways → Ways → List ℕ → Type 0
+IsUnanswered job was opens told = IsToldUnanswered job told × (opens ≡ was)
 
 abbrev pub HasNote : Result Answered NoAnswer → Type 0
 HasNote result = MatchResult result IsAnswered IsNoAnswer

@@ -27,17 +27,18 @@ use Rattle.refusals.specs.declared.refusal.Refusal.TheVariants as refusal
 use Rattle.refusals.specs.Refusals.{refusal_line}
 use Rattle.exchange.specs.Apart.{AreSeenApart, Leading}
 use Rattle.exchange.specs.Contents.{AreContents, Holding}
-use Rattle.exchange.specs.Drives.{IsDriveBy}
-use Rattle.exchange.specs.Ports.{unopened_ways}
+use Rattle.drive_answers.specs.Ways.{Ways}
+use Rattle.exchange.specs.Drives.{Given, IsDriveBy, given_by, names_in}
 use Rattle.exchange.specs.declared.unanswered.Unanswered.{Unanswered}
 use Rattle.exchange.specs.declared.unanswered.Unanswered.TheVariants.{File, NoMemory}
 
--- what comes of a job: what is told before its answer, this itself, and the book that sessions
--- leave
+-- what comes of a job: what is told before its answer, this itself, the book that sessions leave,
+-- and the ports behind it
 pub record Response : Type 0 where
   pub told : List ℕ
   pub end : Printed
   pub left : Option Account
+  pub ports : Ways
 
 -- an answer alone: nothing is told before it, and no book is left
 abbrev pub IsAlone : Response → Type 0
@@ -71,47 +72,52 @@ clients_named names =
       may_fail = λ _. true;
     }
 
--- The answer to a job whose files contain this, where this is left of standard input.
-abbrev pub IsAnswerTo : Job → Files (List ℕ) → Option (List ℕ) → Response → Type 0
-IsAnswerTo (Plan file planning workers) files input response =
+-- the answer to a job whose files contain this
+abbrev pub IsAnswerTo : Job → Files (List ℕ) → Given → Response → Type 0
+IsAnswerTo (Plan file planning workers) files given response =
     IsAlone response × IsPlanned planning widest (text_in files.list) response.end
-IsAnswerTo (Check batch schedule) files input response =
+IsAnswerTo (Check batch schedule) files given response =
     IsAlone response
     × IsChecked widest (text_in files.list) (text_in files.other) response.end
-IsAnswerTo (Draw batch schedule settings) files input response =
+IsAnswerTo (Draw batch schedule settings) files given response =
     IsAlone response
     × IsDrawn widest (text_in files.list) (text_in files.other) settings response.end
-IsAnswerTo (Switch batch source wiring workers) files input response =
+IsAnswerTo (Switch batch source wiring workers) files given response =
     IsAlone response
     × IsOn (λ board. IsSwitched (source_in source (text_in files.other)) board
     (text_in files.list)) files.wiring response.end
-IsAnswerTo (Drive batch port port_b source wiring goes_on workers) files input response =
+IsAnswerTo (Drive batch port port_b source wiring goes_on workers) files given response =
     (response.left ≡ None)
     × IsDriveBy (source_in source (text_in files.other)) (text_in files.list) files.wiring goes_on
-    input (unopened_ways port_b) response.told response.end
-IsAnswerTo C004 files input response =
-    (response.left ≡ None) × IsC004By input response.told response.end
-IsAnswerTo (Direct moves) files input response =
+    (names_in port port_b) given response.ports response.told response.end
+IsAnswerTo C004 files given response =
+    (response.left ≡ None) × IsC004By given.input response.told response.end
+IsAnswerTo (Direct moves) files given response =
     IsAlone response × IsDirected (text_in files.list) response.end
-IsAnswerTo (Apply shape batch image workers) files input response =
+IsAnswerTo (Apply shape batch image workers) files given response =
     IsAlone response
     × IsApplied shape (text_in files.list) (text_in files.other) response.end
-IsAnswerTo (Run shape batch source image workers) files input response =
+IsAnswerTo (Run shape batch source image workers) files given response =
     IsAlone response
     × IsRunAnswer (source_in source (text_in files.other)) shape (text_in files.list) files.image
     response.end
-IsAnswerTo (Serve rack scripts workers) files input response =
+IsAnswerTo (Serve rack scripts workers) files given response =
     (response.told ≡ [])
     × IsServeAnswer rack.shape files.image files.scripts response.end response.left
-IsAnswerTo (Host rack clients workers) files input response =
+IsAnswerTo (Host rack clients workers) files given response =
     (response.told ≡ [])
     × ((ends : List SessionEnd) × IsHostAnswer rack.shape files.image (clients_named clients) ends
     response.end response.left)
-IsAnswerTo (Talk rack) files input response =
+IsAnswerTo (Talk rack) files given response =
     (after : Option (List ℕ))
-    × IsTalkAnswer rack.shape files.image input after response.told response.end response.left
-IsAnswerTo (Replay shape recorded image) files input response =
+    × IsTalkAnswer rack.shape files.image given.input after response.told response.end response.left
+IsAnswerTo (Replay shape recorded image) files given response =
     IsAlone response × IsReplayPrinted shape (text_in files.list) files.image response.end
+
+-- only `drive` asks for ports
+abbrev pub LeavesPorts : Job → Ways → Ways → Type 0
+LeavesPorts (Drive batch port port_b source wiring goes_on workers) was opens = ⊤
+LeavesPorts job was opens = opens ≡ was
 
 -- the files of a job are all that it asks for
 abbrev pub IsOfTexts : Job → Type 0
@@ -123,10 +129,12 @@ IsOfTexts (Talk rack) = ⊥
 IsOfTexts job = ⊤
 
 -- the answer to a job, where its files have been read
-abbrev pub IsJobAnswer : Holding → Option (List ℕ) → Job → Response → Type 0
-IsJobAnswer holds input job response =
+abbrev pub IsJobAnswer : Holding → Given → Job → Response → Type 0
+IsJobAnswer holds given job response =
     (files : Files (List ℕ)) × (rest : Option (List ℕ))
-    × AreContents holds input (files_of job) files rest × IsAnswerTo job files rest response
+    × AreContents holds given.input (files_of job) files rest
+    × IsAnswerTo job files (given_by rest given.ports) response
+    × LeavesPorts job given.ports response.ports
 
 -- the job is `talk`
 abbrev pub IsTalk : Job → Type 0
@@ -157,9 +165,9 @@ abbrev pub named_by : Holding → Leading → Named
 named_by holds leads = record { holds = holds; leads = leads }
 
 -- The answer to a job, and then what it writes was seen to be apart from what it reads; or why
--- there is none, behind what was told before.
-abbrev pub IsResponseTo : Named → Option (List ℕ) → Job → Response → Type 0
-IsResponseTo named input job response =
-    (AreSeenApart named.leads (file_uses job) × IsJobAnswer named.holds input job response)
-    ⊎ (IsToldUnanswered job response.told
+-- there is none, behind what was told before, and then no port was opened.
+abbrev pub IsResponseTo : Named → Given → Job → Response → Type 0
+IsResponseTo named given job response =
+    (AreSeenApart named.leads (file_uses job) × IsJobAnswer named.holds given job response)
+    ⊎ (IsToldUnanswered job response.told × (response.ports ≡ given.ports)
     × ((why : Unanswered) × (response.end ≡ unanswered why)))

@@ -11,10 +11,11 @@ ghost use Rattle.session_answers.specs.Serving.{IsServeAnswer};
 ghost use Rattle.session_answers.specs.Talking.{IsTalkAnswer};
 ghost use Rattle.exchange.specs.Apart.{AreSeenApart};
 ghost use Rattle.exchange.specs.Contents.{contents_in};
-ghost use Rattle.exchange.specs.Responses.{IsJobAnswer, IsAnswerTo, IsC004By, IsOfTexts, IsToldUnanswered, clients_named};
+ghost use Rattle.exchange.specs.Drives.{Given, given_by};
+ghost use Rattle.exchange.specs.Responses.{IsJobAnswer, IsAnswerTo, IsC004By, IsOfTexts, LeavesPorts, clients_named};
 ghost use Rattle.exchange.specs.Notes.{IsBeside};
 ghost use Rattle.exchange.specs.Outputs.{AreKept, AreOutputsWritten, lost_none};
-ghost use Rattle.exchange.specs.Outcomes.{HasNote, HasTold, IsNoAnswer, IsNothing, response_of};
+ghost use Rattle.exchange.specs.Outcomes.{HasNote, HasTold, IsNoAnswer, IsNothing, IsUnanswered, response_of};
 
 use crate::beside::Beside;
 use crate::client_streams::{ClientFiles, FileStreams, Runtime};
@@ -23,11 +24,11 @@ use crate::driving::drive;
 use crate::found::Found;
 use crate::notes::{Answered, NoAnswer, finished, reason_line, tell_note};
 use crate::outputs::{Outputs, Receipts, close_outputs, open_apart};
-use crate::ports::NamedPorts;
 use crate::system::System;
 use crate::unwritten::Unwritten;
 use client_session::{Listener, NoListener};
 use command_words::{Job, Request, SharedRack, Text};
+use drive_answers::{PortNames, Ports};
 use exchange_limits::WorkerCount;
 use plan_answers::{Answer, answer_check, answer_direct, answer_draw, answer_plan};
 use rack_answers::{answer_apply, answer_run, answer_switch};
@@ -52,9 +53,10 @@ pub(crate) struct Ended<C> {
 /// enquiries there, and tells on `err` what it drops. It is looked first where names lead. Then the
 /// files for the record of sessions and for the image that they leave are opened, before any other
 /// is read, and all that are read are read before anything is answered.
-pub(crate) fn answer_to<R: Runtime, S: System, I: Read, O: Write, E: Write>(
+pub(crate) fn answer_to<R: Runtime, S: System, P: Ports, I: Read, O: Write, E: Write>(
     rt: &R,
     system: &S,
+    ports: &mut P,
     request: &Request,
     input: &mut I,
     out: &mut O,
@@ -63,11 +65,11 @@ pub(crate) fn answer_to<R: Runtime, S: System, I: Read, O: Write, E: Write>(
     requires limits { IsWithinLimits request.now.job }
     ensures response { HasTold (O.contents out.old) (O.contents out.new)
         (λ told done. (left : Option Account) × IsJobAnswer (S.holds system.now)
-        (I.remaining input.old) request.now.job
-        (record { told = told; end = done.answer; left = left })
+        (given_by (I.remaining input.old) (P.ways ports.old)) request.now.job
+        (record { told = told; end = done.answer; left = left; ports = P.ways ports.new })
         × (done.lost ≡ lost_none → AreKept (S.begins system.now) S.received request.now.job left
         result.receipts))
-        (IsToldUnanswered request.now.job) result.end }
+        (IsUnanswered request.now.job (P.ways ports.old) (P.ways ports.new)) result.end }
     ensures note { HasNote result.end }
     ensures beside { IsBeside request.now (E.contents err.old) (E.contents err.new) }
     ensures apart { OnOk result.end
@@ -76,7 +78,7 @@ pub(crate) fn answer_to<R: Runtime, S: System, I: Read, O: Write, E: Write>(
         (AreKept (S.begins system.now) S.received request.now.job None result.receipts) }
 {
     let (mut outputs, opened) = open_apart(system, rt.alloc(), &request.job);
-    let end = answer_opened(rt, system, request, opened, &mut outputs, input, out, err);
+    let end = answer_opened(rt, system, ports, request, opened, &mut outputs, input, out, err);
     Ended {
         end,
         receipts: close_outputs(system, outputs),
@@ -84,9 +86,10 @@ pub(crate) fn answer_to<R: Runtime, S: System, I: Read, O: Write, E: Write>(
 }
 
 /// The same, with the files that could be opened to be written, or why they aren't open.
-fn answer_opened<R: Runtime, S: System, I: Read, O: Write, E: Write>(
+fn answer_opened<R: Runtime, S: System, P: Ports, I: Read, O: Write, E: Write>(
     rt: &R,
     system: &S,
+    ports: &mut P,
     request: &Request,
     opened: Result<(), NoAnswer>,
     outputs: &mut Outputs<'_, S::Stream>,
@@ -98,10 +101,10 @@ fn answer_opened<R: Runtime, S: System, I: Read, O: Write, E: Write>(
     requires note { IfErr opened (λ missed. IsNoAnswer missed) }
     ensures response { HasTold (O.contents out.old) (O.contents out.new)
         (λ told done. (left : Option Account) × IsJobAnswer (S.holds system.now)
-        (I.remaining input.old) request.now.job
-        (record { told = told; end = done.answer; left = left })
+        (given_by (I.remaining input.old) (P.ways ports.old)) request.now.job
+        (record { told = told; end = done.answer; left = left; ports = P.ways ports.new })
         × AreOutputsWritten S.Stream.contents left outputs.old outputs.new done.lost)
-        (IsToldUnanswered request.now.job) result }
+        (IsUnanswered request.now.job (P.ways ports.old) (P.ways ports.new)) result }
     ensures note { HasNote result }
     ensures beside { IsBeside request.now (E.contents err.old) (E.contents err.new) }
     ensures unkept { OnErr result (outputs.new ≡ outputs.old) }
@@ -110,13 +113,14 @@ fn answer_opened<R: Runtime, S: System, I: Read, O: Write, E: Write>(
     opened?;
     let job = &request.job;
     let contents = read_contents(system, rt.alloc(), job.files(), input)?;
-    let found = answer_job(rt, request, &contents, input, out, err)?;
+    let found = answer_job(rt, ports, request, &contents, input, out, err)?;
     Ok(finished(system, rt.alloc(), found, job, &contents, outputs))
 }
 
 /// The answer to a job whose files contain this.
-fn answer_job<R: Runtime, I: Read, O: Write, E: Write>(
+fn answer_job<R: Runtime, P: Ports, I: Read, O: Write, E: Write>(
     rt: &R,
+    ports: &mut P,
     request: &Request,
     contents: &Contents,
     input: &mut I,
@@ -128,10 +132,12 @@ fn answer_job<R: Runtime, I: Read, O: Write, E: Write>(
         ≡ length (files_of request.now.job).scripts }
     ensures response { HasTold (O.contents out.old) (O.contents out.new)
         (λ told found. IsAnswerTo request.now.job (contents_in contents.now)
-        (I.remaining input.old) (response_of told found))
-        (IsToldUnanswered request.now.job) result }
+        (given_by (I.remaining input.old) (P.ways ports.old))
+        (response_of told found (P.ways ports.new)))
+        (IsUnanswered request.now.job (P.ways ports.old) (P.ways ports.new)) result }
     ensures note { IfErr result (λ missed. IsNoAnswer missed) }
     ensures beside { IsBeside request.now (E.contents err.old) (E.contents err.new) }
+    ensures ports { LeavesPorts request.now.job (P.ways ports.old) (P.ways ports.new) }
 {
     match &request.job {
         Job::Drive {
@@ -142,8 +148,13 @@ fn answer_job<R: Runtime, I: Read, O: Write, E: Write>(
             workers,
             ..
         } => {
-            let ports = NamedPorts::new(rt, port, port_b);
-            drive(rt, *workers, source, contents, ports, *goes_on, input, out)
+            let names = PortNames {
+                port: port.as_str(),
+                port_b: text_in(port_b),
+            };
+            drive(
+                rt, *workers, source, contents, names, *goes_on, ports, input, out,
+            )
         }
         Job::C004 if request.is_quiet => c004(rt.alloc(), input, out, &mut io::sink()),
         Job::C004 => c004(rt.alloc(), input, out, err),
@@ -174,8 +185,8 @@ fn answer_texts<R: AllocGlobal + Threads + Sync>(
     contents: &Contents,
 ) -> Result<Found, AllocError>
     requires { IsOfTexts job.now }
-    ensures { (input : Option (List ℕ)) → IfOk result (λ found.
-        IsAnswerTo job.now (contents_in contents.now) input (response_of [] found)) }
+    ensures { (given : Given) → IfOk result (λ found. IsAnswerTo job.now (contents_in contents.now)
+        given (response_of [] found given.ports)) }
 {
     let alloc = rt.alloc();
     let (list, other) = (text_of(&contents.list), text_of(&contents.other));
@@ -225,6 +236,16 @@ fn answer_texts<R: AllocGlobal + Threads + Sync>(
             Ok(Found::replayed(replayed))
         }
         _ => unreachable!(),
+    }
+}
+
+/// A text, where there is one.
+fn text_in(text: &Option<Text>) -> Option<&str>
+    ensures { bytes_of result ≡ text.now }
+{
+    match text {
+        Some(text) => Some(text.as_str()),
+        None => None,
     }
 }
 

@@ -33,6 +33,7 @@ mod unanswered;
 mod unwritten;
 
 use crate::limits::UNWRITTEN;
+use crate::ports::HostPorts;
 use crate::responding::{Left, respond};
 use crate::unwritten::Unwritten;
 use std::fs::{File, OpenOptions};
@@ -50,6 +51,7 @@ fn main(rt: HostRuntime) -> ExitCode {
     let Left { code, receipts: _ } = respond(
         &rt,
         &rt,
+        &mut HostPorts::new(&rt),
         arguments,
         &mut rt.reader(),
         &mut io::writer(&rt),

@@ -1,11 +1,10 @@
 //! The ports of switches, by the names of their files.
 
-ghost use Rattle.std.specs.Prelude.{◌≡◌, ◌≢◌, None, IfErr};
+ghost use Rattle.std.specs.Prelude.{◌≡◌, ◌≢◌, IfErr};
 ghost use Rattle.refusals.specs.declared.refusal.Refusal.TheVariants.{NoMemory, Port};
-ghost use Rattle.exchange.specs.Ports.{unopened_ways};
+ghost use Rattle.drive_answers.specs.Ways.{unopened_ways};
 
-use command_words::Text;
-use drive_answers::{OpenedCount, Ports};
+use drive_answers::{PortNames, PortWays, Ports};
 use refusals::{PortName, Refusal};
 use std::fs::{OpenFile, OpenOptions};
 use std::io::ErrorKind;
@@ -14,61 +13,32 @@ use std::rt::Files;
 use std::{fs, io};
 use switch_driver::{StreamPort, SwitchStream};
 
-/// The ports of the switches by their names, and why one of them can't be opened. Contracts see how
-/// many are named, what has passed over the port that was closed last, and how often they were
-/// opened.
+/// The ports of the real system, and why one couldn't be opened.
 #[derive(Drop)]
-pub(crate) struct NamedPorts<'a, R, F> {
+pub struct HostPorts<'a, R> {
     rt: &'a R,
-    port: &'a Text,
-    port_b: &'a Option<Text>,
-    failed: Option<io::Error>,
-    closed: Option<StreamPort<F, F>>,
-    opened: OpenedCount,
+    failure: Option<io::Error>,
+    ways: PortWays,
 }
 
-impl<'a, R, F> Model for NamedPorts<'a, R, F> {
-    ghost use Rattle.exchange.specs.Ports.{Ways, ports_named, carried_last};
+impl<'a, R> Model for HostPorts<'a, R> {
+    ghost use Rattle.drive_answers.specs.Ways.{Ways};
 
     ghost Value = { Ways };
 
-    ghost view = { λ ports. record {
-      named = ports_named ports.port_b.now;
-      carried = carried_last ports.closed;
-      opened = ports.opened;
-    } };
+    ghost view = { λ ports. ports.ways };
 }
 
-impl<'a, R, F> NamedPorts<'a, R, F> {
-    /// Ports of these names, none of which is open.
-    pub(crate) fn new(rt: &'a R, port: &'a Text, port_b: &'a Option<Text>) -> NamedPorts<'a, R, F>
-        ensures { result ≡ unopened_ways port_b.entry.now }
+impl<'a, R> HostPorts<'a, R> {
+    /// None is open.
+    pub fn new(rt: &'a R) -> HostPorts<'a, R>
+        ensures { result ≡ unopened_ways }
     {
-        NamedPorts {
+        HostPorts {
             rt,
-            port,
-            port_b,
-            failed: None,
-            closed: None,
-            opened: OpenedCount::zero(),
+            failure: None,
+            ways: PortWays::none(),
         }
-    }
-
-    /// How many there are.
-    fn count(&self) -> usize
-        ensures { result ≡ self.now.named }
-    {
-        match self.port_b {
-            Some(_) => 2,
-            None => 1,
-        }
-    }
-}
-
-impl<'a, R, F: Drop> NamedPorts<'a, R, F> {
-    /// Why one of them couldn't be opened, where that was tried.
-    pub(crate) fn into_failure(self) -> Option<io::Error> {
-        self.failed
     }
 }
 
@@ -102,55 +72,47 @@ fn open_stream<R: AllocGlobal + Files>(
     Ok(SwitchStream { reader, writer })
 }
 
-impl<'a, R: AllocGlobal + Files> NamedPorts<'a, R, R::File> {
+impl<'a, R: AllocGlobal + Files> HostPorts<'a, R> {
     /// Opens one of them.
     fn open_one(
         &mut self,
         port: PortName,
-        name: &Text,
+        name: &str,
     ) -> Result<SwitchStream<R::File, R::File>, Refusal>
         ensures refused { IfErr result (λ refusal. refusal ≢ NoMemory → refusal ≡ Port port) }
         ensures same { self.new ≡ self.old }
     {
-        match open_stream(self.rt, name.as_str()) {
+        match open_stream(self.rt, name) {
             Ok(stream) => Ok(stream),
             Err(error) if error.kind() == ErrorKind::OutOfMemory => Err(Refusal::NoMemory),
             Err(error) => {
-                self.failed = Some(error);
+                self.failure = Some(error);
                 Err(Refusal::Port(port))
             }
         }
     }
 }
 
-impl<'a, R: AllocGlobal + Files> Ports for NamedPorts<'a, R, R::File> {
-    ghost use Rattle.exchange.specs.Ports.{IsUnopened};
-
+impl<'a, R: AllocGlobal + Files> Ports for HostPorts<'a, R> {
     type Port = StreamPort<R::File, R::File>;
 
-    ghost refuses = { λ ports switches refusal. IsUnopened ports.named switches refusal };
+    ghost ways = { λ ports. ports };
 
-    ghost leads = { λ ports switches. ports.named ≡ switches };
-
-    ghost carried = { λ ports. ports.carried };
-
-    ghost opened = { λ ports. ports.opened };
-
-    fn open(&mut self, switches: usize) -> Result<StreamPort<R::File, R::File>, Refusal> {
-        if switches != self.count() {
-            return Err(Refusal::Ports(switches));
-        }
-        let (port, port_b) = (self.port, self.port_b);
-        let a = self.open_one(PortName::A, port)?;
-        let b = match port_b {
+    fn open(&mut self, names: PortNames<'_>) -> Result<StreamPort<R::File, R::File>, Refusal> {
+        let a = self.open_one(PortName::A, names.port)?;
+        let b = match names.port_b {
             Some(name) => Some(self.open_one(PortName::B, name)?),
             None => None,
         };
-        self.opened.raise();
+        self.ways.open(names);
         Ok(StreamPort::new(a, b))
     }
 
+    fn take_failure(&mut self) -> Option<io::Error> {
+        self.failure.take()
+    }
+
     fn close(&mut self, port: StreamPort<R::File, R::File>) {
-        self.closed = Some(port);
+        self.ways.give_back(port);
     }
 }

@@ -6,8 +6,9 @@ ghost use Rattle.std.specs.Process.{exit_status};
 ghost use Rattle.command_words.specs.Jobs.{texts_of};
 ghost use Rattle.exchange.specs.Responses.{named_by, unanswered};
 ghost use Rattle.exchange.specs.Notes.{IsToldUnless};
-ghost use Rattle.exchange.specs.Outputs.{AreKept, lost_none, none_opened};
-ghost use Rattle.exchange.specs.Ends.{IsPrinted, streams_of, IsEndForArguments, IsEndWithoutArguments, IsFaultEnd};
+ghost use Rattle.exchange.specs.Drives.{given_by};
+ghost use Rattle.exchange.specs.Outputs.{lost_none};
+ghost use Rattle.exchange.specs.Ends.{IsLeft, IsNoneLeft, IsPrinted, streams_of, IsEndForArguments, IsEndWithoutArguments, IsFaultEnd};
 ghost use Rattle.exchange.specs.Ends.{IsUnwrittenOf, IsUnwrittenTold};
 
 use crate::client_streams::Runtime;
@@ -19,6 +20,7 @@ use crate::system::System;
 use crate::unanswered::Unanswered;
 use crate::unwritten::Unwritten;
 use command_words::{ArgumentsFault, read_arguments};
+use drive_answers::Ports;
 use plan_answers::{Answer, DONE, REFUSED};
 use refusals::Refusal;
 use std::alloc::{AllocError, Global};
@@ -39,9 +41,10 @@ pub struct Left<C> {
 ///
 /// A file that is `-` is read from `input`. Answers, refusals and the texts of help go to `out`;
 /// arguments that fit no command are answered on `err`.
-pub fn respond<R: Runtime, S: System, I: Read, O: Write, E: Write>(
+pub fn respond<R: Runtime, S: System, P: Ports, I: Read, O: Write, E: Write>(
     rt: &R,
     system: &S,
+    ports: &mut P,
     arguments: io::Result<Vec<String>>,
     input: &mut I,
     out: &mut O,
@@ -49,19 +52,18 @@ pub fn respond<R: Runtime, S: System, I: Read, O: Write, E: Write>(
 ) -> Left<S::Receipt>
     ensures arguments { IfOk arguments (λ w. (exit_status result.code ≡ UNWRITTEN)
         ⊎ IsEndForArguments (named_by (S.holds system.now) (S.leads system.now))
-        (λ job left. AreKept (S.begins system.now) S.received job left result.receipts)
-        (result.receipts ≡ none_opened)
-        (texts_of w.items) (I.remaining input.old)
-        (streams_of (O.contents out.old)
-        (O.contents out.new) (E.contents err.old) (E.contents err.new))
-        (exit_status result.code)) }
+        (IsLeft (S.begins system.now) S.received result.receipts (P.ways ports.new))
+        (IsNoneLeft result.receipts (P.ways ports.old) (P.ways ports.new))
+        (texts_of w.items) (given_by (I.remaining input.old) (P.ways ports.old))
+        (streams_of (O.contents out.old) (O.contents out.new) (E.contents err.old)
+        (E.contents err.new)) (exit_status result.code)) }
     ensures none { OnErr arguments ((exit_status result.code ≡ UNWRITTEN)
         ⊎ IsEndWithoutArguments (O.contents out.old) (O.contents out.new)
         (exit_status result.code)) }
 {
     match arguments {
         Ok(arguments) => {
-            let (end, receipts) = print_response(rt, system, arguments.as_slice(), input, out, err);
+            let (end, receipts) = print_response(rt, system, ports, arguments.as_slice(), input, out, err);
             let code = status_of(end, err);
             Left { code, receipts }
         }
@@ -107,24 +109,26 @@ fn print_without_arguments<O: Write, E: Write>(
 
 /// Does what the arguments ask for, prints its answer, or why it has none, and tells a line beside
 /// a refusal. The error is that of writing the answer.
-fn print_response<R: Runtime, S: System, I: Read, O: Write, E: Write>(
+fn print_response<R: Runtime, S: System, P: Ports, I: Read, O: Write, E: Write>(
     rt: &R,
     system: &S,
+    ports: &mut P,
     arguments: &[String],
     input: &mut I,
     out: &mut O,
     err: &mut E,
 ) -> (Result<u8, Unwritten>, Receipts<S::Receipt>)
-    ensures { IfOk result.0 (IsEndForArguments (named_by (S.holds system.now) (S.leads system.now))
-        (λ job left. AreKept (S.begins system.now) S.received job left result.1)
-        (result.1 ≡ none_opened)
-        (texts_of arguments.now) (I.remaining input.old)
+    ensures { IfOk result.0 (IsEndForArguments
+        (named_by (S.holds system.now) (S.leads system.now))
+        (IsLeft (S.begins system.now) S.received result.1 (P.ways ports.new))
+        (IsNoneLeft result.1 (P.ways ports.old) (P.ways ports.new))
+        (texts_of arguments.now) (given_by (I.remaining input.old) (P.ways ports.old))
         (streams_of (O.contents out.old) (O.contents out.new) (E.contents err.old)
         (E.contents err.new))) }
 {
     match read_arguments(rt.alloc(), arguments) {
         Ok(request) => {
-            let Ended { end, receipts } = answer_to(rt, system, &request, input, out, err);
+            let Ended { end, receipts } = answer_to(rt, system, ports, &request, input, out, err);
             let is_quiet = request.is_quiet;
             match end {
                 Ok(done) => (print_noted(done, is_quiet, out, err), receipts),

@@ -259,6 +259,10 @@ impl<'a> Ports for DeskPorts<'a> {
         Ok(StreamPort::new(stream, None))
     }
 
+    fn take_failure(&mut self) -> Option<io::Error> {
+        None
+    }
+
     fn close(&mut self, port: StreamPort<FromSwitch<'a>, ToSwitch<'a>>) {
         self.ways.give_back(port);
     }
