@@ -24,11 +24,11 @@ pub driven_over : {S P : Type 0} (hears : S → ℕ → List ℕ → Cue → S �
     → opened ≡ opened_by names was → opens ≡ given_back (seen.passed new) (seen.failures new) opened
     → seen.passed old ≡ Some [] → seen.failures old ≡ 0 → IsDriven hears rack batch settings how (seen.passed old) told (seen.passed new) tells → HasDriveCause seen rack batch settings how old new
     → IsDrivenOver hears rack batch settings how names was opens told tells
-driven_over hears seen rack batch settings how names was opened opens old new told tells open given fresh none went cause =
+driven_over hears seen rack batch settings how names was opened opens old new told tells begun given fresh none went cause =
     record {
       carried = seen.passed new;
       failed = seen.failures new;
-      ways = given ∙ ap (given_back (seen.passed new) (seen.failures new)) open;
+      ways = given ∙ ap (given_back (seen.passed new) (seen.failures new)) begun;
       went = rw fresh at went;
       cause = port_failed seen rack batch settings how old new none cause;
     }

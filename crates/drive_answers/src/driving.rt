@@ -79,10 +79,10 @@ fn drive_over<Q: Ports, S: Stage>(
     requires modules { HasModulesOf (wired_in rack) batch.now }
     requires schedule { IsScheduleOf batch.now schedule.now }
     ensures answer { IfOk result
-        (IsTried S.hears rack batch.now schedule.now (names_of names) (Q.ways ports.old)
+        (IsTried S.hears rack batch.now schedule.now (names_of names.entry) (Q.ways ports.old)
         (Q.ways ports.new) stage.old stage.new) }
     ensures fault { IfErr result
-        (HasFailedOver S.hears rack batch.now schedule.now (names_of names) (Q.ways ports.old)
+        (HasFailedOver S.hears rack batch.now schedule.now (names_of names.entry) (Q.ways ports.old)
         (Q.ways ports.new) stage.old stage.new) }
 {
     // The last line's room is kept before anything is sent.

@@ -13,7 +13,7 @@ pub struct PortNames<'a> {
 impl<'a> PortNames<'a> {
     /// How many there are.
     pub fn count(self) -> usize
-        ensures { result ≡ how_many (names_of self) }
+        ensures { result ≡ how_many (names_of self.entry) }
     {
         match self.port_b {
             Some(_) => 2,

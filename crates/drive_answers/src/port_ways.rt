@@ -50,7 +50,7 @@ fn seen(name: &str) -> PassedBytes
 
 /// The bytes of a name, where there is one.
 fn seen_option(name: Option<&str>) -> Option<PassedBytes>
-    ensures { result ≡ bytes_of name }
+    ensures { result ≡ bytes_of name.entry }
 {
     match name {
         Some(name) => Some(seen(name)),
@@ -73,7 +73,7 @@ impl PortWays {
 
     /// Those of these names were opened.
     pub fn open(&mut self, names: PortNames<'_>)
-        ensures { self.new ≡ opened_by (names_of names) self.old }
+        ensures { self.new ≡ opened_by (names_of names.entry) self.old }
     {
         self.opened.raise();
         self.names = Some(SeenNames {

@@ -47,7 +47,7 @@ nothing_gone contents received begins name (Some o) (Some r) opened closed =
 -- nothing was written
 pub unkept : {F C : Type 0} (contents : F → Option (List ℕ)) (received : C → Option (List ℕ)) (begins : List ℕ → List ℕ) (job : Job) (old new : Outputs F) (receipts : Receipts C)
     → AreOpened contents begins (record_of job) (output_of job) old → new ≡ old → AreClosed contents received new receipts → AreKept begins received job None receipts
-unkept contents received begins job old new receipts opened same closed =
+unkept {F = F} contents received begins job old new receipts opened same closed =
     let shut : AreClosed contents received old receipts = subst (λ (o : Outputs F). AreClosed contents received o receipts) same closed in
     (nothing_gone contents received begins (record_of job) old.recorded receipts.recorded opened.0 shut.0, nothing_gone contents received begins (output_of job) old.image receipts.image opened.1 shut.1)
 
@@ -66,7 +66,7 @@ pub kept_where_done : {F C : Type 0} (contents : F → Option (List ℕ)) (recei
     → HasTold before after (λ told done. (left : Option Account) × is told done left × (done.lost ≡ lost_none → AreKept begins received job left receipts)) unanswered r
 kept_where_done contents received begins job (Ok done) (Ok u) before after is unanswered old new receipts ok named opened closed t =
     (t.0, t.1, (t.2.0, t.2.1, λ none. kept contents received begins job t.2.0 old new receipts opened named (subst (AreOutputsWritten contents t.2.0 old new) none t.2.2) closed), tt)
-kept_where_done contents received begins job (Ok done) (Err e) before after is unanswered old new receipts ok named opened closed t = absurd ok
+kept_where_done contents received begins job (Ok done) (Err e) before after is unanswered old new receipts ok named opened closed t = absurd (let bad = ok in cc)
 kept_where_done contents received begins job (Err missed) first before after is unanswered old new receipts ok named opened closed t = (t.0, t.1, tt, t.3)
 
 pub unkept_where_missed : {F C : Type 0} (contents : F → Option (List ℕ)) (received : C → Option (List ℕ)) (begins : List ℕ → List ℕ) (job : Job) (r : Result Answered NoAnswer) (old new : Outputs F) (receipts : Receipts C)
@@ -77,5 +77,5 @@ unkept_where_missed contents received begins job (Err missed) old new receipts o
 -- what was answered had its files opened
 pub apart_where_done : {X E F U : Type 0} (r : Result X E) (first : Result U F) (P : Type 0) → OnOk r (IsOk first) → OnOk first P → OnOk r P
 apart_where_done (Ok x) (Ok u) P ok so = so
-apart_where_done (Ok x) (Err e) P ok so = absurd ok
+apart_where_done (Ok x) (Err e) P ok so = absurd (let bad = ok in cc)
 apart_where_done (Err e) first P ok so = tt

@@ -11,4 +11,4 @@ pub returns-clause-answer : goal.returns-clause-answer
 returns-clause-answer g c =
     let t = c.answer_lines.ensures in
     let driven = rw c.in_ok-answer.was at t.2 in
-    (t.0, t.1, (c.alone.ensures.1, rw c.alone.ensures.0 driven), tt)
+    (t.0, t.1, (c.alone.ensures.1, rw c.take_failure.ensures (rw c.alone.ensures.0 driven)), tt)

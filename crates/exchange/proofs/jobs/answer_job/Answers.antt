@@ -1,4 +1,5 @@
-use Rattle.std.proofs.Common.{List, [], ℕ, Option, rules, ⊤, ◌≡◌, None}
+use Rattle.std.proofs.Common.{List, [], ℕ, Option, rules, ◌≡◌, None}
+use Rattle.std.specs.Prelude.{⊤}
 use Rattle.std.proofs.KnownBytes.{Appends-nil}
 use Rattle.session_answers.specs.HostAnswers.{SessionEnd, IsHostAnswer}
 use Rattle.session_answers.specs.Serving.{IsServeAnswer}

@@ -7,17 +7,17 @@ pub returns-clause-response : goal.returns-clause-response
 returns-clause-response g c =
     let job = c.args.request.now.job in
     let begins = g.S.System.begins c.args.system.now in
-    let contents = g.S.System.Stream.Write.contents in
-    kept_where_done contents g.S.System.received begins job c.answer_opened-end.result c.open_apart.result.1 _ _ (λ told done left. IsJobAnswer (g.S.System.holds c.args.system.now) (given_by (g.I.Read.remaining c.args.input.now) (g.P.Ports.ways c.args.ports.now)) job (record { told = told; end = done.answer; left = left; ports = g.P.Ports.ways c.answer_opened-end.new.ports })) _ c.open_apart.result.0 c.answer_opened-end.new.outputs c.close_outputs.result
-    c.answer_opened-end.ensures.opened c.open_apart.ensures.named c.open_apart.ensures.opened c.close_outputs.ensures c.answer_opened-end.ensures.response
+    let contents = g.S.Stream.Write.contents in
+    kept_where_done contents g.S.System.received begins job c.answer_opened-end.result c.open_apart-outputs.result.1 _ _ (λ told done left. IsJobAnswer (g.S.System.holds c.args.system.now) (given_by (g.I.Read.remaining c.args.input.now) (g.P.Ports.ways c.args.ports.now)) job (record { told = told; end = done.answer; left = left; ports = g.P.Ports.ways c.answer_opened-end.new.ports })) _ c.open_apart-outputs.result.0 c.answer_opened-end.new.outputs c.close_outputs.result
+    c.answer_opened-end.ensures.opened c.open_apart-outputs.ensures.named c.open_apart-outputs.ensures.opened c.close_outputs.ensures c.answer_opened-end.ensures.response
 
 pub returns-clause-apart : goal.returns-clause-apart
 returns-clause-apart g c =
-    apart_where_done c.answer_opened-end.result c.open_apart.result.1 _ c.answer_opened-end.ensures.opened c.open_apart.ensures.apart
+    apart_where_done c.answer_opened-end.result c.open_apart-outputs.result.1 _ c.answer_opened-end.ensures.opened c.open_apart-outputs.ensures.apart
 
 pub returns-clause-unkept : goal.returns-clause-unkept
 returns-clause-unkept g c =
     let job = c.args.request.now.job in
     let begins = g.S.System.begins c.args.system.now in
-    unkept_where_missed g.S.System.Stream.Write.contents g.S.System.received begins job c.answer_opened-end.result c.open_apart.result.0 c.answer_opened-end.new.outputs c.close_outputs.result
-    c.open_apart.ensures.opened c.answer_opened-end.ensures.unkept c.close_outputs.ensures
+    unkept_where_missed g.S.Stream.Write.contents g.S.System.received begins job c.answer_opened-end.result c.open_apart-outputs.result.0 c.answer_opened-end.new.outputs c.close_outputs.result
+    c.open_apart-outputs.ensures.opened c.answer_opened-end.ensures.unkept c.close_outputs.ensures

@@ -11,7 +11,3 @@ pub returns-in_ok-write-in-Clap : goal.returns-in_ok-write-in-Clap
 returns-in_ok-write-in-Clap g c =
     let fault = c.use_stderr.ensures.0 c.if-use_stderr.true in
     rw c.in-Clap.is ((λ help. elim help [ inl is ↦ absurd (fault.0 is) | inr is ↦ absurd (fault.1 is) ]), (λ other. (refl, refl)))
-
-pub returns-in_ok-write_help-in-Clap-2 : goal.returns-in_ok-write_help-in-Clap-2
-returns-in_ok-write_help-in-Clap-2 g c =
-    rw c.in-Clap-2.is ((λ help. (refl, Appends-nil _)), (λ other. absurd (let yes = c.use_stderr.ensures.1 ((λ e. other (inl e)), (λ e. other (inr e))) in let no = c.if-use_stderr.false in cc)))

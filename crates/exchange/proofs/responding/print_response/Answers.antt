@@ -1,24 +1,41 @@
-use Rattle.std.proofs.Common.{refl, sym}
+use Rattle.std.proofs.Common.{◌≡◌, None, refl, sym}
+use Rattle.exchange.specs.Drives.{given_by}
+use Rattle.exchange.specs.Ends.{IsLeft, IsNoneLeft, streams_of}
 use Rattle.exchange.specs.Outcomes.{IsNoAnswer, IsUnanswered}
+use Rattle.exchange.specs.Outputs.{lost_none}
+use Rattle.exchange.specs.Responses.{Response, named_by, unanswered}
 use Rattle.exchange.specs.declared.notes.NoAnswer.TheVariants.{Refused}
 use Rattle.exchange.proofs.Told.{answered, asked, faulty, not_answered}
 use Rattle.exchange.proofs.responding.print_response.Goals as goal
 
-pub returns-in-Ok-answer_to : goal.returns-in-Ok-answer_to
-returns-in-Ok-answer_to g c =
-    let t = c.in-Ok-answer_to.ensures.response in
-    asked c.print_noted.result _ _ _ _ _ c.in-Ok.request _ c.in-Ok.ensures.request
-    (answered c.print_noted.result _ _ _ c.in-Ok.request t.0 t.2.0 _ c.in-Ok-answer_to.done _ _ _ _ _ _ t.1 c.in-Ok-answer_to.ensures.apart t.2.1 (λ none. (t.2.2 none, refl)) c.in-Ok-answer_to.ensures.note c.in-Ok-answer_to.ensures.beside c.print_noted.ensures.printed c.print_noted.ensures.told)
+pub returns-in-Ok-end : goal.returns-in-Ok-end
+returns-in-Ok-end g c =
+    let t = rw c.in-Ok-end.is at c.answer_to-end.ensures.response in
+    let note = rw c.in-Ok-end.is at c.answer_to-end.ensures.note in
+    let apart = rw c.in-Ok-end.is at c.answer_to-end.ensures.apart in
+    let done = c.in-Ok-end.done in
+    let opens = g.P.Ports.ways c.answer_to-end.new.ports in
+    let response : Response = record { told = t.0; end = done.answer; left = t.2.0; ports = opens } in
+    let kept : done.lost ≡ lost_none → IsLeft (g.S.System.begins c.args.system.now) g.S.System.received c.answer_to-end.result.receipts opens c.in-Ok.request.job response = λ none. (t.2.2 none, refl) in
+    let named = named_by (g.S.System.holds c.args.system.now) (g.S.Places.leads c.args.system.now) in
+    let given = given_by (g.I.Read.remaining c.args.input.now) (g.P.Ports.ways c.args.ports.now) in
+    let keeps = IsLeft (g.S.System.begins c.args.system.now) g.S.System.received c.answer_to-end.result.receipts (g.P.Ports.ways c.answer_to-end.new.ports) in
+    let none_left = IsNoneLeft c.answer_to-end.result.receipts (g.P.Ports.ways c.args.ports.now) (g.P.Ports.ways c.answer_to-end.new.ports) in
+    let streams = streams_of (g.O.Write.contents c.args.out.now) (g.O.Write.contents c.print_noted.new.out) (g.E.Write.contents c.args.err.now) (g.E.Write.contents c.print_noted.new.err) in
+    asked c.print_noted.result named keeps none_left _ given c.in-Ok.request streams c.in-Ok.ensures.request
+    (answered c.print_noted.result named keeps given c.in-Ok.request t.0 t.2.0 opens done _ _ _ _ _ _ t.1 apart t.2.1 kept note c.answer_to-end.ensures.beside c.print_noted.ensures.printed c.print_noted.ensures.told)
 
 pub returns-in-Err-Refused : goal.returns-in-Err-Refused
 returns-in-Err-Refused g c =
-    let t = c.in-Err-Refused.ensures.response in
-    let note : IsNoAnswer (Refused c.in-Err-Refused.why c.in-Err-Refused.note) = rw c.in-Err-Refused.field-0-is at c.in-Err-Refused.ensures.note in
-    let none : IsUnanswered c.in-Ok.request.job (g.P.Ports.ways c.args.ports.now) (g.P.Ports.ways c.answer_to.new.ports) t.0 = rw c.in-Err-Refused.field-0-is at t.3 in
-    let unkept = rw c.in-Err-Refused.field-0-is at c.in-Err-Refused.ensures.unkept in
-    asked c.refuse_noted.result _ _ _ _ _ c.in-Ok.request _ c.in-Ok.ensures.request
-    (not_answered c.refuse_noted.result _ _ _ c.in-Ok.request t.0 c.in-Err-Refused.why c.in-Err-Refused.note _ _ _ _ _ _ t.1 none.0 (unkept, sym none.1) note c.in-Err-Refused.ensures.beside c.refuse_noted.ensures.printed c.refuse_noted.ensures.told)
-
-pub returns-in-Err : goal.returns-in-Err
-returns-in-Err g c =
-    faulty c.print_fault.result _ _ _ _ _ c.in-Err.fault _ (rw c.in-Err.is at c.read_arguments.ensures.fault) (c.none.ensures, refl) c.print_fault.ensures
+    let t = rw (c.in-Err-Refused.is, c.in-Err-Refused.field-0-is) at c.answer_to-end.ensures.response in
+    let note : IsNoAnswer (Refused c.in-Err-Refused.why c.in-Err-Refused.note) = rw (c.in-Err-Refused.is, c.in-Err-Refused.field-0-is) at c.answer_to-end.ensures.note in
+    let none : IsUnanswered c.in-Ok.request.job (g.P.Ports.ways c.args.ports.now) (g.P.Ports.ways c.answer_to-end.new.ports) t.0 = t.3 in
+    let unkept = rw c.in-Err-Refused.is at c.answer_to-end.ensures.unkept in
+    let left : IsLeft (g.S.System.begins c.args.system.now) g.S.System.received c.answer_to-end.result.receipts (g.P.Ports.ways c.answer_to-end.new.ports) c.in-Ok.request.job (record { told = t.0; end = unanswered c.in-Err-Refused.why; left = None; ports = g.P.Ports.ways c.args.ports.now }) = (unkept, sym none.1) in
+    let named = named_by (g.S.System.holds c.args.system.now) (g.S.Places.leads c.args.system.now) in
+    let given = given_by (g.I.Read.remaining c.args.input.now) (g.P.Ports.ways c.args.ports.now) in
+    let keeps = IsLeft (g.S.System.begins c.args.system.now) g.S.System.received c.answer_to-end.result.receipts (g.P.Ports.ways c.answer_to-end.new.ports) in
+    let none_left = IsNoneLeft c.answer_to-end.result.receipts (g.P.Ports.ways c.args.ports.now) (g.P.Ports.ways c.answer_to-end.new.ports) in
+    let streams = streams_of (g.O.Write.contents c.args.out.now) (g.O.Write.contents c.refuse_noted.new.out) (g.E.Write.contents c.args.err.now) (g.E.Write.contents c.refuse_noted.new.err) in
+    asked c.refuse_noted.result named keeps none_left _ given c.in-Ok.request streams c.in-Ok.ensures.request
+    (not_answered c.refuse_noted.result named keeps given c.in-Ok.request t.0 c.in-Err-Refused.why c.in-Err-Refused.note _ _ _ _ _ _ t.1 none.0 left note c.answer_to-end.ensures.beside c.refuse_noted.ensures.printed c.refuse_noted.ensures.told)

@@ -8,10 +8,10 @@ use Rattle.exchange.proofs.responding.respond.Goals as goal
 
 pub returns-in-Ok-clause-arguments : goal.returns-in-Ok-clause-arguments
 returns-in-Ok-clause-arguments g c =
-    rw c.in-Ok.is (ended c.print_response.result.0 _ (λ (e : Option (List ℕ)) (code : ℕ). IsEndForArguments (named_by (g.S.System.holds c.args.system.now) (g.S.Places.leads c.args.system.now)) (IsLeft (g.S.System.begins c.args.system.now) g.S.System.received c.print_response.result.1 (g.P.Ports.ways c.print_response.new.ports)) (IsNoneLeft c.print_response.result.1 (g.P.Ports.ways c.args.ports.now) (g.P.Ports.ways c.print_response.new.ports)) (texts_of c.in-Ok.arguments.items) (given_by (g.I.Read.remaining c.args.input.now) (g.P.Ports.ways c.args.ports.now)) (streams_of (g.O.Write.contents c.args.out.now) (g.O.Write.contents c.print_response.new.out) (g.E.Write.contents c.args.err.now) e) code) _ _
-    (rw c.as_slice.ensures.value at c.print_response.ensures) c.status_of.ensures.done c.status_of.ensures.unwritten)
+    rw c.in-Ok.is (ended c.print_response-end.result.0 _ (λ (e : Option (List ℕ)) (code : ℕ). IsEndForArguments (named_by (g.S.System.holds c.args.system.now) (g.S.Places.leads c.args.system.now)) (IsLeft (g.S.System.begins c.args.system.now) g.S.System.received c.print_response-end.result.1 (g.P.Ports.ways c.print_response-end.new.ports)) (IsNoneLeft c.print_response-end.result.1 (g.P.Ports.ways c.args.ports.now) (g.P.Ports.ways c.print_response-end.new.ports)) (texts_of c.in-Ok.arguments.items) (given_by (g.I.Read.remaining c.args.input.now) (g.P.Ports.ways c.args.ports.now)) (streams_of (g.O.Write.contents c.args.out.now) (g.O.Write.contents c.print_response-end.new.out) (g.E.Write.contents c.args.err.now) e) code) _ _
+    (rw c.as_slice.ensures.value at c.print_response-end.ensures) c.status_of-code.ensures.done c.status_of-code.ensures.unwritten)
 
 pub returns-in-Err-clause-none : goal.returns-in-Err-clause-none
 returns-in-Err-clause-none g c =
     rw c.in-Err.is (ended c.print_without_arguments.result _ (λ (e : Option (List ℕ)) (code : ℕ). IsEndWithoutArguments (g.O.Write.contents c.args.out.now) (g.O.Write.contents c.print_without_arguments.new.out) code) _ _
-    c.print_without_arguments.ensures c.status_of-in-Err.ensures.done c.status_of-in-Err.ensures.unwritten)
+    c.print_without_arguments.ensures c.status_of-code-in-Err.ensures.done c.status_of-code-in-Err.ensures.unwritten)
