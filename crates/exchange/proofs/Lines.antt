@@ -12,7 +12,7 @@ use Rattle.drive_answers.specs.Ways.{Names, Ways}
 use Rattle.drive_answers.specs.declared.fault.DriveFault.{DriveFault}
 use Rattle.drive_answers.specs.declared.fault.DriveFault.TheVariants.{Untold, NoMemory}
 use Rattle.drive_answers.proofs.Told.{told_answer, told_failure}
-use Rattle.exchange.specs.Drives.{IsDriveBy, given_by}
+use Rattle.exchange.specs.Drives.{IsDriveBy}
 use Rattle.exchange.specs.Outcomes.{HasTold, IfRefused, IsMissedFor, IsNoAnswer}
 use Rattle.exchange.specs.declared.notes.NoAnswer.{NoAnswer}
 use Rattle.exchange.specs.declared.notes.NoAnswer.TheVariants.{Refused, Unwritten}
@@ -51,7 +51,7 @@ by_lines {I} {O} remaining contents source batch wiring names was opens told tel
 -- lines are waited for unless it goes on, and they are the first of the input
 pub driven_by : (r : Result Printed DriveFault) (source : Source (List ℕ)) (batch : List ℕ) (wiring : Option (List ℕ)) (goes_on waits : Bool) (names : Names) (input left : Option (List ℕ)) (was opens : Ways) (text : List ℕ) → waits ≡ not goes_on → left ≡ input
     → IfOk r (λ end. (leaves : Option (List ℕ)) × IsDriveAnswer (TellsLine waits) source batch wiring names was opens (record { told = []; left = left }) (record { told = text; left = leaves }) end)
-    → IfOk r (IsDriveBy source batch wiring goes_on names (given_by input was) opens text)
+    → IfOk r (IsDriveBy source batch wiring goes_on names input was opens text)
 driven_by (Ok end) source batch wiring goes_on waits names input left was opens text so same is = (
   is.0,
   subst (λ (b : Bool). IsDriveAnswer (TellsLine b) source batch wiring names was opens (record { told = []; left = input }) (record { told = text; left = is.0 }) end) so

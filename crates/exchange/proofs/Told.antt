@@ -19,10 +19,12 @@ use Rattle.exchange.specs.declared.notes.Answered.{Answered}
 use Rattle.exchange.specs.declared.notes.NoAnswer.{NoAnswer}
 use Rattle.exchange.specs.Apart.{AreSeenApart}
 use Rattle.drive_answers.specs.Ways.{Ways}
-use Rattle.exchange.specs.Drives.{Given}
-use Rattle.exchange.specs.Responses.{IsAlone, IsJobAnswer, IsToldUnanswered, Named, Response, unanswered}
+use Rattle.session_answers.specs.HostAnswers.{SessionEnd}
+use Rattle.session_answers.specs.declared.ended_session.Ending.{Ending}
+use Rattle.exchange.specs.Clients.{ends_of}
+use Rattle.exchange.specs.Responses.{Given, IsAlone, IsJobAnswer, IsToldUnanswered, Named, Response, unanswered}
 use Rattle.exchange.specs.Notes.{IsToldInPart, IsBeside, IsNoteOn, IsNoted, IsToldUnless, IsWholeLine}
-use Rattle.exchange.specs.Outcomes.{HasTold, IsAnswered, IsUnanswered, response_of}
+use Rattle.exchange.specs.Outcomes.{HasTold, IsAnswered, IsNothing, IsUnanswered, response_of}
 use Rattle.exchange.specs.declared.found.Found.{Found}
 use Rattle.command_words.specs.declared.jobs.ArgumentsFault.{ArgumentsFault}
 use Rattle.command_words.specs.declared.jobs.ArgumentsFault.TheVariants as arguments_fault
@@ -41,24 +43,33 @@ none_told : (job : Job) → IsToldUnanswered job []
 none_told (Talk rack) = tt
 none_told job = refl
 
-pub none_asked : (job : Job) (ports : Ways) → IsUnanswered job ports ports []
-none_asked job ports = (none_told job, refl)
+pub none_asked : (job : Job) (ports : Ways) (ends : List SessionEnd) → ends ≡ [] → IsUnanswered job ports ports ends []
+none_asked job ports ends none = (none_told job, refl, none)
+
+-- no session of a live client ended
+pub none_served : {C : Type 0} (told : C → Option (List ℕ)) (endings : List (Ending C)) → endings ≡ [] → ends_of told endings ≡ []
+none_served told endings none = rw none refl
 
 -- the same, where that is said of the answer
-pub nothing_before : {X : Type 0} (r : Result X NoAnswer) (before : Option (List ℕ)) (ports : Ways) (P : X → Type 0) → IfOk r P → HasTold before before (λ told x. (told ≡ []) × P x) (λ told. (told ≡ []) × (ports ≡ ports)) r
-nothing_before (Ok x) before ports P so = ([], Appends-nil before, (refl, so), tt)
-nothing_before (Err (missed.Refused why line)) before ports P so = ([], Appends-nil before, tt, (refl, refl))
-nothing_before (Err (missed.Unwritten what)) before ports P so = ([], Appends-nil before, tt, tt)
+pub nothing_before : {X : Type 0} (r : Result X NoAnswer) (before : Option (List ℕ)) (P : X → Type 0) → IfOk r P → HasTold before before (λ told x. (told ≡ []) × P x) IsNothing r
+nothing_before (Ok x) before P so = ([], Appends-nil before, (refl, so), tt)
+nothing_before (Err (missed.Refused why line)) before P so = ([], Appends-nil before, tt, refl)
+nothing_before (Err (missed.Unwritten what)) before P so = ([], Appends-nil before, tt, tt)
 
 -- no port was asked for
-pub unasked : {X : Type 0} (r : Result X NoAnswer) (before after : Option (List ℕ)) (is : List ℕ → X → Type 0) (behind : List ℕ → Type 0) (ports : Ways) → HasTold before after is behind r → HasTold before after is (λ told. behind told × (ports ≡ ports)) r
-unasked (Ok x) before after is behind ports t = (t.0, t.1, t.2, tt)
-unasked (Err (missed.Refused why line)) before after is behind ports t = (t.0, t.1, tt, (t.3, refl))
-unasked (Err (missed.Unwritten what)) before after is behind ports t = (t.0, t.1, tt, tt)
+pub unasked : {X : Type 0} (r : Result X NoAnswer) (before after : Option (List ℕ)) (is : List ℕ → X → Type 0) (behind : List ℕ → Type 0) (ports : Ways) (ends : List SessionEnd) → OnErr r (ends ≡ []) → HasTold before after is behind r → HasTold before after is (λ told. behind told × (ports ≡ ports) × (ends ≡ [])) r
+unasked (Ok x) before after is behind ports ends none t = (t.0, t.1, t.2, tt)
+unasked (Err (missed.Refused why line)) before after is behind ports ends none t = (t.0, t.1, tt, (t.3, refl, none))
+unasked (Err (missed.Unwritten what)) before after is behind ports ends none t = (t.0, t.1, tt, tt)
+
+-- so it is of whatever comes of it
+pub if_not : {X E : Type 0} (r : Result X E) (P : Type 0) → P → OnErr r P
+if_not (Ok x) P so = tt
+if_not (Err e) P so = so
 
 -- an answer alone
-pub alone : (P : Printed → Type 0) (ports : Ways) (found : Found) (answer : Printed) → (found.answer ≡ answer) × (found.book ≡ None) → P answer → IsAlone (response_of [] found ports) × P found.answer
-alone P ports found answer is so = ((refl, is.1), subst P (sym is.0) so)
+pub alone : (P : Printed → Type 0) (ports : Ways) (ends : List SessionEnd) (found : Found) (answer : Printed) → (found.answer ≡ answer) × (found.book ≡ None) → P answer → IsAlone (response_of [] found ports ends) × P found.answer
+alone P ports ends found answer is so = ((refl, is.1), subst P (sym is.0) so)
 
 -- the bytes of a line, if there is one
 abbrev pub bytes_of_line : Option (String Global) → Option (List ℕ)
@@ -79,27 +90,27 @@ file_told None h = tt
 file_told (Some text) h = record { refused = refl; of = (refusal.File, (λ e. cc), refl); whole = h }
 
 -- an answer that is printed behind it
-pub answered : {E : Type 0} (r : Result ℕ E) (named : Named) (keeps : Job → Response → Type 0) (given : Given) (request : Request) (told : List ℕ) (left : Option Account) (ports : Ways) (done : Answered) (out_before out_after has eb em ea : Option (List ℕ))
-    → Appends out_before out_after told → AreSeenApart named.leads (file_uses request.job) → IsJobAnswer named.holds given request.job (record { told = told; end = done.answer; left = left; ports = ports }) → (done.lost ≡ lost_none → keeps request.job (record { told = told; end = done.answer; left = left; ports = ports })) → IsAnswered done
+pub answered : {E : Type 0} (r : Result ℕ E) (named : Named) (keeps : Job → Response → Type 0) (given : Given) (request : Request) (told : List ℕ) (left : Option Account) (ports : Ways) (ends : List SessionEnd) (done : Answered) (out_before out_after has eb em ea : Option (List ℕ))
+    → Appends out_before out_after told → AreSeenApart named.leads (file_uses request.job) → IsJobAnswer named.holds given request.job (record { told = told; end = done.answer; left = left; ports = ports; ends = ends }) → (done.lost ≡ lost_none → keeps request.job (record { told = told; end = done.answer; left = left; ports = ports; ends = ends })) → IsAnswered done
     → IsBeside request eb em → IfOk r (λ status. IsPrinted out_after has done.answer status × (done.lost ≡ lost_none)) → IsToldUnless request.is_quiet (bytes_of_line done.note) em ea
     → IfOk r (IsDone named keeps given request (streams_of out_before has eb ea))
-answered (Ok status) named keeps given request told left ports done out_before out_after has eb em ea first apart is kept note beside then said = (
-  record { told = told; end = done.answer; left = left; ports = ports },
+answered (Ok status) named keeps given request told left ports ends done out_before out_after has eb em ea first apart is kept note beside then said = (
+  record { told = told; end = done.answer; left = left; ports = ports; ends = ends },
   inl (apart, is),
   kept then.1,
   record { text = Appends-trans out_before out_after has told done.answer.text first then.0.text; status = then.0.status },
   noted request done.answer (bytes_of_line done.note) eb em ea note beside said,
 )
-answered (Err e) named keeps given request told left ports done out_before out_after has eb em ea first apart is kept note beside then said = tt
+answered (Err e) named keeps given request told left ports ends done out_before out_after has eb em ea first apart is kept note beside then said = tt
 
 -- and why there is none
 pub not_answered : {E : Type 0} (r : Result ℕ E) (named : Named) (keeps : Job → Response → Type 0) (given : Given) (request : Request) (told : List ℕ) (why : Unanswered) (line : Option (String Global)) (out_before out_after has eb em ea : Option (List ℕ))
-    → Appends out_before out_after told → IsToldUnanswered request.job told → keeps request.job (record { told = told; end = unanswered why; left = None; ports = given.ports }) → IsNoteOn (unanswered why) (bytes_of_line line)
+    → Appends out_before out_after told → IsToldUnanswered request.job told → keeps request.job (record { told = told; end = unanswered why; left = None; ports = given.ports; ends = [] }) → IsNoteOn (unanswered why) (bytes_of_line line)
     → IsBeside request eb em → IfOk r (IsPrinted out_after has (unanswered why)) → IsToldUnless request.is_quiet (bytes_of_line line) em ea
     → IfOk r (IsDone named keeps given request (streams_of out_before has eb ea))
 not_answered (Ok status) named keeps given request told why line out_before out_after has eb em ea first none kept note beside then said = (
-  record { told = told; end = unanswered why; left = None; ports = given.ports },
-  inr (none, refl, (why, refl)),
+  record { told = told; end = unanswered why; left = None; ports = given.ports; ends = [] },
+  inr (none, refl, refl, (why, refl)),
   kept,
   record { text = Appends-trans out_before out_after has told (unanswered why).text first then.text; status = then.status },
   noted request (unanswered why) (bytes_of_line line) eb em ea note beside said,

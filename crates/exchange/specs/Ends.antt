@@ -11,8 +11,8 @@ use Rattle.command_words.specs.declared.jobs.ArgumentsFault.TheVariants as argum
 use Rattle.command_words.specs.Jobs.{AskFor, AsksForHelp, IsFaultIn}
 use Rattle.exchange.specs.declared.limits.TheConstants.{MISUSED}
 use Rattle.exchange.specs.declared.unanswered.Unanswered.TheVariants.{NoMemory}
-use Rattle.exchange.specs.Drives.{Given}
-use Rattle.exchange.specs.Responses.{IsResponseTo, Named, Response, unanswered}
+use Rattle.session_answers.specs.HostAnswers.{SessionEnd}
+use Rattle.exchange.specs.Responses.{Given, IsResponseTo, Named, Response, unanswered}
 use Rattle.exchange.specs.Notes.{IsNoted, IsToldInPart}
 use Rattle.exchange.specs.Outputs.{AreKept, Beginning, IsLostTold, lost_none, none_opened}
 use Rattle.exchange.specs.declared.outputs.Receipts.{Receipts}
@@ -24,15 +24,16 @@ use Rattle.exchange.specs.declared.unwritten.Unwritten.TheVariants.{Answer, Sett
 abbrev pub Keeping : Type 1
 Keeping = Job → Response → Type 0
 
--- these files were kept, and the ports are so
-abbrev pub IsLeft : {C : Type 0} → Beginning → (C → Option (List ℕ)) → Receipts C → Ways → Job
-    → Response → Type 0
-IsLeft begins received receipts ports job response =
+-- these files were kept, and ports and clients are left so
+abbrev pub IsLeft : {C : Type 0} → Beginning → (C → Option (List ℕ)) → Receipts C → Ways
+    → List SessionEnd → Job → Response → Type 0
+IsLeft begins received receipts ports ends job response =
     AreKept begins received job response.left receipts × (response.ports ≡ ports)
+    × (response.ends ≡ ends)
 
--- no file was opened to be written, and no port
-abbrev pub IsNoneLeft : {C : Type 0} → Receipts C → Ways → Ways → Type 0
-IsNoneLeft receipts was opens = (receipts ≡ none_opened) × (opens ≡ was)
+-- no file was opened to be written, no port, and no client's
+abbrev pub IsNoneLeft : {C : Type 0} → Receipts C → Ways → Ways → List SessionEnd → Type 0
+IsNoneLeft receipts was opens ends = (receipts ≡ none_opened) × (opens ≡ was) × (ends ≡ [])
 
 -- this was printed behind what stood there, and ends with its status
 pub record IsPrinted (before after : Option (List ℕ)) (printed : Printed) (code : ℕ) : Type 0 where

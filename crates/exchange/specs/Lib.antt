@@ -1,5 +1,6 @@
 pub mod Apart
 pub mod Contents
+pub mod Clients
 pub mod Drives
 pub mod Responses
 pub mod Outputs

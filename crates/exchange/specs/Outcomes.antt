@@ -7,6 +7,7 @@ use Rattle.exchange.specs.declared.notes.NoAnswer.TheVariants.{Refused, Unwritte
 use Rattle.exchange.specs.Notes.{IsNoteOn}
 use Rattle.command_words.specs.declared.jobs.Job.{Job}
 use Rattle.drive_answers.specs.Ways.{Ways}
+use Rattle.session_answers.specs.HostAnswers.{SessionEnd}
 use Rattle.exchange.specs.Responses.{IsToldUnanswered, Response, unanswered}
 use Rattle.exchange.specs.declared.found.Found.{Found}
 use Rattle.exchange.specs.declared.unanswered.Unanswered.TheVariants.{NoMemory as Memory}
@@ -46,14 +47,15 @@ abbrev pub IsMissedFor : DriveFault → NoAnswer → Type 0
 IsMissedFor Untold missed = IfRefused missed ⊥
 IsMissedFor NoMemory missed = missed ≡ Refused Memory None
 
--- what comes of a job that was told this before, and left the ports so
-abbrev pub response_of : List ℕ → Found → Ways → Response
-response_of told found ports =
-    record { told = told; end = found.answer; left = found.book; ports = ports }
+-- what comes of a job that was told this before, and left ports and clients so
+abbrev pub response_of : List ℕ → Found → Ways → List SessionEnd → Response
+response_of told found ports ends =
+    record { told = told; end = found.answer; left = found.book; ports = ports; ends = ends }
 
--- where a job has no answer, this was told before, and no port was opened
-abbrev pub IsUnanswered : Job → Ways → Ways → List ℕ → Type 0
-IsUnanswered job was opens told = IsToldUnanswered job told × (opens ≡ was)
+-- where a job has no answer, this was told before, no port was opened, and no end of a session is
+-- known
+abbrev pub IsUnanswered : Job → Ways → Ways → List SessionEnd → List ℕ → Type 0
+IsUnanswered job was opens ends told = IsToldUnanswered job told × (opens ≡ was) × (ends ≡ [])
 
 abbrev pub HasNote : Result Answered NoAnswer → Type 0
 HasNote result = MatchResult result IsAnswered IsNoAnswer

@@ -1,5 +1,5 @@
 -- What the program prints for a job.
-use Rattle.std.specs.Prelude.{◌≡◌, ◌⊎◌, ℕ, List, [], Option, None, ⊤, true, length, slice_index_or, unwrap_or}
+use Rattle.std.specs.Prelude.{◌≡◌, ◌⊎◌, ℕ, List, [], Option, None, ⊤, unwrap_or}
 use Rattle.std.specs.Io.KnownBytes.{Consumes, IsAtEnd}
 use Rattle.batch.specs.Extent.{widest}
 use Rattle.plan_answers.specs.Answers.{IsPlanned, IsChecked}
@@ -28,17 +28,28 @@ use Rattle.refusals.specs.Refusals.{refusal_line}
 use Rattle.exchange.specs.Apart.{AreSeenApart, Leading}
 use Rattle.exchange.specs.Contents.{AreContents, Holding}
 use Rattle.drive_answers.specs.Ways.{Ways}
-use Rattle.exchange.specs.Drives.{Given, IsDriveBy, given_by, names_in}
+use Rattle.exchange.specs.Drives.{IsDriveBy, names_in}
 use Rattle.exchange.specs.declared.unanswered.Unanswered.{Unanswered}
 use Rattle.exchange.specs.declared.unanswered.Unanswered.TheVariants.{File, NoMemory}
 
+-- what is given to a job besides its files: what is left of standard input, as far as that is
+-- known, the ports, and what is known of clients by their names
+pub record Given : Type 0 where
+  pub input : Option (List ℕ)
+  pub ports : Ways
+  pub clients : List (List ℕ) → KnownClients
+
+abbrev pub given_by : Option (List ℕ) → Ways → (List (List ℕ) → KnownClients) → Given
+given_by input ports clients = record { input = input; ports = ports; clients = clients }
+
 -- what comes of a job: what is told before its answer, this itself, the book that sessions leave,
--- and the ports behind it
+-- the ports behind it, and how the sessions of live clients ended
 pub record Response : Type 0 where
   pub told : List ℕ
   pub end : Printed
   pub left : Option Account
   pub ports : Ways
+  pub ends : List SessionEnd
 
 -- an answer alone: nothing is told before it, and no book is left
 abbrev pub IsAlone : Response → Type 0
@@ -61,17 +72,6 @@ IsC004By input replies end =
     × HasRun (record { switch = idle; begun = [] }) came replies told switch × (end.text ≡ [])
     × ((IsAtEnd after × (end.status ≡ DONE)) ⊎ (end.status ≡ REFUSED))
 
--- the clients of these names, of whose files no bytes are known
-abbrev pub clients_named : List (List ℕ) → KnownClients
-clients_named names =
-    record {
-      clients = length names;
-      says = λ _. None;
-      contains = λ _. None;
-      named = λ k. slice_index_or names k [];
-      may_fail = λ _. true;
-    }
-
 -- the answer to a job whose files contain this
 abbrev pub IsAnswerTo : Job → Files (List ℕ) → Given → Response → Type 0
 IsAnswerTo (Plan file planning workers) files given response =
@@ -89,7 +89,7 @@ IsAnswerTo (Switch batch source wiring workers) files given response =
 IsAnswerTo (Drive batch port port_b source wiring goes_on workers) files given response =
     (response.left ≡ None)
     × IsDriveBy (source_in source (text_in files.other)) (text_in files.list) files.wiring goes_on
-    (names_in port port_b) given response.ports response.told response.end
+    (names_in port port_b) given.input given.ports response.ports response.told response.end
 IsAnswerTo C004 files given response =
     (response.left ≡ None) × IsC004By given.input response.told response.end
 IsAnswerTo (Direct moves) files given response =
@@ -106,18 +106,19 @@ IsAnswerTo (Serve rack scripts workers) files given response =
     × IsServeAnswer rack.shape files.image files.scripts response.end response.left
 IsAnswerTo (Host rack clients workers) files given response =
     (response.told ≡ [])
-    × ((ends : List SessionEnd) × IsHostAnswer rack.shape files.image (clients_named clients) ends
-    response.end response.left)
+    × IsHostAnswer rack.shape files.image (given.clients clients) response.ends response.end
+    response.left
 IsAnswerTo (Talk rack) files given response =
     (after : Option (List ℕ))
     × IsTalkAnswer rack.shape files.image given.input after response.told response.end response.left
 IsAnswerTo (Replay shape recorded image) files given response =
     IsAlone response × IsReplayPrinted shape (text_in files.list) files.image response.end
 
--- only `drive` asks for ports
-abbrev pub LeavesPorts : Job → Ways → Ways → Type 0
-LeavesPorts (Drive batch port port_b source wiring goes_on workers) was opens = ⊤
-LeavesPorts job was opens = opens ≡ was
+-- only `drive` asks for ports, and only `host` has live clients
+abbrev pub LeavesRest : Job → Ways → Ways → List SessionEnd → Type 0
+LeavesRest (Drive batch port port_b source wiring goes_on workers) was opens ends = ends ≡ []
+LeavesRest (Host rack clients workers) was opens ends = opens ≡ was
+LeavesRest job was opens ends = (opens ≡ was) × (ends ≡ [])
 
 -- the files of a job are all that it asks for
 abbrev pub IsOfTexts : Job → Type 0
@@ -133,8 +134,8 @@ abbrev pub IsJobAnswer : Holding → Given → Job → Response → Type 0
 IsJobAnswer holds given job response =
     (files : Files (List ℕ)) × (rest : Option (List ℕ))
     × AreContents holds given.input (files_of job) files rest
-    × IsAnswerTo job files (given_by rest given.ports) response
-    × LeavesPorts job given.ports response.ports
+    × IsAnswerTo job files (given_by rest given.ports given.clients) response
+    × LeavesRest job given.ports response.ports response.ends
 
 -- the job is `talk`
 abbrev pub IsTalk : Job → Type 0
@@ -165,9 +166,10 @@ abbrev pub named_by : Holding → Leading → Named
 named_by holds leads = record { holds = holds; leads = leads }
 
 -- The answer to a job, and then what it writes was seen to be apart from what it reads; or why
--- there is none, behind what was told before, and then no port was opened.
+-- there is none, behind what was told before, and then no port was opened, and no end of a session
+-- is known.
 abbrev pub IsResponseTo : Named → Given → Job → Response → Type 0
 IsResponseTo named given job response =
     (AreSeenApart named.leads (file_uses job) × IsJobAnswer named.holds given job response)
     ⊎ (IsToldUnanswered job response.told × (response.ports ≡ given.ports)
-    × ((why : Unanswered) × (response.end ≡ unanswered why)))
+    × (response.ends ≡ []) × ((why : Unanswered) × (response.end ≡ unanswered why)))

@@ -5,7 +5,7 @@ ghost use Rattle.std.specs.Io.KnownBytes.{Appends};
 ghost use Rattle.drive_answers.specs.Ways.{names_of};
 ghost use Rattle.drive_answers.specs.declared.fault.DriveFault.TheVariants.{NoMemory};
 ghost use Rattle.exchange.specs.Contents.{contents_in};
-ghost use Rattle.exchange.specs.Drives.{IsDriveBy, given_by};
+ghost use Rattle.exchange.specs.Drives.{IsDriveBy};
 ghost use Rattle.exchange.specs.Outcomes.{HasTold, IsNoAnswer};
 ghost use Rattle.exchange.specs.Responses.{source_in, text_in};
 
@@ -36,7 +36,7 @@ fn answer_lines<R: AllocGlobal + Threads + Sync, P: Ports, I: Read, O: Write>(
     ensures { (told : List ℕ) × Appends (O.contents out.old) (O.contents out.new) told
         × IfOk result (let files = contents_in contents.now in
         IsDriveBy (source_in source.now (text_in files.other)) (text_in files.list) files.wiring
-        goes_on (names_of names.entry) (given_by (I.remaining input.old) (P.ways ports.old))
+        goes_on (names_of names.entry) (I.remaining input.old) (P.ways ports.old)
         (P.ways ports.new) told)
         × IfErr result (λ fault. fault ≡ NoMemory
         → (told ≡ []) × (P.ways ports.new ≡ P.ways ports.old)) }
@@ -69,7 +69,7 @@ pub(crate) fn drive<R: AllocGlobal + Threads + Sync, P: Ports, I: Read, O: Write
     ensures answer { HasTold (O.contents out.old) (O.contents out.new)
         (λ told found. let files = contents_in contents.now in (found.book ≡ None)
         × IsDriveBy (source_in source.now (text_in files.other)) (text_in files.list) files.wiring
-        goes_on (names_of names.entry) (given_by (I.remaining input.old) (P.ways ports.old))
+        goes_on (names_of names.entry) (I.remaining input.old) (P.ways ports.old)
         (P.ways ports.new) told found.answer)
         (λ told. (told ≡ []) × (P.ways ports.new ≡ P.ways ports.old)) result }
     ensures note { IfErr result (λ missed. IsNoAnswer missed) }

@@ -1,4 +1,4 @@
-//! The files of the real system.
+//! The files of the real system. Which bytes they hold contracts don't say.
 
 ghost use Rattle.std.specs.Prelude.{◌≡◌, ◌++◌, []};
 
@@ -24,6 +24,18 @@ fn add_all(sent: &mut PassedBytes, bytes: &[u8])
     }
 }
 
+impl SentFile {
+    /// A file to which nothing has gone as yet.
+    fn of(file: File) -> SentFile
+        ensures { result.sent ≡ [] }
+    {
+        SentFile {
+            file,
+            sent: PassedBytes::none(),
+        }
+    }
+}
+
 impl Write for SentFile {
     ghost use Rattle.std.specs.Prelude.{Some};
 
@@ -40,19 +52,28 @@ impl Write for SentFile {
     }
 }
 
-// No contract says what the system's files hold.
 impl System for HostRuntime {
-    ghost use Rattle.std.specs.Prelude.{⊤, [], Some};
+    ghost use Rattle.std.specs.Prelude.{⊤, [], None, Some};
 
     type Stream = SentFile;
 
     type Receipt = PassedBytes;
+
+    type Heard = File;
+
+    type Told = SentFile;
+
+    type ToldReceipt = PassedBytes;
 
     ghost holds = { λ _ _ _. ⊤ };
 
     ghost begins = { λ _ _. [] };
 
     ghost received = { λ sent. Some sent };
+
+    ghost says = { λ _ _. None };
+
+    ghost was_told = { λ sent. Some sent };
 
     fn read(&self, name: &str) -> io::Result<Vec<u8>> {
         fs::read(self, name)
@@ -63,8 +84,7 @@ impl System for HostRuntime {
             .write(true)
             .create(true)
             .open(self, name)?;
-        let sent = PassedBytes::none();
-        Ok(SentFile { file, sent })
+        Ok(SentFile::of(file))
     }
 
     fn empty(&self, stream: &mut SentFile) -> io::Result<()> {
@@ -77,5 +97,22 @@ impl System for HostRuntime {
     fn close(&self, stream: SentFile) -> PassedBytes {
         let SentFile { file: _, sent } = stream;
         sent
+    }
+
+    fn open_heard(&self, name: &str) -> io::Result<File> {
+        File::open(self, name)
+    }
+
+    fn open_told(&self, name: &str) -> io::Result<SentFile> {
+        let file = OpenOptions::new()
+            .write(true)
+            .create(true)
+            .truncate(true)
+            .open(self, name)?;
+        Ok(SentFile::of(file))
+    }
+
+    fn close_told(&self, told: SentFile) -> PassedBytes {
+        self.close(told)
     }
 }

@@ -6,24 +6,25 @@ ghost use Rattle.batch_book.specs.History.{Account};
 ghost use Rattle.client_session.specs.Listening.{TellsOfRefusals};
 ghost use Rattle.plan_answers.specs.Lent.{bytes_of};
 ghost use Rattle.command_words.specs.Jobs.{CanBeServed, IsWithinLimits, file_uses, files_of};
-ghost use Rattle.session_answers.specs.HostAnswers.{SessionEnd, IsHostAnswer};
+ghost use Rattle.session_answers.specs.HostAnswers.{IsHostAnswer, SessionEnd};
 ghost use Rattle.session_answers.specs.Serving.{IsServeAnswer};
 ghost use Rattle.session_answers.specs.Talking.{IsTalkAnswer};
 ghost use Rattle.exchange.specs.Apart.{AreSeenApart};
 ghost use Rattle.exchange.specs.Contents.{contents_in};
-ghost use Rattle.exchange.specs.Drives.{Given, given_by};
-ghost use Rattle.exchange.specs.Responses.{IsJobAnswer, IsAnswerTo, IsC004By, IsOfTexts, LeavesPorts, clients_named};
+ghost use Rattle.exchange.specs.Clients.{clients_by, ends_of};
+ghost use Rattle.exchange.specs.Responses.{Given, IsJobAnswer, IsAnswerTo, IsC004By, IsOfTexts, LeavesRest, given_by};
 ghost use Rattle.exchange.specs.Notes.{IsBeside};
 ghost use Rattle.exchange.specs.Outputs.{AreKept, AreOutputsWritten, lost_none};
 ghost use Rattle.exchange.specs.Outcomes.{HasNote, HasTold, IsNoAnswer, IsNothing, IsUnanswered, response_of};
 
 use crate::beside::Beside;
-use crate::client_streams::{ClientFiles, FileStreams, Runtime};
+use crate::client_streams::FileStreams;
 use crate::contents::{Contents, read_contents, slice_of, source_with, text_of};
 use crate::driving::drive;
 use crate::found::Found;
 use crate::notes::{Answered, NoAnswer, finished, reason_line, tell_note};
 use crate::outputs::{Outputs, Receipts, close_outputs, open_apart};
+use crate::peers::Peers;
 use crate::system::System;
 use crate::unwritten::Unwritten;
 use client_session::{Listener, NoListener};
@@ -33,7 +34,7 @@ use exchange_limits::WorkerCount;
 use plan_answers::{Answer, answer_check, answer_direct, answer_draw, answer_plan};
 use rack_answers::{answer_apply, answer_run, answer_switch};
 use replay_answers::answer_replay;
-use session_answers::{Hosted, answer_host, answer_serve, answer_talk};
+use session_answers::{Ending, answer_host, answer_serve, answer_talk};
 use std::alloc::{AllocError, Global};
 use std::io;
 use std::io::{Read, Write};
@@ -53,23 +54,27 @@ pub(crate) struct Ended<C> {
 /// enquiries there, and tells on `err` what it drops. It is looked first where names lead. Then the
 /// files for the record of sessions and for the image that they leave are opened, before any other
 /// is read, and all that are read are read before anything is answered.
-pub(crate) fn answer_to<R: Runtime, S: System, P: Ports, I: Read, O: Write, E: Write>(
+pub(crate) fn answer_to<R: AllocGlobal + Threads + Wait + Sync, S: System, P: Ports, I: Read, O: Write, E: Write>(
     rt: &R,
     system: &S,
-    ports: &mut P,
+    peers: &mut Peers<P, S::ToldReceipt>,
     request: &Request,
     input: &mut I,
     out: &mut O,
     err: &mut E,
 ) -> Ended<S::Receipt>
     requires limits { IsWithinLimits request.now.job }
+    requires unserved { peers.old.endings.items ≡ [] }
     ensures response { HasTold (O.contents out.old) (O.contents out.new)
         (λ told done. (left : Option Account) × IsJobAnswer (S.holds system.now)
-        (given_by (I.remaining input.old) (P.ways ports.old)) request.now.job
-        (record { told = told; end = done.answer; left = left; ports = P.ways ports.new })
+        (given_by (I.remaining input.old) (P.ways peers.old.ports)
+        (clients_by (S.says system.now) (S.begins system.now))) request.now.job
+        (record { told = told; end = done.answer; left = left; ports = P.ways peers.new.ports;
+        ends = ends_of S.was_told peers.new.endings.items })
         × (done.lost ≡ lost_none → AreKept (S.begins system.now) S.received request.now.job left
         result.receipts))
-        (IsUnanswered request.now.job (P.ways ports.old) (P.ways ports.new)) result.end }
+        (IsUnanswered request.now.job (P.ways peers.old.ports) (P.ways peers.new.ports)
+        (ends_of S.was_told peers.new.endings.items)) result.end }
     ensures note { HasNote result.end }
     ensures beside { IsBeside request.now (E.contents err.old) (E.contents err.new) }
     ensures apart { OnOk result.end
@@ -78,7 +83,7 @@ pub(crate) fn answer_to<R: Runtime, S: System, P: Ports, I: Read, O: Write, E: W
         (AreKept (S.begins system.now) S.received request.now.job None result.receipts) }
 {
     let (mut outputs, opened) = open_apart(system, rt.alloc(), &request.job);
-    let end = answer_opened(rt, system, ports, request, opened, &mut outputs, input, out, err);
+    let end = answer_opened(rt, system, peers, request, opened, &mut outputs, input, out, err);
     Ended {
         end,
         receipts: close_outputs(system, outputs),
@@ -86,10 +91,10 @@ pub(crate) fn answer_to<R: Runtime, S: System, P: Ports, I: Read, O: Write, E: W
 }
 
 /// The same, with the files that could be opened to be written, or why they aren't open.
-fn answer_opened<R: Runtime, S: System, P: Ports, I: Read, O: Write, E: Write>(
+fn answer_opened<R: AllocGlobal + Threads + Wait + Sync, S: System, P: Ports, I: Read, O: Write, E: Write>(
     rt: &R,
     system: &S,
-    ports: &mut P,
+    peers: &mut Peers<P, S::ToldReceipt>,
     request: &Request,
     opened: Result<(), NoAnswer>,
     outputs: &mut Outputs<'_, S::Stream>,
@@ -98,13 +103,17 @@ fn answer_opened<R: Runtime, S: System, P: Ports, I: Read, O: Write, E: Write>(
     err: &mut E,
 ) -> Result<Answered, NoAnswer>
     requires limits { IsWithinLimits request.now.job }
+    requires unserved { peers.old.endings.items ≡ [] }
     requires note { IfErr opened (λ missed. IsNoAnswer missed) }
     ensures response { HasTold (O.contents out.old) (O.contents out.new)
         (λ told done. (left : Option Account) × IsJobAnswer (S.holds system.now)
-        (given_by (I.remaining input.old) (P.ways ports.old)) request.now.job
-        (record { told = told; end = done.answer; left = left; ports = P.ways ports.new })
+        (given_by (I.remaining input.old) (P.ways peers.old.ports)
+        (clients_by (S.says system.now) (S.begins system.now))) request.now.job
+        (record { told = told; end = done.answer; left = left; ports = P.ways peers.new.ports;
+        ends = ends_of S.was_told peers.new.endings.items })
         × AreOutputsWritten S.Stream.contents left outputs.old outputs.new done.lost)
-        (IsUnanswered request.now.job (P.ways ports.old) (P.ways ports.new)) result }
+        (IsUnanswered request.now.job (P.ways peers.old.ports) (P.ways peers.new.ports)
+        (ends_of S.was_told peers.new.endings.items)) result }
     ensures note { HasNote result }
     ensures beside { IsBeside request.now (E.contents err.old) (E.contents err.new) }
     ensures unkept { OnErr result (outputs.new ≡ outputs.old) }
@@ -113,14 +122,15 @@ fn answer_opened<R: Runtime, S: System, P: Ports, I: Read, O: Write, E: Write>(
     opened?;
     let job = &request.job;
     let contents = read_contents(system, rt.alloc(), job.files(), input)?;
-    let found = answer_job(rt, ports, request, &contents, input, out, err)?;
+    let found = answer_job(rt, system, peers, request, &contents, input, out, err)?;
     Ok(finished(system, rt.alloc(), found, job, &contents, outputs))
 }
 
 /// The answer to a job whose files contain this.
-fn answer_job<R: Runtime, P: Ports, I: Read, O: Write, E: Write>(
+fn answer_job<R: AllocGlobal + Threads + Wait + Sync, S: System, P: Ports, I: Read, O: Write, E: Write>(
     rt: &R,
-    ports: &mut P,
+    system: &S,
+    peers: &mut Peers<P, S::ToldReceipt>,
     request: &Request,
     contents: &Contents,
     input: &mut I,
@@ -128,16 +138,21 @@ fn answer_job<R: Runtime, P: Ports, I: Read, O: Write, E: Write>(
     err: &mut E,
 ) -> Result<Found, NoAnswer>
     requires limits { IsWithinLimits request.now.job }
+    requires unserved { peers.old.endings.items ≡ [] }
     requires scripts { length (contents_in contents.now).scripts
         ≡ length (files_of request.now.job).scripts }
     ensures response { HasTold (O.contents out.old) (O.contents out.new)
         (λ told found. IsAnswerTo request.now.job (contents_in contents.now)
-        (given_by (I.remaining input.old) (P.ways ports.old))
-        (response_of told found (P.ways ports.new)))
-        (IsUnanswered request.now.job (P.ways ports.old) (P.ways ports.new)) result }
+        (given_by (I.remaining input.old) (P.ways peers.old.ports)
+        (clients_by (S.says system.now) (S.begins system.now)))
+        (response_of told found (P.ways peers.new.ports)
+        (ends_of S.was_told peers.new.endings.items)))
+        (IsUnanswered request.now.job (P.ways peers.old.ports) (P.ways peers.new.ports)
+        (ends_of S.was_told peers.new.endings.items)) result }
     ensures note { IfErr result (λ missed. IsNoAnswer missed) }
     ensures beside { IsBeside request.now (E.contents err.old) (E.contents err.new) }
-    ensures ports { LeavesPorts request.now.job (P.ways ports.old) (P.ways ports.new) }
+    ensures rest { LeavesRest request.now.job (P.ways peers.old.ports) (P.ways peers.new.ports)
+        (ends_of S.was_told peers.new.endings.items) }
 {
     match &request.job {
         Job::Drive {
@@ -153,7 +168,7 @@ fn answer_job<R: Runtime, P: Ports, I: Read, O: Write, E: Write>(
                 port_b: text_in(port_b),
             };
             drive(
-                rt, *workers, source, contents, names, *goes_on, ports, input, out,
+                rt, *workers, source, contents, names, *goes_on, &mut peers.ports, input, out,
             )
         }
         Job::C004 if request.is_quiet => c004(rt.alloc(), input, out, &mut io::sink()),
@@ -163,7 +178,10 @@ fn answer_job<R: Runtime, P: Ports, I: Read, O: Write, E: Write>(
             rack,
             clients,
             workers,
-        } => host(rt, rack, clients.as_slice(), *workers, contents),
+        } => {
+            let clients = clients.as_slice();
+            host(rt, system, rack, clients, *workers, contents, &mut peers.endings)
+        }
         Job::Talk { rack } if request.is_quiet => {
             talk(rt, rack, contents, input, out, &mut NoListener)
         }
@@ -185,8 +203,9 @@ fn answer_texts<R: AllocGlobal + Threads + Sync>(
     contents: &Contents,
 ) -> Result<Found, AllocError>
     requires { IsOfTexts job.now }
-    ensures { (given : Given) → IfOk result (λ found. IsAnswerTo job.now (contents_in contents.now)
-        given (response_of [] found given.ports)) }
+    ensures { (given : Given) → (ends : List SessionEnd) → IfOk result (λ found.
+        IsAnswerTo job.now (contents_in contents.now) given
+        (response_of [] found given.ports ends)) }
 {
     let alloc = rt.alloc();
     let (list, other) = (text_of(&contents.list), text_of(&contents.other));
@@ -303,27 +322,32 @@ fn serve<R: AllocGlobal + Threads + Wait + Sync>(
     Ok(Found::closed(closing))
 }
 
-/// The answer of `exchange host SHAPE CLIENT..`, behind the sessions of the clients.
-fn host<R: AllocGlobal + Threads + Wait + ClientFiles + Sync>(
+/// The answer of `exchange host SHAPE CLIENT..`, behind the sessions of the clients, of whose ends
+/// it is told.
+fn host<R: AllocGlobal + Threads + Wait + Sync, S: System>(
     rt: &R,
+    system: &S,
     rack: &SharedRack,
     clients: &[Text],
     workers: WorkerCount,
     contents: &Contents,
+    endings: &mut Vec<Ending<S::ToldReceipt>>,
 ) -> Result<Found, NoAnswer>
     requires { CanBeServed clients.now }
-    ensures answer { IfOk result (λ found. (ends : List SessionEnd)
-        × IsHostAnswer rack.now.shape (contents_in contents.now).image (clients_named clients.now)
-        ends found.answer found.book) }
+    ensures answer { IfOk result (λ found. IsHostAnswer rack.now.shape
+        (contents_in contents.now).image
+        (clients_by (S.says system.now) (S.begins system.now) clients.now)
+        (ends_of S.was_told endings.new.items) found.answer found.book) }
+    ensures none { OnErr result (endings.new ≡ endings.old) }
     ensures note { IfErr result (λ missed. IsNoAnswer missed) }
 {
     let shape = rack.shape.as_str().as_bytes();
     let image = slice_of(&contents.image);
     let alloc = rt.alloc();
-    let streams = FileStreams { rt, alloc, clients };
+    let streams = FileStreams { system, alloc, clients };
     let hosted = answer_host(rt, alloc, shape, image, workers, &streams)?;
-    let Hosted { closing, .. } = hosted;
-    Ok(Found::closed(closing))
+    *endings = hosted.endings;
+    Ok(Found::closed(hosted.closing))
 }
 
 /// The answer of `exchange talk SHAPE`, behind a session over `input` and `out`, of whose refusals

@@ -25,6 +25,7 @@ mod limits;
 mod lost;
 mod notes;
 mod outputs;
+mod peers;
 mod ports;
 mod responding;
 mod system;
@@ -33,6 +34,7 @@ mod unanswered;
 mod unwritten;
 
 use crate::limits::UNWRITTEN;
+use crate::peers::Peers;
 use crate::ports::HostPorts;
 use crate::responding::{Left, respond};
 use crate::unwritten::Unwritten;
@@ -48,10 +50,11 @@ fn main(rt: HostRuntime) -> ExitCode {
         return ExitCode::from(UNWRITTEN);
     }
     let arguments = command_line(&rt);
+    let mut peers = Peers::new(rt.alloc(), HostPorts::new(&rt));
     let Left { code, receipts: _ } = respond(
         &rt,
         &rt,
-        &mut HostPorts::new(&rt),
+        &mut peers,
         arguments,
         &mut rt.reader(),
         &mut io::writer(&rt),

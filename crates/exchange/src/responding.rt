@@ -1,21 +1,21 @@
 //! From the arguments of the command line to what is printed, and the status that the program ends
 //! with.
 
-ghost use Rattle.std.specs.Prelude.{◌≡◌, ◌⊎◌, IfErr, IfOk, OnErr, option_map, string_bytes};
+ghost use Rattle.std.specs.Prelude.{◌≡◌, [], ◌⊎◌, IfErr, IfOk, OnErr, option_map, string_bytes};
 ghost use Rattle.std.specs.Process.{exit_status};
 ghost use Rattle.command_words.specs.Jobs.{texts_of};
-ghost use Rattle.exchange.specs.Responses.{named_by, unanswered};
+ghost use Rattle.exchange.specs.Responses.{given_by, named_by, unanswered};
 ghost use Rattle.exchange.specs.Notes.{IsToldUnless};
-ghost use Rattle.exchange.specs.Drives.{given_by};
+ghost use Rattle.exchange.specs.Clients.{clients_by, ends_of};
 ghost use Rattle.exchange.specs.Outputs.{lost_none};
 ghost use Rattle.exchange.specs.Ends.{IsLeft, IsNoneLeft, IsPrinted, streams_of, IsEndForArguments, IsEndWithoutArguments, IsFaultEnd};
 ghost use Rattle.exchange.specs.Ends.{IsUnwrittenOf, IsUnwrittenTold};
 
-use crate::client_streams::Runtime;
 use crate::jobs::{Ended, answer_to};
 use crate::limits::{MISUSED, UNWRITTEN};
 use crate::notes::{Answered, NoAnswer, tell_note};
 use crate::outputs::Receipts;
+use crate::peers::Peers;
 use crate::system::System;
 use crate::unanswered::Unanswered;
 use crate::unwritten::Unwritten;
@@ -27,6 +27,8 @@ use std::alloc::{AllocError, Global};
 use std::io;
 use std::io::{ErrorKind, Read, Write};
 use std::process::ExitCode;
+use std::sync::Wait;
+use std::thread::Threads;
 
 /// How the program ends, and what is left of what it opened to be written.
 pub struct Left<C> {
@@ -41,20 +43,24 @@ pub struct Left<C> {
 ///
 /// A file that is `-` is read from `input`. Answers, refusals and the texts of help go to `out`;
 /// arguments that fit no command are answered on `err`.
-pub fn respond<R: Runtime, S: System, P: Ports, I: Read, O: Write, E: Write>(
+pub fn respond<R: AllocGlobal + Threads + Wait + Sync, S: System, P: Ports, I: Read, O: Write, E: Write>(
     rt: &R,
     system: &S,
-    ports: &mut P,
+    peers: &mut Peers<P, S::ToldReceipt>,
     arguments: io::Result<Vec<String>>,
     input: &mut I,
     out: &mut O,
     err: &mut E,
 ) -> Left<S::Receipt>
+    requires { peers.old.endings.items ≡ [] }
     ensures arguments { IfOk arguments (λ w. (exit_status result.code ≡ UNWRITTEN)
         ⊎ IsEndForArguments (named_by (S.holds system.now) (S.leads system.now))
-        (IsLeft (S.begins system.now) S.received result.receipts (P.ways ports.new))
-        (IsNoneLeft result.receipts (P.ways ports.old) (P.ways ports.new))
-        (texts_of w.items) (given_by (I.remaining input.old) (P.ways ports.old))
+        (IsLeft (S.begins system.now) S.received result.receipts (P.ways peers.new.ports)
+        (ends_of S.was_told peers.new.endings.items))
+        (IsNoneLeft result.receipts (P.ways peers.old.ports) (P.ways peers.new.ports)
+        (ends_of S.was_told peers.new.endings.items))
+        (texts_of w.items) (given_by (I.remaining input.old) (P.ways peers.old.ports)
+        (clients_by (S.says system.now) (S.begins system.now)))
         (streams_of (O.contents out.old) (O.contents out.new) (E.contents err.old)
         (E.contents err.new)) (exit_status result.code)) }
     ensures none { OnErr arguments ((exit_status result.code ≡ UNWRITTEN)
@@ -63,7 +69,7 @@ pub fn respond<R: Runtime, S: System, P: Ports, I: Read, O: Write, E: Write>(
 {
     match arguments {
         Ok(arguments) => {
-            let (end, receipts) = print_response(rt, system, ports, arguments.as_slice(), input, out, err);
+            let (end, receipts) = print_response(rt, system, peers, arguments.as_slice(), input, out, err);
             let code = status_of(end, err);
             Left { code, receipts }
         }
@@ -109,26 +115,30 @@ fn print_without_arguments<O: Write, E: Write>(
 
 /// Does what the arguments ask for, prints its answer, or why it has none, and tells a line beside
 /// a refusal. The error is that of writing the answer.
-fn print_response<R: Runtime, S: System, P: Ports, I: Read, O: Write, E: Write>(
+fn print_response<R: AllocGlobal + Threads + Wait + Sync, S: System, P: Ports, I: Read, O: Write, E: Write>(
     rt: &R,
     system: &S,
-    ports: &mut P,
+    peers: &mut Peers<P, S::ToldReceipt>,
     arguments: &[String],
     input: &mut I,
     out: &mut O,
     err: &mut E,
 ) -> (Result<u8, Unwritten>, Receipts<S::Receipt>)
+    requires { peers.old.endings.items ≡ [] }
     ensures { IfOk result.0 (IsEndForArguments
         (named_by (S.holds system.now) (S.leads system.now))
-        (IsLeft (S.begins system.now) S.received result.1 (P.ways ports.new))
-        (IsNoneLeft result.1 (P.ways ports.old) (P.ways ports.new))
-        (texts_of arguments.now) (given_by (I.remaining input.old) (P.ways ports.old))
+        (IsLeft (S.begins system.now) S.received result.1 (P.ways peers.new.ports)
+        (ends_of S.was_told peers.new.endings.items))
+        (IsNoneLeft result.1 (P.ways peers.old.ports) (P.ways peers.new.ports)
+        (ends_of S.was_told peers.new.endings.items))
+        (texts_of arguments.now) (given_by (I.remaining input.old) (P.ways peers.old.ports)
+        (clients_by (S.says system.now) (S.begins system.now)))
         (streams_of (O.contents out.old) (O.contents out.new) (E.contents err.old)
         (E.contents err.new))) }
 {
     match read_arguments(rt.alloc(), arguments) {
         Ok(request) => {
-            let Ended { end, receipts } = answer_to(rt, system, ports, &request, input, out, err);
+            let Ended { end, receipts } = answer_to(rt, system, peers, &request, input, out, err);
             let is_quiet = request.is_quiet;
             match end {
                 Ok(done) => (print_noted(done, is_quiet, out, err), receipts),

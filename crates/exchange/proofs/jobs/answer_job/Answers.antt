@@ -1,7 +1,7 @@
 use Rattle.std.proofs.Common.{List, [], ℕ, Option, rules, ◌≡◌, None}
 use Rattle.std.specs.Prelude.{⊤}
 use Rattle.std.proofs.KnownBytes.{Appends-nil}
-use Rattle.session_answers.specs.HostAnswers.{SessionEnd, IsHostAnswer}
+use Rattle.session_answers.specs.HostAnswers.{IsHostAnswer}
 use Rattle.session_answers.specs.Serving.{IsServeAnswer}
 use Rattle.session_answers.specs.Talking.{IsTalkAnswer}
 use Rattle.exchange.specs.Contents.{contents_in}

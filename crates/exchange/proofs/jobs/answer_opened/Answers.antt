@@ -2,10 +2,10 @@ use Rattle.std.proofs.Common.{List, ℕ, rules, subst, sym}
 use Rattle.plan_answers.specs.Refusals.{Printed}
 use Rattle.command_words.specs.Jobs.{Files}
 use Rattle.exchange.specs.Contents.{AreContents, contents_in}
-use Rattle.exchange.specs.Drives.{given_by}
-use Rattle.exchange.specs.Responses.{IsAnswerTo}
+use Rattle.exchange.specs.Clients.{clients_by, ends_of}
+use Rattle.exchange.specs.Responses.{IsAnswerTo, given_by}
 use Rattle.exchange.proofs.Reading.{as_many}
-use Rattle.exchange.proofs.Told.{none_asked, told_nothing}
+use Rattle.exchange.proofs.Told.{none_asked, none_served, told_nothing}
 use Rattle.exchange.proofs.jobs.answer_opened.Goals as goal
 
 pub answer_job-requires-clause-scripts : goal.answer_job-requires-clause-scripts
@@ -17,10 +17,10 @@ answer_job-requires-clause-scripts g c = λ lifetimes bounds.
     as_many _ _ _ _ _ are.8
 
 pub returns-in_err-opened-clause-response : goal.returns-in_err-opened-clause-response
-returns-in_err-opened-clause-response g c = told_nothing c.from_residual.result _ _ _ (none_asked _ _) (search rules)
+returns-in_err-opened-clause-response g c = told_nothing c.from_residual.result _ _ _ (none_asked _ _ _ (none_served g.S.System.was_told _ c.requires.unserved)) (search rules)
 
 pub returns-in_err-contents-clause-response : goal.returns-in_err-contents-clause-response
-returns-in_err-contents-clause-response g c = told_nothing c.from_residual-in_err-contents.result _ _ _ (none_asked _ _) (search rules)
+returns-in_err-contents-clause-response g c = told_nothing c.from_residual-in_err-contents.result _ _ _ (none_asked _ _ _ (none_served g.S.System.was_told _ c.requires.unserved)) (search rules)
 
 pub returns-clause-response : goal.returns-clause-response
 returns-clause-response g c =
@@ -32,7 +32,9 @@ returns-clause-response g c =
     let files = contents_in c.in_ok-contents.contents in
     let left = c.in_ok-found.found.book in
     let are = subst (λ (names : Files (List ℕ)). AreContents holds old names files rest) c.files.ensures c.in_ok-contents.ensures.contents in
-    let was = g.P.Ports.ways c.args.ports.now in
-    let opens = g.P.Ports.ways c.answer_job.new.ports in
-    let is = subst (λ (end : Printed). IsAnswerTo job files (given_by rest was) (record { told = t.0; end = end; left = left; ports = opens })) (sym c.finished.ensures.answer) t.2 in
-    (t.0, t.1, (left, (files, rest, are, is, c.in_ok-found.ensures.ports), c.finished.ensures.kept), tt)
+    let was = g.P.Ports.ways c.args.peers.now.ports in
+    let opens = g.P.Ports.ways c.answer_job.new.peers.ports in
+    let ends = ends_of g.S.System.was_told c.answer_job.new.peers.endings.items in
+    let clients = clients_by (g.S.System.says c.args.system.now) (g.S.System.begins c.args.system.now) in
+    let is = subst (λ (end : Printed). IsAnswerTo job files (given_by rest was clients) (record { told = t.0; end = end; left = left; ports = opens; ends = ends })) (sym c.finished.ensures.answer) t.2 in
+    (t.0, t.1, (left, (files, rest, are, is, c.in_ok-found.ensures.rest), c.finished.ensures.kept), tt)

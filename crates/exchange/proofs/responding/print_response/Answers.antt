@@ -1,9 +1,9 @@
-use Rattle.std.proofs.Common.{◌≡◌, None, refl, sym}
-use Rattle.exchange.specs.Drives.{given_by}
+use Rattle.std.proofs.Common.{◌≡◌, [], None, refl, sym}
+use Rattle.exchange.specs.Clients.{clients_by, ends_of}
 use Rattle.exchange.specs.Ends.{IsLeft, IsNoneLeft, streams_of}
 use Rattle.exchange.specs.Outcomes.{IsNoAnswer, IsUnanswered}
 use Rattle.exchange.specs.Outputs.{lost_none}
-use Rattle.exchange.specs.Responses.{Response, named_by, unanswered}
+use Rattle.exchange.specs.Responses.{Response, given_by, named_by, unanswered}
 use Rattle.exchange.specs.declared.notes.NoAnswer.TheVariants.{Refused}
 use Rattle.exchange.proofs.Told.{answered, asked, faulty, not_answered}
 use Rattle.exchange.proofs.responding.print_response.Goals as goal
@@ -14,28 +14,32 @@ returns-in-Ok-end g c =
     let note = rw c.in-Ok-end.is at c.answer_to-end.ensures.note in
     let apart = rw c.in-Ok-end.is at c.answer_to-end.ensures.apart in
     let done = c.in-Ok-end.done in
-    let opens = g.P.Ports.ways c.answer_to-end.new.ports in
-    let response : Response = record { told = t.0; end = done.answer; left = t.2.0; ports = opens } in
-    let kept : done.lost ≡ lost_none → IsLeft (g.S.System.begins c.args.system.now) g.S.System.received c.answer_to-end.result.receipts opens c.in-Ok.request.job response = λ none. (t.2.2 none, refl) in
+    let opens = g.P.Ports.ways c.answer_to-end.new.peers.ports in
+    let ended = ends_of g.S.System.was_told c.answer_to-end.new.peers.endings.items in
+    let response : Response = record { told = t.0; end = done.answer; left = t.2.0; ports = opens; ends = ended } in
+    let kept : done.lost ≡ lost_none → IsLeft (g.S.System.begins c.args.system.now) g.S.System.received c.answer_to-end.result.receipts opens ended c.in-Ok.request.job response = λ none. (t.2.2 none, refl, refl) in
     let named = named_by (g.S.System.holds c.args.system.now) (g.S.Places.leads c.args.system.now) in
-    let given = given_by (g.I.Read.remaining c.args.input.now) (g.P.Ports.ways c.args.ports.now) in
-    let keeps = IsLeft (g.S.System.begins c.args.system.now) g.S.System.received c.answer_to-end.result.receipts (g.P.Ports.ways c.answer_to-end.new.ports) in
-    let none_left = IsNoneLeft c.answer_to-end.result.receipts (g.P.Ports.ways c.args.ports.now) (g.P.Ports.ways c.answer_to-end.new.ports) in
+    let given = given_by (g.I.Read.remaining c.args.input.now) (g.P.Ports.ways c.args.peers.now.ports) (clients_by (g.S.System.says c.args.system.now) (g.S.System.begins c.args.system.now)) in
+    let ends = ends_of g.S.System.was_told c.answer_to-end.new.peers.endings.items in
+    let keeps = IsLeft (g.S.System.begins c.args.system.now) g.S.System.received c.answer_to-end.result.receipts (g.P.Ports.ways c.answer_to-end.new.peers.ports) ends in
+    let none_left = IsNoneLeft c.answer_to-end.result.receipts (g.P.Ports.ways c.args.peers.now.ports) (g.P.Ports.ways c.answer_to-end.new.peers.ports) ends in
     let streams = streams_of (g.O.Write.contents c.args.out.now) (g.O.Write.contents c.print_noted.new.out) (g.E.Write.contents c.args.err.now) (g.E.Write.contents c.print_noted.new.err) in
     asked c.print_noted.result named keeps none_left _ given c.in-Ok.request streams c.in-Ok.ensures.request
-    (answered c.print_noted.result named keeps given c.in-Ok.request t.0 t.2.0 opens done _ _ _ _ _ _ t.1 apart t.2.1 kept note c.answer_to-end.ensures.beside c.print_noted.ensures.printed c.print_noted.ensures.told)
+    (answered c.print_noted.result named keeps given c.in-Ok.request t.0 t.2.0 opens ended done _ _ _ _ _ _ t.1 apart t.2.1 kept note c.answer_to-end.ensures.beside c.print_noted.ensures.printed c.print_noted.ensures.told)
 
 pub returns-in-Err-Refused : goal.returns-in-Err-Refused
 returns-in-Err-Refused g c =
     let t = rw (c.in-Err-Refused.is, c.in-Err-Refused.field-0-is) at c.answer_to-end.ensures.response in
     let note : IsNoAnswer (Refused c.in-Err-Refused.why c.in-Err-Refused.note) = rw (c.in-Err-Refused.is, c.in-Err-Refused.field-0-is) at c.answer_to-end.ensures.note in
-    let none : IsUnanswered c.in-Ok.request.job (g.P.Ports.ways c.args.ports.now) (g.P.Ports.ways c.answer_to-end.new.ports) t.0 = t.3 in
+    let ended = ends_of g.S.System.was_told c.answer_to-end.new.peers.endings.items in
+    let none : IsUnanswered c.in-Ok.request.job (g.P.Ports.ways c.args.peers.now.ports) (g.P.Ports.ways c.answer_to-end.new.peers.ports) ended t.0 = t.3 in
     let unkept = rw c.in-Err-Refused.is at c.answer_to-end.ensures.unkept in
-    let left : IsLeft (g.S.System.begins c.args.system.now) g.S.System.received c.answer_to-end.result.receipts (g.P.Ports.ways c.answer_to-end.new.ports) c.in-Ok.request.job (record { told = t.0; end = unanswered c.in-Err-Refused.why; left = None; ports = g.P.Ports.ways c.args.ports.now }) = (unkept, sym none.1) in
+    let left : IsLeft (g.S.System.begins c.args.system.now) g.S.System.received c.answer_to-end.result.receipts (g.P.Ports.ways c.answer_to-end.new.peers.ports) ended c.in-Ok.request.job (record { told = t.0; end = unanswered c.in-Err-Refused.why; left = None; ports = g.P.Ports.ways c.args.peers.now.ports; ends = [] }) = (unkept, sym none.1, sym none.2) in
     let named = named_by (g.S.System.holds c.args.system.now) (g.S.Places.leads c.args.system.now) in
-    let given = given_by (g.I.Read.remaining c.args.input.now) (g.P.Ports.ways c.args.ports.now) in
-    let keeps = IsLeft (g.S.System.begins c.args.system.now) g.S.System.received c.answer_to-end.result.receipts (g.P.Ports.ways c.answer_to-end.new.ports) in
-    let none_left = IsNoneLeft c.answer_to-end.result.receipts (g.P.Ports.ways c.args.ports.now) (g.P.Ports.ways c.answer_to-end.new.ports) in
+    let given = given_by (g.I.Read.remaining c.args.input.now) (g.P.Ports.ways c.args.peers.now.ports) (clients_by (g.S.System.says c.args.system.now) (g.S.System.begins c.args.system.now)) in
+    let ends = ends_of g.S.System.was_told c.answer_to-end.new.peers.endings.items in
+    let keeps = IsLeft (g.S.System.begins c.args.system.now) g.S.System.received c.answer_to-end.result.receipts (g.P.Ports.ways c.answer_to-end.new.peers.ports) ends in
+    let none_left = IsNoneLeft c.answer_to-end.result.receipts (g.P.Ports.ways c.args.peers.now.ports) (g.P.Ports.ways c.answer_to-end.new.peers.ports) ends in
     let streams = streams_of (g.O.Write.contents c.args.out.now) (g.O.Write.contents c.refuse_noted.new.out) (g.E.Write.contents c.args.err.now) (g.E.Write.contents c.refuse_noted.new.err) in
     asked c.refuse_noted.result named keeps none_left _ given c.in-Ok.request streams c.in-Ok.ensures.request
     (not_answered c.refuse_noted.result named keeps given c.in-Ok.request t.0 c.in-Err-Refused.why c.in-Err-Refused.note _ _ _ _ _ _ t.1 none.0 left note c.answer_to-end.ensures.beside c.refuse_noted.ensures.printed c.refuse_noted.ensures.told)
