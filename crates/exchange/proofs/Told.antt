@@ -62,6 +62,12 @@ unasked (Ok x) before after is behind ports ends none t = (t.0, t.1, t.2, tt)
 unasked (Err (missed.Refused why line)) before after is behind ports ends none t = (t.0, t.1, tt, (t.3, refl, none))
 unasked (Err (missed.Unwritten what)) before after is behind ports ends none t = (t.0, t.1, tt, tt)
 
+-- nor was a client served
+pub served_none : {X : Type 0} (r : Result X NoAnswer) (before after : Option (List ℕ)) (is : List ℕ → X → Type 0) (was opens : Ways) (ends : List SessionEnd) → ends ≡ [] → HasTold before after is (λ told. (told ≡ []) × (opens ≡ was)) r → HasTold before after is (λ told. (told ≡ []) × (opens ≡ was) × (ends ≡ [])) r
+served_none (Ok x) before after is was opens ends none t = (t.0, t.1, t.2, tt)
+served_none (Err (missed.Refused why line)) before after is was opens ends none t = (t.0, t.1, tt, (t.3.0, t.3.1, none))
+served_none (Err (missed.Unwritten what)) before after is was opens ends none t = (t.0, t.1, tt, tt)
+
 -- so it is of whatever comes of it
 pub if_not : {X E : Type 0} (r : Result X E) (P : Type 0) → P → OnErr r P
 if_not (Ok x) P so = tt
