@@ -47,8 +47,8 @@ pub none_asked : (job : Job) (ports : Ways) (ends : List SessionEnd) → ends �
 none_asked job ports ends none = (none_told job, refl, none)
 
 -- no session of a live client ended
-pub none_served : {C : Type 0} (told : C → Option (List ℕ)) (endings : List (Ending C)) → endings ≡ [] → ends_of told endings ≡ []
-none_served told endings none = rw none refl
+pub none_served : (endings : List (Ending (List ℕ))) → endings ≡ [] → ends_of endings ≡ []
+none_served endings none = rw none refl
 
 -- the same, where that is said of the answer
 pub nothing_before : {X : Type 0} (r : Result X NoAnswer) (before : Option (List ℕ)) (P : X → Type 0) → IfOk r P → HasTold before before (λ told x. (told ≡ []) × P x) IsNothing r

@@ -1,10 +1,27 @@
 //! The files of the clients of a host.
 
-use crate::system::System;
+ghost use Rattle.std.specs.Prelude.{◌≡◌, ℕ, List, IfOk};
+
+use crate::sent_file::SentFile;
 use command_words::Text;
+use contract_data::PassedBytes;
 use session_answers::{AllThere, ClientStreams};
 use std::alloc::Global;
+use std::fs::File;
 use std::io;
+
+/// What opens the files of clients, in the thread of each.
+pub trait ClientFiles: Sync {
+    /// What has gone to the file of this name before it is opened.
+    ghost had: { Self → List ℕ → List ℕ };
+
+    /// Opens the file from which a client is heard.
+    fn open_heard(&self, name: &str) -> io::Result<File>;
+
+    /// Opens the file by which a client is told: it is made where it isn't there, and emptied.
+    fn open_told(&self, name: &str) -> io::Result<SentFile>
+        ensures { IfOk result (λ told. told.sent ≡ had self.now name.now) };
+}
 
 /// The files of clients by their names: a client says what `NAME.in` has, and is told what goes to
 /// `NAME.out`.
@@ -15,18 +32,19 @@ pub(crate) struct FileStreams<'a, S> {
     pub(crate) clients: &'a [Text],
 }
 
-impl<'a, S: System> ClientStreams for FileStreams<'a, S> {
+impl<'a, S: ClientFiles> ClientStreams for FileStreams<'a, S> {
+    ghost use Rattle.std.specs.Prelude.{Some};
     ghost use Rattle.exchange.specs.Clients.{clients_by};
 
-    type Reader = S::Heard;
+    type Reader = File;
 
-    type Writer = S::Told;
+    type Writer = SentFile;
 
-    type Receipt = S::ToldReceipt;
+    type Receipt = PassedBytes;
 
-    ghost known = { λ d. clients_by (S.says d.system.now) (S.begins d.system.now) d.clients.now };
+    ghost known = { λ d. clients_by (S.had d.system.now) d.clients.now };
 
-    ghost received = { S.was_told };
+    ghost received = { λ sent. Some sent };
 
     fn clients(&self) -> usize {
         self.clients.len()
@@ -40,7 +58,7 @@ impl<'a, S: System> ClientStreams for FileStreams<'a, S> {
     }
 
     // What the client says is opened first.
-    fn open(&self, _there: AllThere, client: usize) -> io::Result<(S::Heard, S::Told)> {
+    fn open(&self, _there: AllThere, client: usize) -> io::Result<(File, SentFile)> {
         let name = self.name(client);
         let said = format!(in self.alloc; "{name}.in")?;
         let told = format!(in self.alloc; "{name}.out")?;
@@ -49,7 +67,7 @@ impl<'a, S: System> ClientStreams for FileStreams<'a, S> {
         Ok((reader, writer))
     }
 
-    fn close(&self, writer: S::Told) -> S::ToldReceipt {
-        self.system.close_told(writer)
+    fn close(&self, writer: SentFile) -> PassedBytes {
+        writer.into_sent()
     }
 }

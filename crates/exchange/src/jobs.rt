@@ -18,7 +18,7 @@ ghost use Rattle.exchange.specs.Outputs.{AreKept, AreOutputsWritten, lost_none};
 ghost use Rattle.exchange.specs.Outcomes.{HasNote, HasTold, IsNoAnswer, IsNothing, IsUnanswered, response_of};
 
 use crate::beside::Beside;
-use crate::client_streams::FileStreams;
+use crate::client_streams::{ClientFiles, FileStreams};
 use crate::contents::{Contents, read_contents, slice_of, source_with, text_of};
 use crate::driving::drive;
 use crate::found::Found;
@@ -29,6 +29,7 @@ use crate::system::System;
 use crate::unwritten::Unwritten;
 use client_session::{Listener, NoListener};
 use command_words::{Job, Request, SharedRack, Text};
+use contract_data::PassedBytes;
 use drive_answers::{PortNames, Ports};
 use exchange_limits::WorkerCount;
 use plan_answers::{Answer, answer_check, answer_direct, answer_draw, answer_plan};
@@ -57,7 +58,7 @@ pub(crate) struct Ended<C> {
 pub(crate) fn answer_to<R: AllocGlobal + Threads + Wait + Sync, S: System, P: Ports, I: Read, O: Write, E: Write>(
     rt: &R,
     system: &S,
-    peers: &mut Peers<P, S::ToldReceipt>,
+    peers: &mut Peers<P>,
     request: &Request,
     input: &mut I,
     out: &mut O,
@@ -68,13 +69,13 @@ pub(crate) fn answer_to<R: AllocGlobal + Threads + Wait + Sync, S: System, P: Po
     ensures response { HasTold (O.contents out.old) (O.contents out.new)
         (λ told done. (left : Option Account) × IsJobAnswer (S.holds system.now)
         (given_by (I.remaining input.old) (P.ways peers.old.ports)
-        (clients_by (S.says system.now) (S.begins system.now))) request.now.job
+        (clients_by (S.had system.now))) request.now.job
         (record { told = told; end = done.answer; left = left; ports = P.ways peers.new.ports;
-        ends = ends_of S.was_told peers.new.endings.items })
+        ends = ends_of peers.new.endings.items })
         × (done.lost ≡ lost_none → AreKept (S.begins system.now) S.received request.now.job left
         result.receipts))
         (IsUnanswered request.now.job (P.ways peers.old.ports) (P.ways peers.new.ports)
-        (ends_of S.was_told peers.new.endings.items)) result.end }
+        (ends_of peers.new.endings.items)) result.end }
     ensures note { HasNote result.end }
     ensures beside { IsBeside request.now (E.contents err.old) (E.contents err.new) }
     ensures apart { OnOk result.end
@@ -94,7 +95,7 @@ pub(crate) fn answer_to<R: AllocGlobal + Threads + Wait + Sync, S: System, P: Po
 fn answer_opened<R: AllocGlobal + Threads + Wait + Sync, S: System, P: Ports, I: Read, O: Write, E: Write>(
     rt: &R,
     system: &S,
-    peers: &mut Peers<P, S::ToldReceipt>,
+    peers: &mut Peers<P>,
     request: &Request,
     opened: Result<(), NoAnswer>,
     outputs: &mut Outputs<'_, S::Stream>,
@@ -108,12 +109,12 @@ fn answer_opened<R: AllocGlobal + Threads + Wait + Sync, S: System, P: Ports, I:
     ensures response { HasTold (O.contents out.old) (O.contents out.new)
         (λ told done. (left : Option Account) × IsJobAnswer (S.holds system.now)
         (given_by (I.remaining input.old) (P.ways peers.old.ports)
-        (clients_by (S.says system.now) (S.begins system.now))) request.now.job
+        (clients_by (S.had system.now))) request.now.job
         (record { told = told; end = done.answer; left = left; ports = P.ways peers.new.ports;
-        ends = ends_of S.was_told peers.new.endings.items })
+        ends = ends_of peers.new.endings.items })
         × AreOutputsWritten S.Stream.contents left outputs.old outputs.new done.lost)
         (IsUnanswered request.now.job (P.ways peers.old.ports) (P.ways peers.new.ports)
-        (ends_of S.was_told peers.new.endings.items)) result }
+        (ends_of peers.new.endings.items)) result }
     ensures note { HasNote result }
     ensures beside { IsBeside request.now (E.contents err.old) (E.contents err.new) }
     ensures unkept { OnErr result (outputs.new ≡ outputs.old) }
@@ -130,7 +131,7 @@ fn answer_opened<R: AllocGlobal + Threads + Wait + Sync, S: System, P: Ports, I:
 fn answer_job<R: AllocGlobal + Threads + Wait + Sync, S: System, P: Ports, I: Read, O: Write, E: Write>(
     rt: &R,
     system: &S,
-    peers: &mut Peers<P, S::ToldReceipt>,
+    peers: &mut Peers<P>,
     request: &Request,
     contents: &Contents,
     input: &mut I,
@@ -144,15 +145,15 @@ fn answer_job<R: AllocGlobal + Threads + Wait + Sync, S: System, P: Ports, I: Re
     ensures response { HasTold (O.contents out.old) (O.contents out.new)
         (λ told found. IsAnswerTo request.now.job (contents_in contents.now)
         (given_by (I.remaining input.old) (P.ways peers.old.ports)
-        (clients_by (S.says system.now) (S.begins system.now)))
+        (clients_by (S.had system.now)))
         (response_of told found (P.ways peers.new.ports)
-        (ends_of S.was_told peers.new.endings.items)))
+        (ends_of peers.new.endings.items)))
         (IsUnanswered request.now.job (P.ways peers.old.ports) (P.ways peers.new.ports)
-        (ends_of S.was_told peers.new.endings.items)) result }
+        (ends_of peers.new.endings.items)) result }
     ensures note { IfErr result (λ missed. IsNoAnswer missed) }
     ensures beside { IsBeside request.now (E.contents err.old) (E.contents err.new) }
     ensures rest { LeavesRest request.now.job (P.ways peers.old.ports) (P.ways peers.new.ports)
-        (ends_of S.was_told peers.new.endings.items) }
+        (ends_of peers.new.endings.items) }
 {
     match &request.job {
         Job::Drive {
@@ -324,20 +325,20 @@ fn serve<R: AllocGlobal + Threads + Wait + Sync>(
 
 /// The answer of `exchange host SHAPE CLIENT..`, behind the sessions of the clients, of whose ends
 /// it is told.
-fn host<R: AllocGlobal + Threads + Wait + Sync, S: System>(
+fn host<R: AllocGlobal + Threads + Wait + Sync, S: ClientFiles>(
     rt: &R,
     system: &S,
     rack: &SharedRack,
     clients: &[Text],
     workers: WorkerCount,
     contents: &Contents,
-    endings: &mut Vec<Ending<S::ToldReceipt>>,
+    endings: &mut Vec<Ending<PassedBytes>>,
 ) -> Result<Found, NoAnswer>
     requires { CanBeServed clients.now }
     ensures answer { IfOk result (λ found. IsHostAnswer rack.now.shape
         (contents_in contents.now).image
-        (clients_by (S.says system.now) (S.begins system.now) clients.now)
-        (ends_of S.was_told endings.new.items) found.answer found.book) }
+        (clients_by (S.had system.now) clients.now)
+        (ends_of endings.new.items) found.answer found.book) }
     ensures none { OnErr result (endings.new ≡ endings.old) }
     ensures note { IfErr result (λ missed. IsNoAnswer missed) }
 {

@@ -28,6 +28,7 @@ mod outputs;
 mod peers;
 mod ports;
 mod responding;
+mod sent_file;
 mod system;
 mod texts;
 mod unanswered;

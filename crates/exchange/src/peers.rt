@@ -2,21 +2,22 @@
 
 ghost use Rattle.std.specs.Prelude.{◌≡◌, []};
 
+use contract_data::PassedBytes;
 use session_answers::Ending;
 use std::alloc::Global;
 
 /// The ports of switches, and how the sessions of live clients ended.
 #[derive(Drop)]
-pub struct Peers<P, C> {
+pub struct Peers<P> {
     /// What opens the ports.
     pub ports: P,
-    /// How the session of each client ended, in their order.
-    pub endings: Vec<Ending<C>>,
+    /// How the session of each client ended, in their order, and what went to its file.
+    pub endings: Vec<Ending<PassedBytes>>,
 }
 
-impl<P, C> Peers<P, C> {
+impl<P> Peers<P> {
     /// Ports, and no session as yet.
-    pub fn new(alloc: Global, ports: P) -> Peers<P, C>
+    pub fn new(alloc: Global, ports: P) -> Peers<P>
         ensures { (result.ports ≡ ports) × (result.endings.items ≡ []) }
     {
         let endings = Vec::new(alloc);

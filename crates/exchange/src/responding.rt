@@ -46,7 +46,7 @@ pub struct Left<C> {
 pub fn respond<R: AllocGlobal + Threads + Wait + Sync, S: System, P: Ports, I: Read, O: Write, E: Write>(
     rt: &R,
     system: &S,
-    peers: &mut Peers<P, S::ToldReceipt>,
+    peers: &mut Peers<P>,
     arguments: io::Result<Vec<String>>,
     input: &mut I,
     out: &mut O,
@@ -56,11 +56,11 @@ pub fn respond<R: AllocGlobal + Threads + Wait + Sync, S: System, P: Ports, I: R
     ensures arguments { IfOk arguments (λ w. (exit_status result.code ≡ UNWRITTEN)
         ⊎ IsEndForArguments (named_by (S.holds system.now) (S.leads system.now))
         (IsLeft (S.begins system.now) S.received result.receipts (P.ways peers.new.ports)
-        (ends_of S.was_told peers.new.endings.items))
+        (ends_of peers.new.endings.items))
         (IsNoneLeft result.receipts (P.ways peers.old.ports) (P.ways peers.new.ports)
-        (ends_of S.was_told peers.new.endings.items))
+        (ends_of peers.new.endings.items))
         (texts_of w.items) (given_by (I.remaining input.old) (P.ways peers.old.ports)
-        (clients_by (S.says system.now) (S.begins system.now)))
+        (clients_by (S.had system.now)))
         (streams_of (O.contents out.old) (O.contents out.new) (E.contents err.old)
         (E.contents err.new)) (exit_status result.code)) }
     ensures none { OnErr arguments ((exit_status result.code ≡ UNWRITTEN)
@@ -118,7 +118,7 @@ fn print_without_arguments<O: Write, E: Write>(
 fn print_response<R: AllocGlobal + Threads + Wait + Sync, S: System, P: Ports, I: Read, O: Write, E: Write>(
     rt: &R,
     system: &S,
-    peers: &mut Peers<P, S::ToldReceipt>,
+    peers: &mut Peers<P>,
     arguments: &[String],
     input: &mut I,
     out: &mut O,
@@ -128,11 +128,11 @@ fn print_response<R: AllocGlobal + Threads + Wait + Sync, S: System, P: Ports, I
     ensures { IfOk result.0 (IsEndForArguments
         (named_by (S.holds system.now) (S.leads system.now))
         (IsLeft (S.begins system.now) S.received result.1 (P.ways peers.new.ports)
-        (ends_of S.was_told peers.new.endings.items))
+        (ends_of peers.new.endings.items))
         (IsNoneLeft result.1 (P.ways peers.old.ports) (P.ways peers.new.ports)
-        (ends_of S.was_told peers.new.endings.items))
+        (ends_of peers.new.endings.items))
         (texts_of arguments.now) (given_by (I.remaining input.old) (P.ways peers.old.ports)
-        (clients_by (S.says system.now) (S.begins system.now)))
+        (clients_by (S.had system.now)))
         (streams_of (O.contents out.old) (O.contents out.new) (E.contents err.old)
         (E.contents err.new))) }
 {

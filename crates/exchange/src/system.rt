@@ -3,25 +3,18 @@
 ghost use Rattle.std.specs.Prelude.{◌≡◌, ℕ, List, Option, Some, IfOk};
 
 use crate::apart::Places;
+use crate::client_streams::ClientFiles;
 use std::io;
-use std::io::{Read, Write};
+use std::io::Write;
 
 /// What the program asks of the system by name. It is shared, so no call changes what contracts see
 /// of it. A stream of a record or an image isn't `Drop`, and neither is its receipt: who is handed
-/// any system can let neither go, so each is closed, and its receipt handed out. Those of clients
-/// may be let go, since there may be no memory to hand them on.
-pub trait System: Places + Sync {
+/// any system can let neither go, so each is closed, and its receipt handed out.
+pub trait System: Places + ClientFiles + Sync {
     /// What was opened to be written.
     type Stream: Write;
     /// What is left of a stream that was closed.
     type Receipt;
-
-    /// What a client says is read from this.
-    type Heard: Read + Send + Drop;
-    /// What a client is told is written to this.
-    type Told: Write + Send + Drop;
-    /// What is left of what a client was told.
-    type ToldReceipt: Send + Drop;
 
     /// The file of this name holds these bytes.
     ghost holds: { Self → List ℕ → List ℕ → Type 0 };
@@ -31,12 +24,6 @@ pub trait System: Places + Sync {
 
     /// All that has gone to the stream of which this is left.
     ghost received: { Self.Receipt → Option (List ℕ) };
-
-    /// What comes from the file of this name, as far as that is known.
-    ghost says: { Self → List ℕ → Option (List ℕ) };
-
-    /// All that has gone to the client's stream of which this is left.
-    ghost was_told: { Self.ToldReceipt → Option (List ℕ) };
 
     /// Reads the file of this name to its end.
     fn read(&self, name: &str) -> io::Result<Vec<u8>>
@@ -55,17 +42,4 @@ pub trait System: Places + Sync {
     /// Closes a stream.
     fn close(&self, stream: Self::Stream) -> Self::Receipt
         ensures { received result ≡ Self.Stream.contents stream };
-
-    /// Opens the file from which a client is heard.
-    fn open_heard(&self, name: &str) -> io::Result<Self::Heard>
-        ensures { IfOk result (λ heard. Self.Heard.remaining heard ≡ says self.now name.now) };
-
-    /// Opens the file by which a client is told: it is made where it isn't there, and emptied.
-    fn open_told(&self, name: &str) -> io::Result<Self::Told>
-        ensures { IfOk result (λ told.
-            Self.Told.contents told ≡ Some (begins self.now name.now)) };
-
-    /// Closes what a client is told by.
-    fn close_told(&self, told: Self::Told) -> Self::ToldReceipt
-        ensures { was_told result ≡ Self.Told.contents told };
 }

@@ -17,10 +17,10 @@ answer_job-requires-clause-scripts g c = λ lifetimes bounds.
     as_many _ _ _ _ _ are.8
 
 pub returns-in_err-opened-clause-response : goal.returns-in_err-opened-clause-response
-returns-in_err-opened-clause-response g c = told_nothing c.from_residual.result _ _ _ (none_asked _ _ _ (none_served g.S.System.was_told _ c.requires.unserved)) (search rules)
+returns-in_err-opened-clause-response g c = told_nothing c.from_residual.result _ _ _ (none_asked _ _ _ (none_served _ c.requires.unserved)) (search rules)
 
 pub returns-in_err-contents-clause-response : goal.returns-in_err-contents-clause-response
-returns-in_err-contents-clause-response g c = told_nothing c.from_residual-in_err-contents.result _ _ _ (none_asked _ _ _ (none_served g.S.System.was_told _ c.requires.unserved)) (search rules)
+returns-in_err-contents-clause-response g c = told_nothing c.from_residual-in_err-contents.result _ _ _ (none_asked _ _ _ (none_served _ c.requires.unserved)) (search rules)
 
 pub returns-clause-response : goal.returns-clause-response
 returns-clause-response g c =
@@ -34,7 +34,7 @@ returns-clause-response g c =
     let are = subst (λ (names : Files (List ℕ)). AreContents holds old names files rest) c.files.ensures c.in_ok-contents.ensures.contents in
     let was = g.P.Ports.ways c.args.peers.now.ports in
     let opens = g.P.Ports.ways c.answer_job.new.peers.ports in
-    let ends = ends_of g.S.System.was_told c.answer_job.new.peers.endings.items in
-    let clients = clients_by (g.S.System.says c.args.system.now) (g.S.System.begins c.args.system.now) in
+    let ends = ends_of c.answer_job.new.peers.endings.items in
+    let clients = clients_by (g.S.ClientFiles.had c.args.system.now) in
     let is = subst (λ (end : Printed). IsAnswerTo job files (given_by rest was clients) (record { told = t.0; end = end; left = left; ports = opens; ends = ends })) (sym c.finished.ensures.answer) t.2 in
     (t.0, t.1, (left, (files, rest, are, is, c.in_ok-found.ensures.rest), c.finished.ensures.kept), tt)

@@ -15,12 +15,12 @@ returns-in-Ok-end g c =
     let apart = rw c.in-Ok-end.is at c.answer_to-end.ensures.apart in
     let done = c.in-Ok-end.done in
     let opens = g.P.Ports.ways c.answer_to-end.new.peers.ports in
-    let ended = ends_of g.S.System.was_told c.answer_to-end.new.peers.endings.items in
+    let ended = ends_of c.answer_to-end.new.peers.endings.items in
     let response : Response = record { told = t.0; end = done.answer; left = t.2.0; ports = opens; ends = ended } in
     let kept : done.lost ≡ lost_none → IsLeft (g.S.System.begins c.args.system.now) g.S.System.received c.answer_to-end.result.receipts opens ended c.in-Ok.request.job response = λ none. (t.2.2 none, refl, refl) in
     let named = named_by (g.S.System.holds c.args.system.now) (g.S.Places.leads c.args.system.now) in
-    let given = given_by (g.I.Read.remaining c.args.input.now) (g.P.Ports.ways c.args.peers.now.ports) (clients_by (g.S.System.says c.args.system.now) (g.S.System.begins c.args.system.now)) in
-    let ends = ends_of g.S.System.was_told c.answer_to-end.new.peers.endings.items in
+    let given = given_by (g.I.Read.remaining c.args.input.now) (g.P.Ports.ways c.args.peers.now.ports) (clients_by (g.S.ClientFiles.had c.args.system.now)) in
+    let ends = ends_of c.answer_to-end.new.peers.endings.items in
     let keeps = IsLeft (g.S.System.begins c.args.system.now) g.S.System.received c.answer_to-end.result.receipts (g.P.Ports.ways c.answer_to-end.new.peers.ports) ends in
     let none_left = IsNoneLeft c.answer_to-end.result.receipts (g.P.Ports.ways c.args.peers.now.ports) (g.P.Ports.ways c.answer_to-end.new.peers.ports) ends in
     let streams = streams_of (g.O.Write.contents c.args.out.now) (g.O.Write.contents c.print_noted.new.out) (g.E.Write.contents c.args.err.now) (g.E.Write.contents c.print_noted.new.err) in
@@ -31,13 +31,13 @@ pub returns-in-Err-Refused : goal.returns-in-Err-Refused
 returns-in-Err-Refused g c =
     let t = rw (c.in-Err-Refused.is, c.in-Err-Refused.field-0-is) at c.answer_to-end.ensures.response in
     let note : IsNoAnswer (Refused c.in-Err-Refused.why c.in-Err-Refused.note) = rw (c.in-Err-Refused.is, c.in-Err-Refused.field-0-is) at c.answer_to-end.ensures.note in
-    let ended = ends_of g.S.System.was_told c.answer_to-end.new.peers.endings.items in
+    let ended = ends_of c.answer_to-end.new.peers.endings.items in
     let none : IsUnanswered c.in-Ok.request.job (g.P.Ports.ways c.args.peers.now.ports) (g.P.Ports.ways c.answer_to-end.new.peers.ports) ended t.0 = t.3 in
     let unkept = rw c.in-Err-Refused.is at c.answer_to-end.ensures.unkept in
     let left : IsLeft (g.S.System.begins c.args.system.now) g.S.System.received c.answer_to-end.result.receipts (g.P.Ports.ways c.answer_to-end.new.peers.ports) ended c.in-Ok.request.job (record { told = t.0; end = unanswered c.in-Err-Refused.why; left = None; ports = g.P.Ports.ways c.args.peers.now.ports; ends = [] }) = (unkept, sym none.1, sym none.2) in
     let named = named_by (g.S.System.holds c.args.system.now) (g.S.Places.leads c.args.system.now) in
-    let given = given_by (g.I.Read.remaining c.args.input.now) (g.P.Ports.ways c.args.peers.now.ports) (clients_by (g.S.System.says c.args.system.now) (g.S.System.begins c.args.system.now)) in
-    let ends = ends_of g.S.System.was_told c.answer_to-end.new.peers.endings.items in
+    let given = given_by (g.I.Read.remaining c.args.input.now) (g.P.Ports.ways c.args.peers.now.ports) (clients_by (g.S.ClientFiles.had c.args.system.now)) in
+    let ends = ends_of c.answer_to-end.new.peers.endings.items in
     let keeps = IsLeft (g.S.System.begins c.args.system.now) g.S.System.received c.answer_to-end.result.receipts (g.P.Ports.ways c.answer_to-end.new.peers.ports) ends in
     let none_left = IsNoneLeft c.answer_to-end.result.receipts (g.P.Ports.ways c.args.peers.now.ports) (g.P.Ports.ways c.answer_to-end.new.peers.ports) ends in
     let streams = streams_of (g.O.Write.contents c.args.out.now) (g.O.Write.contents c.refuse_noted.new.out) (g.E.Write.contents c.args.err.now) (g.E.Write.contents c.refuse_noted.new.err) in

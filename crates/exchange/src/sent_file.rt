@@ -1,0 +1,70 @@
+//! A file that is written, with what has gone to it.
+
+ghost use Rattle.std.specs.Prelude.{◌≡◌, ◌++◌, []};
+
+use contract_data::PassedBytes;
+use std::fs::File;
+use std::io;
+use std::io::Write;
+
+/// A file that is open to be written, and what has gone to it since.
+#[derive(Drop)]
+pub struct SentFile {
+    file: File,
+    sent: PassedBytes,
+}
+
+/// These bytes have passed too.
+fn add_all(sent: &mut PassedBytes, bytes: &[u8])
+    ensures { sent.new ≡ sent.old ++ bytes.now }
+{
+    for byte in bytes {
+        sent.add(*byte);
+    }
+}
+
+impl SentFile {
+    /// A file to which nothing has gone as yet.
+    pub(crate) fn of(file: File) -> SentFile
+        ensures { result.sent ≡ [] }
+    {
+        SentFile {
+            file,
+            sent: PassedBytes::none(),
+        }
+    }
+
+    /// Empties it, where it isn't a device or a pipe.
+    pub(crate) fn empty(&mut self) -> io::Result<()>
+        ensures { self.new.sent ≡ self.old.sent }
+    {
+        if self.file.metadata()?.is_file() {
+            self.file.set_len(0)?;
+        }
+        Ok(())
+    }
+
+    /// What has gone to it. It is let go.
+    pub(crate) fn into_sent(self) -> PassedBytes
+        ensures { result ≡ self.sent }
+    {
+        let SentFile { file: _, sent } = self;
+        sent
+    }
+}
+
+impl Write for SentFile {
+    ghost use Rattle.std.specs.Prelude.{Some};
+
+    ghost contents = { λ file. Some file.sent };
+
+    fn write(&mut self, buf: &[u8]) -> io::Result<usize> {
+        let count = self.file.write(buf)?;
+        add_all(&mut self.sent, &buf[..count]);
+        Ok(count)
+    }
+
+    fn flush(&mut self) -> io::Result<()> {
+        self.file.flush()
+    }
+}
