@@ -1,5 +1,5 @@
 -- An exchange of one client.
-use Rattle.std.proofs.Common.{◌≡◌, ℕ, zero, suc, Bool, List, [], ◌∷◌, ◌++◌, length, get_or, map, All, Option, Some, is_some, refl, sym, ap, ◌∙◌, subst, arith}
+use Rattle.std.proofs.Common.{◌≡◌, ℕ, zero, suc, Bool, List, [], ◌∷◌, ◌++◌, length, get_or, map, All, Option, Some, Result, Ok, Err, OnErr, is_some, inl, inr, refl, sym, ap, ◌∙◌, subst, arith}
 use Rattle.std.proofs.lemmas.List.{length-append}
 use Rattle.progress_word.specs.declared.limits.TheConstants.{ALL_PARTS}
 use Rattle.batch.specs.Extent.{Extent}
@@ -13,7 +13,7 @@ use Rattle.session_answers.specs.Histories.{part_of, IsClosing}
 use Rattle.session_answers.specs.Hosting.{IsFresh, AreAllSeats}
 use Rattle.plan_answers.specs.Refusals.{Printed}
 use Rattle.session_answers.specs.Sessions.{IsServedSession}
-use Rattle.session_answers.specs.Talking.{HasTalked}
+use Rattle.session_answers.specs.Talking.{HasTalked, HasTalkedInVain, IsTalkInVain}
 
 empty_front : (xs : List SeatState) (x : SeatState) → length (xs ++ x ∷ []) ≡ 1 → xs ≡ []
 empty_front [] x len = refl
@@ -68,3 +68,21 @@ has_talked opening rack x rest old new before after line told fault failed one s
       subst (λ (s : Extent). IsServedSession s before after t) shape session,
       rw (copied, one.nothing, said, fails) at closed,
     )
+
+-- the same, where there is no memory for what is said of it
+pub talked_in_vain : {X E : Type 0} (r : Result X E) (rack : Store) (x : Exchange) (rest : List SeatState) (old new : SeatState) (before after : Option (List ℕ)) (told : List ℕ) (fault : Option ServeFault)
+    → IsAlone x rest old → IsSameSeat old new → x.shape ≡ rack.shape
+    → IsServedSession x.shape before after (record { part = part_of new; told = told; fault = fault }) → OnErr r (HasTalkedInVain rack before after told)
+talked_in_vain (Ok y) rack x rest old new before after told fault one same shape session = tt
+talked_in_vain (Err e) rack x rest old new before after told fault one same shape session =
+    let t : Transcript = record { part = part_of new; told = told; fault = fault } in
+    inr (t, same.session ∙ one.first, refl, subst (λ (s : Extent). IsServedSession s before after t) shape session)
+
+-- no session began
+pub untalked : {X E : Type 0} (r : Result X E) (rack : Store) (before : Option (List ℕ)) → OnErr r (HasTalkedInVain rack before before [])
+untalked (Ok y) rack before = tt
+untalked (Err e) rack before = inl (refl, refl)
+
+pub untouched : {X E : Type 0} (r : Result X E) (shape : List ℕ) (image before : Option (List ℕ)) → OnErr r (IsTalkInVain shape image before before [])
+untouched (Ok y) shape image before = tt
+untouched (Err e) shape image before = inl (refl, refl)

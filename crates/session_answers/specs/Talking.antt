@@ -1,5 +1,5 @@
 -- What `talk` answers.
-use Rattle.std.specs.Prelude.{◌≡◌, ◌∷◌, ℕ, List, [], Option, None, is_some}
+use Rattle.std.specs.Prelude.{◌≡◌, ◌⊎◌, ◌∷◌, ℕ, List, [], Option, None, is_some}
 use Rattle.module_memory.specs.Store.{Store}
 use Rattle.batch_book.specs.History.{Account}
 use Rattle.plan_answers.specs.Refusals.{Printed, Refuses}
@@ -32,3 +32,19 @@ pub data IsTalkAnswer (shape : List ℕ) (image : Option (List ℕ)) (before aft
   refused : (refusal : Refusal) → IsWrongRack shape image refusal → Refuses refusal printed
       → IsUntouched before after told → left ≡ None
       → IsTalkAnswer shape image before after told printed left
+
+-- the one session of such an exchange was told this, or it didn't begin
+abbrev pub HasTalkedInVain : Store → (before after : Option (List ℕ)) → List ℕ → Type 0
+HasTalkedInVain opening before after told =
+    IsUntouched before after told
+    ⊎ ((t : Transcript) × (t.part.session ≡ 0) × (t.told ≡ told)
+    × IsServedSession opening.shape before after t)
+
+-- Where there is no memory for an answer, what was told is what the session on the rack of the shape
+-- and the image is told; or nothing was read, and nothing told.
+abbrev pub IsTalkInVain : List ℕ → Option (List ℕ) → (before after : Option (List ℕ)) → List ℕ
+    → Type 0
+IsTalkInVain shape image before after told =
+    IsUntouched before after told
+    ⊎ ((opening : Store) × IsRackOf shape image opening
+    × HasTalkedInVain opening before after told)

@@ -1,6 +1,6 @@
 //! The command `talk`.
 
-ghost use Rattle.std.specs.Prelude.{◌≡◌, ◌≤◌, List, ℕ, IfOk};
+ghost use Rattle.std.specs.Prelude.{◌≡◌, ◌≤◌, List, ℕ, IfOk, OnErr};
 ghost use Rattle.std.specs.Io.KnownBytes.{Appends};
 ghost use Rattle.batch_book.specs.Naming.{IsNamed};
 ghost use Rattle.progress_word.specs.declared.limits.TheConstants.{ALL_PARTS};
@@ -8,7 +8,7 @@ ghost use Rattle.client_session.specs.Listening.{TellsOfRefusals};
 ghost use Rattle.plan_answers.specs.Lent.{bytes_of};
 ghost use Rattle.refusals.specs.declared.refusal.Refusal.{Refusal};
 ghost use Rattle.rack_answers.specs.Openings.{IsWrongRack};
-ghost use Rattle.session_answers.specs.Talking.{HasTalked, IsTalkAnswer};
+ghost use Rattle.session_answers.specs.Talking.{HasTalked, HasTalkedInVain, IsTalkAnswer, IsTalkInVain};
 
 use crate::closing::Closing;
 use crate::frames::end_line;
@@ -39,7 +39,9 @@ fn talk<L: ExchangeName, R: Threads + Wait + Sync, I: Read, O: Write, H: Listene
     ensures session { (told : List ℕ)
         × Appends (O.contents writer.old) (O.contents writer.new) told
         × IfOk result (λ closing. HasTalked rack (I.remaining reader.old) (I.remaining reader.new)
-        told closing.answer closing.book) }
+        told closing.answer closing.book)
+        × OnErr result (HasTalkedInVain rack (I.remaining reader.old) (I.remaining reader.new)
+        told) }
     ensures beside { TellsOfRefusals H.may_tell (H.told listener.old) (H.told listener.new) }
 {
     let (exchange, mut seats) = open_exchange::<L>(alloc, blank, rack, WorkerCount::ONE, 1)?;
@@ -61,7 +63,8 @@ fn talk<L: ExchangeName, R: Threads + Wait + Sync, I: Read, O: Write, H: Listene
 /// Each reply line is written, and the writer flushed, before the next command is read. The
 /// listener hears each command, and each refusal of the session; where no session begins it hears
 /// nothing. Behind a session that ended by itself there is nothing more to print; where a fault
-/// ended it a line `ended ..` says so, under the status [`REFUSED`](plan_answers::REFUSED).
+/// ended it a line `ended ..` says so, under the status [`REFUSED`](plan_answers::REFUSED). Want of
+/// memory may come behind the session: what it was told stands then.
 pub fn answer_talk<R: Threads + Wait + Sync, I: Read, O: Write, H: Listener>(
     rt: &R,
     alloc: Global,
@@ -74,7 +77,9 @@ pub fn answer_talk<R: Threads + Wait + Sync, I: Read, O: Write, H: Listener>(
     ensures answer { (told : List ℕ)
         × Appends (O.contents writer.old) (O.contents writer.new) told
         × IfOk result (λ closing. IsTalkAnswer shape.now (bytes_of image.entry)
-        (I.remaining reader.old) (I.remaining reader.new) told closing.answer closing.book) }
+        (I.remaining reader.old) (I.remaining reader.new) told closing.answer closing.book)
+        × OnErr result (IsTalkInVain shape.now (bytes_of image.entry) (I.remaining reader.old)
+        (I.remaining reader.new) told) }
     ensures beside { TellsOfRefusals H.may_tell (H.told listener.old) (H.told listener.new) }
     ensures no_session { (refusal : Refusal) → IsWrongRack shape.now (bytes_of image.entry) refusal
         → H.told listener.new ≡ H.told listener.old }
