@@ -38,11 +38,19 @@ pub(crate) fn missing(alloc: Global) -> ArgumentsFault
     )
 }
 
-/// The fault of options that exclude each other.
-pub(crate) fn excluded(alloc: Global) -> ArgumentsFault
+/// The fault of workers for a steady plan.
+pub(crate) fn steady_workers(alloc: Global) -> ArgumentsFault
     ensures { IsMistake result }
 {
-    let message = "`--workers`, `--steady` and `--schedule` exclude each other";
+    let message = "`--steady` and `--workers` exclude each other";
+    misused(alloc, ErrorKind::ArgumentConflict, message)
+}
+
+/// The fault of a schedule's file beside options of a plan.
+pub(crate) fn planned_schedule(alloc: Global) -> ArgumentsFault
+    ensures { IsMistake result }
+{
+    let message = "`--schedule` excludes `--steady` and `--workers`";
     misused(alloc, ErrorKind::ArgumentConflict, message)
 }
 

@@ -545,8 +545,9 @@ with N up to 65536, and then N entries. An entry is
   REPLY    the line that it was answered by
 But `plan ID` is two calls: `fetch ID`, which is answered by `fetched`, and
 `settle ID`, which is answered as `plan ID` is. `progress` and `bye` are none,
-nor is a line or a batch that was refused for its form, nor a batch with a
-module or a block that the rack doesn't have.
+nor is a line or a batch that was refused for its form. A batch with a module or
+a block that the rack doesn't have is one: its `run ID` is answered by `refused
+shape`.
 
 The calls are made again, one after the other, on a rack whose words are at
 first 0, or those of the image where there is one. Each reply is compared with
@@ -617,9 +618,8 @@ pub(crate) fn help_on(argument: Argument) -> &'static str {
         Argument::Steady => "Plan so that the switch changes seldom",
         Argument::GoOn => "Wait for no line of standard input behind a setting",
         Argument::Workers => "\
-How many workers there may be, from 1 to 64. One is quickest here:
-wires of this program never wait. More are for wires that do, as an
-emulator's own, through the library",
+How many workers there may be, from 1 to 64. Any number gives the
+same answer; one is quickest, since no wire of this program waits",
         Argument::Quiet => "Tell nothing on standard error beside a refusal",
     }
 }

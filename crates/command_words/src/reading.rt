@@ -9,7 +9,7 @@ ghost use Rattle.command_words.specs.Jobs.{AskFor, HasOption, HasPlanning, HasSe
 
 use crate::clients::names_clients;
 use crate::commands::CommandName;
-use crate::faults::{excluded, misnamed, missing, named_twice, overwritten};
+use crate::faults::{misnamed, missing, named_twice, overwritten, planned_schedule, steady_workers};
 use crate::grammar::matches_of;
 use crate::input::reads_input_once;
 use crate::jobs::{ArgumentsFault, Job, Request, SharedRack};
@@ -29,8 +29,10 @@ use std::alloc::{AllocError, Global};
 enum Lack {
     /// An argument that has to be there. Clap has refused such arguments before.
     Word,
-    /// A choice between options that exclude each other.
-    Choice,
+    /// A choice between `--steady` and `--workers`.
+    Planning,
+    /// A choice between a schedule's file and these.
+    Source,
     /// Memory.
     Memory,
 }
@@ -50,7 +52,8 @@ fn fault_of(alloc: Global, lack: Lack) -> ArgumentsFault
 {
     match lack {
         Lack::Word => missing(alloc),
-        Lack::Choice => excluded(alloc),
+        Lack::Planning => steady_workers(alloc),
+        Lack::Source => planned_schedule(alloc),
         Lack::Memory => ArgumentsFault::NoMemory,
     }
 }
@@ -112,7 +115,7 @@ fn planning_of(matches: &ArgMatches<'_>) -> Result<Planning, Lack>
         return Ok(Planning::Plain);
     }
     if is_given(matches, "workers") {
-        return Err(Lack::Choice);
+        return Err(Lack::Planning);
     }
     Ok(Planning::Steady)
 }
@@ -125,7 +128,7 @@ fn source_of(alloc: Global, matches: &ArgMatches<'_>) -> Result<Source<Text>, La
         return Ok(Source::Plan(planning_of(matches)?));
     };
     if is_given(matches, "steady") || is_given(matches, "workers") {
-        return Err(Lack::Choice);
+        return Err(Lack::Source);
     }
     Ok(Source::Text(file))
 }
