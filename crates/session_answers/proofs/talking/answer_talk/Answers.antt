@@ -1,4 +1,4 @@
-use Rattle.std.proofs.Common.{[], inr, refl}
+use Rattle.std.proofs.Common.{[], inr, refl, rules}
 use Rattle.std.proofs.KnownBytes.{Appends-nil}
 use Rattle.std.proofs.lemmas.Result.{IfOk-weaker, on_err_weaker}
 use Rattle.plan_answers.specs.Lent.{bytes_of}
@@ -27,3 +27,6 @@ returns-in-Err-clause-answer g c = (
   both c.refused.result c.refused.ensures.answer c.refused.ensures.book (λ closing is left. refused c.in-Err.refusal (c.in-Err.ensures.wrong is.0) is (refl, refl) left),
   untouched c.refused.result c.args.shape.now (bytes_of c.args.image) _,
 )
+
+pub returns-in_err-blank-in-Ok-clause-answer : goal.returns-in_err-blank-in-Ok-clause-answer
+returns-in_err-blank-in-Ok-clause-answer g c = ([], Appends-nil _, search rules, untouched c.from_residual.result c.args.shape.now (bytes_of c.args.image) _)
