@@ -178,7 +178,10 @@ impl<'a> Desk<'a> {
 
     /// Whether all came in turn, up to the script's end, and no more than one step was tried there.
     fn is_followed(&self) -> bool {
-        let beyond = self.at.load(Ordering::SeqCst).checked_sub(self.script.len());
+        let beyond = self
+            .at
+            .load(Ordering::SeqCst)
+            .checked_sub(self.script.len());
         matches!(beyond, Some(0 | 1)) && !self.is_wrong.load(Ordering::SeqCst)
     }
 }
