@@ -11,6 +11,8 @@ each start of a thread is refused, which changes no answer. Of `host` a session 
 served, and no file is made. A record and an image that are left are those of what sessions were told, and the record leads to the image; or
 their files are as they were. A file is the standard input. Beside command lines stands which calls of the libraries they make.
 
+Forks: 64 workers start as many threads as they fork, which is counted where each start is refused.
+
 Calls: `hostile_use NAME` makes a call that the program doesn't make, or that is handed a rack, on its worked row, between two marks. The same is
 done with the growths between them. Each time the answer is want of memory, with all that was lent as before, or the row's own answer. A call whose
 name says that it takes none meets no growth. Nor do the last reading and the closing of an exchange, which `hostile_use clients` makes.

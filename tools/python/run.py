@@ -4,7 +4,7 @@
     install     puts what its list says, stops where a file is in the way, and what it put is taken away again, and no more
     pages       helps call the program by its name, what `man` shows has each line of them, and bash completes commands and options
     C           a program that pkg-config gives the words for, and one that is linked with the shared library
-    Python      the examples of the module's own texts, the emulator, and want of memory
+    Python      the examples of the module's own texts, the emulator, want of memory, long answers, and how often a call is made
     texts       COUNT spoilt texts, 2000 where it isn't said, by the calls from Python and by the built program, byte for byte
     threads     sixteen that call at once are answered as one alone
 
