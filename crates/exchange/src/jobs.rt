@@ -78,7 +78,17 @@ pub(crate) fn answer_to<R: Runtime, S: System, P: Ports, I: Read, O: Write, E: W
         (AreKept (S.begins system.now) S.received request.now.job None result.receipts) }
 {
     let (mut outputs, opened) = open_apart(system, rt.alloc(), &request.job);
-    let end = answer_opened(rt, system, ports, request, opened, &mut outputs, input, out, err);
+    let end = answer_opened(
+        rt,
+        system,
+        ports,
+        request,
+        opened,
+        &mut outputs,
+        input,
+        out,
+        err,
+    );
     Ended {
         end,
         receipts: close_outputs(system, outputs),

@@ -63,7 +63,15 @@ pub fn respond<R: Runtime, S: System, P: Ports, I: Read, O: Write, E: Write>(
 {
     match arguments {
         Ok(arguments) => {
-            let (end, receipts) = print_response(rt, system, ports, arguments.as_slice(), input, out, err);
+            let (end, receipts) = print_response(
+                rt,
+                system,
+                ports,
+                arguments.as_slice(),
+                input,
+                out,
+                err,
+            );
             let code = status_of(end, err);
             Left { code, receipts }
         }
@@ -138,7 +146,10 @@ fn print_response<R: Runtime, S: System, P: Ports, I: Read, O: Write, E: Write>(
                 Err(NoAnswer::Unwritten(unwritten)) => (Err(unwritten), receipts),
             }
         }
-        Err(fault) => (print_fault(rt.alloc(), arguments, fault, out, err), Receipts::none()),
+        Err(fault) => (
+            print_fault(rt.alloc(), arguments, fault, out, err),
+            Receipts::none(),
+        ),
     }
 }
 
