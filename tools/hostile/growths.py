@@ -11,6 +11,8 @@ each start of a thread is refused, which changes no answer. Of `host` a session 
 served, and no file is made. A record and an image that are left are those of what sessions were told, and the record leads to the image; or
 their files are as they were. A file is the standard input. Beside command lines stands which calls of the libraries they make.
 
+Forks: 64 workers start as many threads as they fork, which is counted where each start is refused.
+
 Calls: `hostile_use NAME` makes a call that the program doesn't make, or that is handed a rack, on its worked row, between two marks. The same is
 done with the growths between them. Each time the answer is want of memory, with all that was lent as before, or the row's own answer. A call whose
 name says that it takes none meets no growth. Nor do the last reading and the closing of an exchange, which `hostile_use clients` makes.
@@ -93,8 +95,18 @@ FILES = {
     "record": RECORD, "spoilt": RECORD.replace("000000ff\n1", "000000fe\n1"),
     "caller.in": "batch 1\npush 0 0 1 0\nplan 1\nrun 1\n", "keeper.in": KEPT,
 }  # fmt: skip
+FILES["pairs"] = "batch 64\n" + "".join(f"push 0 {block} 1 {block}\n" for block in range(64))
+FILES["turned"] = "batch 32\n" + "".join(f"push {module} 0 {31 - module} 1\n" for module in range(32))
+FILES["both"] = FILES["pairs"] + "plan 1\nrun 1\n" + FILES["turned"] + "plan 2\nrun 2\n"
 # The one that is standard input.
 INPUT = "three"
+
+# How often 64 workers fork where each start of a thread is refused. 64 transfers of one link are halved down to one each, and the settings
+# of one aren't; 32 transfers that share no link aren't, and their setting is.
+FORKS = [
+    (["plan", "pairs"], 63), (["switch", "pairs"], 63), (["drive", "pairs", "gone"], 63), (["run", "2x64x1", "pairs"], 63),
+    (["apply", "2x64x1", "pairs", "image"], 63), (["run", "32x2x1", "turned"], 31), (["serve", "32x64x1", "both"], 63 + 31),
+]  # fmt: skip
 
 COMMANDS = [
     # `read_arguments`, `Batch::read` and `copy`, `LinkGraph::of` and `transfers_of`, `Table::one_with_room`, `join` and `into_schedule`,
@@ -334,6 +346,14 @@ def sweep_command(words):
     return swept
 
 
+def count_forks(words, forks):
+    """Refuses each start of a thread to a command of 64 workers, which is answered as ever."""
+    words = [*words, "--workers", "64"]
+    ended, _, _, unstarted = run("T", EXCHANGE, words, False)
+    well = ended == ask(*words, given=INPUT) and unstarted == forks
+    return Swept(" ".join(["exchange", *words]), Counter(["as ever" if well else f"WRONG {ended}"]), 0, unstarted)
+
+
 def sweep_help_by_name():
     """The same for a help where the program is called by its name alone: the help calls it so too, as far as there is memory for that."""
     wanted, by_path = ask("--help", called="exchange"), ask("--help")
@@ -392,6 +412,7 @@ def main():
             told = [tell(it) for it in pool.imap(sweep_call, names)]
             told.append(tell(sweep_closing(["clients", "2x2x2", "script"])))
             told += [tell(it) for it in pool.imap(sweep_command, COMMANDS)]
+        told += [tell(count_forks(*it)) for it in FORKS]
         told += [tell(it) for it in [sweep_help_by_name(), sweep_host("caller")]]
         told.append(tell(sweep_host("keeper", "--record", "host-record", "--image-out", "host-left")))
         os.chdir("/")

@@ -4,7 +4,7 @@ This is plain Python, as plain.py, that shares no code with the product. A chang
 before, and so is the first setting. Partners of a link are those that it shares transfers with.
 """
 
-from collections import Counter
+from collections import Counter, defaultdict
 from itertools import combinations_with_replacement
 
 import plain
@@ -91,10 +91,50 @@ def are_needed(transfers, settings):
     return True
 
 
+def find_partners(wanted, near):
+    """Whether all of these links find partners, each its own, among those that are near them."""
+    partners = {}
+
+    def find(link, seen):
+        for other in near[link] - seen:
+            seen.add(other)
+            if other not in partners or find(partners[other], seen):
+                partners[other] = link
+                return True
+        return False
+
+    return all(find(link, set()) for link in wanted)
+
+
+def could_hold(pairs, count):
+    """Whether pairs of links could stay joined for so many settings from the first of these on: each pair is wanted so often, and each link has
+    a partner that is wanted in more settings than are left behind them. Where the links 0 and the links 3 find partners apart from each other,
+    some pairs serve both (Mendelsohn and Dulmage 1958)."""
+    often, near = Counter(pair for now in pairs for pair in now), defaultdict(set)
+    wanted = Counter(link for now in pairs for link in links_of(now))
+    for (m, n), times in often.items():
+        if times >= count:
+            near[0, m].add((3, n))
+            near[3, n].add((0, m))
+    needed = [link for link, times in wanted.items() if times > len(pairs) - count]
+    return count <= len(pairs) and all(find_partners([link for link in needed if link[0] == end], near) for end in (0, 3))
+
+
+def are_longest(transfers, settings):
+    """Whether steps don't get longer, and none could be longer where it begins."""
+    pairs, begin, longest = joined(transfers, settings), 0, len(settings)
+    while begin < len(pairs):
+        length = next((k for k, now in enumerate(pairs[begin:]) if now != pairs[begin]), len(pairs) - begin)
+        if length > longest or could_hold(pairs[begin:], length + 1):
+            return False
+        begin, longest = begin + length, length
+    return True
+
+
 def is_steady(batch, answer):
     """Whether the answer is a steady plan of the batch text: a schedule with as many settings as the busiest link has transfers, and the
     certificate that names that link and all of these. No setting is empty, and numbers ascend in each. It changes the switch only at need, no
-    more often than a steady plan may, and no less often than it has to."""
+    more often than a steady plan may, and no less often than it has to. Its steps are as long as any could be, and don't get longer."""
     transfers = plain.read_batch(batch, plain.WIDEST)
     try:
         settings, certificate = plain.read_schedule(answer)
@@ -105,4 +145,4 @@ def is_steady(batch, answer):
     is_shortest = certificate == (link, named) and len(settings) == len(named)
     ascending = all(setting and setting == sorted(setting) for setting in settings)
     few = least_changes(transfers, len(settings)) <= changes(transfers, settings) <= most_changes(transfers)
-    return is_shortest and ascending and few and are_needed(transfers, settings)
+    return is_shortest and ascending and few and are_needed(transfers, settings) and are_longest(transfers, settings)

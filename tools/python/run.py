@@ -4,7 +4,7 @@
     install     puts what its list says, stops where a file is in the way, and what it put is taken away again, and no more
     pages       helps call the program by its name, what `man` shows has each line of them, and bash completes commands and options
     C           a program that pkg-config gives the words for, and one that is linked with the shared library
-    Python      the examples of the module's own texts, the emulator, and want of memory
+    Python      the examples of the module's own texts, the emulator, want of memory, long answers, and how often a call is made
     texts       COUNT spoilt texts, 2000 where it isn't said, by the calls from Python and by the built program, byte for byte
     threads     sixteen that call at once are answered as one alone
 
@@ -70,9 +70,9 @@ def tree(folder):
     return {str(path): path.read_bytes() if path.is_file() else None for path in Path(folder).rglob("*")}
 
 
-def install(what, status, *words, script="install", **settings):
-    """Notes whether an install or an uninstall has this status, and gives back what it told."""
-    is_status, told = run(f"{TOP}/tools/install/{script}.sh", *words, **settings)
+def install(what, status, *words, script="install", before=(), **settings):
+    """Notes whether an install or an uninstall, behind some words of another command, has this status, and gives back what it told."""
+    is_status, told = run(*before, f"{TOP}/tools/install/{script}.sh", *words, **settings)
     expect(what, is_status == status, f"status {is_status}\n{told}")
     return told
 
@@ -88,6 +88,13 @@ def try_install(room):
     before = tree(rack)
     install("install once more", 0, "rack/", cwd=room)
     expect("a second install leaves the same", tree(rack) == before)
+    version = run(f"{rack}/bin/exchange", "--version")[1].split()[1]
+    expect("pkg-config is told the version", f"\nVersion: {version}\n" in Path(rack, "lib/pkgconfig/exchange.pc").read_text())
+    with open(f"{rack}/share/exchange/installed", "a") as listed:
+        listed.write("bin/../../rack/bin/exchange\n")
+    install("uninstall by a list that leads out of the folder", 1, rack, script="uninstall")
+    Path(rack, "share/exchange/installed").write_bytes(before[f"{rack}/share/exchange/installed"])
+    expect("nothing is taken away by it", tree(rack) == before)
 
     mine = f"{room}/mine"
     os.makedirs(f"{mine}/bin")
@@ -99,6 +106,12 @@ def try_install(room):
     expect("it is named, and nothing is put", f"{mine}/bin/exchange is there" in told and tree(mine) == before, told)
     os.remove(f"{mine}/bin/exchange")
     before = tree(mine)
+    os.chmod(room, 0o755)
+    os.chmod(mine, 0o555)
+    nobody = [] if os.geteuid() else ["setpriv", "--reuid=65534", "--regid=65534", "--clear-groups"]
+    told = install("a folder that can't be written to", 1, mine, before=nobody)
+    expect("that is told", "is no folder that can be written to" in told and tree(mine) == before, told)
+    os.chmod(mine, 0o755)
     install("install beside other files", 0, mine)
     shutil.rmtree(f"{mine}/lib/pkgconfig")
     install("uninstall beside other files, what is there in part", 0, mine, script="uninstall")
@@ -197,6 +210,43 @@ def try_python(module):
     picture = FromPython().ask("draw", [calls.read("all-to-all.txt"), calls.read("all-to-all.plan.txt")])
     expect("an answer that needs more room", picture == (0, calls.read("all-to-all.svg")), picture)
     try_no_schedule()
+    try_settings()
+    try_calls()
+
+
+class Counted:
+    """A library, whose calls are told in their order."""
+
+    def __init__(self, library):
+        self.library, self.told = library, []
+
+    def __getattr__(self, name):
+        return lambda *words: self.told.append(name) or getattr(self.library, name)(*words)
+
+
+def try_calls():
+    """A call is made once, and once more where its answer needs more room; also of a `str` that has half a character."""
+    import exchange
+
+    exchange._LIBRARY = counted = Counted(exchange._LIBRARY)
+    try:
+        told = exchange.plan("batch \ud800\n")
+    except ValueError as refused:
+        told = str(refused)
+    exchange.draw(calls.read("all-to-all.txt"), calls.read("all-to-all.plan.txt"))
+    exchange._LIBRARY = counted.library
+    expect("half a character is refused", told == "refused batch line 1", told)
+    expect("calls are made once", counted.told == ["exchange_plan", "exchange_draw", "exchange_draw"], counted.told)
+
+
+def try_settings():
+    """As many settings as there may be. Behind the first the switch stays as it is."""
+    import exchange
+
+    batch, schedule = "batch 4096\n" + "push 0 0 1 0\n" * 4096, "settings 4096\n" + "".join(f"setting {t}\n" for t in range(4096))
+    expect("4096 settings", exchange.settings(schedule) == [[t] for t in range(4096)])
+    sent = [(bytes.fromhex("0401001103"),), *[(b"\3",)] * 4095]
+    expect("the bytes of 4096 settings", exchange.switch_bytes(batch, schedule) == sent)
 
 
 def try_no_schedule():

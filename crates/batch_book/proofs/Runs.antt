@@ -77,7 +77,7 @@ as_told P m id (outcome.Refused run_refusal.NoMemory) (Err e) next any is holds 
 pub refused_so : {P W G : Type 0} (seen : Ghosts P) (sure : W → ℕ → Type 0) (shape : Extent) (ran : Option Scheduled) (old new : Plant P W G) (why other : RunRefusal)
     → LeavesPlant seen sure shape ran (outcome.Refused why) old new → LeavesPlant seen sure shape ran (outcome.Refused other) old new
 refused_so seen sure shape ran old new why other is =
-    record { cause = is.cause; switches = is.switches; refused = is.refused; uncalled = is.uncalled; others = is.others; counted = is.counted; honesty = is.honesty }
+    record { cause = is.cause; switches = is.switches; traffic = is.traffic; refused = is.refused; uncalled = is.uncalled; others = is.others; counted = is.counted; honesty = is.honesty }
 
 -- ---- the step of a run
 

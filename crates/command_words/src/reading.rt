@@ -9,7 +9,9 @@ ghost use Rattle.command_words.specs.Jobs.{AskFor, HasOption, HasPlanning, HasSe
 
 use crate::clients::names_clients;
 use crate::commands::CommandName;
-use crate::faults::{misnamed, missing, named_twice, overwritten, planned_schedule, steady_workers};
+use crate::faults::{
+    misnamed, missing, named_twice, overwritten, planned_schedule, steady_workers,
+};
 use crate::grammar::matches_of;
 use crate::input::reads_input_once;
 use crate::jobs::{ArgumentsFault, Job, Request, SharedRack};

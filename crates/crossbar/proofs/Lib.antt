@@ -3,3 +3,4 @@ pub mod Carrying
 pub mod Changes
 pub mod Fronts
 pub mod Boards
+pub mod Conversed

@@ -2,12 +2,15 @@
 -- command is sent, and that a conversation which fails may break off anywhere, is this project's
 -- choice.
 use Rattle.std.specs.Prelude.{◌≡◌, ℕ, List, [], ◌∷◌, ◌++◌, map, length, take, drop, Option, Some, None}
+use Rattle.std.specs.List.{flat_map}
 use Rattle.std.specs.declared.snapshot.Snapshot.{Snapshot}
 use Rattle.c004_commands.specs.Commands.{row, text, AreCommands}
 use Rattle.c004_commands.specs.declared.command.Command.{Command}
 use Rattle.crossbar.specs.Switch.{enquiries}
 use Rattle.crossbar.specs.declared.chip.Chip.{Chip}
+use Rattle.crossbar.specs.declared.chip.Chip.TheVariants.{A, B}
 use Rattle.crossbar.specs.declared.traffic.Passing.{Passing}
+use Rattle.crossbar.specs.declared.traffic.Direction.{Direction}
 use Rattle.crossbar.specs.declared.traffic.Direction.TheVariants.{Sent, Heard}
 
 -- those before the last byte, and then that byte; none where there is no last one
@@ -29,6 +32,22 @@ sent_to chip bytes = map (sent_byte chip) bytes
 -- bytes that were heard from a chip, in order
 abbrev pub heard_from : Chip → List ℕ → List Passing
 heard_from chip replies = map (heard_byte chip) replies
+
+-- bytes that went to the second of these chips, as far as it is the first
+abbrev pub only_to : Chip → Chip → List ℕ → List ℕ
+only_to A A bytes = bytes
+only_to B B bytes = bytes
+only_to A B bytes = []
+only_to B A bytes = []
+
+-- a byte that passed, as far as it was sent to the first chip
+abbrev pub byte_to : Direction → Chip → Chip → ℕ → List ℕ
+byte_to Sent chip at byte = only_to chip at (byte ∷ [])
+byte_to Heard chip at byte = []
+
+-- the bytes that a chip was sent, in order
+abbrev pub bytes_to : Chip → List Passing → List ℕ
+bytes_to chip passed = flat_map (λ p. byte_to p.direction chip p.chip p.byte) passed
 
 -- What passes where a chip is sent commands: each reply is heard behind its enquiry, before the
 -- next command is sent.

@@ -1,8 +1,7 @@
 -- A drive over ports that were opened for it and given back.
-use Rattle.std.proofs.Common.{◌≡◌, ◌<◌, [], ℕ, List, Option, Some, ap, subst, sym, ◌∙◌}
+use Rattle.std.proofs.Common.{◌≡◌, ◌<◌, [], ℕ, List, Some, ap, subst, ◌∙◌}
 use Rattle.batch.specs.declared.transfer.Transfer.{Transfer}
 use Rattle.crossbar.specs.declared.port.ConfigPort.{Ghosts}
-use Rattle.crossbar.specs.declared.traffic.Passing.{Passing}
 use Rattle.switch_driver.specs.Driving.{HasDriveCause, IsDriven}
 use Rattle.switch_driver.specs.declared.driving.Driven.{Driven}
 use Rattle.switch_driver.specs.declared.driving.Driven.TheVariants.{Completed, Stopped, Left, Untold}

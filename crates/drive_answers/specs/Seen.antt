@@ -1,7 +1,7 @@
 -- What contracts see of ports, as they were gathered.
 use Rattle.std.specs.Prelude.{ℕ, List, Option, option_map}
 use Rattle.crossbar.specs.declared.traffic.Passing.{Passing}
-use Rattle.drive_answers.specs.Ways.{Names, Ways}
+use Rattle.drive_answers.specs.Ways.{Ways}
 use Rattle.drive_answers.specs.declared.port_ways.SeenNames.{SeenNames}
 
 abbrev pub ways_seen : ℕ → Option SeenNames → Option (List Passing) → ℕ → Ways

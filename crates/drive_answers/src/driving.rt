@@ -144,7 +144,15 @@ pub fn answer_drive<R: Threads + Sync, Q: Ports, S: Stage>(
         Ok(scheduled) => {
             let batch = scheduled.batch();
             let rack = rack_of(&board, batch);
-            drive_over(alloc, rack, batch, scheduled.schedule(), names, ports, stage)
+            drive_over(
+                alloc,
+                rack,
+                batch,
+                scheduled.schedule(),
+                names,
+                ports,
+                stage,
+            )
         }
         Err(refusal) => Ok(Answer::refused(alloc, refusal)?),
     }

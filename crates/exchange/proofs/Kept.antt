@@ -6,7 +6,6 @@ use Rattle.batch_book.specs.History.{Account}
 use Rattle.command_words.specs.declared.jobs.Job.{Job}
 use Rattle.exchange.specs.Outcomes.{HasTold}
 use Rattle.exchange.specs.Outputs.{AreClosed, AreKept, AreNamed, AreOpened, AreOutputsWritten, HasNothingGone, HaveGone, IsFileWritten, IsOpened, lost_none, name_of, output_of, record_of}
-use Rattle.exchange.specs.declared.lost.Lost.{Lost}
 use Rattle.exchange.specs.declared.notes.Answered.{Answered}
 use Rattle.exchange.specs.declared.notes.NoAnswer.{NoAnswer}
 use Rattle.exchange.specs.declared.outputs.OutFile.{OutFile}

@@ -26,9 +26,8 @@ use Rattle.exchange.specs.Responses.{Given, IsAlone, IsJobAnswer, IsToldUnanswer
 use Rattle.exchange.specs.Notes.{IsToldInPart, IsBeside, IsNoteOn, IsNoted, IsToldUnless, IsWholeLine}
 use Rattle.exchange.specs.Outcomes.{HasTold, IsAnswered, IsNothing, IsUnanswered, response_of}
 use Rattle.exchange.specs.declared.found.Found.{Found}
-use Rattle.command_words.specs.declared.jobs.ArgumentsFault.{ArgumentsFault}
 use Rattle.command_words.specs.declared.jobs.ArgumentsFault.TheVariants as arguments_fault
-use Rattle.command_words.specs.Jobs.{AskFor, IsFaultIn, file_uses}
+use Rattle.command_words.specs.Jobs.{AskFor, file_uses}
 use Rattle.exchange.specs.declared.limits.TheConstants.{UNWRITTEN}
 use Rattle.exchange.specs.Ends.{Streams, IsDone, IsEndForArguments, IsFaultEnd, IsPrinted, streams_of}
 
@@ -129,14 +128,10 @@ pub ended : {E : Type 0} (r : Result ℕ E) (exit : ℕ) (P : Option (List ℕ) 
 ended (Ok status) exit P before after is done unwritten = inr (subst (λ (e : Option (List ℕ)). P e exit) (sym done.1) (subst (P before) (sym done.0) is))
 ended (Err e) exit P before after is done unwritten = inl unwritten
 
--- the end for a request, and for arguments that are at fault
+-- the end for a request
 pub asked : {E : Type 0} (r : Result ℕ E) (named : Named) (keeps : Job → Response → Type 0) (none : Type 0) (arguments : List (List ℕ)) (given : Given) (request : Request) (streams : Streams) → AskFor arguments request → IfOk r (IsDone named keeps given request streams) → IfOk r (IsEndForArguments named keeps none arguments given streams)
 asked (Ok status) named keeps none arguments given request streams ask is = (Ok request, ask, tt, is)
 asked (Err e) named keeps none arguments given request streams ask is = tt
-
-pub faulty : {E : Type 0} (r : Result ℕ E) (named : Named) (keeps : Job → Response → Type 0) (none : Type 0) (arguments : List (List ℕ)) (given : Given) (fault : ArgumentsFault) (streams : Streams) → IsFaultIn arguments fault → none → IfOk r (IsFaultEnd fault streams) → IfOk r (IsEndForArguments named keeps none arguments given streams)
-faulty (Ok status) named keeps none arguments given fault streams wrong opened is = (Err fault, tt, wrong, (opened, is))
-faulty (Err e) named keeps none arguments given fault streams wrong opened is = tt
 
 -- want of memory for the arguments
 pub without_arguments : {E : Type 0} (r : Result ℕ E) (out_before has err : Option (List ℕ)) → IfOk r (IsPrinted out_before has (unanswered NoMemory)) → IfOk r (IsFaultEnd arguments_fault.NoMemory (streams_of out_before has err err))

@@ -1,5 +1,5 @@
 -- What `drive` answers.
-use Rattle.std.specs.Prelude.{◌≡◌, ℕ, Bool, not, List, [], Option}
+use Rattle.std.specs.Prelude.{ℕ, Bool, not, List, [], Option}
 use Rattle.plan_answers.specs.Refusals.{Printed}
 use Rattle.plan_answers.specs.declared.source.Source.{Source}
 use Rattle.switch_driver.specs.Lines.{TellsLine}

@@ -25,7 +25,7 @@ use crate::found::Found;
 use crate::notes::{Answered, NoAnswer, finished, reason_line, tell_note};
 use crate::outputs::{Outputs, Receipts, close_outputs, open_apart};
 use crate::peers::Peers;
-use crate::system::System;
+use crate::system::{Runtime, System};
 use crate::unwritten::Unwritten;
 use client_session::{Listener, NoListener};
 use command_words::{Job, Request, SharedRack, Text};
@@ -55,7 +55,7 @@ pub(crate) struct Ended<C> {
 /// enquiries there, and tells on `err` what it drops. It is looked first where names lead. Then the
 /// files for the record of sessions and for the image that they leave are opened, before any other
 /// is read, and all that are read are read before anything is answered.
-pub(crate) fn answer_to<R: AllocGlobal + Threads + Wait + Sync, S: System, P: Ports, I: Read, O: Write, E: Write>(
+pub(crate) fn answer_to<R: Runtime, S: System, P: Ports, I: Read, O: Write, E: Write>(
     rt: &R,
     system: &S,
     peers: &mut Peers<P>,
@@ -70,8 +70,13 @@ pub(crate) fn answer_to<R: AllocGlobal + Threads + Wait + Sync, S: System, P: Po
         (λ told done. (left : Option Account) × IsJobAnswer (S.holds system.now)
         (given_by (I.remaining input.old) (P.ways peers.old.ports)
         (clients_by (S.had system.now))) request.now.job
-        (record { told = told; end = done.answer; left = left; ports = P.ways peers.new.ports;
-        ends = ends_of peers.new.endings.items })
+        (record {
+          told = told;
+          end = done.answer;
+          left = left;
+          ports = P.ways peers.new.ports;
+          ends = ends_of peers.new.endings.items;
+        })
         × (done.lost ≡ lost_none → AreKept (S.begins system.now) S.received request.now.job left
         result.receipts))
         (IsUnanswered request.now.job (P.ways peers.old.ports) (P.ways peers.new.ports)
@@ -84,7 +89,17 @@ pub(crate) fn answer_to<R: AllocGlobal + Threads + Wait + Sync, S: System, P: Po
         (AreKept (S.begins system.now) S.received request.now.job None result.receipts) }
 {
     let (mut outputs, opened) = open_apart(system, rt.alloc(), &request.job);
-    let end = answer_opened(rt, system, peers, request, opened, &mut outputs, input, out, err);
+    let end = answer_opened(
+        rt,
+        system,
+        peers,
+        request,
+        opened,
+        &mut outputs,
+        input,
+        out,
+        err,
+    );
     Ended {
         end,
         receipts: close_outputs(system, outputs),
@@ -92,7 +107,7 @@ pub(crate) fn answer_to<R: AllocGlobal + Threads + Wait + Sync, S: System, P: Po
 }
 
 /// The same, with the files that could be opened to be written, or why they aren't open.
-fn answer_opened<R: AllocGlobal + Threads + Wait + Sync, S: System, P: Ports, I: Read, O: Write, E: Write>(
+fn answer_opened<R: Runtime, S: System, P: Ports, I: Read, O: Write, E: Write>(
     rt: &R,
     system: &S,
     peers: &mut Peers<P>,
@@ -110,8 +125,13 @@ fn answer_opened<R: AllocGlobal + Threads + Wait + Sync, S: System, P: Ports, I:
         (λ told done. (left : Option Account) × IsJobAnswer (S.holds system.now)
         (given_by (I.remaining input.old) (P.ways peers.old.ports)
         (clients_by (S.had system.now))) request.now.job
-        (record { told = told; end = done.answer; left = left; ports = P.ways peers.new.ports;
-        ends = ends_of peers.new.endings.items })
+        (record {
+          told = told;
+          end = done.answer;
+          left = left;
+          ports = P.ways peers.new.ports;
+          ends = ends_of peers.new.endings.items;
+        })
         × AreOutputsWritten S.Stream.contents left outputs.old outputs.new done.lost)
         (IsUnanswered request.now.job (P.ways peers.old.ports) (P.ways peers.new.ports)
         (ends_of peers.new.endings.items)) result }
@@ -128,7 +148,7 @@ fn answer_opened<R: AllocGlobal + Threads + Wait + Sync, S: System, P: Ports, I:
 }
 
 /// The answer to a job whose files contain this.
-fn answer_job<R: AllocGlobal + Threads + Wait + Sync, S: System, P: Ports, I: Read, O: Write, E: Write>(
+fn answer_job<R: Runtime, S: System, P: Ports, I: Read, O: Write, E: Write>(
     rt: &R,
     system: &S,
     peers: &mut Peers<P>,
@@ -169,7 +189,15 @@ fn answer_job<R: AllocGlobal + Threads + Wait + Sync, S: System, P: Ports, I: Re
                 port_b: text_in(port_b),
             };
             drive(
-                rt, *workers, source, contents, names, *goes_on, &mut peers.ports, input, out,
+                rt,
+                *workers,
+                source,
+                contents,
+                names,
+                *goes_on,
+                &mut peers.ports,
+                input,
+                out,
             )
         }
         Job::C004 if request.is_quiet => c004(rt.alloc(), input, out, &mut io::sink()),
@@ -181,7 +209,15 @@ fn answer_job<R: AllocGlobal + Threads + Wait + Sync, S: System, P: Ports, I: Re
             workers,
         } => {
             let clients = clients.as_slice();
-            host(rt, system, rack, clients, *workers, contents, &mut peers.endings)
+            host(
+                rt,
+                system,
+                rack,
+                clients,
+                *workers,
+                contents,
+                &mut peers.endings,
+            )
         }
         Job::Talk { rack } if request.is_quiet => {
             talk(rt, rack, contents, input, out, &mut NoListener)
@@ -345,7 +381,11 @@ fn host<R: AllocGlobal + Threads + Wait + Sync, S: ClientFiles>(
     let shape = rack.shape.as_str().as_bytes();
     let image = slice_of(&contents.image);
     let alloc = rt.alloc();
-    let streams = FileStreams { system, alloc, clients };
+    let streams = FileStreams {
+        system,
+        alloc,
+        clients,
+    };
     let hosted = answer_host(rt, alloc, shape, image, workers, &streams)?;
     *endings = hosted.endings;
     Ok(Found::closed(hosted.closing))

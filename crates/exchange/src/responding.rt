@@ -16,7 +16,7 @@ use crate::limits::{MISUSED, UNWRITTEN};
 use crate::notes::{Answered, NoAnswer, tell_note};
 use crate::outputs::Receipts;
 use crate::peers::Peers;
-use crate::system::System;
+use crate::system::{Runtime, System};
 use crate::unanswered::Unanswered;
 use crate::unwritten::Unwritten;
 use command_words::{ArgumentsFault, read_arguments};
@@ -27,8 +27,6 @@ use std::alloc::{AllocError, Global};
 use std::io;
 use std::io::{ErrorKind, Read, Write};
 use std::process::ExitCode;
-use std::sync::Wait;
-use std::thread::Threads;
 
 /// How the program ends, and what is left of what it opened to be written.
 pub struct Left<C> {
@@ -43,7 +41,7 @@ pub struct Left<C> {
 ///
 /// A file that is `-` is read from `input`. Answers, refusals and the texts of help go to `out`;
 /// arguments that fit no command are answered on `err`.
-pub fn respond<R: AllocGlobal + Threads + Wait + Sync, S: System, P: Ports, I: Read, O: Write, E: Write>(
+pub fn respond<R: Runtime, S: System, P: Ports, I: Read, O: Write, E: Write>(
     rt: &R,
     system: &S,
     peers: &mut Peers<P>,
@@ -69,7 +67,15 @@ pub fn respond<R: AllocGlobal + Threads + Wait + Sync, S: System, P: Ports, I: R
 {
     match arguments {
         Ok(arguments) => {
-            let (end, receipts) = print_response(rt, system, peers, arguments.as_slice(), input, out, err);
+            let (end, receipts) = print_response(
+                rt,
+                system,
+                peers,
+                arguments.as_slice(),
+                input,
+                out,
+                err,
+            );
             let code = status_of(end, err);
             Left { code, receipts }
         }
@@ -115,7 +121,7 @@ fn print_without_arguments<O: Write, E: Write>(
 
 /// Does what the arguments ask for, prints its answer, or why it has none, and tells a line beside
 /// a refusal. The error is that of writing the answer.
-fn print_response<R: AllocGlobal + Threads + Wait + Sync, S: System, P: Ports, I: Read, O: Write, E: Write>(
+fn print_response<R: Runtime, S: System, P: Ports, I: Read, O: Write, E: Write>(
     rt: &R,
     system: &S,
     peers: &mut Peers<P>,
@@ -148,7 +154,10 @@ fn print_response<R: AllocGlobal + Threads + Wait + Sync, S: System, P: Ports, I
                 Err(NoAnswer::Unwritten(unwritten)) => (Err(unwritten), receipts),
             }
         }
-        Err(fault) => (print_fault(rt.alloc(), arguments, fault, out, err), Receipts::none()),
+        Err(fault) => (
+            print_fault(rt.alloc(), arguments, fault, out, err),
+            Receipts::none(),
+        ),
     }
 }
 

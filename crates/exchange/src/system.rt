@@ -6,6 +6,13 @@ use crate::apart::Places;
 use crate::client_streams::ClientFiles;
 use std::io;
 use std::io::Write;
+use std::sync::Wait;
+use std::thread::Threads;
+
+/// What the program runs on.
+pub trait Runtime: AllocGlobal + Threads + Wait + Sync {}
+
+impl<R: AllocGlobal + Threads + Wait + Sync> Runtime for R {}
 
 /// What the program asks of the system by name. It is shared, so no call changes what contracts see
 /// of it. A stream of a record or an image isn't `Drop`, and neither is its receipt: who is handed

@@ -1,8 +1,10 @@
 -- What `check` answers to what `plan` and `plan --steady` answer.
-use Rattle.std.proofs.Common.{length, refl, ap, ◌≡◌}
+use Rattle.std.proofs.Common.{length, Some, refl, ap, ◌≡◌}
 use Rattle.batch.specs.Extent.{widest}
 use Rattle.batch.proofs.OneReading.{apart}
+use Rattle.link_graph.specs.ScheduleText.{Said, said}
 use Rattle.link_graph.proofs.Koenig.{certified}
+use Rattle.link_graph.proofs.SaidLines.{one_said}
 use Rattle.plan_answers.specs.declared.limits.TheConstants.{DONE}
 use Rattle.plan_answers.specs.Answers as answered
 use Rattle.plan_answers.specs.Answers.{IsShown, shortest_line}
@@ -27,5 +29,5 @@ planned_then_checked batch ts planning printed checked denotes (answered.planned
     } in
     let line : Printed = record { text = shortest_line (length plan.settings); status = DONE } in
     let same : checked ≡ line = one_verdict widest widest_fits batch printed.text line checked (answered.shortest (length plan.settings) shown refl refl) answers in
-    record { settings = plan.settings; named = plan.named; says = plan.says; line = ap (λ (p : Printed). p.text) same; status = ap (λ (p : Printed). p.status) same }
+    record { settings = plan.settings; named = plan.named; says = plan.says; only = λ others naming says. ap (λ (s : Said). s.settings) (one_said printed.text (said others (Some naming)) (said plan.settings (Some plan.named)) says plan.says); line = ap (λ (p : Printed). p.text) same; status = ap (λ (p : Printed). p.status) same }
 planned_then_checked batch ts planning printed checked denotes (answered.refused fault first line) answers = absurd (apart widest widest_fits batch ts fault denotes first)

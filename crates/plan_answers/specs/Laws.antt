@@ -32,12 +32,14 @@ DirectedThenPlanned =
     → Denotes text moves → IsDirected text directed
     → IsPlanned planning widest directed.text planned → TellsFewest moves planned
 
--- The text says a schedule with its certificate, and the answer is `shortest S`, where S is how
--- many settings that schedule has, under its status.
+-- The text says one schedule, with its certificate, and no other. The answer is `shortest S`, where
+-- S is how many settings that schedule has, under its status.
 pub record TellsShortest (text : List ℕ) (checked : Printed) : Type 0 where
   pub settings : List (List ℕ)
   pub named : Naming
   pub says : SaysCertified settings named text
+  pub only : (others : List (List ℕ)) (naming : Naming)
+      → SaysCertified others naming text → others ≡ settings
   pub line : checked.text ≡ shortest_line (length settings)
   pub status : checked.status ≡ DONE
 

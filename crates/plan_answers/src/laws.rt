@@ -9,7 +9,8 @@ pub fn directed_then_planned()
 {}
 
 /// Where a text denotes a batch, `check` answers `shortest S` to it and to what `plan` or
-/// `plan --steady` answers to it, where S is how many settings that has.
+/// `plan --steady` answers to it. S is how many settings that plan has: its text says no other
+/// schedule.
 pub fn planned_then_checked()
     ensures { PlannedThenChecked }
 {}

@@ -17,7 +17,6 @@ use Rattle.crossbar.specs.declared.chip.Wiring.{Wiring}
 use Rattle.crossbar.specs.declared.chip.Wiring.TheVariants.{Both, Forth, Back, Board}
 use Rattle.refusals.specs.declared.refusal.Refusal.{Refusal}
 use Rattle.refusals.specs.Refusals.{refusal_words}
-use Rattle.schedule_certificate.specs.Plans.{Plan}
 use Rattle.switch_settings.specs.Racks.{is_wide}
 use Rattle.switch_settings.specs.Sending.{sent_for}
 use Rattle.line_words.specs.HexWords.{hex2}
@@ -80,17 +79,6 @@ pub data IsSwitched (source : Source (List ℕ)) (board : Option BoardWiring) (b
       → TellsSwitch board transfers settings printed → IsSwitched source board batch printed
   wrong : (refusal : Refusal) → IsWrongFrom source (extent_of board) batch refusal
       → IsRefused (refusal_words refusal) printed → IsSwitched source board batch printed
-
--- ---- plans
-
--- the lines of a plan's setting: what a run sends for it
-abbrev pub setting_lines : Plan → ℕ → List ℕ
-setting_lines plan k =
-    lines_for (is_wide plan.batch) k (λ wiring. sent_for wiring plan.batch plan.settings k)
-
--- the lines of all settings, in their order
-abbrev pub switch_text : Plan → List ℕ
-switch_text plan = flat_map (setting_lines plan) (range_with_len 0 (length plan.settings))
 
 -- ---- the text of a wiring
 

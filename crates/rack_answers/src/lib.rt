@@ -8,8 +8,9 @@
 //! threads, and need a handle.
 //!
 //! What the answers are is said by `IsRunAnswer` and `IsApplied` of `specs/Answers.antt`, and by
-//! `IsSwitched` of `specs/Switching.antt`. There is one answer at most of `apply`, of `run` but by a
-//! steady plan, and of `switch` by a schedule's text on the usual wiring.
+//! `IsSwitched` of `specs/Switching.antt`. There is one answer at most of `apply`, of `run` but by
+//! a steady plan, and of `switch` by a schedule's text on the usual wiring. A completed run sends
+//! what `switch` tells, where the rack is as wide as the batch wants it (`laws::told_is_sent`).
 #![tactic(auto)]
 
 mod applying;

@@ -188,7 +188,8 @@ fn report_text(
 /// changed, but for a plain plan; and the line `block M B` with the words, of eight hexadecimal
 /// digits each, of every block that the batch writes, by module and then by block. Such a run goes
 /// to its end, since its port and its wires never fail. A plan's has as few settings as the batch
-/// allows. Planning and the run are given so many workers each.
+/// allows. Its rack has two switches where it has more than 16 modules, whatever the batch names.
+/// Planning and the run are given so many workers each.
 pub fn answer_run<R: Threads + Sync>(
     rt: &R,
     alloc: Global,

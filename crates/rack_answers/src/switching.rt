@@ -136,8 +136,9 @@ fn switch_on<R: Threads + Sync>(
 }
 
 /// The answer of `exchange switch`: what a run of a schedule of the batch that the text denotes
-/// sends over the configuration link, setting by setting; or the refusal of what is first wrong, as
-/// [`Scheduled::read`](plan_answers::Scheduled::read) looks at it.
+/// sends over the configuration link, setting by setting, but for its enquiries; or the refusal of
+/// what is first wrong, as [`Scheduled::read`](plan_answers::Scheduled::read) looks at it. The rack
+/// of that run is as wide as the batch wants it; others go by the modules of their racks.
 ///
 /// A line is `setting S`, with the bytes behind it as pairs of hexadecimal digits: those of the
 /// first setting set a switch, whatever it was, and those of each later one change the switch of

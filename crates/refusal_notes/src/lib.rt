@@ -5,12 +5,12 @@
 //! What they give begins with `exchange: ` and ends with a line feed, and they give nothing for
 //! lack of memory. No contract says which words stand there.
 //!
-//! The contracts of their parts say some of it. A note has the number and the beginning of the line
-//! that the refusal means, and what is wanted there (`IsLineTold` of `specs/Told.antt`). A number
-//! that is told as too great stands there, and isn't below the limit that is told with it
-//! (`IsNoteAbove` of `specs/Notes.antt`). Where a line is told to differ at a byte, what is told to
-//! stand there is the line from there on (`IsDifferenceOf` of `specs/Differences.antt`). A link
-//! that is told to be taken is in both lines (`IsTaken`). No contract says that a note is told.
+//! The contracts of their parts say what is found out, and not that it is told. What is found out
+//! of a line has the number and the beginning of the line that the refusal means, and what is
+//! wanted there (`IsLineTold` of `specs/Told.antt`). A number that is too great stands there, and
+//! isn't below the limit that goes with it (`IsNoteAbove` of `specs/Notes.antt`). Where a line
+//! differs at a byte, what stands there is the line from there on (`IsDifferenceOf` of
+//! `specs/Differences.antt`). A link that is taken is in both lines (`IsTaken`).
 #![tactic(auto)]
 
 mod differences;

@@ -4,6 +4,7 @@ pub mod Moves
 pub mod Carried
 pub mod Causes
 pub mod Ending
+pub mod Passing
 pub mod Parts
 pub mod Schedules
 pub mod Tellings

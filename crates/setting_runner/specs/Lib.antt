@@ -5,4 +5,5 @@ pub mod Causes
 pub mod Runs
 pub mod LineBits
 pub mod Refusals
+pub mod Traffic
 pub mod Plants

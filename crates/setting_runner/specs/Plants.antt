@@ -6,6 +6,7 @@ use Rattle.crossbar.specs.declared.port.ConfigPort.{Ghosts}
 use Rattle.setting_runner.specs.declared.outcome.Outcome.{Outcome}
 use Rattle.setting_runner.specs.declared.plant.Plant.{Plant}
 use Rattle.setting_runner.specs.Runs.{HasCause, IsRefusedRun, LeavesSwitches}
+use Rattle.setting_runner.specs.Traffic.{LeavesTraffic}
 
 -- a batch, and the settings of a schedule of it
 abbrev pub Scheduled : Type 0
@@ -27,6 +28,10 @@ pub record LeavesPlant {P W G : Type 0} (seen : Ghosts P) (sure : W → ℕ → 
   -- the switches of an honest port are those of the setting that was run last
   pub switches : IsTrue (seen.honest old.port) →
       IfSome ran (λ s. LeavesSwitches shape s.0 s.1 outcome (seen.switches new.port))
+  -- what passed over a port that tells it is what the settings call for
+  pub traffic :
+      IfSome ran (λ s.
+      LeavesTraffic shape.modules s.0 s.1 outcome (seen.passed old.port) (seen.passed new.port))
   -- where the run is refused nothing is done, nor where its schedule has no setting
   pub refused : IsRefusedRun outcome → new ≡ old
   pub uncalled : IfSome ran (λ s. s.1 ≡ [] → new ≡ old)

@@ -6,6 +6,11 @@
 //! that of the words that each transfer moved. A refused one has changed nothing. What is left of
 //! port, wires and switches is `LeavesPlant` of `specs/Plants.antt`, and what the notice is told
 //! `TellsOutcome`.
+//!
+//! Over a port that tells what passes, just that passes which the settings call for, one after
+//! another (`LeavesTraffic` of `specs/Traffic.antt`): the bytes that turn the switches, the
+//! enquiries of all outputs, and replies that agree. Where a run stops, what passed for its last
+//! setting breaks off, ends with a reply that disagrees, or is whole where a wire failed.
 #![tactic(auto)]
 
 mod bits;

@@ -33,9 +33,10 @@ use switch_settings::{PairList, numbers_of_setting};
 ///
 /// Then, setting by setting, the switches are set, whatever they were for the first setting and
 /// from the setting before for each later one. A rack of at most 16 modules has one switch, and a
-/// wider one has two. All their outputs are asked whether they stand so, and the words of the
-/// setting's transfers are moved over their wires, by as many workers as the plant may have. The
-/// notice is told 0 before the first setting, and after each setting how many are done.
+/// wider one has two, whatever modules the batch names. All their outputs are asked whether they
+/// stand so, and the words of the setting's transfers are moved over their wires, by as many
+/// workers as the plant may have. The notice is told 0 before the first setting, and after each
+/// setting how many are done.
 ///
 /// A run is refused where two transfers write one block, where the rack hasn't a block that a
 /// transfer names, and where there is no memory, tested in this order: then the rack is as it was,

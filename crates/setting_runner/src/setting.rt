@@ -5,7 +5,9 @@ ghost use Rattle.crossbar.specs.Pairs.{ArePairs};
 ghost use Rattle.setting_runner.specs.declared.outcome.StopCause.TheVariants.{Wire};
 ghost use Rattle.setting_runner.specs.Moves.{AreMovable, HaveMoved, none_sure, all_moved, AllWhole};
 ghost use Rattle.setting_runner.specs.Runs.{IsStopCause, IsShortfall, IsLeastShort};
+ghost use Rattle.setting_runner.specs.Traffic.{PassesFor};
 ghost use Rattle.switch_settings.specs.Answers.{AreSetTo, AreStanding};
+ghost use Rattle.switch_settings.specs.Asking.{HaveReplied};
 
 use crate::moved::Moved;
 use crate::outcome::StopCause;
@@ -69,6 +71,12 @@ pub fn run_setting<R: Threads + Sync, P: ConfigPort, W: WireMaker + Sync, G: Gat
     ensures wire { IfErr result (λ stop. (t : ℕ) → stop.cause ≡ Wire t →
         AreSetTo rest.now.store.shape.modules (P.honest plant.old.port)
         (P.switches plant.new.port) setting.now.pairs) }
+    ensures replied { OnOk result
+        (HaveReplied rest.now.store.shape.modules setting.now.standing setting.now.pairs
+        (P.passed plant.old.port) (P.passed plant.new.port)) }
+    ensures passed { IfErr result (λ stop.
+        PassesFor rest.now.store.shape.modules stop.cause setting.now.standing setting.now.pairs
+        (P.passed plant.old.port) (P.passed plant.new.port)) }
     ensures plant { plant.new ≡ record plant.old { port = plant.new.port } }
     ensures counted { P.failures plant.old.port ≤ P.failures plant.new.port }
     ensures unfailed { OnOk result (P.failures plant.new.port ≡ P.failures plant.old.port) }
@@ -111,6 +119,12 @@ fn begin_setting<P: ConfigPort, W: WireMaker, G>(
     ensures set { OnOk result
         (AreSetTo shape.modules (P.honest plant.old.port) (P.switches plant.new.port)
         setting.now.pairs) }
+    ensures replied { OnOk result
+        (HaveReplied shape.modules setting.now.standing setting.now.pairs
+        (P.passed plant.old.port) (P.passed plant.new.port)) }
+    ensures passed { IfErr result (λ stop.
+        PassesFor shape.modules stop.cause setting.now.standing setting.now.pairs
+        (P.passed plant.old.port) (P.passed plant.new.port)) }
     ensures plant { plant.new ≡ record plant.old { port = plant.new.port } }
     ensures counted { P.failures plant.old.port ≤ P.failures plant.new.port }
     ensures unfailed { OnOk result (P.failures plant.new.port ≡ P.failures plant.old.port) }

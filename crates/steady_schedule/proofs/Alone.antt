@@ -9,7 +9,7 @@ use Rattle.std.proofs.lemmas.List.Sums.{sum_by-cons}
 use Rattle.link_graph.specs.Counts.{count_below}
 use Rattle.link_graph.proofs.Sums.{sum_ones, sum_add}
 use Rattle.steady_schedule.specs.Waiting.{sum_below}
-use Rattle.steady_schedule.proofs.Sums.{only, sum_same, sum_most, sum_none, sum_both, sum_only, sum_changed}
+use Rattle.steady_schedule.proofs.Sums.{only, only_few, only_most, sum_same, sum_most, sum_none, sum_both, sum_only, sum_changed}
 
 pub count_is_sum : (n : ℕ) (f : ℕ → Bool) → count_below n f ≡ sum_below n (λ m. only (f m) 1)
 unfolding sum_below
@@ -52,14 +52,6 @@ single_few : (b c : Bool) → only b (only c 1) ≤ only b 1
 single_few true true = omega arith
 single_few true false = omega arith
 single_few false c = omega arith
-
-only_few : (b : Bool) (k : ℕ) → only b k ≤ k
-only_few true k = omega arith
-only_few false k = omega arith
-
-only_most : (b : Bool) (k most : ℕ) → k ≤ most → only b k ≤ only b most
-only_most true k most le = le
-only_most false k most le = omega arith
 
 each_all : {J : Type 0} (P : J → Type 0) → ((j : J) → P j) → (js : List J) → AllByRecursion P js
 each_all P all [] = tt

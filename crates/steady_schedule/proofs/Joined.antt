@@ -183,7 +183,7 @@ within_each xs ys implied =
 pub within_from : (xs ys : List Transfer) → ((u v : ℕ) → are_partners xs u v ≡ true → are_partners ys u v ≡ true) → join_within xs ys ≡ true
 within_from xs ys implied = within_each xs ys (λ x. implied x.initiator x.responder)
 
-join_met : (xs ys : List Transfer) (u v : ℕ) → join_within xs ys ≡ true → are_partners xs u v ≡ true → are_partners ys u v ≡ true
+pub join_met : (xs ys : List Transfer) (u v : ℕ) → join_within xs ys ≡ true → are_partners xs u v ≡ true → are_partners ys u v ≡ true
 join_met xs ys u v within some = meets_within (made Zero u) xs ys v within some
 
 -- a transfer with its own pair

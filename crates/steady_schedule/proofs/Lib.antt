@@ -13,10 +13,12 @@ pub mod Covers
 pub mod Waiting
 pub mod Steps
 pub mod Reaches
+pub mod Longest
 pub mod Slots
-pub mod Potential
-pub mod Heads
+pub mod Members
 pub mod Needs
+pub mod FewNeeds
+pub mod LongSteps
 pub mod Totals
 pub mod TwoLinks
 pub mod Listed

@@ -21,11 +21,10 @@ use Rattle.steady_schedule.specs.Slots.IsOverAs.{pair_done as pair_as, link_need
 use Rattle.steady_schedule.specs.Steps.{CanHold, AreTaken, IsTight}
 use Rattle.steady_schedule.specs.Steps.IsTight.{all, by_pair, by_zero, by_three}
 use Rattle.steady_schedule.specs.Waiting.{count_at, waiting, HaveMost, ArePairCounts}
-use Rattle.steady_schedule.proofs.Heads.{stands_at, joins_in, joins_out, same_joined}
+use Rattle.steady_schedule.proofs.Members.{stands_at, joins_in, joins_out, same_joined}
 use Rattle.steady_schedule.proofs.Matchings.{has_low}
-use Rattle.steady_schedule.proofs.Potential.{full_joined}
 use Rattle.steady_schedule.proofs.Slots.{joins_from, joins_to_number}
-use Rattle.steady_schedule.proofs.Steps.{at_pair, fewer, zero_free, three_free}
+use Rattle.steady_schedule.proofs.Steps.{at_pair, fewer, zero_free, three_free, full_joined}
 use Rattle.steady_schedule.proofs.Sums.{partner_cases}
 
 -- ---- one step more
@@ -72,7 +71,7 @@ module _ (totals remaining slots remaining_now slots_now : List ℕ) (zeros thre
         | inl before ↦ kept_link e end x before (used e later before)
         | inr from ↦ full_has e end x x_in full_now from to
       ])
-      (omega (arith, full, full_joined totals remaining remaining_now zeros threes m (settings - first) k taken h can end x x_in full_now))
+      (omega (arith, full, full_joined zeros threes m k remaining remaining_now taken (settings - first) h can end x x_in full_now))
 
   -- something is over with the last number of the step
   step_over : (d : ℕ) → d + 1 ≡ first + k → d + 1 < settings → IsTight remaining zeros threes (settings - first) k → IsOverAt totals remaining_now slots_now settings (first + k) d
@@ -112,6 +111,22 @@ module _ (totals remaining slots remaining_now slots_now : List ℕ) (zeros thre
       | inr last ↦ inr (step_over d (omega (arith, last, lt)) within can.tight)
     ]
   ]
+
+-- the pairs of a step aren't those of the one before
+pub step_apart : (totals remaining slots : List ℕ) (zeros threes : List (Option ℕ)) (settings first k : ℕ) → AreMatched zeros threes → CanHold remaining zeros threes (settings - first) k → AreAtNeed totals remaining slots settings first → first < settings → 0 < first → ((u v : ℕ) → (StandsIn totals remaining slots (first - 1) u v → partner zeros u ≡ Some v) × (partner zeros u ≡ Some v → StandsIn totals remaining slots (first - 1) u v)) → ⊥
+step_apart totals remaining slots zeros threes settings first k m can needs within some same = elim (needs (first - 1) (omega (arith, some)) (omega (arith, some, within))) [
+  | inl p ↦ omega (arith, p.0)
+  | inr over ↦ by over
+]
+  where
+    by : IsOverAt totals remaining slots settings first (first - 1) → ⊥
+    by (pair_at u v has none gone) = omega (arith, gone, can.some, (can.each u has.1.zero_in).pair v ((same u v).0 has))
+    by (link_at Zero x x_in unused used full) = partner_cases (partner zeros x) ⊥
+        (λ none. omega (arith, full, can.some, (can.each x x_in).zero_out none))
+        (λ y joined. unused (y, (same x y).1 joined))
+    by (link_at Three y y_in unused used full) = partner_cases (partner threes y) ⊥
+        (λ none. omega (arith, full, can.some, (can.each y y_in).three_out none))
+        (λ x back. unused (x, (same x y).1 ((m.each_other x y).1 back)))
 
 -- ---- the numbers as they are read
 

@@ -75,7 +75,7 @@ pub bits_set_is : (mask n : ℕ) → n ≡ MAX_MODULES → count_below n (λ m. 
 unfolding bits_set
 bits_set_is mask n all = ap (λ (k : ℕ). count_below k (λ m. has_bit mask m)) all
 
-count_same : (n : ℕ) (p q : ℕ → Bool) → ((m : ℕ) → m < n → p m ≡ q m) → count_below n p ≡ count_below n q
+pub count_same : (n : ℕ) (p q : ℕ → Bool) → ((m : ℕ) → m < n → p m ≡ q m) → count_below n p ≡ count_below n q
 count_same zero p q same = refl
 count_same (suc n) p q same = omega (arith, ap bit (same n (omega arith)), count_same n p q (λ m lt. same m (omega arith)))
 

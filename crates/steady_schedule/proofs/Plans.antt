@@ -1,6 +1,6 @@
 -- What follows from a shortest schedule: no setting is empty. And it changes once a setting at
 -- most.
-use Rattle.std.proofs.Common.{◌≡◌, ℕ, ◌<◌, ◌≤◌, List, [], ◌∷◌, length, get_or, take, drop, suc, cond, Bool, true, false, Option, Some, None, All, refl, ap, ◌∙◌, inl, inr, arith, sym}
+use Rattle.std.proofs.Common.{◌≡◌, ℕ, ◌<◌, ◌≤◌, List, [], ◌∷◌, length, get_or, take, drop, suc, cond, Bool, true, false, Option, Some, None, All, refl, ap, ◌∙◌, inl, inr, arith}
 use Rattle.std.specs.List.{remove}
 use Rattle.std.proofs.lemmas.Bool.{cases_lt}
 use Rattle.std.proofs.lemmas.List.Edits.{length-remove}
@@ -17,11 +17,6 @@ use Rattle.link_graph.proofs.Koenig.{certified}
 use Rattle.steady_schedule.proofs.Gathered.{any_default}
 use Rattle.steady_schedule.specs.Changes.{join_same, changes_after, changes}
 use Rattle.steady_schedule.specs.Plans.{NamesBusiest}
-use Rattle.batch.specs.Batches.{IsBatch}
-use Rattle.batch.specs.declared.limits.TheConstants.{MAX_MODULES}
-use Rattle.link_graph.specs.declared.link.End.TheVariants.{Zero}
-use Rattle.link_graph.proofs.Tables.{uses_outside}
-use Rattle.steady_schedule.specs.Bounds.{IsReachedBy}
 
 no_items : (xs : List ℕ) → length xs ≤ 0 → xs ≡ []
 no_items [] le = refl
@@ -72,14 +67,3 @@ changes_few batch (setting ∷ rest) = omega (arith, after_few batch setting res
 pub named_most : (batch : List Transfer) (link : Option Link) (named : List ℕ) → NamesBusiest batch link named → (other : Link) → uses batch other ≤ length named
 named_most batch None named n other = rw n.0 (omega arith)
 named_most batch (Some link) named n other = omega (arith, n.0.most other, n.2)
-
-used_inside : (batch : List Transfer) (link : Link) → IsBatch batch → 0 < uses batch link → link.«module» < MAX_MODULES
-used_inside batch link fits used = elim (cases_lt link.«module» MAX_MODULES) [
-  | inl lt ↦ lt
-  | inr far ↦ absurd (omega (arith, used, uses_outside batch link fits far))
-]
-
-pub named_reached : (batch : List Transfer) (link : Option Link) (named : List ℕ) → IsBatch batch → NamesBusiest batch link named → IsReachedBy batch (length named)
-named_reached batch None named fits n = record { end = Zero; m = 0; m_in = omega arith; is = rw (n.0, n.1) refl }
-named_reached batch (Some link) named fits n =
-    record { end = link.end; m = link.«module»; m_in = used_inside batch link fits n.0.used; is = sym n.2 }

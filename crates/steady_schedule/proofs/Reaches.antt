@@ -1,12 +1,17 @@
 -- Pairs of links that can be held.
-use Rattle.std.proofs.Common.{◌≡◌, ◌==◌, ℕ, ◌<◌, ◌≤◌, List, length, set, get_or, true, ◌&&◌, ◌||◌, Option, sym, ◌∙◌, subst, inl, inr, get_or-set_same, get_or-set_other}
+use Rattle.std.proofs.Common.{◌≡◌, ◌≢◌, ◌⊎◌, ◌==◌, ℕ, ◌+◌, ◌<◌, ◌≤◌, List, length, set, get_or, true, false, ◌&&◌, ◌||◌, Option, refl, sym, ap, ◌∙◌, subst, inl, inr, get_or-set_same, get_or-set_other, arith}
 use Rattle.std.specs.Int.RustNames.{bit_and}
-use Rattle.std.proofs.lemmas.Bool.{cases_eq, cases_Bool, and_parts, eqb-true}
+use Rattle.std.specs.Prelude.{nat_lt}
+use Rattle.std.proofs.lemmas.Bool.{cases_eq, cases_Bool, cases_lt, and_parts, and_from, or_left, or_right, eqb-true, eq-eqb, false≢true, lt-ltb}
+use Rattle.std.proofs.lemmas.Bool.Decides.{nat_tests}
+use Rattle.std.proofs.lemmas.Nat.Bits.{bit_at_and, bit_at-lt, bit_at-zero}
+use Rattle.batch.specs.declared.limits.TheConstants.{MAX_MODULES}
+use Rattle.link_graph.specs.declared.link.End.{End}
 use Rattle.steady_schedule.specs.Masks.{has_bit, has_pair}
 use Rattle.steady_schedule.specs.Matchings.{AreMatched}
-use Rattle.steady_schedule.specs.Reaches.{AreHeld, HaveEach}
+use Rattle.steady_schedule.specs.Reaches.{AreHeld, HaveHeld, HaveEach, AreAtMost}
 use Rattle.steady_schedule.specs.Searches.{AreNear, JoinsNear}
-use Rattle.steady_schedule.specs.Waiting.{count_at}
+use Rattle.steady_schedule.specs.Waiting.{count_at, count_between}
 use Rattle.steady_schedule.proofs.Searching.{both_bits}
 
 -- a pair that is in the masks now was there, or is the new one
@@ -23,6 +28,82 @@ held_more counts k zn tn zn_now tn_now a b some zero three h = record {
   zero = was_or_is zn zn_now a b zero (λ u v. k ≤ count_at counts u v) some h.zero;
   three = λ u v has. was_or_is tn tn_now b a three (λ y x. k ≤ count_at counts x y) some (λ y x t. h.three x y t) v u has;
 }
+
+-- ---- all pairs that can be held
+
+abbrev Adds : List ℕ → List ℕ → ℕ → ℕ → Type 0
+Adds old now a b = (u v : ℕ) → has_pair now u v ≡ (has_pair old u v || (a == u && b == v))
+
+pub still_in : (old now : List ℕ) (a b u v : ℕ) → Adds old now a b → has_pair old u v ≡ true → has_pair now u v ≡ true
+still_in old now a b u v adds has = adds u v ∙ or_left (has_pair old u v) (a == u && b == v) has
+
+pub put_there : (old now : List ℕ) (a b : ℕ) → Adds old now a b → has_pair now a b ≡ true
+put_there old now a b adds = adds a b ∙ or_right (has_pair old a b) (a == a && b == b) (and_from (a == a) (b == b) (eq-eqb a a refl) (eq-eqb b b refl))
+
+pub rows_still : (counts : List ℕ) (k n : ℕ) (zn tn zn_now tn_now : List ℕ) (a b : ℕ) → Adds zn zn_now a b → Adds tn tn_now b a → HaveHeld counts k n zn tn → HaveHeld counts k n zn_now tn_now
+rows_still counts k n zn tn zn_now tn_now a b zero three rows u v u_in v_in some =
+    let was = rows u v u_in v_in some in
+    (still_in zn zn_now a b u v zero was.0, still_in tn tn_now b a v u three was.1)
+
+none_in : (i : ℕ) → has_bit 0 i ≡ false
+none_in i = grind (arith, nat_tests, bit_at-zero i)
+
+-- what of a row is still to come, and what is in the masks
+abbrev pub RowHeld : List ℕ → ℕ → ℕ → ℕ → List ℕ → List ℕ → Type 0
+RowHeld counts k a rest zn tn =
+    (v : ℕ) → v < MAX_MODULES → k ≤ count_at counts a v → (has_bit rest v ≡ true) ⊎ ((has_pair zn a v ≡ true) × (has_pair tn v a ≡ true))
+
+pub row_put : (counts : List ℕ) (k a b rest less : ℕ) (zn tn zn_now tn_now : List ℕ) → Adds zn zn_now a b → Adds tn tn_now b a → ((m : ℕ) → m ≢ b → has_bit less m ≡ has_bit rest m) → RowHeld counts k a rest zn tn → RowHeld counts k a less zn_now tn_now
+row_put counts k a b rest less zn tn zn_now tn_now zero three others row v v_in some = elim (cases_eq v b) [
+  | inl e ↦ rw e (inr (put_there zn zn_now a b zero, put_there tn tn_now b a three))
+  | inr ne ↦ elim (row v v_in some) [
+    | inl there ↦ inl (others v ne ∙ there)
+    | inr was ↦ inr (still_in zn zn_now a b a v zero was.0, still_in tn tn_now b a v a three was.1)
+  ]
+]
+
+pub row_past : (counts : List ℕ) (k a b rest less : ℕ) (zn tn : List ℕ) → count_at counts a b < k → ((m : ℕ) → m ≢ b → has_bit less m ≡ has_bit rest m) → RowHeld counts k a rest zn tn → RowHeld counts k a less zn tn
+row_past counts k a b rest less zn tn few others row v v_in some = elim (cases_eq v b) [
+  | inl e ↦ absurd (omega (arith, some, few, ap (count_at counts a) e))
+  | inr ne ↦ elim (row v v_in some) [ inl there ↦ inl (others v ne ∙ there) | inr was ↦ inr was ]
+]
+
+pub row_done : (counts : List ℕ) (k a : ℕ) (zn tn : List ℕ) → RowHeld counts k a 0 zn tn → HaveHeld counts k a zn tn → HaveHeld counts k (a + 1) zn tn
+row_done counts k a zn tn row rows u v u_in v_in some = elim (cases_eq u a) [
+  | inl e ↦ elim (row v v_in (omega (arith, some, ap (λ (w : ℕ). count_at counts w v) e))) [
+    | inl bad ↦ absurd (false≢true (sym (none_in v) ∙ bad))
+    | inr was ↦ rw e was
+  ]
+  | inr ne ↦ rows u v (omega arith) v_in some
+]
+
+-- ---- the most of some
+
+pub both_in : (m n i : ℕ) → has_bit m i ≡ true → has_bit n i ≡ true → has_bit (bit_and m n) i ≡ true
+both_in m n i one other = grind (arith, nat_tests, bit_at_and m n i, bit_at-lt m i, bit_at-lt n i)
+
+-- those of the others that are to come have how many they have; the rest no more than these
+abbrev pub MostSoFar : List ℕ → End → ℕ → ℕ → ℕ → ℕ → Type 0
+MostSoFar counts end x others rest most =
+    (y : ℕ) → y < MAX_MODULES → has_bit others y ≡ true → (has_bit rest y ≡ true) ⊎ (count_between counts end x y ≤ most)
+
+pub most_begun : (counts near : List ℕ) (end : End) (x others : ℕ) → ((y : ℕ) → y < MAX_MODULES → has_pair near x y ≡ nat_lt 0 (count_between counts end x y)) → MostSoFar counts end x others (bit_and (get_or near x 0) others) 0
+most_begun counts near end x others is y y_in has = elim (cases_lt 0 (count_between counts end x y)) [
+  | inl some ↦ inl (both_in (get_or near x 0) others y (is y y_in ∙ lt-ltb 0 (count_between counts end x y) some) has)
+  | inr none ↦ inr none
+]
+
+pub most_more : (counts : List ℕ) (end : End) (x others rest less most now b : ℕ) → ((m : ℕ) → m ≢ b → has_bit less m ≡ has_bit rest m) → most ≤ now → count_between counts end x b ≤ now → MostSoFar counts end x others rest most → MostSoFar counts end x others less now
+most_more counts end x others rest less most now b same le here so_far y y_in has = elim (cases_eq y b) [
+  | inl e ↦ inr (omega (arith, here, ap (count_between counts end x) e))
+  | inr ne ↦ elim (so_far y y_in has) [ inl there ↦ inl (same y ne ∙ there) | inr few ↦ inr (omega (arith, few, le)) ]
+]
+
+pub most_done : (counts : List ℕ) (end : End) (x others most : ℕ) → MostSoFar counts end x others 0 most → AreAtMost counts end x others most
+most_done counts end x others most so_far y y_in has = elim (so_far y y_in has) [
+  | inl bad ↦ absurd (false≢true (sym (none_in y) ∙ bad))
+  | inr few ↦ few
+]
 
 -- masks of which each is within another
 pub within_more : (masks near : List ℕ) (n rest : ℕ) → n < length masks → ((u v : ℕ) → has_pair masks u v ≡ true → has_pair near u v ≡ true) → (u v : ℕ) → has_pair (set masks n (bit_and (get_or near n 0) rest)) u v ≡ true → has_pair near u v ≡ true

@@ -40,7 +40,7 @@ module _ (n k : ℕ) (had : has_bit n k ≡ true) where
 some_is : (o : Option ℕ) (v : ℕ) → o ≡ Some v → IsSome o
 some_is o v e = rw e refl
 
-along : (o p : Option ℕ) → o ≡ p → IsSome p → IsSome o
+pub along : (o p : Option ℕ) → o ≡ p → IsSome p → IsSome o
 along o p e some = rw e some
 
 -- ---- new partners

@@ -15,7 +15,7 @@ use Rattle.link_graph.specs.Uses.{AreApart}
 use Rattle.link_graph.proofs.Users.{at_used}
 use Rattle.steady_schedule.specs.Matchings.{partner, AreMatched, AreBelow}
 use Rattle.steady_schedule.specs.Waiting.{sum_below, pair_count, pair_index, count_at, HaveMost, ArePairCounts}
-use Rattle.steady_schedule.specs.Slots.{slot, IsWritten, AreOneOrApart, AreNumbered, AreNumberedFrom, AreSlotsFilled, AreReadTo, AreProper, StandsIn, KeepNumbers, AreSteps, JoinsAs, HaveHeads, AreFewSteps}
+use Rattle.steady_schedule.specs.Slots.{slot, IsWritten, AreOneOrApart, AreNumbered, AreNumberedFrom, AreSlotsFilled, AreReadTo, AreProper, StandsIn, KeepNumbers, JoinsAs}
 use Rattle.steady_schedule.proofs.Matchings.{has_low, partner_low}
 use Rattle.steady_schedule.proofs.NeedChanges.{bit}
 use Rattle.steady_schedule.proofs.Sums.{at_most_sum}
@@ -281,37 +281,6 @@ keep_both totals first remaining slots remaining_now slots_now remaining_then sl
   only = λ u v d lt has. one.only u v d lt (other.only u v d lt has);
 }
 
--- ---- one step more
-
-pub no_steps : (totals remaining slots : List ℕ) → AreSteps totals remaining slots 0 []
-no_steps totals remaining slots d lt = absurd (omega arith)
-
-module _ (totals remaining slots remaining_now slots_now : List ℕ) (zeros : List (Option ℕ)) (first k : ℕ) (heads : List ℕ) (so_far : AreSteps totals remaining slots first heads) (kept : KeepNumbers totals first remaining slots remaining_now slots_now) (now : AreNumberedFrom zeros first MAX_MODULES totals remaining_now slots_now (first + k)) where
-  -- just the joined pairs have a number of the step
-  on_step : (d u v : ℕ) → first ≤ d → d < first + k → StandsIn totals remaining_now slots_now d u v → partner zeros u ≡ Some v
-  on_step d u v from to has = (now.recent u v has.0 has.1 (omega (arith, from, has.2))).1
-
-  same_on_step : (d e : ℕ) → first ≤ d → d < first + k → first ≤ e → e < first + k → (u v : ℕ) → StandsIn totals remaining_now slots_now d u v → StandsIn totals remaining_now slots_now e u v
-  same_on_step d e d_from d_to e_from e_to u v has = now.each u v e has.1.zero_in (on_step d u v d_from d_to has) e_from e_to
-
-  pub one_step : AreSteps totals remaining_now slots_now (first + k) (first ∷ heads)
-  one_step d lt = elim (cases_lt d first) [
-    | inl before ↦ elim (so_far d before) [
-      | inl head ↦ inl (suc head.0, omega (arith, head.1), head.2)
-      | inr same ↦ inr (
-        same.0,
-        λ u v. (
-          λ has. kept.old u v d before ((same.1 u v).0 (kept.only u v (d - 1) (omega arith) has)),
-          λ has. kept.old u v (d - 1) (omega arith) ((same.1 u v).1 (kept.only u v d before has)),
-        ),
-      )
-    ]
-    | inr from ↦ elim (cases_eq d first) [
-      | inl e ↦ inl (0, omega arith, sym e)
-      | inr ne ↦ inr (omega arith, λ u v. (same_on_step (d - 1) d (omega arith) (omega arith) from lt u v, same_on_step d (d - 1) from lt (omega arith) (omega arith) u v))
-    ]
-  ]
-
 -- ---- the numbers as they are read
 
 abbrev hits : ℕ → ℕ → Transfer → Bool
@@ -428,16 +397,6 @@ module _ (batch : List Transfer) (totals remaining slots numbers : List ℕ) (se
       let moved : slot totals slots f.1.initiator f.1.responder (behind f.0 f.1.initiator f.1.responder) ≡ slot totals slots u v (behind f.0 u v) = rw (a, b) refl in
       record { t = f.0; x = f.1; here = f.2; zero_is = a; three_is = b; number = at ∙ (moved ∙ (ap (slot totals slots u v) f.4 ∙ has.2)) }
 
-  pub heads_read : (spare most : ℕ) → AreFewSteps totals remaining slots settings spare most → HaveHeads batch settings most numbers
-  heads_read spare most f = record {
-    heads = f.heads;
-    few = omega (arith, f.few);
-    same = λ d lt. elim (f.steps d lt) [
-      | inl head ↦ inl head
-      | inr same ↦ inr (same.0, λ u v. (λ j. joins_to_number d u v ((same.1 u v).0 (joins_from (d - 1) u v j)), λ j. joins_to_number (d - 1) u v ((same.1 u v).1 (joins_from d u v j))))
-    ];
-  }
-
 -- ---- where slots begin
 
 pub starts_more : (totals starts : List ℕ) (n room : ℕ) → n < length starts → room ≡ sum_below n (slice_index totals) → ((p : ℕ) → p < n → get_or starts p 0 ≡ sum_below p (slice_index totals)) → (p : ℕ) → p < n + 1 → get_or (set starts n room) p 0 ≡ sum_below p (slice_index totals)
@@ -516,6 +475,3 @@ counts_few batch counts most c few = All-from_get_or (λ count. count ≤ most) 
     let place : pair_index u v ≡ k = omega arith in
     let u_in : u < MAX_MODULES = omega (arith, c.places) in
     omega (arith, few, ap (λ (p : ℕ). get_or counts p 0) place, c.at u v u_in (omega arith), count_by-le-length (hits u v) batch))
-
-pub fewer_heads : (batch : List Transfer) (settings few most : ℕ) (numbers : List ℕ) → few ≤ most → HaveHeads batch settings few numbers → HaveHeads batch settings most numbers
-fewer_heads batch settings few most numbers le h = record { heads = h.heads; few = omega (arith, h.few, le); same = h.same }

@@ -10,7 +10,6 @@ use Rattle.link_graph.specs.declared.link.End.TheVariants.{Zero, Three}
 use Rattle.steady_schedule.specs.Masks.{has_pair}
 use Rattle.steady_schedule.specs.Matchings.{partner, AreMatched, AreBelow}
 use Rattle.steady_schedule.specs.Searches.{AreNear}
-use Rattle.steady_schedule.specs.Covers.{IsSide}
 use Rattle.steady_schedule.specs.Waiting.{pair_index, count_at, waiting, AreTold, HaveMost, NoneWait}
 use Rattle.steady_schedule.specs.Steps.{CanHoldAt, CanHold, is_partner, AreTaken, IsTight}
 use Rattle.steady_schedule.specs.Steps.IsTight.{all, by_pair, by_zero, by_three}
@@ -19,15 +18,9 @@ use Rattle.steady_schedule.proofs.Sums.{sum_same, sum_changed, at_most_sum, part
 use Rattle.steady_schedule.proofs.Waiting.{count_here, count_other}
 use Rattle.link_graph.specs.declared.link.End.{End}
 
--- ---- the two sides
+-- ---- pairs that have transfers
 
 module _ (counts zn zu tn tu : List ℕ) (t : AreTold counts zn zu tn tu) where
-  pub zero_side : (most : ℕ) → HaveMost counts most → IsSide zn zu most
-  zero_side most h = record { count = λ x y. count_at counts x y; near_is = t.near_zero; uses_is = t.uses_zero; few = λ y y_in. h Three y y_in }
-
-  pub three_side : (most : ℕ) → HaveMost counts most → IsSide tn tu most
-  three_side most h = record { count = λ x y. count_at counts y x; near_is = λ x y x_in y_in. t.near_three y x y_in x_in; uses_is = t.uses_three; few = λ y y_in. h Zero y y_in }
-
   module _ (zero three : List (Option ℕ)) (m : AreMatched zero three) where
     pub near_counts : (x y : ℕ) → AreNear zn zero → partner zero x ≡ Some y → 0 < count_at counts x y
     near_counts x y near joined = ltb-true 0 (count_at counts x y) (sym (t.near_zero x y (has_low zero x y m.sized joined) (partner_low zero three x y m joined)) ∙ near x y joined)
@@ -49,18 +42,6 @@ module _ (counts zn zu tn tu : List ℕ) (t : AreTold counts zn zu tn tu) where
         zero_out = λ free. omega (arith, none Zero x le x_in, few);
         three_out = λ free. omega (arith, none Three x le x_in, few);
       }
-
-    pub near_turned : AreNear zn zero → AreNear tn three
-    near_turned near y x joined =
-        let own = (m.each_other x y).1 joined in
-        t.near_three x y (has_low zero x y m.sized own) (partner_low zero three x y m own) ∙ lt-ltb 0 (count_at counts x y) (near_counts x y near own)
-
-    pub near_back : AreNear tn three → AreNear zn zero
-    near_back near x y joined =
-        let own = (m.each_other x y).0 joined in
-        let x_in = has_low zero x y m.sized joined in
-        let y_in = partner_low zero three x y m joined in
-        t.near_zero x y x_in y_in ∙ (sym (t.near_three x y x_in y_in) ∙ near y x own)
 
 -- ---- for how many settings
 
@@ -88,7 +69,7 @@ module _ (zero three : List (Option ℕ)) (m : AreMatched zero three) (k : ℕ) 
       let x_in = has_low zero x y m.sized joined in
       taken.at x y x_in (partner_low zero three x y m joined) ∙ (rw (lt-ltb x MAX_MODULES x_in) (taken_of (partner zero x) y (count_at old x y) k joined))
 
-  at_others : (x y : ℕ) → x < MAX_MODULES → y < MAX_MODULES → (partner zero x ≡ Some y → ⊥) → count_at new x y ≡ count_at old x y
+  pub at_others : (x y : ℕ) → x < MAX_MODULES → y < MAX_MODULES → (partner zero x ≡ Some y → ⊥) → count_at new x y ≡ count_at old x y
   at_others x y x_in y_in other = taken.at x y x_in y_in ∙ not_taken (partner zero x) y (count_at old x y) k (nat_lt x MAX_MODULES) other
 
   -- with as many transfers fewer where a link is joined, and as many where it isn't
@@ -129,6 +110,13 @@ module _ (zero three : List (Option ℕ)) (m : AreMatched zero three) (k : ℕ) 
         (λ x back.
         let joined = (m.each_other x y).1 back in
         inl (three_joined x y joined ((can.each x (has_low zero x y m.sized joined)).pair y joined)))
+
+    -- a link that is full is joined
+    pub full_joined : (end : End) (x : ℕ) → x < MAX_MODULES → waiting old end x ≡ most → waiting new end x + k ≡ waiting old end x
+    full_joined end x x_in full = elim (waits_now end x x_in) [
+      | inl less ↦ less
+      | inr same ↦ absurd (omega (arith, same.1, full, can.some))
+    ]
 
     pub none_wait : (n : ℕ) → NoneWait old n → NoneWait new n
     none_wait n none end x le x_in = elim (waits_now end x x_in) [

@@ -22,6 +22,14 @@ unfolding sum_below
 sum_most zero f g less = omega arith
 sum_most (suc n) f g less = omega (arith, less n (omega arith), sum_most n f g (λ i lt. less i (omega arith)))
 
+pub sum_less : (n k : ℕ) (f g : ℕ → ℕ) → k < n → ((i : ℕ) → i < n → f i ≤ g i) → f k < g k → sum_below n f < sum_below n g
+unfolding sum_below
+sum_less zero k f g lt le less = absurd (omega arith)
+sum_less (suc n) k f g lt le less = elim (cases_eq k n) [
+  | inl e ↦ omega (arith, ap f e, ap g e, less, sum_most n f g (λ i i_in. le i (omega arith)))
+  | inr ne ↦ omega (arith, le n (omega arith), sum_less n k f g (omega arith) (λ i i_in. le i (omega arith)) less)
+]
+
 pub sum_none : (n : ℕ) → sum_below n (λ i. 0) ≡ 0
 unfolding sum_below
 sum_none zero = refl
@@ -40,6 +48,14 @@ sum_swap (suc n) m f = omega (arith, sum_swap n m f, sum_both m (f n) (λ j. sum
 -- the value where a test holds, and else nothing
 abbrev pub only : Bool → ℕ → ℕ
 only b k = cond b k 0
+
+pub only_few : (b : Bool) (k : ℕ) → only b k ≤ k
+only_few true k = omega arith
+only_few false k = omega arith
+
+pub only_most : (b : Bool) (k most : ℕ) → k ≤ most → only b k ≤ only b most
+only_most true k most le = le
+only_most false k most le = omega arith
 
 pub sum_only : (n : ℕ) (b : Bool) (f : ℕ → ℕ) → sum_below n (λ i. only b (f i)) ≡ only b (sum_below n f)
 sum_only n true f = refl

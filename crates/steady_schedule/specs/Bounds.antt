@@ -1,7 +1,7 @@
 -- How often a steady schedule changes the switch at most: once for each pair of links in use
--- together, and once for each link in use. Each step uses a pair up, or makes a link full that
--- stays full.
-use Rattle.std.specs.Prelude.{◌≡◌, ℕ, ◌<◌, ◌+◌, List, cond, nat_lt}
+-- together, and once for each link in use. Behind each change a pair is over, or a link is needed
+-- from then on.
+use Rattle.std.specs.Prelude.{ℕ, ◌+◌, List, cond, nat_lt}
 use Rattle.batch.specs.declared.limits.TheConstants.{MAX_MODULES}
 use Rattle.batch.specs.declared.transfer.Transfer.{Transfer}
 use Rattle.link_graph.specs.declared.link.End.{End}
@@ -30,10 +30,3 @@ links_in_use batch end = sum_below MAX_MODULES (λ m. in_use batch end m)
 -- the most changes of a steady schedule
 abbrev pub most_changes : List Transfer → ℕ
 most_changes batch = pairs_in_use batch + (links_in_use batch Zero + links_in_use batch Three)
-
--- some link has so many uses
-pub record IsReachedBy (batch : List Transfer) (settings : ℕ) : Type 0 where
-  pub end : End
-  pub m : ℕ
-  pub m_in : m < MAX_MODULES
-  pub is : uses batch (link_of end m) ≡ settings

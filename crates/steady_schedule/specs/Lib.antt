@@ -2,6 +2,7 @@ pub mod Changes
 pub mod Masks
 pub mod Needs
 pub mod Partners
+pub mod Longest
 pub mod Plans
 pub mod Joined
 pub mod Gathered
@@ -12,7 +13,6 @@ pub mod Covers
 pub mod Steps
 pub mod Reaches
 pub mod Slots
-pub mod Potentials
 pub mod Bounds
 pub mod TwoLinks
 pub mod Laws

@@ -8,6 +8,7 @@ use Rattle.link_graph.specs.Schedules.{IsScheduleOf}
 use Rattle.link_graph.specs.Certificates.{Naming, IsCertificate}
 use Rattle.steady_schedule.specs.Bounds.{most_changes}
 use Rattle.steady_schedule.specs.Changes.{changes}
+use Rattle.steady_schedule.specs.Longest.{AreLongest, DontGetLonger}
 use Rattle.steady_schedule.specs.Needs.{ChangesAtNeed}
 use Rattle.steady_schedule.specs.Partners.{partners, HasMostPartners}
 
@@ -41,7 +42,8 @@ IsDemanding batch (Some (link, count)) =
 
 -- A schedule of the batch, whose certificate shows that it is shortest, by the busiest link. No
 -- setting is empty, and numbers ascend in each. The changes are few, and behind the first setting
--- only where something is over.
+-- only where something is over. No matching could be held longer than a step is, and steps don't
+-- get longer.
 pub record IsSteady (plan : SteadyPlan) : Type 0 where
   pub schedule : IsScheduleOf plan.batch plan.settings
   pub certificate : IsCertificate plan.batch plan.settings plan.named
@@ -50,3 +52,5 @@ pub record IsSteady (plan : SteadyPlan) : Type 0 where
   pub ascending : All (AllPairs (λ t u. t < u)) plan.settings
   pub few : changes plan.batch plan.settings ≤ most_changes plan.batch
   pub at_need : ChangesAtNeed plan.batch plan.settings
+  pub longest : AreLongest plan.batch plan.settings
+  pub no_longer : DontGetLonger plan.batch plan.settings

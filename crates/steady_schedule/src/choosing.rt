@@ -1,13 +1,14 @@
-//! The choice of a step's matching: one that can be held as long as any, as far as it is found. No
-//! contract says so.
+//! The choice of a step's matching: one that can be held as long as any.
 
-ghost use Rattle.std.specs.Prelude.{◌≡◌, ℕ, ◌+◌, ◌<◌, ◌≤◌, Some, true, IfSome};
+ghost use Rattle.std.specs.Prelude.{◌≡◌, ◌⊎◌, ℕ, ◌+◌, ◌-◌, ◌<◌, ◌≤◌, Some, None, true, false, IfSome, IsSome};
 ghost use Rattle.batch.specs.declared.limits.TheConstants.{MAX_MODULES, MAX_TRANSFERS};
-ghost use Rattle.steady_schedule.specs.Masks.{has_pair};
+ghost use Rattle.steady_schedule.specs.Covers.{KeepsPartners};
+ghost use Rattle.steady_schedule.specs.Masks.{has_bit, has_pair};
 ghost use Rattle.steady_schedule.specs.Matchings.{partner, AreMatched, ArePart};
-ghost use Rattle.steady_schedule.specs.Reaches.{AreHeld, HaveEach};
+ghost use Rattle.steady_schedule.specs.Reaches.{AreHeld, HaveHeld, HaveEach, IsOverMask, JoinsNeeded, IsBarred, IsInWay, HaveWay, AreAtMost};
 ghost use Rattle.steady_schedule.specs.Searches.{AreNear, JoinsNear};
-ghost use Rattle.steady_schedule.specs.Waiting.{HaveMost};
+ghost use Rattle.steady_schedule.specs.Steps.{NoneLonger};
+ghost use Rattle.steady_schedule.specs.Waiting.{waiting, HaveMost, NoneWait};
 
 use crate::masks::{Masks, has, lowest, without_module};
 use crate::matching::{Matching, Partners, augment, free, join};
@@ -120,6 +121,12 @@ fn join_needed_one(
     requires matched { AreMatched of.old back.old }
     ensures matched { AreMatched of.new back.new }
     ensures near { JoinsNear held.now.near of.old of.new }
+    ensures found { result ≡ None → IsSome (partner of.new x) }
+    ensures needed { (z : ℕ) → has_bit held.now.needed z ≡ true → IsSome (partner of.old z)
+        → IsSome (partner of.new z) }
+    ensures back { KeepsPartners back.old back.new }
+    ensures vain { IfSome result (λ unseen.
+        IsBarred held.now.near held.now.needed unseen x of.new back.new) }
 {
     if of[x].is_some() {
         return None;
@@ -156,6 +163,12 @@ fn join_needed(held: &Held, stand: u32, of: &mut Partners, back: &mut Partners) 
     requires matched { AreMatched of.old back.old }
     ensures matched { AreMatched of.new back.new }
     ensures near { JoinsNear held.now.near of.old of.new }
+    ensures joined { result ≡ None → (z : ℕ) → has_bit held.now.needed z ≡ true
+        → IsSome (partner of.new z) }
+    ensures back { KeepsPartners back.old back.new }
+    ensures vain { IfSome result (λ vain.
+        IsBarred held.now.near held.now.needed vain.unseen vain.link of.new back.new) }
+    ensures needed { IfSome result (λ vain. has_bit held.now.needed vain.link ≡ true) }
 {
     let mut rest = held.needed;
     'links: while rest != 0 {
@@ -171,8 +184,10 @@ fn join_needed(held: &Held, stand: u32, of: &mut Partners, back: &mut Partners) 
 /// The most transfers that a link has with one of these of the other end.
 fn most_with(remaining: &Remaining, end: End, link: usize, others: u32) -> usize
     requires { link < MAX_MODULES }
+    ensures each { AreAtMost remaining.now.counts end link others result }
+    ensures least { (s : ℕ) → AreAtMost remaining.now.counts end link others s → result ≤ s }
 {
-    let mut most = 0;
+    let mut most = 0usize;
     let mut rest = remaining.side(end).near[link] & others;
     'others: while rest != 0 {
         let other = lowest(rest);
@@ -185,6 +200,10 @@ fn most_with(remaining: &Remaining, end: End, link: usize, others: u32) -> usize
 /// Whether a link is joined to one that was seen.
 fn is_seen(partner: Option<usize>, unseen: u32) -> bool
     requires { IfSome partner (λ other. other < MAX_MODULES) }
+    ensures seen { result ≡ true
+        → (y : ℕ) × (partner ≡ Some y) × (has_bit unseen y ≡ false) }
+    ensures unseen { result ≡ false
+        → (y : ℕ) → partner ≡ Some y → has_bit unseen y ≡ true }
 {
     match partner {
         Some(other) => !has(unseen, other),
@@ -194,7 +213,11 @@ fn is_seen(partner: Option<usize>, unseen: u32) -> bool
 
 /// For how many settings a matching could be held at most, where a link found no partner. For more
 /// the same links stand in the way: this one, and those that are joined to links that were seen.
-/// Each of them has to be joined then, and has no pair with a link that wasn't seen.
+/// Each of them has to be joined then, and can't be to a link that wasn't seen. So they are one
+/// more than the links that they can be joined to.
+///
+/// It is never 0. Else all of them would be full, and have transfers with links alone that were
+/// seen. These would have more transfers than they may have.
 fn shorter(
     remaining: &Remaining,
     end: End,
@@ -206,8 +229,12 @@ fn shorter(
     requires within { modules ≤ MAX_MODULES }
     requires most { HaveMost remaining.now.counts most }
     requires low { (x y : ℕ) → partner of.now x ≡ Some y → y < MAX_MODULES }
+    requires way { (z : ℕ) → IsInWay vain.unseen vain.link of.now z → z < modules }
+    ensures each { HaveWay remaining.now.counts end vain.unseen vain.link of.now most result }
+    ensures least { (s : ℕ)
+        → HaveWay remaining.now.counts end vain.unseen vain.link of.now most s → result ≤ s }
 {
-    let mut settings = 0;
+    let mut settings = 0usize;
     for link in 0..modules {
         if link == vain.link || is_seen(of[link], vain.unseen) {
             settings = settings
@@ -229,11 +256,24 @@ fn join_all_needed(
     modules: usize,
 ) -> usize
     requires within { modules ≤ MAX_MODULES }
+    requires none { NoneWait remaining.now.counts modules }
     requires most { HaveMost remaining.now.counts most }
+    requires some { 0 < reach.now.settings }
+    requires left { reach.now.settings ≤ most }
     requires held { AreHeld remaining.now.counts reach.now.settings
         reach.now.zero.near reach.now.three.near }
+    requires all { HaveHeld remaining.now.counts reach.now.settings modules
+        reach.now.zero.near reach.now.three.near }
+    requires zero_needed { IsOverMask remaining.now.zero.uses (most - reach.now.settings) modules
+        reach.now.zero.needed }
+    requires three_needed { IsOverMask remaining.now.three.uses (most - reach.now.settings) modules
+        reach.now.three.needed }
     requires each { HaveEach remaining.now.counts reach.now.settings matching.old.zero }
     ensures each { HaveEach remaining.now.counts reach.now.settings matching.new.zero }
+    ensures joined { ((result ≡ 0) × JoinsNeeded remaining.now.counts
+        matching.new.zero matching.new.three most reach.now.settings)
+        ⊎ ((0 < result) × NoneLonger remaining.now.counts most result) }
+    ensures less { result < reach.now.settings }
 {
     let in_vain = join_needed(
         &reach.zero,
@@ -266,6 +306,7 @@ impl Choice {
         settings: usize,
     ) -> Choice
         requires within { modules ≤ MAX_MODULES }
+        requires none { NoneWait remaining.now.counts modules }
         requires few { most ≤ MAX_TRANSFERS }
         requires most { HaveMost remaining.now.counts most }
         requires some { 0 < settings }
@@ -273,6 +314,9 @@ impl Choice {
         ensures each { HaveEach remaining.now.counts settings result.matching.zero }
         ensures held { AreHeld remaining.now.counts settings
             result.reach.zero.near result.reach.three.near }
+        ensures joined { ((result.shorter ≡ 0) × JoinsNeeded remaining.now.counts
+            result.matching.zero result.matching.three most settings)
+            ⊎ ((0 < result.shorter) × NoneLonger remaining.now.counts most result.shorter) }
         ensures settings { result.reach.settings ≡ settings }
         ensures shorter { result.shorter < settings }
     {
@@ -286,13 +330,13 @@ impl Choice {
         Choice {
             matching,
             reach,
-            shorter: shorter.min(settings - 1),
+            shorter,
         }
     }
 }
 
-/// A matching that can be held as long as any, of at most so many settings, with as much of what
-/// stood before as is found; no contract says so. It can be held so long as `reach` says.
+/// A matching that can be held as long as any, where none can be held longer than so many settings,
+/// and for how long that is. It has as much of what stood before as is found; no contract says so.
 pub(crate) fn choose(
     remaining: &Remaining,
     before: &Matching,
@@ -301,14 +345,20 @@ pub(crate) fn choose(
     longest: usize,
 ) -> Choice
     requires within { modules ≤ MAX_MODULES }
+    requires none { NoneWait remaining.now.counts modules }
     requires some { 0 < most }
     requires few { most ≤ MAX_TRANSFERS }
     requires most { HaveMost remaining.now.counts most }
-    requires longest { 0 < longest }
+    requires some_longest { 0 < longest }
+    requires longest { NoneLonger remaining.now.counts most longest }
     ensures some { 0 < result.reach.settings }
+    ensures few { result.reach.settings ≤ most }
     ensures each { HaveEach remaining.now.counts result.reach.settings result.matching.zero }
     ensures held { AreHeld remaining.now.counts result.reach.settings
         result.reach.zero.near result.reach.three.near }
+    ensures joined { JoinsNeeded remaining.now.counts result.matching.zero result.matching.three
+        most result.reach.settings }
+    ensures longest { NoneLonger remaining.now.counts most result.reach.settings }
 {
     let mut choice = Choice::of(remaining, before, most, modules, longest.min(most));
     'lengths: while choice.shorter > 0 {

@@ -10,9 +10,9 @@
 //! The schedule of [`steady`] is shortest, as its certificate shows. Behind a setting the switch
 //! changes only where that joined a pair of links for the last time, or left a link free that each
 //! later setting uses; and at most as often as there are pairs of links and links in use
-//! (`IsSteady` of `specs/Plans.antt`). Mostly the switch changes far less often than that bound.
-//! Each step is one that can be held as long as any could be then (Gopal and Wong's rule), so steps
-//! don't get longer; no contract says so.
+//! Where a step begins, no matching could be held longer than the step (Gopal and Wong's rule), and
+//! steps don't get longer (`IsSteady` of `specs/Plans.antt`). Mostly the switch changes far less
+//! often than its bound.
 //!
 //! Some counts serve any schedule of a batch: how often it changes the switch ([`count_changes`]);
 //! how many partners a link has at most ([`most_partners`]), since no schedule changes the switch

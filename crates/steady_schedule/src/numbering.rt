@@ -7,10 +7,8 @@ ghost use Rattle.link_graph.specs.declared.link.Link.{Link};
 ghost use Rattle.link_graph.specs.Counts.{uses};
 ghost use Rattle.link_graph.specs.Schedules.{lists_of};
 ghost use Rattle.steady_schedule.specs.Matchings.{partner, AreBelow};
-ghost use Rattle.steady_schedule.specs.Bounds.{most_changes, IsReachedBy};
-ghost use Rattle.steady_schedule.specs.Potentials.{potential, IsReached};
 ghost use Rattle.steady_schedule.specs.Searches.{AreNear};
-ghost use Rattle.steady_schedule.specs.Slots.{slot, AreFirstSlots, AreSlotsOf, IsKeptFor, IsHeldAs, AreNumbered, AreNumberedFrom, KeepNumbers, AreFewSteps, AreSlotsFilled, AreReadInto, AreSlotsBelow, AreAtNeed, AreNumberedSettings};
+ghost use Rattle.steady_schedule.specs.Slots.{slot, AreFirstSlots, AreSlotsOf, IsKeptFor, IsHeldAs, AreNumbered, AreNumberedFrom, KeepNumbers, AreSlotsFilled, AreReadInto, AreSlotsBelow, AreAtNeed, AreLongSteps, AreNumberedSettings};
 ghost use Rattle.steady_schedule.specs.Steps.{AreTaken};
 ghost use Rattle.steady_schedule.specs.Waiting.{sum_below, pair_index, count_at, ArePairCounts, HaveMost};
 
@@ -146,16 +144,16 @@ fn hold(
 
 /// Writes the numbers of their settings for all transfers that wait.
 fn fill(remaining: &mut Remaining, places: &Places, slots: &mut [usize], settings: usize)
+    requires whole { remaining.old.counts ≡ places.now.totals }
     requires most { HaveMost remaining.old.counts settings }
-    requires reached { IsReached remaining.old.counts settings }
     requires few { settings ≤ MAX_TRANSFERS }
     requires numbered { AreNumbered places.now.totals remaining.old.counts slots.old 0 }
     ensures done { (u v : ℕ) → u < MAX_MODULES → v < MAX_MODULES
         → count_at remaining.new.counts u v ≡ 0 }
     ensures numbered { AreNumbered places.now.totals remaining.new.counts slots.new settings }
-    ensures steps { AreFewSteps places.now.totals remaining.new.counts slots.new settings 0
-        (potential places.now.totals remaining.old.counts settings) }
     ensures needs { AreAtNeed places.now.totals remaining.new.counts slots.new settings settings }
+    ensures long { AreLongSteps places.now.totals remaining.new.counts slots.new
+        settings settings 0 }
 {
     let modules = remaining.modules();
     let mut matching = Matching::none();
@@ -240,12 +238,11 @@ fn settings_by(
     requires counted { ArePairCounts graph.now places.now.totals }
     requires whole { remaining.old.counts ≡ places.now.totals }
     requires most { HaveMost remaining.old.counts settings }
-    requires reached { IsReached remaining.old.counts settings }
     requires few { settings ≤ MAX_TRANSFERS }
     requires room { length slots.old
         ≡ sum_below (MAX_MODULES * MAX_MODULES) (slice_index places.now.totals) }
     ensures { IfOk result (λ lists.
-        AreNumberedSettings graph.now settings (most_changes graph.now) (lists_of lists.items)) }
+        AreNumberedSettings graph.now settings (lists_of lists.items)) }
 {
     fill(remaining, places, slots, settings);
     read_all(alloc, graph, places, slots, settings)
@@ -259,10 +256,9 @@ pub(crate) fn settings_of(
 ) -> Result<Vec<Vec<usize>>, AllocError>
     requires batch { IsBatch graph.now }
     requires most { (link : Link) → uses graph.now link ≤ settings }
-    requires reached { IsReachedBy graph.now settings }
     requires few { settings ≤ MAX_TRANSFERS }
     ensures { IfOk result (λ lists.
-        AreNumberedSettings graph.now settings (most_changes graph.now) (lists_of lists.items)) }
+        AreNumberedSettings graph.now settings (lists_of lists.items)) }
 {
     let mut remaining = Remaining::of(graph);
     let places = Places::of(&remaining.counts);

@@ -7,8 +7,9 @@ ghost use Rattle.link_graph.specs.declared.link.Link.{Link};
 ghost use Rattle.link_graph.specs.Certificates.{IsCertificate};
 ghost use Rattle.link_graph.specs.Counts.{uses};
 ghost use Rattle.link_graph.specs.Schedules.{IsScheduleOf};
-ghost use Rattle.steady_schedule.specs.Bounds.{most_changes, IsReachedBy};
+ghost use Rattle.steady_schedule.specs.Bounds.{most_changes};
 ghost use Rattle.steady_schedule.specs.Changes.{changes};
+ghost use Rattle.steady_schedule.specs.Longest.{AreLongest, DontGetLonger};
 ghost use Rattle.steady_schedule.specs.Needs.{ChangesAtNeed};
 ghost use Rattle.steady_schedule.specs.Plans.{NamesBusiest, IsSteady};
 
@@ -33,14 +34,13 @@ fn certificate_of(graph: &LinkGraph) -> Result<Certificate, AllocError>
 fn schedule_of(alloc: Global, graph: &LinkGraph, settings: usize) -> Result<Schedule, AllocError>
     requires batch { IsBatch graph.now }
     requires most { (link : Link) → uses graph.now link ≤ settings }
-    requires reached { IsReachedBy graph.now settings }
     requires few { settings ≤ MAX_TRANSFERS }
     ensures schedule { IfOk result (IsScheduleOf graph.now) }
     ensures ascending { IfOk result (All (AllPairs (λ t u. t < u))) }
     ensures count { IfOk result (λ schedule. length schedule ≡ settings) }
-    ensures changes { IfOk result (λ schedule.
-        changes graph.now schedule ≤ most_changes graph.now) }
     ensures needs { IfOk result (ChangesAtNeed graph.now) }
+    ensures longest { IfOk result (AreLongest graph.now) }
+    ensures no_longer { IfOk result (DontGetLonger graph.now) }
 {
     let lists = settings_of(alloc, graph, settings)?;
     Ok(Schedule::of(lists))
@@ -48,12 +48,14 @@ fn schedule_of(alloc: Global, graph: &LinkGraph, settings: usize) -> Result<Sche
 
 /// The plan of a schedule with its certificate.
 fn plan_of(graph: LinkGraph, schedule: Schedule, certificate: Certificate) -> Steady
+    requires batch { IsBatch graph }
     requires schedule { IsScheduleOf graph schedule }
     requires certificate { IsCertificate graph schedule certificate }
     requires busiest { NamesBusiest graph certificate.link certificate.transfers }
     requires ascending { All (AllPairs (λ t u. t < u)) schedule }
-    requires few { changes graph schedule ≤ most_changes graph }
     requires needs { ChangesAtNeed graph schedule }
+    requires longest { AreLongest graph schedule }
+    requires no_longer { DontGetLonger graph schedule }
     ensures batch { result.batch ≡ graph }
     ensures steady { IsSteady result }
     ensures settings { result.settings ≡ schedule }
@@ -65,7 +67,8 @@ fn plan_of(graph: LinkGraph, schedule: Schedule, certificate: Certificate) -> St
 ///
 /// It changes behind a setting only where that joined a pair of links for the last time, or where a
 /// link that it left free is used in each later setting. With the first setting it does so at most
-/// once for each pair of links in use together, and once for each link in use. Takes time that
+/// once for each pair of links in use together, and once for each link in use. Where a step begins,
+/// no matching could be held longer than the step, and steps don't get longer. Takes time that
 /// grows with the number of transfers.
 pub fn steady(alloc: Global, batch: &Batch) -> Result<Steady, AllocError>
     ensures batch { IfOk result (λ steady. steady.batch ≡ batch.now) }

@@ -1,9 +1,9 @@
 //! What a step can hold for some settings.
 
-ghost use Rattle.std.specs.Prelude.{◌≡◌, ℕ, ◌<◌, ◌≤◌, ◌||◌, ◌&&◌, ◌==◌, false};
+ghost use Rattle.std.specs.Prelude.{◌≡◌, ℕ, ◌+◌, ◌-◌, ◌<◌, ◌≤◌, ◌||◌, ◌&&◌, ◌==◌, false};
 ghost use Rattle.batch.specs.declared.limits.TheConstants.{MAX_MODULES, MAX_TRANSFERS};
 ghost use Rattle.steady_schedule.specs.Masks.{has_pair};
-ghost use Rattle.steady_schedule.specs.Reaches.{AreHeld, IsOverMask};
+ghost use Rattle.steady_schedule.specs.Reaches.{AreHeld, HaveHeld, IsOverMask};
 
 use crate::masks::{Masks, lowest, with_module, without_module};
 use crate::remaining::Remaining;
@@ -76,11 +76,18 @@ impl Reach {
     /// Adds the pairs of a link 0.
     fn add_row(&mut self, remaining: &Remaining, zero: usize)
         requires low { zero < MAX_MODULES }
+        requires some { 0 < self.old.settings }
         requires held { AreHeld remaining.now.counts self.old.settings
+            self.old.zero.near self.old.three.near }
+        requires all { HaveHeld remaining.now.counts self.old.settings zero
             self.old.zero.near self.old.three.near }
         ensures held { AreHeld remaining.now.counts self.new.settings
             self.new.zero.near self.new.three.near }
+        ensures all { HaveHeld remaining.now.counts self.new.settings (zero + 1)
+            self.new.zero.near self.new.three.near }
         ensures settings { self.new.settings ≡ self.old.settings }
+        ensures zero_needed { self.new.zero.needed ≡ self.old.zero.needed }
+        ensures three_needed { self.new.three.needed ≡ self.old.three.needed }
     {
         let mut rest = remaining.zero.near[zero];
         'links: while rest != 0 {
@@ -96,10 +103,17 @@ impl Reach {
 
     /// What can be held for so many of the settings that are left.
     pub(crate) fn of(remaining: &Remaining, most: usize, modules: usize, settings: usize) -> Reach
+        requires some { 0 < settings }
         requires few { most ≤ MAX_TRANSFERS }
         requires left { settings ≤ most }
         requires within { modules ≤ MAX_MODULES }
         ensures held { AreHeld remaining.now.counts settings result.zero.near result.three.near }
+        ensures all { HaveHeld remaining.now.counts settings modules
+            result.zero.near result.three.near }
+        ensures zero_needed { IsOverMask remaining.now.zero.uses (most - settings) modules
+            result.zero.needed }
+        ensures three_needed { IsOverMask remaining.now.three.uses (most - settings) modules
+            result.three.needed }
         ensures settings { result.settings ≡ settings }
     {
         let mut reach = Reach {

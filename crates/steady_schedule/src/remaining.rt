@@ -1,9 +1,10 @@
 //! The transfers of each pair of links that wait for a setting.
 
-ghost use Rattle.std.specs.Prelude.{◌≡◌, ℕ, ◌+◌, ◌-◌, ◌<◌, ◌≤◌, [], set, slice_index};
+ghost use Rattle.std.specs.Prelude.{◌≡◌, ℕ, ◌+◌, ◌-◌, ◌<◌, ◌≤◌, [], nat_lt, set, slice_index};
 ghost use Rattle.batch.specs.Batches.{IsBatch};
 ghost use Rattle.batch.specs.declared.limits.TheConstants.{MAX_MODULES, MAX_TRANSFERS};
 ghost use Rattle.link_graph.specs.declared.link.End.{End};
+ghost use Rattle.steady_schedule.specs.Masks.{has_pair};
 ghost use Rattle.steady_schedule.specs.Waiting.{pair_index, count_at, count_between, waiting, ArePairCounts, AreTold, NoneWait};
 
 use crate::masks::{Masks, with_module, without_module};
@@ -90,6 +91,8 @@ impl Remaining {
     pub(crate) fn side(&self, end: End) -> &Side
         ensures uses { (m : ℕ) → m < MAX_MODULES
             → slice_index result.now.uses m ≡ waiting self.now.counts end m }
+        ensures near { (x y : ℕ) → x < MAX_MODULES → y < MAX_MODULES
+            → has_pair result.now.near x y ≡ nat_lt 0 (count_between self.now.counts end x y) }
     {
         match end {
             End::Zero => &self.zero,

@@ -1,87 +1,20 @@
 //! Steps: matchings that are held for some settings.
 
-ghost use Rattle.std.specs.Prelude.{◌≡◌, ◌≢◌, ℕ, ◌+◌, ◌<◌, ◌≤◌, Some, None, IfSome, IsSome, true};
+ghost use Rattle.std.specs.Prelude.{◌≡◌, ℕ, ◌+◌, ◌<◌, ◌≤◌, Some, None, IfSome, IsSome, true};
 ghost use Rattle.link_graph.specs.declared.link.End.TheVariants.{Zero, Three};
 ghost use Rattle.batch.specs.declared.limits.TheConstants.{MAX_MODULES, MAX_TRANSFERS};
-ghost use Rattle.steady_schedule.specs.Covers.{IsSide, HaveNoUses, IsFullMask, AreFree, AreCovered, KeepsPartners};
+ghost use Rattle.steady_schedule.specs.Covers.{AreFree, AreCovered, KeepsPartners};
 ghost use Rattle.steady_schedule.specs.Masks.{has_bit, has_pair};
 ghost use Rattle.steady_schedule.specs.Matchings.{partner, AreMatched, AreBelow};
-ghost use Rattle.steady_schedule.specs.Searches.{AreNear};
-ghost use Rattle.steady_schedule.specs.Steps.{CanHold};
+ghost use Rattle.steady_schedule.specs.Searches.{AreNear, JoinsNear};
+ghost use Rattle.steady_schedule.specs.Steps.{CanHold, NoneLonger};
 ghost use Rattle.steady_schedule.specs.Waiting.{count_at, waiting, HaveMost, NoneWait};
 
 use crate::choosing::choose;
-use crate::masks::{Masks, lowest, with_module, without_module};
-use crate::matching::{Matching, Partners, augment, free, join};
-use crate::remaining::{Remaining, Side};
+use crate::masks::{Masks, lowest, without_module};
+use crate::matching::{Matching, free, join};
+use crate::remaining::Remaining;
 use batch::MAX_MODULES;
-
-/// A mask of the links that have so many transfers. Those from `modules` on have none.
-fn full(uses: &[u32; MAX_MODULES], most: usize, modules: usize) -> u32
-    requires some { 0 < most }
-    requires few { most ≤ MAX_TRANSFERS }
-    requires within { modules ≤ MAX_MODULES }
-    requires none { HaveNoUses uses.now modules }
-    ensures { IsFullMask uses.now most MAX_MODULES result }
-{
-    let mut mask = 0;
-    for module in 0..modules {
-        if uses[module] == most as u32 {
-            mask = with_module(mask, module);
-        }
-    }
-    mask
-}
-
-/// Finds a partner for a link that is full, where it has none.
-///
-/// By counting there is one. Were the search in vain, all links near it would be seen, each of them
-/// the partner of a full link all of whose links are seen. So these full links, one more than those
-/// that are seen, would have more transfers than those may have.
-fn cover_one(x: usize, side: &Side, most: usize, full: u32, of: &mut Partners, back: &mut Partners)
-    requires x_in { x < MAX_MODULES }
-    requires some { 0 < most }
-    requires side { IsSide side.now.near side.now.uses most }
-    requires full { IsFullMask side.now.uses most MAX_MODULES full }
-    requires full_x { has_bit full x ≡ true }
-    requires matched { AreMatched of.old back.old }
-    ensures matched { AreMatched of.new back.new }
-    ensures near { AreNear side.now.near of.old → AreNear side.now.near of.new }
-    ensures found { IsSome (partner of.new x) }
-    ensures full { (z : ℕ) → has_bit full z ≡ true → IsSome (partner of.old z)
-        → IsSome (partner of.new z) }
-    ensures back { KeepsPartners back.old back.new }
-{
-    if of[x].is_some() {
-        return;
-    }
-    let mut unseen = u32::MAX;
-    let found = augment(x, &side.near, &side.near, full, of, back, &mut unseen);
-    prove!(found);
-}
-
-/// Finds a partner for each full link of a side.
-fn cover(side: &Side, most: usize, modules: usize, of: &mut Partners, back: &mut Partners)
-    requires some { 0 < most }
-    requires few { most ≤ MAX_TRANSFERS }
-    requires within { modules ≤ MAX_MODULES }
-    requires none { HaveNoUses side.now.uses modules }
-    requires side { IsSide side.now.near side.now.uses most }
-    requires matched { AreMatched of.old back.old }
-    requires near { AreNear side.now.near of.old }
-    ensures matched { AreMatched of.new back.new }
-    ensures near { AreNear side.now.near of.new }
-    ensures covered { AreCovered side.now.uses most MAX_MODULES of.new }
-    ensures back { KeepsPartners back.old back.new }
-{
-    let full = full(&side.uses, most, modules);
-    let mut rest = full;
-    'links: while rest != 0 {
-        let x = lowest(rest);
-        rest = without_module(rest, x);
-        cover_one(x, side, most, full, of, back);
-    }
-}
 
 /// One of the free links that has transfers with this one, among those that it is near to. It finds
 /// one that has the most; no contract says so.
@@ -89,6 +22,7 @@ fn best_free(remaining: &Remaining, near: &Masks, zero: usize, free: u32) -> Opt
     requires { zero < MAX_MODULES }
     ensures free { IfSome result (λ three. has_bit free three ≡ true) }
     ensures low { IfSome result (λ three. three < MAX_MODULES) }
+    ensures near { IfSome result (λ three. has_pair near.now zero three ≡ true) }
     ensures some { IfSome result (λ three. 0 < count_at remaining.now.counts zero three) }
 {
     let mut best = None;
@@ -119,6 +53,7 @@ fn join_one(
     requires free { AreFree matching.old.three free.old }
     ensures near { AreNear remaining.now.zero.near matching.old.zero
         → AreNear remaining.now.zero.near matching.new.zero }
+    ensures joins { JoinsNear near.now matching.old.zero matching.new.zero }
     ensures zero { KeepsPartners matching.old.zero matching.new.zero }
     ensures three { KeepsPartners matching.old.three matching.new.three }
     ensures free { AreFree matching.new.three free.new }
@@ -139,6 +74,7 @@ fn join_free(remaining: &Remaining, near: &Masks, matching: &mut Matching, modul
     requires within { modules ≤ MAX_MODULES }
     requires near { AreNear remaining.now.zero.near matching.old.zero }
     ensures near { AreNear remaining.now.zero.near matching.new.zero }
+    ensures joins { JoinsNear near.now matching.old.zero matching.new.zero }
     ensures zero { KeepsPartners matching.old.zero matching.new.zero }
     ensures three { KeepsPartners matching.old.three matching.new.three }
 {
@@ -205,8 +141,9 @@ fn how_long(remaining: &Remaining, matching: &Matching, most: usize, modules: us
 }
 
 /// Makes the next matching, and says for how many of the settings that are left it can be held, and
-/// no longer. Only the first `modules` have transfers that wait. It is one that can be held as long
-/// as any, up to `longest`, and joins as much of the one before as it finds; no contract says so.
+/// no longer. Only the first `modules` have transfers that wait. No matching can be held longer,
+/// and none for more than `longest` settings. It has as much of the one before as is found; no
+/// contract says so.
 pub(crate) fn next_step(
     remaining: &Remaining,
     matching: &mut Matching,
@@ -219,26 +156,15 @@ pub(crate) fn next_step(
     requires most { HaveMost remaining.now.counts most }
     requires within { modules ≤ MAX_MODULES }
     requires none { NoneWait remaining.now.counts modules }
-    requires longest { 0 < longest }
+    requires some_longest { 0 < longest }
+    requires longest { NoneLonger remaining.now.counts most longest }
     ensures can { CanHold remaining.now.counts matching.new.zero matching.new.three most result }
+    ensures longest { NoneLonger remaining.now.counts most result }
+    ensures no_longer { result ≤ longest }
     ensures low { AreBelow matching.new.zero modules }
 {
     let choice = choose(remaining, matching, most, modules, longest);
     *matching = choice.matching;
-    cover(
-        &remaining.zero,
-        most,
-        modules,
-        &mut matching.zero,
-        &mut matching.three,
-    );
-    cover(
-        &remaining.three,
-        most,
-        modules,
-        &mut matching.three,
-        &mut matching.zero,
-    );
     join_free(remaining, &choice.reach.zero.near, matching, modules);
     how_long(remaining, matching, most, modules)
 }

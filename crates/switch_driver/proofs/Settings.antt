@@ -1,29 +1,21 @@
 -- The settings of a schedule, one after another.
-use Rattle.std.proofs.Common.{◌≡◌, ◌+◌, ℕ, Bool, List, Option, Some, sym, ap, ◌∙◌, subst, add-one}
+use Rattle.std.proofs.Common.{◌≡◌, ◌+◌, ℕ, Bool, List, Option, sym, subst, add-one}
 use Rattle.batch.specs.declared.transfer.Transfer.{Transfer}
 use Rattle.crossbar.specs.Chips.{Switches}
 use Rattle.crossbar.specs.declared.pair.Pair.{Pair}
 use Rattle.crossbar.specs.declared.traffic.Passing.{Passing}
 use Rattle.switch_settings.specs.RackWirings.{AreSetIn, HaveRepliedIn}
-use Rattle.switch_settings.specs.Sending.{in_order, pairs_at, standing_before}
-use Rattle.switch_settings.specs.Settings.{numbers_in, setting_pairs}
+use Rattle.switch_settings.specs.Sending.{pairs_at, standing_before}
+use Rattle.switch_settings.specs.Settings.{numbers_in}
 use Rattle.switch_settings.specs.declared.rack_wiring.RackWiring.{RackWiring}
 use Rattle.switch_driver.specs.Driving.{Stood, HaveStood}
 use Rattle.switch_driver.specs.declared.stage.Cue.{Cue}
 use Rattle.switch_driver.specs.declared.stage.Cue.TheVariants.{GoOn}
 
--- the pairs of a setting
-pub pairs_are : (batch : List Transfer) (settings : List (List ℕ)) (k : ℕ) (numbers : List ℕ) (pairs : List Pair) → numbers ≡ numbers_in settings k → pairs ≡ in_order (setting_pairs batch numbers) → pairs ≡ pairs_at batch settings k
-pairs_are batch settings k numbers pairs n is = is ∙ ap (λ (xs : List ℕ). in_order (setting_pairs batch xs)) n
-
 -- a setting that stands, of the pairs that were asked for
 pub stood : (rack : RackWiring) (batch : List Transfer) (settings : List (List ℕ)) (k : ℕ) (known : Option (List Pair)) (pairs : List Pair) (old new : Option (List Passing)) → known ≡ standing_before batch settings k → pairs ≡ pairs_at batch settings k → HaveRepliedIn rack known pairs old new
     → Stood rack batch settings k old new
 stood rack batch settings k known pairs old new e f h = rw (e, f) at h
-
--- the pairs of the setting before stand
-pub known_next : (batch : List Transfer) (settings : List (List ℕ)) (k : ℕ) (pairs : List Pair) → pairs ≡ pairs_at batch settings k → Some pairs ≡ standing_before batch settings (k + 1)
-known_next batch settings k pairs e = ap (λ (ps : List Pair). Some ps) e ∙ ap (standing_before batch settings) (sym (add-one k))
 
 -- one setting more
 pub one_more : {S : Type 0} (hears : S → ℕ → List ℕ → Cue → S → Type 0) (rack : RackWiring) (batch : List Transfer) (settings : List (List ℕ)) (k : ℕ) (numbers : List ℕ) (old : Option (List Passing)) (told : S) (mid : Option (List Passing)) (telling : S) (new : Option (List Passing)) (tells : S)

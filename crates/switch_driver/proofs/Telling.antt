@@ -1,9 +1,6 @@
 -- What replies tell of a switch, and where what it is sent leads.
-use Rattle.std.proofs.Common.{◌≡◌, ◌+◌, ◌++◌, ℕ, zero, suc, List, [], get_or, Option, Some, None, refl, sym, ap, ◌∙◌, add-one, arith}
+use Rattle.std.proofs.Common.{◌≡◌, ◌+◌, ℕ, zero, suc, List, get_or, Option, Some, None, refl, sym, ap, ◌∙◌, add-one, arith}
 use Rattle.std.specs.FinMap as map
-use Rattle.std.specs.List.{flat_map, range_with_len}
-use Rattle.std.proofs.lemmas.List.{flat_map_more}
-use Rattle.batch.proofs.Lists.{range_more}
 use Rattle.batch.specs.declared.transfer.Transfer.{Transfer}
 use Rattle.c004_commands.specs.declared.command.Command.{Command}
 use Rattle.crossbar.proofs.Carrying.{after_all-append}
@@ -12,10 +9,12 @@ use Rattle.crossbar.specs.Switch.{Switch, after_all}
 use Rattle.crossbar.specs.declared.chip.Wiring.{Wiring}
 use Rattle.switch_settings.specs.Answers.{Reports}
 use Rattle.switch_settings.specs.Pairs.{all_enquiries}
+use Rattle.switch_settings.specs.Schedules.{sent_and_asked, sent_and_asked_first}
 use Rattle.switch_settings.specs.Sending.{sent_for, sent_for_first}
 use Rattle.switch_settings.proofs.Replies.{all_report, enquiries_leave}
+use Rattle.switch_settings.proofs.Schedules.{sent_and_asked_more}
 use Rattle.switch_settings.proofs.Turning.{sent_more, settings_turn}
-use Rattle.switch_driver.specs.Laws.{RepliesTell, DrivenTurns, driven_for, driven_for_first}
+use Rattle.switch_driver.specs.Laws.{RepliesTell, DrivenTurns}
 
 -- a reply reports one input, or none
 one_report : (a b : Option ℕ) (reply : ℕ) → Reports a reply → Reports b reply → a ≡ b
@@ -28,18 +27,15 @@ pub replies_tell : RepliesTell
 replies_tell wiring pairs switch replies are agree output known =
     one_report (map.get switch.sources output) (map.get (switch_of wiring pairs).sources output) (get_or replies output 0) (all_report switch output replies known are) (agree output known)
 
-driven_more : (w : Wiring) (batch : List Transfer) (settings : List (List ℕ)) (k : ℕ) → driven_for_first w batch settings (k + 1) ≡ driven_for_first w batch settings k ++ driven_for w batch settings k
-driven_more w batch settings k = ap (flat_map (driven_for w batch settings)) (range_more k) ∙ sym (flat_map_more (driven_for w batch settings) [] (range_with_len 0 k) k)
-
 -- enquiries change nothing
-same_after : (w : Wiring) (batch : List Transfer) (settings : List (List ℕ)) (s : Switch) (n : ℕ) → after_all (driven_for_first w batch settings n) s ≡ after_all (sent_for_first w batch settings n) s
+same_after : (w : Wiring) (batch : List Transfer) (settings : List (List ℕ)) (s : Switch) (n : ℕ) → after_all (sent_and_asked_first w batch settings n) s ≡ after_all (sent_for_first w batch settings n) s
 same_after w batch settings s zero = refl
 same_after w batch settings s (suc n) =
     let f = λ (cs : List Command). after_all cs s in
-    ap (λ (k : ℕ). f (driven_for_first w batch settings k)) (sym (add-one n))
-    ∙ ap f (driven_more w batch settings n)
-    ∙ after_all-append (driven_for_first w batch settings n) (driven_for w batch settings n) s
-    ∙ ap (after_all (driven_for w batch settings n)) (same_after w batch settings s n)
+    ap (λ (k : ℕ). f (sent_and_asked_first w batch settings k)) (sym (add-one n))
+    ∙ ap f (sent_and_asked_more w batch settings n)
+    ∙ after_all-append (sent_and_asked_first w batch settings n) (sent_and_asked w batch settings n) s
+    ∙ ap (after_all (sent_and_asked w batch settings n)) (same_after w batch settings s n)
     ∙ after_all-append (sent_for w batch settings n) all_enquiries (after_all (sent_for_first w batch settings n) s)
     ∙ enquiries_leave (after_all (sent_for w batch settings n) (after_all (sent_for_first w batch settings n) s))
     ∙ sym (after_all-append (sent_for_first w batch settings n) (sent_for w batch settings n) s)

@@ -1,10 +1,8 @@
 -- What the laws state. No contract of a call cites them.
-use Rattle.std.specs.Prelude.{◌≡◌, ◌<◌, ◌≤◌, ◌+◌, ◌++◌, ℕ, List, length}
+use Rattle.std.specs.Prelude.{◌≡◌, ◌<◌, ◌≤◌, ◌+◌, ℕ, List, length}
 use Rattle.std.specs.FinMap as map
-use Rattle.std.specs.List.{flat_map, range_with_len}
 use Rattle.batch.specs.Batches.{IsBatch}
 use Rattle.batch.specs.declared.transfer.Transfer.{Transfer}
-use Rattle.c004_commands.specs.declared.command.Command.{Command}
 use Rattle.c004_commands.specs.declared.port.TheConstants.{PORTS}
 use Rattle.crossbar.specs.Pairs.{room_of, switch_of}
 use Rattle.crossbar.specs.Switch.{Switch, after_all, answers}
@@ -14,7 +12,7 @@ use Rattle.link_graph.specs.Schedules.{IsScheduleOf}
 use Rattle.switch_settings.specs.Answers.{AllAgree}
 use Rattle.switch_settings.specs.Pairs.{all_enquiries}
 use Rattle.switch_settings.specs.Racks.{HasModulesOf}
-use Rattle.switch_settings.specs.Sending.{sent_for}
+use Rattle.switch_settings.specs.Schedules.{sent_and_asked_first}
 use Rattle.switch_settings.specs.Settings.{numbers_in, setting_pairs}
 
 -- a switch whose answers agree with pairs feeds each output as these call for
@@ -25,15 +23,6 @@ RepliesTell =
     → (output : ℕ) → output < PORTS
     → map.get switch.sources output ≡ map.get (switch_of wiring pairs).sources output
 
--- what a switch is sent for a setting, and asked behind it
-abbrev pub driven_for : Wiring → List Transfer → List (List ℕ) → ℕ → List Command
-driven_for wiring batch settings k = sent_for wiring batch settings k ++ all_enquiries
-
--- the same of the first settings, so many of them
-abbrev pub driven_for_first : Wiring → List Transfer → List (List ℕ) → ℕ → List Command
-driven_for_first wiring batch settings count =
-    flat_map (driven_for wiring batch settings) (range_with_len 0 count)
-
 -- Behind what a switch is sent and asked up to a setting of a schedule, it joins just what the
 -- setting's transfers want joined, whatever it was before.
 abbrev pub DrivenTurns : Type 0
@@ -41,5 +30,5 @@ DrivenTurns =
     (batch : List Transfer) (settings : List (List ℕ)) (modules : ℕ) (wiring : Wiring)
     (switch : Switch) (k : ℕ) → IsBatch batch → IsScheduleOf batch settings
     → HasModulesOf modules batch → modules ≤ room_of wiring → k < length settings
-    → after_all (driven_for_first wiring batch settings (k + 1)) switch
+    → after_all (sent_and_asked_first wiring batch settings (k + 1)) switch
     ≡ switch_of wiring (setting_pairs batch (numbers_in settings k))

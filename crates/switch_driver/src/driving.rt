@@ -1,6 +1,6 @@
 //! The settings of a schedule, put on the switches one after another.
 
-ghost use Rattle.std.specs.Prelude.{◌≤◌};
+ghost use Rattle.std.specs.Prelude.{◌≤◌, IsSome};
 ghost use Rattle.c004_commands.specs.declared.port.TheConstants.{PORTS};
 ghost use Rattle.link_graph.specs.Schedules.{IsScheduleOf};
 ghost use Rattle.switch_settings.specs.RackWirings.{wired_in};
@@ -39,8 +39,8 @@ pub enum Driven {
 /// each is sent, all outputs are asked, and where they reply as the setting calls for, the stage is
 /// told that it stands.
 ///
-/// The modules that the batch names have to be wired, at most 32. The switches are left as they
-/// stand.
+/// The modules that the batch names have to be wired, at most 32, and the port has to tell what
+/// passes. The switches are left as they stand.
 pub fn drive<P: ConfigPort, S: Stage>(
     port: &mut P,
     rack: RackWiring,
@@ -51,6 +51,7 @@ pub fn drive<P: ConfigPort, S: Stage>(
     requires few { wired_in rack ≤ PORTS }
     requires modules { HasModulesOf (wired_in rack) batch.now }
     requires schedule { IsScheduleOf batch.now schedule.now }
+    requires tells { IsSome (P.passed port.old) }
     ensures driven { IsDriven S.hears rack batch.now schedule.now result
         (P.passed port.old) stage.old (P.passed port.new) stage.new }
     ensures cause { HasDriveCause P.ConfigPort rack batch.now schedule.now result

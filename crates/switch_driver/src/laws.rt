@@ -4,7 +4,7 @@ ghost use Rattle.switch_driver.specs.Laws.{RepliesTell, DrivenTurns};
 
 /// A switch that answers the enquiries of all outputs by the INMOS IMS C004 data sheet, and as
 /// pairs call for, has at each output the input that the pairs call for, or none; whatever it was
-/// sent before.
+/// sent before. Whether it is ready isn't said.
 pub fn replies_tell()
     ensures { RepliesTell }
 {}

@@ -7,4 +7,5 @@ pub mod Joined
 pub mod InOrder
 pub mod Turning
 pub mod Asking
+pub mod Schedules
 pub mod Racks

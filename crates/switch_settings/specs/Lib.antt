@@ -6,5 +6,6 @@ pub mod Tables
 pub mod Sending
 pub mod Answers
 pub mod Asking
+pub mod Schedules
 pub mod RackWirings
 pub mod Laws

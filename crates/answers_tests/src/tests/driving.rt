@@ -140,7 +140,7 @@ fn steps_of(alloc: Global, rack: &Rack<'_>, lie: Lie) -> Result<Vec<Step>, Alloc
 #[derive(Drop)]
 struct Desk<'a> {
     script: &'a [Step],
-    /// How many steps have been made.
+    /// How many steps have been tried.
     at: AtomicUsize,
     /// How many had been when the stream was last flushed.
     flushed: AtomicUsize,
@@ -166,23 +166,23 @@ impl<'a> Desk<'a> {
         self.script.get(self.at.load(Ordering::SeqCst)).copied()
     }
 
-    /// Makes this step, and says whether it is the next one. At the script's end nothing is made,
-    /// and nothing is wrong.
+    /// Tries this step, and says whether it is the next one. At the script's end none is.
     fn make(&self, step: Step) -> bool {
-        let Some(wanted) = self.next() else {
-            return false;
-        };
-        if wanted != step {
-            self.is_wrong.store(true, Ordering::SeqCst);
-            return false;
-        }
+        let wanted = self.next();
         self.at.fetch_add(1, Ordering::SeqCst);
-        true
+        if wanted.is_some() && wanted != Some(step) {
+            self.is_wrong.store(true, Ordering::SeqCst);
+        }
+        wanted == Some(step)
     }
 
-    /// Whether all came in turn, up to the script's end.
+    /// Whether all came in turn, up to the script's end, and no more than one step was tried there.
     fn is_followed(&self) -> bool {
-        self.next().is_none() && !self.is_wrong.load(Ordering::SeqCst)
+        let beyond = self
+            .at
+            .load(Ordering::SeqCst)
+            .checked_sub(self.script.len());
+        matches!(beyond, Some(0 | 1)) && !self.is_wrong.load(Ordering::SeqCst)
     }
 }
 
@@ -196,7 +196,11 @@ impl Read for FromSwitch<'_> {
     fn read(&mut self, buf: &mut [u8]) -> io::Result<usize> {
         let (Some(Step::Heard(reply)), Some(first)) = (self.desk.next(), buf.first_mut()) else {
             self.desk.make(Step::Heard(0));
-            return Ok(0);
+            // The stream ends behind an even number of steps, and fails behind an odd one.
+            return match self.desk.script.len() % 2 {
+                0 => Ok(0),
+                _ => Err(io::ErrorKind::BrokenPipe.into()),
+            };
         };
         if self.desk.flushed.load(Ordering::SeqCst) != self.desk.at.load(Ordering::SeqCst) {
             self.desk.is_wrong.store(true, Ordering::SeqCst);
@@ -374,7 +378,7 @@ fn in_turn(rt: HostRuntime) {
     }
 }
 
-/// The stream ends behind each step in turn.
+/// The stream ends or fails behind each step in turn, and is tried there once.
 #[test]
 fn cut_off(rt: HostRuntime) {
     let steps = steps_of(rt.alloc(), &USUAL, None).expect(&rt, "memory");

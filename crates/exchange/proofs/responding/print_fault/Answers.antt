@@ -1,5 +1,4 @@
 use Rattle.std.proofs.Common.{inl, inr, refl}
-use Rattle.std.proofs.KnownBytes.{Appends-nil}
 use Rattle.exchange.proofs.Told.{without_arguments}
 use Rattle.exchange.proofs.responding.print_fault.Goals as goal
 

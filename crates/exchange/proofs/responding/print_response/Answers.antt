@@ -5,7 +5,7 @@ use Rattle.exchange.specs.Outcomes.{IsNoAnswer, IsUnanswered}
 use Rattle.exchange.specs.Outputs.{lost_none}
 use Rattle.exchange.specs.Responses.{Response, given_by, named_by, unanswered}
 use Rattle.exchange.specs.declared.notes.NoAnswer.TheVariants.{Refused}
-use Rattle.exchange.proofs.Told.{answered, asked, faulty, not_answered}
+use Rattle.exchange.proofs.Told.{answered, asked, not_answered}
 use Rattle.exchange.proofs.responding.print_response.Goals as goal
 
 pub returns-in-Ok-end : goal.returns-in-Ok-end

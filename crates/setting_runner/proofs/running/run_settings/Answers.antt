@@ -4,8 +4,12 @@ use Rattle.batch.specs.declared.limits.TheConstants.{MAX_TRANSFERS, MAX_WORDS}
 use Rattle.module_memory.specs.Lending.{store_rejoined}
 use Rattle.setting_runner.specs.Moves.{AreMovable, HaveMoved, none_sure, all_moved}
 use Rattle.setting_runner.specs.Runs.{AreSettingSwitches, ToldUpTo, IsCompleted}
+use Rattle.switch_settings.specs.Schedules.{HaveAllReplied}
+use Rattle.switch_settings.specs.Sending.{pairs_at}
 use Rattle.switch_settings.specs.Settings.{numbers_in}
+use Rattle.switch_settings.proofs.Schedules.{pairs_are, known_next, one_replied}
 use Rattle.setting_runner.proofs.Going.{rack_has, setting_switches, going_next, going_stops, going_completes, next_begins, part_movable}
+use Rattle.setting_runner.proofs.Passing.{stops_passing}
 use Rattle.setting_runner.proofs.Schedules.{front_few, numbers_are_counted}
 use Rattle.setting_runner.proofs.running.run_settings.Goals as goal
 
@@ -85,6 +89,9 @@ returns-in-Err-clause-plant g c =
           setting_switches c.args.rest.now c.args.bays.now batch settings n c.numbers_of_setting-numbers.result.now c.of_setting-pairs.result (g.P.ConfigPort.switches c.run_setting.new.plant.port)
           c.requires.prepared c.numbers_of_setting-numbers.ensures.numbers (λ w. c.of_setting-pairs.ensures.switch c.args.rest.now.store.shape.modules w has)
           (c.in-Err.ensures.wire t is (subst IsTrue (sym inv.honesty) honest));
+      traffic =
+          let are : c.of_setting-pairs.result ≡ pairs_at batch settings n = pairs_are batch settings n c.numbers_of_setting-numbers.result.now c.of_setting-pairs.result c.numbers_of_setting-numbers.ensures.numbers c.of_setting-pairs.ensures.members in
+          (g.P.ConfigPort.passed c.loop-number.plant.port, inv.replied, stops_passing _ c.in-Err.stop.cause _ _ _ _ _ _ inv.known are c.in-Err.ensures.passed);
       refused = search rules;
       uncalled = search rules;
       others = search rules;
@@ -112,11 +119,15 @@ loop-number-preserved g c =
     subst (λ (x : List ℕ). HaveMoved none_sure c.args.rest.now batch x part new (all_moved x words)) (sym e)
     c.in_default.ensures.moved in
     let has = rack_has c.args.rest.now c.args.bays.now batch settings begun in
+    let pairs = c.of_setting-pairs.result in
+    let are : pairs ≡ pairs_at batch settings n = pairs_are batch settings n numbers pairs c.numbers_of_setting-numbers.ensures.numbers c.of_setting-pairs.ensures.members in
     record {
       from = omega (arith, next_begins batch settings n a k below inv.from count);
       going = going_next c.args.rest.now c.args.bays.now c.loop-number.bays new batch settings n a k begun inv.going below inv.from count moves;
       told = subst (λ (x : ℕ). ToldUpTo g.N.Notice.hears c.args.notice.now x c.done-in-loop-number.new.self) (sym (add-one n)) (c.loop-number.notice, inv.told, subst (λ (x : ℕ). g.N.Notice.hears c.loop-number.notice x c.done-in-loop-number.new.self) (add-one n) c.done-in-loop-number.ensures);
       standing = (c.of_setting-pairs.ensures.pairs c.args.rest.now.store.shape.modules has, λ honest. c.in_default.ensures.set (subst IsTrue (sym inv.honesty) honest));
+      known = known_next batch settings n pairs are;
+      replied = one_replied _ batch settings n _ pairs _ _ _ inv.known are inv.replied c.in_default.ensures.replied;
       switches = λ j last honest.
           let at : n ≡ j = omega arith in
           subst (λ (x : ℕ). AreSettingSwitches c.args.rest.now.store.shape batch settings x (g.P.ConfigPort.switches c.run_setting.new.plant.port)) at
@@ -150,9 +161,12 @@ returns-clause-memories g c =
 
 pub returns-clause-plant : goal.returns-clause-plant
 returns-clause-plant g c =
+    let settings = c.args.schedule.now in
+    let all : c.loop-number.number ≡ length settings = omega (arith, c.settings-number-end.ensures) in
     record {
       cause = search rules;
       switches = search rules;
+      traffic = subst (λ (n : ℕ). HaveAllReplied c.args.rest.now.store.shape.modules c.args.batch.now settings n (g.P.ConfigPort.passed c.args.plant.now.port) (g.P.ConfigPort.passed c.loop-number.plant.port)) all c.loop-number.invariant.replied;
       refused = search rules;
       uncalled = λ empty.
           let none : length c.args.schedule.now ≡ 0 = ap (length {A = List ℕ}) empty in

@@ -4,6 +4,7 @@ use Rattle.switch_settings.specs.Answers.{IsConfigureFault}
 use Rattle.setting_runner.specs.declared.outcome.StopCause.{StopCause}
 use Rattle.setting_runner.specs.Runs.{RunConditions, IsStopCause}
 use Rattle.setting_runner.proofs.Causes.{all_zero, set_fault_stops, no_wire}
+use Rattle.setting_runner.proofs.Passing.{fault_passes}
 use Rattle.setting_runner.proofs.setting.begin_setting.Goals as goal
 
 pub returns-in-Err-clause-cause : goal.returns-in-Err-clause-cause
@@ -16,3 +17,9 @@ returns-in-Err-clause-cause g c =
 
 pub returns-in-Err-clause-no_wire : goal.returns-in-Err-clause-no_wire
 returns-in-Err-clause-no_wire g c = λ t is. no_wire c.in-Err.fault t (sym c.into.ensures ∙ is)
+
+pub returns-in-Err-clause-passed : goal.returns-in-Err-clause-passed
+returns-in-Err-clause-passed g c =
+    let same : c.modules.result ≡ c.args.shape.modules = search rules in
+    let sliced = c.as_slice-pairs.ensures.pairs in
+    rw c.into.ensures (fault_passes c.in-Err.fault _ _ _ _ _ (rw (same, sliced) at c.in-Err.ensures.vain))

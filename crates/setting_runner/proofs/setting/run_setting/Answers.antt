@@ -5,6 +5,7 @@ use Rattle.setting_runner.specs.Moves.{HaveMoved, none_sure, AllWhole}
 use Rattle.setting_runner.specs.Runs.{RunConditions, IsShortfall}
 use Rattle.setting_runner.proofs.Moves.{AreMovable-known, none_have_moved}
 use Rattle.setting_runner.proofs.Ending.{ended, ended_cause}
+use Rattle.setting_runner.proofs.Passing.{ended_passes}
 use Rattle.setting_runner.proofs.setting.run_setting.Goals as goal
 
 pub begin_setting-requires-clause-known : goal.begin_setting-requires-clause-known
@@ -32,3 +33,8 @@ returns-clause-cause g c =
     let same : c.begin_setting.new.plant.wires ≡ old.wires = search rules in
     ended_cause _ given _ _ _ _ _ _ refl (rw same at c.move_all-moved.ensures) c.end_setting.ensures.moved (subst (λ (w : ℕ). IfErr c.end_setting.result (λ stop. IsShortfall w c.move_all-moved.result stop.cause)) e c.end_setting.ensures.short)
     c.in_ok-begin_setting.ensures.unfailed
+
+pub returns-clause-passed : goal.returns-clause-passed
+returns-clause-passed g c =
+    let same : c.shape.result ≡ c.args.rest.now.store.shape = search rules in
+    ended_passes _ _ _ _ _ _ _ _ c.end_setting.ensures.short (rw same at c.in_ok-begin_setting.ensures.replied)

@@ -1,5 +1,6 @@
-use Rattle.std.proofs.Common.{◌<◌, ◌≤◌}
-use Rattle.steady_schedule.specs.Reaches.{AreHeld, HaveEach}
+use Rattle.std.proofs.Common.{◌≡◌, ◌⊎◌, ◌<◌, ◌≤◌}
+use Rattle.steady_schedule.specs.Reaches.{AreHeld, HaveEach, JoinsNeeded}
+use Rattle.steady_schedule.specs.Steps.{NoneLonger}
 use Rattle.steady_schedule.proofs.choosing.choose.Given as goal
 
 abbrev pub invariant-lengths : goal.invariant-lengths
@@ -9,6 +10,8 @@ invariant-lengths l = record {
   each : HaveEach l.remaining.counts l.choice.reach.settings l.choice.matching.zero;
   held : AreHeld l.remaining.counts l.choice.reach.settings l.choice.reach.zero.near l.choice.reach.three.near;
   shorter : l.choice.shorter < l.choice.reach.settings;
+  longest : NoneLonger l.remaining.counts l.most l.choice.reach.settings;
+  joined : ((l.choice.shorter ≡ 0) × JoinsNeeded l.remaining.counts l.choice.matching.zero l.choice.matching.three l.most l.choice.reach.settings) ⊎ ((0 < l.choice.shorter) × NoneLonger l.remaining.counts l.most l.choice.shorter);
 }
 
 abbrev pub decreases-lengths : goal.decreases-lengths

@@ -1,7 +1,7 @@
 use Rattle.std.proofs.Common.{◌-◌, ◌<◌, ◌≤◌}
-use Rattle.steady_schedule.specs.Potentials.{potential, IsReached}
 use Rattle.steady_schedule.specs.Searches.{AreNear}
-use Rattle.steady_schedule.specs.Slots.{AreNumbered, AreFewSteps, AreAtNeed}
+use Rattle.steady_schedule.specs.Slots.{AreNumbered, AreAtNeed, AreLongSteps}
+use Rattle.steady_schedule.specs.Steps.{NoneLonger}
 use Rattle.steady_schedule.specs.Waiting.{HaveMost, NoneWait}
 use Rattle.steady_schedule.proofs.numbering.fill.Given as goal
 
@@ -10,11 +10,11 @@ invariant-steps l = record {
   some : 0 < l.held;
   few : l.first ≤ l.settings;
   most : HaveMost l.remaining.counts (l.settings - l.first);
-  reached : IsReached l.remaining.counts (l.settings - l.first);
   numbered : AreNumbered l.places.totals l.remaining.counts l.slots l.first;
-  steps : AreFewSteps l.places.totals l.remaining.counts l.slots l.first (potential l.places.totals l.remaining.counts (l.settings - l.first)) (potential l.places.totals l.initial.remaining.counts l.settings);
+  longest : NoneLonger l.remaining.counts (l.settings - l.first) l.held;
   none : NoneWait l.remaining.counts l.modules;
   near : AreNear l.remaining.zero.near l.matching.zero;
+  long : AreLongSteps l.places.totals l.remaining.counts l.slots l.settings l.first l.held;
   needs : AreAtNeed l.places.totals l.remaining.counts l.slots l.settings l.first;
 }
 

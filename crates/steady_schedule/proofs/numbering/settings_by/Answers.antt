@@ -1,11 +1,9 @@
-use Rattle.std.proofs.Common.{◌≤◌, arith}
+use Rattle.std.proofs.Common.{arith}
 use Rattle.std.proofs.lemmas.Result.{IfOk-weaker}
-use Rattle.steady_schedule.specs.Bounds.{most_changes}
-use Rattle.steady_schedule.specs.Potentials.{potential}
 use Rattle.steady_schedule.proofs.Ends.{modules_low}
-use Rattle.steady_schedule.proofs.Heads.{potential_most}
+use Rattle.steady_schedule.proofs.LongSteps.{long_read}
 use Rattle.steady_schedule.proofs.Needs.{needs_read}
-use Rattle.steady_schedule.proofs.Slots.{are_proper, heads_read, none_numbered, fewer_heads}
+use Rattle.steady_schedule.proofs.Slots.{are_proper, none_numbered, joins_from, joins_to_number}
 use Rattle.steady_schedule.proofs.numbering.settings_by.Goals as goal
 
 pub fill-requires-clause-numbered : goal.fill-requires-clause-numbered
@@ -25,12 +23,11 @@ returns c =
     let done = c.fill.ensures.done in
     let numbered = c.fill.ensures.numbered in
     let low = modules_low batch c.requires.batch in
-    let most : potential totals c.args.remaining.now.counts settings ≤ most_changes batch = rw c.requires.whole (potential_most batch totals settings c.requires.batch c.requires.counted) in
     IfOk-weaker c.read_all.result _ _
     (λ lists into. record {
       numbers = into.numbers;
       proper = are_proper batch totals counts slots into.numbers settings c.requires.counted done numbered into.read low;
-      heads = fewer_heads batch settings _ (most_changes batch) into.numbers most (heads_read batch totals counts slots into.numbers settings c.requires.counted done numbered into.read low 0 _ c.fill.ensures.steps);
       needs = needs_read batch totals counts slots into.numbers settings c.requires.counted done numbered into.read low c.fill.ensures.needs;
+      long = long_read batch totals counts slots into.numbers settings done (joins_to_number batch totals counts slots into.numbers settings c.requires.counted done numbered into.read low) (joins_from batch totals counts slots into.numbers settings c.requires.counted done numbered into.read low) c.fill.ensures.long;
       gathered = into.gathered;
     }) c.read_all.ensures

@@ -11,10 +11,5 @@ of-places-requires c = counts_few c.args.graph.now c.of-remaining.result.counts 
 pub settings_by-requires-clause-most : goal.settings_by-requires-clause-most
 settings_by-requires-clause-most c = λ end m m_in. omega (arith, waiting_uses c.args.graph.now c.of-remaining.result.counts end m c.of-remaining.ensures (all_low c.args.graph.now c.requires.batch) m_in, c.requires.most (made end m))
 
-pub settings_by-requires-clause-reached : goal.settings_by-requires-clause-reached
-settings_by-requires-clause-reached c =
-    let r = c.requires.reached in
-    record { end = r.end; m = r.m; m_in = r.m_in; is = omega (arith, waiting_uses c.args.graph.now c.of-remaining.result.counts r.end r.m c.of-remaining.ensures (all_low c.args.graph.now c.requires.batch) r.m_in, r.is) }
-
 pub settings_by-requires-clause-room : goal.settings_by-requires-clause-room
 settings_by-requires-clause-room c = omega (arith, c.of-places.result.placed.all, c.deref_mut.ensures.len, c.in_ok-slots.ensures.len)

@@ -1,8 +1,5 @@
-use Rattle.steady_schedule.proofs.Plans.{named_most, named_reached}
+use Rattle.steady_schedule.proofs.Plans.{named_most}
 use Rattle.steady_schedule.proofs.planning.steady.Goals as goal
 
 pub schedule_of-requires-clause-most : goal.schedule_of-requires-clause-most
 schedule_of-requires-clause-most c link = rw c.transfers.ensures.value (named_most c.in_ok-graph.graph c.in_ok-certificate.certificate.link c.in_ok-certificate.certificate.transfers c.in_ok-certificate.ensures link)
-
-pub schedule_of-requires-clause-reached : goal.schedule_of-requires-clause-reached
-schedule_of-requires-clause-reached c = rw c.transfers.ensures.value (named_reached c.in_ok-graph.graph c.in_ok-certificate.certificate.link c.in_ok-certificate.certificate.transfers (rw c.in_ok-graph.ensures c.len.ensures.batch) c.in_ok-certificate.ensures)

@@ -1,35 +1,21 @@
-use Rattle.std.proofs.Common.{◌∙◌, arith}
-use Rattle.link_graph.specs.declared.link.End.TheVariants.{Zero, Three}
-use Rattle.steady_schedule.proofs.Matchings.{turned}
-use Rattle.steady_schedule.proofs.Steps.{zero_side, three_side, near_turned, near_back, near_from_counts, joined_below}
+use Rattle.std.proofs.Common.{◌≤◌, inl, inr, arith}
+use Rattle.steady_schedule.proofs.Longest.{tight_longest, joined_held}
+use Rattle.steady_schedule.proofs.Steps.{near_from_counts, joined_below}
 use Rattle.steady_schedule.proofs.stepping.next_step.Goals as goal
 
-pub cover-requires-clause-near : goal.cover-requires-clause-near
-cover-requires-clause-near c x y joined =
+pub join_free-requires-clause-near : goal.join_free-requires-clause-near
+join_free-requires-clause-near c x y joined =
     let l = c.args.remaining.now in
     let m = c.choose-choice.result.matching in
     near_from_counts l.counts l.zero.near l.zero.uses l.three.near l.three.uses l.told m.zero m.three m.matched x y joined (omega (arith, c.choose-choice.ensures.some, c.choose-choice.ensures.each x y joined))
 
-pub cover-requires-clause-side : goal.cover-requires-clause-side
-cover-requires-clause-side c =
-    let l = c.args.remaining.now in
-    zero_side l.counts l.zero.near l.zero.uses l.three.near l.three.uses l.told c.args.most c.requires.most
+pub how_long-requires-clause-zero : goal.how_long-requires-clause-zero
+how_long-requires-clause-zero c x x_in full =
+    c.join_free.ensures.zero x (c.choose-choice.ensures.joined.zero_joined x x_in (omega (arith, full, c.args.remaining.now.told.uses_zero x x_in, c.choose-choice.ensures.some)))
 
-pub cover-requires-2-clause-side : goal.cover-requires-2-clause-side
-cover-requires-2-clause-side c =
-    let l = c.args.remaining.now in
-    three_side l.counts l.zero.near l.zero.uses l.three.near l.three.uses l.told c.args.most c.requires.most
-
-pub cover-requires-2-clause-near : goal.cover-requires-2-clause-near
-cover-requires-2-clause-near c =
-    let l = c.args.remaining.now in
-    near_turned l.counts l.zero.near l.zero.uses l.three.near l.three.uses l.told c.cover.new.of c.cover.new.back c.cover.ensures.matched c.cover.ensures.near
-
-pub cover-requires-clause-none : goal.cover-requires-clause-none
-cover-requires-clause-none c x le x_in = c.args.remaining.now.told.uses_zero x x_in ∙ c.requires.none Zero x le x_in
-
-pub cover-requires-2-clause-none : goal.cover-requires-2-clause-none
-cover-requires-2-clause-none c x le x_in = c.args.remaining.now.told.uses_three x x_in ∙ c.requires.none Three x le x_in
+pub how_long-requires-clause-three : goal.how_long-requires-clause-three
+how_long-requires-clause-three c x x_in full =
+    c.join_free.ensures.three x (c.choose-choice.ensures.joined.three_joined x x_in (omega (arith, full, c.args.remaining.now.told.uses_three x x_in, c.choose-choice.ensures.some)))
 
 pub returns-clause-low : goal.returns-clause-low
 returns-clause-low c =
@@ -37,7 +23,21 @@ returns-clause-low c =
     let m = c.join_free.new.matching in
     joined_below l.counts l.zero.near l.zero.uses l.three.near l.three.uses l.told m.zero m.three m.matched c.args.modules c.requires.none c.join_free.ensures.near
 
-pub join_free-requires-clause-near : goal.join_free-requires-clause-near
-join_free-requires-clause-near c =
+pub returns-clause-longest : goal.returns-clause-longest
+returns-clause-longest c zero three j n few each =
     let l = c.args.remaining.now in
-    near_back l.counts l.zero.near l.zero.uses l.three.near l.three.uses l.told c.cover-2.new.back c.cover-2.new.of (turned _ _ c.cover-2.ensures.matched) c.cover-2.ensures.near
+    let chosen = c.choose-choice in
+    let old = chosen.result.matching in
+    let k = chosen.result.reach.settings in
+    let m = c.join_free.new.matching in
+    let so_long : k ≤ c.how_long.result = tight_longest l.counts m.zero m.three c.args.most c.how_long.result k m.matched c.how_long.ensures chosen.ensures.few (λ x x_in.
+    joined_held l.counts old.zero old.three m.zero m.three c.args.most k x chosen.ensures.few x_in chosen.ensures.joined c.join_free.ensures.zero c.join_free.ensures.three (λ u v joined. elim (c.join_free.ensures.joins u v joined) [
+      | inl same ↦ chosen.ensures.each u v same
+      | inr near ↦ chosen.ensures.held.zero u v near
+    ])) in
+    omega (arith, so_long, chosen.ensures.longest zero three j n few each)
+
+pub returns-clause-no_longer : goal.returns-clause-no_longer
+returns-clause-no_longer c =
+    let m = c.join_free.new.matching in
+    c.requires.longest m.zero m.three c.how_long.result m.matched c.how_long.ensures.few c.how_long.ensures.each

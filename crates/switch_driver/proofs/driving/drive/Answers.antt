@@ -1,7 +1,8 @@
 use Rattle.std.proofs.Common.{◌≡◌, ◌∙◌}
 use Rattle.switch_settings.specs.RackWirings.{wired_in}
 use Rattle.switch_settings.specs.Sending.{pairs_at}
-use Rattle.switch_driver.proofs.Settings.{pairs_are, stood, known_next, one_more, set_later}
+use Rattle.switch_settings.proofs.Schedules.{pairs_are, known_next}
+use Rattle.switch_driver.proofs.Settings.{stood, one_more, set_later}
 use Rattle.switch_driver.proofs.driving.drive.Goals as goal
 
 pub loop-setting-preserved : goal.loop-setting-preserved
