@@ -199,7 +199,7 @@ const DRIVE: CommandHelp = CommandHelp {
     about: "Sets a real switch: sends its bytes setting by setting, and asks it whether each stands",
     example: "\
 Example: a driver and a switch of this program, with two pipes between them:
-  mkfifo board.in board.out
+  rm -f board.in board.out; mkfifo board.in board.out
   ./exchange c004 < board.in > board.out &
   ./exchange drive examples/three-transfers.txt board --go-on",
     notes: "\
@@ -263,8 +263,8 @@ At first no output is fed. A byte that is no command, or no input or output, is
 dropped, with what stands before it in its command, and a line on standard error
 tells of it. --quiet leaves that line out.
 
-Status: 0 standard input ended, 1 it couldn't be read any further, 2 the words
-fit no command, 3 an answer couldn't be written.",
+Status: 0 standard input ended, 1 it couldn't be read any further, or there was
+no memory, 2 the words fit no command, 3 an answer couldn't be written.",
 };
 
 /// What help says of `direct`.
@@ -413,7 +413,8 @@ may be refused; then nothing has changed, and the session goes on:
                              most that it can: one has to be dropped first
   refused history full       the exchange has answered 65536 calls of all
                              sessions, the most that its history holds: `plan`
-                             is two calls, `progress` and `bye` none, others one
+                             of a batch that the session has is two; `progress`,
+                             `bye`, `refused line` and a faulty batch are none
   refused no memory          there was no memory for it
 A session that doesn't end with its script or by `bye` has one line more:
   ended cut                  the script ends within a line or within a batch
@@ -451,7 +452,7 @@ const HOST: CommandHelp = CommandHelp {
     about: "Serves live clients side by side on one exchange, each through two pipes of its own",
     example: "\
 Example: two clients on one rack. Make the pipes, and start the host:
-  mkfifo amy.in amy.out bob.in bob.out
+  rm -f amy.in amy.out bob.in bob.out; mkfifo amy.in amy.out bob.in bob.out
   ./exchange host 2x1x2 amy bob
 In a second shell be amy:
   exec 3> amy.in 4< amy.out
@@ -545,9 +546,9 @@ with N up to 65536, and then N entries. An entry is
   REPLY    the line that it was answered by
 But `plan ID` is two calls: `fetch ID`, which is answered by `fetched`, and
 `settle ID`, which is answered as `plan ID` is. `progress` and `bye` are none,
-nor is a line or a batch that was refused for its form. A batch with a module or
-a block that the rack doesn't have is one: its `run ID` is answered by `refused
-shape`.
+nor is a line that was refused for its form, or a batch that a session couldn't
+hand in. A record may have a batch that names more than the rack has: its
+`run ID` is answered by `refused shape`.
 
 The calls are made again, one after the other, on a rack whose words are at
 first 0, or those of the image where there is one. Each reply is compared with
@@ -591,8 +592,8 @@ which file and line it is about, what stands there, and what is wanted. Each
 command takes --quiet, which leaves the second line out.
 
 Status: 0 the answer is there, 1 a refusal, whose one line says what is wrong,
-or a session that ended badly, 2 the words fit no command, 3 the answer couldn't
-be written.",
+or a session that ended badly, 2 the words fit no command, 3 the answer, a
+record or an image couldn't be written.",
 };
 
 /// What help says of an argument.
