@@ -106,10 +106,9 @@ def try_install(room):
     expect("it is named, and nothing is put", f"{mine}/bin/exchange is there" in told and tree(mine) == before, told)
     os.remove(f"{mine}/bin/exchange")
     before = tree(mine)
-    os.chmod(room, 0o755)
     os.chmod(mine, 0o555)
-    nobody = [] if os.geteuid() else ["setpriv", "--reuid=65534", "--regid=65534", "--clear-groups"]
-    told = install("a folder that can't be written to", 1, mine, before=nobody)
+    bound_by_modes = [] if os.geteuid() else ["setpriv", "--bounding-set=-dac_override"]
+    told = install("a folder that can't be written to", 1, mine, before=bound_by_modes)
     expect("that is told", "is no folder that can be written to" in told and tree(mine) == before, told)
     os.chmod(mine, 0o755)
     install("install beside other files", 0, mine)
