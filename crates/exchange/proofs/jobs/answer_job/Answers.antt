@@ -1,4 +1,4 @@
-use Rattle.std.proofs.Common.{List, [], ℕ, Option, rules, ◌≡◌, ◌∙◌, None, refl}
+use Rattle.std.proofs.Common.{List, [], ℕ, Option, rules, ◌≡◌, None, OnErr, refl}
 use Rattle.std.specs.Prelude.{⊤}
 use Rattle.std.proofs.KnownBytes.{Appends-nil}
 use Rattle.std.proofs.lemmas.Result.{on_err_weaker}
@@ -14,7 +14,7 @@ use Rattle.exchange.proofs.jobs.answer_job.Goals as goal
 
 pub returns-in-Drive-clause-response : goal.returns-in-Drive-clause-response
 returns-in-Drive-clause-response g c =
-    rw c.in-Drive.is (served_none c.drive.result _ _ _ _ _ (none_served _ c.requires.unserved) (rw (c.as_str.ensures, c.text_in.ensures) at c.drive.ensures.answer))
+    rw c.in-Drive.is (served_none c.drive.result _ _ _ _ _ _ (none_served _ c.requires.unserved) (rw (c.as_str.ensures, c.text_in.ensures) at c.drive.ensures.answer))
 
 pub returns-in-Drive-clause-rest : goal.returns-in-Drive-clause-rest
 returns-in-Drive-clause-rest g c = rw c.in-Drive.is (none_served _ c.requires.unserved)
@@ -48,7 +48,7 @@ returns-in-Host-clause-response g c =
     let clients = clients_by (g.S.ClientFiles.had c.args.system.now) c.in-Host.clients in
     let ends = ends_of c.host.new.endings.items in
     let is = nothing_before c.host.result _ (λ found. IsHostAnswer c.in-Host.rack.shape files.image clients ends found.answer found.book) (rw c.as_slice-clients.ensures at c.host.ensures.answer) in
-    let none = on_err_weaker c.host.result (λ same. none_served _ (same ∙ c.requires.unserved)) c.host.ensures.none in
+    let none : OnErr c.host.result (ends ≡ []) = on_err_weaker c.host.result (λ same. rw same (none_served _ c.requires.unserved)) c.host.ensures.none in
     rw c.in-Host.is (unasked c.host.result _ _ _ IsNothing _ ends none is)
 
 pub returns-in-Talk-clause-response : goal.returns-in-Talk-clause-response
