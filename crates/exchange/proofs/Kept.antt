@@ -59,14 +59,14 @@ kept contents received begins job (Some account) old new receipts opened named w
     (gone contents received begins (record_of job) _ old.recorded new.recorded receipts.recorded opened.0 named.0 written.0 closed.0, gone contents received begins (output_of job) _ old.image new.image receipts.image opened.1 named.1 written.1 closed.1)
 
 -- the same of what was answered
-pub kept_where_done : {F C : Type 0} (contents : F → Option (List ℕ)) (received : C → Option (List ℕ)) (begins : List ℕ → List ℕ) (job : Job) (r : Result Answered NoAnswer) (first : Result Unit NoAnswer) (before after : Option (List ℕ)) (is : List ℕ → Answered → Option Account → Type 0) (unanswered : List ℕ → Type 0) (old new : Outputs F) (receipts : Receipts C)
+pub kept_where_done : {F C : Type 0} (contents : F → Option (List ℕ)) (received : C → Option (List ℕ)) (begins : List ℕ → List ℕ) (job : Job) (r : Result Answered NoAnswer) (first : Result Unit NoAnswer) (before after : Option (List ℕ)) (is : List ℕ → Answered → Option Account → Type 0) (unanswered cut : List ℕ → Type 0) (old new : Outputs F) (receipts : Receipts C)
     → OnOk r (IsOk first) → OnOk first (AreNamed (record_of job) (output_of job) old) → AreOpened contents begins (record_of job) (output_of job) old → AreClosed contents received new receipts
-    → HasTold before after (λ told done. (left : Option Account) × is told done left × AreOutputsWritten contents left old new done.lost) unanswered r
-    → HasTold before after (λ told done. (left : Option Account) × is told done left × (done.lost ≡ lost_none → AreKept begins received job left receipts)) unanswered r
-kept_where_done contents received begins job (Ok done) (Ok u) before after is unanswered old new receipts ok named opened closed t =
+    → HasTold before after (λ told done. (left : Option Account) × is told done left × AreOutputsWritten contents left old new done.lost) unanswered cut r
+    → HasTold before after (λ told done. (left : Option Account) × is told done left × (done.lost ≡ lost_none → AreKept begins received job left receipts)) unanswered cut r
+kept_where_done contents received begins job (Ok done) (Ok u) before after is unanswered cut old new receipts ok named opened closed t =
     (t.0, t.1, (t.2.0, t.2.1, λ none. kept contents received begins job t.2.0 old new receipts opened named (subst (AreOutputsWritten contents t.2.0 old new) none t.2.2) closed), tt)
-kept_where_done contents received begins job (Ok done) (Err e) before after is unanswered old new receipts ok named opened closed t = absurd (let bad = ok in cc)
-kept_where_done contents received begins job (Err missed) first before after is unanswered old new receipts ok named opened closed t = (t.0, t.1, tt, t.3)
+kept_where_done contents received begins job (Ok done) (Err e) before after is unanswered cut old new receipts ok named opened closed t = absurd (let bad = ok in cc)
+kept_where_done contents received begins job (Err missed) first before after is unanswered cut old new receipts ok named opened closed t = (t.0, t.1, tt, t.3)
 
 pub unkept_where_missed : {F C : Type 0} (contents : F → Option (List ℕ)) (received : C → Option (List ℕ)) (begins : List ℕ → List ℕ) (job : Job) (r : Result Answered NoAnswer) (old new : Outputs F) (receipts : Receipts C)
     → AreOpened contents begins (record_of job) (output_of job) old → OnErr r (new ≡ old) → AreClosed contents received new receipts → OnErr r (AreKept begins received job None receipts)

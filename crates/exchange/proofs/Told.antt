@@ -1,5 +1,5 @@
 -- What is printed behind what a session was told, and what is told beside it.
-use Rattle.std.proofs.Common.{ℕ, Bool, ◌++◌, List, Option, Some, None, Result, Ok, Err, IfOk, OnOk, OnErr, append-nil, IfSome, ◌⊎◌, inl, inr, refl, subst, sym, ◌≡◌, []}
+use Rattle.std.proofs.Common.{ℕ, Bool, ◌++◌, List, Option, Some, None, Result, Ok, Err, IfOk, IfErr, IsErrAnd, OnOk, OnErr, ap, ◌∙◌, append_assoc, append-nil, IfSome, ◌⊎◌, inl, inr, refl, subst, sym, ◌≡◌, []}
 use Rattle.std.specs.Prelude.{String, option_map, string_bytes}
 use Rattle.std.specs.Global.{Global}
 use Rattle.std.specs.Io.KnownBytes.{Appends}
@@ -12,6 +12,8 @@ use Rattle.exchange.specs.declared.notes.NoAnswer.TheVariants as missed
 use Rattle.command_words.specs.declared.jobs.Request.{Request}
 use Rattle.batch_book.specs.History.{Account}
 use Rattle.refusals.specs.declared.refusal.Refusal.TheVariants as refusal
+use Rattle.exchange.specs.declared.unwritten.Unwritten.{Unwritten}
+use Rattle.exchange.specs.declared.unwritten.Unwritten.TheVariants as unwritten
 use Rattle.exchange.specs.declared.unanswered.Unanswered.{Unanswered}
 use Rattle.exchange.specs.declared.unanswered.Unanswered.TheVariants.{File, NoMemory}
 use Rattle.exchange.specs.Outputs.{lost_none}
@@ -24,18 +26,18 @@ use Rattle.session_answers.specs.declared.ended_session.Ending.{Ending}
 use Rattle.exchange.specs.Clients.{ends_of}
 use Rattle.exchange.specs.Responses.{Given, IsAlone, IsJobAnswer, IsToldUnanswered, Named, Response, unanswered}
 use Rattle.exchange.specs.Notes.{IsToldInPart, IsBeside, IsNoteOn, IsNoted, IsToldUnless, IsWholeLine}
-use Rattle.exchange.specs.Outcomes.{HasTold, IsAnswered, IsNothing, IsUnanswered, response_of}
+use Rattle.exchange.specs.Outcomes.{HasTold, IsAnswered, IsMissed, IsNothing, IsRefused, IsUnanswered, response_of}
 use Rattle.exchange.specs.declared.found.Found.{Found}
 use Rattle.command_words.specs.declared.jobs.ArgumentsFault.TheVariants as arguments_fault
 use Rattle.command_words.specs.Jobs.{AskFor, file_uses}
 use Rattle.exchange.specs.declared.limits.TheConstants.{UNWRITTEN}
-use Rattle.exchange.specs.Ends.{Streams, IsDone, IsEndForArguments, IsFaultEnd, IsPrinted, streams_of}
+use Rattle.exchange.specs.Ends.{Streams, IsDone, IsEndForArguments, IsCutFor, IsFaultEnd, IsPrinted, IsUnwrittenOf, streams_of}
 
 -- nothing was told before what is answered, or refused
-pub told_nothing : {X : Type 0} (r : Result X NoAnswer) (before : Option (List ℕ)) (is : List ℕ → X → Type 0) (behind : List ℕ → Type 0) → behind [] → IfOk r (is []) → HasTold before before is behind r
-told_nothing (Ok x) before is behind none so = ([], Appends-nil before, so, tt)
-told_nothing (Err (missed.Refused why line)) before is behind none so = ([], Appends-nil before, tt, none)
-told_nothing (Err (missed.Unwritten what)) before is behind none so = ([], Appends-nil before, tt, tt)
+pub told_nothing : {X : Type 0} (r : Result X NoAnswer) (before : Option (List ℕ)) (is : List ℕ → X → Type 0) (behind cut : List ℕ → Type 0) → behind [] → IfErr r IsRefused → IfOk r (is []) → HasTold before before is behind cut r
+told_nothing (Ok x) before is behind cut none refused so = ([], Appends-nil before, so, tt)
+told_nothing (Err (missed.Refused why line)) before is behind cut none refused so = ([], Appends-nil before, tt, none)
+told_nothing (Err (missed.Unwritten what)) before is behind cut none refused so = absurd refused
 
 -- no job has anything to be told before a refusal
 none_told : (job : Job) → IsToldUnanswered job []
@@ -50,22 +52,31 @@ pub none_served : (endings : List (Ending (List ℕ))) → endings ≡ [] → en
 none_served endings none = rw none refl
 
 -- the same, where that is said of the answer
-pub nothing_before : {X : Type 0} (r : Result X NoAnswer) (before : Option (List ℕ)) (P : X → Type 0) → IfOk r P → HasTold before before (λ told x. (told ≡ []) × P x) IsNothing r
-nothing_before (Ok x) before P so = ([], Appends-nil before, (refl, so), tt)
-nothing_before (Err (missed.Refused why line)) before P so = ([], Appends-nil before, tt, refl)
-nothing_before (Err (missed.Unwritten what)) before P so = ([], Appends-nil before, tt, tt)
+pub nothing_before : {X : Type 0} (r : Result X NoAnswer) (before : Option (List ℕ)) (P : X → Type 0) (cut : List ℕ → Type 0) → IfErr r IsRefused → IfOk r P → HasTold before before (λ told x. (told ≡ []) × P x) IsNothing cut r
+nothing_before (Ok x) before P cut refused so = ([], Appends-nil before, (refl, so), tt)
+nothing_before (Err (missed.Refused why line)) before P cut refused so = ([], Appends-nil before, tt, refl)
+nothing_before (Err (missed.Unwritten what)) before P cut refused so = absurd refused
 
 -- no port was asked for
-pub unasked : {X : Type 0} (r : Result X NoAnswer) (before after : Option (List ℕ)) (is : List ℕ → X → Type 0) (behind : List ℕ → Type 0) (ports : Ways) (ends : List SessionEnd) → OnErr r (ends ≡ []) → HasTold before after is behind r → HasTold before after is (λ told. behind told × (ports ≡ ports) × (ends ≡ [])) r
-unasked (Ok x) before after is behind ports ends none t = (t.0, t.1, t.2, tt)
-unasked (Err (missed.Refused why line)) before after is behind ports ends none t = (t.0, t.1, tt, (t.3, refl, none))
-unasked (Err (missed.Unwritten what)) before after is behind ports ends none t = (t.0, t.1, tt, tt)
+pub unasked : {X : Type 0} (r : Result X NoAnswer) (before after : Option (List ℕ)) (is : List ℕ → X → Type 0) (behind cut : List ℕ → Type 0) (ports : Ways) (ends : List SessionEnd) → OnErr r (ends ≡ []) → HasTold before after is behind cut r → HasTold before after is (λ told. behind told × (ports ≡ ports) × (ends ≡ [])) cut r
+unasked (Ok x) before after is behind cut ports ends none t = (t.0, t.1, t.2, tt)
+unasked (Err (missed.Refused why line)) before after is behind cut ports ends none t = (t.0, t.1, tt, (t.3, refl, none))
+unasked (Err (missed.Unwritten what)) before after is behind cut ports ends none t = (t.0, t.1, tt, t.3)
 
 -- nor was a client served
-pub served_none : {X : Type 0} (r : Result X NoAnswer) (before after : Option (List ℕ)) (is : List ℕ → X → Type 0) (was opens : Ways) (ends : List SessionEnd) → ends ≡ [] → HasTold before after is (λ told. (told ≡ []) × (opens ≡ was)) r → HasTold before after is (λ told. (told ≡ []) × (opens ≡ was) × (ends ≡ [])) r
-served_none (Ok x) before after is was opens ends none t = (t.0, t.1, t.2, tt)
-served_none (Err (missed.Refused why line)) before after is was opens ends none t = (t.0, t.1, tt, (t.3.0, t.3.1, none))
-served_none (Err (missed.Unwritten what)) before after is was opens ends none t = (t.0, t.1, tt, tt)
+pub served_none : {X : Type 0} (r : Result X NoAnswer) (before after : Option (List ℕ)) (is : List ℕ → X → Type 0) (cut : List ℕ → Type 0) (was opens : Ways) (ends : List SessionEnd) → ends ≡ [] → HasTold before after is (λ told. (told ≡ []) × (opens ≡ was)) cut r → HasTold before after is (λ told. (told ≡ []) × (opens ≡ was) × (ends ≡ [])) cut r
+served_none (Ok x) before after is cut was opens ends none t = (t.0, t.1, t.2, tt)
+served_none (Err (missed.Refused why line)) before after is cut was opens ends none t = (t.0, t.1, tt, (t.3.0, t.3.1, none))
+served_none (Err (missed.Unwritten what)) before after is cut was opens ends none t = (t.0, t.1, tt, t.3)
+
+-- what was cut of a job whose files were read
+cut_of : (missed : NoAnswer) (behind cut more : List ℕ → Type 0) (told : List ℕ) → (cut told → more told) → IsMissed behind cut told missed → IsMissed behind more told missed
+cut_of (missed.Refused why line) behind cut more told f is = is
+cut_of (missed.Unwritten what) behind cut more told f is = f is
+
+pub missed_of : {X : Type 0} (r : Result X NoAnswer) (what : NoAnswer) (before after : Option (List ℕ)) (is : List ℕ → X → Type 0) (behind cut more : List ℕ → Type 0) (told : List ℕ) → IsErrAnd r (λ e. e ≡ what) → Appends before after told → (cut told → more told) → IsMissed behind cut told what → HasTold before after is behind more r
+missed_of (Ok x) what before after is behind cut more told same first f so = absurd same
+missed_of (Err e) what before after is behind cut more told same first f so = (told, first, tt, cut_of e behind cut more told f (subst (IsMissed behind cut told) (sym same) so))
 
 -- so it is of whatever comes of it
 pub if_not : {X E : Type 0} (r : Result X E) (P : Type 0) → P → OnErr r P
@@ -123,10 +134,46 @@ not_answered (Ok status) named keeps given request told why line out_before out_
 not_answered (Err e) named keeps given request told why line out_before out_after has eb em ea first none kept note beside then said = tt
 
 -- what the program ends with, where what is printed has this as its status, or can't be written
-pub ended : {E : Type 0} (r : Result ℕ E) (exit : ℕ) (P : Option (List ℕ) → ℕ → Type 0) (before after : Option (List ℕ))
-    → IfOk r (P before) → IfOk r (λ status. (exit ≡ status) × (after ≡ before)) → OnErr r (exit ≡ UNWRITTEN) → (exit ≡ UNWRITTEN) ⊎ P after exit
-ended (Ok status) exit P before after is done unwritten = inr (subst (λ (e : Option (List ℕ)). P e exit) (sym done.1) (subst (P before) (sym done.0) is))
-ended (Err e) exit P before after is done unwritten = inl unwritten
+pub ended : {E : Type 0} (r : Result ℕ E) (exit : ℕ) (P : Option (List ℕ) → ℕ → Type 0) (cut : Type 0) (before after : Option (List ℕ))
+    → IfOk r (P before) → OnErr r cut → IfOk r (λ status. (exit ≡ status) × (after ≡ before)) → OnErr r (exit ≡ UNWRITTEN) → ((exit ≡ UNWRITTEN) × cut) ⊎ P after exit
+ended (Ok status) exit P cut before after is missed done unwritten = inr (subst (λ (e : Option (List ℕ)). P e exit) (sym done.1) (subst (P before) (sym done.0) is))
+ended (Err e) exit P cut before after is missed done unwritten = inl (unwritten, missed)
+
+-- the status is that which was given
+pub ended_status : {E : Type 0} (r : Result ℕ E) (exit : ℕ) (P : Type 0) → IfOk r (λ status. (exit ≡ status) × P) → IfOk r (λ status. exit ≡ status)
+ended_status (Ok status) exit P is = is.0
+ended_status (Err e) exit P is = tt
+
+-- the same of what is said of the status alone
+pub ended_so : {E : Type 0} (r : Result ℕ E) (exit : ℕ) (P : ℕ → Type 0) → IfOk r P → IfOk r (λ status. exit ≡ status) → OnErr r (exit ≡ UNWRITTEN) → (exit ≡ UNWRITTEN) ⊎ P exit
+ended_so (Ok status) exit P is done unwritten = inr (subst P (sym done) is)
+ended_so (Err e) exit P is done unwritten = inl unwritten
+
+-- a front of it was printed behind what was told
+printed_in_part : (before mid after : Option (List ℕ)) (told text : List ℕ) → Appends before mid told → IsToldInPart mid after text → IsToldInPart before after (told ++ text)
+printed_in_part before mid after told text first t = (told ++ t.0, t.1, ap (λ (x : List ℕ). told ++ x) t.2 ∙ sym (append_assoc told t.0 t.1), Appends-trans before mid after told t.0 first t.3)
+
+-- what couldn't be written of an answer
+of_answer : (done : Answered) (what : Unwritten) (before after : Option (List ℕ)) → IsUnwrittenOf done before after what → IsToldInPart before after done.answer.text
+of_answer done (unwritten.Answer error lost) before after is = is.1
+of_answer done unwritten.Setting before after is = absurd is
+of_answer done (unwritten.Kept lost) before after is = (done.answer.text, [], sym (append-nil done.answer.text), is.0)
+
+pub answered_in_part : (r : Result ℕ Unwritten) (named : Named) (ports : Ways) (ends : List SessionEnd) (arguments : List (List ℕ)) (given : Given) (request : Request) (told : List ℕ) (left : Option Account) (done : Answered) (before mid after : Option (List ℕ))
+    → AskFor arguments request → Appends before mid told → AreSeenApart named.leads (file_uses request.job) → IsJobAnswer named.holds given request.job (record { told = told; end = done.answer; left = left; ports = ports; ends = ends })
+    → IfErr r (IsUnwrittenOf done mid after) → OnErr r (IsCutFor named ports ends arguments given before after)
+answered_in_part (Ok status) named ports ends arguments given request told left done before mid after ask first apart is cut = tt
+answered_in_part (Err what) named ports ends arguments given request told left done before mid after ask first apart is cut =
+    let response : Response = record { told = told; end = done.answer; left = left; ports = ports; ends = ends } in
+    (Ok request, ask, tt, inl (response, inl (apart, is), (refl, refl), printed_in_part before mid after told done.answer.text first (of_answer done what mid after cut)))
+
+pub refused_in_part : {E : Type 0} (r : Result ℕ E) (named : Named) (ports : Ways) (ends : List SessionEnd) (arguments : List (List ℕ)) (given : Given) (request : Request) (told : List ℕ) (why : Unanswered) (before mid after : Option (List ℕ))
+    → AskFor arguments request → Appends before mid told → IsUnanswered request.job given.ports ports ends told
+    → OnErr r (IsToldInPart mid after (unanswered why).text) → OnErr r (IsCutFor named ports ends arguments given before after)
+refused_in_part (Ok status) named ports ends arguments given request told why before mid after ask first none cut = tt
+refused_in_part (Err e) named ports ends arguments given request told why before mid after ask first none cut =
+    let response : Response = record { told = told; end = unanswered why; left = None; ports = given.ports; ends = [] } in
+    (Ok request, ask, tt, inl (response, inr (none.0, refl, refl, (why, refl)), (sym none.1, sym none.2), printed_in_part before mid after told (unanswered why).text first cut))
 
 -- the end for a request
 pub asked : {E : Type 0} (r : Result ℕ E) (named : Named) (keeps : Job → Response → Type 0) (none : Type 0) (arguments : List (List ℕ)) (given : Given) (request : Request) (streams : Streams) → AskFor arguments request → IfOk r (IsDone named keeps given request streams) → IfOk r (IsEndForArguments named keeps none arguments given streams)

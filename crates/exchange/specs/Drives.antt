@@ -3,7 +3,8 @@ use Rattle.std.specs.Prelude.{ℕ, Bool, not, List, [], Option}
 use Rattle.plan_answers.specs.Refusals.{Printed}
 use Rattle.plan_answers.specs.declared.source.Source.{Source}
 use Rattle.switch_driver.specs.Lines.{TellsLine}
-use Rattle.drive_answers.specs.Answers.{IsDriveAnswer}
+use Rattle.drive_answers.specs.Answers.{HasFailed, IsDriveAnswer}
+use Rattle.drive_answers.specs.declared.fault.DriveFault.TheVariants.{Untold}
 use Rattle.drive_answers.specs.Ways.{Names, Ways}
 
 -- the ports of these names
@@ -18,3 +19,12 @@ IsDriveBy source batch wiring goes_on names input was opens told end =
     (left : Option (List ℕ))
     × IsDriveAnswer (TellsLine (not goes_on)) source batch wiring names was opens
     (record { told = []; left = input }) (record { told = told; left = left }) end
+
+-- Settings stood and were told over the ports of these names, but that the line of the last one could
+-- be told in part alone.
+abbrev pub IsDriveCut : Source (List ℕ) → List ℕ → Option (List ℕ) → Bool → Names
+    → Option (List ℕ) → Ways → Ways → List ℕ → Type 0
+IsDriveCut source batch wiring goes_on names input was opens told =
+    (left : Option (List ℕ))
+    × HasFailed (TellsLine (not goes_on)) source batch wiring names was opens
+    (record { told = []; left = input }) (record { told = told; left = left }) Untold

@@ -12,7 +12,7 @@ use Rattle.command_words.specs.Jobs.{AskFor, AsksForHelp, IsFaultIn}
 use Rattle.exchange.specs.declared.limits.TheConstants.{MISUSED}
 use Rattle.exchange.specs.declared.unanswered.Unanswered.TheVariants.{NoMemory}
 use Rattle.session_answers.specs.HostAnswers.{SessionEnd}
-use Rattle.exchange.specs.Responses.{Given, IsResponseTo, Named, Response, unanswered}
+use Rattle.exchange.specs.Responses.{Given, IsJobCut, IsResponseTo, Named, Response, unanswered}
 use Rattle.exchange.specs.Notes.{IsNoted, IsToldInPart}
 use Rattle.exchange.specs.Outputs.{AreKept, Beginning, IsLostTold, lost_none, none_opened}
 use Rattle.exchange.specs.declared.outputs.Receipts.{Receipts}
@@ -40,10 +40,12 @@ pub record IsPrinted (before after : Option (List ℕ)) (printed : Printed) (cod
   pub text : Appends before after printed.text
   pub status : code ≡ printed.status
 
--- What couldn't be written where there is an answer: that itself, and what is lost of what its
--- sessions leave; or something that they leave, and then the answer was printed whole.
+-- What couldn't be written where there is an answer: that itself, of which a front was printed, and
+-- what is lost of what its sessions leave; or something that they leave, and then the answer was
+-- printed whole.
 abbrev pub IsUnwrittenOf : Answered → Option (List ℕ) → Option (List ℕ) → Unwritten → Type 0
-IsUnwrittenOf done before after (Answer error lost) = lost ≡ done.lost
+IsUnwrittenOf done before after (Answer error lost) =
+    (lost ≡ done.lost) × IsToldInPart before after done.answer.text
 IsUnwrittenOf done before after Setting = ⊥
 IsUnwrittenOf done before after (Kept lost) =
     Appends before after done.answer.text × (lost ≡ done.lost) × (lost ≢ lost_none)
@@ -112,6 +114,39 @@ abbrev pub IsEndForArguments : Named → Keeping → Type 0 → List (List ℕ) 
 IsEndForArguments named keeps none arguments given streams code =
     (request : Result Request ArgumentsFault) × IfOk request (AskFor arguments)
     × IfErr request (IsFaultIn arguments) × IsEndFor named keeps none given request streams code
+
+-- ports and clients are left so
+abbrev pub IsLeftAs : Ways → List SessionEnd → Response → Type 0
+IsLeftAs ports ends response = (response.ports ≡ ports) × (response.ends ≡ ends)
+
+-- A front of the response to what is asked for was printed; or of what is told before it, where not
+-- all of that could be.
+abbrev pub IsDoneInPart : Named → Ways → List SessionEnd → Given → Request
+    → (before after : Option (List ℕ)) → Type 0
+IsDoneInPart named ports ends given request before after =
+    ((response : Response) × IsResponseTo named given request.job response
+    × IsLeftAs ports ends response × IsToldInPart before after (printed_of response).text)
+    ⊎ ((told : List ℕ) × IsJobCut named.holds given request.job ports told
+    × Appends before after told)
+
+-- the same of arguments that are at fault; of clap's texts it may be anything
+abbrev pub IsFaultCut : ArgumentsFault → (before after : Option (List ℕ)) → Type 0
+IsFaultCut arguments_fault.NoMemory before after =
+    IsToldInPart before after (unanswered NoMemory).text
+IsFaultCut (arguments_fault.Clap error) before after = ⊤
+
+abbrev pub IsCut : Named → Ways → List SessionEnd → Given → Result Request ArgumentsFault
+    → (before after : Option (List ℕ)) → Type 0
+IsCut named ports ends given (Ok request) before after =
+    IsDoneInPart named ports ends given request before after
+IsCut named ports ends given (Err fault) before after = IsFaultCut fault before after
+
+-- what was printed for these arguments where not all could be written
+abbrev pub IsCutFor : Named → Ways → List SessionEnd → List (List ℕ) → Given
+    → (before after : Option (List ℕ)) → Type 0
+IsCutFor named ports ends arguments given before after =
+    (request : Result Request ArgumentsFault) × IfOk request (AskFor arguments)
+    × IfErr request (IsFaultIn arguments) × IsCut named ports ends given request before after
 
 -- how it ends where the arguments can't be had as texts
 abbrev pub IsEndWithoutArguments : Option (List ℕ) → Option (List ℕ) → ℕ → Type 0

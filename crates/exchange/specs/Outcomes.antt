@@ -24,27 +24,42 @@ IsNoAnswer (Refused why note) =
     IsNoteOn (unanswered why) (option_map (λ line. string_bytes line) note)
 IsNoAnswer (Unwritten what) = ⊤
 
--- what is so where there is no answer for this reason, unless something couldn't be written, which
--- may stand behind anything
-abbrev pub IfRefused : NoAnswer → Type 0 → Type 0
-IfRefused (Refused why line) so = so
-IfRefused (Unwritten what) so = ⊤
+-- it is refused, with what is told of that
+abbrev pub IsRefused : NoAnswer → Type 0
+IsRefused (Refused why note) =
+    IsNoteOn (unanswered why) (option_map (λ line. string_bytes line) note)
+IsRefused (Unwritten what) = ⊥
 
--- Something was told behind what stood there. What is answered is so behind it; or this is so of
--- it, and it is refused.
+-- what is so of what was told where there is no answer: this, where that is refused; and that, where
+-- something couldn't be written
+abbrev pub IsMissed : (behind cut : List ℕ → Type 0) → List ℕ → NoAnswer → Type 0
+IsMissed behind cut told (Refused why line) = behind told
+IsMissed behind cut told (Unwritten what) = cut told
+
+-- Something was told behind what stood there. What is answered is so behind it; or there is no
+-- answer.
 abbrev pub HasTold : {X : Type 0} → Option (List ℕ) → Option (List ℕ) → (List ℕ → X → Type 0)
-    → (List ℕ → Type 0) → Result X NoAnswer → Type 0
-HasTold before after is behind result =
+    → (behind cut : List ℕ → Type 0) → Result X NoAnswer → Type 0
+HasTold before after is behind cut result =
     (told : List ℕ) × Appends before after told × IfOk result (is told)
-    × IfErr result (λ missed. IfRefused missed (behind told))
+    × IfErr result (IsMissed behind cut told)
+
+-- it doesn't come to that
+abbrev pub IsNever : List ℕ → Type 0
+IsNever told = ⊥
 
 -- nothing was told
 abbrev pub IsNothing : List ℕ → Type 0
 IsNothing told = told ≡ []
 
+-- something couldn't be written
+abbrev pub IsUnwritten : NoAnswer → Type 0
+IsUnwritten (Refused why line) = ⊥
+IsUnwritten (Unwritten what) = ⊤
+
 -- why there is nothing to print behind settings: only want of memory is refused
 abbrev pub IsMissedFor : DriveFault → NoAnswer → Type 0
-IsMissedFor Untold missed = IfRefused missed ⊥
+IsMissedFor Untold missed = IsUnwritten missed
 IsMissedFor NoMemory missed = missed ≡ Refused Memory None
 
 -- what comes of a job that was told this before, and left ports and clients so

@@ -1,5 +1,5 @@
 -- What the program prints for a job.
-use Rattle.std.specs.Prelude.{◌≡◌, ◌⊎◌, ℕ, List, [], Option, None, ⊤, unwrap_or}
+use Rattle.std.specs.Prelude.{◌≡◌, ◌⊎◌, ◌++◌, ℕ, List, [], Option, None, ⊤, unwrap_or}
 use Rattle.std.specs.Io.KnownBytes.{Consumes, IsAtEnd}
 use Rattle.batch.specs.Extent.{widest}
 use Rattle.plan_answers.specs.Answers.{IsPlanned, IsChecked}
@@ -28,7 +28,7 @@ use Rattle.refusals.specs.Refusals.{refusal_line}
 use Rattle.exchange.specs.Apart.{AreSeenApart, Leading}
 use Rattle.exchange.specs.Contents.{AreContents, Holding}
 use Rattle.drive_answers.specs.Ways.{Ways}
-use Rattle.exchange.specs.Drives.{IsDriveBy, names_in}
+use Rattle.exchange.specs.Drives.{IsDriveBy, IsDriveCut, names_in}
 use Rattle.exchange.specs.declared.unanswered.Unanswered.{Unanswered}
 use Rattle.exchange.specs.declared.unanswered.Unanswered.TheVariants.{File, NoMemory}
 
@@ -72,6 +72,10 @@ IsC004By input replies end =
     × HasRun (record { switch = idle; begun = [] }) came replies told switch × (end.text ≡ [])
     × ((IsAtEnd after × (end.status ≡ DONE)) ⊎ (end.status ≡ REFUSED))
 
+-- the same, up to a reply that couldn't be written whole
+abbrev pub IsC004Cut : Option (List ℕ) → List ℕ → Type 0
+IsC004Cut input told = (rest : List ℕ) × (end : Printed) × IsC004By input (told ++ rest) end
+
 -- the answer to a job whose files contain this
 abbrev pub IsAnswerTo : Job → Files (List ℕ) → Given → Response → Type 0
 IsAnswerTo (Plan file planning workers) files given response =
@@ -114,6 +118,14 @@ IsAnswerTo (Talk rack) files given response =
 IsAnswerTo (Replay shape recorded image) files given response =
     IsAlone response × IsReplayPrinted shape (text_in files.list) files.image response.end
 
+-- what was told before an answer where not all of it could be written
+abbrev pub IsToldCut : Job → Files (List ℕ) → Given → Ways → List ℕ → Type 0
+IsToldCut (Drive batch port port_b source wiring goes_on workers) files given ports told =
+    IsDriveCut (source_in source (text_in files.other)) (text_in files.list) files.wiring goes_on
+    (names_in port port_b) given.input given.ports ports told
+IsToldCut C004 files given ports told = IsC004Cut given.input told
+IsToldCut job files given ports told = ⊥
+
 -- only `drive` asks for ports, and only `host` has live clients
 abbrev pub LeavesRest : Job → Ways → Ways → List SessionEnd → Type 0
 LeavesRest (Drive batch port port_b source wiring goes_on workers) was opens ends = ends ≡ []
@@ -136,6 +148,13 @@ IsJobAnswer holds given job response =
     × AreContents holds given.input (files_of job) files rest
     × IsAnswerTo job files (given_by rest given.ports given.clients) response
     × LeavesRest job given.ports response.ports response.ends
+
+-- the same of what was told where not all of it could be written
+abbrev pub IsJobCut : Holding → Given → Job → Ways → List ℕ → Type 0
+IsJobCut holds given job ports told =
+    (files : Files (List ℕ)) × (rest : Option (List ℕ))
+    × AreContents holds given.input (files_of job) files rest
+    × IsToldCut job files (given_by rest given.ports given.clients) ports told
 
 -- the job is `talk`
 abbrev pub IsTalk : Job → Type 0

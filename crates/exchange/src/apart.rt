@@ -6,7 +6,7 @@ ghost use Rattle.command_words.specs.declared.uses.Access.TheVariants.{Port};
 ghost use Rattle.exchange.specs.declared.apart.Place.{Place};
 ghost use Rattle.exchange.specs.Apart.{AreOneFile, AreSeenApart, Clash, IsClashSeen, IsSeen};
 ghost use Rattle.exchange.specs.Notes.{IsWholeLine};
-ghost use Rattle.exchange.specs.Outcomes.{IsNoAnswer};
+ghost use Rattle.exchange.specs.Outcomes.{IsRefused};
 
 use crate::notes::NoAnswer;
 use crate::unanswered::Unanswered;
@@ -153,7 +153,7 @@ fn one_file_line(alloc: Global, one: &Text, other: &Text) -> Option<String>
 
 /// Why a job isn't done where two of its files are one, and what is told of them.
 fn refused(alloc: Global, one: &FileUse, other: &FileUse) -> NoAnswer
-    ensures { IsNoAnswer result }
+    ensures { IsRefused result }
 {
     let note = one_file_line(alloc, &one.name, &other.name);
     NoAnswer::Refused {
@@ -171,7 +171,7 @@ fn look_at<S: Places>(
 ) -> Result<(), NoAnswer>
     ensures apart { OnOk result
         (All (λ other. IsSeen (S.leads system.now) other file.now false) others.now) }
-    ensures note { IfErr result (λ missed. IsNoAnswer missed) }
+    ensures note { IfErr result (λ missed. IsRefused missed) }
 {
     for other in others {
         if clash(system, other, file)? {
@@ -184,7 +184,7 @@ fn look_at<S: Places>(
 /// Looks whether each two of these files are two, where they have to be.
 fn look_through<S: Places>(system: &S, alloc: Global, files: &[FileUse]) -> Result<(), NoAnswer>
     ensures apart { OnOk result (AreSeenApart (S.leads system.now) files.now) }
-    ensures note { IfErr result (λ missed. IsNoAnswer missed) }
+    ensures note { IfErr result (λ missed. IsRefused missed) }
 {
     for i in 0..files.len() {
         look_at(system, alloc, &files[i], &files[..i])?;
@@ -196,7 +196,7 @@ fn look_through<S: Places>(system: &S, alloc: Global, files: &[FileUse]) -> Resu
 /// other, as far as the system tells where their names lead. Nothing is opened.
 pub(crate) fn look_apart<S: Places>(system: &S, alloc: Global, job: &Job) -> Result<(), NoAnswer>
     ensures apart { OnOk result (AreSeenApart (S.leads system.now) (the_uses job.now)) }
-    ensures note { IfErr result (λ missed. IsNoAnswer missed) }
+    ensures note { IfErr result (λ missed. IsRefused missed) }
 {
     let files = file_uses(alloc, job)?;
     look_through(system, alloc, files.as_slice())

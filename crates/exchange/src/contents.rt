@@ -5,7 +5,7 @@ ghost use Rattle.plan_answers.specs.Lent.{bytes_of};
 ghost use Rattle.plan_answers.specs.Schedules.{said_by, source_map};
 ghost use Rattle.command_words.specs.Files.{file_names};
 ghost use Rattle.exchange.specs.Contents.{AreContents, AreRead, IsFileRead, contents_in};
-ghost use Rattle.exchange.specs.Outcomes.{IsNoAnswer};
+ghost use Rattle.exchange.specs.Outcomes.{IsRefused};
 
 use crate::notes::{NoAnswer, unread};
 use crate::system::System;
@@ -35,7 +35,7 @@ pub(crate) fn read_contents<S: System, I: Read>(
     ensures contents { IfOk result (λ contents. AreContents (S.holds system.now)
         (I.remaining input.old) (file_names files.entry) (contents_in contents)
         (I.remaining input.new)) }
-    ensures note { IfErr result (λ missed. IsNoAnswer missed) }
+    ensures note { IfErr result (λ missed. IsRefused missed) }
 {
     Ok(Contents {
         image: read_option(system, alloc, files.image, input)?,
@@ -56,7 +56,7 @@ fn read_option<S: System, I: Read>(
     ensures content { IfOk result (λ file. AreRead (S.holds system.now) (I.remaining input.old)
         (option_to_list (bytes_of name.entry))
         (option_to_list (option_map (λ file. file.items) file)) (I.remaining input.new)) }
-    ensures note { IfErr result (λ missed. IsNoAnswer missed) }
+    ensures note { IfErr result (λ missed. IsRefused missed) }
 {
     match name {
         Some(name) => Ok(Some(read_file(system, alloc, name, input)?)),
@@ -73,7 +73,7 @@ fn read_files<S: System, I: Read>(
 ) -> Result<Vec<Vec<u8>>, NoAnswer>
     ensures content { IfOk result (λ files. AreRead (S.holds system.now) (I.remaining input.old)
         names.now (map (λ file. file.items) files.items) (I.remaining input.new)) }
-    ensures note { IfErr result (λ missed. IsNoAnswer missed) }
+    ensures note { IfErr result (λ missed. IsRefused missed) }
 {
     let mut files = Vec::new(alloc);
     for name in names {
@@ -92,7 +92,7 @@ fn read_file<S: System, I: Read>(
 ) -> Result<Vec<u8>, NoAnswer>
     ensures content { IfOk result (λ file. IsFileRead (S.holds system.now) (I.remaining input.old)
         name.now file.items (I.remaining input.new)) }
-    ensures note { IfErr result (λ missed. IsNoAnswer missed) }
+    ensures note { IfErr result (λ missed. IsRefused missed) }
 {
     match read_bytes(system, alloc, name, input) {
         Ok(file) => Ok(file),

@@ -3,9 +3,9 @@
 ghost use Rattle.std.specs.Prelude.{◌≡◌, [], List, ℕ, IfOk, IfErr, None};
 ghost use Rattle.std.specs.Io.KnownBytes.{Appends};
 ghost use Rattle.drive_answers.specs.Ways.{names_of};
-ghost use Rattle.drive_answers.specs.declared.fault.DriveFault.TheVariants.{NoMemory};
+ghost use Rattle.drive_answers.specs.declared.fault.DriveFault.TheVariants.{NoMemory, Untold};
 ghost use Rattle.exchange.specs.Contents.{contents_in};
-ghost use Rattle.exchange.specs.Drives.{IsDriveBy};
+ghost use Rattle.exchange.specs.Drives.{IsDriveBy, IsDriveCut};
 ghost use Rattle.exchange.specs.Outcomes.{HasTold, IsNoAnswer};
 ghost use Rattle.exchange.specs.Responses.{source_in, text_in};
 
@@ -38,8 +38,12 @@ fn answer_lines<R: AllocGlobal + Threads + Sync, P: Ports, I: Read, O: Write>(
         IsDriveBy (source_in source.now (text_in files.other)) (text_in files.list) files.wiring
         goes_on (names_of names.entry) (I.remaining input.old) (P.ways ports.old)
         (P.ways ports.new) told)
-        × IfErr result (λ fault. fault ≡ NoMemory
-        → (told ≡ []) × (P.ways ports.new ≡ P.ways ports.old)) }
+        × IfErr result (λ fault. (fault ≡ NoMemory
+        → (told ≡ []) × (P.ways ports.new ≡ P.ways ports.old))
+        × (fault ≡ Untold → let files = contents_in contents.now in
+        IsDriveCut (source_in source.now (text_in files.other)) (text_in files.list) files.wiring
+        goes_on (names_of names.entry) (I.remaining input.old) (P.ways ports.old)
+        (P.ways ports.new) told)) }
 {
     let (list, wiring) = (text_of(&contents.list), slice_of(&contents.wiring));
     let source = source_with(source, text_of(&contents.other));
@@ -71,7 +75,11 @@ pub(crate) fn drive<R: AllocGlobal + Threads + Sync, P: Ports, I: Read, O: Write
         × IsDriveBy (source_in source.now (text_in files.other)) (text_in files.list) files.wiring
         goes_on (names_of names.entry) (I.remaining input.old) (P.ways ports.old)
         (P.ways ports.new) told found.answer)
-        (λ told. (told ≡ []) × (P.ways ports.new ≡ P.ways ports.old)) result }
+        (λ told. (told ≡ []) × (P.ways ports.new ≡ P.ways ports.old))
+        (λ told. let files = contents_in contents.now in
+        IsDriveCut (source_in source.now (text_in files.other)) (text_in files.list) files.wiring
+        goes_on (names_of names.entry) (I.remaining input.old) (P.ways ports.old)
+        (P.ways ports.new) told) result }
     ensures note { IfErr result (λ missed. IsNoAnswer missed) }
 {
     let answer = answer_lines(

@@ -12,10 +12,10 @@ ghost use Rattle.session_answers.specs.Talking.{IsTalkAnswer};
 ghost use Rattle.exchange.specs.Apart.{AreSeenApart};
 ghost use Rattle.exchange.specs.Contents.{contents_in};
 ghost use Rattle.exchange.specs.Clients.{clients_by, ends_of};
-ghost use Rattle.exchange.specs.Responses.{Given, IsJobAnswer, IsAnswerTo, IsC004By, IsOfTexts, LeavesRest, given_by};
+ghost use Rattle.exchange.specs.Responses.{Given, IsJobAnswer, IsAnswerTo, IsC004By, IsC004Cut, IsJobCut, IsOfTexts, IsToldCut, LeavesRest, given_by};
 ghost use Rattle.exchange.specs.Notes.{IsBeside};
 ghost use Rattle.exchange.specs.Outputs.{AreKept, AreOutputsWritten, lost_none};
-ghost use Rattle.exchange.specs.Outcomes.{HasNote, HasTold, IsNoAnswer, IsNothing, IsUnanswered, response_of};
+ghost use Rattle.exchange.specs.Outcomes.{HasNote, HasTold, IsNoAnswer, IsNever, IsNothing, IsRefused, IsUnanswered, response_of};
 
 use crate::beside::Beside;
 use crate::client_streams::{ClientFiles, FileStreams};
@@ -80,7 +80,9 @@ pub(crate) fn answer_to<R: Runtime, S: System, P: Ports, I: Read, O: Write, E: W
         × (done.lost ≡ lost_none → AreKept (S.begins system.now) S.received request.now.job left
         result.receipts))
         (IsUnanswered request.now.job (P.ways peers.old.ports) (P.ways peers.new.ports)
-        (ends_of peers.new.endings.items)) result.end }
+        (ends_of peers.new.endings.items))
+        (IsJobCut (S.holds system.now) (given_by (I.remaining input.old) (P.ways peers.old.ports)
+        (clients_by (S.had system.now))) request.now.job (P.ways peers.new.ports)) result.end }
     ensures note { HasNote result.end }
     ensures beside { IsBeside request.now (E.contents err.old) (E.contents err.new) }
     ensures apart { OnOk result.end
@@ -120,7 +122,7 @@ fn answer_opened<R: Runtime, S: System, P: Ports, I: Read, O: Write, E: Write>(
 ) -> Result<Answered, NoAnswer>
     requires limits { IsWithinLimits request.now.job }
     requires unserved { peers.old.endings.items ≡ [] }
-    requires note { IfErr opened (λ missed. IsNoAnswer missed) }
+    requires note { IfErr opened (λ missed. IsRefused missed) }
     ensures response { HasTold (O.contents out.old) (O.contents out.new)
         (λ told done. (left : Option Account) × IsJobAnswer (S.holds system.now)
         (given_by (I.remaining input.old) (P.ways peers.old.ports)
@@ -134,7 +136,9 @@ fn answer_opened<R: Runtime, S: System, P: Ports, I: Read, O: Write, E: Write>(
         })
         × AreOutputsWritten S.Stream.contents left outputs.old outputs.new done.lost)
         (IsUnanswered request.now.job (P.ways peers.old.ports) (P.ways peers.new.ports)
-        (ends_of peers.new.endings.items)) result }
+        (ends_of peers.new.endings.items))
+        (IsJobCut (S.holds system.now) (given_by (I.remaining input.old) (P.ways peers.old.ports)
+        (clients_by (S.had system.now))) request.now.job (P.ways peers.new.ports)) result }
     ensures note { HasNote result }
     ensures beside { IsBeside request.now (E.contents err.old) (E.contents err.new) }
     ensures unkept { OnErr result (outputs.new ≡ outputs.old) }
@@ -169,7 +173,9 @@ fn answer_job<R: Runtime, S: System, P: Ports, I: Read, O: Write, E: Write>(
         (response_of told found (P.ways peers.new.ports)
         (ends_of peers.new.endings.items)))
         (IsUnanswered request.now.job (P.ways peers.old.ports) (P.ways peers.new.ports)
-        (ends_of peers.new.endings.items)) result }
+        (ends_of peers.new.endings.items))
+        (IsToldCut request.now.job (contents_in contents.now) (given_by (I.remaining input.old)
+        (P.ways peers.old.ports) (clients_by (S.had system.now))) (P.ways peers.new.ports)) result }
     ensures note { IfErr result (λ missed. IsNoAnswer missed) }
     ensures beside { IsBeside request.now (E.contents err.old) (E.contents err.new) }
     ensures rest { LeavesRest request.now.job (P.ways peers.old.ports) (P.ways peers.new.ports)
@@ -325,7 +331,7 @@ fn c004<I: Read, O: Write, E: Write>(
 ) -> Result<Found, NoAnswer>
     ensures answer { HasTold (O.contents out.old) (O.contents out.new)
         (λ told found. (found.book ≡ None) × IsC004By (I.remaining input.old) told found.answer)
-        IsNothing result }
+        IsNothing (IsC004Cut (I.remaining input.old)) result }
     ensures note { IfErr result (λ missed. IsNoAnswer missed) }
     ensures beside { (told : List ℕ) × Appends (E.contents err.old) (E.contents err.new) told }
 {
@@ -350,7 +356,7 @@ fn serve<R: AllocGlobal + Threads + Wait + Sync>(
     requires { CanBeServed (contents_in contents.now).scripts }
     ensures answer { IfOk result (λ found. let files = contents_in contents.now in
         IsServeAnswer rack.now.shape files.image files.scripts found.answer found.book) }
-    ensures note { IfErr result (λ missed. IsNoAnswer missed) }
+    ensures note { IfErr result (λ missed. IsRefused missed) }
 {
     let shape = rack.shape.as_str().as_bytes();
     let image = slice_of(&contents.image);
@@ -376,7 +382,7 @@ fn host<R: AllocGlobal + Threads + Wait + Sync, S: ClientFiles>(
         (clients_by (S.had system.now) clients.now)
         (ends_of endings.new.items) found.answer found.book) }
     ensures none { OnErr result (endings.new ≡ endings.old) }
-    ensures note { IfErr result (λ missed. IsNoAnswer missed) }
+    ensures note { IfErr result (λ missed. IsRefused missed) }
 {
     let shape = rack.shape.as_str().as_bytes();
     let image = slice_of(&contents.image);
@@ -404,8 +410,8 @@ fn talk<R: AllocGlobal + Threads + Wait + Sync, I: Read, O: Write, H: Listener>(
     ensures answer { HasTold (O.contents out.old) (O.contents out.new)
         (λ told found. (after : Option (List ℕ)) × IsTalkAnswer rack.now.shape
         (contents_in contents.now).image (I.remaining input.old) after told found.answer
-        found.book) (λ told. ⊤) result }
-    ensures note { IfErr result (λ missed. IsNoAnswer missed) }
+        found.book) (λ told. ⊤) IsNever result }
+    ensures note { IfErr result (λ missed. IsRefused missed) }
     ensures beside { TellsOfRefusals H.may_tell (H.told listener.old) (H.told listener.new) }
 {
     let shape = rack.shape.as_str().as_bytes();

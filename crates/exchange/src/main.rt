@@ -3,10 +3,11 @@
 //! Each command reads the files that its arguments name, and prints one answer. Only `main` names
 //! the system's own streams and arguments: it hands them to [`respond`].
 //!
-//! Unless it ends with status 3, [`respond`] prints the answer to the job that the words ask for, by
-//! what the files of their names contain and over the ports of their names, or the line that says
-//! why there is none; or it ends as for an error of clap (`IsEndFor` of `specs/Ends.antt`,
-//! `IsAnswerTo` of `specs/Responses.antt`). What sessions leave went then to the files that
+//! [`respond`] prints the answer to the job that the words ask for, by what the files of their names
+//! contain and over the ports of their names, or the line that says why there is none; or it ends
+//! as for an error of clap (`IsEndFor` of `specs/Ends.antt`, `IsAnswerTo` of
+//! `specs/Responses.antt`). Where it ends with status 3, a front of that stands there, or of what is
+//! told before it (`IsCutFor`). Else what sessions leave went to the files that
 //! `--record` and `--image-out` name, and nothing else did (`AreKept` of `specs/Outputs.antt`). What
 //! a live client was told went to the file of its name (`clients_by` of `specs/Clients.antt`). No
 //! port was opened but by `drive`, once, by the names of its words (`Ways` of `drive_answers`).

@@ -3,7 +3,7 @@
 ghost use Rattle.std.specs.Prelude.{◌≡◌, IfSome, option_map, string_bytes};
 ghost use Rattle.exchange.specs.Outputs.{AreOutputsWritten};
 ghost use Rattle.exchange.specs.Notes.{IsToldInPart, IsNoteOn, IsToldUnless, IsWholeLine};
-ghost use Rattle.exchange.specs.Outcomes.{IsNoAnswer};
+ghost use Rattle.exchange.specs.Outcomes.{IsRefused};
 
 use crate::contents::Contents;
 use crate::found::Found;
@@ -117,7 +117,7 @@ fn note_on(
 /// Why there is no answer where a file of this name can't be read, or opened, and what is told of
 /// it.
 pub(crate) fn unread(alloc: Global, name: &Text, error: &io::Error) -> NoAnswer
-    ensures { IsNoAnswer result }
+    ensures { IsRefused result }
 {
     match error.kind() {
         ErrorKind::OutOfMemory => NoAnswer::from(AllocError),

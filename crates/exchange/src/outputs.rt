@@ -8,7 +8,7 @@ ghost use Rattle.book_record.specs.RecordText.{record_text};
 ghost use Rattle.exchange.specs.Apart.{AreSeenApart};
 ghost use Rattle.exchange.specs.Outputs.{AreClosed, AreNamed, AreOpened, AreOutputsWritten, IsFileWritten, IsFresh, name_of, none_open, none_opened, output_of, record_of};
 ghost use Rattle.command_words.specs.Jobs.{file_uses as the_uses};
-ghost use Rattle.exchange.specs.Outcomes.{IsNoAnswer};
+ghost use Rattle.exchange.specs.Outcomes.{IsRefused};
 
 use crate::apart::look_apart;
 use crate::lost::{Lost, Reason};
@@ -77,7 +77,7 @@ fn open_file<'a, S: System>(
 ) -> Result<Option<OutFile<'a, S::Stream>>, NoAnswer>
     ensures named { IfOk result (λ out. name_of out ≡ name.entry.now) }
     ensures fresh { IfOk result (IsFresh S.Stream.contents (S.begins system.now)) }
-    ensures note { IfErr result (λ missed. IsNoAnswer missed) }
+    ensures note { IfErr result (λ missed. IsRefused missed) }
 {
     let Some(name) = name else {
         return Ok(None);
@@ -99,7 +99,7 @@ fn open_both<'a, S: System>(
     ensures opened { AreOpened S.Stream.contents (S.begins system.now) record_out.entry.now
         image_out.entry.now result.0 }
     ensures named { OnOk result.1 (AreNamed record_out.entry.now image_out.entry.now result.0) }
-    ensures note { IfErr result.1 (λ missed. IsNoAnswer missed) }
+    ensures note { IfErr result.1 (λ missed. IsRefused missed) }
 {
     let recorded = match open_file(system, alloc, record_out) {
         Ok(recorded) => recorded,
@@ -128,7 +128,7 @@ fn open_outputs<'a, S: System>(
         (output_of job.entry.now) result.0 }
     ensures named { OnOk result.1
         (AreNamed (record_of job.entry.now) (output_of job.entry.now) result.0) }
-    ensures note { IfErr result.1 (λ missed. IsNoAnswer missed) }
+    ensures note { IfErr result.1 (λ missed. IsRefused missed) }
 {
     match job {
         Job::Serve { rack, .. } | Job::Host { rack, .. } | Job::Talk { rack } => {
@@ -150,7 +150,7 @@ pub(crate) fn open_apart<'a, S: System>(
     ensures named { OnOk result.1
         (AreNamed (record_of job.entry.now) (output_of job.entry.now) result.0) }
     ensures apart { OnOk result.1 (AreSeenApart (S.leads system.now) (the_uses job.entry.now)) }
-    ensures note { IfErr result.1 (λ missed. IsNoAnswer missed) }
+    ensures note { IfErr result.1 (λ missed. IsRefused missed) }
 {
     match look_apart(system, alloc, job) {
         Ok(()) => open_outputs(system, alloc, job),

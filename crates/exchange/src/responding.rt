@@ -5,10 +5,10 @@ ghost use Rattle.std.specs.Prelude.{◌≡◌, [], ◌⊎◌, IfErr, IfOk, OnErr
 ghost use Rattle.std.specs.Process.{exit_status};
 ghost use Rattle.command_words.specs.Jobs.{texts_of};
 ghost use Rattle.exchange.specs.Responses.{given_by, named_by, unanswered};
-ghost use Rattle.exchange.specs.Notes.{IsToldUnless};
+ghost use Rattle.exchange.specs.Notes.{IsToldInPart, IsToldUnless};
 ghost use Rattle.exchange.specs.Clients.{clients_by, ends_of};
 ghost use Rattle.exchange.specs.Outputs.{lost_none};
-ghost use Rattle.exchange.specs.Ends.{IsLeft, IsNoneLeft, IsPrinted, streams_of, IsEndForArguments, IsEndWithoutArguments, IsFaultEnd};
+ghost use Rattle.exchange.specs.Ends.{IsLeft, IsNoneLeft, IsPrinted, streams_of, IsCutFor, IsEndForArguments, IsEndWithoutArguments, IsFaultCut, IsFaultEnd};
 ghost use Rattle.exchange.specs.Ends.{IsUnwrittenOf, IsUnwrittenTold};
 
 use crate::jobs::{Ended, answer_to};
@@ -19,6 +19,7 @@ use crate::peers::Peers;
 use crate::system::{Runtime, System};
 use crate::unanswered::Unanswered;
 use crate::unwritten::Unwritten;
+use byte_streams::write_bytes;
 use command_words::{ArgumentsFault, read_arguments};
 use drive_answers::Ports;
 use plan_answers::{Answer, DONE, REFUSED};
@@ -51,7 +52,12 @@ pub fn respond<R: Runtime, S: System, P: Ports, I: Read, O: Write, E: Write>(
     err: &mut E,
 ) -> Left<S::Receipt>
     requires { peers.old.endings.items ≡ [] }
-    ensures arguments { IfOk arguments (λ w. (exit_status result.code ≡ UNWRITTEN)
+    ensures arguments { IfOk arguments (λ w.
+        ((exit_status result.code ≡ UNWRITTEN)
+        × IsCutFor (named_by (S.holds system.now) (S.leads system.now))
+        (P.ways peers.new.ports) (ends_of peers.new.endings.items) (texts_of w.items)
+        (given_by (I.remaining input.old) (P.ways peers.old.ports) (clients_by (S.had system.now)))
+        (O.contents out.old) (O.contents out.new))
         ⊎ IsEndForArguments (named_by (S.holds system.now) (S.leads system.now))
         (IsLeft (S.begins system.now) S.received result.receipts (P.ways peers.new.ports)
         (ends_of peers.new.endings.items))
@@ -131,7 +137,7 @@ fn print_response<R: Runtime, S: System, P: Ports, I: Read, O: Write, E: Write>(
     err: &mut E,
 ) -> (Result<u8, Unwritten>, Receipts<S::Receipt>)
     requires { peers.old.endings.items ≡ [] }
-    ensures { IfOk result.0 (IsEndForArguments
+    ensures done { IfOk result.0 (IsEndForArguments
         (named_by (S.holds system.now) (S.leads system.now))
         (IsLeft (S.begins system.now) S.received result.1 (P.ways peers.new.ports)
         (ends_of peers.new.endings.items))
@@ -141,6 +147,11 @@ fn print_response<R: Runtime, S: System, P: Ports, I: Read, O: Write, E: Write>(
         (clients_by (S.had system.now)))
         (streams_of (O.contents out.old) (O.contents out.new) (E.contents err.old)
         (E.contents err.new))) }
+    ensures cut { OnErr result.0 (IsCutFor
+        (named_by (S.holds system.now) (S.leads system.now))
+        (P.ways peers.new.ports) (ends_of peers.new.endings.items) (texts_of arguments.now)
+        (given_by (I.remaining input.old) (P.ways peers.old.ports) (clients_by (S.had system.now)))
+        (O.contents out.old) (O.contents out.new)) }
 {
     match read_arguments(rt.alloc(), arguments) {
         Ok(request) => {
@@ -169,8 +180,9 @@ fn print_fault<O: Write, E: Write>(
     out: &mut O,
     err: &mut E,
 ) -> Result<u8, Unwritten>
-    ensures { IfOk result (IsFaultEnd fault (streams_of (O.contents out.old) (O.contents out.new)
-        (E.contents err.old) (E.contents err.new))) }
+    ensures done { IfOk result (IsFaultEnd fault (streams_of (O.contents out.old)
+        (O.contents out.new) (E.contents err.old) (E.contents err.new))) }
+    ensures cut { OnErr result (IsFaultCut fault (O.contents out.old) (O.contents out.new)) }
 {
     match fault {
         ArgumentsFault::NoMemory => refuse(Unanswered::NoMemory, out),
@@ -247,6 +259,8 @@ fn refuse_noted<O: Write, E: Write>(
 ) -> Result<u8, Unwritten>
     ensures printed { IfOk result
         (IsPrinted (O.contents out.old) (O.contents out.new) (unanswered why)) }
+    ensures cut { OnErr result
+        (IsToldInPart (O.contents out.old) (O.contents out.new) (unanswered why).text) }
     ensures told { IsToldUnless is_quiet (option_map (λ line. string_bytes line) note.now)
         (E.contents err.old) (E.contents err.new) }
 {
@@ -257,16 +271,22 @@ fn refuse_noted<O: Write, E: Write>(
 
 /// Prints an answer, and gives its status.
 fn print<O: Write>(answer: &Answer, out: &mut O) -> io::Result<u8>
-    ensures { IfOk result (IsPrinted (O.contents out.old) (O.contents out.new) answer.now) }
+    ensures printed { IfOk result
+        (IsPrinted (O.contents out.old) (O.contents out.new) answer.now) }
+    ensures cut { OnErr result
+        (IsToldInPart (O.contents out.old) (O.contents out.new) answer.now.text) }
 {
-    out.write_all(answer.text())?;
+    write_bytes(out, answer.text())?;
     Ok(answer.status())
 }
 
 /// Prints why there is no answer, and gives the status of a refusal.
 fn refuse<O: Write>(why: Unanswered, out: &mut O) -> Result<u8, Unwritten>
-    ensures { IfOk result (IsPrinted (O.contents out.old) (O.contents out.new) (unanswered why)) }
+    ensures printed { IfOk result
+        (IsPrinted (O.contents out.old) (O.contents out.new) (unanswered why)) }
+    ensures cut { OnErr result
+        (IsToldInPart (O.contents out.old) (O.contents out.new) (unanswered why).text) }
 {
-    out.write_all(Refusal::from(why).line().as_bytes())?;
+    write_bytes(out, Refusal::from(why).line().as_bytes())?;
     Ok(REFUSED)
 }

@@ -2,7 +2,7 @@ use Rattle.std.proofs.Common.{ap, rules}
 use Rattle.drive_answers.specs.Ways.{names_of}
 use Rattle.exchange.specs.Contents.{contents_in}
 use Rattle.exchange.specs.Responses.{source_in, text_in}
-use Rattle.exchange.proofs.Lines.{by_lines, driven_by}
+use Rattle.exchange.proofs.Lines.{by_lines, cut_by, driven_by}
 use Rattle.exchange.proofs.driving.answer_lines.Goals as goal
 
 pub returns : goal.returns
@@ -20,4 +20,5 @@ returns g c =
     let appended = t.appended in
     let so = t.is in
     let driven = driven_by c.answer_drive-end.result source (text_in files.list) files.wiring c.args.goes_on c.new-lines.result.waits names _ _ was opens t.text c.new-lines.ensures.waits (ap g.I.Read.remaining c.new-lines.ensures.input.1) so.0 in
-    (t.text, search rules, driven, so.1)
+    let cut = cut_by c.answer_drive-end.result source (text_in files.list) files.wiring c.args.goes_on c.new-lines.result.waits names _ _ was opens t.text c.new-lines.ensures.waits (ap g.I.Read.remaining c.new-lines.ensures.input.1) so.1 in
+    (t.text, search rules, driven, cut)

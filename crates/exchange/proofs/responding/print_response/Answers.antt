@@ -5,11 +5,11 @@ use Rattle.exchange.specs.Outcomes.{IsNoAnswer, IsUnanswered}
 use Rattle.exchange.specs.Outputs.{lost_none}
 use Rattle.exchange.specs.Responses.{Response, given_by, named_by, unanswered}
 use Rattle.exchange.specs.declared.notes.NoAnswer.TheVariants.{Refused}
-use Rattle.exchange.proofs.Told.{answered, asked, not_answered}
+use Rattle.exchange.proofs.Told.{answered, answered_in_part, asked, not_answered, refused_in_part}
 use Rattle.exchange.proofs.responding.print_response.Goals as goal
 
-pub returns-in-Ok-end : goal.returns-in-Ok-end
-returns-in-Ok-end g c =
+pub returns-in-Ok-end-clause-done : goal.returns-in-Ok-end-clause-done
+returns-in-Ok-end-clause-done g c =
     let t = rw c.in-Ok-end.is at c.answer_to-end.ensures.response in
     let note = rw c.in-Ok-end.is at c.answer_to-end.ensures.note in
     let apart = rw c.in-Ok-end.is at c.answer_to-end.ensures.apart in
@@ -27,8 +27,8 @@ returns-in-Ok-end g c =
     asked c.print_noted.result named keeps none_left _ given c.in-Ok.request streams c.in-Ok.ensures.request
     (answered c.print_noted.result named keeps given c.in-Ok.request t.0 t.2.0 opens ended done _ _ _ _ _ _ t.1 apart t.2.1 kept note c.answer_to-end.ensures.beside c.print_noted.ensures.printed c.print_noted.ensures.told)
 
-pub returns-in-Err-Refused : goal.returns-in-Err-Refused
-returns-in-Err-Refused g c =
+pub returns-in-Err-Refused-clause-done : goal.returns-in-Err-Refused-clause-done
+returns-in-Err-Refused-clause-done g c =
     let t = rw (c.in-Err-Refused.is, c.in-Err-Refused.field-0-is) at c.answer_to-end.ensures.response in
     let note : IsNoAnswer (Refused c.in-Err-Refused.why c.in-Err-Refused.note) = rw (c.in-Err-Refused.is, c.in-Err-Refused.field-0-is) at c.answer_to-end.ensures.note in
     let ended = ends_of c.answer_to-end.new.peers.endings.items in
@@ -43,3 +43,21 @@ returns-in-Err-Refused g c =
     let streams = streams_of (g.O.Write.contents c.args.out.now) (g.O.Write.contents c.refuse_noted.new.out) (g.E.Write.contents c.args.err.now) (g.E.Write.contents c.refuse_noted.new.err) in
     asked c.refuse_noted.result named keeps none_left _ given c.in-Ok.request streams c.in-Ok.ensures.request
     (not_answered c.refuse_noted.result named keeps given c.in-Ok.request t.0 c.in-Err-Refused.why c.in-Err-Refused.note _ _ _ _ _ _ t.1 none.0 left note c.answer_to-end.ensures.beside c.refuse_noted.ensures.printed c.refuse_noted.ensures.told)
+
+pub returns-in-Ok-end-clause-cut : goal.returns-in-Ok-end-clause-cut
+returns-in-Ok-end-clause-cut g c =
+    let t = rw c.in-Ok-end.is at c.answer_to-end.ensures.response in
+    let apart = rw c.in-Ok-end.is at c.answer_to-end.ensures.apart in
+    let named = named_by (g.S.System.holds c.args.system.now) (g.S.Places.leads c.args.system.now) in
+    let given = given_by (g.I.Read.remaining c.args.input.now) (g.P.Ports.ways c.args.peers.now.ports) (clients_by (g.S.ClientFiles.had c.args.system.now)) in
+    answered_in_part c.print_noted.result named (g.P.Ports.ways c.answer_to-end.new.peers.ports) (ends_of c.answer_to-end.new.peers.endings.items) _ given c.in-Ok.request t.0 t.2.0 c.in-Ok-end.done _ _ _ c.in-Ok.ensures.request t.1 apart t.2.1 c.print_noted.ensures.unwritten
+
+pub returns-in-Err-Refused-clause-cut : goal.returns-in-Err-Refused-clause-cut
+returns-in-Err-Refused-clause-cut g c =
+    let t = rw (c.in-Err-Refused.is, c.in-Err-Refused.field-0-is) at c.answer_to-end.ensures.response in
+    let ended = ends_of c.answer_to-end.new.peers.endings.items in
+    let opens = g.P.Ports.ways c.answer_to-end.new.peers.ports in
+    let none : IsUnanswered c.in-Ok.request.job (g.P.Ports.ways c.args.peers.now.ports) opens ended t.0 = t.3 in
+    let named = named_by (g.S.System.holds c.args.system.now) (g.S.Places.leads c.args.system.now) in
+    let given = given_by (g.I.Read.remaining c.args.input.now) (g.P.Ports.ways c.args.peers.now.ports) (clients_by (g.S.ClientFiles.had c.args.system.now)) in
+    refused_in_part c.refuse_noted.result named opens ended _ given c.in-Ok.request t.0 c.in-Err-Refused.why _ _ _ c.in-Ok.ensures.request t.1 none c.refuse_noted.ensures.cut

@@ -1,5 +1,5 @@
 use Rattle.std.proofs.Common.{refl}
 use Rattle.exchange.proofs.responding.refuse.Goals as goal
 
-pub returns : goal.returns
-returns g c = record { text = rw (c.as_bytes.ensures.bytes, c.line.ensures, c.from.ensures) at c.in_ok-write_all.ensures.bytes; status = refl }
+pub returns-clause-printed : goal.returns-clause-printed
+returns-clause-printed g c = record { text = rw (c.as_bytes.ensures.bytes, c.line.ensures, c.from.ensures) at c.in_ok-write_bytes.ensures.went; status = refl }
