@@ -24,12 +24,12 @@ use Rattle.drive_answers.specs.Ways.{Ways}
 use Rattle.session_answers.specs.HostAnswers.{SessionEnd}
 use Rattle.session_answers.specs.declared.ended_session.Ending.{Ending}
 use Rattle.exchange.specs.Clients.{ends_of}
-use Rattle.exchange.specs.Responses.{Given, IsAlone, IsJobAnswer, IsToldUnanswered, Named, Response, unanswered}
+use Rattle.exchange.specs.Responses.{Given, IsAlone, IsJobAnswer, IsJobInVain, IsToldInVain, Named, Response, unanswered}
 use Rattle.exchange.specs.Notes.{IsToldInPart, IsBeside, IsNoteOn, IsNoted, IsToldUnless, IsWholeLine}
 use Rattle.exchange.specs.Outcomes.{HasTold, IsAnswered, IsMissed, IsNothing, IsRefused, IsUnanswered, response_of}
 use Rattle.exchange.specs.declared.found.Found.{Found}
 use Rattle.command_words.specs.declared.jobs.ArgumentsFault.TheVariants as arguments_fault
-use Rattle.command_words.specs.Jobs.{AskFor, file_uses}
+use Rattle.command_words.specs.Jobs.{AskFor, Files, file_uses}
 use Rattle.exchange.specs.declared.limits.TheConstants.{UNWRITTEN}
 use Rattle.exchange.specs.Ends.{Streams, IsDone, IsEndForArguments, IsCutFor, IsFaultEnd, IsPrinted, IsUnwrittenOf, streams_of}
 
@@ -40,12 +40,17 @@ told_nothing (Err (missed.Refused why line)) before is behind cut none refused s
 told_nothing (Err (missed.Unwritten what)) before is behind cut none refused so = absurd refused
 
 -- no job has anything to be told before a refusal
-none_told : (job : Job) → IsToldUnanswered job []
-none_told (Talk rack) = tt
-none_told job = refl
+none_told : (job : Job) (files : Files (List ℕ)) (given : Given) → IsToldInVain job files given []
+none_told (Talk rack) files given = (given.input, inl (refl, refl))
+none_told job files given = refl
 
-pub none_asked : (job : Job) (ports : Ways) (ends : List SessionEnd) → ends ≡ [] → IsUnanswered job ports ports ends []
-none_asked job ports ends none = (none_told job, refl, none)
+pub none_asked : (job : Job) (files : Files (List ℕ)) (given : Given) (ports : Ways) (ends : List SessionEnd) → ends ≡ [] → IsUnanswered (IsToldInVain job files given) ports ports ends []
+none_asked job files given ports ends none = (none_told job files given, refl, none)
+
+-- what was told before there was no memory
+pub told_vainly : {X : Type 0} (r : Result X NoAnswer) (before after : Option (List ℕ)) (is : List ℕ → X → Type 0) (behind cut : List ℕ → Type 0) (told : List ℕ) → IsErrAnd r (λ e. e ≡ missed.Refused NoMemory None) → Appends before after told → behind told → HasTold before after is behind cut r
+told_vainly (Ok x) before after is behind cut told same first so = absurd same
+told_vainly (Err e) before after is behind cut told same first so = (told, first, tt, subst (IsMissed behind cut told) (sym same) so)
 
 -- no session of a live client ended
 pub none_served : (endings : List (Ending (List ℕ))) → endings ≡ [] → ends_of endings ≡ []
@@ -69,14 +74,14 @@ served_none (Ok x) before after is cut was opens ends none t = (t.0, t.1, t.2, t
 served_none (Err (missed.Refused why line)) before after is cut was opens ends none t = (t.0, t.1, tt, (t.3.0, t.3.1, none))
 served_none (Err (missed.Unwritten what)) before after is cut was opens ends none t = (t.0, t.1, tt, t.3)
 
--- what was cut of a job whose files were read
-cut_of : (missed : NoAnswer) (behind cut more : List ℕ → Type 0) (told : List ℕ) → (cut told → more told) → IsMissed behind cut told missed → IsMissed behind more told missed
-cut_of (missed.Refused why line) behind cut more told f is = is
-cut_of (missed.Unwritten what) behind cut more told f is = f is
+-- what is so of a job's texts is so of the job
+lifted : (missed : NoAnswer) (behind cut more_behind more_cut : List ℕ → Type 0) (told : List ℕ) → (behind told → more_behind told) → (cut told → more_cut told) → IsMissed behind cut told missed → IsMissed more_behind more_cut told missed
+lifted (missed.Refused why line) behind cut more_behind more_cut told b f is = b is
+lifted (missed.Unwritten what) behind cut more_behind more_cut told b f is = f is
 
-pub missed_of : {X : Type 0} (r : Result X NoAnswer) (what : NoAnswer) (before after : Option (List ℕ)) (is : List ℕ → X → Type 0) (behind cut more : List ℕ → Type 0) (told : List ℕ) → IsErrAnd r (λ e. e ≡ what) → Appends before after told → (cut told → more told) → IsMissed behind cut told what → HasTold before after is behind more r
-missed_of (Ok x) what before after is behind cut more told same first f so = absurd same
-missed_of (Err e) what before after is behind cut more told same first f so = (told, first, tt, cut_of e behind cut more told f (subst (IsMissed behind cut told) (sym same) so))
+pub missed_of : {X : Type 0} (r : Result X NoAnswer) (what : NoAnswer) (before after : Option (List ℕ)) (is : List ℕ → X → Type 0) (behind cut more_behind more_cut : List ℕ → Type 0) (told : List ℕ) → IsErrAnd r (λ e. e ≡ what) → Appends before after told → (behind told → more_behind told) → (cut told → more_cut told) → IsMissed behind cut told what → HasTold before after is more_behind more_cut r
+missed_of (Ok x) what before after is behind cut more_behind more_cut told same first b f so = absurd same
+missed_of (Err e) what before after is behind cut more_behind more_cut told same first b f so = (told, first, tt, lifted e behind cut more_behind more_cut told b f (subst (IsMissed behind cut told) (sym same) so))
 
 -- so it is of whatever comes of it
 pub if_not : {X E : Type 0} (r : Result X E) (P : Type 0) → P → OnErr r P
@@ -121,7 +126,7 @@ answered (Err e) named keeps given request told left ports ends done out_before 
 
 -- and why there is none
 pub not_answered : {E : Type 0} (r : Result ℕ E) (named : Named) (keeps : Job → Response → Type 0) (given : Given) (request : Request) (told : List ℕ) (why : Unanswered) (line : Option (String Global)) (out_before out_after has eb em ea : Option (List ℕ))
-    → Appends out_before out_after told → IsToldUnanswered request.job told → keeps request.job (record { told = told; end = unanswered why; left = None; ports = given.ports; ends = [] }) → IsNoteOn (unanswered why) (bytes_of_line line)
+    → Appends out_before out_after told → IsJobInVain named.holds given request.job told → keeps request.job (record { told = told; end = unanswered why; left = None; ports = given.ports; ends = [] }) → IsNoteOn (unanswered why) (bytes_of_line line)
     → IsBeside request eb em → IfOk r (IsPrinted out_after has (unanswered why)) → IsToldUnless request.is_quiet (bytes_of_line line) em ea
     → IfOk r (IsDone named keeps given request (streams_of out_before has eb ea))
 not_answered (Ok status) named keeps given request told why line out_before out_after has eb em ea first none kept note beside then said = (
@@ -168,7 +173,7 @@ answered_in_part (Err what) named ports ends arguments given request told left d
     (Ok request, ask, tt, inl (response, inl (apart, is), (refl, refl), printed_in_part before mid after told done.answer.text first (of_answer done what mid after cut)))
 
 pub refused_in_part : {E : Type 0} (r : Result ℕ E) (named : Named) (ports : Ways) (ends : List SessionEnd) (arguments : List (List ℕ)) (given : Given) (request : Request) (told : List ℕ) (why : Unanswered) (before mid after : Option (List ℕ))
-    → AskFor arguments request → Appends before mid told → IsUnanswered request.job given.ports ports ends told
+    → AskFor arguments request → Appends before mid told → IsUnanswered (IsJobInVain named.holds given request.job) given.ports ports ends told
     → OnErr r (IsToldInPart mid after (unanswered why).text) → OnErr r (IsCutFor named ports ends arguments given before after)
 refused_in_part (Ok status) named ports ends arguments given request told why before mid after ask first none cut = tt
 refused_in_part (Err e) named ports ends arguments given request told why before mid after ask first none cut =

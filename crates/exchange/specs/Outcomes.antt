@@ -5,10 +5,9 @@ use Rattle.exchange.specs.declared.notes.Answered.{Answered}
 use Rattle.exchange.specs.declared.notes.NoAnswer.{NoAnswer}
 use Rattle.exchange.specs.declared.notes.NoAnswer.TheVariants.{Refused, Unwritten}
 use Rattle.exchange.specs.Notes.{IsNoteOn}
-use Rattle.command_words.specs.declared.jobs.Job.{Job}
 use Rattle.drive_answers.specs.Ways.{Ways}
 use Rattle.session_answers.specs.HostAnswers.{SessionEnd}
-use Rattle.exchange.specs.Responses.{IsToldUnanswered, Response, unanswered}
+use Rattle.exchange.specs.Responses.{Response, unanswered}
 use Rattle.exchange.specs.declared.found.Found.{Found}
 use Rattle.exchange.specs.declared.unanswered.Unanswered.TheVariants.{NoMemory as Memory}
 use Rattle.drive_answers.specs.declared.fault.DriveFault.{DriveFault}
@@ -67,10 +66,10 @@ abbrev pub response_of : List ℕ → Found → Ways → List SessionEnd → Res
 response_of told found ports ends =
     record { told = told; end = found.answer; left = found.book; ports = ports; ends = ends }
 
--- where a job has no answer, this was told before, no port was opened, and no end of a session is
--- known
-abbrev pub IsUnanswered : Job → Ways → Ways → List SessionEnd → List ℕ → Type 0
-IsUnanswered job was opens ends told = IsToldUnanswered job told × (opens ≡ was) × (ends ≡ [])
+-- where a job has no answer, this is so of what was told before, no port was opened, and no end of a
+-- session is known
+abbrev pub IsUnanswered : (List ℕ → Type 0) → Ways → Ways → List SessionEnd → List ℕ → Type 0
+IsUnanswered vain was opens ends told = vain told × (opens ≡ was) × (ends ≡ [])
 
 abbrev pub HasNote : Result Answered NoAnswer → Type 0
 HasNote result = MatchResult result IsAnswered IsNoAnswer

@@ -16,7 +16,7 @@ use Rattle.switch_end.specs.End.{EndState}
 use Rattle.switch_end.specs.Answering.{HasRun}
 use Rattle.plan_answers.specs.Refusals.{Printed}
 use Rattle.session_answers.specs.Serving.{IsServeAnswer}
-use Rattle.session_answers.specs.Talking.{IsTalkAnswer}
+use Rattle.session_answers.specs.Talking.{IsTalkAnswer, IsTalkInVain}
 use Rattle.replay_answers.specs.Replays.{IsReplayPrinted}
 use Rattle.plan_answers.specs.declared.limits.TheConstants.{DONE, REFUSED}
 use Rattle.command_words.specs.Jobs.{Files, file_uses, files_of}
@@ -126,6 +126,13 @@ IsToldCut (Drive batch port port_b source wiring goes_on workers) files given po
 IsToldCut C004 files given ports told = IsC004Cut given.input told
 IsToldCut job files given ports told = ⊥
 
+-- what was told before it was found that there is no memory for an answer: what a session of `talk`
+-- is told; else nothing
+abbrev pub IsToldInVain : Job → Files (List ℕ) → Given → List ℕ → Type 0
+IsToldInVain (Talk rack) files given told =
+    (after : Option (List ℕ)) × IsTalkInVain rack.shape files.image given.input after told
+IsToldInVain job files given told = told ≡ []
+
 -- only `drive` asks for ports, and only `host` has live clients
 abbrev pub LeavesRest : Job → Ways → Ways → List SessionEnd → Type 0
 LeavesRest (Drive batch port port_b source wiring goes_on workers) was opens ends = ends ≡ []
@@ -156,6 +163,14 @@ IsJobCut holds given job ports told =
     × AreContents holds given.input (files_of job) files rest
     × IsToldCut job files (given_by rest given.ports given.clients) ports told
 
+-- what was told where a job has no answer: nothing, or so much behind its files
+abbrev pub IsJobInVain : Holding → Given → Job → List ℕ → Type 0
+IsJobInVain holds given job told =
+    (told ≡ [])
+    ⊎ ((files : Files (List ℕ)) × (rest : Option (List ℕ))
+    × AreContents holds given.input (files_of job) files rest
+    × IsToldInVain job files (given_by rest given.ports given.clients) told)
+
 -- the job is `talk`
 abbrev pub IsTalk : Job → Type 0
 IsTalk (Talk rack) = ⊤
@@ -169,12 +184,6 @@ refusal_of NoMemory = refusal.NoMemory
 -- what is printed where there is no answer
 abbrev pub unanswered : Unanswered → Printed
 unanswered why = record { text = refusal_line (refusal_of why); status = REFUSED }
-
--- what may stand before a line that says why there is no answer: what the session of `talk` was
--- told, and else nothing
-abbrev pub IsToldUnanswered : Job → List ℕ → Type 0
-IsToldUnanswered (Talk rack) told = ⊤
-IsToldUnanswered job told = told ≡ []
 
 -- what a system has by name: what its files hold, and where names lead
 pub record Named : Type 1 where
@@ -190,5 +199,5 @@ named_by holds leads = record { holds = holds; leads = leads }
 abbrev pub IsResponseTo : Named → Given → Job → Response → Type 0
 IsResponseTo named given job response =
     (AreSeenApart named.leads (file_uses job) × IsJobAnswer named.holds given job response)
-    ⊎ (IsToldUnanswered job response.told × (response.ports ≡ given.ports)
+    ⊎ (IsJobInVain named.holds given job response.told × (response.ports ≡ given.ports)
     × (response.ends ≡ []) × ((why : Unanswered) × (response.end ≡ unanswered why)))

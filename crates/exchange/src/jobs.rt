@@ -8,11 +8,11 @@ ghost use Rattle.plan_answers.specs.Lent.{bytes_of};
 ghost use Rattle.command_words.specs.Jobs.{CanBeServed, IsWithinLimits, file_uses, files_of};
 ghost use Rattle.session_answers.specs.HostAnswers.{IsHostAnswer, SessionEnd};
 ghost use Rattle.session_answers.specs.Serving.{IsServeAnswer};
-ghost use Rattle.session_answers.specs.Talking.{IsTalkAnswer};
+ghost use Rattle.session_answers.specs.Talking.{IsTalkAnswer, IsTalkInVain};
 ghost use Rattle.exchange.specs.Apart.{AreSeenApart};
 ghost use Rattle.exchange.specs.Contents.{contents_in};
 ghost use Rattle.exchange.specs.Clients.{clients_by, ends_of};
-ghost use Rattle.exchange.specs.Responses.{Given, IsJobAnswer, IsAnswerTo, IsC004By, IsC004Cut, IsJobCut, IsOfTexts, IsToldCut, LeavesRest, given_by};
+ghost use Rattle.exchange.specs.Responses.{Given, IsJobAnswer, IsAnswerTo, IsC004By, IsC004Cut, IsJobCut, IsJobInVain, IsOfTexts, IsToldCut, IsToldInVain, LeavesRest, given_by};
 ghost use Rattle.exchange.specs.Notes.{IsBeside};
 ghost use Rattle.exchange.specs.Outputs.{AreKept, AreOutputsWritten, lost_none};
 ghost use Rattle.exchange.specs.Outcomes.{HasNote, HasTold, IsNoAnswer, IsNever, IsNothing, IsRefused, IsUnanswered, response_of};
@@ -79,7 +79,9 @@ pub(crate) fn answer_to<R: Runtime, S: System, P: Ports, I: Read, O: Write, E: W
         })
         × (done.lost ≡ lost_none → AreKept (S.begins system.now) S.received request.now.job left
         result.receipts))
-        (IsUnanswered request.now.job (P.ways peers.old.ports) (P.ways peers.new.ports)
+        (IsUnanswered (IsJobInVain (S.holds system.now) (given_by (I.remaining input.old)
+        (P.ways peers.old.ports) (clients_by (S.had system.now))) request.now.job)
+        (P.ways peers.old.ports) (P.ways peers.new.ports)
         (ends_of peers.new.endings.items))
         (IsJobCut (S.holds system.now) (given_by (I.remaining input.old) (P.ways peers.old.ports)
         (clients_by (S.had system.now))) request.now.job (P.ways peers.new.ports)) result.end }
@@ -135,7 +137,9 @@ fn answer_opened<R: Runtime, S: System, P: Ports, I: Read, O: Write, E: Write>(
           ends = ends_of peers.new.endings.items;
         })
         × AreOutputsWritten S.Stream.contents left outputs.old outputs.new done.lost)
-        (IsUnanswered request.now.job (P.ways peers.old.ports) (P.ways peers.new.ports)
+        (IsUnanswered (IsJobInVain (S.holds system.now) (given_by (I.remaining input.old)
+        (P.ways peers.old.ports) (clients_by (S.had system.now))) request.now.job)
+        (P.ways peers.old.ports) (P.ways peers.new.ports)
         (ends_of peers.new.endings.items))
         (IsJobCut (S.holds system.now) (given_by (I.remaining input.old) (P.ways peers.old.ports)
         (clients_by (S.had system.now))) request.now.job (P.ways peers.new.ports)) result }
@@ -172,7 +176,9 @@ fn answer_job<R: Runtime, S: System, P: Ports, I: Read, O: Write, E: Write>(
         (clients_by (S.had system.now)))
         (response_of told found (P.ways peers.new.ports)
         (ends_of peers.new.endings.items)))
-        (IsUnanswered request.now.job (P.ways peers.old.ports) (P.ways peers.new.ports)
+        (IsUnanswered (IsToldInVain request.now.job (contents_in contents.now)
+        (given_by (I.remaining input.old) (P.ways peers.old.ports) (clients_by (S.had system.now))))
+        (P.ways peers.old.ports) (P.ways peers.new.ports)
         (ends_of peers.new.endings.items))
         (IsToldCut request.now.job (contents_in contents.now) (given_by (I.remaining input.old)
         (P.ways peers.old.ports) (clients_by (S.had system.now))) (P.ways peers.new.ports)) result }
@@ -410,7 +416,9 @@ fn talk<R: AllocGlobal + Threads + Wait + Sync, I: Read, O: Write, H: Listener>(
     ensures answer { HasTold (O.contents out.old) (O.contents out.new)
         (λ told found. (after : Option (List ℕ)) × IsTalkAnswer rack.now.shape
         (contents_in contents.now).image (I.remaining input.old) after told found.answer
-        found.book) (λ told. ⊤) IsNever result }
+        found.book)
+        (λ told. (after : Option (List ℕ)) × IsTalkInVain rack.now.shape
+        (contents_in contents.now).image (I.remaining input.old) after told) IsNever result }
     ensures note { IfErr result (λ missed. IsRefused missed) }
     ensures beside { TellsOfRefusals H.may_tell (H.told listener.old) (H.told listener.new) }
 {

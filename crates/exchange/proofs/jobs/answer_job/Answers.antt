@@ -1,10 +1,9 @@
 use Rattle.std.proofs.Common.{List, [], ℕ, Option, rules, ◌≡◌, None, OnErr, refl}
-use Rattle.std.specs.Prelude.{⊤}
 use Rattle.std.proofs.KnownBytes.{Appends-nil}
 use Rattle.std.proofs.lemmas.Result.{on_err_weaker}
 use Rattle.session_answers.specs.HostAnswers.{IsHostAnswer}
 use Rattle.session_answers.specs.Serving.{IsServeAnswer}
-use Rattle.session_answers.specs.Talking.{IsTalkAnswer}
+use Rattle.session_answers.specs.Talking.{IsTalkAnswer, IsTalkInVain}
 use Rattle.exchange.specs.Clients.{clients_by, ends_of}
 use Rattle.exchange.specs.Contents.{contents_in}
 use Rattle.exchange.specs.Outcomes.{IsNever, IsNothing}
@@ -54,7 +53,7 @@ returns-in-Host-clause-response g c =
 pub returns-in-Talk-clause-response : goal.returns-in-Talk-clause-response
 returns-in-Talk-clause-response g c =
     let image = (contents_in c.args.contents.now).image in
-    rw c.in-Talk.is (unasked c.talk.result _ _ (λ told found. (after : Option (List ℕ)) × IsTalkAnswer c.in-Talk.rack.shape image (g.I.Read.remaining c.args.input.now) after told found.answer found.book) (λ told. ⊤) IsNever _ _ (if_not c.talk.result _ (none_served _ c.requires.unserved)) c.talk.ensures.answer)
+    rw c.in-Talk.is (unasked c.talk.result _ _ (λ told found. (after : Option (List ℕ)) × IsTalkAnswer c.in-Talk.rack.shape image (g.I.Read.remaining c.args.input.now) after told found.answer found.book) (λ told. (after : Option (List ℕ)) × IsTalkInVain c.in-Talk.rack.shape image (g.I.Read.remaining c.args.input.now) after told) IsNever _ _ (if_not c.talk.result _ (none_served _ c.requires.unserved)) c.talk.ensures.answer)
 
 pub returns-in-Talk-clause-rest : goal.returns-in-Talk-clause-rest
 returns-in-Talk-clause-rest g c = rw c.in-Talk.is (refl, none_served _ c.requires.unserved)
@@ -62,7 +61,7 @@ returns-in-Talk-clause-rest g c = rw c.in-Talk.is (refl, none_served _ c.require
 pub returns-in-Talk-2-clause-response : goal.returns-in-Talk-2-clause-response
 returns-in-Talk-2-clause-response g c =
     let image = (contents_in c.args.contents.now).image in
-    rw c.in-Talk-2.is (unasked c.talk-end.result _ _ (λ told found. (after : Option (List ℕ)) × IsTalkAnswer c.in-Talk-2.rack.shape image (g.I.Read.remaining c.args.input.now) after told found.answer found.book) (λ told. ⊤) IsNever _ _ (if_not c.talk-end.result _ (none_served _ c.requires.unserved)) c.talk-end.ensures.answer)
+    rw c.in-Talk-2.is (unasked c.talk-end.result _ _ (λ told found. (after : Option (List ℕ)) × IsTalkAnswer c.in-Talk-2.rack.shape image (g.I.Read.remaining c.args.input.now) after told found.answer found.book) (λ told. (after : Option (List ℕ)) × IsTalkInVain c.in-Talk-2.rack.shape image (g.I.Read.remaining c.args.input.now) after told) IsNever _ _ (if_not c.talk-end.result _ (none_served _ c.requires.unserved)) c.talk-end.ensures.answer)
 
 pub returns-in-Talk-2-clause-rest : goal.returns-in-Talk-2-clause-rest
 returns-in-Talk-2-clause-rest g c = rw c.in-Talk-2.is (refl, none_served _ c.requires.unserved)
@@ -71,4 +70,4 @@ pub returns-in_ok-answer_texts-in_default-clause-response : goal.returns-in_ok-a
 returns-in_ok-answer_texts-in_default-clause-response g c = ([], Appends-nil _, c.in_ok-answer_texts-in_default.ensures _ _, tt)
 
 pub returns-in_err-answer_texts-in_default-clause-response : goal.returns-in_err-answer_texts-in_default-clause-response
-returns-in_err-answer_texts-in_default-clause-response g c = told_nothing c.from_residual.result _ _ _ _ (none_asked _ _ _ (none_served _ c.requires.unserved)) (search rules) (search rules)
+returns-in_err-answer_texts-in_default-clause-response g c = told_nothing c.from_residual.result _ _ _ _ (none_asked _ _ _ _ _ (none_served _ c.requires.unserved)) (search rules) (search rules)

@@ -1,11 +1,12 @@
-use Rattle.std.proofs.Common.{List, ℕ, rules, subst, sym}
+use Rattle.std.proofs.Common.{List, ℕ, rules, subst, sym, inl, inr, refl}
 use Rattle.plan_answers.specs.Refusals.{Printed}
 use Rattle.command_words.specs.Jobs.{Files}
 use Rattle.exchange.specs.Contents.{AreContents, contents_in}
 use Rattle.exchange.specs.Clients.{clients_by, ends_of}
-use Rattle.exchange.specs.Responses.{IsAnswerTo, IsToldCut, given_by}
+use Rattle.exchange.specs.Outcomes.{IsUnanswered}
+use Rattle.exchange.specs.Responses.{IsAnswerTo, IsToldCut, IsToldInVain, given_by}
 use Rattle.exchange.proofs.Reading.{as_many}
-use Rattle.exchange.proofs.Told.{missed_of, none_asked, none_served, told_nothing}
+use Rattle.exchange.proofs.Told.{missed_of, none_served, told_nothing}
 use Rattle.exchange.proofs.jobs.answer_opened.Goals as goal
 
 pub answer_job-requires-clause-scripts : goal.answer_job-requires-clause-scripts
@@ -17,10 +18,10 @@ answer_job-requires-clause-scripts g c = λ lifetimes bounds.
     as_many _ _ _ _ _ are.8
 
 pub returns-in_err-opened-clause-response : goal.returns-in_err-opened-clause-response
-returns-in_err-opened-clause-response g c = told_nothing c.from_residual.result _ _ _ _ (none_asked _ _ _ (none_served _ c.requires.unserved)) (search rules) (search rules)
+returns-in_err-opened-clause-response g c = told_nothing c.from_residual.result _ _ _ _ (inl refl, refl, none_served _ c.requires.unserved) (search rules) (search rules)
 
 pub returns-in_err-contents-clause-response : goal.returns-in_err-contents-clause-response
-returns-in_err-contents-clause-response g c = told_nothing c.from_residual-in_err-contents.result _ _ _ _ (none_asked _ _ _ (none_served _ c.requires.unserved)) (search rules) (search rules)
+returns-in_err-contents-clause-response g c = told_nothing c.from_residual-in_err-contents.result _ _ _ _ (inl refl, refl, none_served _ c.requires.unserved) (search rules) (search rules)
 
 pub returns-clause-response : goal.returns-clause-response
 returns-clause-response g c =
@@ -49,4 +50,7 @@ returns-in_err-found-clause-response g c =
     let t = c.in_err-found.ensures.response in
     let given = given_by rest (g.P.Ports.ways c.args.peers.now.ports) (clients_by (g.S.ClientFiles.had c.args.system.now)) in
     let opens = g.P.Ports.ways c.answer_job.new.peers.ports in
-    missed_of c.from_residual-in_err-found.result _ _ _ _ _ (IsToldCut c.args.request.now.job files given opens) _ t.0 c.from_residual-in_err-found.ensures.1 t.1 (λ cut. (files, rest, are, cut)) t.3
+    let job = c.args.request.now.job in
+    let was = g.P.Ports.ways c.args.peers.now.ports in
+    let ends = ends_of c.answer_job.new.peers.endings.items in
+    missed_of c.from_residual-in_err-found.result _ _ _ _ (IsUnanswered (IsToldInVain job files given) was opens ends) (IsToldCut job files given opens) _ _ t.0 c.from_residual-in_err-found.ensures.1 t.1 (λ vain. (inr (files, rest, are, vain.0), vain.1, vain.2)) (λ cut. (files, rest, are, cut)) t.3

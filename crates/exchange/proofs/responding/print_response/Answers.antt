@@ -3,7 +3,7 @@ use Rattle.exchange.specs.Clients.{clients_by, ends_of}
 use Rattle.exchange.specs.Ends.{IsLeft, IsNoneLeft, streams_of}
 use Rattle.exchange.specs.Outcomes.{IsNoAnswer, IsUnanswered}
 use Rattle.exchange.specs.Outputs.{lost_none}
-use Rattle.exchange.specs.Responses.{Response, given_by, named_by, unanswered}
+use Rattle.exchange.specs.Responses.{IsJobInVain, Response, given_by, named_by, unanswered}
 use Rattle.exchange.specs.declared.notes.NoAnswer.TheVariants.{Refused}
 use Rattle.exchange.proofs.Told.{answered, answered_in_part, asked, not_answered, refused_in_part}
 use Rattle.exchange.proofs.responding.print_response.Goals as goal
@@ -32,7 +32,7 @@ returns-in-Err-Refused-clause-done g c =
     let t = rw (c.in-Err-Refused.is, c.in-Err-Refused.field-0-is) at c.answer_to-end.ensures.response in
     let note : IsNoAnswer (Refused c.in-Err-Refused.why c.in-Err-Refused.note) = rw (c.in-Err-Refused.is, c.in-Err-Refused.field-0-is) at c.answer_to-end.ensures.note in
     let ended = ends_of c.answer_to-end.new.peers.endings.items in
-    let none : IsUnanswered c.in-Ok.request.job (g.P.Ports.ways c.args.peers.now.ports) (g.P.Ports.ways c.answer_to-end.new.peers.ports) ended t.0 = t.3 in
+    let none : IsUnanswered (IsJobInVain (g.S.System.holds c.args.system.now) (given_by (g.I.Read.remaining c.args.input.now) (g.P.Ports.ways c.args.peers.now.ports) (clients_by (g.S.ClientFiles.had c.args.system.now))) c.in-Ok.request.job) (g.P.Ports.ways c.args.peers.now.ports) (g.P.Ports.ways c.answer_to-end.new.peers.ports) ended t.0 = t.3 in
     let unkept = rw c.in-Err-Refused.is at c.answer_to-end.ensures.unkept in
     let left : IsLeft (g.S.System.begins c.args.system.now) g.S.System.received c.answer_to-end.result.receipts (g.P.Ports.ways c.answer_to-end.new.peers.ports) ended c.in-Ok.request.job (record { told = t.0; end = unanswered c.in-Err-Refused.why; left = None; ports = g.P.Ports.ways c.args.peers.now.ports; ends = [] }) = (unkept, sym none.1, sym none.2) in
     let named = named_by (g.S.System.holds c.args.system.now) (g.S.Places.leads c.args.system.now) in
@@ -57,7 +57,7 @@ returns-in-Err-Refused-clause-cut g c =
     let t = rw (c.in-Err-Refused.is, c.in-Err-Refused.field-0-is) at c.answer_to-end.ensures.response in
     let ended = ends_of c.answer_to-end.new.peers.endings.items in
     let opens = g.P.Ports.ways c.answer_to-end.new.peers.ports in
-    let none : IsUnanswered c.in-Ok.request.job (g.P.Ports.ways c.args.peers.now.ports) opens ended t.0 = t.3 in
+    let none : IsUnanswered (IsJobInVain (g.S.System.holds c.args.system.now) (given_by (g.I.Read.remaining c.args.input.now) (g.P.Ports.ways c.args.peers.now.ports) (clients_by (g.S.ClientFiles.had c.args.system.now))) c.in-Ok.request.job) (g.P.Ports.ways c.args.peers.now.ports) opens ended t.0 = t.3 in
     let named = named_by (g.S.System.holds c.args.system.now) (g.S.Places.leads c.args.system.now) in
     let given = given_by (g.I.Read.remaining c.args.input.now) (g.P.Ports.ways c.args.peers.now.ports) (clients_by (g.S.ClientFiles.had c.args.system.now)) in
     refused_in_part c.refuse_noted.result named opens ended _ given c.in-Ok.request t.0 c.in-Err-Refused.why _ _ _ c.in-Ok.ensures.request t.1 none c.refuse_noted.ensures.cut
