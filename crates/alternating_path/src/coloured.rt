@@ -1,18 +1,16 @@
-ghost use Rattle.std.specs.Prelude.{◌≡◌, IfOk, OnOk, take, length};
+ghost use Rattle.std.specs.Prelude.{◌≡◌};
 ghost use Rattle.link_graph.specs.Schedules.{lists_of};
 
 use link_graph::Schedule;
-use std::alloc::{AllocError, Global};
 use std::marker::Model;
 
 /// The schedule of a table's colour classes, and how many insertions the table counted.
 ///
-/// Only [`Table::into_schedule`](crate::Table::into_schedule) makes one, and [`Coloured::copy`].
+/// Only [`Table::into_schedule`](crate::Table::into_schedule) makes one.
 #[derive(Drop)]
 pub struct Coloured {
     schedule: Schedule,
     inserted: usize,
-    alloc: Global,
 }
 
 impl Model for Coloured {
@@ -24,13 +22,12 @@ impl Model for Coloured {
 }
 
 impl Coloured {
-    pub(crate) fn of(alloc: Global, lists: Vec<Vec<usize>>, inserted: usize) -> Coloured
+    pub(crate) fn of(lists: Vec<Vec<usize>>, inserted: usize) -> Coloured
         ensures { result ≡ record { settings = lists_of lists.items; inserted = inserted } }
     {
         Coloured {
             schedule: Schedule::of(lists),
             inserted,
-            alloc,
         }
     }
 
@@ -46,14 +43,6 @@ impl Coloured {
         ensures { result ≡ self.now.inserted }
     {
         self.inserted
-    }
-
-    /// An equal value. Takes time that grows with the number of transfers.
-    pub fn copy(&self) -> Result<Coloured, AllocError>
-        ensures { IfOk result (λ copy. copy ≡ self.now) }
-    {
-        let lists = copied(self.alloc, &self.schedule)?;
-        Ok(Coloured::of(self.alloc, lists, self.inserted))
     }
 }
 
@@ -84,15 +73,4 @@ impl Eq for Coloured {
     ghost laws = { and_equiv
         (on_equiv (λ s. s.settings) schedules.laws-law)
         (on_equiv (λ s. s.inserted) nat_eq_equiv) };
-}
-
-/// The settings of a schedule.
-fn copied(alloc: Global, schedule: &Schedule) -> Result<Vec<Vec<usize>>, AllocError>
-    ensures { IfOk result (λ lists. lists_of lists.items ≡ schedule.now) }
-{
-    let mut lists = Vec::with_capacity(alloc, schedule.settings())?;
-    for setting in schedule.iter() {
-        lists.push(setting.to_vec(alloc)?)?;
-    }
-    Ok(lists)
 }

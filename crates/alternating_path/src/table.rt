@@ -1,10 +1,10 @@
 //! Tables of edge colourings, and the insertion of an edge.
 
-ghost use Rattle.std.specs.Prelude.{◌≡◌, ℕ, ◌+◌, ◌*◌, ◌<◌, ◌≤◌, ◌↔◌, min, length, replicate, set, All, Contains, Some, None, Err, IfOk, OnOk, OnErr, MatchOption, IfSome, IfNone, OnSome};
+ghost use Rattle.std.specs.Prelude.{◌≡◌, ◌+◌, ◌*◌, ◌<◌, ◌≤◌, ◌↔◌, length, replicate, All, Some, None, Err, IfOk, OnOk, OnErr, MatchOption, IfSome, IfNone, OnSome};
 ghost use Rattle.batch.specs.Batches.{IsBatch};
 ghost use Rattle.link_graph.specs.declared.link.End.TheVariants.{Zero, Three};
 ghost use Rattle.link_graph.specs.Certificates.{AreDistinct};
-ghost use Rattle.link_graph.specs.Uses.{Uses, IsMatching};
+ghost use Rattle.link_graph.specs.Uses.{IsMatching};
 ghost use Rattle.alternating_path.specs.Colouring.{colour_at, HasColour, nothing_placed, IsProperTable, IsFreeAt, TakesAt, with_colour, PlacesOnly, PlacesJust, ArePlacedApart, counted, IsJoined, HasClassMore};
 ghost use Rattle.alternating_path.specs.Classes.{AreClassesOf, ScheduleIfAll, class_size, IsSmallestClass, IsTakenBack};
 ghost use Rattle.alternating_path.specs.Counts.{placed_uses_at, IsShutOut};
@@ -354,7 +354,7 @@ impl<'a> Table<'a> {
         let alloc = *self.cells.allocator();
         let colour = self.colour_list(alloc)?;
         let lists = classes(alloc, colour.as_slice(), self.colours)?;
-        Ok(Coloured::of(alloc, lists, self.inserted))
+        Ok(Coloured::of(lists, self.inserted))
     }
 
     /// The colour of each transfer of the graph.

@@ -8,13 +8,11 @@ use Rattle.setting_runner.specs.declared.outcome.Outcome.{Outcome}
 use Rattle.setting_runner.specs.declared.outcome.Outcome.TheVariants as outcome
 use Rattle.setting_runner.specs.declared.outcome.RunRefusal.TheVariants as run_refusal
 use Rattle.batch_book.specs.declared.limits.TheConstants.{MAX_BATCHES}
-use Rattle.batch_book.specs.declared.call.Call.{Call}
-use Rattle.batch_book.specs.declared.call.Call.TheVariants.{Fetch}
 use Rattle.batch_book.specs.declared.reply.Reply.{Reply}
 use Rattle.batch_book.specs.declared.reply.Reply.TheVariants.{Ran, Stopped, RunRefused}
 use Rattle.batch_book.specs.declared.kept.Stage.TheVariants as stage
 use Rattle.batch_book.specs.declared.kept.KeptBatch.{KeptBatch}
-use Rattle.batch_book.specs.Machine.{Machine, batch_of, run_to}
+use Rattle.batch_book.specs.Machine.{Machine, run_to}
 
 -- what stands for the words while a run has them
 abbrev pub no_store : Store

@@ -1,6 +1,6 @@
 //! Whether seats are all seats of their exchange.
 
-ghost use Rattle.std.specs.Prelude.{◌≡◌, ◌↔◌, ◌≤◌, IsTrue};
+ghost use Rattle.std.specs.Prelude.{◌↔◌, ◌≤◌, IsTrue};
 ghost use Rattle.batch_book.specs.Seats.{parts_of};
 
 use crate::naming::ExchangeName;

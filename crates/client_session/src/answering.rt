@@ -1,6 +1,6 @@
 //! What is done for a command, and its reply line, which is put into an empty one.
 
-ghost use Rattle.std.specs.Prelude.{◌≡◌, [], ℕ, List, Option};
+ghost use Rattle.std.specs.Prelude.{◌≡◌, [], ℕ, List};
 ghost use Rattle.client_session.specs.Turns.{TellsReply, Submits, Plans, DoesCommand};
 ghost use Rattle.client_session.specs.Steps.{IsNoFetch, StandsAlone, Acts};
 

@@ -1,6 +1,6 @@
 //! Readers, and how often they are asked.
 
-ghost use Rattle.std.specs.Prelude.{◌≡◌, ℕ, List, Option, Some, None};
+ghost use Rattle.std.specs.Prelude.{ℕ, List, Option, Some, None};
 ghost use Rattle.std.specs.Io.{ReadsAtMost};
 ghost use Rattle.std.specs.Io.KnownBytes.{ReadConsumes};
 ghost use Rattle.client_session.specs.Asking.{RisesBy};

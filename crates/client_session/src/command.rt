@@ -1,6 +1,6 @@
 //! The commands of a session, and the lines that they stand for.
 
-ghost use Rattle.std.specs.Prelude.{◌≡◌, ◌≢◌, ℕ, List, ◌∷◌, ◌++◌, ◌≤◌, ◌+◌, length, codes, IfSome, IfNone};
+ghost use Rattle.std.specs.Prelude.{◌≡◌, ◌≢◌, ℕ, ◌∷◌, ◌++◌, ◌≤◌, ◌+◌, length, codes, IfSome, IfNone};
 ghost use Rattle.std.specs.Fmt.{decimal};
 ghost use Rattle.batch.specs.Text.{IsNumber, number, space};
 ghost use Rattle.line_words.specs.declared.limits.TheConstants.{NUMBER_ROOM};

@@ -1,8 +1,8 @@
 //! Lines from any reader, through a buffer of its own, with a limit on the calls of `read`.
 
-ghost use Rattle.std.specs.Prelude.{◌≡◌, ℕ, ◌+◌, ◌-◌, ◌^◌, ◌<◌, ◌≤◌, length, take, drop, [], Some, None, IfSome, MatchResult, MatchOption, IsSome, IfOk, IfErr};
+ghost use Rattle.std.specs.Prelude.{◌≡◌, ◌+◌, ◌-◌, ◌<◌, ◌≤◌, length, take, drop, [], Some, None, MatchResult, MatchOption, IfOk, IfErr};
 ghost use Rattle.std.specs.Io.KnownBytes.{IsAtEnd};
-ghost use Rattle.client_session.specs.Bytes.{PendingInput, HasNoFeed, TakesIn, HasLine, fuel};
+ghost use Rattle.client_session.specs.Bytes.{PendingInput, TakesIn, HasLine, fuel};
 ghost use Rattle.client_session.specs.Asking.{GivesEachTime, StopsAsking};
 ghost use Rattle.client_session.specs.Faults.{HasBroughtNothing, IsFaultAt};
 ghost use Rattle.client_session.specs.Steps.{of_input};
@@ -76,7 +76,8 @@ impl Input {
     /// Asks the reader once, where there is room.
     fn fill<R: AskedReader>(&mut self, reader: &mut R) -> Result<usize, InputFault>
         requires { length self.old.pending ≤ LINE_BYTES }
-        ensures takes { TakesIn (R.remaining reader.old) (R.remaining reader.new) self.old self.new }
+        ensures takes { TakesIn (R.remaining reader.old) (R.remaining reader.new) self.old
+            self.new }
         ensures count { IfOk result (λ n. length self.new.pending ≡ length self.old.pending + n) }
         ensures end { IfOk result (λ n. n ≡ 0 → IsAtEnd (R.remaining reader.new)) }
         ensures reads { IfOk result (λ n. 0 < n → self.new.reads ≡ self.old.reads + 1) }
@@ -124,7 +125,8 @@ impl Input {
         reader: &mut R,
     ) -> Result<Option<usize>, InputFault>
         requires { self.old.reads ≤ MAX_READS }
-        ensures takes { TakesIn (R.remaining reader.old) (R.remaining reader.new) self.old self.new }
+        ensures takes { TakesIn (R.remaining reader.old) (R.remaining reader.new) self.old
+            self.new }
         ensures line { IfOk result (λ found. MatchOption found
             ((self.new.pending ≡ []) × IsAtEnd (R.remaining reader.new))
             (λ n. HasLine self.new.pending n × (n ≤ LINE_BYTES))) }

@@ -1,6 +1,6 @@
 //! One command with the lines that belong to it.
 
-ghost use Rattle.std.specs.Prelude.{◌≡◌, ℕ, ◌+◌, ◌<◌, ◌≤◌, List, length, take, [], Option, Some, IfOk, IfErr, OnOk, MatchOption, MatchBool, false};
+ghost use Rattle.std.specs.Prelude.{◌≡◌, ◌+◌, ◌<◌, ◌≤◌, length, take, [], Some, IfOk, IfErr, OnOk, MatchOption, MatchBool, false};
 ghost use Rattle.client_session.specs.Asking.{GivesOrStops};
 ghost use Rattle.client_session.specs.Bytes.{HasLine, fuel};
 ghost use Rattle.client_session.specs.Turns.{SessionGoesOn};

@@ -1,6 +1,6 @@
 //! The names of clients.
 
-ghost use Rattle.std.specs.Prelude.{◌≡◌, ◌≢◌, ◌↔◌, All, IsTrue};
+ghost use Rattle.std.specs.Prelude.{◌≢◌, ◌↔◌, All, IsTrue};
 ghost use Rattle.command_words.specs.Jobs.{AreClientNames, IsClientName, clients_of};
 
 use crate::jobs::Job;

@@ -1,6 +1,6 @@
 //! The commands as clap has them.
 
-ghost use Rattle.std.specs.Prelude.{◌≡◌, IfErr, IfOk, OnOk};
+ghost use Rattle.std.specs.Prelude.{IfErr, IfOk, OnOk};
 ghost use Rattle.command_words.specs.Jobs.{AreMatchesOf, IsFaultIn, IsTaken, texts_of};
 ghost use Rattle.clap.specs.Words.{app_of, new_app};
 ghost use Rattle.command_words.specs.Program.{IsArgument, IsCommand, IsLocal, command as command_app, flag, option, program, rule_for, spare_word, top, with_arguments, with_command, one_argument, client_arguments, workers};

@@ -1,6 +1,6 @@
 //! From the arguments to what they ask for, by what clap finds in them.
 
-ghost use Rattle.std.specs.Prelude.{◌≡◌, ◌≢◌, ◌↔◌, IfErr, IfOk, IsTrue, OnErr, OnOk};
+ghost use Rattle.std.specs.Prelude.{◌≡◌, ◌≢◌, ◌↔◌, IfErr, IfOk, IsTrue, OnOk};
 ghost use Rattle.command_words.specs.declared.jobs.Job.{Job};
 ghost use Rattle.command_words.specs.declared.jobs.Request.{Request};
 ghost use Rattle.command_words.specs.declared.jobs.ArgumentsFault.TheVariants.{NoMemory};

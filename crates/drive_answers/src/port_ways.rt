@@ -1,6 +1,6 @@
 //! What contracts see of ports.
 
-ghost use Rattle.std.specs.Prelude.{◌≡◌, ◌++◌, Some};
+ghost use Rattle.std.specs.Prelude.{◌≡◌, Some};
 ghost use Rattle.plan_answers.specs.Lent.{bytes_of};
 ghost use Rattle.drive_answers.specs.Ways.{given_back, names_of, opened_by, unopened_ways};
 

@@ -19,7 +19,8 @@ pub trait Ports {
 
     /// Opens the ports of these names, over which nothing has passed as yet. It sends nothing.
     fn open(&mut self, names: PortNames<'_>) -> Result<Self::Port, Refusal>
-        ensures opened { OnOk result (ways self.new ≡ opened_by (names_of names.entry) (ways self.old)) }
+        ensures opened { OnOk result (ways self.new ≡ opened_by (names_of names.entry)
+            (ways self.old)) }
         ensures unopened { OnErr result (ways self.new ≡ ways self.old) }
         ensures fresh { IfOk result (λ port. Self.Port.passed port ≡ Some []) }
         ensures unfailed { IfOk result (λ port. Self.Port.failures port ≡ 0) }

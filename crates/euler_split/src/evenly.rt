@@ -72,7 +72,8 @@ pub fn split_evenly(graph: &LinkGraph, members: &mut [usize], scratch: &mut Scra
     requires room { length members.old ≤ scratch.old }
     requires even { CanBeHalved graph.now members.old 1 }
     ensures within { result ≤ length members.old }
-    ensures split { IsSplit graph.now members.old (take result members.new) (drop result members.new) }
+    ensures split { IsSplit graph.now members.old (take result members.new)
+        (drop result members.new) }
     ensures pairs { HaveSamePairs graph.now (take result members.new) (drop result members.new) }
     ensures room { scratch.new ≡ scratch.old }
 {

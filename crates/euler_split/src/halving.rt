@@ -88,7 +88,8 @@ pub fn split_in_place(graph: &LinkGraph, members: &mut [usize], scratch: &mut Sc
     requires distinct { AreDistinct members.old }
     requires room { length members.old ≤ scratch.old }
     ensures within { result ≤ length members.old }
-    ensures split { IsSplit graph.now members.old (take result members.new) (drop result members.new) }
+    ensures split { IsSplit graph.now members.old (take result members.new)
+        (drop result members.new) }
     ensures room { scratch.new ≡ scratch.old }
 {
     prove!(graph.len() <= MAX_TRANSFERS);

@@ -63,7 +63,8 @@ impl Pairs {
         requires zero_in { zero < MAX_MODULES }
         requires three_in { three < MAX_MODULES }
         ensures toggled { AreToggled self.old.zero self.new.zero zero three }
-        ensures less { has_pair self.old.zero zero three ≡ true → sum self.new.zero < sum self.old.zero }
+        ensures less { has_pair self.old.zero zero three ≡ true
+            → sum self.new.zero < sum self.old.zero }
     {
         toggle(&mut self.zero, zero, three);
         toggle(&mut self.three, three, zero);

@@ -36,8 +36,10 @@ fn walk(untaken: &mut Pairs, left_half: &mut Masks, start: usize, first_left: bo
     requires start_in { start < MAX_MODULES }
     requires some { 0 < slice_index untaken.old.zero start }
     ensures walked { (all : ℕ → ℕ → Bool)
-        → AreEven all start untaken.old.zero left_half.old (walk_surplus first_left start Zero start)
-        → AreEven all start untaken.new.zero left_half.new (walk_surplus (not first_left) start Zero start) }
+        → AreEven all start untaken.old.zero left_half.old
+        (walk_surplus first_left start Zero start)
+        → AreEven all start untaken.new.zero left_half.new
+        (walk_surplus (not first_left) start Zero start) }
     ensures less { sum untaken.new.zero < sum untaken.old.zero }
 {
     let mut zero = start;

@@ -1,6 +1,6 @@
 //! What a job's files contain, of which one may be standard input.
 
-ghost use Rattle.std.specs.Prelude.{◌≡◌, ◌∷◌, [], IfOk, IfErr, map, option_map, option_to_list, unwrap_or};
+ghost use Rattle.std.specs.Prelude.{◌≡◌, [], IfOk, IfErr, map, option_map, option_to_list, unwrap_or};
 ghost use Rattle.plan_answers.specs.Lent.{bytes_of};
 ghost use Rattle.plan_answers.specs.Schedules.{said_by, source_map};
 ghost use Rattle.command_words.specs.Files.{file_names};

@@ -202,9 +202,11 @@ fn write_history<S: System>(
     file: &mut S::Stream,
 ) -> io::Result<()>
     ensures written { OnOk result
-        (Appends (S.Stream.contents file.old) (S.Stream.contents file.new) (record_text book.now.history)) }
+        (Appends (S.Stream.contents file.old) (S.Stream.contents file.new)
+        (record_text book.now.history)) }
     ensures cut { OnErr result
-        (IsCutShort (S.Stream.contents file.old) (S.Stream.contents file.new) (record_text book.now.history)) }
+        (IsCutShort (S.Stream.contents file.old) (S.Stream.contents file.new)
+        (record_text book.now.history)) }
 {
     let text = write_record(alloc, book)?;
     write_over(system, file, text.as_slice())

@@ -1,14 +1,9 @@
-ghost use Rattle.std.specs.Prelude.{◌≡◌, ◌≢◌, ◌<◌, ◌≤◌, ◌↔◌, ℕ, List, [], ◌++◌, length, replicate, true, false, All, IsTrue, IfOk, IfErr, IfSome, IfNone, OnOk};
-ghost use Rattle.std.specs.List.{concat};
-ghost use Rattle.std.specs.Option.{IsSomeAnd};
+ghost use Rattle.std.specs.Prelude.{◌≡◌, ◌<◌, [], length, replicate, false, IfOk, IfErr, OnOk};
 ghost use Rattle.batch.specs.Batches.{IsBatch};
 ghost use Rattle.link_graph.specs.declared.check_fault.CheckFault.TheVariants.{NoMemory};
-ghost use Rattle.link_graph.specs.Uses.{Uses, IsMatching};
 ghost use Rattle.link_graph.specs.Schedules.{lists_of, IsScheduleOf};
-ghost use Rattle.link_graph.specs.Certificates.{naming, AreDistinct, IsShortest, IsCertificate, IsCertified};
-ghost use Rattle.link_graph.specs.Tables.{AreCounts};
-ghost use Rattle.link_graph.specs.Checks.{IsFirstWithout, IsFirstRepeated, IsFirstMissing, IsFirstClash, AreKnown, UsesNamed, IsWantOfMemory, IsFirstUnlessMemory, IsSettingsFault, CertifiesCount, IsNamingFault};
-ghost use Rattle.link_graph.specs.Marks.{AreMarks};
+ghost use Rattle.link_graph.specs.Certificates.{IsShortest, IsCertificate, IsCertified};
+ghost use Rattle.link_graph.specs.Checks.{AreKnown, IsWantOfMemory, IsFirstUnlessMemory, IsSettingsFault, CertifiesCount, IsNamingFault};
 
 use crate::certificate::Certificate;
 use crate::check_fault::CheckFault;

@@ -1,11 +1,10 @@
 //! The tests of the checker, each over all of a schedule or of a certificate.
 
-ghost use Rattle.std.specs.Prelude.{◌≡◌, ◌≢◌, ◌<◌, ◌≤◌, ◌+◌, ◌↔◌, ℕ, List, [], ◌++◌, length, take, true, false, All, IsTrue, IfSome, IfNone, position, not, nat_lt};
+ghost use Rattle.std.specs.Prelude.{◌≡◌, ◌<◌, ◌↔◌, [], length, true, false, All, IsTrue, IfSome, IfNone, position, not, nat_lt};
 ghost use Rattle.std.specs.List.{concat};
 ghost use Rattle.batch.specs.Batches.{IsBatch};
 ghost use Rattle.link_graph.specs.declared.link.Link.{Link};
-ghost use Rattle.link_graph.specs.Links.{link_index, StandsBefore};
-ghost use Rattle.link_graph.specs.Uses.{Uses, IsMatching};
+ghost use Rattle.link_graph.specs.Uses.{IsMatching};
 ghost use Rattle.link_graph.specs.Schedules.{lists_of};
 ghost use Rattle.link_graph.specs.Certificates.{AreDistinct};
 ghost use Rattle.link_graph.specs.Tables.{AreCounts};

@@ -79,7 +79,8 @@ impl LinkGraph {
     /// The same of a transfer that there is.
     pub fn ends_of(&self, t: usize) -> (Link, Link)
         requires { t < length self.now }
-        ensures { option_map (λ x. (start_link x, answer_link x)) (slice_get self.now t) ≡ Some result }
+        ensures { option_map (λ x. (start_link x, answer_link x)) (slice_get self.now t)
+            ≡ Some result }
     {
         let transfer = &self.batch.as_slice()[t];
         (counting::start_of(transfer), counting::answer_of(transfer))

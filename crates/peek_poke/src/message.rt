@@ -1,6 +1,6 @@
 //! The messages to an answering end (IMS T414 data sheet, peek and poke over a link).
 
-ghost use Rattle.std.specs.Prelude.{◌≡◌, ◌<◌, ◌≤◌, slice_index, take};
+ghost use Rattle.std.specs.Prelude.{◌≡◌, ◌≤◌, slice_index, take};
 ghost use Rattle.peek_poke.specs.Messages.{IsMessage, spell};
 ghost use Rattle.peek_poke.specs.declared.message.Message.TheVariants.{Peek, Poke};
 

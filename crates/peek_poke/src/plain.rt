@@ -1,6 +1,6 @@
 //! Wires that carry each byte as the bits of a link.
 
-ghost use Rattle.std.specs.Prelude.{◌≡◌, [], IsOk, IfOk};
+ghost use Rattle.std.specs.Prelude.{◌≡◌, []};
 
 use crate::bit_line::BitLine;
 use crate::fault::WireFault;

@@ -42,7 +42,8 @@ impl Model for Scheduled {
 
     ghost view = { λ s. scheduled_in s.made };
 
-    ghost invariant = { λ s. IsScheduleOf (scheduled_in s.made).batch (scheduled_in s.made).settings };
+    ghost invariant = { λ s. IsScheduleOf (scheduled_in s.made).batch
+        (scheduled_in s.made).settings };
 }
 
 impl Scheduled {

@@ -158,7 +158,8 @@ pub fn answer_switch<R: Threads + Sync>(
     workers: WorkerCount,
 ) -> Result<Answer, AllocError>
     ensures switched { IfOk result
-        (IsOn (λ board. IsSwitched (said_by source.entry) board batch.now) (bytes_of wiring.entry)) }
+        (IsOn (λ board. IsSwitched (said_by source.entry) board batch.now)
+        (bytes_of wiring.entry)) }
     // Of a schedule's text and the usual wiring no other answer is right.
     ensures one { IsText source.entry → bytes_of wiring.entry ≡ None →
         IfOk result (IsOnly (IsSwitched (said_by source.entry) None batch.now)) }

@@ -1,6 +1,6 @@
 //! What may stand in a line.
 
-ghost use Rattle.std.specs.Prelude.{◌≡◌, ℕ, Bool};
+ghost use Rattle.std.specs.Prelude.{◌≡◌};
 ghost use Rattle.refusal_notes.specs.Wanted.{IsWantedAt, certificate_line, is_none_line as none_line};
 
 use crate::lines::{announced, line_at};

@@ -1,6 +1,6 @@
 //! First fit: a schedule that is quickly found, though it may be longer than needed.
 
-ghost use Rattle.std.specs.Prelude.{◌≡◌, ◌<◌, ◌≤◌, ℕ, MatchBool, IfOk, OnOk, IfSome, IfNone, length};
+ghost use Rattle.std.specs.Prelude.{◌<◌, ◌≤◌, MatchBool, IfOk, OnOk, IfSome, IfNone, length};
 ghost use Rattle.link_graph.specs.Uses.{AreApart};
 ghost use Rattle.link_graph.specs.Schedules.{IsScheduleOf, lists_of};
 ghost use Rattle.schedule_certificate.specs.FirstFit.{Places, IsOpenTo, IsFirstOpen, IsBlocked, AllBlocked, Share, IsFirstFit};

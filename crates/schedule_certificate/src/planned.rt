@@ -1,10 +1,9 @@
-ghost use Rattle.std.specs.Prelude.{◌≡◌, IfOk, Some, None};
+ghost use Rattle.std.specs.Prelude.{◌≡◌};
 ghost use Rattle.schedule_certificate.specs.Plans.{plan_of, IsPlan, HasFewReinsertions, IsMadePlan};
 
 use alternating_path::Coloured;
 use batch::Batch;
 use link_graph::{Certificate, Schedule};
-use std::alloc::AllocError;
 use std::marker::Model;
 
 /// A batch with a shortest schedule of it, and the certificate that shows that none is shorter.
@@ -83,16 +82,6 @@ impl Planned {
     {
         self.coloured.inserted()
     }
-
-    /// An equal value. Takes time that grows with the number of transfers.
-    pub fn copy(&self) -> Result<Planned, AllocError>
-        ensures { IfOk result (λ copy. copy ≡ self.now) }
-    {
-        let batch = self.batch.copy()?;
-        let coloured = self.coloured.copy()?;
-        let certificate = copied(&self.batch, &self.certificate)?;
-        Ok(Planned::of(batch, coloured, certificate))
-    }
 }
 
 impl PartialEq for Planned {
@@ -128,16 +117,7 @@ impl Eq for Planned {
 
     ghost laws = { and_equiv
         (on_equiv (λ p. p.batch) batch.laws-law)
-        (and_equiv (on_equiv coloured_of coloured.laws-law) (on_equiv (λ p. p.named) named.laws-law)) };
-}
-
-/// An equal certificate, on the batch's allocator.
-fn copied(batch: &Batch, certificate: &Certificate) -> Result<Certificate, AllocError>
-    ensures { IfOk result (λ copy. copy ≡ certificate.now) }
-{
-    let Some(link) = certificate.link() else {
-        return Ok(Certificate::none());
-    };
-    let transfers = certificate.transfers().to_vec(batch.allocator())?;
-    Ok(Certificate::of(link, transfers).unwrap())
+        (and_equiv
+        (on_equiv coloured_of coloured.laws-law)
+        (on_equiv (λ p. p.named) named.laws-law)) };
 }

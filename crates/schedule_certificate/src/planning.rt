@@ -1,6 +1,6 @@
 //! Shortest schedules.
 
-ghost use Rattle.std.specs.Prelude.{◌≡◌, ◌≤◌, ◌<◌, ℕ, IfOk, length};
+ghost use Rattle.std.specs.Prelude.{◌≡◌, ◌<◌, IfOk, length};
 ghost use Rattle.std.specs.List.{range_with_len};
 ghost use Rattle.schedule_certificate.specs.Parts.{IsDegree};
 ghost use Rattle.schedule_certificate.specs.Plans.{NamesBusiest, IsPlan, IsColoured, HasFewReinsertions};

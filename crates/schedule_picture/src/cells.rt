@@ -1,7 +1,6 @@
 //! The columns of a picture: the cells of the transfers that a setting holds.
 
-ghost use Rattle.std.specs.Prelude.{◌≡◌, ◌<◌, ◌≤◌, List, length, All, OnOk, Some, slice_get, codes};
-ghost use Rattle.batch.specs.Overlap.{transfer_at};
+ghost use Rattle.std.specs.Prelude.{◌≡◌, ◌<◌, length, All, OnOk};
 ghost use Rattle.batch.specs.Text.{IsNumber};
 ghost use Rattle.link_graph.specs.declared.link.End.{End};
 ghost use Rattle.link_graph.specs.Counts.{module_at as module_of};

@@ -1,6 +1,6 @@
 //! The elements of SVG that a picture is made of.
 
-ghost use Rattle.std.specs.Prelude.{◌≡◌, OnOk};
+ghost use Rattle.std.specs.Prelude.{OnOk};
 ghost use Rattle.schedule_picture.specs.Elements.{Adds, box_text, coloured_box, text_start, link_label};
 
 use link_graph::Link;

@@ -2,7 +2,6 @@
 
 ghost use Rattle.std.specs.Prelude.{◌≡◌, ◌<◌, ◌≤◌, ◌^◌};
 ghost use Rattle.batch.specs.Batches.{IsBatch};
-ghost use Rattle.link_graph.specs.Counts.{count_below};
 ghost use Rattle.schedule_picture.specs.Places.{takes_part, row_of, row_place, legend_place, height_of, TakePart};
 
 use crate::layout::{LEGEND, ROW, TOP};

@@ -1,6 +1,6 @@
 //! The rows of a picture: the labels of the modules, and the ground on which their cells stand.
 
-ghost use Rattle.std.specs.Prelude.{◌≡◌, ◌<◌, ◌≤◌, ◌^◌, Option, OnOk};
+ghost use Rattle.std.specs.Prelude.{◌≡◌, ◌<◌, ◌^◌, OnOk};
 ghost use Rattle.batch.specs.Text.{IsNumber};
 ghost use Rattle.link_graph.specs.declared.link.Link.{Link};
 ghost use Rattle.schedule_picture.specs.Places.{panels_of};

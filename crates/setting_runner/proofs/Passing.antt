@@ -1,7 +1,6 @@
 -- What passes over the configuration links, setting by setting.
 use Rattle.std.proofs.Common.{◌≡◌, ℕ, List, Option, Result, Ok, Err}
 use Rattle.std.specs.Prelude.{IfErr}
-use Rattle.batch.specs.declared.transfer.Transfer.{Transfer}
 use Rattle.crossbar.specs.declared.pair.Pair.{Pair}
 use Rattle.crossbar.specs.declared.traffic.Passing.{Passing}
 use Rattle.setting_runner.specs.Causes.{cause_of}

@@ -1,10 +1,10 @@
 -- Partners that are each other's, as links are joined and parted.
-use Rattle.std.proofs.Common.{◌≡◌, ◌≢◌, ℕ, ◌+◌, ◌<◌, List, length, set, replicate, Option, Some, None, sym, ap, ◌∙◌, subst, inl, inr, get_or-set_same, get_or-set_other, arith}
+use Rattle.std.proofs.Common.{◌≡◌, ◌≢◌, ℕ, ◌<◌, List, length, set, replicate, Option, Some, None, sym, ap, ◌∙◌, subst, inl, inr, get_or-set_same, get_or-set_other, arith}
 use Rattle.std.proofs.lemmas.Bool.{cases_eq, cases_lt}
 use Rattle.std.proofs.lemmas.List.{length-set, length-replicate, get_or_past}
 use Rattle.std.proofs.lemmas.Option.{none-some, same_Some}
 use Rattle.batch.specs.declared.limits.TheConstants.{MAX_MODULES}
-use Rattle.steady_schedule.specs.Matchings.{partner, AreMatched, AreBelow, ArePart}
+use Rattle.steady_schedule.specs.Matchings.{partner, AreMatched, ArePart}
 use Rattle.steady_schedule.proofs.Joined.{none_there}
 use Rattle.steady_schedule.proofs.Sums.{partner_cases}
 
@@ -83,20 +83,3 @@ none_back whole whole_back of back w m x y joined part = partner_cases (partner 
     let own = part z y ((m.each_other z y).1 is) in
     let same = same_Some z x (sym ((w.each_other z y).0 own.1) ∙ (w.each_other x y).0 joined) in
     absurd (omega (arith, own.0, same)))
-
--- what the first n links have is what they have
-pub part_none : (whole of : List (Option ℕ)) (n : ℕ) → AreBelow of 0 → ArePart whole n of
-part_none whole of n below x y joined = absurd (omega (arith, below x y joined))
-
-pub part_more : (whole of : List (Option ℕ)) (n : ℕ) → ArePart whole n of → ArePart whole (n + 1) of
-part_more whole of n part x y joined = let p = part x y joined in (omega (arith, p.0), p.1)
-
-pub part_put : (whole of : List (Option ℕ)) (n y : ℕ) → n < length of → partner whole n ≡ Some y → ArePart whole n of → ArePart whole (n + 1) (set of n (Some y))
-part_put whole of n y n_in joined part u v e = elim (cases_eq u n) [
-  | inl here ↦
-      let same : y ≡ v = same_Some y v (sym (at_set of n (Some y) n_in) ∙ subst (λ (w : ℕ). partner (set of n (Some y)) w ≡ Some v) here e) in
-      (omega (arith, here), ap (partner whole) here ∙ (joined ∙ ap (λ (w : ℕ). Some w) same))
-  | inr other ↦
-      let p = part u v (sym (at_other of n u (Some y) other) ∙ e) in
-      (omega (arith, p.0), p.1)
-]

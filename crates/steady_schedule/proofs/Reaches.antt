@@ -1,15 +1,15 @@
 -- Pairs of links that can be held.
-use Rattle.std.proofs.Common.{◌≡◌, ◌≢◌, ◌⊎◌, ◌==◌, ℕ, ◌+◌, ◌<◌, ◌≤◌, List, length, set, get_or, true, false, ◌&&◌, ◌||◌, Option, refl, sym, ap, ◌∙◌, subst, inl, inr, get_or-set_same, get_or-set_other, arith}
+use Rattle.std.proofs.Common.{◌≡◌, ◌≢◌, ◌⊎◌, ◌==◌, ℕ, ◌<◌, ◌≤◌, List, length, set, get_or, true, ◌&&◌, ◌||◌, Option, refl, sym, ap, ◌∙◌, subst, inl, inr, get_or-set_same, get_or-set_other, arith}
 use Rattle.std.specs.Int.RustNames.{bit_and}
 use Rattle.std.specs.Prelude.{nat_lt}
-use Rattle.std.proofs.lemmas.Bool.{cases_eq, cases_Bool, cases_lt, and_parts, and_from, or_left, or_right, eqb-true, eq-eqb, false≢true, lt-ltb}
+use Rattle.std.proofs.lemmas.Bool.{cases_eq, cases_Bool, cases_lt, and_parts, and_from, or_left, or_right, eqb-true, eq-eqb, lt-ltb}
 use Rattle.std.proofs.lemmas.Bool.Decides.{nat_tests}
-use Rattle.std.proofs.lemmas.Nat.Bits.{bit_at_and, bit_at-lt, bit_at-zero}
+use Rattle.std.proofs.lemmas.Nat.Bits.{bit_at_and, bit_at-lt}
 use Rattle.batch.specs.declared.limits.TheConstants.{MAX_MODULES}
 use Rattle.link_graph.specs.declared.link.End.{End}
 use Rattle.steady_schedule.specs.Masks.{has_bit, has_pair}
 use Rattle.steady_schedule.specs.Matchings.{AreMatched}
-use Rattle.steady_schedule.specs.Reaches.{AreHeld, HaveHeld, HaveEach, AreAtMost}
+use Rattle.steady_schedule.specs.Reaches.{AreHeld, HaveHeld, HaveEach}
 use Rattle.steady_schedule.specs.Searches.{AreNear, JoinsNear}
 use Rattle.steady_schedule.specs.Waiting.{count_at, count_between}
 use Rattle.steady_schedule.proofs.Searching.{both_bits}
@@ -45,9 +45,6 @@ rows_still counts k n zn tn zn_now tn_now a b zero three rows u v u_in v_in some
     let was = rows u v u_in v_in some in
     (still_in zn zn_now a b u v zero was.0, still_in tn tn_now b a v u three was.1)
 
-none_in : (i : ℕ) → has_bit 0 i ≡ false
-none_in i = grind (arith, nat_tests, bit_at-zero i)
-
 -- what of a row is still to come, and what is in the masks
 abbrev pub RowHeld : List ℕ → ℕ → ℕ → ℕ → List ℕ → List ℕ → Type 0
 RowHeld counts k a rest zn tn =
@@ -60,21 +57,6 @@ row_put counts k a b rest less zn tn zn_now tn_now zero three others row v v_in 
     | inl there ↦ inl (others v ne ∙ there)
     | inr was ↦ inr (still_in zn zn_now a b a v zero was.0, still_in tn tn_now b a v a three was.1)
   ]
-]
-
-pub row_past : (counts : List ℕ) (k a b rest less : ℕ) (zn tn : List ℕ) → count_at counts a b < k → ((m : ℕ) → m ≢ b → has_bit less m ≡ has_bit rest m) → RowHeld counts k a rest zn tn → RowHeld counts k a less zn tn
-row_past counts k a b rest less zn tn few others row v v_in some = elim (cases_eq v b) [
-  | inl e ↦ absurd (omega (arith, some, few, ap (count_at counts a) e))
-  | inr ne ↦ elim (row v v_in some) [ inl there ↦ inl (others v ne ∙ there) | inr was ↦ inr was ]
-]
-
-pub row_done : (counts : List ℕ) (k a : ℕ) (zn tn : List ℕ) → RowHeld counts k a 0 zn tn → HaveHeld counts k a zn tn → HaveHeld counts k (a + 1) zn tn
-row_done counts k a zn tn row rows u v u_in v_in some = elim (cases_eq u a) [
-  | inl e ↦ elim (row v v_in (omega (arith, some, ap (λ (w : ℕ). count_at counts w v) e))) [
-    | inl bad ↦ absurd (false≢true (sym (none_in v) ∙ bad))
-    | inr was ↦ rw e was
-  ]
-  | inr ne ↦ rows u v (omega arith) v_in some
 ]
 
 -- ---- the most of some
@@ -97,12 +79,6 @@ pub most_more : (counts : List ℕ) (end : End) (x others rest less most now b :
 most_more counts end x others rest less most now b same le here so_far y y_in has = elim (cases_eq y b) [
   | inl e ↦ inr (omega (arith, here, ap (count_between counts end x) e))
   | inr ne ↦ elim (so_far y y_in has) [ inl there ↦ inl (same y ne ∙ there) | inr few ↦ inr (omega (arith, few, le)) ]
-]
-
-pub most_done : (counts : List ℕ) (end : End) (x others most : ℕ) → MostSoFar counts end x others 0 most → AreAtMost counts end x others most
-most_done counts end x others most so_far y y_in has = elim (so_far y y_in has) [
-  | inl bad ↦ absurd (false≢true (sym (none_in y) ∙ bad))
-  | inr few ↦ few
 ]
 
 -- masks of which each is within another

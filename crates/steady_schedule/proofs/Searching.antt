@@ -10,7 +10,7 @@ use Rattle.std.proofs.lemmas.Option.{none-some, same_Some}
 use Rattle.batch.specs.declared.limits.TheConstants.{MAX_MODULES}
 use Rattle.steady_schedule.specs.Masks.{has_bit, has_pair}
 use Rattle.steady_schedule.specs.Matchings.{partner, AreMatched}
-use Rattle.steady_schedule.specs.Searches.{AreNear, JoinsNear, IsStuck, IsInVain, IsFound, IsFreed}
+use Rattle.steady_schedule.specs.Searches.{IsStuck, IsInVain, IsFound, IsFreed}
 use Rattle.steady_schedule.proofs.Matchings.{has_low, at_set, at_other}
 
 -- ---- masks
@@ -44,9 +44,6 @@ pub along : (o p : Option ℕ) → o ≡ p → IsSome p → IsSome o
 along o p e some = rw e some
 
 -- ---- new partners
-
-pub near_still : (near : List ℕ) (of now : List (Option ℕ)) → JoinsNear near of now → AreNear near of → AreNear near now
-near_still near of now joins old x y e = elim (joins x y e) [ inl same ↦ old x y same | inr new ↦ new ]
 
 -- ---- a link is freed
 

@@ -8,7 +8,7 @@ ghost use Rattle.steady_schedule.specs.Matchings.{partner, AreMatched, ArePart};
 ghost use Rattle.steady_schedule.specs.Reaches.{AreHeld, HaveHeld, HaveEach, IsOverMask, JoinsNeeded, IsBarred, IsInWay, HaveWay, AreAtMost};
 ghost use Rattle.steady_schedule.specs.Searches.{AreNear, JoinsNear};
 ghost use Rattle.steady_schedule.specs.Steps.{NoneLonger};
-ghost use Rattle.steady_schedule.specs.Waiting.{waiting, HaveMost, NoneWait};
+ghost use Rattle.steady_schedule.specs.Waiting.{HaveMost, NoneWait};
 
 use crate::masks::{Masks, has, lowest, without_module};
 use crate::matching::{Matching, Partners, augment, free, join};

@@ -9,7 +9,7 @@
 //!
 //! The schedule of [`steady`] is shortest, as its certificate shows. Behind a setting the switch
 //! changes only where that joined a pair of links for the last time, or left a link free that each
-//! later setting uses; and at most as often as there are pairs of links and links in use
+//! later setting uses; and at most as often as there are pairs of links and links in use.
 //! Where a step begins, no matching could be held longer than the step (Gopal and Wong's rule), and
 //! steps don't get longer (`IsSteady` of `specs/Plans.antt`). Mostly the switch changes far less
 //! often than its bound.

@@ -1,11 +1,11 @@
 //! Steps: matchings that are held for some settings.
 
-ghost use Rattle.std.specs.Prelude.{◌≡◌, ℕ, ◌+◌, ◌<◌, ◌≤◌, Some, None, IfSome, IsSome, true};
+ghost use Rattle.std.specs.Prelude.{◌≡◌, ℕ, ◌+◌, ◌<◌, ◌≤◌, Some, None, IfSome, true};
 ghost use Rattle.link_graph.specs.declared.link.End.TheVariants.{Zero, Three};
 ghost use Rattle.batch.specs.declared.limits.TheConstants.{MAX_MODULES, MAX_TRANSFERS};
 ghost use Rattle.steady_schedule.specs.Covers.{AreFree, AreCovered, KeepsPartners};
 ghost use Rattle.steady_schedule.specs.Masks.{has_bit, has_pair};
-ghost use Rattle.steady_schedule.specs.Matchings.{partner, AreMatched, AreBelow};
+ghost use Rattle.steady_schedule.specs.Matchings.{partner, AreBelow};
 ghost use Rattle.steady_schedule.specs.Searches.{AreNear, JoinsNear};
 ghost use Rattle.steady_schedule.specs.Steps.{CanHold, NoneLonger};
 ghost use Rattle.steady_schedule.specs.Waiting.{count_at, waiting, HaveMost, NoneWait};

@@ -1,6 +1,6 @@
 //! The stream of one switch.
 
-ghost use Rattle.std.specs.Prelude.{◌≡◌, ◌++◌, ◌∷◌, [], List, length, Some, OnOk, OnErr, IfOk};
+ghost use Rattle.std.specs.Prelude.{◌∷◌, [], length, Some, OnOk, OnErr, IfOk};
 ghost use Rattle.std.specs.Option.{option_to_list};
 ghost use Rattle.c004_commands.specs.Commands.{row};
 ghost use Rattle.crossbar.specs.Port.{IsConversation};

@@ -1,6 +1,6 @@
 //! A switch at two streams of bytes.
 
-ghost use Rattle.std.specs.Prelude.{◌≡◌, ◌+◌, ◌<◌, ◌^◌, OnOk, OnErr, IfErr};
+ghost use Rattle.std.specs.Prelude.{◌+◌, ◌<◌, OnOk, OnErr};
 ghost use Rattle.switch_end.specs.Answering.{HasAnsweredInput, HasHandled, IsReplyCut};
 
 use crate::end::SwitchEnd;

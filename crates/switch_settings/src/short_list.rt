@@ -1,6 +1,6 @@
 //! Lists of at most one entry for each module, which take no memory from an allocator.
 
-ghost use Rattle.std.specs.Prelude.{◌≡◌, ◌≤◌, ◌<◌, ◌↔◌, ◌++◌, ◌∷◌, [], IsTrue, length};
+ghost use Rattle.std.specs.Prelude.{◌≡◌, ◌≤◌, ◌<◌, ◌++◌, ◌∷◌, [], length};
 
 use batch::MAX_MODULES;
 use std::alloc::AllocError;

@@ -9,7 +9,7 @@ ghost use Rattle.crossbar.specs.Port.{IsConversation};
 ghost use Rattle.crossbar.specs.Pairs.{Fits, ArePairs, room_of, ends, switch_of};
 ghost use Rattle.crossbar.specs.Traffic.{Passes, PassesFront};
 ghost use Rattle.crossbar.specs.declared.chip.Chip.TheVariants.{A};
-ghost use Rattle.crossbar.specs.declared.chip.Wiring.TheVariants.{Both, Board};
+ghost use Rattle.crossbar.specs.declared.chip.Wiring.TheVariants.{Board};
 ghost use Rattle.crossbar.specs.declared.switch.TheConstants.{JOINED_MODULES};
 ghost use Rattle.switch_settings.specs.Answers.{Agrees, AllAgree, IsFirstDisagreement, IsDisagreementAt, IsMisset, AreSetTo, IsConfigureFault, IsStandingAt, AreStanding, TurnFrom};
 ghost use Rattle.switch_settings.specs.Asking.{turned, asked, HaveReplied, HavePassedFor, OneStands, OneHasPassedFor};

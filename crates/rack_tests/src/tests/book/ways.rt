@@ -2,7 +2,6 @@
 //! was made with.
 
 ghost use Rattle.batch_book.specs.Naming.{IsNamed};
-ghost use Rattle.std.specs.Prelude.{◌≡◌};
 
 use crate::tests::common::{TWO_PUSHES, marked, two, with_gate};
 use crate::tests::meeting::Meeting;

@@ -1,6 +1,6 @@
 //! A listener that sees whether it is told what it is to be told beside a session, and when.
 
-ghost use Rattle.std.specs.Prelude.{ℕ, List, None, ⊤};
+ghost use Rattle.std.specs.Prelude.{None, ⊤};
 
 use super::streams::Script;
 use client_session::{Listener, ServeFault};

@@ -2,7 +2,6 @@
 //! other did.
 
 ghost use Rattle.batch_book.specs.Naming.{IsNamed};
-ghost use Rattle.std.specs.Prelude.{◌≡◌};
 
 use super::served::{NO_FUSE, Saying, serve_at_once};
 use crate::tests::common::{with_wires, zeros};
