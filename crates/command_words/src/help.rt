@@ -375,9 +375,8 @@ Example:
     notes: "\
 SHAPE is MxKxW, in the form that `exchange run --help` shows. Each SCRIPT is a
 file of session lines; 1 to 16 of them are served at once, each in a thread of
-its own where one can be had. They share one exchange: one rack, whose words are
-at first 0, or those of the image where there is one, and its switches. Each may
-read and write every word, and whose line comes first isn't fixed.
+its own where one can be had. They share one rack, whose words are at first 0,
+or those of the image. Whose line comes first isn't fixed.
 
 A line has at most 80 bytes, and single spaces between its words. It is answered
 by one line:
@@ -390,15 +389,14 @@ by one line:
   poke M A D   writes D there: poked
   progress     how far the last run is: progress run R done SETTINGS
   bye          ends the session: bye
-Batches and runs are numbered from 1, in the order in which the exchange meets
-them, those of all sessions together: let one script alone hand batches in, or
-none knows their numbers. A batch is its session's own, and is run once. A and D
-are eight hexadecimal digits in lower case. Word j of block b is at address
-80000800 + 4 (W b + j), in hexadecimal digits.
+Batches and runs are numbered from 1, those of all sessions together: so let one
+script alone hand batches in. A batch is its session's own, and is run once. A
+and D are eight hexadecimal digits in lower case. Word j of block b is at
+address 80000800 + 4 (W b + j), in hexadecimal digits.
 
 The answer is, for each script in the order of the words, the line `session I`,
-with I from 0, and then the lines that its commands are answered by. A command
-may be refused; then nothing has changed, and the session goes on:
+with I from 0, and then the lines that its own are answered by. A line may be
+refused; then nothing has changed, and the session goes on:
   refused line               the line has another form
   refused ..                 the batch, as `exchange plan --help` shows, in
                              this rack; its lines count from the line `batch N`
@@ -409,31 +407,22 @@ may be refused; then nothing has changed, and the session goes on:
   refused memory no module   there is no module M
   refused memory misaligned  A isn't a multiple of four
   refused memory outside     no word of the module is at A
-  refused book full          the exchange holds 256 batches of all sessions, the
-                             most that it can: one has to be dropped first
-  refused history full       the exchange has answered 65536 calls of all
-                             sessions, the most that its history holds: `plan`
-                             of a batch that the session has is two; `progress`,
-                             `bye`, `refused line` and a faulty batch are none
+  refused book full          the exchange holds 256 batches: drop one first
+  refused history full       the exchange has answered 65536 calls: start it anew
   refused no memory          there was no memory for it
 A session that doesn't end with its script or by `bye` has one line more:
   ended cut                  the script ends within a line or within a batch
   ended line too long        a line has more than 80 bytes
-  ended turns                the script was read 1000000 times, the most that a
-                             session may; each read brings at most 81 bytes
+  ended turns                the script was read 1000000 times, 81 bytes at most
   ended no memory            there was no memory for the lines of a batch
   ended write                there was no memory for an answer
   ended read                 the script can't be read any further
-With `host` there is `ended open` too, for a client whose files can't be opened.
 
-With --record each call of all sessions, in the order in which the exchange met
-them, and its reply are written to FILE when all sessions have ended, in the
-form that `exchange replay --help` shows, but for calls that are answered by
-`refused history full` or `refused no memory`. With --image-out the words of the
-rack are then written to FILE, in the form that `exchange apply --help` shows.
-Each FILE is opened before the first session, made where it isn't there, and
-emptied only then. It can't be `-`, nor by its name one that is read, one of a
-client's or the other's.
+--record writes each call of all sessions with its reply when all have ended, in
+the form that `exchange replay --help` shows. --image-out then writes the words,
+in the form that `exchange apply --help` shows. Each FILE is opened before the
+first session, and emptied only then. It can't be `-`, nor one that is read or
+written too.
 
 Else nothing is served, and the answer is the first of these that is wrong:
   refused file               the image or a SCRIPT can't be read, the FILE of
