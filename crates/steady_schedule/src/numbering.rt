@@ -22,28 +22,27 @@ use std::alloc::{AllocError, Global};
 
 /// Where the slots of each pair of links begin. There is one for each of its transfers.
 #[derive(Drop)]
-struct Places {
-    totals: [usize; PAIRS],
-    starts: [usize; PAIRS],
+struct Places<'a> {
+    totals: &'a [usize; PAIRS],
+    starts: &'a [usize; PAIRS],
     /// How many slots there are.
     room: usize,
-    ghost placed: { AreFirstSlots totals starts room },
+    ghost placed: { AreFirstSlots totals.now starts.now room },
 }
 
-impl Places {
-    /// Places for so many transfers of each pair.
-    fn of(totals: &[usize; PAIRS]) -> Places
+impl<'a> Places<'a> {
+    /// Places for so many transfers of each pair, which are kept in `starts`.
+    fn of(totals: &'a [usize; PAIRS], starts: &'a mut [usize; PAIRS]) -> Places<'a>
         requires { All (λ total. total ≤ MAX_TRANSFERS) totals.now }
-        ensures { result.totals ≡ totals.now }
+        ensures { result.totals.now ≡ totals.now }
     {
-        let mut starts = [0; PAIRS];
         let mut room = 0;
         for place in 0..PAIRS {
             starts[place] = room;
             room += totals[place];
         }
         Places {
-            totals: *totals,
+            totals,
             starts,
             room,
         }
@@ -53,8 +52,8 @@ impl Places {
     fn slot(&self, zero: usize, three: usize, i: usize) -> usize
         requires zero_in { zero < MAX_MODULES }
         requires three_in { three < MAX_MODULES }
-        requires there { i ≤ count_at self.now.totals zero three }
-        ensures { result ≡ sum_below (pair_index zero three) (slice_index self.now.totals) + i }
+        requires there { i ≤ count_at self.now.totals.now zero three }
+        ensures { result ≡ sum_below (pair_index zero three) (slice_index self.now.totals.now) + i }
     {
         self.starts[zero * MAX_MODULES + three] + i
     }
@@ -77,7 +76,7 @@ fn write_pair(slots: &mut [usize], at: usize, first: usize, settings: usize)
 fn hold_one(
     remaining: &mut Remaining,
     matching: &mut Matching,
-    places: &Places,
+    places: &Places<'_>,
     slots: &mut [usize],
     zero: usize,
     first: usize,
@@ -88,11 +87,11 @@ fn hold_one(
     requires there { (y : ℕ) → partner matching.old.zero zero ≡ Some y
         → settings ≤ count_at remaining.old.counts zero y }
     requires few { first + settings ≤ MAX_TRANSFERS }
-    requires within { AreSlotsOf places.now.totals remaining.old.counts slots.old }
+    requires within { AreSlotsOf places.now.totals.now remaining.old.counts slots.old }
     ensures free { partner matching.old.zero zero ≡ None
         → IsHeldAs remaining.old.counts slots.old remaining.new.counts slots.new }
     ensures joined { (y : ℕ) → partner matching.old.zero zero ≡ Some y
-        → IsKeptFor places.now.totals zero y first settings
+        → IsKeptFor places.now.totals.now zero y first settings
         remaining.old.counts slots.old remaining.new.counts slots.new }
     ensures rest { (y : ℕ) → partner matching.new.zero zero ≡ Some y
         → 0 < count_at remaining.new.counts zero y }
@@ -116,7 +115,7 @@ fn hold_one(
 fn hold(
     remaining: &mut Remaining,
     matching: &mut Matching,
-    places: &Places,
+    places: &Places<'_>,
     slots: &mut [usize],
     first: usize,
     settings: usize,
@@ -128,13 +127,13 @@ fn hold(
     requires there { (x y : ℕ) → partner matching.old.zero x ≡ Some y
         → settings ≤ count_at remaining.old.counts x y }
     requires few { first + settings ≤ MAX_TRANSFERS }
-    requires numbered { AreNumbered places.now.totals remaining.old.counts slots.old first }
+    requires numbered { AreNumbered places.now.totals.now remaining.old.counts slots.old first }
     ensures taken { AreTaken matching.old.zero settings MAX_MODULES
         remaining.old.counts remaining.new.counts }
     ensures near { AreNear remaining.new.zero.near matching.new.zero }
     ensures numbered { AreNumberedFrom matching.old.zero first MAX_MODULES
-        places.now.totals remaining.new.counts slots.new (first + settings) }
-    ensures kept { KeepNumbers places.now.totals first
+        places.now.totals.now remaining.new.counts slots.new (first + settings) }
+    ensures kept { KeepNumbers places.now.totals.now first
         remaining.old.counts slots.old remaining.new.counts slots.new }
 {
     for zero in 0..modules {
@@ -143,16 +142,16 @@ fn hold(
 }
 
 /// Writes the numbers of their settings for all transfers that wait.
-fn fill(remaining: &mut Remaining, places: &Places, slots: &mut [usize], settings: usize)
-    requires whole { remaining.old.counts ≡ places.now.totals }
+fn fill(remaining: &mut Remaining, places: &Places<'_>, slots: &mut [usize], settings: usize)
+    requires whole { remaining.old.counts ≡ places.now.totals.now }
     requires most { HaveMost remaining.old.counts settings }
     requires few { settings ≤ MAX_TRANSFERS }
-    requires numbered { AreNumbered places.now.totals remaining.old.counts slots.old 0 }
+    requires numbered { AreNumbered places.now.totals.now remaining.old.counts slots.old 0 }
     ensures done { (u v : ℕ) → u < MAX_MODULES → v < MAX_MODULES
         → count_at remaining.new.counts u v ≡ 0 }
-    ensures numbered { AreNumbered places.now.totals remaining.new.counts slots.new settings }
-    ensures needs { AreAtNeed places.now.totals remaining.new.counts slots.new settings settings }
-    ensures long { AreLongSteps places.now.totals remaining.new.counts slots.new
+    ensures numbered { AreNumbered places.now.totals.now remaining.new.counts slots.new settings }
+    ensures needs { AreAtNeed places.now.totals.now remaining.new.counts slots.new settings settings }
+    ensures long { AreLongSteps places.now.totals.now remaining.new.counts slots.new
         settings settings 0 }
 {
     let modules = remaining.modules();
@@ -177,7 +176,7 @@ fn fill(remaining: &mut Remaining, places: &Places, slots: &mut [usize], setting
 /// The number of a pair's next transfer: that of its last slot that is left.
 fn next_number(
     remaining: &mut [usize; PAIRS],
-    places: &Places,
+    places: &Places<'_>,
     slots: &[usize],
     zero: usize,
     three: usize,
@@ -185,13 +184,13 @@ fn next_number(
     requires zero_in { zero < MAX_MODULES }
     requires three_in { three < MAX_MODULES }
     requires some { 0 < count_at remaining.old zero three }
-    requires there { count_at remaining.old zero three ≤ count_at places.now.totals zero three }
+    requires there { count_at remaining.old zero three ≤ count_at places.now.totals.now zero three }
     requires room { length slots.now
-        ≡ sum_below (MAX_MODULES * MAX_MODULES) (slice_index places.now.totals) }
+        ≡ sum_below (MAX_MODULES * MAX_MODULES) (slice_index places.now.totals.now) }
     ensures remaining { remaining.new
         ≡ set remaining.old (pair_index zero three) (count_at remaining.old zero three - 1) }
     ensures number { result
-        ≡ slot places.now.totals slots.now zero three (count_at remaining.old zero three - 1) }
+        ≡ slot places.now.totals.now slots.now zero three (count_at remaining.old zero three - 1) }
 {
     let place = zero * MAX_MODULES + three;
     remaining[place] -= 1;
@@ -202,21 +201,21 @@ fn next_number(
 fn read_all(
     alloc: Global,
     graph: &LinkGraph,
-    places: &Places,
+    places: &Places<'_>,
     slots: &[usize],
     settings: usize,
 ) -> Result<Vec<Vec<usize>>, AllocError>
     requires batch { IsBatch graph.now }
-    requires counted { ArePairCounts graph.now places.now.totals }
+    requires counted { ArePairCounts graph.now places.now.totals.now }
     requires room { length slots.now
-        ≡ sum_below (MAX_MODULES * MAX_MODULES) (slice_index places.now.totals) }
-    requires below { AreSlotsBelow places.now.totals slots.now settings }
-    ensures { IfOk result (λ lists. AreReadInto graph.now places.now.totals slots.now settings
+        ≡ sum_below (MAX_MODULES * MAX_MODULES) (slice_index places.now.totals.now) }
+    requires below { AreSlotsBelow places.now.totals.now slots.now settings }
+    ensures { IfOk result (λ lists. AreReadInto graph.now places.now.totals.now slots.now settings
         (length graph.now) (lists_of lists.items)) }
 {
     let room = MAX_MODULES.min(2 * graph.len() / settings.max(1));
     let mut lists = empty_lists(alloc, settings, room)?;
-    let mut remaining = places.totals;
+    let mut remaining = *places.totals;
     for t in 0..graph.len() {
         let (start, answer) = graph.ends_of(t);
         let number = next_number(&mut remaining, places, slots, start.module, answer.module);
@@ -231,16 +230,16 @@ fn settings_by(
     graph: &LinkGraph,
     settings: usize,
     remaining: &mut Remaining,
-    places: &Places,
+    places: &Places<'_>,
     slots: &mut [usize],
 ) -> Result<Vec<Vec<usize>>, AllocError>
     requires batch { IsBatch graph.now }
-    requires counted { ArePairCounts graph.now places.now.totals }
-    requires whole { remaining.old.counts ≡ places.now.totals }
+    requires counted { ArePairCounts graph.now places.now.totals.now }
+    requires whole { remaining.old.counts ≡ places.now.totals.now }
     requires most { HaveMost remaining.old.counts settings }
     requires few { settings ≤ MAX_TRANSFERS }
     requires room { length slots.old
-        ≡ sum_below (MAX_MODULES * MAX_MODULES) (slice_index places.now.totals) }
+        ≡ sum_below (MAX_MODULES * MAX_MODULES) (slice_index places.now.totals.now) }
     ensures { IfOk result (λ lists.
         AreNumberedSettings graph.now settings (lists_of lists.items)) }
 {
@@ -260,8 +259,11 @@ pub(crate) fn settings_of(
     ensures { IfOk result (λ lists.
         AreNumberedSettings graph.now settings (lists_of lists.items)) }
 {
-    let mut remaining = Remaining::of(graph);
-    let places = Places::of(&remaining.counts);
+    let mut remaining = Remaining::none();
+    remaining.add_all(graph);
+    let totals = remaining.counts;
+    let mut starts = [0; PAIRS];
+    let places = Places::of(&totals, &mut starts);
     let mut slots = vec![in alloc; 0; places.room]?;
     settings_by(alloc, graph, settings, &mut remaining, &places, &mut slots)
 }

@@ -35,7 +35,7 @@ pub(crate) struct Remaining {
 
 impl Remaining {
     /// No transfers.
-    fn none() -> Remaining
+    pub(crate) fn none() -> Remaining
         ensures { ArePairCounts [] result.counts }
     {
         Remaining {
@@ -51,17 +51,16 @@ impl Remaining {
         }
     }
 
-    /// All transfers of a graph.
-    pub(crate) fn of(graph: &LinkGraph) -> Remaining
-        requires { IsBatch graph.now }
-        ensures { ArePairCounts graph.now result.counts }
+    /// Adds all transfers of a graph, where there are none yet.
+    pub(crate) fn add_all(&mut self, graph: &LinkGraph)
+        requires batch { IsBatch graph.now }
+        requires none { ArePairCounts [] self.old.counts }
+        ensures { ArePairCounts graph.now self.new.counts }
     {
-        let mut remaining = Remaining::none();
         for t in 0..graph.len() {
             let (start, answer) = graph.ends_of(t);
-            remaining.add(start.module, answer.module);
+            self.add(start.module, answer.module);
         }
-        remaining
     }
 
     /// How many modules count: no transfer of those from there on waits.

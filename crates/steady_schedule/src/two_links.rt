@@ -149,7 +149,8 @@ pub fn most_shown(graph: &LinkGraph, settings: usize) -> usize
     ensures { IsMostShown graph.now settings result }
 {
     prove!(graph.len() <= MAX_TRANSFERS);
-    let remaining = Remaining::of(graph);
+    let mut remaining = Remaining::none();
+    remaining.add_all(graph);
     let mut most = 0;
     for index in 0..LINKS {
         most = most_with(&remaining, settings, index, most);

@@ -16,7 +16,7 @@ hold-requires-clause-there c x y joined =
 pub steps-init : goal.steps-init
 steps-init c =
     let whole : c.args.settings - 0 ≡ c.args.settings = omega arith in
-    let totals = c.args.places.now.totals in
+    let totals = c.args.places.now.totals.now in
     let counts = c.args.remaining.now.counts in
     record {
       some = omega arith;
@@ -34,7 +34,7 @@ pub steps-preserved : goal.steps-preserved
 steps-preserved c =
     let can = c.next_step-held.ensures.can in
     let m = c.next_step-held.new.matching in
-    let totals = c.args.places.now.totals in
+    let totals = c.args.places.now.totals.now in
     let most = c.args.settings - c.steps.first in
     let k = c.next_step-held.result in
     let after = c.hold.new.remaining.counts in
@@ -59,5 +59,5 @@ returns c =
       done = all_taken c.steps.remaining.counts (subst (HaveMost c.steps.remaining.counts) none c.steps.invariant.most);
       numbered = rw all at c.steps.invariant.numbered;
       needs = rw all at c.steps.invariant.needs;
-      long = any_held c.args.places.now.totals c.steps.remaining.counts c.steps.slots c.args.settings c.args.settings c.steps.held (rw all at c.steps.invariant.long);
+      long = any_held c.args.places.now.totals.now c.steps.remaining.counts c.steps.slots c.args.settings c.args.settings c.steps.held (rw all at c.steps.invariant.long);
     }

@@ -24,10 +24,10 @@ hold_one-requires-clause-within c = record { sized = c.loop-zero.invariant.numbe
 pub loop-zero-init : goal.loop-zero-init
 loop-zero-init c = record {
   taken = none_taken c.args.matching.now.zero c.args.settings c.args.remaining.now.counts c.args.remaining.now.told.places;
-  numbered = begun c.args.places.now.totals c.args.remaining.now.counts c.args.slots.now c.args.matching.now.zero c.args.first c.args.settings c.requires.numbered;
+  numbered = begun c.args.places.now.totals.now c.args.remaining.now.counts c.args.slots.now c.args.matching.now.zero c.args.first c.args.settings c.requires.numbered;
   ahead = λ x le. refl;
   behind = λ x y lt. absurd (omega arith);
-  kept = keep_all c.args.places.now.totals c.args.first c.args.remaining.now.counts c.args.slots.now;
+  kept = keep_all c.args.places.now.totals.now c.args.first c.args.remaining.now.counts c.args.slots.now;
 }
 
 pub loop-zero-preserved : goal.loop-zero-preserved
@@ -36,7 +36,7 @@ loop-zero-preserved c =
     let n = c.loop-zero.zero in
     let first = c.args.first in
     let k = c.args.settings in
-    let totals = c.args.places.now.totals in
+    let totals = c.args.places.now.totals.now in
     let start = c.args.remaining.now.counts in
     let counts = c.loop-zero.remaining.counts in
     let slots = c.loop-zero.slots in
@@ -80,7 +80,7 @@ returns c =
     let remaining = c.loop-zero.remaining in
     let now = c.loop-zero.matching in
     let counts = remaining.counts in
-    let totals = c.args.places.now.totals in
+    let totals = c.args.places.now.totals.now in
     let next = c.args.first + c.args.settings in
     record {
       taken = all_taken zero c.args.settings c.args.modules start counts c.requires.within c.requires.low (subst (λ (n : ℕ). AreTaken zero c.args.settings n start counts) all so_far.taken);

@@ -10,6 +10,6 @@ invariant-loop-zero l = record {
   taken : AreTaken l.initial.matching.zero l.settings l.zero l.initial.remaining.counts l.remaining.counts;
   ahead : (x : ℕ) → l.zero ≤ x → partner l.matching.zero x ≡ partner l.initial.matching.zero x;
   behind : (x y : ℕ) → x < l.zero → partner l.matching.zero x ≡ Some y → 0 < count_at l.remaining.counts x y;
-  numbered : AreNumberedFrom l.initial.matching.zero l.first l.zero l.places.totals l.remaining.counts l.slots (l.first + l.settings);
-  kept : KeepNumbers l.places.totals l.first l.initial.remaining.counts l.initial.slots l.remaining.counts l.slots;
+  numbered : AreNumberedFrom l.initial.matching.zero l.first l.zero l.places.totals.now l.remaining.counts l.slots (l.first + l.settings);
+  kept : KeepNumbers l.places.totals.now l.first l.initial.remaining.counts l.initial.slots l.remaining.counts l.slots;
 }

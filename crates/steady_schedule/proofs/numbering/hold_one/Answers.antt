@@ -35,13 +35,13 @@ slot-at-requires-clause-there c =
     let l = c.args.remaining.now in
     let m = c.args.matching.now in
     let v_in = partner_low m.zero m.three c.args.zero c.in-Some.three m.matched c.in-Some.is in
-    omega (arith, is_less c.args.places.now.totals l.counts c.take.new.self.counts c.args.zero c.in-Some.three c.args.settings c.count-rest.result l.told.places c.requires.zero_in v_in c.take.ensures c.count-rest.ensures, c.requires.within.within c.args.zero c.in-Some.three c.requires.zero_in v_in)
+    omega (arith, is_less c.args.places.now.totals.now l.counts c.take.new.self.counts c.args.zero c.in-Some.three c.args.settings c.count-rest.result l.told.places c.requires.zero_in v_in c.take.ensures c.count-rest.ensures, c.requires.within.within c.args.zero c.in-Some.three c.requires.zero_in v_in)
 
 pub write_pair-requires-clause-room : goal.write_pair-requires-clause-room
 write_pair-requires-clause-room c =
     let l = c.args.remaining.now in
     let m = c.args.matching.now in
-    let totals = c.args.places.now.totals in
+    let totals = c.args.places.now.totals.now in
     let v_in = partner_low m.zero m.three c.args.zero c.in-Some.three m.matched c.in-Some.is in
     let less = is_less totals l.counts c.take.new.self.counts c.args.zero c.in-Some.three c.args.settings c.count-rest.result l.told.places c.requires.zero_in v_in c.take.ensures c.count-rest.ensures in
     omega (arith, less, c.slot-at.ensures, c.requires.within.sized, c.requires.there c.in-Some.three c.in-Some.is, slot_inside totals c.args.zero c.in-Some.three (count_at l.counts c.args.zero c.in-Some.three) c.requires.zero_in v_in (c.requires.within.within c.args.zero c.in-Some.three c.requires.zero_in v_in))
@@ -50,7 +50,7 @@ pub returns-then-rest-eq0-clause-joined : goal.returns-then-rest-eq0-clause-join
 returns-then-rest-eq0-clause-joined c y e =
     let l = c.args.remaining.now in
     let m = c.args.matching.now in
-    let totals = c.args.places.now.totals in
+    let totals = c.args.places.now.totals.now in
     let v_in = partner_low m.zero m.three c.args.zero c.in-Some.three m.matched c.in-Some.is in
     subst (λ (z : ℕ). IsKeptFor totals c.args.zero z c.args.first c.args.settings l.counts c.args.slots.now c.take.new.self.counts c.write_pair.new.slots) (same_Some c.in-Some.three y (sym c.in-Some.is ∙ e))
     (held totals l.counts c.take.new.self.counts c.args.zero c.in-Some.three c.args.settings c.count-rest.result l.told.places c.requires.zero_in v_in c.take.ensures c.count-rest.ensures c.args.slots.now c.write_pair.new.slots c.args.first c.slot-at.result c.slot-at.ensures c.write_pair.ensures)
@@ -59,7 +59,7 @@ pub returns-else-rest-eq0-clause-joined : goal.returns-else-rest-eq0-clause-join
 returns-else-rest-eq0-clause-joined c y e =
     let l = c.args.remaining.now in
     let m = c.args.matching.now in
-    let totals = c.args.places.now.totals in
+    let totals = c.args.places.now.totals.now in
     let v_in = partner_low m.zero m.three c.args.zero c.in-Some.three m.matched c.in-Some.is in
     subst (λ (z : ℕ). IsKeptFor totals c.args.zero z c.args.first c.args.settings l.counts c.args.slots.now c.take.new.self.counts c.write_pair.new.slots) (same_Some c.in-Some.three y (sym c.in-Some.is ∙ e))
     (held totals l.counts c.take.new.self.counts c.args.zero c.in-Some.three c.args.settings c.count-rest.result l.told.places c.requires.zero_in v_in c.take.ensures c.count-rest.ensures c.args.slots.now c.write_pair.new.slots c.args.first c.slot-at.result c.slot-at.ensures c.write_pair.ensures)

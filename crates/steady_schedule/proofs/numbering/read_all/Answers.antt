@@ -19,12 +19,12 @@ next_number-number-requires-clause-there c =
     let batch = c.args.graph.now in
     let t_in : c.loop-t.t < length c.args.graph.now = omega arith in
     let e = has_ends batch c.loop-t.t c.ends_of.result c.requires.batch t_in c.ends_of.ensures in
-    few_left batch c.loop-t.t c.args.places.now.totals c.loop-t.remaining c.ends_of.result.0.«module» c.ends_of.result.1.«module» c.requires.counted c.loop-t.invariant.counted e.start_low e.answer_low
+    few_left batch c.loop-t.t c.args.places.now.totals.now c.loop-t.remaining c.ends_of.result.0.«module» c.ends_of.result.1.«module» c.requires.counted c.loop-t.invariant.counted e.start_low e.answer_low
 
 pub push_into-requires : goal.push_into-requires
 push_into-requires c =
     let batch = c.args.graph.now in
-    let totals = c.args.places.now.totals in
+    let totals = c.args.places.now.totals.now in
     let t_in : c.loop-t.t < length batch = omega arith in
     let e = has_ends batch c.loop-t.t c.ends_of.result c.requires.batch t_in c.ends_of.ensures in
     let a = c.ends_of.result.0.«module» in
@@ -34,12 +34,12 @@ push_into-requires c =
     omega (arith, c.loop-t.invariant.read.gathered.sized, low_number totals c.args.slots.now c.args.settings a b (count_at c.loop-t.remaining a b) c.next_number-number.result c.requires.below e.start_low e.answer_low some few c.next_number-number.ensures.number)
 
 pub loop-t-init : goal.loop-t-init
-loop-t-init c = record { counted = c.requires.counted; read = none_into c.args.graph.now c.args.places.now.totals c.args.slots.now c.args.settings (lists_of c.in_ok-lists.lists.items) c.in_ok-lists.ensures }
+loop-t-init c = record { counted = c.requires.counted; read = none_into c.args.graph.now c.args.places.now.totals.now c.args.slots.now c.args.settings (lists_of c.in_ok-lists.lists.items) c.in_ok-lists.ensures }
 
 pub loop-t-preserved : goal.loop-t-preserved
 loop-t-preserved c =
     let batch = c.args.graph.now in
-    let totals = c.args.places.now.totals in
+    let totals = c.args.places.now.totals.now in
     let t = c.loop-t.t in
     let t_in : t < length batch = omega arith in
     let e = has_ends batch t c.ends_of.result c.requires.batch t_in c.ends_of.ensures in
@@ -58,4 +58,4 @@ loop-t-preserved c =
 pub returns : goal.returns
 returns c =
     let all : c.loop-t.t ≡ length c.args.graph.now = omega arith in
-    subst (λ (n : ℕ). AreReadInto c.args.graph.now c.args.places.now.totals c.args.slots.now c.args.settings n (lists_of c.loop-t.lists.items)) all c.loop-t.invariant.read
+    subst (λ (n : ℕ). AreReadInto c.args.graph.now c.args.places.now.totals.now c.args.slots.now c.args.settings n (lists_of c.loop-t.lists.items)) all c.loop-t.invariant.read

@@ -7,5 +7,5 @@ use Rattle.steady_schedule.proofs.numbering.read_all.Given as goal
 abbrev pub invariant-loop-t : goal.invariant-loop-t
 invariant-loop-t l = record {
   counted : ArePairCounts (drop l.t l.graph) l.remaining;
-  read : AreReadInto l.graph l.places.totals l.slots l.settings l.t (lists_of l.lists.items);
+  read : AreReadInto l.graph l.places.totals.now l.slots l.settings l.t (lists_of l.lists.items);
 }

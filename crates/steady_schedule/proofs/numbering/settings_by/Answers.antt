@@ -7,7 +7,7 @@ use Rattle.steady_schedule.proofs.Slots.{are_proper, none_numbered, joins_from, 
 use Rattle.steady_schedule.proofs.numbering.settings_by.Goals as goal
 
 pub fill-requires-clause-numbered : goal.fill-requires-clause-numbered
-fill-requires-clause-numbered c = rw c.requires.whole (none_numbered c.args.places.now.totals c.args.slots.now c.requires.room)
+fill-requires-clause-numbered c = rw c.requires.whole (none_numbered c.args.places.now.totals.now c.args.slots.now c.requires.room)
 
 pub read_all-requires-clause-below : goal.read_all-requires-clause-below
 read_all-requires-clause-below c u v i u_in v_in lt =
@@ -16,7 +16,7 @@ read_all-requires-clause-below c u v i u_in v_in lt =
 pub returns : goal.returns
 returns c =
     let batch = c.args.graph.now in
-    let totals = c.args.places.now.totals in
+    let totals = c.args.places.now.totals.now in
     let counts = c.fill.new.remaining.counts in
     let slots = c.fill.new.slots in
     let settings = c.args.settings in

@@ -1,12 +1,12 @@
-use Rattle.std.proofs.Common.{ℕ, slice_index, sym, ◌∙◌, arith}
-use Rattle.std.proofs.lemmas.List.{length-set, length-replicate}
+use Rattle.std.proofs.Common.{slice_index, sym, ◌∙◌, arith}
+use Rattle.std.proofs.lemmas.List.{length-set}
 use Rattle.steady_schedule.proofs.Slots.{starts_more}
 use Rattle.steady_schedule.proofs.Sums.{sum_zero, sum_more}
 use Rattle.steady_schedule.proofs.numbering.Places.of.Goals as goal
 
 pub loop-place-init : goal.loop-place-init
 loop-place-init c = record {
-  sized = length-replicate {A = ℕ} 1024 0;
+  sized = c.told-starts;
   starts = λ p lt. absurd (omega arith);
   room = sym (sum_zero (slice_index c.args.totals.now));
   few = omega arith;
