@@ -1,0 +1,20 @@
+-- The bytes that keep an end, and which end they keep. Which they are is this project's choice.
+use Rattle.std.specs.Prelude.{◌≡◌, ◌≤◌, ◌==◌, ℕ, List, [], length, take}
+use Rattle.peek_poke.specs.Messages.{IsPartial, Pending}
+use Rattle.boot_end.specs.declared.state.BootState.{BootState}
+use Rattle.boot_end.specs.declared.state.TheConstants.{MOST_BEGUN}
+
+-- the bytes that have come of the next message
+abbrev pub begun_of : BootState → List ℕ
+begun_of s = take s.begun_count s.begun
+
+-- the end that the bytes keep. They don't keep what came before the next message.
+abbrev pub pending_of : BootState → Pending
+pending_of s = record { failed = s.failed == 1; bytes = begun_of s; taken = [] }
+
+-- an end has this state
+pub record IsState (s : BootState) : Type 0 where
+  pub room : length s.begun ≡ MOST_BEGUN
+  pub most : s.begun_count ≤ MOST_BEGUN
+  pub partial : IsPartial (begun_of s)
+  pub failed : s.failed ≤ 1
