@@ -1,6 +1,6 @@
 -- The bytes that keep an end, and which end they keep. Which they are is this project's choice.
 use Rattle.std.specs.Prelude.{◌≡◌, ◌≤◌, ◌==◌, ℕ, List, [], length, take}
-use Rattle.peek_poke.specs.Messages.{IsPartial, Pending}
+use Rattle.peek_poke.specs.Messages.{IsPartial, Pending, rest_after}
 use Rattle.boot_end.specs.declared.state.BootState.{BootState}
 use Rattle.boot_end.specs.declared.state.TheConstants.{MOST_BEGUN}
 
@@ -11,6 +11,10 @@ begun_of s = take s.begun_count s.begun
 -- the end that the bytes keep. They don't keep what came before the next message.
 abbrev pub pending_of : BootState → Pending
 pending_of s = record { failed = s.failed == 1; bytes = begun_of s; taken = [] }
+
+-- an end to which nothing has come
+abbrev pub new_end : Pending
+new_end = rest_after []
 
 -- an end has this state
 pub record IsState (s : BootState) : Type 0 where

@@ -1,10 +1,10 @@
 //! The bytes that keep an end.
 
-ghost use Rattle.std.specs.Prelude.{◌≡◌, ◌++◌, ◌∷◌, [], IsTrue, ◌↔◌, IfOk, MatchOption, length, ◌≤◌, false};
+ghost use Rattle.std.specs.Prelude.{◌≡◌, ◌++◌, ◌∷◌, [], MatchOption, false};
 ghost use Rattle.peek_poke.specs.Effects.{Feeds};
-ghost use Rattle.peek_poke.specs.Messages.{IsPartial, rest_after};
+ghost use Rattle.peek_poke.specs.Messages.{IsPartial};
 ghost use Rattle.boot_end.specs.Memory.{memory_read, memory_write};
-ghost use Rattle.boot_end.specs.States.{IsState, begun_of, pending_of};
+ghost use Rattle.boot_end.specs.States.{IsState, begun_of, new_end, pending_of};
 ghost use Rattle.boot_end.specs.Taking.{HasTakenByte};
 
 use crate::fault::BootFault;
@@ -31,7 +31,7 @@ impl BootState {
     /// An end to which nothing has come: all bytes are 0.
     pub fn reset() -> BootState
         ensures state { IsState result }
-        ensures new { pending_of result ≡ rest_after [] }
+        ensures new { pending_of result ≡ new_end }
     {
         BootState {
             begun: [0; MOST_BEGUN],
@@ -126,7 +126,7 @@ fn hand(
     base: u32,
     byte: u8,
 ) -> Result<Option<[u8; REPLY_BYTES]>, AnswerFault>
-    ensures step { Feeds (memory_read base) (memory_write base)
+    ensures { Feeds (memory_read base) (memory_write base)
         end.old memory.old byte result end.new memory.new }
 {
     let mut store = LentMemory {

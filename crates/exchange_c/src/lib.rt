@@ -23,15 +23,23 @@ ghost use Rattle.rack_answers.specs.Answers.{IsApplied};
 ghost use Rattle.exchange_c.specs.Switching.{source_for, IsSwitchedBy};
 ghost use Rattle.exchange_c.specs.Writing.{Puts, IsOutOfMemory, Leaves, IsTheOne};
 
+mod boot;
 mod status;
+mod switch;
 
+pub use boot::{exchange_boot_reset, exchange_boot_take};
 use plan_answers::{
     Answer, Planning, Source, answer_changes, answer_check, answer_direct, answer_draw,
     answer_plan_alone,
 };
 use rack_answers::{answer_apply_alone, answer_switch_alone};
-pub use status::{NO_MEMORY, NO_ROOM};
+pub use status::{
+    BOOTSTRAP, FAILED, LOOSE, MISALIGNED, NO_MEMORY, NO_PORT, NO_ROOM, NO_STATE, OUTSIDE, REPLY,
+};
 use std::alloc::{AllocError, Global};
+pub use switch::{
+    exchange_c004_joined, exchange_c004_reset, exchange_c004_source, exchange_c004_take,
+};
 
 /// Copies an answer to the front of the bytes, where there is room for all of it.
 fn put(answer: &Answer, out: &mut [u8], count: &mut usize) -> u8

@@ -1,12 +1,13 @@
 -- The bytes that keep a switch, and which switch they keep. Which they are is this project's
 -- choice.
-use Rattle.std.specs.Prelude.{◌≡◌, ◌≤◌, ◌<◌, ◌==◌, ℕ, List, ◌++◌, IsTrue, length, map, replicate, take, slice_index, ◌-◌, if◌then◌else◌, Some}
+use Rattle.std.specs.Prelude.{◌≡◌, ◌≤◌, ◌<◌, ◌==◌, ℕ, List, [], ◌++◌, IsTrue, length, map, replicate, take, slice_index, ◌-◌, if◌then◌else◌, Some}
 use Rattle.std.specs.FinMap.{get}
 use Rattle.std.specs.List.{list_all, range_with_len}
 use Rattle.c004_commands.specs.Answers.{answer_byte}
 use Rattle.c004_commands.specs.Commands.{IsCommandFront}
 use Rattle.c004_commands.specs.declared.port.TheConstants.{PORTS}
 use Rattle.crossbar.specs.Latches.{sources_of}
+use Rattle.crossbar.specs.Switch.{idle}
 use Rattle.switch_end.specs.End.{EndState}
 use Rattle.switch_state.specs.declared.state.SwitchState.{SwitchState}
 use Rattle.switch_state.specs.declared.state.TheConstants.{MOST_BEGUN}
@@ -27,6 +28,10 @@ end_of s =
           };
       begun = begun_of s;
     }
+
+-- a switch as after a reset, to which nothing has come
+abbrev pub new_end : EndState
+new_end = record { switch = idle; begun = [] }
 
 -- so many bytes may have come of a command, and behind them stand zeros
 pub record HasZerosBehind (count : ℕ) (bytes : List ℕ) : Type 0 where

@@ -1,11 +1,10 @@
 //! The bytes that keep a switch.
 
-ghost use Rattle.std.specs.Prelude.{◌≡◌, ◌<◌, IsTrue, IsSome, IfSome, ◌↔◌, [], MatchOption};
+ghost use Rattle.std.specs.Prelude.{◌≡◌, ◌↔◌, IsTrue, MatchOption};
 ghost use Rattle.std.specs.List.{list_all};
 ghost use Rattle.c004_commands.specs.Commands.{IsCommandFront};
-ghost use Rattle.crossbar.specs.Switch.{idle};
 ghost use Rattle.switch_state.specs.Bytes.{is_answer};
-ghost use Rattle.switch_state.specs.States.{IsState, begun_of, end_of, HasZerosBehind};
+ghost use Rattle.switch_state.specs.States.{IsState, begun_of, end_of, new_end, HasZerosBehind};
 
 use c004_commands::{CONNECTED, CommandReader, LONGEST_COMMAND, PORTS};
 
@@ -35,7 +34,7 @@ impl SwitchState {
     /// A switch as after a reset, to which nothing has come. All bytes are 0.
     pub fn reset() -> SwitchState
         ensures state { IsState result }
-        ensures new { end_of result ≡ record { switch = idle; begun = [] } }
+        ensures new { end_of result ≡ new_end }
     {
         SwitchState {
             outputs: [0; OUTPUTS],

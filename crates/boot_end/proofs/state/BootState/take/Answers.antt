@@ -27,7 +27,7 @@ returns-in-Ok c =
       c.in-Some.ensures.0,
       empty c.args.self.now c.args.self.now.failed c.in-Some.ensures.0 (inr refl),
       same_taken (memory_read c.args.base) (memory_write c.args.base) c.in-Some.end (pending_of c.args.self.now) c.hand.new.end (pending_of left) c.args.memory.now c.hand.new.memory c.args.byte
-          (c.in-Some.ensures.1 ∙ sym alive) c.in-Some.ensures.2 c.in-Ok.reply (rest.0 ∙ sym alive) rest.1 c.in-Ok.ensures.step,
+          (c.in-Some.ensures.1 ∙ sym alive) c.in-Some.ensures.2 c.in-Ok.reply (rest.0 ∙ sym alive) rest.1 c.in-Ok.ensures,
     )
 
 pub returns : goal.returns
@@ -37,5 +37,5 @@ returns c =
       c.in-Some.ensures.0,
       empty c.args.self.now 1 c.in-Some.ensures.0 (inl refl),
       same_refused (memory_read c.args.base) (memory_write c.args.base) c.in-Some.end (pending_of c.args.self.now) c.hand.new.end (pending_of left) c.args.memory.now c.hand.new.memory c.args.byte
-          (c.in-Some.ensures.1 ∙ sym alive) c.in-Some.ensures.2 c.in-Err.fault refl c.in-Err.ensures.step,
+          (c.in-Some.ensures.1 ∙ sym alive) c.in-Some.ensures.2 c.in-Err.fault refl c.in-Err.ensures,
     )
