@@ -26,6 +26,7 @@ ghost use Rattle.exchange_c.specs.Writing.{Puts, IsOutOfMemory, Leaves, IsTheOne
 mod boot;
 mod status;
 mod switch;
+mod why;
 
 pub use boot::{exchange_boot_reset, exchange_boot_take};
 use plan_answers::{
@@ -34,12 +35,14 @@ use plan_answers::{
 };
 use rack_answers::{answer_apply_alone, answer_switch_alone};
 pub use status::{
-    BOOTSTRAP, FAILED, LOOSE, MISALIGNED, NO_MEMORY, NO_PORT, NO_ROOM, NO_STATE, OUTSIDE, REPLY,
+    BOOTSTRAP, FAILED, LOOSE, MISALIGNED, NO_CALL, NO_MEMORY, NO_PORT, NO_ROOM, NO_STATE, OUTSIDE,
+    REPLY,
 };
 use std::alloc::{AllocError, Global};
 pub use switch::{
     exchange_c004_joined, exchange_c004_reset, exchange_c004_source, exchange_c004_take,
 };
+pub use why::exchange_why;
 
 /// Copies an answer to the front of the bytes, where there is room for all of it.
 fn put(answer: &Answer, out: &mut [u8], count: &mut usize) -> u8

@@ -29,3 +29,6 @@ pub const NO_PORT: u8 = 33;
 
 /// What is told where no switch, or no end of a link, has the state.
 pub const NO_STATE: u8 = 34;
+
+/// The status where no call has the number.
+pub const NO_CALL: u8 = 35;
