@@ -33,6 +33,10 @@ CALLS = {
     "apply": ["shape", "batch", "image"],
 }
 
+# The numbers by which a call knows them that tells why they refuse their texts, and all other calls.
+NUMBERS = {"plan": 0, "plan_steady": 0, "check": 1, "switch": 2, "apply": 3, "draw": 4, "changes": 5, "direct": 6}
+OTHERS = ["why", "c004_reset", "c004_take", "c004_source", "c004_joined", "boot_reset", "boot_take"]
+
 
 def words_of(name, given):
     """The words of the command that is to answer as a call does. Each text is in a file of its name, but that of a shape, which is a word
@@ -91,19 +95,25 @@ class Calls:
             return None, b""
         return int(line[0]), self.process.stdout.read(int(line[1]))
 
+    def why(self, name, given):
+        """What is told beside the refusal of these texts. Their names are those that it gives them where it is told none."""
+        names = "\n".join(CALLS[name]).encode() if len(given[0]) % 2 else b""
+        return self.ask(f"why{NUMBERS[name]}", [*(given + [b"x", b""])[:3], names])
+
     def end(self):
         self.process.stdin.close()
         return self.process.wait() == 0
 
 
 def is_same(calls, name, given):
-    """Whether the call and the program give one answer."""
+    """Whether the call and the program give one answer, and tell the same of a refusal."""
     status, answer = calls.ask(name, given)
+    why = calls.why(name, given)
     for file, text in zip(CALLS[name], given):
         with open(file, "wb") as out:
             out.write(text)
     program = ask(*words_of(name, given))
-    return (status, answer) == (program.status, told(name, program))
+    return (status, answer, *why) == (program.status, told(name, program), 0, program.err)
 
 
 def try_some(path, first, count):
