@@ -9,7 +9,7 @@ use Rattle.peek_poke.specs.Effects.{Does, Feeds, IsCause}
 use Rattle.peek_poke.specs.Messages.{IsMessage, IsPartial, Pending, spell}
 use Rattle.peek_poke.proofs.OneText.{one_reading}
 use Rattle.boot_end.specs.declared.memory.NoMemory.{NoMemory}
-use Rattle.boot_end.specs.Memory.{no_read, no_write}
+use Rattle.boot_end.specs.Memory.{none_read, none_written}
 
 -- a front of less than a message is less than a message
 pub partial_front : (bytes : List ℕ) (n : ℕ) → IsPartial bytes → IsPartial (take n bytes)
@@ -44,12 +44,12 @@ no_message bytes m h p e =
     some_is_none m (one_reading (m ∷ []) [] [] bytes (one m h) none tt p (append-nil (spell m ++ []) ∙ append-nil (spell m) ∙ sym e)).0
 
 -- no message takes effect where there is no memory
-does_nothing : (s t : NoMemory) (m : Message) (answer : Option (List ℕ)) → Does no_read no_write s m answer t → ⊥
+does_nothing : (s t : NoMemory) (m : Message) (answer : Option (List ℕ)) → Does none_read none_written s m answer t → ⊥
 does_nothing s t (Poke address word) answer d = let e = d.1 in cc
 does_nothing s t (Peek address) answer d = let e = d.1.2 in cc
 
 -- a byte that is taken there is kept, and nothing is answered
-pub waits : (s t : NoMemory) (old new : Pending) (byte : ℕ) (answer : Option (List ℕ)) → Feeds no_read no_write old s byte (Ok answer) new t → (new.failed ≡ false) × (new.bytes ≡ old.bytes ++ byte ∷ []) × (answer ≡ None)
+pub waits : (s t : NoMemory) (old new : Pending) (byte : ℕ) (answer : Option (List ℕ)) → Feeds none_read none_written old s byte (Ok answer) new t → (new.failed ≡ false) × (new.bytes ≡ old.bytes ++ byte ∷ []) × (answer ≡ None)
 waits s t old new byte answer f =
     elim f.2 [
       | inl w ↦ (f.1, w.kept, w.silent)
@@ -61,7 +61,7 @@ high_control byte bytes h (inl p) = omega (arith, p.0)
 high_control byte bytes h (inr p) = omega (arith, p.0)
 
 -- no byte of less than a message is refused
-pub taken_there : (s : NoMemory) (old : Pending) (byte : ℕ) (fault : AnswerFault) → old.failed ≡ false → IsPartial (old.bytes ++ byte ∷ []) → IsCause no_read no_write old s byte fault → ⊥
+pub taken_there : (s : NoMemory) (old : Pending) (byte : ℕ) (fault : AnswerFault) → old.failed ≡ false → IsPartial (old.bytes ++ byte ∷ []) → IsCause none_read none_written old s byte fault → ⊥
 taken_there s old byte (Boot control) alive p c = high_control byte [] c.3 (subst IsPartial (ap (λ (t : List ℕ). t ++ byte ∷ []) c.1) p)
 taken_there s old byte Misaligned alive p c = no_message (old.bytes ++ byte ∷ []) c.1.0 c.1.1 p c.1.2
 taken_there s old byte Outside alive p c = no_message (old.bytes ++ byte ∷ []) c.1.0 c.1.1 p c.1.2

@@ -11,8 +11,8 @@ use Rattle.boot_end.specs.declared.memory.LentMemory.{LentMemory}
 use Rattle.boot_end.specs.declared.memory.NoMemory.{NoMemory}
 
 -- where the word of an address stands among so many bytes from a base on: all its bytes are there
-abbrev pub place_of : ℕ → ℕ → ℕ → Result ℕ StoreFault
-place_of base count address =
+abbrev pub byte_place : ℕ → ℕ → ℕ → Result ℕ StoreFault
+byte_place base count address =
     if address % WORD_BYTES == 0
     then (if nat_le base address && nat_le (address - base + WORD_BYTES) count
     then Ok (address - base)
@@ -20,23 +20,23 @@ place_of base count address =
     else Err Misaligned
 
 -- the word at a place, the least significant byte first
-abbrev pub word_at : List ℕ → ℕ → ℕ
-word_at bytes place = from_le_bytes w32 (take WORD_BYTES (drop place bytes))
+abbrev pub word_from : List ℕ → ℕ → ℕ
+word_from bytes place = from_le_bytes w32 (take WORD_BYTES (drop place bytes))
 
 -- the bytes with another word at a place
-abbrev pub with_word : List ℕ → ℕ → ℕ → List ℕ
-with_word bytes place word =
+abbrev pub with_word_from : List ℕ → ℕ → ℕ → List ℕ
+with_word_from bytes place word =
     take place bytes ++ word_bytes word ++ drop (place + WORD_BYTES) bytes
 
 -- what reads of the memory give
 abbrev pub memory_read : ℕ → List ℕ → ℕ → Result ℕ StoreFault
 memory_read base bytes address =
-    then_do (place_of base (length bytes) address) (λ place. word_at bytes place)
+    then_do (byte_place base (length bytes) address) (λ place. word_from bytes place)
 
 -- what writes to it leave
 abbrev pub memory_write : ℕ → List ℕ → ℕ → ℕ → Result (List ℕ) StoreFault
 memory_write base bytes address word =
-    then_do (place_of base (length bytes) address) (λ place. with_word bytes place word)
+    then_do (byte_place base (length bytes) address) (λ place. with_word_from bytes place word)
 
 -- the same of memory that is lent
 abbrev pub lent_read : LentMemory → ℕ → Result ℕ StoreFault
@@ -48,8 +48,8 @@ lent_write m address word =
     (λ bytes. record m { bytes = record m.bytes { now = bytes } })
 
 -- where there is no memory no address is
-abbrev pub no_read : NoMemory → ℕ → Result ℕ StoreFault
-no_read m address = Err Outside
+abbrev pub none_read : NoMemory → ℕ → Result ℕ StoreFault
+none_read m address = Err Outside
 
-abbrev pub no_write : NoMemory → ℕ → ℕ → Result NoMemory StoreFault
-no_write m address word = Err Outside
+abbrev pub none_written : NoMemory → ℕ → ℕ → Result NoMemory StoreFault
+none_written m address word = Err Outside

@@ -5,20 +5,20 @@ use Rattle.boot_end.specs.declared.state.BootState.{BootState}
 use Rattle.boot_end.specs.declared.state.TheConstants.{MOST_BEGUN}
 
 -- the bytes that have come of the next message
-abbrev pub begun_of : BootState → List ℕ
-begun_of s = take s.begun_count s.begun
+abbrev pub message_begun : BootState → List ℕ
+message_begun s = take s.begun_count s.begun
 
 -- the end that the bytes keep. They don't keep what came before the next message.
 abbrev pub pending_of : BootState → Pending
-pending_of s = record { failed = s.failed == 1; bytes = begun_of s; taken = [] }
+pending_of s = record { failed = s.failed == 1; bytes = message_begun s; taken = [] }
 
 -- an end to which nothing has come
-abbrev pub new_end : Pending
-new_end = rest_after []
+abbrev pub new_boot_end : Pending
+new_boot_end = rest_after []
 
 -- an end has this state
-pub record IsState (s : BootState) : Type 0 where
+pub record IsBootState (s : BootState) : Type 0 where
   pub room : length s.begun ≡ MOST_BEGUN
   pub most : s.begun_count ≤ MOST_BEGUN
-  pub partial : IsPartial (begun_of s)
+  pub partial : IsPartial (message_begun s)
   pub failed : s.failed ≤ 1

@@ -1,7 +1,7 @@
 //! Words of memory that a caller lends.
 
 ghost use Rattle.std.specs.Prelude.{◌≡◌, MatchResult, ◌+◌, ◌≤◌};
-ghost use Rattle.boot_end.specs.Memory.{place_of, lent_read, lent_write, no_read, no_write};
+ghost use Rattle.boot_end.specs.Memory.{byte_place, lent_read, lent_write, none_read, none_written};
 
 use module_memory::WORD_BYTES;
 use peek_poke::{StoreFault, WordStore};
@@ -15,7 +15,7 @@ pub(crate) struct LentMemory<'a> {
 
 /// Where the word of an address stands among so many bytes from a base on.
 fn place_of(base: u32, count: usize, address: u32) -> Result<usize, StoreFault>
-    ensures place { result ≡ place_of base count address }
+    ensures place { result ≡ byte_place base count address }
     ensures inside { MatchResult result (λ place. place + WORD_BYTES ≤ count) (λ _. Unit {0}) }
 {
     if address % WORD_BYTES != 0 {
@@ -50,9 +50,9 @@ impl<'a> WordStore for LentMemory<'a> {
 pub(crate) struct NoMemory;
 
 impl WordStore for NoMemory {
-    ghost read_gives = { no_read };
+    ghost read_gives = { none_read };
 
-    ghost write_gives = { no_write };
+    ghost write_gives = { none_written };
 
     fn read_word(&self, _address: u32) -> Result<u32, StoreFault> {
         Err(StoreFault::Outside)

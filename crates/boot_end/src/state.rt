@@ -4,8 +4,8 @@ ghost use Rattle.std.specs.Prelude.{◌≡◌, ◌++◌, ◌∷◌, [], MatchOpt
 ghost use Rattle.peek_poke.specs.Effects.{Feeds};
 ghost use Rattle.peek_poke.specs.Messages.{IsPartial};
 ghost use Rattle.boot_end.specs.Memory.{memory_read, memory_write};
-ghost use Rattle.boot_end.specs.States.{IsState, begun_of, new_end, pending_of};
-ghost use Rattle.boot_end.specs.Taking.{HasTakenByte};
+ghost use Rattle.boot_end.specs.States.{IsBootState, message_begun, new_boot_end, pending_of};
+ghost use Rattle.boot_end.specs.Taking.{EndTakesByte};
 
 use crate::fault::BootFault;
 use crate::memory::{LentMemory, NoMemory};
@@ -30,8 +30,8 @@ pub struct BootState {
 impl BootState {
     /// An end to which nothing has come: all bytes are 0.
     pub fn reset() -> BootState
-        ensures state { IsState result }
-        ensures new { pending_of result ≡ new_end }
+        ensures state { IsBootState result }
+        ensures new { pending_of result ≡ new_boot_end }
     {
         BootState {
             begun: [0; MOST_BEGUN],
@@ -53,7 +53,7 @@ impl BootState {
         base: u32,
         byte: u8,
     ) -> Result<Option<[u8; REPLY_BYTES]>, BootFault>
-        ensures { HasTakenByte base self.old memory.old byte result self.new memory.new }
+        ensures { EndTakesByte base self.old memory.old byte result self.new memory.new }
     {
         let Some(mut end) = self.answerer() else {
             return Err(BootFault::NoEnd);
@@ -80,10 +80,10 @@ impl BootState {
 
     /// The byte has come of the next message too, which isn't whole yet.
     fn keep(&mut self, byte: u8)
-        requires state { IsState self.old }
-        requires partial { IsPartial (begun_of self.old ++ byte ∷ []) }
-        ensures state { IsState self.new }
-        ensures begun { begun_of self.new ≡ begun_of self.old ++ byte ∷ [] }
+        requires state { IsBootState self.old }
+        requires partial { IsPartial (message_begun self.old ++ byte ∷ []) }
+        ensures state { IsBootState self.new }
+        ensures begun { message_begun self.new ≡ message_begun self.old ++ byte ∷ [] }
         ensures failed { self.new.failed ≡ self.old.failed }
     {
         self.begun[usize::from(self.begun_count)] = byte;
@@ -93,8 +93,8 @@ impl BootState {
     /// An end to which just the bytes have come that have come of the next message. There is none
     /// where no end has this state.
     fn answerer(&self) -> Option<Answerer>
-        ensures { MatchOption result (IsState self.now → ⊥)
-            (λ end. IsState self.now × (end.failed ≡ false) × (end.bytes ≡ begun_of self.now)) }
+        ensures { MatchOption result (IsBootState self.now → ⊥)
+            (λ end. IsBootState self.now × (end.failed ≡ false) × (end.bytes ≡ message_begun self.now)) }
     {
         if self.failed > 1 || usize::from(self.begun_count) > MOST_BEGUN {
             return None;

@@ -1,14 +1,14 @@
 -- What calls over a state of the caller's tell, and leave.
 use Rattle.std.specs.Prelude.{◌≡◌, ℕ, List, Bool, true, false, Option, Some, None, Result, Ok, Err}
-use Rattle.boot_end.specs.Taking.{HasTakenByte as HasFedByte}
+use Rattle.boot_end.specs.Taking.{EndTakesByte}
 use Rattle.boot_end.specs.declared.fault.BootFault.{BootFault}
 use Rattle.boot_end.specs.declared.fault.BootFault.TheVariants.{NoEnd, Refused}
 use Rattle.boot_end.specs.declared.state.BootState.{BootState}
 use Rattle.exchange_c.specs.declared.status.TheConstants.{REPLY, BOOTSTRAP, MISALIGNED, OUTSIDE, FAILED, LOOSE, NO_PORT, NO_STATE}
 use Rattle.peek_poke.specs.declared.fault.AnswerFault.TheVariants.{Boot, Misaligned, Outside, Failed}
 use Rattle.plan_answers.specs.declared.limits.TheConstants.{DONE, REFUSED}
-use Rattle.switch_state.specs.Asking.{HasSource, HasJoined}
-use Rattle.switch_state.specs.Taking.{HasTakenByte}
+use Rattle.switch_state.specs.Asking.{AnswersSource, AnswersJoined}
+use Rattle.switch_state.specs.Taking.{SwitchTakesByte}
 use Rattle.switch_state.specs.declared.fault.AskFault.{AskFault}
 use Rattle.switch_state.specs.declared.fault.AskFault.TheVariants.{NoPort, NoSwitch as NoSwitchAsked}
 use Rattle.switch_state.specs.declared.fault.TakeFault.{TakeFault}
@@ -34,7 +34,7 @@ taken_status (Err NoSwitch) = NO_STATE
 pub record TakesByte (old : SwitchState) (byte status : ℕ) (new : SwitchState) (before left : ℕ)
     : Type 0 where
   pub taken : Result (Option ℕ) TakeFault
-  pub takes : HasTakenByte old byte taken new
+  pub takes : SwitchTakesByte old byte taken new
   pub its_status : status ≡ taken_status taken
   pub its_reply : left ≡ reply_left taken before
 
@@ -52,7 +52,7 @@ source_code (Err fault) = fault_code fault
 -- the input that feeds an output is told
 pub record TellsSource (state : SwitchState) (output told : ℕ) : Type 0 where
   pub source : Result (Option ℕ) AskFault
-  pub is_source : HasSource state output source
+  pub is_source : AnswersSource state output source
   pub code : told ≡ source_code source
 
 -- 1 or 0, or what is told of a fault
@@ -64,7 +64,7 @@ joined_code (Err fault) = fault_code fault
 -- it is told whether the state joins two links
 pub record TellsJoined (state : SwitchState) (link other told : ℕ) : Type 0 where
   pub joined : Result Bool AskFault
-  pub are_joined : HasJoined state link other joined
+  pub are_joined : AnswersJoined state link other joined
   pub code : told ≡ joined_code joined
 
 -- ---- the end of a link
@@ -87,6 +87,6 @@ fed_status (Err fault) = fault_status fault
 pub record FeedsByte (base : ℕ) (old : BootState) (memory : List ℕ) (byte status : ℕ)
     (new : BootState) (after before left : List ℕ) : Type 0 where
   pub fed : Result (Option (List ℕ)) BootFault
-  pub feeds : HasFedByte base old memory byte fed new after
+  pub feeds : EndTakesByte base old memory byte fed new after
   pub its_status : status ≡ fed_status fed
   pub its_reply : left ≡ reply_left fed before

@@ -1,7 +1,7 @@
 //! The calls of a link's end that waits to boot, over a state and memory of their caller.
 
 ghost use Rattle.std.specs.Prelude.{◌≡◌};
-ghost use Rattle.boot_end.specs.States.{IsState, new_end, pending_of};
+ghost use Rattle.boot_end.specs.States.{IsBootState, new_boot_end, pending_of};
 ghost use Rattle.exchange_c.specs.States.{FeedsByte, fault_status};
 
 use crate::status::{BOOTSTRAP, FAILED, MISALIGNED, NO_STATE, OUTSIDE, REPLY};
@@ -12,8 +12,8 @@ use plan_answers::DONE;
 /// Makes the state that of an end to which nothing has come.
 #[unsafe(no_mangle)]
 pub extern "C" fn exchange_boot_reset(end: &mut BootState)
-    ensures state { IsState end.new }
-    ensures new { pending_of end.new ≡ new_end }
+    ensures state { IsBootState end.new }
+    ensures new { pending_of end.new ≡ new_boot_end }
 {
     *end = BootState::reset();
 }

@@ -1,7 +1,7 @@
 //! The calls of a switch, over a state of their caller.
 
 ghost use Rattle.std.specs.Prelude.{◌≡◌};
-ghost use Rattle.switch_state.specs.States.{IsState, end_of, new_end};
+ghost use Rattle.switch_state.specs.States.{IsSwitchState, kept_end, new_switch_end};
 ghost use Rattle.exchange_c.specs.States.{TakesByte, TellsSource, TellsJoined, fault_code};
 
 use crate::status::{LOOSE, NO_PORT, NO_STATE, REPLY};
@@ -11,8 +11,8 @@ use switch_state::{AskFault, SwitchState, TakeFault};
 /// Makes the state that of a switch as after a reset, to which nothing has come.
 #[unsafe(no_mangle)]
 pub extern "C" fn exchange_c004_reset(state: &mut SwitchState)
-    ensures state { IsState state.new }
-    ensures new { end_of state.new ≡ new_end }
+    ensures state { IsSwitchState state.new }
+    ensures new { kept_end state.new ≡ new_switch_end }
 {
     *state = SwitchState::reset();
 }

@@ -21,7 +21,7 @@ use Rattle.switch_state.specs.declared.state.SwitchState.{SwitchState}
 use Rattle.switch_state.specs.declared.state.TheConstants.{MOST_BEGUN}
 use Rattle.switch_state.specs.Bytes.{is_answer, input_of}
 use Rattle.switch_state.specs.Laws.{EachEndHasState, EachStateHasEnd}
-use Rattle.switch_state.specs.States.{IsState, IsEnd, begun_of, end_of, state_of}
+use Rattle.switch_state.specs.States.{IsSwitchState, IsEnd, command_begun, kept_end, state_keeping}
 use Rattle.switch_state.proofs.Outputs.{connected_byte, is_connected, input_at, answer_at}
 use Rattle.switch_state.proofs.Begun.{front_fits}
 
@@ -51,7 +51,7 @@ input_is_port byte input h =
     ] refl
 
 -- an output that has an input is one, and so is the input
-ports_of : (s : SwitchState) → IsState s → (output input : ℕ) → get (end_of s).switch.sources output ≡ Some input → (output < PORTS) × (input < PORTS)
+ports_of : (s : SwitchState) → IsSwitchState s → (output input : ℕ) → get (kept_end s).switch.sources output ≡ Some input → (output < PORTS) × (input < PORTS)
 ports_of s h output input e =
     elim (cases_lt output PORTS) [
       | inl low ↦
@@ -61,9 +61,9 @@ ports_of s h output input e =
     ]
 
 -- each output's byte is what it answers
-outputs_of : (s : SwitchState) → IsState s → map (λ output. answer_byte (get (end_of s).switch.sources output)) (range_with_len 0 PORTS) ≡ s.outputs
+outputs_of : (s : SwitchState) → IsSwitchState s → map (λ output. answer_byte (get (kept_end s).switch.sources output)) (range_with_len 0 PORTS) ≡ s.outputs
 outputs_of s h =
-    let answers : ℕ → ℕ = λ output. answer_byte (get (end_of s).switch.sources output) in
+    let answers : ℕ → ℕ = λ output. answer_byte (get (kept_end s).switch.sources output) in
     let long = length-map-range_with_len answers 0 PORTS in
     same_lists (map answers (range_with_len 0 PORTS)) s.outputs (long ∙ sym h.all_outputs) (λ k d inside.
     let below : k < PORTS = omega (arith, long) in
@@ -95,9 +95,9 @@ same_state a b p q r t =
 
 pub each_state_has_end : EachStateHasEnd
 each_state_has_end s h =
-    let count : length (begun_of s) ≡ s.begun_count = length-take-le s.begun_count s.begun (omega (arith, h.room, h.behind.most)) in (
+    let count : length (command_begun s) ≡ s.begun_count = length-take-le s.begun_count s.begun (omega (arith, h.room, h.behind.most)) in (
       record { ports = ports_of s h; begun = h.begun },
-      same_state (state_of (end_of s)) s (outputs_of s h) (padded s.begun_count s.begun h.room h.behind.most h.behind.zeros) count (connecting_of s.connecting h.connecting),
+      same_state (state_keeping (kept_end s)) s (outputs_of s h) (padded s.begun_count s.begun h.room h.behind.most h.behind.zeros) count (connecting_of s.connecting h.connecting),
     )
 
 -- what an output answers by its byte
@@ -112,39 +112,39 @@ module _ (end : EndState) (h : IsEnd end) where
   bytes_at : (output : ℕ) → (is_answer (answer_byte (get end.switch.sources output)) ≡ true) × (input_of (answer_byte (get end.switch.sources output)) ≡ get end.switch.sources output)
   bytes_at output = byte_of (get end.switch.sources output) (λ input e. (h.ports output input e).1)
 
-  all_outputs : length (state_of end).outputs ≡ PORTS
+  all_outputs : length (state_keeping end).outputs ≡ PORTS
   all_outputs = length-map-range_with_len (λ output. answer_byte (get end.switch.sources output)) 0 PORTS
 
-  byte_at : (k d : ℕ) → k < PORTS → get_or (state_of end).outputs k d ≡ answer_byte (get end.switch.sources k)
+  byte_at : (k d : ℕ) → k < PORTS → get_or (state_keeping end).outputs k d ≡ answer_byte (get end.switch.sources k)
   byte_at k d below = get_or-map-range_with_len (λ output. answer_byte (get end.switch.sources output)) 0 PORTS k k d below (omega arith)
 
-  all_answer : list_all is_answer (state_of end).outputs ≡ true
-  all_answer = list_all-from_AllPass is_answer (state_of end).outputs (λ k d inside.
+  all_answer : list_all is_answer (state_keeping end).outputs ≡ true
+  all_answer = list_all-from_AllPass is_answer (state_keeping end).outputs (λ k d inside.
       ap is_answer (byte_at k d (omega (arith, all_outputs))) ∙ (bytes_at k).0)
 
   loose_above : (q : ℕ) → PORTS ≤ q → (o : Option ℕ) → get end.switch.sources q ≡ o → o ≡ None
   loose_above q high None e = refl
   loose_above q high (Some input) e = absurd (omega (arith, (h.ports q input e).0))
 
-  source_of : (q : ℕ) → get (sources_of (map input_of (state_of end).outputs)) q ≡ get end.switch.sources q
+  source_of : (q : ℕ) → get (sources_of (map input_of (state_keeping end).outputs)) q ≡ get end.switch.sources q
   source_of q =
       elim (cases_lt q PORTS) [
         | inl low ↦
-            sym (input_at (state_of end).outputs q (omega (arith, all_outputs))) ∙ ap input_of (byte_at q 0 low) ∙ (bytes_at q).1
+            sym (input_at (state_keeping end).outputs q (omega (arith, all_outputs))) ∙ ap input_of (byte_at q 0 low) ∙ (bytes_at q).1
         | inr high ↦
-            loose_behind (map input_of (state_of end).outputs) q (omega (arith, all_outputs, length-map (state_of end).outputs input_of))
+            loose_behind (map input_of (state_keeping end).outputs) q (omega (arith, all_outputs, length-map (state_keeping end).outputs input_of))
             ∙ sym (loose_above q high (get end.switch.sources q) refl)
       ]
 
-  room : length (state_of end).begun ≡ MOST_BEGUN
+  room : length (state_keeping end).begun ≡ MOST_BEGUN
   room = omega (arith, front_fits end.begun h.begun, length-append end.begun (replicate (MOST_BEGUN - length end.begun) 0), length-replicate {A = ℕ} (MOST_BEGUN - length end.begun) 0)
 
-  zeros : (k : ℕ) → length end.begun ≤ k → k < MOST_BEGUN → get_or (state_of end).begun k 0 ≡ 0
+  zeros : (k : ℕ) → length end.begun ≤ k → k < MOST_BEGUN → get_or (state_keeping end).begun k 0 ≡ 0
   zeros k from below =
       get_or-append_right end.begun (replicate (MOST_BEGUN - length end.begun) 0) k 0 from
       ∙ get_or-replicate (MOST_BEGUN - length end.begun) (k - length end.begun) 0 0 (omega arith)
 
-  begun_is : begun_of (state_of end) ≡ end.begun
+  begun_is : command_begun (state_keeping end) ≡ end.begun
   begun_is = take-append_seam end.begun (replicate (MOST_BEGUN - length end.begun) 0)
 
 low_flag : (ready : Bool) → (cond ready 0 1 ≤ 1) × ((cond ready 0 1 == 0) ≡ ready)
@@ -166,5 +166,5 @@ each_end_has_state end h = (
     behind = record { most = front_fits end.begun h.begun; zeros = zeros end h };
     connecting = (low_flag end.switch.ready).0;
   },
-  same_end (end_of (state_of end)) end (same_sources _ _ (source_of end h)) (low_flag end.switch.ready).1 (begun_is end h),
+  same_end (kept_end (state_keeping end)) end (same_sources _ _ (source_of end h)) (low_flag end.switch.ready).1 (begun_is end h),
 )

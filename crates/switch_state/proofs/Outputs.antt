@@ -13,7 +13,7 @@ use Rattle.crossbar.specs.Latches.{sources_of}
 use Rattle.crossbar.proofs.Latches.{sources_connect, sources_disconnect, source_at}
 use Rattle.switch_state.specs.declared.state.SwitchState.{SwitchState}
 use Rattle.switch_state.specs.Bytes.{is_answer, input_of}
-use Rattle.switch_state.specs.States.{IsState}
+use Rattle.switch_state.specs.States.{IsSwitchState}
 
 -- the input that feeds an output whose byte says so
 pub connected_byte : (input : ℕ) → input_of (CONNECTED + input) ≡ Some input
@@ -39,7 +39,7 @@ answer-input byte h =
     ] refl
 
 -- the state with another byte of an output
-pub with_output : (s : SwitchState) (i byte connecting : ℕ) → IsState s → is_answer byte ≡ true → connecting ≤ 1 → IsState (record { outputs = set s.outputs i byte; begun = s.begun; begun_count = s.begun_count; connecting = connecting })
+pub with_output : (s : SwitchState) (i byte connecting : ℕ) → IsSwitchState s → is_answer byte ≡ true → connecting ≤ 1 → IsSwitchState (record { outputs = set s.outputs i byte; begun = s.begun; begun_count = s.begun_count; connecting = connecting })
 with_output s i byte connecting h answer low = record {
   all_outputs = length-set s.outputs i byte ∙ h.all_outputs;
   answers = list_all-from_AllPass is_answer (set s.outputs i byte) (All-set (λ x. is_answer x ≡ true) s.outputs i byte answer (AllPass-from_list_all is_answer s.outputs h.answers));

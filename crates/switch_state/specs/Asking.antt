@@ -6,15 +6,15 @@ use Rattle.crossbar.specs.Switch.{Switch}
 use Rattle.switch_state.specs.declared.fault.AskFault.{AskFault}
 use Rattle.switch_state.specs.declared.fault.AskFault.TheVariants.{NoSwitch, NoPort}
 use Rattle.switch_state.specs.declared.state.SwitchState.{SwitchState}
-use Rattle.switch_state.specs.States.{IsState, end_of}
+use Rattle.switch_state.specs.States.{IsSwitchState, kept_end}
 
 -- a switch has the state, and the input feeds its output, or none does; or there is no such output;
 -- or no switch has the state
-abbrev pub HasSource : SwitchState → ℕ → Result (Option ℕ) AskFault → Type 0
-HasSource s output (Ok source) =
-    IsState s × (output < PORTS) × (source ≡ get (end_of s).switch.sources output)
-HasSource s output (Err NoPort) = IsState s × (PORTS ≤ output)
-HasSource s output (Err NoSwitch) = IsState s → ⊥
+abbrev pub AnswersSource : SwitchState → ℕ → Result (Option ℕ) AskFault → Type 0
+AnswersSource s output (Ok source) =
+    IsSwitchState s × (output < PORTS) × (source ≡ get (kept_end s).switch.sources output)
+AnswersSource s output (Err NoPort) = IsSwitchState s × (PORTS ≤ output)
+AnswersSource s output (Err NoSwitch) = IsSwitchState s → ⊥
 
 -- the two links feed each other, and the switch is ready
 pub record AreJoinedLinks (switch : Switch) (link other : ℕ) : Type 0 where
@@ -24,9 +24,9 @@ pub record AreJoinedLinks (switch : Switch) (link other : ℕ) : Type 0 where
 
 -- a switch has the state, and the answer says whether it joins two links; or one of them isn't
 -- there; or no switch has the state
-abbrev pub HasJoined : SwitchState → ℕ → ℕ → Result Bool AskFault → Type 0
-HasJoined s link other (Ok joined) =
-    IsState s × (link < PORTS) × (other < PORTS)
-    × (IsTrue joined ↔ AreJoinedLinks (end_of s).switch link other)
-HasJoined s link other (Err NoPort) = IsState s × ((PORTS ≤ link) ⊎ (PORTS ≤ other))
-HasJoined s link other (Err NoSwitch) = IsState s → ⊥
+abbrev pub AnswersJoined : SwitchState → ℕ → ℕ → Result Bool AskFault → Type 0
+AnswersJoined s link other (Ok joined) =
+    IsSwitchState s × (link < PORTS) × (other < PORTS)
+    × (IsTrue joined ↔ AreJoinedLinks (kept_end s).switch link other)
+AnswersJoined s link other (Err NoPort) = IsSwitchState s × ((PORTS ≤ link) ⊎ (PORTS ≤ other))
+AnswersJoined s link other (Err NoSwitch) = IsSwitchState s → ⊥

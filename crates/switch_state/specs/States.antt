@@ -14,24 +14,24 @@ use Rattle.switch_state.specs.declared.state.TheConstants.{MOST_BEGUN}
 use Rattle.switch_state.specs.Bytes.{is_answer, input_of}
 
 -- the bytes that have come of the next command
-abbrev pub begun_of : SwitchState → List ℕ
-begun_of s = take s.begun_count s.begun
+abbrev pub command_begun : SwitchState → List ℕ
+command_begun s = take s.begun_count s.begun
 
 -- the switch that the bytes keep, and what has come of its next command
-abbrev pub end_of : SwitchState → EndState
-end_of s =
+abbrev pub kept_end : SwitchState → EndState
+kept_end s =
     record {
       switch =
           record {
             sources = sources_of (map input_of s.outputs);
             ready = s.connecting == 0;
           };
-      begun = begun_of s;
+      begun = command_begun s;
     }
 
 -- a switch as after a reset, to which nothing has come
-abbrev pub new_end : EndState
-new_end = record { switch = idle; begun = [] }
+abbrev pub new_switch_end : EndState
+new_switch_end = record { switch = idle; begun = [] }
 
 -- so many bytes may have come of a command, and behind them stand zeros
 pub record HasZerosBehind (count : ℕ) (bytes : List ℕ) : Type 0 where
@@ -39,11 +39,11 @@ pub record HasZerosBehind (count : ℕ) (bytes : List ℕ) : Type 0 where
   pub zeros : (k : ℕ) → count ≤ k → k < MOST_BEGUN → slice_index bytes k ≡ 0
 
 -- a switch has this state
-pub record IsState (s : SwitchState) : Type 0 where
+pub record IsSwitchState (s : SwitchState) : Type 0 where
   pub all_outputs : length s.outputs ≡ PORTS
   pub answers : IsTrue (list_all is_answer s.outputs)
   pub room : length s.begun ≡ MOST_BEGUN
-  pub begun : IsCommandFront (begun_of s)
+  pub begun : IsCommandFront (command_begun s)
   pub behind : HasZerosBehind s.begun_count s.begun
   pub connecting : s.connecting ≤ 1
 
@@ -55,8 +55,8 @@ pub record IsEnd (end : EndState) : Type 0 where
 
 -- the bytes that keep a switch: what each output answers, what has come of a command, and whether
 -- it is ready
-abbrev pub state_of : EndState → SwitchState
-state_of end =
+abbrev pub state_keeping : EndState → SwitchState
+state_keeping end =
     record {
       outputs = map (λ output. answer_byte (get end.switch.sources output)) (range_with_len 0 PORTS);
       begun = end.begun ++ replicate (MOST_BEGUN - length end.begun) 0;

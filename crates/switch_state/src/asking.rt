@@ -1,6 +1,6 @@
 //! What a state is asked.
 
-ghost use Rattle.switch_state.specs.Asking.{HasSource, HasJoined};
+ghost use Rattle.switch_state.specs.Asking.{AnswersSource, AnswersJoined};
 
 use crate::fault::AskFault;
 use crate::state::SwitchState;
@@ -10,7 +10,7 @@ impl SwitchState {
     /// The input that feeds an output, or `None` where the output is disconnected. Takes constant
     /// time.
     pub fn source(&self, output: u8) -> Result<Option<u8>, AskFault>
-        ensures { HasSource self.now output result }
+        ensures { AnswersSource self.now output result }
     {
         let Some(_) = self.reader() else {
             return Err(AskFault::NoSwitch);
@@ -28,7 +28,7 @@ impl SwitchState {
 
     /// Whether two links feed each other, and the switch is ready. Takes constant time.
     pub fn joined(&self, link: u8, other: u8) -> Result<bool, AskFault>
-        ensures { HasJoined self.now link other result }
+        ensures { AnswersJoined self.now link other result }
     {
         let fed_by = self.source(link)?;
         let feeds = self.source(other)?;

@@ -4,7 +4,7 @@ ghost use Rattle.std.specs.Prelude.{◌≡◌, ◌↔◌, IsTrue, MatchOption};
 ghost use Rattle.std.specs.List.{list_all};
 ghost use Rattle.c004_commands.specs.Commands.{IsCommandFront};
 ghost use Rattle.switch_state.specs.Bytes.{is_answer};
-ghost use Rattle.switch_state.specs.States.{IsState, begun_of, end_of, new_end, HasZerosBehind};
+ghost use Rattle.switch_state.specs.States.{IsSwitchState, command_begun, kept_end, new_switch_end, HasZerosBehind};
 
 use c004_commands::{CONNECTED, CommandReader, LONGEST_COMMAND, PORTS};
 
@@ -33,8 +33,8 @@ pub struct SwitchState {
 impl SwitchState {
     /// A switch as after a reset, to which nothing has come. All bytes are 0.
     pub fn reset() -> SwitchState
-        ensures state { IsState result }
-        ensures new { end_of result ≡ new_end }
+        ensures state { IsSwitchState result }
+        ensures new { kept_end result ≡ new_switch_end }
     {
         SwitchState {
             outputs: [0; OUTPUTS],
@@ -47,8 +47,8 @@ impl SwitchState {
     /// A reader to which just those bytes have come that have come of the next command. There is
     /// none where no switch has this state.
     pub(crate) fn reader(&self) -> Option<CommandReader>
-        ensures { MatchOption result (IsState self.now → ⊥)
-            (λ reader. IsState self.now × (reader ≡ begun_of self.now)) }
+        ensures { MatchOption result (IsSwitchState self.now → ⊥)
+            (λ reader. IsSwitchState self.now × (reader ≡ command_begun self.now)) }
     {
         if self.connecting > 1 || !are_answers(&self.outputs) {
             return None;

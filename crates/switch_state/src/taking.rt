@@ -4,8 +4,8 @@ ghost use Rattle.std.specs.Prelude.{◌≡◌, ◌++◌, ◌∷◌, [], MatchOpt
 ghost use Rattle.c004_commands.specs.Commands.{IsCommandFront};
 ghost use Rattle.c004_commands.specs.declared.command.Command.TheVariants.{Connect, Cut};
 ghost use Rattle.crossbar.specs.Switch.{after, answer};
-ghost use Rattle.switch_state.specs.States.{IsState, begun_of, end_of};
-ghost use Rattle.switch_state.specs.Taking.{HasTakenByte};
+ghost use Rattle.switch_state.specs.States.{IsSwitchState, command_begun, kept_end};
+ghost use Rattle.switch_state.specs.Taking.{SwitchTakesByte};
 
 use crate::fault::TakeFault;
 use crate::state::{MOST_BEGUN, OUTPUTS, SwitchState};
@@ -17,7 +17,7 @@ impl SwitchState {
     /// comes drops the command that was begun, and leaves the switch as it was. A state that no
     /// switch has stays as it is. Takes constant time.
     pub fn take(&mut self, byte: u8) -> Result<Option<u8>, TakeFault>
-        ensures { HasTakenByte self.old byte result self.new }
+        ensures { SwitchTakesByte self.old byte result self.new }
     {
         let Some(mut reader) = self.reader() else {
             return Err(TakeFault::NoSwitch);
@@ -40,9 +40,9 @@ impl SwitchState {
 
     /// Nothing has come of the next command.
     fn drop_begun(&mut self)
-        requires { IsState self.old }
-        ensures state { IsState self.new }
-        ensures dropped { end_of self.new ≡ record { switch = (end_of self.old).switch; begun = [] } }
+        requires { IsSwitchState self.old }
+        ensures state { IsSwitchState self.new }
+        ensures dropped { kept_end self.new ≡ record { switch = (kept_end self.old).switch; begun = [] } }
     {
         self.begun = [0; MOST_BEGUN];
         self.begun_count = 0;
@@ -50,12 +50,12 @@ impl SwitchState {
 
     /// The byte has come of the next command too, which isn't whole yet.
     fn keep(&mut self, byte: u8)
-        requires state { IsState self.old }
-        requires partial { IsCommandFront (begun_of self.old ++ byte ∷ []) }
-        ensures state { IsState self.new }
-        ensures kept { end_of self.new ≡ record {
-          switch = (end_of self.old).switch;
-          begun = begun_of self.old ++ byte ∷ [];
+        requires state { IsSwitchState self.old }
+        requires partial { IsCommandFront (command_begun self.old ++ byte ∷ []) }
+        ensures state { IsSwitchState self.new }
+        ensures kept { kept_end self.new ≡ record {
+          switch = (kept_end self.old).switch;
+          begun = command_begun self.old ++ byte ∷ [];
         } }
     {
         self.begun[usize::from(self.begun_count)] = byte;
@@ -64,13 +64,13 @@ impl SwitchState {
 
     /// Carries out a command, and answers an enquiry.
     fn apply(&mut self, command: Command) -> Option<u8>
-        requires { IsState self.old }
-        ensures state { IsState self.new }
-        ensures switch { end_of self.new ≡ record {
-          switch = after command (end_of self.old).switch;
-          begun = begun_of self.old;
+        requires { IsSwitchState self.old }
+        ensures state { IsSwitchState self.new }
+        ensures switch { kept_end self.new ≡ record {
+          switch = after command (kept_end self.old).switch;
+          begun = command_begun self.old;
         } }
-        ensures answer { result ≡ answer command (end_of self.old).switch }
+        ensures answer { result ≡ answer command (kept_end self.old).switch }
     {
         match command {
             Command::Connect { input, output } => self.connect(input, output),
@@ -95,11 +95,11 @@ impl SwitchState {
 
     /// The input feeds the output from now on, and no other does.
     fn connect(&mut self, input: PortNo, output: PortNo)
-        requires { IsState self.old }
-        ensures state { IsState self.new }
-        ensures switch { end_of self.new ≡ record {
-          switch = after (Connect input output) (end_of self.old).switch;
-          begun = begun_of self.old;
+        requires { IsSwitchState self.old }
+        ensures state { IsSwitchState self.new }
+        ensures switch { kept_end self.new ≡ record {
+          switch = after (Connect input output) (kept_end self.old).switch;
+          begun = command_begun self.old;
         } }
     {
         self.outputs[usize::from(output.get())] = CONNECTED + input.get();
@@ -108,11 +108,11 @@ impl SwitchState {
 
     /// No input feeds the output from now on.
     fn disconnect(&mut self, output: PortNo)
-        requires { IsState self.old }
-        ensures state { IsState self.new }
-        ensures switch { end_of self.new ≡ record {
-          switch = after (Cut output) (end_of self.old).switch;
-          begun = begun_of self.old;
+        requires { IsSwitchState self.old }
+        ensures state { IsSwitchState self.new }
+        ensures switch { kept_end self.new ≡ record {
+          switch = after (Cut output) (kept_end self.old).switch;
+          begun = command_begun self.old;
         } }
     {
         self.outputs[usize::from(output.get())] = 0;

@@ -1,12 +1,12 @@
 use Rattle.std.proofs.Common.{◌≡◌, ◌==◌, ◌∙◌, ℕ, true, false, refl, sym, arith, eq-eqb, ne_eqb, inl, inr, ◌⊎◌}
 use Rattle.boot_end.specs.Memory.{memory_read, memory_write}
 use Rattle.boot_end.specs.declared.state.BootState.{BootState}
-use Rattle.boot_end.specs.States.{IsState, pending_of}
+use Rattle.boot_end.specs.States.{IsBootState, pending_of}
 use Rattle.boot_end.proofs.Feeding.{same_taken, same_refused}
 use Rattle.boot_end.proofs.state.BootState.take.Goals as goal
 
 -- a state to which nothing has come of a message
-empty : (s : BootState) (failed : ℕ) → IsState s → (failed ≡ 1) ⊎ (failed ≡ s.failed) → IsState (record { begun = s.begun; begun_count = 0; failed = failed })
+empty : (s : BootState) (failed : ℕ) → IsBootState s → (failed ≡ 1) ⊎ (failed ≡ s.failed) → IsBootState (record { begun = s.begun; begun_count = 0; failed = failed })
 empty s failed h f = record {
   room = h.room;
   most = omega arith;

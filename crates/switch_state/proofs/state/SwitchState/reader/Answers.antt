@@ -1,10 +1,10 @@
 use Rattle.std.proofs.Common.{◌≡◌, ℕ, List, Option, Some, None, MatchOption, arith, sym}
 use Rattle.c004_commands.specs.Commands.{IsCommandFront}
 use Rattle.switch_state.specs.declared.state.SwitchState.{SwitchState}
-use Rattle.switch_state.specs.States.{IsState, begun_of}
+use Rattle.switch_state.specs.States.{IsSwitchState, command_begun}
 use Rattle.switch_state.proofs.state.SwitchState.reader.Goals as goal
 
-read : (s : SwitchState) (o : Option (List ℕ)) → (IsCommandFront (begun_of s) → IsState s) → MatchOption o (IsCommandFront (begun_of s) → ⊥) (λ r. IsCommandFront (begun_of s) × (r ≡ begun_of s)) → MatchOption o (IsState s → ⊥) (λ r. IsState s × (r ≡ begun_of s))
+read : (s : SwitchState) (o : Option (List ℕ)) → (IsCommandFront (command_begun s) → IsSwitchState s) → MatchOption o (IsCommandFront (command_begun s) → ⊥) (λ r. IsCommandFront (command_begun s) × (r ≡ command_begun s)) → MatchOption o (IsSwitchState s → ⊥) (λ r. IsSwitchState s × (r ≡ command_begun s))
 read s None made m = λ h. m h.begun
 read s (Some r) made m = (made m.0, m.1)
 

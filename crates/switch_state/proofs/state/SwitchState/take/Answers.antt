@@ -1,6 +1,6 @@
 use Rattle.std.proofs.Common.{◌∷◌, [], ◌++◌, ◌∙◌, List, ℕ, ap, sym, subst}
 use Rattle.c004_commands.specs.Commands.{IsCommandFront}
-use Rattle.switch_state.specs.States.{end_of}
+use Rattle.switch_state.specs.States.{kept_end}
 use Rattle.switch_state.proofs.Begun.{more_begun, took, waited}
 use Rattle.switch_state.proofs.state.SwitchState.take.Goals as goal
 
@@ -17,8 +17,8 @@ returns-in-Ok-Some c =
     let front = subst IsCommandFront (sym same) c.in-Some.ensures.0.begun in (
       c.in-Some.ensures.0,
       c.apply.ensures.state,
-      took (end_of c.args.self.now) (end_of c.apply.new.self) c.in-Some.reader c.feed.new.self c.args.byte c.in-Ok-Some.field-0 front same c.in-Ok-Some.ensures.text
-          (end_of c.drop_begun.new.self) c.in-Ok-Some.command c.apply.result c.in-Ok-Some.field-0-is c.drop_begun.ensures.dropped c.apply.ensures.switch c.apply.ensures.answer,
+      took (kept_end c.args.self.now) (kept_end c.apply.new.self) c.in-Some.reader c.feed.new.self c.args.byte c.in-Ok-Some.field-0 front same c.in-Ok-Some.ensures.text
+          (kept_end c.drop_begun.new.self) c.in-Ok-Some.command c.apply.result c.in-Ok-Some.field-0-is c.drop_begun.ensures.dropped c.apply.ensures.switch c.apply.ensures.answer,
     )
 
 pub returns-in-Ok-None : goal.returns-in-Ok-None
@@ -27,6 +27,6 @@ returns-in-Ok-None c =
     let front = subst IsCommandFront (sym same) c.in-Some.ensures.0.begun in (
       c.in-Some.ensures.0,
       c.keep.ensures.state,
-      waited (end_of c.args.self.now) (end_of c.keep.new.self) c.in-Some.reader c.feed.new.self c.args.byte c.in-Ok-None.field-0 front same c.in-Ok-None.ensures.text
-          c.in-Ok-None.field-0-is (c.keep.ensures.kept ∙ ap (λ (t : List ℕ). record { switch = (end_of c.args.self.now).switch; begun = t ++ c.args.byte ∷ [] }) (sym same)),
+      waited (kept_end c.args.self.now) (kept_end c.keep.new.self) c.in-Some.reader c.feed.new.self c.args.byte c.in-Ok-None.field-0 front same c.in-Ok-None.ensures.text
+          c.in-Ok-None.field-0-is (c.keep.ensures.kept ∙ ap (λ (t : List ℕ). record { switch = (kept_end c.args.self.now).switch; begun = t ++ c.args.byte ∷ [] }) (sym same)),
     )
