@@ -52,7 +52,7 @@ ended rest (x ∷ xs) byte c front e =
 pub none_begun : (rest left : List ℕ) (byte : ℕ) (c : Command) → IsCommandFront rest → GoesOn rest byte (Some c) left → left ≡ []
 none_begun rest left byte c front on = ended rest left byte c front (row_first rest left byte c front on)
 
-pub split_at : (bytes : List ℕ) (k : ℕ) → k < length bytes → bytes ≡ take k bytes ++ get_or bytes k 0 ∷ drop (suc k) bytes
+split_at : (bytes : List ℕ) (k : ℕ) → k < length bytes → bytes ≡ take k bytes ++ get_or bytes k 0 ∷ drop (suc k) bytes
 split_at bytes k h = sym (take-append-drop k bytes) ∙ ap (λ (t : List ℕ). take k bytes ++ t) (drop-cons bytes k 0 h)
 
 behind : (a : List ℕ) (b : ℕ) (more : List ℕ) → a ++ b ∷ more ≡ (a ++ b ∷ []) ++ more

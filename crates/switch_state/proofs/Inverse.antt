@@ -106,9 +106,6 @@ byte_of None h = (refl, refl)
 byte_of (Some input) h = (is_connected input (h input refl), connected_byte input)
 
 module _ (end : EndState) (h : IsEnd end) where
-  answers : ℕ → ℕ
-  answers output = answer_byte (get end.switch.sources output)
-
   bytes_at : (output : ℕ) → (is_answer (answer_byte (get end.switch.sources output)) ≡ true) × (input_of (answer_byte (get end.switch.sources output)) ≡ get end.switch.sources output)
   bytes_at output = byte_of (get end.switch.sources output) (λ input e. (h.ports output input e).1)
 

@@ -31,7 +31,7 @@ fed : (byte : ℕ) → nat_lt byte CONNECTED ≡ false → CONNECTED + (byte - C
 fed byte high = grind (arith, nat_tests)
 
 -- the byte is the answer of an output that has its input
-pub answer-input : (byte : ℕ) → is_answer byte ≡ true → answer_byte (input_of byte) ≡ byte
+answer-input : (byte : ℕ) → is_answer byte ≡ true → answer_byte (input_of byte) ≡ byte
 answer-input byte h =
     elim (nat_lt byte CONNECTED) as (λ b. nat_lt byte CONNECTED ≡ b → answer_byte (cond b None (Some (byte - CONNECTED))) ≡ byte) [
       | true ↦ λ low. loose byte h low
