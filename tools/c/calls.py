@@ -46,7 +46,8 @@ def words_of(name, given):
         return ["plan", *words, "--steady"]
     if name == "switch":
         return ["switch", "batch", "--schedule", "schedule"] if given[1] else ["switch", "batch"]
-    return ["draw" if name == "changes" else name, *words]
+    # A shape may begin as an option does.
+    return ["draw" if name == "changes" else name, "--", *words]
 
 
 def told(name, program):
