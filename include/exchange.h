@@ -15,8 +15,8 @@
  * A call with a `room` of 0 asks for the number alone; it costs as much as one that writes. The same texts have
  * the same answer each time, so the room that the first call asks for is enough for the second.
  *
- * README.md says what a batch, a schedule and a shape are, docs/GUIDE.md what moves are, and docs/REFUSALS.md
- * what each refusal means. They are installed in share/doc/exchange.
+ * README.md says what a batch, a schedule and a shape are, docs/GUIDE.md what moves are, docs/SWITCHES.md what a
+ * wiring is, and docs/REFUSALS.md what each refusal means. They are installed in share/doc/exchange.
  *
  * Below these calls stand a switch and the end of a link, each as calls over a state that is yours. They take no
  * memory.
@@ -66,6 +66,7 @@ extern "C" {
 #define EXCHANGE_OF_DRAW 4
 #define EXCHANGE_OF_CHANGES 5
 #define EXCHANGE_OF_DIRECT 6
+#define EXCHANGE_OF_SWITCH_WIRED 7
 #define EXCHANGE_NO_CALL 35
 
 /* `exchange plan`: a schedule of the batch with as few settings as possible, and its certificate.
@@ -97,6 +98,11 @@ uint8_t exchange_check(const uint8_t *batch, size_t batch_bytes, const uint8_t *
  * file. Takes time that grows with the lengths of the texts, and the time of a plan where it makes one. */
 uint8_t exchange_switch(const uint8_t *batch, size_t batch_bytes, const uint8_t *schedule,
                         size_t schedule_bytes, uint8_t *out, size_t room, size_t *count);
+
+/* `exchange switch --wiring`: the same for a board with one C004 that is wired otherwise. The text of the wiring is looked at first. */
+uint8_t exchange_switch_wired(const uint8_t *batch, size_t batch_bytes, const uint8_t *schedule,
+                              size_t schedule_bytes, const uint8_t *wiring, size_t wiring_bytes, uint8_t *out,
+                              size_t room, size_t *count);
 
 /* `exchange apply`: the image that a run of the batch leaves of an image, on a rack of the shape `MxKxW`.
  *
@@ -130,7 +136,7 @@ uint8_t exchange_direct(const uint8_t *moves, size_t moves_bytes, uint8_t *out, 
  *
  * The texts are those of the call, in the order of its arguments; of those that it doesn't have, give any, as of 0
  * bytes. `names` are what the line calls them, one a line: `batch.txt\nplan.txt`. An empty or missing name is the
- * text's kind: `batch`, `schedule`, `image`, `moves`. `exchange_plan_steady` refuses what `exchange_plan` does.
+ * text's kind: `batch`, `schedule`, `image`, `moves`, `wiring`. `exchange_plan_steady` refuses what `exchange_plan` does.
  *
  * The answer is done, and has 0 bytes where the call refuses none of these texts. Where no call has the number, the
  * status is EXCHANGE_NO_CALL, `*count` is 0, and `out` is as it was. Takes the time of the call. */

@@ -20,7 +20,7 @@ Text = Union[str, bytes, bytearray, memoryview]
 _DONE, _REFUSED, _NO_ROOM, _NO_MEMORY, _REPLY, _LOOSE, _NO_PORT, _NO_STATE = 0, 1, 2, 3, 4, 32, 33, 34
 
 # The numbers by which `exchange_why` knows the calls.
-_NUMBERS = {"plan": 0, "plan_steady": 0, "check": 1, "switch": 2, "apply": 3, "draw": 4, "changes": 5, "direct": 6}
+_NUMBERS = {"plan": 0, "plan_steady": 0, "check": 1, "switch": 2, "apply": 3, "draw": 4, "changes": 5, "direct": 6, "switch_wired": 7}
 
 # Bytes of room for an answer at first. Most answers fit, and need no second call.
 _ROOM = 1 << 16
@@ -117,9 +117,10 @@ def check(batch: Text, schedule: Text) -> int:
     return int(_ask("check", batch, schedule).split()[1])
 
 
-def switch_bytes(batch: Text, schedule: Optional[Text] = None) -> List[Tuple[bytes, ...]]:
+def switch_bytes(batch: Text, schedule: Optional[Text] = None, wiring: Optional[Text] = None) -> List[Tuple[bytes, ...]]:
     r"""The bytes that set a switch for each setting in turn of a schedule of a batch, with a certificate or without. Where no schedule is given,
-    it is that of `plan`. Where the batch names a module above 15, there are two switches, a and b, and the bytes for each.
+    it is that of `plan`. Where the batch names a module above 15, there are two switches, a and b, and the bytes for each. A board with one
+    switch may be wired otherwise: docs/SWITCHES.md says what the text of its wiring is.
 
     Where a setting leaves the switch as it is, its bytes are `03` alone.
 
@@ -128,11 +129,15 @@ def switch_bytes(batch: Text, schedule: Optional[Text] = None) -> List[Tuple[byt
     >>> batch = "batch 2\npush 0 0 1 0\npush 0 1 1 1\n"
     >>> [sent.hex(" ") for (sent,) in switch_bytes(batch, plan(batch, steady=True))]
     ['04 01 00 11 03', '03']
+    >>> board = "wiring 2\nmodule 0 link 0 at 4 link 3 at 5\nmodule 1 link 0 at 6 link 3 at 7\n"
+    >>> [sent.hex(" ") for (sent,) in switch_bytes("batch 1\npush 0 0 1 0\n", wiring=board)]
+    ['04 01 04 07 03']
     """
     # To the call an empty text is no schedule. An empty line is refused as an empty text is.
     given = b"" if schedule is None else _bytes_of(schedule) or b"\n"
     found: List[Tuple[bytes, ...]] = []
-    for line in _ask("switch", batch, given).decode().splitlines():
+    answer = _ask("switch", batch, given) if wiring is None else _ask("switch_wired", batch, given, wiring)
+    for line in answer.decode().splitlines():
         _, setting, *pairs = line.split()
         sent = bytes.fromhex("".join(pair for pair in pairs if len(pair) == 2))
         if int(setting) == len(found):
@@ -322,7 +327,17 @@ def _load() -> ctypes.CDLL:
     """The library that was installed with this file, or else the one that the system's loader finds."""
     beside = os.path.join(os.path.dirname(os.path.realpath(__file__)), "..", "..", "libexchange.so")
     library = ctypes.CDLL(beside if os.path.exists(beside) else "libexchange.so")
-    for name, texts in {"plan": 1, "plan_steady": 1, "check": 2, "switch": 2, "apply": 3, "draw": 2, "changes": 2, "direct": 1}.items():
+    for name, texts in {
+        "plan": 1,
+        "plan_steady": 1,
+        "check": 2,
+        "switch": 2,
+        "switch_wired": 3,
+        "apply": 3,
+        "draw": 2,
+        "changes": 2,
+        "direct": 1,
+    }.items():
         call = getattr(library, f"exchange_{name}")
         call.argtypes = [ctypes.c_char_p, ctypes.c_size_t] * (texts + 1) + [ctypes.POINTER(ctypes.c_size_t)]
         call.restype = ctypes.c_uint8

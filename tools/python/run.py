@@ -298,7 +298,7 @@ def text_of(name, answer):
         return b"shortest %d\n" % answer
     if name == "changes":
         return b"changes %d least %d\n" % answer
-    if name == "switch":
+    if name in ("switch", "switch_wired"):
         letters = {1: [""], 2: ["a ", "b "]}
         lines = [(s, it) for s, setting in enumerate(answer) for it in zip(letters[len(setting)], setting)]
         return "".join(f"setting {s} {letter}{sent.hex(' ')}\n" for s, (letter, sent) in lines).encode()
@@ -311,8 +311,8 @@ def call(name, *texts):
 
     if name == "plan_steady":
         return exchange.plan(*texts, steady=True)
-    if name == "switch":
-        return exchange.switch_bytes(texts[0], texts[1] or None)
+    if name in ("switch", "switch_wired"):
+        return exchange.switch_bytes(texts[0], texts[1] or None, *texts[2:])
     return getattr(exchange, name)(*texts)
 
 

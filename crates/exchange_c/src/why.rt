@@ -24,6 +24,7 @@ enum Asked {
     Draw,
     Changes,
     Direct,
+    SwitchWired,
 }
 
 /// The texts of a call, in the order of its arguments. Those that it hasn't have no effect.
@@ -63,6 +64,7 @@ impl Asked {
             4 => Some(Asked::Draw),
             5 => Some(Asked::Changes),
             6 => Some(Asked::Direct),
+            7 => Some(Asked::SwitchWired),
             _ => None,
         }
     }
@@ -76,11 +78,14 @@ impl Asked {
         match self {
             Asked::Plan => answer_plan_alone(alloc, first, Planning::Plain),
             Asked::Check => answer_check(alloc, first, second),
-            Asked::Switch => answer_switch_alone(alloc, first, source_of(second)),
+            Asked::Switch => answer_switch_alone(alloc, None, first, source_of(second)),
             Asked::Apply => answer_apply_alone(alloc, first, second, third),
             Asked::Draw => answer_draw(alloc, first, second, None),
             Asked::Changes => answer_changes(alloc, first, second),
             Asked::Direct => answer_direct(alloc, first),
+            Asked::SwitchWired => {
+                answer_switch_alone(alloc, Some(third), first, source_of(second))
+            }
         }
     }
 
@@ -113,6 +118,15 @@ impl Asked {
                     text: given.first,
                 },
                 listing: Listing::Moves,
+                ..Texts::NONE
+            },
+            Asked::SwitchWired => Texts {
+                list,
+                other,
+                wiring: Named {
+                    name: names.at(2, "wiring"),
+                    text: given.third,
+                },
                 ..Texts::NONE
             },
             _ => Texts {
@@ -154,8 +168,8 @@ fn why(alloc: Global, asked: Asked, given: Given<'_>, names: &[u8]) -> Result<An
 
 /// What `exchange` tells on standard error beside the refusal that a call gives of these texts: one
 /// line, or nothing where the call refuses none. Call 0 is `exchange_plan`, 1 `exchange_check`, 2
-/// `exchange_switch`, 3 `exchange_apply`, 4 `exchange_draw`, 5 `exchange_changes`, and 6
-/// `exchange_direct`.
+/// `exchange_switch`, 3 `exchange_apply`, 4 `exchange_draw`, 5 `exchange_changes`, 6
+/// `exchange_direct`, and 7 `exchange_switch_wired`.
 #[unsafe(no_mangle)]
 pub extern "C" fn exchange_why(
     alloc: Global,
