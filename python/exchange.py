@@ -1,11 +1,14 @@
 """Plans block transfers between the modules of a transputer rack, and moves the blocks: the answers of the program `exchange` as calls.
 
 A text is given as `str` or as bytes, and is that of the program: README.md says what a batch and a schedule are, docs/GUIDE.md what moves
-are, and docs/MEMORY.md what a shape and an image are. Modules, blocks, transfers and settings are numbered from 0. There may be 32 modules
-of 64 blocks of 256 words of four bytes, and 4096 transfers.
+are, and docs/MEMORY.md what a shape and an image are. These pages are installed in share/doc/exchange. Modules, blocks, transfers and
+settings are numbered from 0. There may be 32 modules of 64 blocks of 256 words of four bytes, and 4096 transfers.
 
 Each call raises `Refused` where a text isn't right, and `MemoryError` where there is no memory. It reads no file, prints nothing and keeps
 nothing. Threads may call side by side, and do run at once. Don't call in a process that was forked while it had threads.
+
+`C004` is a switch, and `LinkEnd` the end of a link of a module that waits to boot. While a thread hands bytes to one of these, no other may
+use it.
 """
 
 import ctypes
@@ -14,21 +17,30 @@ from typing import Iterable, List, NamedTuple, Optional, Tuple, Union
 
 Text = Union[str, bytes, bytearray, memoryview]
 
-_REFUSED, _NO_ROOM, _NO_MEMORY = 1, 2, 3
+_DONE, _REFUSED, _NO_ROOM, _NO_MEMORY, _REPLY, _LOOSE, _NO_PORT, _NO_STATE = 0, 1, 2, 3, 4, 32, 33, 34
+
+# The numbers by which `exchange_why` knows the calls.
+_NUMBERS = {"plan": 0, "plan_steady": 0, "check": 1, "switch": 2, "apply": 3, "draw": 4, "changes": 5, "direct": 6, "switch_wired": 7}
 
 # Bytes of room for an answer at first. Most answers fit, and need no second call.
 _ROOM = 1 << 16
 
 
 class Refused(ValueError):
-    """A text isn't right. The exception's text is the line of the refusal; docs/REFUSALS.md says what each means.
+    """A text isn't right. `line` is the line of the refusal, of which docs/REFUSALS.md says what each means, and `why` says where, what
+    stands there, and what is wanted. The exception's text is both.
 
     >>> try:
     ...     plan("batch one")
     ... except Refused as refused:
     ...     print(refused)
     refused batch line 1
+    exchange: batch:1: "batch one": at byte 7 "o" stands where a number has to; wanted is "batch N", where N counts the transfers
     """
+
+    def __init__(self, line: str, why: str = ""):
+        super().__init__("\n".join([line, why] if why else [line]))
+        self.line, self.why = line, why
 
 
 class Transfer(NamedTuple):
@@ -105,9 +117,10 @@ def check(batch: Text, schedule: Text) -> int:
     return int(_ask("check", batch, schedule).split()[1])
 
 
-def switch_bytes(batch: Text, schedule: Optional[Text] = None) -> List[Tuple[bytes, ...]]:
+def switch_bytes(batch: Text, schedule: Optional[Text] = None, wiring: Optional[Text] = None) -> List[Tuple[bytes, ...]]:
     r"""The bytes that set a switch for each setting in turn of a schedule of a batch, with a certificate or without. Where no schedule is given,
-    it is that of `plan`. Where the batch names a module above 15, there are two switches, a and b, and the bytes for each.
+    it is that of `plan`. Where the batch names a module above 15, there are two switches, a and b, and the bytes for each. A board with one
+    switch may be wired otherwise: docs/SWITCHES.md says what the text of its wiring is.
 
     Where a setting leaves the switch as it is, its bytes are `03` alone.
 
@@ -116,11 +129,15 @@ def switch_bytes(batch: Text, schedule: Optional[Text] = None) -> List[Tuple[byt
     >>> batch = "batch 2\npush 0 0 1 0\npush 0 1 1 1\n"
     >>> [sent.hex(" ") for (sent,) in switch_bytes(batch, plan(batch, steady=True))]
     ['04 01 00 11 03', '03']
+    >>> board = "wiring 2\nmodule 0 link 0 at 4 link 3 at 5\nmodule 1 link 0 at 6 link 3 at 7\n"
+    >>> [sent.hex(" ") for (sent,) in switch_bytes("batch 1\npush 0 0 1 0\n", wiring=board)]
+    ['04 01 04 07 03']
     """
     # To the call an empty text is no schedule. An empty line is refused as an empty text is.
     given = b"" if schedule is None else _bytes_of(schedule) or b"\n"
     found: List[Tuple[bytes, ...]] = []
-    for line in _ask("switch", batch, given).decode().splitlines():
+    answer = _ask("switch", batch, given) if wiring is None else _ask("switch_wired", batch, given, wiring)
+    for line in answer.decode().splitlines():
         _, setting, *pairs = line.split()
         sent = bytes.fromhex("".join(pair for pair in pairs if len(pair) == 2))
         if int(setting) == len(found):
@@ -169,14 +186,174 @@ def direct(moves: Text) -> str:
     return _ask("direct", moves).decode()
 
 
+class _SwitchState(ctypes.Structure):
+    """`struct exchange_c004` of exchange.h."""
+
+    _fields_ = [("outputs", ctypes.c_uint8 * 32), ("begun", ctypes.c_uint8 * 2), ("begun_count", ctypes.c_uint8), ("connecting", ctypes.c_uint8)]
+
+
+class C004:
+    """An INMOS C004 that is handed the bytes of its configuration link, as `exchange c004` is. At first it is as after a reset, or it has
+    the state of another one.
+
+    A byte that can't stand where it comes is dropped, with the command that was begun; `refused` counts these bytes.
+
+    >>> switch = C004()
+    >>> switch.take(bytes([4, 1, 0, 17, 3, 2, 17])).hex()
+    '80'
+    >>> switch.source(17), switch.source(1), switch.joined(0, 17)
+    (0, None, True)
+    >>> C004(switch.state).joined(17, 0)
+    True
+    """
+
+    def __init__(self, state: Optional[bytes] = None):
+        self.refused = 0
+        self._state = _SwitchState() if state is None else _state_of(_SwitchState, state)
+        if state is None:
+            _LIBRARY.exchange_c004_reset(ctypes.byref(self._state))
+        self._answer("source", 0)
+
+    def take(self, sent: bytes) -> bytes:
+        """Hands over bytes, and gives the replies to the enquiries among them."""
+        state, reply, replies = ctypes.byref(self._state), ctypes.c_uint8(), bytearray()
+        for byte in sent:
+            status = _LIBRARY.exchange_c004_take(state, byte, ctypes.byref(reply))
+            if status == _REPLY:
+                replies.append(reply.value)
+            self.refused += status == _REFUSED
+        return bytes(replies)
+
+    def source(self, output: int) -> Optional[int]:
+        """The input that feeds an output, or None where none does."""
+        answer = self._answer("source", output)
+        return None if answer == _LOOSE else answer
+
+    def joined(self, link: int, other: int) -> bool:
+        """Whether two links feed each other, and the switch is ready: no command has connected since the last that settled or reset."""
+        return self._answer("joined", link, other) == 1
+
+    @property
+    def state(self) -> bytes:
+        """Its state, as bytes: two switches that have the same are alike."""
+        return bytes(self._state)
+
+    def _answer(self, name: str, *ports: int) -> int:
+        """What a call of the library answers of ports."""
+        if not all(0 <= port < 32 for port in ports):
+            raise ValueError("a C004 has the ports 0 to 31")
+        answer = getattr(_LIBRARY, f"exchange_c004_{name}")(ctypes.byref(self._state), *ports)
+        if answer == _NO_STATE:
+            raise ValueError("no C004 has this state")
+        return int(answer)
+
+
+class _BootState(ctypes.Structure):
+    """`struct exchange_boot` of exchange.h."""
+
+    _fields_ = [("begun", ctypes.c_uint8 * 8), ("begun_count", ctypes.c_uint8), ("failed", ctypes.c_uint8)]
+
+
+class EndFailed(ValueError):
+    """The end of a link refuses a byte, and each byte behind it. `replies` are those to what came before."""
+
+    def __init__(self, why: str, replies: bytes):
+        super().__init__(why)
+        self.replies = replies
+
+
+# What is told of the statuses by which an end refuses a byte.
+_FAULTS = {
+    5: "a bootstrap of {} bytes isn't taken",
+    6: "the address is no multiple of four",
+    7: "the memory doesn't have the address",
+    8: "the end has failed before",
+}
+
+
+class LinkEnd:
+    """The end of a link of a T414 that waits to boot, over the module's memory: a `bytearray`, whose bytes have the addresses from `base`
+    on. A poke (00, address, word) writes a word of it, and a peek (01, address) gives the four bytes of one. All are least significant
+    byte first. Nothing is booted: `EndFailed` is raised where the end refuses a byte, and then for each byte until `reset`.
+
+    >>> memory = bytearray(8)
+    >>> end = LinkEnd(memory, 0x80000800)
+    >>> end.take(bytes.fromhex("00 04080080 41424344 01 04080080"))
+    b'ABCD'
+    >>> memory
+    bytearray(b'\\x00\\x00\\x00\\x00ABCD')
+    """
+
+    def __init__(self, memory: bytearray, base: int, state: Optional[bytes] = None):
+        if not 0 <= base < 1 << 32:
+            raise ValueError("an address is from 0 to ffffffff hex")
+        self._memory = (ctypes.c_uint8 * len(memory)).from_buffer(memory)
+        self._base = base
+        self._state = _BootState() if state is None else _state_of(_BootState, state)
+        if state is None:
+            self.reset()
+
+    def reset(self) -> None:
+        """Makes it an end to which nothing has come."""
+        _LIBRARY.exchange_boot_reset(ctypes.byref(self._state))
+
+    def take(self, sent: bytes) -> bytes:
+        """Hands over bytes, and gives the bytes of the words that are peeked."""
+        state, memory, reply, replies = ctypes.byref(self._state), self._memory, (ctypes.c_uint8 * 4)(), bytearray()
+        for byte in sent:
+            status = _LIBRARY.exchange_boot_take(state, memory, len(memory), self._base, byte, reply)
+            if status == _REPLY:
+                replies += bytes(reply)
+            elif status == _NO_STATE:
+                raise ValueError("no end of a link has this state")
+            elif status != _DONE:
+                raise EndFailed(_FAULTS[status].format(byte), bytes(replies))
+        return bytes(replies)
+
+    @property
+    def state(self) -> bytes:
+        """Its state, as bytes: what has come of a message, and whether it has failed."""
+        return bytes(self._state)
+
+
+def _state_of(kind, state: bytes):
+    """A structure of these bytes."""
+    if len(state) != ctypes.sizeof(kind):
+        raise ValueError(f"a state has {ctypes.sizeof(kind)} bytes")
+    return kind.from_buffer_copy(state)
+
+
 def _load() -> ctypes.CDLL:
     """The library that was installed with this file, or else the one that the system's loader finds."""
     beside = os.path.join(os.path.dirname(os.path.realpath(__file__)), "..", "..", "libexchange.so")
     library = ctypes.CDLL(beside if os.path.exists(beside) else "libexchange.so")
-    for name, texts in {"plan": 1, "plan_steady": 1, "check": 2, "switch": 2, "apply": 3, "draw": 2, "changes": 2, "direct": 1}.items():
+    for name, texts in {
+        "plan": 1,
+        "plan_steady": 1,
+        "check": 2,
+        "switch": 2,
+        "switch_wired": 3,
+        "apply": 3,
+        "draw": 2,
+        "changes": 2,
+        "direct": 1,
+    }.items():
         call = getattr(library, f"exchange_{name}")
         call.argtypes = [ctypes.c_char_p, ctypes.c_size_t] * (texts + 1) + [ctypes.POINTER(ctypes.c_size_t)]
         call.restype = ctypes.c_uint8
+    text, byte, port = [ctypes.c_char_p, ctypes.c_size_t], ctypes.POINTER(ctypes.c_uint8), ctypes.c_uint8
+    switch, end = ctypes.POINTER(_SwitchState), ctypes.POINTER(_BootState)
+    for name, words in {
+        "why": [port, *text * 5, ctypes.POINTER(ctypes.c_size_t)],
+        "c004_reset": [switch],
+        "c004_take": [switch, port, byte],
+        "c004_source": [switch, port],
+        "c004_joined": [switch, port, port],
+        "boot_reset": [end],
+        "boot_take": [end, byte, ctypes.c_size_t, ctypes.c_uint32, port, byte],
+    }.items():
+        call = getattr(library, f"exchange_{name}")
+        call.argtypes, call.restype = words, None if name.endswith("reset") else ctypes.c_uint8
     return library
 
 
@@ -194,13 +371,25 @@ def _ask(name: str, *texts: Text) -> bytes:
     """What a call of the library answers. include/exchange.h says what it wants, and what it gives."""
     given = [_bytes_of(text) for text in texts]
     words = [word for text in given for word in (text, len(text))]
-    count, status = ctypes.c_size_t(max(_ROOM, *map(len, given))), _NO_ROOM
-    while status == _NO_ROOM:
-        out = ctypes.create_string_buffer(count.value)
-        status = getattr(_LIBRARY, f"exchange_{name}")(*words, out, len(out), ctypes.byref(count))
+    status, answer = _in_room(getattr(_LIBRARY, f"exchange_{name}"), words, max(_ROOM, *map(len, given)))
     if status == _NO_MEMORY:
         raise MemoryError(f"exchange_{name} was given no memory")
-    answer = ctypes.string_at(out, count.value)
     if status == _REFUSED:
-        raise Refused(answer.decode().rstrip("\n"))
+        raise Refused(answer.decode().rstrip("\n"), _why(name, given))
     return answer
+
+
+def _why(name: str, given: List[bytes]) -> str:
+    """What is told beside the refusal of these texts by this call, or nothing where there is no memory for it."""
+    words = [word for text in (given + [b"", b""])[:3] for word in (text, len(text))]
+    status, line = _in_room(_LIBRARY.exchange_why, [_NUMBERS[name], *words, b"", 0], _ROOM)
+    return line.decode().rstrip("\n") if status == _DONE else ""
+
+
+def _in_room(call, words, room: int) -> Tuple[int, bytes]:
+    """The status and the answer of a call, which is made once more where it finds too little room."""
+    count, status = ctypes.c_size_t(room), _NO_ROOM
+    while status == _NO_ROOM:
+        out = ctypes.create_string_buffer(count.value)
+        status = call(*words, out, len(out), ctypes.byref(count))
+    return status, ctypes.string_at(out, count.value)

@@ -1,19 +1,19 @@
-/* An emulator of three modules, whose memories are an array, and of the switch that joins their links. It plans a batch, sets the
- * switch by the bytes for each setting and moves the blocks, and compares the memories with those that `exchange apply` leaves.
- * docs/EMULATORS.md says how to build it. */
+/* An emulator of three modules, whose memories are an array. The switch that joins their links is a C004, which the library has. It plans a
+ * batch, hands the switch the bytes for each setting and moves the blocks, and compares the memories with those that `exchange apply`
+ * leaves. docs/EMULATORS.md says how to build it. */
 #include "exchange.h"
 #include <stdio.h>
 #include <stdlib.h>
 #include <string.h>
 
 /* Blocks of two words, as the shape says. */
-enum { MODULES = 3, BLOCKS = 2, BYTES = 8, LINKS = 32, NONE = -1 };
+enum { MODULES = 3, BLOCKS = 2, BYTES = 8 };
 static const char shape[] = "3x2x2";
 
 static uint8_t memory[MODULES][BLOCKS][BYTES], before[MODULES][BLOCKS][BYTES], applied[MODULES][BLOCKS][BYTES];
 
-/* What each link of the switch is joined to. Link 0 of module m is on link m of the switch, and link 3 on link 16 + m. */
-static int joined[LINKS];
+/* Link 0 of module m is on link m of the switch, and link 3 on link 16 + m. */
+static struct exchange_c004 chip;
 
 /* Each transfer: the initiator with its block, and the responder with its own. */
 static const struct transfer {
@@ -56,20 +56,15 @@ static char *ask(const char *plan)
     }
 }
 
-/* Does what bytes command, as a C004 does: 4 is a reset, 1 joins two links, 6 parts them, and 3 is the end. Says whether there was more. */
+/* Hands the switch its bytes. None of them is an enquiry, so no reply is due. Says whether there was more than 03, the end. */
 static int set_switch(char *at)
 {
     int changes = 0;
     while (*at == ' ') {
-        long command = strtol(at, &at, 16);
-        changes |= command != 3;
-        for (int link = 0; command == 4 && link < LINKS; link++)
-            joined[link] = NONE;
-        if (command == 1 || command == 6) {
-            long one = strtol(at, &at, 16), other = strtol(at, &at, 16);
-            joined[one] = command == 1 ? other : NONE;
-            joined[other] = command == 1 ? one : NONE;
-        }
+        uint8_t byte = (uint8_t)strtol(at, &at, 16), reply;
+        if (exchange_c004_take(&chip, byte, &reply) != EXCHANGE_DONE)
+            end("WRONG: the switch refuses a byte");
+        changes |= byte != 3;
     }
     return changes;
 }
@@ -77,7 +72,7 @@ static int set_switch(char *at)
 /* Moves one block, as it was before the first setting, where the switch joins the links. */
 static void move(const struct transfer *t)
 {
-    if (joined[t->initiator] != 16 + t->responder)
+    if (exchange_c004_joined(&chip, (uint8_t)t->initiator, (uint8_t)(16 + t->responder)) != 1)
         end("WRONG: the links aren't joined");
     if (strcmp(t->kind, "push") == 0)
         memcpy(memory[t->responder][t->far], before[t->initiator][t->near], BYTES);
@@ -99,6 +94,7 @@ int main(void)
         for (int b = 0; b < BLOCKS; b++)
             memset(memory[m][b], "ABCDEF"[BLOCKS * m + b], BYTES);
     memcpy(before, memory, sizeof memory);
+    exchange_c004_reset(&chip);
 
     /* Behind its first line the plan has a line `setting T ..` for each setting, and the bytes stand in lines `setting S ..`. */
     write_batch();

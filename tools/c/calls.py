@@ -26,6 +26,7 @@ CALLS = {
     "plan": ["batch"],
     "plan_steady": ["batch"],
     "switch": ["batch", "schedule"],
+    "switch_wired": ["batch", "schedule", "wiring"],
     "direct": ["moves"],
     "check": ["batch", "schedule"],
     "draw": ["batch", "schedule"],
@@ -33,16 +34,22 @@ CALLS = {
     "apply": ["shape", "batch", "image"],
 }
 
+# The numbers by which a call knows them that tells why they refuse their texts, and all other calls.
+NUMBERS = {"plan": 0, "plan_steady": 0, "check": 1, "switch": 2, "apply": 3, "draw": 4, "changes": 5, "direct": 6, "switch_wired": 7}
+OTHERS = ["why", "c004_reset", "c004_take", "c004_source", "c004_joined", "boot_reset", "boot_take"]
+
 
 def words_of(name, given):
     """The words of the command that is to answer as a call does. Each text is in a file of its name, but that of a shape, which is a word
-    itself. To the call `switch` an empty text of a schedule is none. What `changes` answers stands in the title of a picture."""
+    itself. To the calls of `switch` an empty text of a schedule is none. What `changes` answers stands in the title of a picture."""
     words = [os.fsdecode(text) if file == "shape" else file for file, text in zip(CALLS[name], given)]
     if name == "plan_steady":
         return ["plan", *words, "--steady"]
-    if name == "switch":
-        return ["switch", "batch", "--schedule", "schedule"] if given[1] else ["switch", "batch"]
-    return ["draw" if name == "changes" else name, *words]
+    if name in ("switch", "switch_wired"):
+        schedule = ["--schedule", "schedule"] if given[1] else []
+        return ["switch", "batch", *schedule, *(["--wiring", "wiring"] if name == "switch_wired" else [])]
+    # A shape may begin as an option does.
+    return ["draw" if name == "changes" else name, "--", *words]
 
 
 def told(name, program):
@@ -67,8 +74,13 @@ def texts_for(draw, name):
             spoil.spoil(draw, batch) if draw.random() < 0.3 else batch,
             spoil.image(draw, shape),
         ]
-    shape = (draw.choice([1, 2, 3, 8, 16, 17, plain.MODULES]), plain.BLOCKS, plain.WORDS)
     most = draw.choice([0, 3, 10, 40])
+    if name == "switch_wired":
+        board = spoil.wiring(draw)
+        shape = (len(plain.read_wiring(board)) + draw.choice([0, 0, 0, 1]), plain.BLOCKS, plain.WORDS)
+        batch, schedule = texts.spoilt_schedule(draw, shape, most, plain.busiest)
+        return [batch, schedule if draw.random() < 0.6 else b"", spoil.spoil(draw, board) if draw.random() < 0.4 else board]
+    shape = (draw.choice([1, 2, 3, 8, 16, 17, plain.MODULES]), plain.BLOCKS, plain.WORDS)
     if name in ("check", "draw", "changes") or name == "switch" and draw.random() < 0.7:
         return list(texts.spoilt_schedule(draw, shape, most, plain.busiest))
     batch = spoil.batch(draw, shape, most)
@@ -91,19 +103,25 @@ class Calls:
             return None, b""
         return int(line[0]), self.process.stdout.read(int(line[1]))
 
+    def why(self, name, given):
+        """What is told beside the refusal of these texts. Their names are those that it gives them where it is told none."""
+        names = "\n".join(CALLS[name]).encode() if len(given[0]) % 2 else b""
+        return self.ask(f"why{NUMBERS[name]}", [*(given + [b"x", b""])[:3], names])
+
     def end(self):
         self.process.stdin.close()
         return self.process.wait() == 0
 
 
 def is_same(calls, name, given):
-    """Whether the call and the program give one answer."""
+    """Whether the call and the program give one answer, and tell the same of a refusal."""
     status, answer = calls.ask(name, given)
+    why = calls.why(name, given)
     for file, text in zip(CALLS[name], given):
         with open(file, "wb") as out:
             out.write(text)
     program = ask(*words_of(name, given))
-    return (status, answer) == (program.status, told(name, program))
+    return (status, answer, *why) == (program.status, told(name, program), 0, program.err)
 
 
 def try_some(path, first, count):
@@ -133,7 +151,8 @@ def read(name):
 def try_examples(path):
     """The examples, each growth of memory refused in turn."""
     batch, schedule = read("three-transfers.txt"), read("three-transfers.plan.txt")
-    asked = [(name, [batch, schedule][: len(files)]) for name, files in CALLS.items() if name != "direct"]
+    board = b"wiring 3\nmodule 0 link 0 at 3 link 3 at 4\nmodule 1 link 0 at 5 link 3 at 6\nmodule 2 link 0 at 7 link 3 at 8\n"
+    asked = [(name, [batch, schedule, board][: len(files)]) for name, files in CALLS.items() if name != "direct"]
     asked[-1] = ("apply", [b"3x2x2", read("two-pushes.txt"), read("before.img")])
     asked += [("direct", [read("patterns/gather.moves.txt")]), ("plan", [b"batch 1\n"]), ("switch", [batch, b""])]
     asked += [(name, [read("all-to-all.txt")]) for name in ("plan", "plan_steady")]

@@ -3,14 +3,15 @@
  *   try              requests of standard input
  *   try no-memory    the same, and each growth of memory is refused in turn
  *
- * A request is a line `NAME BYTES..`, with the number of bytes of each text, and behind it the texts. The reply is a line
+ * A request is a line `NAME BYTES..`, with the number of bytes of each text, and behind it the texts. `whyN` asks why call N refuses its three
+ * texts, and behind them stand their names. The reply is a line
  * `STATUS COUNT`, and behind it the bytes of the answer. What is wrong is told on standard error, and ends the program. */
 #include "exchange.h"
 #include <stdio.h>
 #include <stdlib.h>
 #include <string.h>
 
-enum { TEXTS = 3, FILL = 0xa5, BEHIND = 32 };
+enum { TEXTS = 4, FILL = 0xa5, BEHIND = 32 };
 
 struct text {
     uint8_t *bytes;
@@ -60,6 +61,8 @@ static uint8_t call(const char *name, const struct text *t, uint8_t *out, size_t
         return exchange_check(t[0].bytes, t[0].count, t[1].bytes, t[1].count, out, room, count);
     if (strcmp(name, "switch") == 0)
         return exchange_switch(t[0].bytes, t[0].count, t[1].bytes, t[1].count, out, room, count);
+    if (strcmp(name, "switch_wired") == 0)
+        return exchange_switch_wired(t[0].bytes, t[0].count, t[1].bytes, t[1].count, t[2].bytes, t[2].count, out, room, count);
     if (strcmp(name, "draw") == 0)
         return exchange_draw(t[0].bytes, t[0].count, t[1].bytes, t[1].count, out, room, count);
     if (strcmp(name, "changes") == 0)
@@ -68,6 +71,9 @@ static uint8_t call(const char *name, const struct text *t, uint8_t *out, size_t
         return exchange_apply(t[0].bytes, t[0].count, t[1].bytes, t[1].count, t[2].bytes, t[2].count, out, room, count);
     if (strcmp(name, "direct") == 0)
         return exchange_direct(t[0].bytes, t[0].count, out, room, count);
+    if (strncmp(name, "why", 3) == 0)
+        return exchange_why((uint8_t)atoi(name + 3), t[0].bytes, t[0].count, t[1].bytes, t[1].count, t[2].bytes, t[2].count, t[3].bytes,
+                            t[3].count, out, room, count);
     end(name, "no such call");
     return 0;
 }

@@ -38,7 +38,7 @@ gather 644 "$top/include/exchange.h" include/exchange.h
 
 # The program, and what its helps say. pkg-config names the static library, so that a program runs wherever the shared one isn't found.
 gather 755 "$program" bin/exchange
-"$here/pages.py" manual "$work/all/bin/exchange" >"$work/manual"
+"$here/pages.py" manual "$work/all/bin/exchange" "$prefix/share/doc/exchange" >"$work/manual"
 "$here/pages.py" completions "$work/all/bin/exchange" >"$work/completions"
 cat >"$work/exchange.pc" <<END_OF_TEXT
 prefix=$prefix
@@ -52,6 +52,12 @@ END_OF_TEXT
 gather 644 "$work/manual" share/man/man1/exchange.1
 gather 644 "$work/completions" share/bash-completion/completions/exchange
 gather 644 "$work/exchange.pc" lib/pkgconfig/exchange.pc
+
+# The pages that these name, and the files of their examples, as they stand in a clone.
+(cd "$top" && find README.md docs/*.md examples -type f) >"$work/pages"
+while read -r page; do
+    gather "$([ -x "$top/$page" ] && echo 755 || echo 644)" "$top/$page" "share/doc/exchange/$page"
+done <"$work/pages"
 
 # The module for Python: where python3 looks below the prefix, or would look if the folder were there, and else where modules usually are.
 python=$prefix/bin/python3

@@ -1,7 +1,8 @@
 #!/usr/bin/env python3
 """Makes a page of the program's helps, and prints it.
 
-    pages.py manual PROGRAM         a page for `man`: what `PROGRAM --help` and each `PROGRAM COMMAND --help` say, line by line
+    pages.py manual PROGRAM DOCS    a page for `man`: what `PROGRAM --help` and each `PROGRAM COMMAND --help` say, line by line; the files
+                                    of their examples are those below DOCS
     pages.py completions PROGRAM    what bash completes: commands, and the options of each; other words are names of files
 """
 
@@ -43,8 +44,14 @@ def section(heading, text):
     return f'.SH "{escaped(heading)}"\n.in 0\n.nf\n{escaped(text.rstrip())}\n.fi\n'
 
 
-def manual(program):
+def at_docs(text, docs):
+    """A text whose examples name the files below a folder."""
+    return text.replace(" examples/", f" {docs}/examples/")
+
+
+def manual(program, docs):
     top, commands = read(program)
+    top, commands = at_docs(top, docs), {name: at_docs(text, docs) for name, text in commands.items()}
     about = re.search(r"^(.*)\n\nUsage: ", top, re.MULTILINE)[1]
     head = f'.TH EXCHANGE 1 "" "{escaped(say(program, "--version").strip())}"\n.SH NAME\nexchange \\- {escaped(about)}\n'
     synopsis = section("SYNOPSIS", "\n".join(map(usage, commands.values())))
@@ -78,4 +85,4 @@ complete -o bashdefault -o default -F _exchange exchange
 
 
 if __name__ == "__main__":
-    print({"manual": manual, "completions": completions}[sys.argv[1]](sys.argv[2]), end="")
+    print({"manual": manual, "completions": completions}[sys.argv[1]](*sys.argv[2:]), end="")

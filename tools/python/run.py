@@ -2,10 +2,12 @@
 """Tries what an install puts into a folder, and the calls for programs in Python: tools/python/run.py [COUNT]
 
     install     puts what its list says, stops where a file is in the way, and what it put is taken away again, and no more
-    pages       helps call the program by its name, what `man` shows has each line of them, and bash completes commands and options
+    pages       helps call the program by its name, what `man` shows has each line of them, and bash completes commands and options; what is
+                installed names no page and no file that isn't
     C           a program that pkg-config gives the words for, and one that is linked with the shared library
     Python      the examples of the module's own texts, the emulator, want of memory, long answers, and how often a call is made
     texts       COUNT spoilt texts, 2000 where it isn't said, by the calls from Python and by the built program, byte for byte
+    states      streams to a C004 and to the end of a link, against plain Python that shares no code with the product
     threads     sixteen that call at once are answered as one alone
 
 What isn't built yet is proved and built first. `man` and `pkg-config` are tried where they are there.
@@ -14,6 +16,7 @@ What isn't built yet is proved and built first. `man` and `pkg-config` are tried
 import multiprocessing
 import os
 import random
+import re
 import shutil
 import subprocess
 import sys
@@ -25,6 +28,7 @@ TOP = os.path.dirname(os.path.dirname(os.path.dirname(os.path.abspath(__file__))
 sys.path.insert(0, f"{TOP}/tools/c")
 
 import calls
+import states
 from program import ask
 
 EXAMPLES = f"{TOP}/examples"
@@ -153,9 +157,23 @@ def is_called_by_name(helps):
     return all(f" exchange {name} " in text.split("Usage: ")[0] for name, text in helps.items())
 
 
+def try_named(rack):
+    """What is installed names no page and no file of a clone that isn't installed too."""
+    docs = f"{rack}/share/doc/exchange"
+    for path in [f"{rack}/include/exchange.h", str(next(Path(rack).rglob("exchange.py")))]:
+        named = re.findall(r"\b(?:docs/)?[A-Z]+\.md\b", Path(path).read_text())
+        missing = [page for page in named if not os.path.exists(f"{docs}/{page}")]
+        expect(f"the pages that {os.path.basename(path)} names", named and not missing, missing)
+    manual = Path(rack, "share/man/man1/exchange.1").read_text().replace("\\-", "-").replace("\\&", "")
+    named = re.findall(r"\S*\bexamples/\S+", manual)
+    missing = [name for name in named if not (name.startswith(f"{docs}/") and os.path.exists(name))]
+    expect("the files that the manual names", named and not missing, missing)
+
+
 def try_pages(rack):
     """The helps, the page for `man`, and what bash completes."""
-    helps = read_helps(rack)
+    helps = [line.replace(" examples/", f" {rack}/share/doc/exchange/examples/") for line in read_helps(rack)]
+    try_named(rack)
     if shutil.which("man"):
         env = {**os.environ, "MANWIDTH": "200", "LC_ALL": "C.UTF-8"}
         status, shown = run("man", "-l", f"{rack}/share/man/man1/exchange.1", env=env)
@@ -179,7 +197,7 @@ def try_c(rack, room):
         expect_run(f"a program in C is built: {name}", "", "cc", "-o", f"{room}/{name}", source, *words)
         expect_run(f"a program in C runs: {name}", printed, f"{room}/{name}", env=env if name == "shared" else {})
     names = run("nm", "-D", "--defined-only", f"{rack}/lib/libexchange.so")[1].split()[2::3]
-    expect("the shared library gives out the calls alone", names == sorted(f"exchange_{name}" for name in calls.CALLS), names)
+    expect("the shared library gives out the calls alone", names == sorted(f"exchange_{name}" for name in [*calls.CALLS, *calls.OTHERS]), names)
 
 
 # A program that has memory for an image and its answer, of 2 MiB each, but not for what the library takes, and then has enough.
@@ -204,6 +222,8 @@ def try_python(module):
     expect_run("the examples in the module's texts", "", sys.executable, "-m", "doctest", module, env=env)
     printed = Path(EXAMPLES, "emulator/printed-python.txt").read_text()
     expect_run("the emulator in Python", printed, sys.executable, f"{EXAMPLES}/emulator/emulator.py", env=env)
+    printed = Path(EXAMPLES, "emulator/printed-links.txt").read_text()
+    expect_run("the emulator of threads and queues", printed, sys.executable, f"{EXAMPLES}/emulator/links.py", env=env)
     expect_run("want of memory", "exchange_apply was given no memory\nTrue\n", sys.executable, "-c", WITHOUT_MEMORY, env=env)
     sys.path.insert(0, os.path.dirname(module))
     picture = FromPython().ask("draw", [calls.read("all-to-all.txt"), calls.read("all-to-all.plan.txt")])
@@ -230,12 +250,13 @@ def try_calls():
     exchange._LIBRARY = counted = Counted(exchange._LIBRARY)
     try:
         told = exchange.plan("batch \ud800\n")
-    except ValueError as refused:
-        told = str(refused)
+    except exchange.Refused as refused:
+        told = refused.line
     exchange.draw(calls.read("all-to-all.txt"), calls.read("all-to-all.plan.txt"))
     exchange._LIBRARY = counted.library
     expect("half a character is refused", told == "refused batch line 1", told)
-    expect("calls are made once", counted.told == ["exchange_plan", "exchange_draw", "exchange_draw"], counted.told)
+    made = ["exchange_plan", "exchange_why", "exchange_draw", "exchange_draw"]
+    expect("calls are made once", counted.told == made, counted.told)
 
 
 def try_settings():
@@ -257,7 +278,7 @@ def try_no_schedule():
         try:
             told = exchange.switch_bytes(batch, text)
         except exchange.Refused as refused:
-            told = f"{refused}\n".encode()
+            told = f"{refused.line}\n".encode()
         program = ask("switch", f"{EXAMPLES}/three-transfers.txt", "--schedule", os.devnull)
         expect("an empty text of a schedule is refused", (told, 1) == (program.out, program.status), told)
 
@@ -277,7 +298,7 @@ def text_of(name, answer):
         return b"shortest %d\n" % answer
     if name == "changes":
         return b"changes %d least %d\n" % answer
-    if name == "switch":
+    if name in ("switch", "switch_wired"):
         letters = {1: [""], 2: ["a ", "b "]}
         lines = [(s, it) for s, setting in enumerate(answer) for it in zip(letters[len(setting)], setting)]
         return "".join(f"setting {s} {letter}{sent.hex(' ')}\n" for s, (letter, sent) in lines).encode()
@@ -290,8 +311,8 @@ def call(name, *texts):
 
     if name == "plan_steady":
         return exchange.plan(*texts, steady=True)
-    if name == "switch":
-        return exchange.switch_bytes(texts[0], texts[1] or None)
+    if name in ("switch", "switch_wired"):
+        return exchange.switch_bytes(texts[0], texts[1] or None, *texts[2:])
     return getattr(exchange, name)(*texts)
 
 
@@ -299,12 +320,18 @@ class FromPython:
     """The calls from Python, which answer as those from C do in calls.py: by a status, and by the bytes that the program prints."""
 
     def ask(self, name, given):
+        return self.ask_whole(name, given)[:2]
+
+    def why(self, name, given):
+        return 0, self.ask_whole(name, given)[2]
+
+    def ask_whole(self, name, given):
         import exchange
 
         try:
-            return 0, text_of(name, call(name, *map(given_as, given)))
+            return 0, text_of(name, call(name, *map(given_as, given))), b""
         except exchange.Refused as refused:
-            return 1, f"{refused}\n".encode()
+            return 1, f"{refused.line}\n".encode(), f"{refused.why}\n".encode()
 
 
 def text_at(number):
@@ -329,6 +356,53 @@ def try_all_texts(count):
     expect(f"{count} spoilt texts", not differing, "\n".join(str(text_at(number))[:2000] for number in differing[:3]))
 
 
+def hand(number):
+    """A stream of this number to a switch, and one to an end, by the module and by plain Python: what both leave."""
+    import exchange
+
+    draw = random.Random(f"state {number}")
+    text = b"".join(states.ends.text_of(draw) for _ in range(3))
+    at = draw.randrange(len(text) + 1)
+    switch, model = exchange.C004(), states.Switch()
+    replies = switch.take(text[:at])
+    switch, before = exchange.C004(switch.state), switch.refused
+    replies += switch.take(text[at:])
+    for byte in text:
+        model.take(byte)
+    found = replies, switch.state, before + switch.refused, [switch.source(o) for o in range(32)], switch.joined(0, 16)
+    inputs, refused = model.chip.switch.inputs, model.statuses.count(states.REFUSED)
+    joined = model.is_ready and (inputs.get(0), inputs.get(16)) == (16, 0)
+    yield found, (bytes(model.replies), model.state(), refused, [inputs.get(o) for o in range(32)], joined)
+
+    base, words = states.random_memory(draw)
+    memory, end = bytearray(words), states.End(words, base)
+    mine = exchange.LinkEnd(memory, base)
+    text = b"".join(states.random_message(draw, base, len(words)) for _ in range(8)) + draw.randbytes(draw.randrange(3))
+    for byte in text:
+        end.take(byte)
+    failed = [it for it in end.statuses if it not in (states.DONE, states.REPLY)]
+    try:
+        replies, fault = mine.take(text), None
+    except exchange.EndFailed as error:
+        replies, fault = error.replies, str(error)
+    yield (replies, fault, memory), (bytes(end.replies), exchange._FAULTS[failed[0]].format(text[end.statuses.index(failed[0])]) if failed else None, end.memory)
+
+
+def try_states(count):
+    """Streams to switches and to ends, and states that there are none of."""
+    import exchange
+
+    wrong = [(number, *it) for number in range(count) for it in hand(number) if it[0] != it[1]]
+    expect(f"{count} streams to switches and to ends", not wrong, wrong[:1])
+    for kind, state in [(exchange.C004, b"\1" * 36), (exchange.C004, b""), (lambda it: exchange.LinkEnd(bytearray(4), 0, it).take(b"\0"), b"\2" * 10)]:
+        try:
+            kind(state)
+            told = ""
+        except ValueError as error:
+            told = str(error)
+        expect("a state that there is none of", told in ("no C004 has this state", "a state has 36 bytes", "no end of a link has this state"), told)
+
+
 def try_threads(count=16):
     """The texts that one thread alone is answered to, put to several at once, to each in another order."""
     asked = [text_at(number) for number in range(240)]
@@ -336,7 +410,7 @@ def try_threads(count=16):
 
     def ask_all(first):
         order = [(first * 15 + number) % len(asked) for number in range(len(asked))]
-        return all(FromPython().ask(*asked[number]) == wanted[number] for number in order)
+        return all(FromPython().ask(*asked[number]) == wanted[number] and all(a == b for a, b in hand(number)) for number in order)
 
     with ThreadPoolExecutor(count) as threads:
         expect(f"{count} threads at once", all(threads.map(ask_all, range(count))))
@@ -352,6 +426,7 @@ def main():
         try_c(rack, room)
         try_python(module)
         try_all_texts(count)
+        try_states(count)
         try_threads()
         install("uninstall", 0, rack, script="uninstall")
         expect("nothing is left", not os.path.exists(rack), tree(rack).keys())

@@ -1,10 +1,10 @@
 -- What the call of `switch` answers.
-use Rattle.std.specs.Prelude.{ℕ, List, [], ◌∷◌, None}
+use Rattle.std.specs.Prelude.{ℕ, List, [], ◌∷◌, Some, None}
 use Rattle.plan_answers.specs.Refusals.{Printed}
 use Rattle.plan_answers.specs.declared.source.Planning.TheVariants.{Plain}
 use Rattle.plan_answers.specs.declared.source.Source.{Source}
 use Rattle.plan_answers.specs.declared.source.Source.TheVariants.{Plan, Text}
-use Rattle.rack_answers.specs.Switching.{IsSwitched}
+use Rattle.rack_answers.specs.Switching.{IsOn, IsSwitched}
 use Rattle.exchange_c.specs.Writing.{IsTheOne}
 
 -- where the schedule comes from: a plan where its text is empty, and else that text
@@ -16,3 +16,8 @@ source_for (byte ∷ bytes) = Text (byte ∷ bytes)
 abbrev pub IsSwitchedBy : List ℕ → List ℕ → Printed → Type 0
 IsSwitchedBy batch [] = IsSwitched (Plan Plain) None batch
 IsSwitchedBy batch (byte ∷ bytes) = IsTheOne (IsSwitched (Text (byte ∷ bytes)) None batch)
+
+-- the same on a wiring
+abbrev pub IsSwitchedOn : List ℕ → List ℕ → List ℕ → Printed → Type 0
+IsSwitchedOn wiring batch schedule =
+    IsOn (λ board. IsSwitched (source_for schedule) board batch) (Some wiring)

@@ -8,7 +8,8 @@
 //! An answer of the command of its name stands at the front of the caller's bytes, and those behind
 //! are as they were. Where there is no room, or no memory, all are as they were (`Leaves` of
 //! `specs/Writing.antt`). [`exchange_switch`] answers by a plan where the text of the schedule is
-//! empty, and else by that schedule (`IsSwitchedBy` of `specs/Switching.antt`).
+//! empty, and else by that schedule (`IsSwitchedBy` of `specs/Switching.antt`), and
+//! [`exchange_switch_wired`] does so on a wiring (`IsSwitchedOn`).
 #![tactic(auto)]
 
 ghost use Rattle.std.specs.Prelude.{◌≡◌, IfOk, OnErr, None};
@@ -20,18 +21,29 @@ ghost use Rattle.plan_answers.specs.Drawings.{IsDrawn};
 ghost use Rattle.plan_answers.specs.Schedules.{said_by};
 ghost use Rattle.plan_answers.specs.declared.source.Planning.TheVariants.{Plain, Steady};
 ghost use Rattle.rack_answers.specs.Answers.{IsApplied};
-ghost use Rattle.exchange_c.specs.Switching.{source_for, IsSwitchedBy};
+ghost use Rattle.exchange_c.specs.Switching.{source_for, IsSwitchedBy, IsSwitchedOn};
 ghost use Rattle.exchange_c.specs.Writing.{Puts, IsOutOfMemory, Leaves, IsTheOne};
 
+mod boot;
 mod status;
+mod switch;
+mod why;
 
+pub use boot::{exchange_boot_reset, exchange_boot_take};
 use plan_answers::{
     Answer, Planning, Source, answer_changes, answer_check, answer_direct, answer_draw,
     answer_plan_alone,
 };
 use rack_answers::{answer_apply_alone, answer_switch_alone};
-pub use status::{NO_MEMORY, NO_ROOM};
+pub use status::{
+    BOOTSTRAP, FAILED, LOOSE, MISALIGNED, NO_CALL, NO_MEMORY, NO_PORT, NO_ROOM, NO_STATE, OUTSIDE,
+    REPLY,
+};
 use std::alloc::{AllocError, Global};
+pub use switch::{
+    exchange_c004_joined, exchange_c004_reset, exchange_c004_source, exchange_c004_take,
+};
+pub use why::exchange_why;
 
 /// Copies an answer to the front of the bytes, where there is room for all of it.
 fn put(answer: &Answer, out: &mut [u8], count: &mut usize) -> u8
@@ -127,7 +139,25 @@ pub extern "C" fn exchange_switch(
 ) -> u8
     ensures { Leaves (IsSwitchedBy batch.now schedule.now) out.old out.new count.new result }
 {
-    let answer = answer_switch_alone(alloc, batch, source_of(schedule));
+    let answer = answer_switch_alone(alloc, None, batch, source_of(schedule));
+    leave(answer, out, count)
+}
+
+/// What `exchange switch --wiring` answers to the text of a batch, to that of a schedule, which may
+/// be empty, and to that of a wiring.
+#[unsafe(no_mangle)]
+pub extern "C" fn exchange_switch_wired(
+    alloc: Global,
+    batch: &[u8],
+    schedule: &[u8],
+    wiring: &[u8],
+    out: &mut [u8],
+    count: &mut usize,
+) -> u8
+    ensures { Leaves (IsSwitchedOn wiring.now batch.now schedule.now)
+        out.old out.new count.new result }
+{
+    let answer = answer_switch_alone(alloc, Some(wiring), batch, source_of(schedule));
     leave(answer, out, count)
 }
 

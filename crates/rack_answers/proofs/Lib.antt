@@ -7,3 +7,4 @@ pub mod OneSwitching
 pub mod Openings
 pub mod HeldSettings
 pub mod Ran
+pub mod ReadBatches

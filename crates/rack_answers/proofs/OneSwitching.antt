@@ -28,7 +28,7 @@ one_switching schedule batch p q (wrong f a is) (wrong g b was) =
     refused_same (refusal_words g) q p was (subst (λ (r : Refusal). IsRefused (refusal_words r) p) (one_invalid widest widest_fits batch schedule f g a b) is)
 
 -- so an answer to them is the only one
-pub one_of_text : {E : Type 0} (r : Result Printed E) (source : Source (Bor (List ℕ))) (batch : List ℕ) → IsText source → IfOk r (IsSwitched (said_by source) None batch) → IfOk r (IsOnly (IsSwitched (said_by source) None batch))
+one_of_text : {E : Type 0} (r : Result Printed E) (source : Source (Bor (List ℕ))) (batch : List ℕ) → IsText source → IfOk r (IsSwitched (said_by source) None batch) → IfOk r (IsOnly (IsSwitched (said_by source) None batch))
 one_of_text r (Plan planning) batch is answer = absurd is
 one_of_text (Err e) (Text lent) batch is answer = tt
 one_of_text (Ok p) (Text lent) batch is answer = λ other. one_switching lent.now batch p other answer

@@ -170,19 +170,38 @@ pub fn answer_switch<R: Threads + Sync>(
     }
 }
 
-/// The answer of `exchange switch`, as [`answer_switch`] gives it for the usual wiring with one
-/// worker. It starts no thread.
-pub fn answer_switch_alone(
+/// The same without threads.
+fn switch_alone_on(
     alloc: Global,
+    board: &Option<BoardWiring>,
     batch: &[u8],
     source: Source<&[u8]>,
 ) -> Result<Answer, AllocError>
-    ensures switched { IfOk result (IsSwitched (said_by source.entry) None batch.now) }
-    ensures one { IsText source.entry →
+    requires { WiresSome board.now }
+    ensures { IfOk result (IsSwitched (said_by source.entry) board.now batch.now) }
+{
+    match Scheduled::read_alone(alloc, shape_of(board), batch, source) {
+        Ok(scheduled) => switch_answer(alloc, board, scheduled.batch(), scheduled.schedule()),
+        Err(refusal) => Answer::refused(alloc, refusal),
+    }
+}
+
+/// The answer of `exchange switch`, as [`answer_switch`] gives it with one worker. It starts no
+/// thread.
+pub fn answer_switch_alone(
+    alloc: Global,
+    wiring: Option<&[u8]>,
+    batch: &[u8],
+    source: Source<&[u8]>,
+) -> Result<Answer, AllocError>
+    ensures switched { IfOk result
+        (IsOn (λ board. IsSwitched (said_by source.entry) board batch.now)
+        (bytes_of wiring.entry)) }
+    ensures one { IsText source.entry → bytes_of wiring.entry ≡ None →
         IfOk result (IsOnly (IsSwitched (said_by source.entry) None batch.now)) }
 {
-    match Scheduled::read_alone(alloc, Shape::WIDEST, batch, source) {
-        Ok(scheduled) => switch_answer(alloc, &None, scheduled.batch(), scheduled.schedule()),
-        Err(refusal) => Answer::refused(alloc, refusal),
+    match read_board(wiring) {
+        Ok(board) => switch_alone_on(alloc, &board, batch, source),
+        Err(fault) => Answer::refused(alloc, fault.into()),
     }
 }

@@ -1,23 +1,10 @@
-use Rattle.std.proofs.Common.{◌≡◌, [], ◌∷◌, ℕ, List, Result, IfOk, None}
-use Rattle.std.specs.Borrow.{Bor}
-use Rattle.plan_answers.specs.Answers.{IsOnly}
-use Rattle.plan_answers.specs.Refusals.{Printed}
-use Rattle.plan_answers.specs.Schedules.{IsText, said_by}
-use Rattle.plan_answers.specs.declared.source.Source.{Source}
-use Rattle.plan_answers.specs.declared.source.Source.TheVariants.{Plan, Text}
-use Rattle.rack_answers.specs.Switching.{IsSwitched}
-use Rattle.exchange_c.specs.Switching.{IsSwitchedBy, source_for}
-use Rattle.exchange_c.proofs.Writing.{left, the_one}
+use Rattle.std.proofs.Common.{refl}
+use Rattle.exchange_c.specs.Switching.{IsSwitchedBy}
+use Rattle.exchange_c.proofs.Switching.{switched_by}
+use Rattle.exchange_c.proofs.Writing.{left}
 use Rattle.exchange_c.proofs.exchange_switch.Goals as goal
-
-switched_by : {E : Type 0} (r : Result Printed E) (batch schedule : List ℕ) (source : Source (Bor (List ℕ))) → said_by source ≡ source_for schedule → IfOk r (IsSwitched (said_by source) None batch)
-    → (IsText source → IfOk r (IsOnly (IsSwitched (said_by source) None batch))) → IfOk r (IsSwitchedBy batch schedule)
-switched_by r batch [] source same is one = rw same at is
-switched_by r batch (byte ∷ bytes) (Plan planning) same is one = absurd cc
-switched_by r batch (byte ∷ bytes) (Text lent) same is one =
-    the_one r (IsSwitched (Text (byte ∷ bytes)) None batch) (rw same at is) (rw same at (one tt))
 
 pub returns : goal.returns
 returns c =
-    let is = switched_by c.answer_switch_alone-answer.result c.args.batch.now c.args.schedule.now c.source_of.result c.source_of.ensures c.answer_switch_alone-answer.ensures.switched c.answer_switch_alone-answer.ensures.one in
+    let is = switched_by c.answer_switch_alone-answer.result c.args.batch.now c.args.schedule.now c.source_of.result c.source_of.ensures c.answer_switch_alone-answer.ensures.switched (λ text. c.answer_switch_alone-answer.ensures.one text refl) in
     left _ (IsSwitchedBy c.args.batch.now c.args.schedule.now) c.args.out.now c.leave.new.out c.leave.new.count c.leave.result is c.leave.ensures.some c.leave.ensures.none

@@ -1,25 +1,36 @@
-use Rattle.std.proofs.Common.{None}
+use Rattle.std.proofs.Common.{Option, List, ℕ}
 use Rattle.std.proofs.lemmas.Result.{IfOk-weaker}
-use Rattle.plan_answers.specs.Refusals.{Refuses}
+use Rattle.board_wiring.specs.Sources.{of_wiring}
+use Rattle.board_wiring.proofs.ReadBoards.{wires_some}
+use Rattle.crossbar.specs.declared.board.BoardWiring.{BoardWiring}
+use Rattle.plan_answers.specs.Lent.{bytes_of}
+use Rattle.plan_answers.specs.Refusals.{Refuses, Printed}
 use Rattle.plan_answers.specs.Schedules.{said_by}
-use Rattle.rack_answers.specs.Switching.{TellsSwitch, IsSwitched, switched, wrong}
-use Rattle.rack_answers.proofs.OneSwitching.{one_of_text}
+use Rattle.plan_answers.specs.declared.source.Source.{Source}
+use Rattle.rack_answers.specs.Switching.{IsOn, IsSwitched}
+use Rattle.rack_answers.proofs.OnBoards.{on_board, on_fault}
+use Rattle.rack_answers.proofs.OneSwitching.{one_usual}
 use Rattle.rack_answers.proofs.switching.answer_switch_alone.Goals as goal
+
+abbrev By : Source (List ℕ) → List ℕ → Option BoardWiring → Printed → Type 0
+By source batch board = IsSwitched source board batch
+
+pub switch_alone_on-requires : goal.switch_alone_on-requires
+switch_alone_on-requires c = wires_some _ c.in-Ok.board c.in-Ok.ensures.board
 
 pub returns-in-Ok-clause-switched : goal.returns-in-Ok-clause-switched
 returns-in-Ok-clause-switched c =
-    let its = c.in-Ok.scheduled in
-    let tells = rw (c.batch.ensures, c.schedule.ensures.schedule) at c.switch_answer.ensures in
-    IfOk-weaker c.switch_answer.result (TellsSwitch None its.batch its.settings) (IsSwitched (said_by c.args.source) None c.args.batch.now)
-    (λ p told. switched its.batch its.settings c.in-Ok.ensures.schedule told) tells
+    let Is = By (said_by c.args.source) c.args.batch.now in
+    IfOk-weaker c.switch_alone_on.result (Is c.in-Ok.board) (IsOn Is (bytes_of c.args.wiring)) (λ p is. on_board Is c.args.wiring c.in-Ok.board p c.in-Ok.ensures.board is) c.switch_alone_on.ensures
 
 pub returns-in-Ok-clause-one : goal.returns-in-Ok-clause-one
-returns-in-Ok-clause-one c = λ text. one_of_text c.switch_answer.result c.args.source c.args.batch.now text (returns-in-Ok-clause-switched c)
+returns-in-Ok-clause-one c = λ text usual. one_usual c.switch_alone_on.result c.args.source (bytes_of c.args.wiring) c.args.batch.now text usual (returns-in-Ok-clause-switched c)
 
 pub returns-in-Err-clause-switched : goal.returns-in-Err-clause-switched
 returns-in-Err-clause-switched c =
-    IfOk-weaker c.refused.result (Refuses c.in-Err.refusal) (IsSwitched (said_by c.args.source) None c.args.batch.now)
-    (λ p is. wrong c.in-Err.refusal (c.in-Err.ensures.wrong is.0) is.1) c.refused.ensures
+    let Is = By (said_by c.args.source) c.args.batch.now in
+    let refuses = rw c.into.ensures at c.refused.ensures in
+    IfOk-weaker c.refused.result (Refuses (of_wiring c.in-Err.fault)) (IsOn Is (bytes_of c.args.wiring)) (λ p is. on_fault Is c.args.wiring c.in-Err.fault p c.in-Err.ensures.fault is.1) refuses
 
 pub returns-in-Err-clause-one : goal.returns-in-Err-clause-one
-returns-in-Err-clause-one c = λ text. one_of_text c.refused.result c.args.source c.args.batch.now text (returns-in-Err-clause-switched c)
+returns-in-Err-clause-one c = λ text usual. one_usual c.refused.result c.args.source (bytes_of c.args.wiring) c.args.batch.now text usual (returns-in-Err-clause-switched c)

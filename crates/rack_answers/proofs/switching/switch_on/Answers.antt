@@ -1,20 +1,11 @@
 use Rattle.std.proofs.lemmas.Result.{IfOk-weaker}
-use Rattle.std.proofs.Common.{ℕ, List, Option, None, Some}
-use Rattle.batch.specs.Text.{Denotes}
-use Rattle.batch.specs.declared.transfer.Transfer.{Transfer}
 use Rattle.board_wiring.specs.Boards.{extent_of}
-use Rattle.crossbar.specs.declared.board.BoardWiring.{BoardWiring}
-use Rattle.rack_answers.specs.Boards.{WiresAll}
 use Rattle.plan_answers.proofs.OneSource.{denoted}
 use Rattle.plan_answers.specs.Refusals.{Refuses}
 use Rattle.plan_answers.specs.Schedules.{said_by}
 use Rattle.rack_answers.specs.Switching.{TellsSwitch, IsSwitched, switched, wrong}
+use Rattle.rack_answers.proofs.ReadBatches.{wires_all}
 use Rattle.rack_answers.proofs.switching.switch_on.Goals as goal
-
--- a board wires all modules of a batch that was read against it
-wires_all : (board : Option BoardWiring) (text : List ℕ) (batch : List Transfer) → Denotes (extent_of board) text batch → WiresAll board batch
-wires_all None text batch reads = tt
-wires_all (Some board) text batch reads = λ t below. (reads.within t _ below).0
 
 pub switch_answer-requires-clause-wired : goal.switch_answer-requires-clause-wired
 switch_answer-requires-clause-wired g c =

@@ -1,0 +1,34 @@
+use Rattle.std.proofs.Common.{None, refl}
+use Rattle.batch.specs.Extent.{widest}
+use Rattle.plan_answers.specs.Answers.{IsChecked}
+use Rattle.plan_answers.specs.Counting.{IsCounted}
+use Rattle.plan_answers.specs.Drawings.{IsDrawn}
+use Rattle.plan_answers.specs.Schedules.{said_by}
+use Rattle.rack_answers.specs.Answers.{IsApplied}
+use Rattle.exchange_c.proofs.Switching.{switched_by, switched_on}
+use Rattle.exchange_c.proofs.Writing.{the_one}
+use Rattle.exchange_c.proofs.why.Asked.answer.Goals as goal
+
+pub returns-in-Check : goal.returns-in-Check
+returns-in-Check c =
+    rw c.in-Check.is (the_one c.answer_check.result (IsChecked widest c.args.given.first.now c.args.given.second.now) c.answer_check.ensures.checked c.answer_check.ensures.one)
+
+pub returns-in-Switch : goal.returns-in-Switch
+returns-in-Switch c =
+    rw c.in-Switch.is (switched_by c.answer_switch_alone.result c.args.given.first.now c.args.given.second.now c.source_of.result c.source_of.ensures c.answer_switch_alone.ensures.switched (λ text. c.answer_switch_alone.ensures.one text refl))
+
+pub returns-in-Apply : goal.returns-in-Apply
+returns-in-Apply c =
+    rw c.in-Apply.is (the_one c.answer_apply_alone.result (IsApplied c.args.given.first.now c.args.given.second.now c.args.given.third.now) c.answer_apply_alone.ensures.ran c.answer_apply_alone.ensures.one)
+
+pub returns-in-Draw : goal.returns-in-Draw
+returns-in-Draw c =
+    rw c.in-Draw.is (the_one c.answer_draw.result (IsDrawn widest c.args.given.first.now c.args.given.second.now None) c.answer_draw.ensures.drawn c.answer_draw.ensures.one)
+
+pub returns-in-Changes : goal.returns-in-Changes
+returns-in-Changes c =
+    rw c.in-Changes.is (the_one c.answer_changes.result (IsCounted widest c.args.given.first.now c.args.given.second.now) c.answer_changes.ensures.counted c.answer_changes.ensures.one)
+
+pub returns-in-SwitchWired : goal.returns-in-SwitchWired
+returns-in-SwitchWired c =
+    rw c.in-SwitchWired.is (switched_on c.answer_switch_alone-in-SwitchWired.result c.args.given.third.now c.args.given.first.now c.args.given.second.now (said_by c.source_of-in-SwitchWired.result) c.source_of-in-SwitchWired.ensures c.answer_switch_alone-in-SwitchWired.ensures.switched)

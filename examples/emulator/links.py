@@ -1,0 +1,87 @@
+#!/usr/bin/env python3
+"""An emulator whose modules are threads and whose links are queues. A C004 says which links feed each other: it is set by the bytes of its
+configuration link, and asked after each setting, as a real one.
+
+Eight modules transpose what they have: block b of module m and block m of module b change places. Each module knows the transfers that it
+takes part in, and does those of a setting once it is told that the setting stands. In the end the memories are compared with those that
+`apply` leaves. docs/EMULATORS.md says how to run it.
+"""
+
+import queue
+import sys
+import threading
+
+import exchange
+
+MODULES, BYTES = 8, 8
+
+# The switch, and for each of its links what comes to the module that is on it. Link 0 of module m is on link m, and link 3 on link 16 + m.
+switch = exchange.C004()
+links = [queue.Queue() for _ in range(32)]
+
+
+def send(link, block):
+    """Sends a block from a module's link into the switch. It comes out wherever that input feeds an output."""
+    for output, queued in enumerate(links):
+        if switch.source(output) == link:
+            queued.put(block)
+
+
+class Module(threading.Thread):
+    """A module with its blocks. It does what it is told, one setting after another, and then says so."""
+
+    def __init__(self, number, blocks):
+        super().__init__()
+        self.number, self.blocks, self.told, self.done = number, blocks, queue.Queue(), queue.Queue()
+
+    def run(self):
+        before = list(self.blocks)
+        for setting in iter(self.told.get, None):
+            # The links that this module uses in the setting, with the block that goes out or comes in there.
+            out = {self.link(t): t.source[1] for t in setting if t.source[0] == self.number}
+            into = {self.link(t): t.destination[1] for t in setting if t.destination[0] == self.number}
+            for link, block in out.items():
+                send(link, before[block])
+            for link, block in into.items():
+                self.blocks[block] = links[link].get()
+            self.done.put(True)
+
+    def link(self, transfer):
+        """The link of the switch that this module's part of a transfer goes over."""
+        return self.number if transfer.initiator == self.number else 16 + self.number
+
+
+def stands(setting):
+    """Whether the switch answers for each output of a setting that the other end's input feeds it."""
+    pairs = [(t.initiator, 16 + t.responder) for t in setting]
+    asked = [(output, given) for pair in pairs for output, given in (pair, pair[::-1])]
+    return all(switch.take(bytes([2, output])) == bytes([0x80 + given]) for output, given in asked)
+
+
+modules = [Module(m, [bytes([16 * m + b]) * BYTES for b in range(MODULES)]) for m in range(MODULES)]
+image = b"".join(block for module in modules for block in module.blocks)
+transfers = [exchange.Transfer("push", m, b, b, m) for m in range(MODULES) for b in range(MODULES) if b != m]
+batch = exchange.batch_text(transfers)
+plan = exchange.plan(batch, steady=True)
+
+for module in modules:
+    module.start()
+standing = 0
+for (sent,), numbers in zip(exchange.switch_bytes(batch, plan), exchange.settings(plan)):
+    setting = [transfers[number] for number in numbers]
+    if switch.take(sent) or switch.refused:
+        sys.exit("WRONG: the switch doesn't obey")
+    standing += stands(setting)
+    for module in modules:
+        module.told.put([t for t in setting if module.number in (t.initiator, t.responder)])
+    for module in modules:
+        module.done.get()
+for module in modules:
+    module.told.put(None)
+    module.join()
+print(f"{len(transfers)} transfers in {standing} settings that stood")
+
+left = b"".join(block for module in modules for block in module.blocks)
+same = left == exchange.apply(f"{MODULES}x{MODULES}x{BYTES // 4}", batch, image)
+print("as exchange apply" if same else "WRONG")
+sys.exit(0 if same else 1)
