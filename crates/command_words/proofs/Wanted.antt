@@ -31,8 +31,8 @@ wanted rows (Plan file planning workers) has = ((file, has.0), (planning, has.1)
 wanted rows (Check batch schedule) has = ((batch, has.0), (schedule, has.1))
 wanted rows (Draw batch schedule settings) has = ((batch, has.0), (schedule, has.1))
 wanted rows (Switch batch source wiring workers) has = ((batch, has.0), (source, has.1), (workers, has.3))
-wanted rows (Drive batch port port_b source wiring goes_on workers) has =
-    ((batch, has.0), (port, has.1), (source, has.3), (workers, has.6))
+wanted rows (Drive batch port port_b source wiring first goes_on workers) has =
+    ((batch, has.0), (port, has.1), (source, has.3), (first, has.5), (workers, has.7))
 wanted rows C004 has = tt
 wanted rows (Direct moves) has = (moves, has)
 wanted rows (Apply shape batch image workers) has = ((shape, has.0), (batch, has.1), (image, has.2), (workers, has.3))
@@ -107,7 +107,7 @@ files_are rows (Plan file planning workers) has = rw has.0 refl
 files_are rows (Check batch schedule) has = rw (has.0, has.1) refl
 files_are rows (Draw batch schedule settings) has = rw (has.0, has.1) refl
 files_are rows (Switch batch source wiring workers) has = rw (has.0, scheduled rows source has.1, has.2) refl
-files_are rows (Drive batch port port_b source wiring goes_on workers) has = rw (has.0, scheduled rows source has.3, has.4) refl
+files_are rows (Drive batch port port_b source wiring first goes_on workers) has = rw (has.0, scheduled rows source has.3, has.4) refl
 files_are rows C004 has = refl
 files_are rows (Direct moves) has = rw has refl
 files_are rows (Apply shape batch image workers) has = rw (has.1, has.2) refl
@@ -125,8 +125,8 @@ hears_in name.Talk rows = true
 hears_in other rows = false
 
 hears_is : (rows : List Row) (job : Job) → HasJob rows job → hears_input job ≡ hears_in (name_of job) rows
-hears_is rows (Drive batch port port_b source wiring goes_on workers) has =
-    ap not (same_flag (option_and_then (λ row. row.source) (find (λ row. bytes_eq row.id (codes "go-on")) rows)) goes_on has.5)
+hears_is rows (Drive batch port port_b source wiring first goes_on workers) has =
+    ap not (same_flag (option_and_then (λ row. row.source) (find (λ row. bytes_eq row.id (codes "go-on")) rows)) goes_on has.6)
 hears_is rows job has = refl
 
 -- the names of the clients of a command
@@ -150,7 +150,7 @@ beside_in name.Talk rows = kept_in rows
 beside_in other rows = []
 
 beside_are : (rows : List Row) (job : Job) → HasJob rows job → files_beside job ≡ beside_in (name_of job) rows
-beside_are rows (Drive batch port port_b source wiring goes_on workers) has = rw (has.1, has.2) refl
+beside_are rows (Drive batch port port_b source wiring first goes_on workers) has = rw (has.1, has.2) refl
 beside_are rows (Serve rack scripts workers) has = rw (has.0.recorded, has.0.out) refl
 beside_are rows (Host rack clients workers) has = rw (has.0.recorded, has.0.out, has.1.0) refl
 beside_are rows (Talk rack) has = rw (has.recorded, has.out) refl

@@ -13,7 +13,7 @@ use Rattle.plan_answers.specs.declared.source.Planning.{Planning}
 use Rattle.plan_answers.specs.declared.source.Planning.TheVariants as planning
 use Rattle.plan_answers.specs.declared.source.Source.{Source}
 use Rattle.plan_answers.specs.declared.source.Source.TheVariants as source
-use Rattle.command_words.specs.declared.limits.TheConstants.{MAX_CLIENTS}
+use Rattle.command_words.specs.declared.limits.TheConstants.{LAST_SETTING, MAX_CLIENTS}
 use Rattle.command_words.specs.declared.uses.Access.{Access}
 use Rattle.command_words.specs.declared.uses.Access.TheVariants.{Read, Write, Port}
 use Rattle.command_words.specs.declared.uses.FileUse.{FileUse}
@@ -44,6 +44,13 @@ HasWorkers rows n =
     (text : Text) × (one_of (codes "workers") rows ≡ Some text)
     × IsNumeral 10 (without_leading_plus text) × (n ≡ digits_value 10 (without_leading_plus text))
     × (1 ≤ n) × (n ≤ MAX_WORKERS)
+
+-- the number of a setting that the text of `--from` reads as
+abbrev pub HasFirst : List Row → ℕ → Type 0
+HasFirst rows n =
+    (text : Text) × (one_of (codes "from") rows ≡ Some text)
+    × IsNumeral 10 (without_leading_plus text) × (n ≡ digits_value 10 (without_leading_plus text))
+    × (n ≤ LAST_SETTING)
 
 -- the text of an argument
 abbrev pub HasText : Text → List Row → Text → Type 0
@@ -89,7 +96,7 @@ name_of (Plan file planning workers) = name.Plan
 name_of (Check batch schedule) = name.Check
 name_of (Draw batch schedule settings) = name.Draw
 name_of (Switch batch source wiring workers) = name.Switch
-name_of (Drive batch port port_b source wiring goes_on workers) = name.Drive
+name_of (Drive batch port port_b source wiring first goes_on workers) = name.Drive
 name_of C004 = name.C004
 name_of (Direct moves) = name.Direct
 name_of (Apply shape batch image workers) = name.Apply
@@ -111,11 +118,11 @@ HasJob rows (Draw batch schedule settings) =
 HasJob rows (Switch batch source wiring workers) =
     HasText (codes "BATCH") rows batch × HasSource rows source
     × HasOption (codes "wiring") rows wiring × HasWorkers rows workers
-HasJob rows (Drive batch port port_b source wiring goes_on workers) =
+HasJob rows (Drive batch port port_b source wiring first goes_on workers) =
     HasText (codes "BATCH") rows batch × HasText (codes "PORT") rows port
     × HasOption (codes "PORT_B") rows port_b × HasSource rows source
-    × HasOption (codes "wiring") rows wiring × (IsTrue goes_on ↔ IsGiven (codes "go-on") rows)
-    × HasWorkers rows workers
+    × HasOption (codes "wiring") rows wiring × HasFirst rows first
+    × (IsTrue goes_on ↔ IsGiven (codes "go-on") rows) × HasWorkers rows workers
 HasJob rows C004 = ⊤
 HasJob rows (Direct moves) = HasText (codes "MOVES") rows moves
 HasJob rows (Apply shape batch image workers) =
@@ -217,7 +224,7 @@ files_of (Plan file planning workers) = of_list file None None
 files_of (Check batch schedule) = of_list batch (Some schedule) None
 files_of (Draw batch schedule settings) = of_list batch (Some schedule) None
 files_of (Switch batch source wiring workers) = of_list batch (schedule_in source) wiring
-files_of (Drive batch port port_b source wiring goes_on workers) =
+files_of (Drive batch port port_b source wiring first goes_on workers) =
     of_list batch (schedule_in source) wiring
 files_of C004 = scripts_on None []
 files_of (Direct moves) = of_list moves None None
@@ -230,7 +237,7 @@ files_of (Replay shape recorded image) = on_image image recorded None
 
 -- a job hears standard input itself: `c004`, `talk`, and `drive` where it waits for lines
 abbrev pub hears_input : Job → Bool
-hears_input (Drive batch port port_b source wiring goes_on workers) = not goes_on
+hears_input (Drive batch port port_b source wiring first goes_on workers) = not goes_on
 hears_input C004 = true
 hears_input (Talk rack) = true
 hears_input job = false
@@ -264,7 +271,7 @@ port_files port =
 
 -- the files beside those of `files_of` that a job reads or writes
 abbrev pub files_beside : Job → List FileUse
-files_beside (Drive batch port port_b source wiring goes_on workers) =
+files_beside (Drive batch port port_b source wiring first goes_on workers) =
     flat_map port_files (port ∷ option_to_list port_b)
 files_beside (Serve rack scripts workers) = kept_files rack
 files_beside (Host rack clients workers) = kept_files rack ++ flat_map client_files clients
@@ -377,7 +384,7 @@ HasWanted name.Switch rows =
     HasSome (HasText (codes "BATCH") rows) × HasSome (HasSource rows) × HasSome (HasWorkers rows)
 HasWanted name.Drive rows =
     HasSome (HasText (codes "BATCH") rows) × HasSome (HasText (codes "PORT") rows)
-    × HasSome (HasSource rows) × HasSome (HasWorkers rows)
+    × HasSome (HasSource rows) × HasSome (HasFirst rows) × HasSome (HasWorkers rows)
 HasWanted name.C004 rows = ⊤
 HasWanted name.Direct rows = HasSome (HasText (codes "MOVES") rows)
 HasWanted name.Apply rows =

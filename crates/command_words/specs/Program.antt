@@ -9,10 +9,10 @@ use Rattle.clap.specs.declared.builder.action.ArgAction.TheVariants.{SetTrue}
 use Rattle.clap.specs.declared.builder.value_parser.ValueParser.TheVariants as parser
 use Rattle.exchange_limits.specs.declared.limits.TheConstants.{MAX_WORKERS}
 use Rattle.command_words.specs.declared.commands.Argument.{Argument}
-use Rattle.command_words.specs.declared.commands.Argument.TheVariants.{Shape, File, Batch, Schedule, Port, PortB, Moves, Image, Record, Scripts, Clients, ImageOption, RecordOut, ImageOut, Settings, ScheduleOption, WiringOption, Steady, GoOn, Workers, Quiet}
+use Rattle.command_words.specs.declared.commands.Argument.TheVariants.{Shape, File, Batch, Schedule, Port, PortB, Moves, Image, Record, Scripts, Clients, ImageOption, RecordOut, ImageOut, Settings, ScheduleOption, WiringOption, FromOption, Steady, GoOn, Workers, Quiet}
 use Rattle.command_words.specs.declared.commands.CommandName.{CommandName}
 use Rattle.command_words.specs.declared.commands.CommandName.TheVariants.{Plan, Check, Draw, Switch, Drive, C004, Direct, Apply, Run, Serve, Host, Talk, Replay}
-use Rattle.command_words.specs.declared.limits.TheConstants.{MAX_CLIENTS}
+use Rattle.command_words.specs.declared.limits.TheConstants.{LAST_SETTING, MAX_CLIENTS}
 
 -- ---- what a command takes
 
@@ -42,6 +42,14 @@ workers =
       parser = Some (parser.Signed (pos 1) (pos MAX_WORKERS));
     }
 
+-- `--from`, a setting's number, and 0 where it is left out
+abbrev pub from : Rule
+from =
+    record (option (codes "from")) {
+      defaults = codes "0" ∷ [];
+      parser = Some (parser.Signed (pos 0) (pos LAST_SETTING));
+    }
+
 -- an option with no value, as `--quiet`, which may be left out
 abbrev pub flag : List ℕ → Rule
 flag id = record (new_rule id) { long = Some id; action = Some SetTrue }
@@ -65,6 +73,7 @@ rule_for ImageOut = option (codes "image-out")
 rule_for Settings = option (codes "settings")
 rule_for ScheduleOption = option (codes "schedule")
 rule_for WiringOption = option (codes "wiring")
+rule_for FromOption = from
 rule_for Steady = flag (codes "steady")
 rule_for GoOn = flag (codes "go-on")
 rule_for Workers = workers
@@ -87,7 +96,8 @@ sheet_of Switch =
     (codes "switch", Batch ∷ ScheduleOption ∷ Steady ∷ Workers ∷ WiringOption ∷ Quiet ∷ [])
 sheet_of Drive = (
   codes "drive",
-  Batch ∷ Port ∷ PortB ∷ ScheduleOption ∷ Steady ∷ Workers ∷ WiringOption ∷ GoOn ∷ Quiet ∷ [],
+  Batch ∷ Port ∷ PortB ∷ ScheduleOption ∷ Steady ∷ Workers ∷ WiringOption ∷ FromOption ∷ GoOn
+      ∷ Quiet ∷ [],
 )
 sheet_of C004 = (codes "c004", Quiet ∷ [])
 sheet_of Direct = (codes "direct", Moves ∷ Quiet ∷ [])

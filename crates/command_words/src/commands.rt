@@ -60,6 +60,8 @@ pub(crate) enum Argument {
     ScheduleOption,
     /// `--wiring FILE`.
     WiringOption,
+    /// `--from K`.
+    FromOption,
     /// `--steady`.
     Steady,
     /// `--go-on`.
@@ -107,9 +109,9 @@ impl CommandName {
         ensures arguments { result.1.now ≡ arguments_of self }
     {
         use Argument::{
-            Batch, Clients, File, GoOn, Image, ImageOption, ImageOut, Moves, Port, PortB, Quiet,
-            Record, RecordOut, Schedule, ScheduleOption, Scripts, Settings, Shape, Steady,
-            WiringOption, Workers,
+            Batch, Clients, File, FromOption, GoOn, Image, ImageOption, ImageOut, Moves, Port,
+            PortB, Quiet, Record, RecordOut, Schedule, ScheduleOption, Scripts, Settings, Shape,
+            Steady, WiringOption, Workers,
         };
         match self {
             CommandName::Plan => ("plan", &[File, Steady, Workers, Quiet]),
@@ -130,6 +132,7 @@ impl CommandName {
                         Steady,
                         Workers,
                         WiringOption,
+                        FromOption,
                         GoOn,
                         Quiet,
                     ],

@@ -211,26 +211,32 @@ read and write; or, where PORT.in and PORT.out are there, two named pipes, of
 which PORT.in goes to the switch. It is opened first, and each pipe waits for
 its other end.
 
-Setting by setting, the bytes are sent that `exchange switch` tells, and then
-each output is enquired; a reply is read before the next command is sent. Once
-all outputs answer as the setting calls for, this is told at once:
+First each switch comes up: what was begun at it is ended, it is reset, and old
+answers that stand in the line are read, up to 31. Then, setting by setting, the
+bytes are sent that `exchange switch` tells, and each output is enquired; a reply
+is read and judged before the next command is sent. Behind the last one 03 is
+sent again. Once all outputs have answered as the setting calls for, this is told:
   setting K t t ..   setting K stands, from 0; these transfers may move in it
-Then a line of standard input is waited for, whatever it says: it tells that
-their blocks have moved. With --go-on nothing is waited for.
+A setting that joins what stands already is told at once: nothing is sent for it.
+Behind each a line of standard input is waited for, whatever it says: it tells
+that their blocks have moved. With --go-on nothing is waited for. With --from K
+the first setting is setting K, set as from a reset; K is 0 to 4095.
 
 The last line says how it ended. The switches are left as they are:
   driven settings S            all S settings stood, one after the other
   stopped setting K port       a byte couldn't be sent, or a reply didn't come
   stopped setting K switch O   output O of setting K answered otherwise; those
                                of switch b are counted from 32
+  stopped setting K input      setting K stands, but no line could be read
   left setting K               setting K stands, and standard input ended
-A switch that says nothing is waited for without end, and a terminal that isn't
+Standard error says more of what stopped it. A switch that says nothing is waited for without end, and a terminal that isn't
 raw alters bytes and may hold them. Both are settled before, for a device:
   stty -F PORT raw -echo min 0 time 20
 
 Else nothing is sent, and the answer is the first of these that is wrong:
   refused file            a file can't be read, or PORT leads to one that is read
   refused ..              a file, as `exchange switch --help` shows
+  refused no setting K    --from names setting K, which the schedule doesn't have
   refused ports W         W ports are wanted: 2 where BATCH names a module above
                           15, else 1
   refused port a          PORT can't be opened, or is a plain file with something
@@ -605,6 +611,7 @@ pub(crate) fn help_on(argument: Argument) -> &'static str {
         Argument::Settings => "The settings to draw, A to B, counted from 0",
         Argument::ScheduleOption => "The file of its schedule, or - for standard input",
         Argument::WiringOption => "The file of the board's wiring, or - for standard input",
+        Argument::FromOption => "The setting of the schedule to begin with, counted from 0",
         Argument::Steady => "Plan so that the switch changes seldom",
         Argument::GoOn => "Wait for no line of standard input behind a setting",
         Argument::Workers => "\

@@ -42,14 +42,16 @@ pub enum Job {
         workers: WorkerCount,
     },
     /// Set the switches behind a port, or behind two, or the one switch of a board whose wiring a
-    /// file has, as each setting of a schedule of the batch of a file calls for, and behind each
-    /// wait for a line of standard input, unless it goes on. So many workers plan.
+    /// file has, as each setting of a schedule of the batch of a file calls for, from the first one
+    /// on, and behind each wait for a line of standard input, unless it goes on. So many workers
+    /// plan.
     Drive {
         batch: Text,
         port: Text,
         port_b: Option<Text>,
         source: Source<Text>,
         wiring: Option<Text>,
+        first: usize,
         goes_on: bool,
         workers: WorkerCount,
     },

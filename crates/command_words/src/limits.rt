@@ -6,5 +6,9 @@ use exchange_limits::MAX_SESSIONS;
 /// exchange has as many at most.
 pub const MAX_CLIENTS: usize = MAX_SESSIONS;
 
+/// The last setting that a schedule can have, counted from 0: it has at most as many settings as a
+/// batch has transfers.
+pub(crate) const LAST_SETTING: usize = 4095;
+
 /// The program's version.
 pub(crate) const VERSION: &str = "1.0.0";

@@ -5,7 +5,7 @@ ghost use Rattle.command_words.specs.declared.jobs.Job.{Job};
 ghost use Rattle.command_words.specs.declared.jobs.Request.{Request};
 ghost use Rattle.command_words.specs.declared.jobs.ArgumentsFault.TheVariants.{NoMemory};
 ghost use Rattle.command_words.specs.declared.reading.Lack.TheVariants.{Memory};
-ghost use Rattle.command_words.specs.Jobs.{AskFor, HasOption, HasPlanning, HasServed, HasRack, HasSource, HasText, HasWorkers, GivesRequest, IsFaultIn, IsGiven, IsMistake, IsReading, IsReadJob, IsRequest, IsTaken, IsWithinLimits, MayBeDone, rows_in, texts_of};
+ghost use Rattle.command_words.specs.Jobs.{AskFor, HasFirst, HasOption, HasPlanning, HasServed, HasRack, HasSource, HasText, HasWorkers, GivesRequest, IsFaultIn, IsGiven, IsMistake, IsReading, IsReadJob, IsRequest, IsTaken, IsWithinLimits, MayBeDone, rows_in, texts_of};
 
 use crate::clients::names_clients;
 use crate::commands::CommandName;
@@ -15,7 +15,7 @@ use crate::faults::{
 use crate::grammar::matches_of;
 use crate::input::reads_input_once;
 use crate::jobs::{ArgumentsFault, Job, Request, SharedRack};
-use crate::limits::MAX_CLIENTS;
+use crate::limits::{LAST_SETTING, MAX_CLIENTS};
 use crate::outputs::have_names;
 use crate::text::Text;
 use crate::text_list::TextList;
@@ -100,6 +100,16 @@ fn workers_of(matches: &ArgMatches<'_>) -> Result<WorkerCount, Lack>
         return Err(Lack::Word);
     };
     WorkerCount::new(number).ok_or(Lack::Word)
+}
+
+/// The number of `--from`.
+fn first_of(matches: &ArgMatches<'_>) -> Result<usize, Lack>
+    ensures { IsReading (HasFirst (rows_in matches.now)) result }
+{
+    match matches.get_one::<usize>("from") {
+        Some(number) if number <= LAST_SETTING => Ok(number),
+        _ => Err(Lack::Word),
+    }
 }
 
 /// Whether the arguments themselves give an option.
@@ -201,6 +211,7 @@ fn drive_job(alloc: Global, found: &ArgMatches<'_>) -> Result<Job, Lack>
         port_b: option_of(alloc, found, "PORT_B")?,
         source: source_of(alloc, found)?,
         wiring: option_of(alloc, found, "wiring")?,
+        first: first_of(found)?,
         goes_on: is_given(found, "go-on"),
         workers: workers_of(found)?,
     })

@@ -4,30 +4,31 @@ use Rattle.batch.specs.declared.transfer.Transfer.{Transfer}
 use Rattle.crossbar.specs.declared.port.ConfigPort.{Ghosts}
 use Rattle.switch_driver.specs.Driving.{HasDriveCause, IsDriven}
 use Rattle.switch_driver.specs.declared.driving.Driven.{Driven}
-use Rattle.switch_driver.specs.declared.driving.Driven.TheVariants.{Completed, Stopped, Left, Untold}
+use Rattle.switch_driver.specs.declared.driving.Driven.TheVariants.{Completed, Stopped, Left, Unheard, Untold}
+use Rattle.switch_driver.specs.declared.fault.SettingFault.TheVariants.{Port, Switch}
 use Rattle.switch_driver.specs.declared.stage.Cue.{Cue}
-use Rattle.switch_settings.specs.declared.fault.ConfigureFault.TheVariants.{Port, SwitchDisagrees}
 use Rattle.switch_settings.specs.declared.rack_wiring.RackWiring.{RackWiring}
 use Rattle.drive_answers.specs.Answers.{HasPortFailed, IsDrivenOver}
 use Rattle.drive_answers.specs.Ways.{Names, Ways, given_back, opened_by}
 
 -- ports that hadn't failed before
-port_failed : {P : Type 0} (seen : Ghosts P) (rack : RackWiring) (batch : List Transfer) (settings : List (List ℕ)) (how : Driven) (old new : P) → seen.failures old ≡ 0 → HasDriveCause seen rack batch settings how old new → HasPortFailed how (seen.failures new)
-port_failed seen rack batch settings (Completed count) old new none cause = cause.0 ∙ none
-port_failed seen rack batch settings (Stopped k Port) old new none cause = subst (λ (n : ℕ). n < seen.failures new) none cause
-port_failed seen rack batch settings (Stopped k (SwitchDisagrees number)) old new none cause = cause.2 ∙ none
-port_failed seen rack batch settings (Left k) old new none cause = cause.0 ∙ none
-port_failed seen rack batch settings (Untold k) old new none cause = cause.0 ∙ none
+port_failed : {P : Type 0} (seen : Ghosts P) (rack : RackWiring) (batch : List Transfer) (settings : List (List ℕ)) (first : ℕ) (how : Driven) (old new : P) → seen.failures old ≡ 0 → HasDriveCause seen rack batch settings first how old new → HasPortFailed how (seen.failures new)
+port_failed seen rack batch settings first (Completed count) old new none cause = cause.0 ∙ none
+port_failed seen rack batch settings first (Stopped k Port) old new none cause = subst (λ (n : ℕ). n < seen.failures new) none cause
+port_failed seen rack batch settings first (Stopped k (Switch found)) old new none cause = cause.1 ∙ none
+port_failed seen rack batch settings first (Left k) old new none cause = cause.0 ∙ none
+port_failed seen rack batch settings first (Unheard k) old new none cause = cause.0 ∙ none
+port_failed seen rack batch settings first (Untold k) old new none cause = cause.0 ∙ none
 
-pub driven_over : {S P : Type 0} (hears : S → ℕ → List ℕ → Cue → S → Type 0) (seen : Ghosts P) (rack : RackWiring) (batch : List Transfer) (settings : List (List ℕ)) (how : Driven) (names : Names) (was opened opens : Ways) (old new : P) (told tells : S)
+pub driven_over : {S P : Type 0} (hears : S → ℕ → List ℕ → Cue → S → Type 0) (seen : Ghosts P) (rack : RackWiring) (batch : List Transfer) (settings : List (List ℕ)) (first : ℕ) (how : Driven) (names : Names) (was opened opens : Ways) (old new : P) (told tells : S)
     → opened ≡ opened_by names was → opens ≡ given_back (seen.passed new) (seen.failures new) opened
-    → seen.passed old ≡ Some [] → seen.failures old ≡ 0 → IsDriven hears rack batch settings how (seen.passed old) told (seen.passed new) tells → HasDriveCause seen rack batch settings how old new
-    → IsDrivenOver hears rack batch settings how names was opens told tells
-driven_over hears seen rack batch settings how names was opened opens old new told tells begun given fresh none went cause =
+    → seen.passed old ≡ Some [] → seen.failures old ≡ 0 → IsDriven hears rack batch settings first how (seen.passed old) told (seen.passed new) tells → HasDriveCause seen rack batch settings first how old new
+    → IsDrivenOver hears rack batch settings first how names was opens told tells
+driven_over hears seen rack batch settings first how names was opened opens old new told tells begun given fresh none went cause =
     record {
       carried = seen.passed new;
       failed = seen.failures new;
       ways = given ∙ ap (given_back (seen.passed new) (seen.failures new)) begun;
       went = rw fresh at went;
-      cause = port_failed seen rack batch settings how old new none cause;
+      cause = port_failed seen rack batch settings first how old new none cause;
     }

@@ -20,11 +20,11 @@ none_told : {I O : Type 0} (remaining : I → Option (List ℕ)) (contents : O �
 none_told remaining contents told tells Is same is =
     rw same (record { text = []; appended = appends_none (contents told.out.now); loan = refl; waits = refl; is = is })
 
-told_over : {I O : Type 0} (remaining : I → Option (List ℕ)) (contents : O → Option (List ℕ)) (rack : RackWiring) (batch : List Transfer) (settings : List (List ℕ)) (how : Driven) (names : Names) (was opens : Ways) (told tells : Lines I O)
-    → IsDrivenOver (λ a n ns c b. HasToldLine remaining contents n ns c a b) rack batch settings how names was opens told tells
-    → AsText remaining contents told tells (λ d. IsDrivenOver (TellsLine told.waits) rack batch settings how names was opens (untold remaining told) d)
-told_over {I} {O} remaining contents rack batch settings how names was opens told tells over =
-    let lines = driven_lines remaining contents rack batch settings how _ told over.carried tells over.went in
+told_over : {I O : Type 0} (remaining : I → Option (List ℕ)) (contents : O → Option (List ℕ)) (rack : RackWiring) (batch : List Transfer) (settings : List (List ℕ)) (first : ℕ) (how : Driven) (names : Names) (was opens : Ways) (told tells : Lines I O)
+    → IsDrivenOver (λ a n ns c b. HasToldLine remaining contents n ns c a b) rack batch settings first how names was opens told tells
+    → AsText remaining contents told tells (λ d. IsDrivenOver (TellsLine told.waits) rack batch settings first how names was opens (untold remaining told) d)
+told_over {I} {O} remaining contents rack batch settings first how names was opens told tells over =
+    let lines = driven_lines remaining contents rack batch settings first how _ told over.carried tells over.went in
     record {
       text = lines.text;
       appended = lines.appended;
@@ -33,31 +33,31 @@ told_over {I} {O} remaining contents rack batch settings how names was opens tol
       is = record { carried = over.carried; failed = over.failed; ways = over.ways; went = lines.is; cause = over.cause };
     }
 
-told_tried : {I O : Type 0} (remaining : I → Option (List ℕ)) (contents : O → Option (List ℕ)) (rack : RackWiring) (batch : List Transfer) (settings : List (List ℕ)) (names : Names) (was opens : Ways) (told tells : Lines I O) (printed : Printed)
-    → IsTried (λ a n ns c b. HasToldLine remaining contents n ns c a b) rack batch settings names was opens told tells printed
-    → AsText remaining contents told tells (λ d. IsTried (TellsLine told.waits) rack batch settings names was opens (untold remaining told) d printed)
-told_tried {I} {O} remaining contents rack batch settings names was opens told tells printed (driven how many over ending) =
-    let so = told_over remaining contents rack batch settings how names was opens told tells over in
+told_tried : {I O : Type 0} (remaining : I → Option (List ℕ)) (contents : O → Option (List ℕ)) (rack : RackWiring) (batch : List Transfer) (settings : List (List ℕ)) (first : ℕ) (names : Names) (was opens : Ways) (told tells : Lines I O) (printed : Printed)
+    → IsTried (λ a n ns c b. HasToldLine remaining contents n ns c a b) rack batch settings first names was opens told tells printed
+    → AsText remaining contents told tells (λ d. IsTried (TellsLine told.waits) rack batch settings first names was opens (untold remaining told) d printed)
+told_tried {I} {O} remaining contents rack batch settings first names was opens told tells printed (driven how many over ending) =
+    let so = told_over remaining contents rack batch settings first how names was opens told tells over in
     record { text = so.text; appended = so.appended; loan = so.loan; waits = so.waits; is = driven how many so.is ending }
-told_tried {I} {O} remaining contents rack batch settings names was opens told tells printed (unopened refusal why refused same none) =
+told_tried {I} {O} remaining contents rack batch settings first names was opens told tells printed (unopened refusal why refused same none) =
     none_told remaining contents told tells _ same (unopened refusal why refused refl none)
 
 -- an answer behind what was told by lines
-pub told_answer : {I O : Type 0} (remaining : I → Option (List ℕ)) (contents : O → Option (List ℕ)) (source : Source (List ℕ)) (batch_text : List ℕ) (wiring : Option (List ℕ)) (names : Names) (was opens : Ways) (told tells : Lines I O) (printed : Printed)
-    → IsDriveAnswer (λ a n ns c b. HasToldLine remaining contents n ns c a b) source batch_text wiring names was opens told tells printed
-    → AsText remaining contents told tells (λ d. IsDriveAnswer (TellsLine told.waits) source batch_text wiring names was opens (untold remaining told) d printed)
-told_answer {I} {O} remaining contents source batch_text wiring names was opens told tells printed (tried board batch settings is_board from is) =
-    let so = told_tried remaining contents (rack_for board batch) batch settings names was opens told tells printed is in
-    record { text = so.text; appended = so.appended; loan = so.loan; waits = so.waits; is = tried board batch settings is_board from so.is }
-told_answer {I} {O} remaining contents source batch_text wiring names was opens told tells printed (wrong refusal why refused same none) =
+pub told_answer : {I O : Type 0} (remaining : I → Option (List ℕ)) (contents : O → Option (List ℕ)) (source : Source (List ℕ)) (batch_text : List ℕ) (wiring : Option (List ℕ)) (first : ℕ) (names : Names) (was opens : Ways) (told tells : Lines I O) (printed : Printed)
+    → IsDriveAnswer (λ a n ns c b. HasToldLine remaining contents n ns c a b) source batch_text wiring first names was opens told tells printed
+    → AsText remaining contents told tells (λ d. IsDriveAnswer (TellsLine told.waits) source batch_text wiring first names was opens (untold remaining told) d printed)
+told_answer {I} {O} remaining contents source batch_text wiring first names was opens told tells printed (tried board batch settings is_board from start is) =
+    let so = told_tried remaining contents (rack_for board batch) batch settings first names was opens told tells printed is in
+    record { text = so.text; appended = so.appended; loan = so.loan; waits = so.waits; is = tried board batch settings is_board from start so.is }
+told_answer {I} {O} remaining contents source batch_text wiring first names was opens told tells printed (wrong refusal why refused same none) =
     none_told remaining contents told tells _ same (wrong refusal why refused refl none)
 
 -- the same where there is none
-pub told_failure : {I O : Type 0} (remaining : I → Option (List ℕ)) (contents : O → Option (List ℕ)) (source : Source (List ℕ)) (batch_text : List ℕ) (wiring : Option (List ℕ)) (names : Names) (was opens : Ways) (told tells : Lines I O) (fault : DriveFault)
-    → HasFailed (λ a n ns c b. HasToldLine remaining contents n ns c a b) source batch_text wiring names was opens told tells fault
-    → AsText remaining contents told tells (λ d. HasFailed (TellsLine told.waits) source batch_text wiring names was opens (untold remaining told) d fault)
-told_failure {I} {O} remaining contents source batch_text wiring names was opens told tells Untold (board, batch, settings, is_board, from, (k, over)) =
-    let so = told_over remaining contents (rack_for board batch) batch settings (UntoldAt k) names was opens told tells over in
+pub told_failure : {I O : Type 0} (remaining : I → Option (List ℕ)) (contents : O → Option (List ℕ)) (source : Source (List ℕ)) (batch_text : List ℕ) (wiring : Option (List ℕ)) (first : ℕ) (names : Names) (was opens : Ways) (told tells : Lines I O) (fault : DriveFault)
+    → HasFailed (λ a n ns c b. HasToldLine remaining contents n ns c a b) source batch_text wiring first names was opens told tells fault
+    → AsText remaining contents told tells (λ d. HasFailed (TellsLine told.waits) source batch_text wiring first names was opens (untold remaining told) d fault)
+told_failure {I} {O} remaining contents source batch_text wiring first names was opens told tells Untold (board, batch, settings, is_board, from, (k, over)) =
+    let so = told_over remaining contents (rack_for board batch) batch settings first (UntoldAt k) names was opens told tells over in
     record { text = so.text; appended = so.appended; loan = so.loan; waits = so.waits; is = (board, batch, settings, is_board, from, (k, so.is)) }
-told_failure {I} {O} remaining contents source batch_text wiring names was opens told tells NoMemory (same, none) =
+told_failure {I} {O} remaining contents source batch_text wiring first names was opens told tells NoMemory (same, none) =
     none_told remaining contents told tells _ same (refl, none)

@@ -1,6 +1,6 @@
 -- What `drive` answers: how the settings of a schedule were put on the switches of a rack, over
 -- ports of these names, which were opened for them.
-use Rattle.std.specs.Prelude.{◌≡◌, ◌<◌, ℕ, List, [], Option, Some, None, if◌then◌else◌, nat_lt}
+use Rattle.std.specs.Prelude.{◌≡◌, ◌<◌, ◌⊎◌, ℕ, List, [], length, Option, Some, None, if◌then◌else◌, nat_lt}
 use Rattle.batch.specs.declared.transfer.Transfer.{Transfer}
 use Rattle.board_wiring.specs.Boards.{IsBoardOf, IsMiswired, extent_of}
 use Rattle.board_wiring.specs.Sources.{of_wiring}
@@ -12,12 +12,13 @@ use Rattle.plan_answers.specs.Refusals.{Printed, Refuses}
 use Rattle.plan_answers.specs.Schedules.{IsScheduleFrom, IsWrongFrom}
 use Rattle.plan_answers.specs.declared.source.Source.{Source}
 use Rattle.refusals.specs.declared.refusal.Refusal.{Refusal}
+use Rattle.refusals.specs.declared.refusal.Refusal.TheVariants.{NoSetting}
 use Rattle.switch_driver.specs.Driving.{IsDriven}
 use Rattle.switch_driver.specs.declared.driving.Driven.{Driven}
 use Rattle.switch_driver.specs.declared.driving.Driven.TheVariants.{Stopped, Untold as UntoldAt}
+use Rattle.switch_driver.specs.declared.fault.SettingFault.TheVariants.{Port}
 use Rattle.switch_driver.specs.declared.stage.Cue.{Cue}
 use Rattle.switch_settings.specs.Racks.{is_wide, joined_by}
-use Rattle.switch_settings.specs.declared.fault.ConfigureFault.TheVariants.{Port}
 use Rattle.switch_settings.specs.declared.rack_wiring.RackWiring.{RackWiring}
 use Rattle.switch_settings.specs.declared.rack_wiring.RackWiring.TheVariants.{Usual, Own}
 use Rattle.drive_answers.specs.Endings.{IsEnding}
@@ -26,6 +27,10 @@ use Rattle.drive_answers.specs.declared.fault.DriveFault.TheVariants.{Untold, No
 use Rattle.drive_answers.specs.Ways.{IsUnopened, Names, Ways, how_many, used}
 
 -- ---- what was done with it
+
+-- a schedule may be driven from this setting on: it has it, or it is the first one anyway
+abbrev pub IsStart : ℕ → List (List ℕ) → Type 0
+IsStart first settings = (first ≡ 0) ⊎ (first < length settings)
 
 -- the rack that a batch is driven on: the board, where there is one, and else the modules that as
 -- many switches join as the batch needs
@@ -43,70 +48,77 @@ abbrev pub HasPortFailed : Driven → ℕ → Type 0
 HasPortFailed (Stopped k Port) failed = 0 < failed
 HasPortFailed how failed = failed ≡ 0
 
--- The settings were driven so over the ports of these names: they were opened, once; nothing had
--- passed over them before, and this had passed as they were given back.
+-- The settings from this one on were driven so over the ports of these names: they were opened,
+-- once; nothing had passed over them before, and this had passed as they were given back.
 pub record IsDrivenOver {S : Type 0} (hears : S → ℕ → List ℕ → Cue → S → Type 0)
-    (rack : RackWiring) (batch : List Transfer) (settings : List (List ℕ)) (how : Driven)
+    (rack : RackWiring) (batch : List Transfer) (settings : List (List ℕ)) (first : ℕ) (how : Driven)
     (names : Names) (was opens : Ways) (told tells : S) : Type 0 where
   pub carried : Option (List Passing)
   pub failed : ℕ
   pub ways : opens ≡ used names carried failed was
-  pub went : IsDriven hears rack batch settings how (Some []) told carried tells
+  pub went : IsDriven hears rack batch settings first how (Some []) told carried tells
   pub cause : HasPortFailed how failed
 
 -- The ports lead to as many switches as the rack has; the settings were driven, and it was said how
 -- that ended. Or the ports were refused, none was handed over, and nothing was told.
 pub data IsTried {S : Type 0} (hears : S → ℕ → List ℕ → Cue → S → Type 0) (rack : RackWiring)
-    (batch : List Transfer) (settings : List (List ℕ)) (names : Names) (was opens : Ways)
-    (told tells : S) (printed : Printed) : Type 0 where
+    (batch : List Transfer) (settings : List (List ℕ)) (first : ℕ) (names : Names)
+    (was opens : Ways) (told tells : S) (printed : Printed) : Type 0 where
   driven : (how : Driven) → how_many names ≡ switches_in rack
-      → IsDrivenOver hears rack batch settings how names was opens told tells
-      → IsEnding how printed → IsTried hears rack batch settings names was opens told tells printed
+      → IsDrivenOver hears rack batch settings first how names was opens told tells
+      → IsEnding how printed → IsTried hears rack batch settings first names was opens told tells printed
   unopened : (refusal : Refusal) → IsUnopened names (switches_in rack) refusal
       → Refuses refusal printed → tells ≡ told → opens ≡ was
-      → IsTried hears rack batch settings names was opens told tells printed
+      → IsTried hears rack batch settings first names was opens told tells printed
 
 -- a setting stood that couldn't be told; or there was no memory, no port was opened, and nothing
 -- was told
 abbrev pub HasFailedOver : {S : Type 0} → (S → ℕ → List ℕ → Cue → S → Type 0) → RackWiring
-    → List Transfer → List (List ℕ) → Names → Ways → Ways → S → S → DriveFault → Type 0
-HasFailedOver {S} hears rack batch settings names was opens told tells Untold =
-    (k : ℕ) × IsDrivenOver hears rack batch settings (UntoldAt k) names was opens told tells
-HasFailedOver {S} hears rack batch settings names was opens told tells NoMemory =
+    → List Transfer → List (List ℕ) → ℕ → Names → Ways → Ways → S → S → DriveFault → Type 0
+HasFailedOver {S} hears rack batch settings first names was opens told tells Untold =
+    (k : ℕ) × IsDrivenOver hears rack batch settings first (UntoldAt k) names was opens told tells
+HasFailedOver {S} hears rack batch settings first names was opens told tells NoMemory =
     (tells ≡ told) × (opens ≡ was)
 
 -- ---- the answer
 
--- what is first wrong with the texts: that of the wiring is looked at first, and then the others
--- against a rack with the modules that it wires
+-- What is first wrong with the texts: that of the wiring is looked at first, and then the others
+-- against a rack with the modules that it wires. Then the schedule has to have the setting from
+-- which on it is driven.
 pub data IsFirstDriveWrong (source : Source (List ℕ)) (text : List ℕ) (wiring : Option (List ℕ))
-    (refusal : Refusal) : Type 0 where
+    (first : ℕ) (refusal : Refusal) : Type 0 where
   wiring_wrong : (fault : WiringFault) → IsMiswired wiring fault → refusal ≡ of_wiring fault
-      → IsFirstDriveWrong source text wiring refusal
+      → IsFirstDriveWrong source text wiring first refusal
   texts_wrong : (board : Option BoardWiring) → IsBoardOf wiring board
       → IsWrongFrom source (extent_of board) text refusal
-      → IsFirstDriveWrong source text wiring refusal
+      → IsFirstDriveWrong source text wiring first refusal
+  no_setting : (board : Option BoardWiring) (batch : List Transfer) (settings : List (List ℕ))
+      → IsBoardOf wiring board → IsScheduleFrom source (extent_of board) text batch settings
+      → (IsStart first settings → ⊥) → refusal ≡ NoSetting first
+      → IsFirstDriveWrong source text wiring first refusal
 
--- what was done with a schedule from this source, of the batch that the text denotes, on the rack
--- that is wired so, over the ports of these names; or the refusal of what is first wrong with the
--- texts: then no port was opened, and nothing was told
+-- what was done with a schedule from this source, of the batch that the text denotes, from this
+-- setting on, on the rack that is wired so, over the ports of these names; or the refusal of what is
+-- first wrong with the texts: then no port was opened, and nothing was told
 pub data IsDriveAnswer {S : Type 0} (hears : S → ℕ → List ℕ → Cue → S → Type 0)
-    (source : Source (List ℕ)) (text : List ℕ) (wiring : Option (List ℕ)) (names : Names)
-    (was opens : Ways) (told tells : S) (printed : Printed) : Type 0 where
+    (source : Source (List ℕ)) (text : List ℕ) (wiring : Option (List ℕ)) (first : ℕ)
+    (names : Names) (was opens : Ways) (told tells : S) (printed : Printed) : Type 0 where
   tried : (board : Option BoardWiring) (batch : List Transfer) (settings : List (List ℕ))
       → IsBoardOf wiring board → IsScheduleFrom source (extent_of board) text batch settings
-      → IsTried hears (rack_for board batch) batch settings names was opens told tells printed
-      → IsDriveAnswer hears source text wiring names was opens told tells printed
-  wrong : (refusal : Refusal) → IsFirstDriveWrong source text wiring refusal
+      → IsStart first settings
+      → IsTried hears (rack_for board batch) batch settings first names was opens told tells printed
+      → IsDriveAnswer hears source text wiring first names was opens told tells printed
+  wrong : (refusal : Refusal) → IsFirstDriveWrong source text wiring first refusal
       → Refuses refusal printed → tells ≡ told → opens ≡ was
-      → IsDriveAnswer hears source text wiring names was opens told tells printed
+      → IsDriveAnswer hears source text wiring first names was opens told tells printed
 
 -- why there is none: of such a schedule, on that rack
 abbrev pub HasFailed : {S : Type 0} → (S → ℕ → List ℕ → Cue → S → Type 0) → Source (List ℕ)
-    → List ℕ → Option (List ℕ) → Names → Ways → Ways → S → S → DriveFault → Type 0
-HasFailed {S} hears source text wiring names was opens told tells Untold =
+    → List ℕ → Option (List ℕ) → ℕ → Names → Ways → Ways → S → S → DriveFault → Type 0
+HasFailed {S} hears source text wiring first names was opens told tells Untold =
     (board : Option BoardWiring) × (batch : List Transfer) × (settings : List (List ℕ))
     × IsBoardOf wiring board × IsScheduleFrom source (extent_of board) text batch settings
-    × HasFailedOver hears (rack_for board batch) batch settings names was opens told tells Untold
-HasFailed {S} hears source text wiring names was opens told tells NoMemory =
+    × HasFailedOver hears (rack_for board batch) batch settings first names was opens told tells
+    Untold
+HasFailed {S} hears source text wiring first names was opens told tells NoMemory =
     (tells ≡ told) × (opens ≡ was)

@@ -1,20 +1,24 @@
 //! The command `drive`.
 
-ghost use Rattle.std.specs.Prelude.{◌≡◌, ◌≤◌, ◌⊎◌, IfOk, IfErr, IfSome, length};
+ghost use Rattle.std.specs.Prelude.{◌≡◌, ◌≤◌, ◌⊎◌, ◌↔◌, IfOk, IfErr, IfSome, IsTrue, length};
 ghost use Rattle.c004_commands.specs.declared.port.TheConstants.{PORTS as MOST};
 ghost use Rattle.crossbar.specs.Wired.{links_of};
 ghost use Rattle.link_graph.specs.Schedules.{IsScheduleOf};
 ghost use Rattle.plan_answers.specs.Lent.{bytes_of};
+ghost use Rattle.plan_answers.specs.Refusals.{Refuses};
+ghost use Rattle.drive_answers.specs.declared.fault.DriveFault.TheVariants.{NoMemory};
 ghost use Rattle.plan_answers.specs.Schedules.{said_by};
 ghost use Rattle.switch_settings.specs.RackWirings.{wired_in};
 ghost use Rattle.switch_settings.specs.Racks.{HasModulesOf, joined_by};
-ghost use Rattle.drive_answers.specs.Answers.{rack_for, switches_in, IsTried, HasFailedOver, IsDriveAnswer, HasFailed};
+ghost use Rattle.drive_answers.specs.Answers.{rack_for, switches_in, IsStart, IsTried, HasFailedOver, IsDriveAnswer, HasFailed};
 ghost use Rattle.drive_answers.specs.Ways.{names_of};
 
+use crate::drive_end::DriveEnd;
 use crate::ending::ending;
 use crate::fault::DriveFault;
 use crate::names::PortNames;
 use crate::ports::Ports;
+use crate::sight::Sight;
 use batch::Batch;
 use board_wiring::{read_board, shape_of};
 use c004_commands::PORTS;
@@ -64,55 +68,82 @@ fn switches_of(rack: RackWiring) -> usize
     }
 }
 
-/// Drives a schedule of the batch on the rack, over the ports of these names, which are opened for
-/// it, and says how that ended.
+/// Whether a schedule may be driven from this setting on.
+fn is_start(first: usize, schedule: &Schedule) -> bool
+    ensures { IsTrue result ↔ IsStart first schedule.now }
+{
+    first == 0 || first < schedule.settings()
+}
+
+/// Drives a schedule of the batch on the rack from this setting on, over the ports of these names,
+/// which are opened for it, and says how that ended.
 fn drive_over<Q: Ports, S: Stage>(
     alloc: Global,
     rack: RackWiring,
     batch: &Batch,
     schedule: &Schedule,
+    first: usize,
     names: PortNames<'_>,
     ports: &mut Q,
     stage: &mut S,
-) -> Result<Answer, DriveFault>
+) -> Result<DriveEnd, DriveFault>
     requires few { wired_in rack ≤ MOST }
     requires modules { HasModulesOf (wired_in rack) batch.now }
     requires schedule { IsScheduleOf batch.now schedule.now }
-    ensures answer { IfOk result
-        (IsTried S.hears rack batch.now schedule.now (names_of names.entry) (Q.ways ports.old)
-        (Q.ways ports.new) stage.old stage.new) }
+    requires first { IsStart first schedule.now }
+    ensures answer { IfOk result (λ end.
+        IsTried S.hears rack batch.now schedule.now first (names_of names.entry)
+        (Q.ways ports.old) (Q.ways ports.new) stage.old stage.new end.answer) }
     ensures fault { IfErr result
-        (HasFailedOver S.hears rack batch.now schedule.now (names_of names.entry) (Q.ways ports.old)
-        (Q.ways ports.new) stage.old stage.new) }
+        (HasFailedOver S.hears rack batch.now schedule.now first (names_of names.entry)
+        (Q.ways ports.old) (Q.ways ports.new) stage.old stage.new) }
 {
     // The last line's room is kept before anything is sent.
     let room = Vec::with_capacity(alloc, LINE_ROOM)?;
     let switches = switches_of(rack);
     if names.count() != switches {
-        return Ok(Answer::refused(alloc, Refusal::Ports(switches))?);
+        return refused(alloc, Refusal::Ports(switches));
     }
     match ports.open(names) {
         Ok(mut port) => {
-            let how = drive(&mut port, rack, batch, schedule, stage);
+            let how = drive(&mut port, rack, batch, schedule, first, stage);
             ports.close(port);
-            ending(room, how)
+            match ending(room, how) {
+                Ok(answer) => Ok(DriveEnd {
+                    answer,
+                    sight: Sight::of(rack, &how),
+                }),
+                Err(fault) => Err(fault),
+            }
         }
-        Err(why) => Ok(Answer::refused(alloc, why)?),
+        Err(why) => refused(alloc, why),
     }
 }
 
+/// A refusal.
+fn refused(alloc: Global, why: Refusal) -> Result<DriveEnd, DriveFault>
+    ensures refused { IfOk result (λ end. Refuses why end.answer) }
+    ensures fault { IfErr result (λ fault. fault ≡ NoMemory) }
+{
+    Ok(DriveEnd {
+        answer: Answer::refused(alloc, why)?,
+        sight: None,
+    })
+}
+
 /// What `exchange drive` answers behind what the stage was told: the settings of a schedule of the
-/// batch that the text denotes are put on the switches, one after another, over the ports of these
-/// names, which are opened for them; or the refusal of what is first wrong, as
-/// [`Scheduled::read`](plan_answers::Scheduled::read) looks at it, or of the ports. Where it
-/// refuses, no port is opened, so nothing is sent, and nothing is told; a port is asked for only
-/// where the texts are right.
+/// batch that the text denotes are put on the switches, one after another, from the first one on
+/// that is named, over the ports of these names, which are opened for them; or the refusal of what
+/// is first wrong, as [`Scheduled::read`](plan_answers::Scheduled::read) looks at it, or of the
+/// setting, or of the ports. Where it refuses, no port is opened, so nothing is sent, and nothing
+/// is told; a port is asked for only where the texts are right.
 ///
 /// The last line is `driven settings S` under the status [`DONE`](plan_answers::DONE), where all
 /// settings stood; or, under [`REFUSED`](plan_answers::REFUSED), `stopped setting K port` where the
 /// port failed, `stopped setting K switch O` where that output is the first that doesn't reply what
-/// setting K calls for, or `left setting K` where the stage wants no other setting. The rack has
-/// two switches where the batch names a module above 15. The batch is read against the widest
+/// setting K calls for, and `stopped setting K input` where setting K stands, and it can't be heard
+/// whether another is wanted; or `left setting K` where the stage wants no other. K and S are the
+/// schedule's numbers. The rack has two switches where the batch names a module above 15. The batch is read against the widest
 /// shape. So many workers make a plain plan. Want of memory comes before a port is opened.
 ///
 /// Where there is a text of a board's wiring, the settings are put on the board's one switch, and O
@@ -125,35 +156,31 @@ pub fn answer_drive<R: Threads + Sync, Q: Ports, S: Stage>(
     batch: &[u8],
     source: Source<&[u8]>,
     workers: WorkerCount,
+    first: usize,
     names: PortNames<'_>,
     ports: &mut Q,
     stage: &mut S,
-) -> Result<Answer, DriveFault>
-    ensures answer { IfOk result (IsDriveAnswer S.hears (said_by source.entry) batch.now
-        (bytes_of wiring.entry) (names_of names.entry) (Q.ways ports.old) (Q.ways ports.new)
-        stage.old stage.new) }
+) -> Result<DriveEnd, DriveFault>
+    ensures answer { IfOk result (λ end. IsDriveAnswer S.hears (said_by source.entry) batch.now
+        (bytes_of wiring.entry) first (names_of names.entry) (Q.ways ports.old) (Q.ways ports.new)
+        stage.old stage.new end.answer) }
     ensures fault { IfErr result
-        (HasFailed S.hears (said_by source.entry) batch.now (bytes_of wiring.entry)
+        (HasFailed S.hears (said_by source.entry) batch.now (bytes_of wiring.entry) first
         (names_of names.entry) (Q.ways ports.old) (Q.ways ports.new) stage.old stage.new) }
 {
     let board = match read_board(wiring) {
         Ok(board) => board,
-        Err(fault) => return Ok(Answer::refused(alloc, fault.into())?),
+        Err(fault) => return refused(alloc, fault.into()),
     };
     match Scheduled::read(rt, alloc, shape_of(&board), batch, source, workers) {
         Ok(scheduled) => {
-            let batch = scheduled.batch();
+            let (batch, schedule) = (scheduled.batch(), scheduled.schedule());
+            if !is_start(first, schedule) {
+                return refused(alloc, Refusal::NoSetting(first));
+            }
             let rack = rack_of(&board, batch);
-            drive_over(
-                alloc,
-                rack,
-                batch,
-                scheduled.schedule(),
-                names,
-                ports,
-                stage,
-            )
+            drive_over(alloc, rack, batch, schedule, first, names, ports, stage)
         }
-        Err(refusal) => Ok(Answer::refused(alloc, refusal)?),
+        Err(refusal) => refused(alloc, refusal),
     }
 }

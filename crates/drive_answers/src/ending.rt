@@ -1,17 +1,17 @@
 //! The last line of a drive.
 
-ghost use Rattle.std.specs.Prelude.{◌≡◌, ◌≤◌, ◌+◌, ◌++◌, [], ℕ, length, IfOk, IfErr, vec_capacity};
+ghost use Rattle.std.specs.Prelude.{◌≡◌, ◌≤◌, ◌+◌, ◌*◌, ◌++◌, [], ℕ, length, IfOk, IfErr, vec_capacity};
 ghost use Rattle.std.specs.Fmt.{decimal};
 ghost use Rattle.line_words.specs.declared.limits.TheConstants.{LINE_ROOM, NUMBER_ROOM};
 ghost use Rattle.switch_driver.specs.declared.driving.Driven.TheVariants.{Untold as UntoldAt};
-ghost use Rattle.drive_answers.specs.Endings.{completed_line, stopped_line, left_line, IsEnding};
+ghost use Rattle.drive_answers.specs.Endings.{completed_line, fault_words, left_line, number_of, stopped_line, IsEnding};
 ghost use Rattle.drive_answers.specs.declared.fault.DriveFault.TheVariants.{Untold};
 
 use crate::fault::DriveFault;
+use crate::sight::number_of;
 use line_words::Line;
 use plan_answers::Answer;
-use switch_driver::Driven;
-use switch_settings::ConfigureFault;
+use switch_driver::{Driven, SettingFault};
 
 /// These words and a number.
 fn numbered(words: &[u8], number: usize) -> Line
@@ -34,20 +34,29 @@ fn line_completed(settings: usize) -> Line
     line
 }
 
-/// The line where a setting couldn't be set.
-fn line_stopped(setting: usize, fault: ConfigureFault) -> Line
-    ensures { result ≡ stopped_line setting fault }
+/// The line where it stopped at a setting.
+fn line_stopped(setting: usize, why: &[u8]) -> Line
+    requires { length why.now ≤ 2 * NUMBER_ROOM }
+    ensures text { result ≡ stopped_line setting why.now }
 {
     let mut line = numbered(b"stopped setting ", setting);
+    line.put(b" ");
+    line.put(why);
+    line.put(b"\n");
+    line
+}
+
+/// The line where a setting couldn't be set.
+fn line_unset(setting: usize, fault: SettingFault) -> Line
+    ensures { result ≡ stopped_line setting (fault_words fault) }
+{
     match fault {
-        ConfigureFault::Port => line.put(b" port\n"),
-        ConfigureFault::SwitchDisagrees(output) => {
-            line.put(b" switch ");
-            line.put_number(output as u64);
-            line.put(b"\n");
+        SettingFault::Port => line_stopped(setting, b"port"),
+        SettingFault::Switch(found) => {
+            let words = numbered(b"switch ", number_of(&found));
+            line_stopped(setting, words.as_bytes())
         }
     }
-    line
 }
 
 /// The line where no setting was wanted behind this one.
@@ -83,9 +92,12 @@ pub(crate) fn ending(room: Vec<u8>, how: Driven) -> Result<Answer, DriveFault>
             Ok(Answer::done(filled(room, &line_completed(settings))))
         }
         Driven::Stopped { setting, fault } => {
-            Ok(Answer::failed(filled(room, &line_stopped(setting, fault))))
+            Ok(Answer::failed(filled(room, &line_unset(setting, fault))))
         }
         Driven::Left { setting } => Ok(Answer::failed(filled(room, &line_left(setting)))),
+        Driven::Unheard { setting } => {
+            Ok(Answer::failed(filled(room, &line_stopped(setting, b"input"))))
+        }
         Driven::Untold { .. } => Err(DriveFault::Untold),
     }
 }

@@ -2,21 +2,26 @@
 //! last line that is printed and its status.
 //!
 //! The ports of the switches, and whoever is told that a setting stands, are the caller's:
-//! [`Ports`] and [`Stage`](switch_driver::Stage). The settings were driven over the ports of these
-//! names, which were opened for them, once, and the last line says how that ended. Or it is a
+//! [`Ports`] and [`Stage`](switch_driver::Stage). The settings from the one that is named on were
+//! driven over the ports of these names, which were opened for them, once, and the last line says
+//! how that ended. Or it is a
 //! refusal: then no port was opened, and nothing was told (`IsDriveAnswer` of `specs/Answers.antt`;
 //! `HasFailed` where there is no answer).
 #![tactic(auto)]
 
+mod drive_end;
 mod driving;
 mod ending;
 mod fault;
 mod names;
 mod port_ways;
 mod ports;
+mod sight;
 
+pub use drive_end::DriveEnd;
 pub use driving::answer_drive;
 pub use fault::DriveFault;
 pub use names::PortNames;
 pub use port_ways::PortWays;
-pub use ports::Ports;
+pub use ports::{PortFailure, PortFile, Ports};
+pub use sight::Sight;

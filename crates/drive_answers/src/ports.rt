@@ -6,8 +6,30 @@ ghost use Rattle.drive_answers.specs.Ways.{Ways, IsPortRefused, given_back, name
 
 use crate::names::PortNames;
 use crossbar::ConfigPort;
-use refusals::Refusal;
+use refusals::{PortName, Refusal};
 use std::io;
+
+/// A file of a port.
+#[derive(Clone, Copy, Debug, PartialEq, Eq)]
+pub enum PortFile {
+    /// The one that has the port's name.
+    Port,
+    /// The pipe to the switch, `PORT.in`.
+    In,
+    /// The pipe from the switch, `PORT.out`.
+    Out,
+}
+
+/// Why a port couldn't be opened, or why it failed.
+#[derive(Debug, Drop)]
+pub struct PortFailure {
+    /// The port.
+    pub port: PortName,
+    /// The file of it that lacks, or that failed.
+    pub file: PortFile,
+    /// The reason. The kind of a file that ended is `UnexpectedEof`.
+    pub why: io::Error,
+}
 
 /// What opens the ports of the switches of a rack by their names, and takes them back.
 pub trait Ports {
@@ -27,8 +49,9 @@ pub trait Ports {
         ensures refused { IfErr result (λ refusal. refusal ≢ NoMemory →
             IsPortRefused (names_of names.entry) refusal) };
 
-    /// Why a port couldn't be opened, where one couldn't. It is told once.
-    fn take_failure(&mut self) -> Option<io::Error>
+    /// Why a port couldn't be opened, where one couldn't, or why it had failed as it was taken back.
+    /// It is told once.
+    fn take_failure(&mut self) -> Option<PortFailure>
         ensures { ways self.new ≡ ways self.old };
 
     /// Takes back ports that were opened.

@@ -90,7 +90,7 @@ IsAnswerTo (Switch batch source wiring workers) files given response =
     IsAlone response
     × IsOn (λ board. IsSwitched (source_in source (text_in files.other)) board
     (text_in files.list)) files.wiring response.end
-IsAnswerTo (Drive batch port port_b source wiring goes_on workers) files given response =
+IsAnswerTo (Drive batch port port_b source wiring first goes_on workers) files given response =
     (response.left ≡ None)
     × IsDriveBy (source_in source (text_in files.other)) (text_in files.list) files.wiring goes_on
     (names_in port port_b) given.input given.ports response.ports response.told response.end
@@ -120,7 +120,7 @@ IsAnswerTo (Replay shape recorded image) files given response =
 
 -- what was told before an answer where not all of it could be written
 abbrev pub IsToldCut : Job → Files (List ℕ) → Given → Ways → List ℕ → Type 0
-IsToldCut (Drive batch port port_b source wiring goes_on workers) files given ports told =
+IsToldCut (Drive batch port port_b source wiring first goes_on workers) files given ports told =
     IsDriveCut (source_in source (text_in files.other)) (text_in files.list) files.wiring goes_on
     (names_in port port_b) given.input given.ports ports told
 IsToldCut C004 files given ports told = IsC004Cut given.input told
@@ -135,13 +135,13 @@ IsToldInVain job files given told = told ≡ []
 
 -- only `drive` asks for ports, and only `host` has live clients
 abbrev pub LeavesRest : Job → Ways → Ways → List SessionEnd → Type 0
-LeavesRest (Drive batch port port_b source wiring goes_on workers) was opens ends = ends ≡ []
+LeavesRest (Drive batch port port_b source wiring first goes_on workers) was opens ends = ends ≡ []
 LeavesRest (Host rack clients workers) was opens ends = opens ≡ was
 LeavesRest job was opens ends = (opens ≡ was) × (ends ≡ [])
 
 -- the files of a job are all that it asks for
 abbrev pub IsOfTexts : Job → Type 0
-IsOfTexts (Drive batch port port_b source wiring goes_on workers) = ⊥
+IsOfTexts (Drive batch port port_b source wiring first goes_on workers) = ⊥
 IsOfTexts C004 = ⊥
 IsOfTexts (Serve rack scripts workers) = ⊥
 IsOfTexts (Host rack clients workers) = ⊥

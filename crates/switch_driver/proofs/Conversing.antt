@@ -16,7 +16,7 @@ use Rattle.switch_driver.specs.declared.stream.SwitchStream.{SwitchStream}
 
 -- ---- conversations one behind another
 
-conversed-append : (chip : Chip) (commands others : List Command) (replies more : List ℕ) → length replies ≡ enquiries commands → conversed chip (commands ++ others) (replies ++ more) ≡ conversed chip commands replies ++ conversed chip others more
+pub conversed-append : (chip : Chip) (commands others : List Command) (replies more : List ℕ) → length replies ≡ enquiries commands → conversed chip (commands ++ others) (replies ++ more) ≡ conversed chip commands replies ++ conversed chip others more
 conversed-append chip [] others [] more e = refl
 conversed-append chip [] others (reply ∷ replies) more e = absurd (omega (arith, e))
 conversed-append chip (command ∷ commands) others replies more e =

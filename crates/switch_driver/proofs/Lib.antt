@@ -3,3 +3,7 @@ pub mod Conversing
 pub mod Settings
 pub mod Telling
 pub mod Texts
+pub mod Asking
+pub mod Turning
+pub mod Waking
+pub mod Rising

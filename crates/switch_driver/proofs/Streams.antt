@@ -6,7 +6,7 @@ use Rattle.std.specs.Prelude.{OnErr}
 use Rattle.byte_streams.proofs.Carrying.{appends_then, appends_none, consumes_then, consumes_none}
 use Rattle.c004_commands.specs.Commands.{row}
 use Rattle.c004_commands.specs.declared.command.Command.{Command}
-use Rattle.crossbar.specs.Traffic.{sent_to}
+use Rattle.crossbar.specs.Traffic.{sent_to, heard_from}
 use Rattle.crossbar.specs.declared.chip.Chip.{Chip}
 use Rattle.crossbar.specs.declared.traffic.Passing.{Passing}
 use Rattle.switch_driver.specs.Streams.{where_sent, where_heard, bytes_sent, bytes_heard, StreamCarries, HasWritten, HasWrittenFront, HasAskedInVain}
@@ -26,6 +26,14 @@ sent_of_sent chip (byte ∷ bytes) = ap (λ (bs : List ℕ). byte ∷ bs) (sent_
 heard_of_sent : (chip : Chip) (bytes : List ℕ) → bytes_heard (sent_to chip bytes) ≡ []
 heard_of_sent chip [] = refl
 heard_of_sent chip (byte ∷ bytes) = heard_of_sent chip bytes
+
+pub sent_of_heard : (chip : Chip) (bytes : List ℕ) → bytes_sent (heard_from chip bytes) ≡ []
+sent_of_heard chip [] = refl
+sent_of_heard chip (byte ∷ bytes) = sent_of_heard chip bytes
+
+pub heard_of_heard : (chip : Chip) (bytes : List ℕ) → bytes_heard (heard_from chip bytes) ≡ bytes
+heard_of_heard chip [] = refl
+heard_of_heard chip (byte ∷ bytes) = ap (λ (bs : List ℕ). byte ∷ bs) (heard_of_heard chip bytes)
 
 bytes_sent-append : (xs ys : List Passing) → bytes_sent (xs ++ ys) ≡ bytes_sent xs ++ bytes_sent ys
 bytes_sent-append xs ys = flat_map-append (λ (p : Passing). where_sent p.direction p.byte) xs ys

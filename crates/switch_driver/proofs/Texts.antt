@@ -1,5 +1,5 @@
 -- What is told by lines, seen as the text that was told and what is left of the input.
-use Rattle.std.proofs.Common.{◌≡◌, ◌++◌, [], ℕ, zero, suc, Bool, List, Option, MutBor, refl, sym, ap, ◌∙◌, subst}
+use Rattle.std.proofs.Common.{◌≡◌, ◌+◌, ◌++◌, [], ℕ, zero, suc, Bool, List, Option, MutBor, refl, sym, ap, ◌∙◌, subst}
 use Rattle.std.specs.Prelude.{IsTrue}
 use Rattle.std.specs.Io.KnownBytes.{Appends}
 use Rattle.batch.specs.declared.transfer.Transfer.{Transfer}
@@ -10,7 +10,7 @@ use Rattle.switch_settings.specs.declared.rack_wiring.RackWiring.{RackWiring}
 use Rattle.switch_driver.specs.Driving.{HaveStood, IsDriven}
 use Rattle.switch_driver.specs.Lines.{stage_line, HasToldLine, TellsLine, Dialogue}
 use Rattle.switch_driver.specs.declared.driving.Driven.{Driven}
-use Rattle.switch_driver.specs.declared.driving.Driven.TheVariants.{Completed, Stopped, Left, Untold}
+use Rattle.switch_driver.specs.declared.driving.Driven.TheVariants.{Completed, Stopped, Left, Unheard, Untold}
 use Rattle.switch_driver.specs.declared.lines.Lines.{Lines}
 
 -- where nothing was told as yet
@@ -31,14 +31,14 @@ waits_so {a} {b} e w = subst (λ (x : Bool). IsTrue x) (sym e) w
 same_left : {I : Type 0} (remaining : I → Option (List ℕ)) (a b : MutBor I) → b ≡ a → remaining b.now ≡ remaining a.now
 same_left {I} remaining a b e = ap (λ (m : MutBor I). remaining m.now) e
 
-stood_lines : {I O : Type 0} (remaining : I → Option (List ℕ)) (contents : O → Option (List ℕ)) (rack : RackWiring) (batch : List Transfer) (settings : List (List ℕ)) (k : ℕ) (old : Option (List Passing)) (told : Lines I O) (new : Option (List Passing)) (tells : Lines I O)
-    → HaveStood (λ a n ns c b. HasToldLine remaining contents n ns c a b) rack batch settings k old told new tells → AsText remaining contents told tells (λ d. HaveStood (TellsLine told.waits) rack batch settings k old (untold remaining told) new d)
-stood_lines {I} {O} remaining contents rack batch settings zero old told new tells h =
+stood_lines : {I O : Type 0} (remaining : I → Option (List ℕ)) (contents : O → Option (List ℕ)) (rack : RackWiring) (batch : List Transfer) (settings : List (List ℕ)) (first k : ℕ) (old : Option (List Passing)) (told : Lines I O) (new : Option (List Passing)) (tells : Lines I O)
+    → HaveStood (λ a n ns c b. HasToldLine remaining contents n ns c a b) rack batch settings first k old told new tells → AsText remaining contents told tells (λ d. HaveStood (TellsLine told.waits) rack batch settings first k old (untold remaining told) new d)
+stood_lines {I} {O} remaining contents rack batch settings first zero old told new tells h =
     rw h.1 (record { text = []; appended = appends_none (contents told.out.now); loan = refl; waits = refl; is = (h.0, refl) })
-stood_lines {I} {O} remaining contents rack batch settings (suc k) old told new tells (mid, telling, before, stood, said) =
-    let so_far = stood_lines remaining contents rack batch settings k old told mid telling before in
+stood_lines {I} {O} remaining contents rack batch settings first (suc k) old told new tells (mid, telling, before, stood, said) =
+    let so_far = stood_lines remaining contents rack batch settings first k old told mid telling before in
     record {
-      text = so_far.text ++ stage_line k (numbers_in settings k);
+      text = so_far.text ++ stage_line (first + k) (numbers_in settings (first + k));
       appended = appends_then _ _ _ _ _ so_far.appended said.0;
       loan = said.1 ∙ so_far.loan;
       waits = said.4 ∙ so_far.waits;
@@ -52,22 +52,24 @@ stood_lines {I} {O} remaining contents rack batch settings (suc k) old told new 
     }
 
 -- what `drive` tells by lines
-pub driven_lines : {I O : Type 0} (remaining : I → Option (List ℕ)) (contents : O → Option (List ℕ)) (rack : RackWiring) (batch : List Transfer) (settings : List (List ℕ)) (how : Driven) (old : Option (List Passing)) (told : Lines I O) (new : Option (List Passing)) (tells : Lines I O)
-    → IsDriven (λ a n ns c b. HasToldLine remaining contents n ns c a b) rack batch settings how old told new tells → AsText remaining contents told tells (λ d. IsDriven (TellsLine told.waits) rack batch settings how old (untold remaining told) new d)
-driven_lines {I} {O} remaining contents rack batch settings (Completed count) old told new tells h =
-    let stood = stood_lines remaining contents rack batch settings count old told new tells h.1 in
-    record { text = stood.text; appended = stood.appended; loan = stood.loan; waits = stood.waits; is = (h.0, stood.is) }
-driven_lines {I} {O} remaining contents rack batch settings (Stopped k fault) old told new tells h =
-    let stood = stood_lines remaining contents rack batch settings k old told h.mid tells h.before in
-    record { text = stood.text; appended = stood.appended; loan = stood.loan; waits = stood.waits; is = record { within = h.within; mid = h.mid; before = stood.is; vain = h.vain } }
-driven_lines {I} {O} remaining contents rack batch settings (Left k) old told new tells h =
-    let before = stood_lines remaining contents rack batch settings k old told h.mid h.telling h.before in
+pub driven_lines : {I O : Type 0} (remaining : I → Option (List ℕ)) (contents : O → Option (List ℕ)) (rack : RackWiring) (batch : List Transfer) (settings : List (List ℕ)) (first : ℕ) (how : Driven) (old : Option (List Passing)) (told : Lines I O) (new : Option (List Passing)) (tells : Lines I O)
+    → IsDriven (λ a n ns c b. HasToldLine remaining contents n ns c a b) rack batch settings first how old told new tells → AsText remaining contents told tells (λ d. IsDriven (TellsLine told.waits) rack batch settings first how old (untold remaining told) new d)
+driven_lines {I} {O} remaining contents rack batch settings first (Completed all) old told new tells h =
+    let stood = stood_lines remaining contents rack batch settings first h.1.0 old told new tells h.1.2 in
+    record { text = stood.text; appended = stood.appended; loan = stood.loan; waits = stood.waits; is = (h.0, (h.1.0, h.1.1, stood.is)) }
+driven_lines {I} {O} remaining contents rack batch settings first (Stopped k fault) old told new tells h =
+    let stood = stood_lines remaining contents rack batch settings first h.count old told h.mid tells h.before in
+    record { text = stood.text; appended = stood.appended; loan = stood.loan; waits = stood.waits; is = record { count = h.count; at = h.at; within = h.within; mid = h.mid; before = stood.is; vain = h.vain } }
+driven_lines {I} {O} remaining contents rack batch settings first (Left k) old told new tells h =
+    let before = stood_lines remaining contents rack batch settings first h.count old told h.mid h.telling h.before in
     record {
       text = before.text ++ stage_line k (numbers_in settings k);
       appended = appends_then _ _ _ _ _ before.appended h.said.0;
       loan = h.said.1 ∙ before.loan;
       waits = h.said.4 ∙ before.waits;
       is = record {
+        count = h.count;
+        at = h.at;
         within = h.within;
         mid = h.mid;
         telling = record { told = before.text; left = remaining h.telling.input.now };
@@ -76,8 +78,26 @@ driven_lines {I} {O} remaining contents rack batch settings (Left k) old told ne
         said = (refl, waits_so (sym before.waits) h.said.2, h.said.3);
       };
     }
-driven_lines {I} {O} remaining contents rack batch settings (Untold k) old told new tells h =
-    let before = stood_lines remaining contents rack batch settings k old told h.mid h.telling h.before in
+driven_lines {I} {O} remaining contents rack batch settings first (Unheard k) old told new tells h =
+    let before = stood_lines remaining contents rack batch settings first h.count old told h.mid h.telling h.before in
+    record {
+      text = before.text ++ stage_line k (numbers_in settings k);
+      appended = appends_then _ _ _ _ _ before.appended h.said.0;
+      loan = h.said.1 ∙ before.loan;
+      waits = h.said.4 ∙ before.waits;
+      is = record {
+        count = h.count;
+        at = h.at;
+        within = h.within;
+        mid = h.mid;
+        telling = record { told = before.text; left = remaining h.telling.input.now };
+        before = before.is;
+        stood = h.stood;
+        said = (refl, waits_so (sym before.waits) h.said.2, h.said.3);
+      };
+    }
+driven_lines {I} {O} remaining contents rack batch settings first (Untold k) old told new tells h =
+    let before = stood_lines remaining contents rack batch settings first h.count old told h.mid h.telling h.before in
     let cut = h.said.0 in
     record {
       text = before.text ++ cut.front;
@@ -85,6 +105,8 @@ driven_lines {I} {O} remaining contents rack batch settings (Untold k) old told 
       loan = h.said.1 ∙ before.loan;
       waits = h.said.3 ∙ before.waits;
       is = record {
+        count = h.count;
+        at = h.at;
         within = h.within;
         mid = h.mid;
         telling = record { told = before.text; left = remaining h.telling.input.now };

@@ -1,34 +1,82 @@
 -- What the laws state. No contract of a call cites them.
-use Rattle.std.specs.Prelude.{◌≡◌, ◌<◌, ◌≤◌, ◌+◌, ℕ, List, length}
+use Rattle.std.specs.Prelude.{◌≡◌, ◌<◌, ◌≤◌, ◌+◌, ◌-◌, ◌*◌, ℕ, zero, suc, List, [], ◌∷◌, ◌++◌, length, drop, slice_index, Option, Some, IsTrue}
 use Rattle.std.specs.FinMap as map
 use Rattle.batch.specs.Batches.{IsBatch}
 use Rattle.batch.specs.declared.transfer.Transfer.{Transfer}
+use Rattle.c004_commands.specs.Commands.{IsCommandFront, Spells, text}
+use Rattle.c004_commands.specs.declared.command.Command.{Command}
+use Rattle.c004_commands.specs.declared.command.Command.TheVariants.{Settle}
 use Rattle.c004_commands.specs.declared.port.TheConstants.{PORTS}
 use Rattle.crossbar.specs.Pairs.{room_of, switch_of}
-use Rattle.crossbar.specs.Switch.{Switch, after_all, answers}
+use Rattle.crossbar.specs.Switch.{Switch, after_all, answers, enquiries}
 use Rattle.crossbar.specs.declared.chip.Wiring.{Wiring}
 use Rattle.crossbar.specs.declared.pair.Pair.{Pair}
 use Rattle.link_graph.specs.Schedules.{IsScheduleOf}
 use Rattle.switch_settings.specs.Answers.{AllAgree}
 use Rattle.switch_settings.specs.Pairs.{all_enquiries}
 use Rattle.switch_settings.specs.Racks.{HasModulesOf}
-use Rattle.switch_settings.specs.Schedules.{sent_and_asked_first}
+use Rattle.switch_settings.specs.Sending.{pairs_at, turning}
 use Rattle.switch_settings.specs.Settings.{numbers_in, setting_pairs}
+use Rattle.switch_driver.specs.Driving.{standing_behind}
+use Rattle.switch_driver.specs.Waking.{answers_behind, ending, own_answer, own_joins}
 
--- a switch whose answers agree with pairs feeds each output as these call for
+-- ---- what replies tell
+
+-- a switch joins what another does: it is ready, and each output has the same input, or none
+pub record JoinsAs (switch other : Switch) : Type 0 where
+  pub ready : IsTrue switch.ready
+  pub feeds :
+      (output : ℕ) → output < PORTS
+      → map.get switch.sources output ≡ map.get other.sources output
+
+-- A switch whose answers agree with pairs joins just what these call for, once it was sent the end
+-- of the sequence behind its answers.
 abbrev pub RepliesTell : Type 0
 RepliesTell =
     (wiring : Wiring) (pairs : List Pair) (switch : Switch) (replies : List ℕ)
     → replies ≡ answers all_enquiries switch → AllAgree (switch_of wiring pairs) replies
-    → (output : ℕ) → output < PORTS
-    → map.get switch.sources output ≡ map.get (switch_of wiring pairs).sources output
+    → JoinsAs (after_all (all_enquiries ++ Settle ∷ []) switch) (switch_of wiring pairs)
 
--- Behind what a switch is sent and asked up to a setting of a schedule, it joins just what the
--- setting's transfers want joined, whatever it was before.
+-- ---- where a switch is led
+
+-- a switch was sent these commands for a setting: none, where its pairs stood already
+pub data IsSentFor (wiring : Wiring) (standing : Option (List Pair)) (pairs : List Pair)
+    (commands : List Command) : Type 0 where
+  kept : standing ≡ Some pairs → commands ≡ [] → IsSentFor wiring standing pairs commands
+  changed : (standing ≡ Some pairs → ⊥)
+      → commands ≡ turning wiring standing pairs ++ (all_enquiries ++ Settle ∷ [])
+      → IsSentFor wiring standing pairs commands
+
+-- it was sent these for so many settings, from the first one on
+abbrev pub AreSentFor : Wiring → List Transfer → List (List ℕ) → ℕ → ℕ → List Command → Type 0
+AreSentFor wiring batch settings first zero commands = commands ≡ []
+AreSentFor wiring batch settings first (suc n) commands =
+    (before last : List Command) × AreSentFor wiring batch settings first n before
+    × IsSentFor wiring (standing_behind batch settings first n) (pairs_at batch settings (first + n))
+    last
+    × (commands ≡ before ++ last)
+
+-- Behind what a switch is sent while settings are driven, from whichever on, it joins just what the
+-- transfers of the last one want joined, whatever it was before.
 abbrev pub DrivenTurns : Type 0
 DrivenTurns =
     (batch : List Transfer) (settings : List (List ℕ)) (modules : ℕ) (wiring : Wiring)
-    (switch : Switch) (k : ℕ) → IsBatch batch → IsScheduleOf batch settings
-    → HasModulesOf modules batch → modules ≤ room_of wiring → k < length settings
-    → after_all (sent_and_asked_first wiring batch settings (k + 1)) switch
-    ≡ switch_of wiring (setting_pairs batch (numbers_in settings k))
+    (switch : Switch) (first n : ℕ) (commands : List Command) → IsBatch batch
+    → IsScheduleOf batch settings → HasModulesOf modules batch → modules ≤ room_of wiring
+    → first + n < length settings → AreSentFor wiring batch settings first (n + 1) commands
+    → after_all commands switch ≡ switch_of wiring (setting_pairs batch (numbers_in settings (first + n)))
+
+-- ---- how a switch comes up
+
+-- A switch stands in a command, and answers stand in its line, fewer than it has outputs, with the
+-- one that the first bytes may draw from it. Of what comes then, the byte that is read behind the
+-- last enquiry is what some output answers, and behind it just the answers of the outputs behind
+-- come. The switch stands in no command any more.
+abbrev pub ComesUp : Type 0
+ComesUp =
+    (begun line : List ℕ) (commands : List Command) (switch : Switch) → IsCommandFront begun
+    → Spells (begun ++ text (ending ++ (own_joins ++ all_enquiries))) commands []
+    → length line + enquiries commands < 2 * PORTS
+    → let came = line ++ answers commands switch in
+    (output : ℕ) × (output < PORTS) × (slice_index came (PORTS - 1) ≡ own_answer output)
+    × (drop PORTS came ≡ answers_behind output)

@@ -3,11 +3,11 @@
 use Rattle.std.specs.Prelude.{◌≡◌, ◌≢◌, ℕ, Bool, true, false, IsTrue, List, [], ◌∷◌, ◌++◌, codes, All, Option}
 use Rattle.std.specs.Fmt.{decimal}
 use Rattle.std.specs.List.{flat_map}
-use Rattle.std.specs.Io.KnownBytes.{Appends, Consumes}
+use Rattle.std.specs.Io.KnownBytes.{Appends, Consumes, IsAtEnd}
 use Rattle.byte_streams.specs.Writing.{IsCutShort}
 use Rattle.switch_driver.specs.declared.lines.Lines.{Lines}
 use Rattle.switch_driver.specs.declared.stage.Cue.{Cue}
-use Rattle.switch_driver.specs.declared.stage.Cue.TheVariants.{GoOn, Leave, Untold}
+use Rattle.switch_driver.specs.declared.stage.Cue.TheVariants.{GoOn, Leave, Unheard, Untold}
 
 -- a transfer's number behind a space
 abbrev pub number_word : ℕ → List ℕ
@@ -18,17 +18,24 @@ abbrev pub stage_line : ℕ → List ℕ → List ℕ
 stage_line setting numbers =
     codes "setting " ++ decimal setting ++ flat_map number_word numbers ++ codes "\n"
 
--- Bytes were read: where it went well, one line with its line feed, and nothing behind it; else no
--- whole line.
+-- Bytes were read: where it went well, one line with its line feed, and nothing behind it; else all
+-- that was left, in which no line ends.
 pub record HasWaited (input_before input_after : Option (List ℕ)) (well : Bool) : Type 0 where
   pub came : List ℕ
   pub read : Consumes input_before input_after came
   pub ends :
       IsTrue well → (front : List ℕ) × All (λ b. b ≢ 10) front × (came ≡ front ++ 10 ∷ [])
-  pub none : well ≡ false → All (λ b. b ≢ 10) came
+  pub none : well ≡ false → All (λ b. b ≢ 10) came × IsAtEnd input_after
 
--- The line of a setting was told, and where one was waited for, a line was read or none came any
--- more; or not all of the line could be told, and nothing was read. It is told over the same loan.
+-- bytes were read in which no line ends, and no more could be read
+pub record HasWaitedInVain (input_before input_after : Option (List ℕ)) : Type 0 where
+  pub came : List ℕ
+  pub read : Consumes input_before input_after came
+  pub none : All (λ b. b ≢ 10) came
+
+-- The line of a setting was told, and where one was waited for, a line was read, or the input
+-- ended, or couldn't be read; or not all of the line could be told, and nothing was read. It is told
+-- over the same loan.
 abbrev pub HasToldLine : {I O : Type 0} → (I → Option (List ℕ)) → (O → Option (List ℕ)) → ℕ → List ℕ
     → Cue → Lines I O → Lines I O → Type 0
 HasToldLine {I} {O} remaining contents setting numbers GoOn old new =
@@ -43,6 +50,12 @@ HasToldLine {I} {O} remaining contents setting numbers Leave old new =
     × IsTrue old.waits
     × HasWaited (remaining old.input.now) (remaining new.input.now) false
     × (new.waits ≡ old.waits)
+HasToldLine {I} {O} remaining contents setting numbers Unheard old new =
+    Appends (contents old.out.now) (contents new.out.now) (stage_line setting numbers)
+    × (new.out.ghost_name ≡ old.out.ghost_name)
+    × IsTrue old.waits
+    × HasWaitedInVain (remaining old.input.now) (remaining new.input.now)
+    × (new.waits ≡ old.waits)
 HasToldLine {I} {O} remaining contents setting numbers Untold old new =
     IsCutShort (contents old.out.now) (contents new.out.now) (stage_line setting numbers)
     × (new.out.ghost_name ≡ old.out.ghost_name)
@@ -55,8 +68,8 @@ pub record Dialogue : Type 0 where
   pub left : Option (List ℕ)
 
 -- What becomes of that where the line of a setting is told: it stands behind the others, and where
--- one is waited for, a line was read, or none came any more; or, where it couldn't be told, a front
--- of it stands there, and nothing was read.
+-- one is waited for, a line was read, or the input ended, or couldn't be read; or, where it couldn't
+-- be told, a front of it stands there, and nothing was read.
 abbrev pub TellsLine : Bool → Dialogue → ℕ → List ℕ → Cue → Dialogue → Type 0
 TellsLine waits old setting numbers GoOn new =
     (new.told ≡ old.told ++ stage_line setting numbers)
@@ -66,6 +79,10 @@ TellsLine waits old setting numbers Leave new =
     (new.told ≡ old.told ++ stage_line setting numbers)
     × IsTrue waits
     × HasWaited old.left new.left false
+TellsLine waits old setting numbers Unheard new =
+    (new.told ≡ old.told ++ stage_line setting numbers)
+    × IsTrue waits
+    × HasWaitedInVain old.left new.left
 TellsLine waits old setting numbers Untold new =
     (front missing : List ℕ) × (stage_line setting numbers ≡ front ++ missing)
     × (new.told ≡ old.told ++ front)

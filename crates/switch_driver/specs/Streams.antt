@@ -1,5 +1,5 @@
 -- What passes over the stream to a switch, where its bytes are known.
-use Rattle.std.specs.Prelude.{◌≡◌, ℕ, List, [], ◌∷◌, ◌++◌, length, Option, Some, None}
+use Rattle.std.specs.Prelude.{◌≡◌, ℕ, List, [], ◌∷◌, ◌++◌, length, Option}
 use Rattle.std.specs.List.{flat_map}
 use Rattle.std.specs.Io.KnownBytes.{Appends, Consumes}
 use Rattle.c004_commands.specs.Commands.{row}
@@ -7,11 +7,9 @@ use Rattle.c004_commands.specs.declared.command.Command.{Command}
 use Rattle.crossbar.specs.Switch.{enquiries}
 use Rattle.crossbar.specs.Traffic.{sent_to, heard_from}
 use Rattle.crossbar.specs.declared.chip.Chip.{Chip}
-use Rattle.crossbar.specs.declared.chip.Chip.TheVariants.{A, B}
 use Rattle.crossbar.specs.declared.traffic.Direction.{Direction}
 use Rattle.crossbar.specs.declared.traffic.Direction.TheVariants.{Sent, Heard}
 use Rattle.crossbar.specs.declared.traffic.Passing.{Passing}
-use Rattle.switch_driver.specs.declared.port.StreamPort.{StreamPort}
 use Rattle.switch_driver.specs.declared.stream.SwitchStream.{SwitchStream}
 
 -- a byte, where it went to the switch
@@ -46,24 +44,6 @@ abbrev pub HasPassed : {I O : Type 0} → (O → Option (List ℕ)) → (I → O
     → SwitchStream I O → SwitchStream I O → List Passing → List Passing → Type 0
 HasPassed contents remaining old new before after =
     (more : List Passing) × StreamCarries contents remaining old new before after more
-
--- the same of the second stream, where there is one; else nothing passed
-abbrev pub HasPassedSecond : {I O : Type 0} → (O → Option (List ℕ)) → (I → Option (List ℕ))
-    → Option (SwitchStream I O) → Option (SwitchStream I O) → List Passing → List Passing → Type 0
-HasPassedSecond contents remaining (Some old) (Some new) before after =
-    HasPassed contents remaining old new before after
-HasPassedSecond contents remaining None None before after = after ≡ before
-HasPassedSecond contents remaining (Some old) None before after = ⊥
-HasPassedSecond contents remaining None (Some new) before after = ⊥
-
--- what a conversation with a chip leaves of the streams: something passed over that of the chip,
--- and the other is as it was
-abbrev pub HasTried : {I O : Type 0} → (O → Option (List ℕ)) → (I → Option (List ℕ)) → Chip
-    → StreamPort I O → StreamPort I O → Type 0
-HasTried contents remaining A old new =
-    HasPassed contents remaining old.a new.a old.traffic new.traffic × (new.b ≡ old.b)
-HasTried contents remaining B old new =
-    HasPassedSecond contents remaining old.b new.b old.traffic new.traffic × (new.a ≡ old.a)
 
 -- ---- a command
 

@@ -1,43 +1,39 @@
 //! The settings of a schedule, put on the switches one after another.
 
-ghost use Rattle.std.specs.Prelude.{◌≤◌, IsSome};
+ghost use Rattle.std.specs.Prelude.{◌≤◌, IsSome, length};
 ghost use Rattle.c004_commands.specs.declared.port.TheConstants.{PORTS};
 ghost use Rattle.link_graph.specs.Schedules.{IsScheduleOf};
 ghost use Rattle.switch_settings.specs.RackWirings.{wired_in};
 ghost use Rattle.switch_settings.specs.Racks.{HasModulesOf};
 ghost use Rattle.switch_driver.specs.Driving.{IsDriven, HasDriveCause};
 
+use crate::fault::SettingFault;
+use crate::setting::set_rack;
 use crate::stage::{Cue, Stage};
 use batch::Batch;
 use crossbar::ConfigPort;
 use link_graph::Schedule;
-use switch_settings::{ConfigureFault, PairList, RackWiring, configure_rack, numbers_of_setting};
+use switch_settings::{PairList, RackWiring, numbers_of_setting};
 
 /// How the settings of a schedule were put on the switches. Settings are counted from 0.
 #[derive(Clone, Copy, Debug, PartialEq, Eq)]
 pub enum Driven {
     /// All settings stood, one after another.
-    Completed {
-        settings: usize,
-    },
+    Completed { settings: usize },
     /// The switches couldn't be set to this setting.
-    Stopped {
-        setting: usize,
-        fault: ConfigureFault,
-    },
+    Stopped { setting: usize, fault: SettingFault },
     /// This setting stands, and no other is wanted.
-    Left {
-        setting: usize,
-    },
+    Left { setting: usize },
+    /// This setting stands, and it couldn't be heard whether another is wanted.
+    Unheard { setting: usize },
     /// This setting stands, and couldn't be told.
-    Untold {
-        setting: usize,
-    },
+    Untold { setting: usize },
 }
 
-/// Puts the settings of a schedule on the switches of a rack that is wired so, one after another:
-/// each is sent, all outputs are asked, and where they reply as the setting calls for, the stage is
-/// told that it stands.
+/// Puts the settings of a schedule on the switches of a rack that is wired so, one after another,
+/// from the first one on that is named, which is set whatever the switches are. Each is sent, all
+/// outputs are asked, and where they reply as the setting calls for, the stage is told that it
+/// stands. Where a setting joins the pairs that stand already, nothing is sent, and nothing asked.
 ///
 /// The modules that the batch names have to be wired, at most 32, and the port has to tell what
 /// passes. The switches are left as they stand.
@@ -46,30 +42,33 @@ pub fn drive<P: ConfigPort, S: Stage>(
     rack: RackWiring,
     batch: &Batch,
     schedule: &Schedule,
+    first: usize,
     stage: &mut S,
 ) -> Driven
     requires few { wired_in rack ≤ PORTS }
     requires modules { HasModulesOf (wired_in rack) batch.now }
     requires schedule { IsScheduleOf batch.now schedule.now }
+    requires first { first ≤ length schedule.now }
     requires tells { IsSome (P.passed port.old) }
-    ensures driven { IsDriven S.hears rack batch.now schedule.now result
+    ensures driven { IsDriven S.hears rack batch.now schedule.now first result
         (P.passed port.old) stage.old (P.passed port.new) stage.new }
-    ensures cause { HasDriveCause P.ConfigPort rack batch.now schedule.now result
+    ensures cause { HasDriveCause P.ConfigPort rack batch.now schedule.now first result
         port.old port.new }
 {
     // Asked for its contract alone: the batch is one.
     let _batch = batch.as_slice();
     let settings = schedule.settings();
     let mut standing = None;
-    for setting in 0..settings {
+    for setting in first..settings {
         let numbers = numbers_of_setting(batch, schedule, setting);
         let pairs = PairList::of_setting(batch, numbers);
-        if let Err(fault) = configure_rack(port, rack, &standing, pairs.as_slice()) {
+        if let Err(fault) = set_rack(port, rack, &standing, pairs.as_slice()) {
             return Driven::Stopped { setting, fault };
         }
         match stage.stands(setting, numbers) {
             Cue::GoOn => {}
             Cue::Leave => return Driven::Left { setting },
+            Cue::Unheard => return Driven::Unheard { setting },
             Cue::Untold => return Driven::Untold { setting },
         }
         standing = Some(pairs);

@@ -1,16 +1,24 @@
-//! Laws of what replies mean, and of where a switch is led. They make no call.
+//! Laws of what replies mean, of where a switch is led, and of how it comes up. They make no call.
 
-ghost use Rattle.switch_driver.specs.Laws.{RepliesTell, DrivenTurns};
+ghost use Rattle.switch_driver.specs.Laws.{ComesUp, DrivenTurns, RepliesTell};
 
 /// A switch that answers the enquiries of all outputs by the INMOS IMS C004 data sheet, and as
-/// pairs call for, has at each output the input that the pairs call for, or none; whatever it was
-/// sent before. Whether it is ready isn't said.
+/// pairs call for, joins just what the pairs call for, once it was sent the end of the sequence
+/// behind its answers; whatever it was sent before. The line has to be sound meanwhile: no answer
+/// says whether that last byte came.
 pub fn replies_tell()
     ensures { RepliesTell }
 {}
 
-/// What a switch is sent while the first settings of a schedule are driven, with the enquiries
-/// between, turns it into that of the last of these settings, whatever it was.
+/// What a switch is sent and asked while settings of a schedule are driven, from whichever on,
+/// turns it into that of the last of these settings, whatever it was.
 pub fn driven_turns()
     ensures { DrivenTurns }
+{}
+
+/// Whatever command a switch stands in, and whichever answers stand in its line, at most 31: of
+/// what comes as it comes up, just what is read is all. So what it answers behind is what comes
+/// behind.
+pub fn comes_up()
+    ensures { ComesUp }
 {}

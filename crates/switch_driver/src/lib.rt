@@ -2,28 +2,37 @@
 //! told, and stands until the next one may come.
 //!
 //! [`drive`] wants a port that tells what passes. It tells a setting only behind traffic in which
-//! its bytes went whole and each output replied as it calls for. The next one's bytes go only
-//! behind that (`IsDriven` of `specs/Driving.antt`). A setting that couldn't be set is named with
-//! its cause, and isn't told (`HasDriveCause`). What a [`StreamPort`] noted as sent was written to
-//! the stream of that switch, and what it noted as heard was read from it (`HasTried` of
-//! `specs/Streams.antt`). Where [`Lines`] wait, the next setting comes only behind one line that
-//! was read (`HasToldLine` of `specs/Lines.antt`).
+//! its bytes went whole, each output replied as it calls for, and the end of the sequence was sent
+//! again; each reply is judged before the next output is asked. A setting of the pairs that stand
+//! already is told without any. The next one's bytes go only behind that (`IsDriven` of
+//! `specs/Driving.antt`; `Stands` of `specs/Steps.antt`). A setting that couldn't be set is named
+//! with its cause, and isn't told (`HasDriveCause`). Where [`Lines`] wait, the next setting comes
+//! only behind one line that was read (`HasToldLine` of `specs/Lines.antt`).
 //!
-//! A switch that answers all enquiries by its data sheet, and as pairs call for, has at each output
-//! the input that they call for, whatever it was sent before (`laws::replies_tell`). No answer says
-//! whether it is ready. What is sent and asked up to a setting leads any switch to it, ready
+//! What a [`StreamPort`] noted as sent was written to the stream of that switch, and what it noted
+//! as heard was read from it (`HasTried` of `specs/Ports.antt`). Before that each switch comes up,
+//! once (`CameUp` of `specs/Waking.antt`). Whatever command it stands in, and whichever answers
+//! stand in its line, at most 31: just what is read then is all that comes (`laws::comes_up`).
+//!
+//! A switch that answers all enquiries by its data sheet, and as pairs call for, joins just what
+//! they call for, once the end of the sequence came, whatever it was sent before
+//! (`laws::replies_tell`). What is sent and asked up to a setting leads any switch to it, ready
 //! (`laws::driven_turns`).
 #![tactic(auto)]
 
+mod coming_up;
 mod driving;
+mod fault;
 pub mod laws;
 mod lines;
 mod port;
+mod setting;
 mod stage;
 mod stream;
 
 pub use driving::{Driven, drive};
+pub use fault::{Disagreement, SettingFault};
 pub use lines::Lines;
 pub use port::StreamPort;
 pub use stage::{Cue, Stage};
-pub use stream::SwitchStream;
+pub use stream::{StreamFault, SwitchStream};

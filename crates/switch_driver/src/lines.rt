@@ -1,21 +1,23 @@
 //! The stage that tells lines.
 
-ghost use Rattle.std.specs.Prelude.{◌≡◌, ◌≤◌, length};
+ghost use Rattle.std.specs.Prelude.{◌≡◌, ◌≤◌, length, IfOk, OnErr};
 ghost use Rattle.batch.specs.declared.limits.TheConstants.{MAX_MODULES};
-ghost use Rattle.switch_driver.specs.Lines.{stage_line, HasWaited};
+ghost use Rattle.switch_driver.specs.Lines.{stage_line, HasWaited, HasWaitedInVain};
 
 use crate::stage::{Cue, Stage};
 use byte_streams::{read_byte, write_bytes};
 use line_words::Line;
-use std::io::{Read, Write};
+use std::io;
+use std::io::{ErrorKind, Read, Write};
 
 /// A stage that tells each setting that stands by a line `setting K T T ..`, flushed, and then
-/// waits for a line, if it is to. Where no line comes any more, no setting is wanted any more.
+/// waits for a line, if it is to. Where the input has ended, no setting is wanted any more.
 #[derive(Drop)]
 pub struct Lines<'a, I, O> {
     input: &'a mut I,
     out: &'a mut O,
     waits: bool,
+    unread: Option<io::Error>,
 }
 
 impl<'a, I, O> Lines<'a, I, O> {
@@ -26,15 +28,21 @@ impl<'a, I, O> Lines<'a, I, O> {
         ensures out { (result.out.ghost_name ≡ out.entry.ghost_name) × (result.out.now ≡ out.old) }
         ensures waits { result.waits ≡ waits }
     {
-        Lines { input, out, waits }
+        Lines {
+            input,
+            out,
+            waits,
+            unread: None,
+        }
     }
 
-    /// Gives the stream back on which settings were told.
-    pub fn into_out(self) -> &'a mut O
-        ensures { (result.ghost_name ≡ self.entry.out.ghost_name)
-            × (result.now ≡ self.entry.out.now) }
+    /// Gives the stream back on which settings were told, and why no line could be read, where one
+    /// couldn't.
+    pub fn into_out(self) -> (&'a mut O, Option<io::Error>)
+        ensures { (result.0.ghost_name ≡ self.entry.out.ghost_name)
+            × (result.0.now ≡ self.entry.out.now) }
     {
-        self.out
+        (self.out, self.unread)
     }
 }
 
@@ -54,19 +62,22 @@ fn line_of(setting: usize, numbers: &[usize]) -> Line
     line
 }
 
-/// Reads a line, and nothing behind it. Says whether it came: not where the input ends before a
-/// line feed, or a read fails.
-fn wait_line<I: Read>(reader: &mut I) -> bool
-    ensures { HasWaited (I.remaining reader.old) (I.remaining reader.new) result }
+/// Reads a line, and nothing behind it. Says whether one came: none where the input ends before a
+/// line feed.
+fn wait_line<I: Read>(reader: &mut I) -> io::Result<bool>
+    ensures waited { IfOk result
+        (HasWaited (I.remaining reader.old) (I.remaining reader.new)) }
+    ensures vain { OnErr result
+        (HasWaitedInVain (I.remaining reader.old) (I.remaining reader.new)) }
 {
     for _ in 0..u64::MAX {
-        match read_byte(reader) {
-            Ok(Some(b'\n')) => return true,
-            Ok(Some(_)) => {}
-            _ => return false,
+        match read_byte(reader)? {
+            Some(b'\n') => return Ok(true),
+            Some(_) => {}
+            None => return Ok(false),
         }
     }
-    false
+    Err(io::Error::from(ErrorKind::TimedOut))
 }
 
 impl<I: Read, O: Write> Stage for Lines<'_, I, O> {
@@ -80,10 +91,16 @@ impl<I: Read, O: Write> Stage for Lines<'_, I, O> {
         if write_bytes(self.out, line.as_bytes()).is_err() {
             return Cue::Untold;
         }
-        if !self.waits || wait_line(self.input) {
-            Cue::GoOn
-        } else {
-            Cue::Leave
+        if !self.waits {
+            return Cue::GoOn;
+        }
+        match wait_line(self.input) {
+            Ok(true) => Cue::GoOn,
+            Ok(false) => Cue::Leave,
+            Err(why) => {
+                self.unread = Some(why);
+                Cue::Unheard
+            }
         }
     }
 }

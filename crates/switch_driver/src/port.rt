@@ -1,37 +1,120 @@
 //! The port over streams.
 
-ghost use Rattle.std.specs.Prelude.{◌≡◌, ◌+◌, [], Some, length, IsTrue, OnOk, OnErr};
+ghost use Rattle.std.specs.Prelude.{◌≡◌, ◌+◌, Some, length, IsTrue, false, OnOk, OnErr};
 ghost use Rattle.crossbar.specs.Port.{IsConversation};
 ghost use Rattle.crossbar.specs.Traffic.{HaveConversed, BreaksOff};
-ghost use Rattle.switch_driver.specs.Streams.{HasTried};
+ghost use Rattle.switch_driver.specs.Ports.{HasComeUp, HasTried, LineCarries, WokeUp, fresh_port};
+ghost use Rattle.switch_driver.specs.Streams.{HasPassed};
 
-use crate::stream::{SwitchStream, converse};
+use crate::coming_up::come_up;
+use crate::stream::{StreamFault, SwitchStream, converse};
 use contract_data::FailureCount;
 use crossbar::{Chip, ConfigPort, PortFault, Traffic};
-use std::io::{Read, Write};
+use std::io;
+use std::io::{ErrorKind, Read, Write};
+
+/// The line to a switch: its stream, and whether the switch has come up.
+#[derive(Drop)]
+struct SwitchLine<I, O> {
+    stream: SwitchStream<I, O>,
+    is_up: bool,
+}
+
+impl<I, O> SwitchLine<I, O> {
+    /// That of a switch that hasn't come up.
+    fn new(stream: SwitchStream<I, O>) -> SwitchLine<I, O>
+        ensures { result ≡ record { stream = stream; is_up = false } }
+    {
+        SwitchLine {
+            stream,
+            is_up: false,
+        }
+    }
+}
+
+impl<I: Read, O: Write> SwitchLine<I, O> {
+    /// Brings the switch up, unless it has come up. What passes is noted.
+    fn rise(&mut self, chip: Chip, woke: &mut Traffic) -> Result<(), StreamFault>
+        ensures passed { HasPassed O.contents I.remaining self.old.stream self.new.stream
+            woke.old woke.new }
+        ensures once { IsTrue self.old.is_up →
+            (self.new.stream ≡ self.old.stream) × (woke.new ≡ woke.old) }
+        ensures up { OnOk result (WokeUp chip self.old.is_up woke.old woke.new) }
+        ensures is_up { OnOk result (IsTrue self.new.is_up) }
+    {
+        if self.is_up {
+            return Ok(());
+        }
+        come_up(chip, &mut self.stream, woke)?;
+        self.is_up = true;
+        Ok(())
+    }
+
+    /// Brings the switch up, unless it has come up, and then sends the commands and hears the
+    /// replies.
+    fn converse(
+        &mut self,
+        chip: Chip,
+        bytes: &[u8],
+        replies: &mut [u8],
+        woke: &mut Traffic,
+        traffic: &mut Traffic,
+    ) -> Result<(), StreamFault>
+        requires { IsConversation bytes.now (length replies.old) }
+        ensures carried { LineCarries O.contents I.remaining self.old self.new woke.old woke.new
+            traffic.old traffic.new }
+        ensures up { OnOk result (WokeUp chip self.old.is_up woke.old woke.new) }
+        ensures is_up { OnOk result (IsTrue self.new.is_up) }
+        ensures whole { OnOk result
+            (HaveConversed chip bytes.now replies.new (Some traffic.old) (Some traffic.new)) }
+        ensures broken { OnErr result
+            (BreaksOff chip bytes.now (Some traffic.old) (Some traffic.new)) }
+    {
+        self.rise(chip, woke)?;
+        converse(chip, bytes, replies, &mut self.stream, traffic)
+    }
+}
 
 /// A port to the switches of a rack over streams of bytes: one for the one switch, and a second
 /// where there are two. What is sent to a switch that has no stream fails. Nobody knows what is at
 /// the other ends, so it isn't honest: what was replied has to be looked at.
+///
+/// Before it is first sent anything else, each switch comes up: whatever command it stands in is
+/// ended, and answers that stand in the line are read. That isn't counted as what has passed.
 #[derive(Drop)]
 pub struct StreamPort<I, O> {
-    a: SwitchStream<I, O>,
-    b: Option<SwitchStream<I, O>>,
+    a: SwitchLine<I, O>,
+    b: Option<SwitchLine<I, O>>,
+    woke: Traffic,
     traffic: Traffic,
     failed: FailureCount,
+    lost: Option<StreamFault>,
 }
 
 impl<I, O> StreamPort<I, O> {
     /// A port over streams, over which nothing has passed as yet.
     pub fn new(a: SwitchStream<I, O>, b: Option<SwitchStream<I, O>>) -> StreamPort<I, O>
-        ensures { result ≡ record { a = a; b = b; traffic = []; failed = 0 } }
+        ensures { result ≡ fresh_port a b }
     {
+        let b = match b {
+            Some(stream) => Some(SwitchLine::new(stream)),
+            None => None,
+        };
         StreamPort {
-            a,
+            a: SwitchLine::new(a),
             b,
+            woke: Traffic::none(),
             traffic: Traffic::none(),
             failed: FailureCount::zero(),
+            lost: None,
         }
+    }
+
+    /// Why it failed last, where it has failed. It is told once.
+    pub fn take_fault(&mut self) -> Option<StreamFault>
+        ensures { (self.new.traffic ≡ self.old.traffic) × (self.new.failed ≡ self.old.failed) }
+    {
+        self.lost.take()
     }
 }
 
@@ -41,30 +124,39 @@ impl<I: Drop, O: Drop> StreamPort<I, O> {
         ensures { (result.0 ≡ self.traffic) × (result.1 ≡ self.failed) }
     {
         let StreamPort {
-            a: _,
-            b: _,
             traffic,
             failed,
+            ..
         } = self;
         (traffic, failed)
     }
 }
 
 impl<I: Read, O: Write> StreamPort<I, O> {
-    /// Sends the commands to a chip, hears the replies, and says whether all went well.
-    fn try_converse(&mut self, chip: Chip, bytes: &[u8], replies: &mut [u8]) -> bool
+    /// Sends the commands to a chip, and hears the replies.
+    fn try_converse(
+        &mut self,
+        chip: Chip,
+        bytes: &[u8],
+        replies: &mut [u8],
+    ) -> Result<(), StreamFault>
         requires { IsConversation bytes.now (length replies.old) }
         ensures tried { HasTried O.contents I.remaining chip self.old self.new }
-        ensures went { IsTrue result → HaveConversed chip bytes.now replies.new
-            (Some self.old.traffic) (Some self.new.traffic) }
-        ensures broken { (IsTrue result → ⊥) → BreaksOff chip bytes.now
-            (Some self.old.traffic) (Some self.new.traffic) }
+        ensures up { OnOk result (HasComeUp chip self.old self.new) }
+        ensures went { OnOk result (HaveConversed chip bytes.now replies.new
+            (Some self.old.traffic) (Some self.new.traffic)) }
+        ensures broken { OnErr result (BreaksOff chip bytes.now
+            (Some self.old.traffic) (Some self.new.traffic)) }
         ensures failed { self.new.failed ≡ self.old.failed }
     {
+        let (woke, traffic) = (&mut self.woke, &mut self.traffic);
         match (chip, &mut self.b) {
-            (Chip::A, _) => converse(chip, bytes, replies, &mut self.a, &mut self.traffic).is_ok(),
-            (Chip::B, Some(b)) => converse(chip, bytes, replies, b, &mut self.traffic).is_ok(),
-            (Chip::B, None) => false,
+            (Chip::A, _) => self.a.converse(chip, bytes, replies, woke, traffic),
+            (Chip::B, Some(b)) => b.converse(chip, bytes, replies, woke, traffic),
+            (Chip::B, None) => {
+                let none = io::Error::from(ErrorKind::NotConnected);
+                Err(StreamFault::to(chip, none))
+            }
         }
     }
 }
@@ -81,10 +173,12 @@ impl<I: Read, O: Write> ConfigPort for StreamPort<I, O> {
 
     ghost passed = { λ port. Some port.traffic };
 
-    /// Writes and reads byte by byte, and takes no memory. It waits for each reply.
+    /// Writes and reads byte by byte, and takes no memory. It waits for each reply. The first time
+    /// it brings the switch up.
     fn converse(&mut self, chip: Chip, bytes: &[u8], replies: &mut [u8]) -> Result<(), PortFault>
         requires { IsConversation bytes.now (length replies.old) }
         ensures tried { HasTried O.contents I.remaining chip self.old self.new }
+        ensures up { OnOk result (HasComeUp chip self.old self.new) }
         ensures passed { OnOk result (HaveConversed chip bytes.now replies.new
             (Some self.old.traffic) (Some self.new.traffic)) }
         ensures broken { OnErr result (BreaksOff chip bytes.now
@@ -92,10 +186,13 @@ impl<I: Read, O: Write> ConfigPort for StreamPort<I, O> {
         ensures fault { OnErr result (self.new.failed ≡ self.old.failed + 1) }
         ensures unfailed { OnOk result (self.new.failed ≡ self.old.failed) }
     {
-        if self.try_converse(chip, bytes, replies) {
-            return Ok(());
+        match self.try_converse(chip, bytes, replies) {
+            Ok(()) => Ok(()),
+            Err(fault) => {
+                self.failed.raise();
+                self.lost = Some(fault);
+                Err(PortFault)
+            }
         }
-        self.failed.raise();
-        Err(PortFault)
     }
 }

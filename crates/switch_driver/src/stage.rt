@@ -11,6 +11,8 @@ pub enum Cue {
     GoOn,
     /// No setting is wanted any more.
     Leave,
+    /// It can't be heard whether one is.
+    Unheard,
     /// It couldn't be told that the setting stands.
     Untold,
 }

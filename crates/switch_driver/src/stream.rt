@@ -1,6 +1,7 @@
 //! The stream of one switch.
 
 ghost use Rattle.std.specs.Prelude.{◌∷◌, [], length, Some, OnOk, OnErr, IfOk};
+ghost use Rattle.std.specs.Io.KnownBytes.{Keeps};
 ghost use Rattle.std.specs.Option.{option_to_list};
 ghost use Rattle.c004_commands.specs.Commands.{row};
 ghost use Rattle.crossbar.specs.Port.{IsConversation};
@@ -23,20 +24,53 @@ pub struct SwitchStream<I, O> {
     pub writer: O,
 }
 
+/// Why a stream to a switch failed.
+#[derive(Debug, Drop)]
+pub struct StreamFault {
+    /// The switch.
+    pub chip: Chip,
+    /// Whether it failed on the way to the switch or on the way from it.
+    pub direction: Direction,
+    /// What the system says of it. The kind of a way that ended is `UnexpectedEof`.
+    pub why: io::Error,
+}
+
+impl StreamFault {
+    /// The way to a switch failed.
+    pub(crate) fn to(chip: Chip, why: io::Error) -> StreamFault {
+        StreamFault {
+            chip,
+            direction: Direction::Sent,
+            why,
+        }
+    }
+
+    /// The way from a switch failed.
+    pub(crate) fn from(chip: Chip, why: io::Error) -> StreamFault {
+        StreamFault {
+            chip,
+            direction: Direction::Heard,
+            why,
+        }
+    }
+}
+
 /// Writes the bytes one by one, and notes each. Where that fails, a front of them has gone.
 fn send_bytes<O: Write>(
     chip: Chip,
     bytes: &[u8],
     writer: &mut O,
     traffic: &mut Traffic,
-) -> io::Result<()>
+) -> Result<(), StreamFault>
     ensures went { OnOk result (HasWritten chip bytes.now (O.contents writer.old)
         (O.contents writer.new) traffic.old traffic.new) }
     ensures cut { OnErr result (HasWrittenFront chip bytes.now (O.contents writer.old)
         (O.contents writer.new) traffic.old traffic.new) }
 {
     for byte in bytes {
-        write_byte(writer, *byte)?;
+        if let Err(why) = write_byte(writer, *byte) {
+            return Err(StreamFault::to(chip, why));
+        }
         traffic.add(Passing {
             chip,
             direction: Direction::Sent,
@@ -52,7 +86,7 @@ fn send<O: Write>(
     command: Command,
     writer: &mut O,
     traffic: &mut Traffic,
-) -> io::Result<()>
+) -> Result<(), StreamFault>
     ensures went { OnOk result (HasWritten chip (row command) (O.contents writer.old)
         (O.contents writer.new) traffic.old traffic.new) }
     ensures cut { OnErr result (HasWrittenFront chip (row command) (O.contents writer.old)
@@ -63,22 +97,42 @@ fn send<O: Write>(
     send_bytes(chip, &bytes[..number], writer, traffic)
 }
 
+/// Hands on what was written.
+fn flush<O: Write>(chip: Chip, writer: &mut O) -> Result<(), StreamFault>
+    ensures { Keeps (O.contents writer.old) (O.contents writer.new) }
+{
+    match writer.flush() {
+        Ok(()) => Ok(()),
+        Err(why) => Err(StreamFault::to(chip, why)),
+    }
+}
+
 /// Reads a reply, and notes it. Where none comes, that is the error.
-fn hear<I: Read>(chip: Chip, reader: &mut I, traffic: &mut Traffic) -> io::Result<u8>
+pub(crate) fn hear<I: Read>(
+    chip: Chip,
+    reader: &mut I,
+    traffic: &mut Traffic,
+) -> Result<u8, StreamFault>
     ensures heard { IfOk result (λ reply. HasHeard chip (reply ∷ []) (I.remaining reader.old)
         (I.remaining reader.new) traffic.old traffic.new) }
     ensures silent { OnErr result (HasHeard chip [] (I.remaining reader.old)
         (I.remaining reader.new) traffic.old traffic.new) }
 {
-    let Some(byte) = read_byte(reader)? else {
-        return Err(io::Error::from(ErrorKind::UnexpectedEof));
-    };
-    traffic.add(Passing {
-        chip,
-        direction: Direction::Heard,
-        byte,
-    });
-    Ok(byte)
+    match read_byte(reader) {
+        Ok(Some(byte)) => {
+            traffic.add(Passing {
+                chip,
+                direction: Direction::Heard,
+                byte,
+            });
+            Ok(byte)
+        }
+        Ok(None) => {
+            let ended = io::Error::from(ErrorKind::UnexpectedEof);
+            Err(StreamFault::from(chip, ended))
+        }
+        Err(why) => Err(StreamFault::from(chip, why)),
+    }
 }
 
 /// Sends a command, and hears the reply if it is an enquiry.
@@ -87,7 +141,7 @@ fn ask<I: Read, O: Write>(
     command: Command,
     stream: &mut SwitchStream<I, O>,
     traffic: &mut Traffic,
-) -> io::Result<Option<u8>>
+) -> Result<Option<u8>, StreamFault>
     ensures asked { IfOk result (λ reply. HasAsked O.contents I.remaining chip command
         (option_to_list reply) stream.old stream.new traffic.old traffic.new) }
     ensures vain { OnErr result (HasAskedInVain O.contents I.remaining chip command
@@ -96,7 +150,7 @@ fn ask<I: Read, O: Write>(
     send(chip, command, &mut stream.writer, traffic)?;
     match command {
         Command::Enquire { .. } => {
-            stream.writer.flush()?;
+            flush(chip, &mut stream.writer)?;
             Ok(Some(hear(chip, &mut stream.reader, traffic)?))
         }
         _ => Ok(None),
@@ -111,7 +165,7 @@ pub(crate) fn converse<I: Read, O: Write>(
     replies: &mut [u8],
     stream: &mut SwitchStream<I, O>,
     traffic: &mut Traffic,
-) -> io::Result<()>
+) -> Result<(), StreamFault>
     requires { IsConversation bytes.now (length replies.old) }
     ensures carried { HasPassed O.contents I.remaining stream.old stream.new
         traffic.old traffic.new }
@@ -134,5 +188,5 @@ pub(crate) fn converse<I: Read, O: Write>(
             heard += 1;
         }
     }
-    stream.writer.flush()
+    flush(chip, &mut stream.writer)
 }

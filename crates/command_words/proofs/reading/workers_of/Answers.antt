@@ -1,4 +1,4 @@
-use Rattle.std.proofs.Common.{◌≡◌, ◌≤◌, ◌∙◌, sym, refl, codes, ℕ, List, Option, Some, None, Result, Ok, Err, false, true}
+use Rattle.std.proofs.Common.{◌≡◌, ◌≤◌, ◌∙◌, sym, refl, arith, codes, ℕ, List, Option, Some, None, Result, Ok, Err, false, true}
 use Rattle.std.specs.Prelude.{◌↔◌, IfSome, IsSome}
 use Rattle.std.specs.Result.{result_ok}
 use Rattle.clap.specs.Words.{Row, found_of, rows_of}
@@ -16,7 +16,7 @@ use Rattle.command_words.proofs.reading.workers_of.Goals as goal
 read : (found : Found) (r : Option ℕ) (n : ℕ) → ((t : List ℕ) → one_text found (codes "workers") ≡ Some t → ReadsOne from_str_gives-value.it t r)
     → HasWorkers (rows_of found) n → r ≡ Some n
 read found r n reads has =
-    read_number _ from_str_gives-value.it (λ t x gives. gives.0) has.0 r n (reads has.0 (one_text-rows found (codes "workers") ∙ has.1)) has.2 has.3 has.5
+    read_number _ from_str_gives-value.it (λ t x gives. gives.0) has.0 r n (reads has.0 (one_text-rows found (codes "workers") ∙ has.1)) has.2 has.3 (omega (arith, has.5))
 
 -- what is within the bounds is taken, and nothing else
 taken : (rows : List Row) (n : ℕ) (o : Option ℕ) (r : Result ℕ Lack) → (IsSome o ↔ ((1 ≤ n) × (n ≤ MAX_WORKERS))) → IfSome o (λ w. w ≡ n) → o ≡ result_ok r

@@ -1,17 +1,20 @@
-use Rattle.std.proofs.Common.{ℕ, List, length, Option, None, Some, IfSome, refl}
+use Rattle.std.proofs.Common.{◌≡◌, ◌∙◌, ℕ, List, length, Option, None, Some, IfSome, IsTrue, false, refl, sym, rules}
+use Rattle.std.proofs.lemmas.Bool.{false≢true}
+use Rattle.std.proofs.lemmas.Result.{IfOk-weaker}
 use Rattle.batch.specs.Text.{Denotes}
 use Rattle.batch.specs.declared.transfer.Transfer.{Transfer}
 use Rattle.board_wiring.specs.Boards.{extent_of}
+use Rattle.board_wiring.specs.Sources.{of_wiring}
 use Rattle.crossbar.specs.Wired.{links_of}
 use Rattle.crossbar.specs.declared.board.BoardWiring.{BoardWiring}
 use Rattle.plan_answers.proofs.OneSource.{denoted}
-use Rattle.switch_settings.specs.Racks.{HasModulesOf}
-use Rattle.std.proofs.lemmas.Result.{IfOk-weaker}
-use Rattle.board_wiring.specs.Sources.{of_wiring}
-use Rattle.plan_answers.specs.Lent.{bytes_of}
+use Rattle.plan_answers.specs.Refusals.{Refuses}
 use Rattle.plan_answers.specs.Schedules.{said_by}
-use Rattle.drive_answers.specs.Answers.{rack_for, IsTried, IsDriveAnswer, tried, wrong, wiring_wrong, texts_wrong}
+use Rattle.refusals.specs.declared.refusal.Refusal.TheVariants.{NoSetting}
+use Rattle.switch_settings.specs.Racks.{HasModulesOf}
+use Rattle.drive_answers.specs.Answers.{rack_for, IsStart, IsTried, no_setting, tried, wrong, wiring_wrong, texts_wrong}
 use Rattle.drive_answers.specs.Ways.{names_of}
+use Rattle.drive_answers.specs.declared.drive_end.DriveEnd.{DriveEnd}
 use Rattle.drive_answers.proofs.Wirings.{board_of, fault_of}
 use Rattle.drive_answers.proofs.driving.answer_drive.Goals as goal
 
@@ -30,25 +33,41 @@ rack_of-rack-requires g c =
 pub returns-in-Err-clause-answer : goal.returns-in-Err-clause-answer
 returns-in-Err-clause-answer g c =
     let fault = c.in-Err.fault in
-    let is = rw c.into.ensures at c.in_ok-refused-in-Err.ensures in
-    wrong (of_wiring fault) (wiring_wrong fault (fault_of c.args.wiring fault c.in-Err.ensures.fault) refl) is refl refl
+    let is = rw c.into.ensures at c.refused.ensures.refused in
+    IfOk-weaker c.refused.result (λ (end : DriveEnd). Refuses (of_wiring fault) end.answer) _
+    (λ end refuses. wrong (of_wiring fault) (wiring_wrong fault (fault_of c.args.wiring fault c.in-Err.ensures.fault) refl) refuses refl refl) is
 
-pub returns-in-Ok-read-clause-answer : goal.returns-in-Ok-read-clause-answer
-returns-in-Ok-read-clause-answer g c =
+pub returns-then-not-is_start-clause-answer : goal.returns-then-not-is_start-clause-answer
+returns-then-not-is_start-clause-answer g c =
     let its = c.in-Ok-read.scheduled in
     let board = c.in-Ok.board in
+    let first = c.args.first in
     let from = rw c.shape_of.ensures at c.in-Ok-read.ensures.schedule in
-    let is = rw (c.rack_of-rack.ensures.rack, c.batch-batch.ensures, c.schedule.ensures.schedule) at c.drive_over.ensures.answer in
+    let starts = rw c.schedule-schedule.ensures.schedule at c.is_start.ensures in
+    let stopped : c.is_start.result ≡ false = search rules in
+    let none : IsStart first its.settings → ⊥ = λ start. false≢true (sym stopped ∙ starts.1 start) in
+    IfOk-weaker c.refused-then-not-is_start.result (λ (end : DriveEnd). Refuses (NoSetting first) end.answer) _
+    (λ end refuses. wrong (NoSetting first) (no_setting board its.batch its.settings (board_of c.args.wiring board c.in-Ok.ensures.board) from none refl) refuses refl refl) c.refused-then-not-is_start.ensures.refused
+
+pub returns-else-not-is_start-clause-answer : goal.returns-else-not-is_start-clause-answer
+returns-else-not-is_start-clause-answer g c =
+    let its = c.in-Ok-read.scheduled in
+    let board = c.in-Ok.board in
+    let first = c.args.first in
+    let from = rw c.shape_of.ensures at c.in-Ok-read.ensures.schedule in
+    let starts = rw c.schedule-schedule.ensures.schedule at c.is_start.ensures in
+    let started : IsTrue c.is_start.result = search rules in
+    let start : IsStart first its.settings = starts.0 started in
+    let is = rw (c.rack_of-rack.ensures.rack, c.batch-batch.ensures, c.schedule-schedule.ensures.schedule) at c.drive_over.ensures.answer in
     let names = names_of c.args.names in
     let was = g.Q.Ports.ways c.args.ports.now in
     let opens = g.Q.Ports.ways c.drive_over.new.ports in
-    IfOk-weaker c.drive_over.result (IsTried g.S.Stage.hears (rack_for board its.batch) its.batch its.settings names was opens c.args.stage.now c.drive_over.new.stage)
-    (IsDriveAnswer g.S.Stage.hears (said_by c.args.source) c.args.batch.now (bytes_of c.args.wiring) names was opens c.args.stage.now c.drive_over.new.stage)
-    (λ p driven. tried board its.batch its.settings (board_of c.args.wiring board c.in-Ok.ensures.board) from driven) is
+    IfOk-weaker c.drive_over.result (λ (end : DriveEnd). IsTried g.S.Stage.hears (rack_for board its.batch) its.batch its.settings first names was opens c.args.stage.now c.drive_over.new.stage end.answer) _
+    (λ end driven. tried board its.batch its.settings (board_of c.args.wiring board c.in-Ok.ensures.board) from start driven) is
 
-pub returns-in_ok-refused-in-Err-read-clause-answer : goal.returns-in_ok-refused-in-Err-read-clause-answer
-returns-in_ok-refused-in-Err-read-clause-answer g c =
+pub returns-in-Err-read-clause-answer : goal.returns-in-Err-read-clause-answer
+returns-in-Err-read-clause-answer g c =
     let board = c.in-Ok.board in
-    let is = c.in_ok-refused-in-Err-read.ensures in
-    let first = rw c.shape_of.ensures at (c.in-Err-read.ensures.wrong is.0) in
-    wrong c.in-Err-read.refusal (texts_wrong board (board_of c.args.wiring board c.in-Ok.ensures.board) first) is refl refl
+    let refusal = c.in-Err-read.refusal in
+    IfOk-weaker c.refused-in-Err-read.result (λ (end : DriveEnd). Refuses refusal end.answer) _
+    (λ end refuses. let first = rw c.shape_of.ensures at (c.in-Err-read.ensures.wrong refuses.0) in wrong refusal (texts_wrong board (board_of c.args.wiring board c.in-Ok.ensures.board) first) refuses refl refl) c.refused-in-Err-read.ensures.refused

@@ -1,0 +1,158 @@
+//! What was seen of an output that disagrees, in words.
+
+ghost use Rattle.std.specs.Prelude.{◌≡◌};
+ghost use Rattle.drive_answers.specs.Endings.{number_of as output_number};
+
+use c004_commands::{CONNECTED, OutputState, PORTS};
+use crossbar::{BoardWiring, Chip, JOINED_MODULES};
+use std::fmt;
+use switch_driver::{Disagreement, Driven, SettingFault};
+use switch_settings::RackWiring;
+
+/// The number of an output: those of the second switch stand behind those of the first.
+pub(crate) fn number_of(found: &Disagreement) -> usize
+    ensures { result ≡ output_number found.now }
+{
+    match found.chip {
+        Chip::A => found.output as usize,
+        Chip::B => PORTS as usize + found.output as usize,
+    }
+}
+
+/// A link of a module.
+#[derive(Clone, Copy, Debug, PartialEq, Eq)]
+struct Place {
+    link: u8,
+    module: u8,
+}
+
+/// An output that didn't reply what a setting calls for: where it leads, what the setting calls
+/// for, and the reply, each as the byte and in words.
+#[derive(Clone, Copy, Debug, PartialEq, Eq)]
+pub struct Sight {
+    found: Disagreement,
+    /// Where it leads, unless no module is on it.
+    place: Option<Place>,
+    /// Whether each switch carries one way, so that a reply tells an input and no link.
+    is_one_way: bool,
+}
+
+impl Sight {
+    /// What was seen where a drive stopped at an output.
+    pub(crate) fn of(rack: RackWiring, how: &Driven) -> Option<Sight> {
+        let Driven::Stopped {
+            fault: SettingFault::Switch(found),
+            ..
+        } = how
+        else {
+            return None;
+        };
+        Some(Sight {
+            found: *found,
+            place: place_of(rack, found),
+            is_one_way: is_one_way(rack),
+        })
+    }
+
+    /// The output's switch.
+    pub fn chip(&self) -> Chip {
+        self.found.chip
+    }
+}
+
+/// Whether each switch of a rack carries one way.
+fn is_one_way(rack: RackWiring) -> bool {
+    match rack {
+        RackWiring::Usual(modules) => modules > JOINED_MODULES as usize,
+        RackWiring::Own(_) => false,
+    }
+}
+
+/// The link that an output leads to.
+fn place_of(rack: RackWiring, found: &Disagreement) -> Option<Place> {
+    let module = found.output;
+    match rack {
+        RackWiring::Own(board) => place_on(&board, found.output),
+        RackWiring::Usual(modules) if modules > JOINED_MODULES as usize => {
+            let link = match found.chip {
+                Chip::A => 3,
+                Chip::B => 0,
+            };
+            Some(Place { link, module })
+        }
+        RackWiring::Usual(_) if module < JOINED_MODULES => Some(Place { link: 0, module }),
+        RackWiring::Usual(_) => {
+            let module = module - JOINED_MODULES;
+            Some(Place { link: 3, module })
+        }
+    }
+}
+
+/// The link that is on an output of a board's switch, where one is.
+fn place_on(board: &BoardWiring, output: u8) -> Option<Place> {
+    for number in 0..board.modules() {
+        let on = board.links(number);
+        let module = number as u8;
+        if on.link0 == output {
+            return Some(Place { link: 0, module });
+        }
+        if on.link3 == output {
+            return Some(Place { link: 3, module });
+        }
+    }
+    None
+}
+
+/// A reply of an output, as the byte and in words.
+#[derive(Clone, Copy)]
+struct Reply {
+    byte: u8,
+    is_one_way: bool,
+}
+
+impl fmt::Display for Reply {
+    fn fmt<W: fmt::Write>(&self, f: &mut fmt::Formatter<W>) -> fmt::Result {
+        let byte = self.byte;
+        let Ok(state) = OutputState::read(byte) else {
+            return write!(f, "{byte:02x}, which no switch answers");
+        };
+        match state {
+            OutputState::Connected(input) => {
+                let kind = if self.is_one_way { "input" } else { "link" };
+                let number = input.get();
+                write!(f, "{byte:02x}, {kind} {number}")
+            }
+            OutputState::Loose => write!(f, "{byte:02x}, loose"),
+        }
+    }
+}
+
+impl fmt::Display for Sight {
+    fn fmt<W: fmt::Write>(&self, f: &mut fmt::Formatter<W>) -> fmt::Result {
+        let is_one_way = self.is_one_way;
+        let wanted = Reply {
+            byte: wanted_byte(self.found.wanted),
+            is_one_way,
+        };
+        let came = Reply {
+            byte: self.found.came,
+            is_one_way,
+        };
+        let number = number_of(&self.found);
+        match self.place {
+            Some(Place { link, module }) => {
+                write!(f, "output {number}, link {link} of module {module}")?;
+            }
+            None => write!(f, "output {number}, on which no module is")?,
+        }
+        write!(f, ": wanted {wanted}; came {came}")
+    }
+}
+
+/// The byte by which a switch says that this input feeds an output, or that none does.
+fn wanted_byte(wanted: Option<u8>) -> u8 {
+    match wanted {
+        Some(input) => CONNECTED | input,
+        None => 0,
+    }
+}

@@ -1,0 +1,5 @@
+use Rattle.switch_driver.proofs.Rising.{comes_up}
+use Rattle.switch_driver.proofs.laws.comes_up.Goals as goal
+
+pub returns : goal.returns
+returns c = comes_up

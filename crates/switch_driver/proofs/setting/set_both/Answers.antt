@@ -1,0 +1,37 @@
+use Rattle.std.proofs.Common.{inl, inr, refl}
+use Rattle.std.proofs.lemmas.Result.{err_from_is_err_and}
+use Rattle.switch_driver.proofs.setting.set_both.Goals as goal
+
+pub returns-clause-done : goal.returns-clause-done
+returns-clause-done g c = (
+  _,
+  c.in_ok-turn.ensures.passed,
+  (
+    _,
+    c.in_ok-turn-2.ensures.passed,
+    (
+      _,
+      c.in_ok-ask_all.ensures.replied,
+      (
+        _,
+        c.in_ok-ask_all-2.ensures.replied,
+        (_, c.in_ok-settle.ensures.passed, (_, c.in_ok-settle-2.ensures.passed, refl)),
+      ),
+    ),
+  ),
+)
+
+pub returns-in_err-ask_all-2-clause-vain : goal.returns-in_err-ask_all-2-clause-vain
+returns-in_err-ask_all-2-clause-vain g c =
+    let p = err_from_is_err_and c.from_residual-in_err-ask_all-2.result c.from_residual-in_err-ask_all-2.ensures.1 in
+    rw (p.1, p.2) (inr (_, c.in_ok-turn.ensures.passed, inr (_, c.in_ok-turn-2.ensures.passed, inr (_, c.in_ok-ask_all.ensures.replied, inl c.in_err-ask_all-2.ensures.vain))))
+
+pub returns-in_err-settle-clause-vain : goal.returns-in_err-settle-clause-vain
+returns-in_err-settle-clause-vain g c =
+    let p = err_from_is_err_and c.from_residual-in_err-settle.result c.from_residual-in_err-settle.ensures.1 in
+    rw (p.1, p.2) (inr (_, c.in_ok-turn.ensures.passed, inr (_, c.in_ok-turn-2.ensures.passed, inr (_, c.in_ok-ask_all.ensures.replied, inr (_, c.in_ok-ask_all-2.ensures.replied, inl c.in_err-settle.ensures.broken)))))
+
+pub returns-in_err-settle-2-clause-vain : goal.returns-in_err-settle-2-clause-vain
+returns-in_err-settle-2-clause-vain g c =
+    let p = err_from_is_err_and c.from_residual-in_err-settle-2.result c.from_residual-in_err-settle-2.ensures.1 in
+    rw (p.1, p.2) (inr (_, c.in_ok-turn.ensures.passed, inr (_, c.in_ok-turn-2.ensures.passed, inr (_, c.in_ok-ask_all.ensures.replied, inr (_, c.in_ok-ask_all-2.ensures.replied, inr (_, c.in_ok-settle.ensures.passed, inl c.in_err-settle-2.ensures.broken))))))
