@@ -1,0 +1,6 @@
+pub mod Changing
+pub mod Copying
+pub mod Telling
+pub mod Lines
+pub mod Members
+pub mod OneTold
