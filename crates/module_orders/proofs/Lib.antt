@@ -4,3 +4,5 @@ pub mod Telling
 pub mod Lines
 pub mod Members
 pub mod OneTold
+pub mod Meeting
+pub mod Obeyed
