@@ -1,48 +1,19 @@
 -- The blocks whose copies orders send, by flags.
-use Rattle.std.proofs.Common.{ℕ, zero, suc, Bool, true, false, ◌&&◌, ◌||◌, ◌==◌, ◌≡◌, ◌≢◌, ◌<◌, ◌+◌, List, [], ◌∷◌, length, map, take, replicate, get_or, set, refl, sym, ap, ap₂, ◌∙◌, arith, inl, inr, eq-eqb, ne_eqb, cond, get_or-set_same, get_or-set_other}
+use Rattle.std.proofs.Common.{ℕ, zero, suc, Bool, false, ◌≡◌, ◌<◌, ◌+◌, List, [], ◌∷◌, length, map, take, replicate, get_or, refl, sym, ap, ◌∙◌, arith, cond}
 use Rattle.std.specs.Prelude.{filter, count_by}
 use Rattle.std.specs.List.{range_with_len}
-use Rattle.std.proofs.lemmas.Bool.{cases_eq}
 use Rattle.std.proofs.lemmas.List.{ext_get_or}
 use Rattle.std.proofs.lemmas.List.FromFn.{get_or-map-range_with_len, length-map-range_with_len}
-use Rattle.std.proofs.lemmas.List.Folds.{list_any_more}
 use Rattle.std.proofs.lemmas.List.Sums.{length-filter, sum_by-cons}
 use Rattle.batch.specs.declared.limits.TheConstants.{MAX_BLOCKS}
 use Rattle.module_orders.specs.Flags.{copy_flags, numbers_up, up_in}
-use Rattle.module_orders.specs.Orders.{copies_in, is_copied, is_copy, sends_copy}
+use Rattle.module_orders.specs.Orders.{copies_in, is_copied}
 use Rattle.module_orders.specs.declared.order.Order.{Order}
-use Rattle.module_orders.proofs.Changing.{none_up, or_false, or_true}
+use Rattle.module_orders.proofs.Changing.{none_up}
 
 -- the flags of just the blocks below a limit whose copies are sent are up
 abbrev pub AreCopied : List Order → List Bool → Type 0
 AreCopied orders flags = (b : ℕ) → b < MAX_BLOCKS → get_or flags b false ≡ is_copied orders b
-
-sends_copy-here : (o : Order) (b : ℕ) → is_copy o.act ≡ true → o.block ≡ b → sends_copy b o ≡ true
-sends_copy-here o b copy e = ap₂ (λ (x y : Bool). x && y) copy (eq-eqb o.block b e)
-
-sends_copy-elsewhere : (o : Order) (b : ℕ) → is_copy o.act ≡ true → o.block ≢ b → sends_copy b o ≡ false
-sends_copy-elsewhere o b copy ne = ap₂ (λ (x y : Bool). x && y) copy (ne_eqb o.block b ne)
-
-sends_copy-not : (o : Order) (b : ℕ) → is_copy o.act ≡ false → sends_copy b o ≡ false
-sends_copy-not o b sends_none = ap (λ (x : Bool). x && (o.block == b)) sends_none
-
-one_more : (orders : List Order) (i : ℕ) (o : Order) (b : ℕ) (sends : Bool) → i < length orders → o ≡ get_or orders i o → sends_copy b o ≡ sends → is_copied (take (i + 1) orders) b ≡ (is_copied (take i orders) b || sends)
-one_more orders i o b sends l is e =
-    list_any_more (sends_copy b) orders i o l ∙ ap (λ (x : Order). is_copied (take i orders) b || sends_copy b x) (sym is) ∙ ap (λ (x : Bool). is_copied (take i orders) b || x) e
-
-pub copied_more : (orders : List Order) (i : ℕ) (o : Order) (flags : List Bool) → i < length orders → o ≡ get_or orders i o → is_copy o.act ≡ true → o.block < length flags → AreCopied (take i orders) flags → AreCopied (take (i + 1) orders) (set flags o.block true)
-copied_more orders i o flags l is copy within h b below = elim (cases_eq b o.block) [
-  | inl e ↦
-      ap (λ (n : ℕ). get_or (set flags o.block true) n false) e ∙ get_or-set_same flags o.block true false within
-      ∙ sym (one_more orders i o b true l is (sends_copy-here o b copy (sym e)) ∙ or_true (is_copied (take i orders) b))
-  | inr ne ↦
-      get_or-set_other flags o.block b true false ne ∙ h b below
-      ∙ sym (one_more orders i o b false l is (sends_copy-elsewhere o b copy (λ e. ne (sym e))) ∙ or_false (is_copied (take i orders) b))
-]
-
-pub copied_skip : (orders : List Order) (i : ℕ) (o : Order) (flags : List Bool) → i < length orders → o ≡ get_or orders i o → is_copy o.act ≡ false → AreCopied (take i orders) flags → AreCopied (take (i + 1) orders) flags
-copied_skip orders i o flags l is sends_none h b below =
-    h b below ∙ sym (one_more orders i o b false l is (sends_copy-not o b sends_none) ∙ or_false (is_copied (take i orders) b))
 
 pub copied_all : (orders : List Order) (flags : List Bool) → length flags ≡ MAX_BLOCKS → AreCopied orders flags → flags ≡ copy_flags orders
 unfolding copy_flags

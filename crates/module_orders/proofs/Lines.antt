@@ -20,11 +20,6 @@ then_adds old mid new a b c first more all =
 pub line_more : (lines : List (List ℕ)) (line : List ℕ) → text_of (lines ++ line ∷ []) ≡ text_of lines ++ ended line
 line_more lines line = text_of-append lines (line ∷ []) ∙ ap (λ (x : List ℕ). text_of lines ++ x) (append-nil (ended line))
 
-pub lines_more : {X : Type 0} (f : X → List ℕ) (xs : List X) (i : ℕ) (x : X) → i < length xs → x ≡ get_or xs i x → text_of (map f (take (i + 1) xs)) ≡ text_of (map f (take i xs)) ++ ended (f x)
-lines_more {X} f xs i x l is =
-    ap (λ (ys : List X). text_of (map f ys)) (take_more xs i x l ∙ ap (λ (y : X). take i xs ++ y ∷ []) (sym is))
-    ∙ ap text_of (map_push f (take i xs) x) ∙ line_more (map f (take i xs)) (f x)
-
 -- one element more that passes, or that doesn't
 filter-one : {X : Type 0} (p : X → Bool) (xs : List X) (x : X) (b : Bool) → p x ≡ b → filter p (xs ++ x ∷ []) ≡ filter p xs ++ cond b (x ∷ []) []
 filter-one {X} p xs x b e = filter-append p xs (x ∷ []) ∙ ap (λ (y : Bool). filter p xs ++ cond y (x ∷ []) []) e

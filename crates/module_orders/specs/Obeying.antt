@@ -106,14 +106,14 @@ PassInTurn told aside k pairs passed (i ∷ steps) old new =
     × PassInTurn told aside k pairs (slice_set passed i (slice_index passed i + 1)) steps mid new
 
 -- each of so many pairs stands in the list as often as a block has words
-pub record IsWhole (pairs words : ℕ) (steps : List ℕ) : Type 0 where
+pub record AreAllWords (pairs words : ℕ) (steps : List ℕ) : Type 0 where
   pub known : All (λ i. i < pairs) steps
   pub all : (i : ℕ) → i < pairs → times i steps ≡ words
 
 -- the modules obey the orders of setting k: all words pass between the pairs, in some order
 abbrev pub AreObeyedIn : RackTold → (Place → List ℕ) → ℕ → List Pair → Store → Store → Type 0
 AreObeyedIn told aside k pairs old new =
-    (steps : List ℕ) × IsWhole (length pairs) old.shape.words steps
+    (steps : List ℕ) × AreAllWords (length pairs) old.shape.words steps
     × PassInTurn told aside k pairs (map (λ _. 0) pairs) steps old new
 
 -- they obey those of one setting after another, from setting k on, each with its pairs

@@ -5,9 +5,8 @@ ghost use Rattle.batch.specs.Batches.{IsBatch};
 ghost use Rattle.batch.specs.Written.{flag_of};
 ghost use Rattle.link_graph.specs.Schedules.{IsScheduleOf};
 ghost use Rattle.module_memory.specs.Core.{setting_of};
-ghost use Rattle.module_orders.specs.Orders.{all_modules, orders_of, orders_over};
+ghost use Rattle.module_orders.specs.Orders.{all_modules, orders_of, orders_over, told_to};
 ghost use Rattle.module_orders.specs.OrdersText.{orders_text};
-ghost use Rattle.module_orders.specs.Orders.{told_to};
 ghost use Rattle.module_orders.specs.declared.order.Order.{Order};
 ghost use Rattle.link_graph.specs.Counts.{module_at};
 
@@ -106,6 +105,14 @@ impl RackOrders {
             push_orders(&mut modules, batch, numbers, setting, End::Three, &changed)?;
         }
         Ok(RackOrders { settings, modules })
+    }
+
+    /// What each module is told, from module 0 on: all that a rack may have, also those without
+    /// orders.
+    pub fn modules(&self) -> &[ModuleOrders]
+        ensures { result.now ≡ self.now.modules }
+    {
+        self.modules.as_slice()
     }
 
     /// The text of the orders: the line `modules N settings S`, and for each of the N modules that
