@@ -4,6 +4,7 @@ pub mod Fitting
 pub mod Switches
 pub mod OnBoards
 pub mod OneSwitching
+pub mod OneOrders
 pub mod Openings
 pub mod HeldSettings
 pub mod Ran

@@ -3,4 +3,5 @@ pub mod Openings
 pub mod Answers
 pub mod Boards
 pub mod Switching
+pub mod Orders
 pub mod Laws

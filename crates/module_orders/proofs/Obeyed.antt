@@ -1,0 +1,496 @@
+-- Modules that obey move the words of transfers, and so place all blocks.
+use Rattle.std.proofs.Common.{ℕ, suc, Bool, true, false, cond, ◌==◌, ◌&&◌, ◌||◌, ◌≡◌, ◌≢◌, ◌<◌, ◌+◌, List, [], ◌∷◌, ◌++◌, length, map, take, drop, get_or, slice_index, refl, sym, ap, ap₂, ◌∙◌, subst, arith, inl, inr, eq-eqb, add-one, append_assoc, length-append}
+use Rattle.std.specs.Prelude.{All, Contains}
+use Rattle.std.specs.List.{concat, list_any, range_with_len}
+use Rattle.std.proofs.lemmas.Bool.{cases_lt, false≢true}
+use Rattle.std.proofs.lemmas.List.{drop_more, get_or-map, get_or_append_left, length-drop, length-map, take-append-drop, map-append}
+use Rattle.std.proofs.lemmas.List.Elements.{All-contains, All-head, Contains-get_or}
+use Rattle.std.proofs.lemmas.List.Sums.{sum_by-append}
+use Rattle.std.proofs.lemmas.List.Folds.{list_any-append}
+use Rattle.batch.proofs.Lists.{concat_more}
+use Rattle.batch.specs.Extent.{Extent}
+use Rattle.batch.specs.Overlap.{no_transfer, transfer_at}
+use Rattle.batch.specs.Places.{HasPlace, destination_of, source_of}
+use Rattle.batch.specs.declared.limits.TheConstants.{MAX_BLOCKS, MAX_MODULES}
+use Rattle.batch.specs.declared.transfer.Kind.{Kind}
+use Rattle.batch.specs.declared.transfer.Kind.TheVariants.{Push, Pull}
+use Rattle.batch.specs.declared.transfer.Place.{Place}
+use Rattle.batch.specs.declared.transfer.Transfer.{Transfer}
+use Rattle.crossbar.specs.declared.pair.Pair.{Pair}
+use Rattle.link_graph.proofs.Firsts.{all_left, all_right}
+use Rattle.link_graph.proofs.Once.{is_known, is_once}
+use Rattle.link_graph.specs.Certificates.{AreDistinct}
+use Rattle.link_graph.specs.Counts.{module_at}
+use Rattle.link_graph.specs.Schedules.{IsScheduleOf}
+use Rattle.link_graph.specs.declared.link.End.{End}
+use Rattle.link_graph.specs.declared.link.End.TheVariants.{Zero, Three}
+use Rattle.module_memory.proofs.Blocks.{same_or_not}
+use Rattle.module_memory.proofs.CoreLaw.{Premises-from_ready, complete_moves, each_prefix, find_destination, source_found, transfer_at-setting_of}
+use Rattle.module_memory.proofs.SettingLaws.{ready_after, run_is_placed, whole_batch_is_placed}
+use Rattle.module_memory.specs.Core.{Core, IsComplete, IsMovedFrom, IsReady, IsSetting, IsStepList, at_start, found, run, setting_of, step, times}
+use Rattle.module_memory.specs.Settings.{IsRun, after_steps}
+use Rattle.module_memory.specs.Store.{Store, block_of, set_word}
+use Rattle.switch_settings.specs.Settings.{joined_pair, numbers_in, setting_pairs}
+use Rattle.module_orders.specs.Laws.{CanObey, ObeyedIsPlaced, RunIsObeyed, all_told}
+use Rattle.module_orders.specs.Obeying.{AreObeyedFrom, AreObeyedIn, HasOrder, PassInTurn, Passes, PassesOver, aside_of, block_there, is_aside, no_pair, words_sent}
+use Rattle.module_orders.specs.Orders.{ModuleTold, RackTold, changed_by, changes, copies_in, is_changed, is_copied, is_copy, module_told, order_at, orders_before, sending, sends_copy}
+use Rattle.module_orders.specs.declared.order.Act.TheVariants.{SendCopy, Receive}
+use Rattle.module_orders.specs.declared.order.Order.{Order}
+use Rattle.module_orders.proofs.Changing.{changes-own}
+use Rattle.module_orders.proofs.Meeting.{given, gives, is_among, is_given, link_at, one_number, origin}
+use Rattle.module_orders.proofs.Members.{any_from, none_from, to_filter, to_range}
+
+-- ---- what a word is that passes
+
+-- word j of what is sent of a transfer's source, where it is late or not, becomes word j of its
+-- destination
+abbrev sends_word : (Place → List ℕ) → Bool → Transfer → ℕ → Store → Store
+sends_word aside late x j old =
+    set_word old (destination_of x) j (slice_index (words_sent aside old (sending late) (source_of x)) j)
+
+sends_some : (late : Bool) → sending late ≢ Receive
+sends_some true e = absurd cc
+sends_some false e = absurd cc
+
+-- from the initiator to the responder passes what a push sends
+forth : (aside : Place → List ℕ) (late : Bool) (k j : ℕ) (old new : Store) (kind : Kind) (i o r f : ℕ)
+    → let x : Transfer = record { kind = kind; initiator = i; own_block = o; responder = r; far_block = f } in
+    let sent = order_at late k Zero x in
+    let received = order_at late k Three x in
+    sent.act ≢ Receive → new ≡ set_word old (block_there (link_at Three x) received) j (slice_index (words_sent aside old sent.act (block_there (link_at Zero x) sent)) j) → new ≡ sends_word aside late x j old
+forth aside late k j old new Push i o r f some e = e
+forth aside late k j old new Pull i o r f some e = absurd (some refl)
+
+-- and from the responder to the initiator what a pull sends
+back : (aside : Place → List ℕ) (late : Bool) (k j : ℕ) (old new : Store) (kind : Kind) (i o r f : ℕ)
+    → let x : Transfer = record { kind = kind; initiator = i; own_block = o; responder = r; far_block = f } in
+    let sent = order_at late k Three x in
+    let received = order_at late k Zero x in
+    sent.act ≢ Receive → new ≡ set_word old (block_there (link_at Zero x) received) j (slice_index (words_sent aside old sent.act (block_there (link_at Three x) sent)) j) → new ≡ sends_word aside late x j old
+back aside late k j old new Push i o r f some e = absurd (some refl)
+back aside late k j old new Pull i o r f some e = e
+
+-- ---- the transfers of a setting
+
+-- the modules and blocks of transfers are those that a rack may have
+module_of_place : (kind : Kind) (i o r f : ℕ) (shape : Extent) (end : End) → let x : Transfer = record { kind = kind; initiator = i; own_block = o; responder = r; far_block = f } in HasPlace shape (source_of x) × HasPlace shape (destination_of x) → module_at end x < shape.modules
+module_of_place Push i o r f shape Zero h = h.0.in_modules
+module_of_place Push i o r f shape Three h = h.1.in_modules
+module_of_place Pull i o r f shape Zero h = h.1.in_modules
+module_of_place Pull i o r f shape Three h = h.0.in_modules
+
+low : (batch : List Transfer) (settings : List (List ℕ)) (opening : Store) (end : End) (t : ℕ) → CanObey batch settings opening → t < length batch → module_at end (transfer_at batch t) < MAX_MODULES
+low batch settings opening end t can l =
+    let x = transfer_at batch t in
+    omega (arith, module_of_place x.kind x.initiator x.own_block x.responder x.far_block opening.shape end (can.places t l), can.whole.within.few_modules)
+
+-- transfer t of a setting
+abbrev Stands : List Transfer → List (List ℕ) → ℕ → ℕ → Type 0
+Stands batch settings k t = Contains (numbers_in settings k) t
+
+known_number : (batch : List Transfer) (settings : List (List ℕ)) (k t : ℕ) → IsScheduleOf batch settings → k < length settings → Stands batch settings k t → t < length batch
+known_number batch settings k t schedule l c = All-contains (λ n. n < length batch) (numbers_in settings k) t (schedule.no_other k [] l) c
+
+-- the order of a link of a transfer is that transfer's
+its_order : (batch : List Transfer) (settings : List (List ℕ)) (k t : ℕ) (end : End) (o : Order) → IsScheduleOf batch settings → k < length settings → Stands batch settings k t → HasOrder (all_told batch settings) k (link_at end (transfer_at batch t)) o → o ≡ given batch settings k end t
+its_order batch settings k t end o schedule l c h =
+    let one = origin batch settings k (link_at end (transfer_at batch t)) o h in
+    let same = one_number batch (numbers_in settings k) end one.0 t (schedule.matchings k [] l) (schedule.no_other k [] l) one.1.stands c one.1.at in
+    one.2 ∙ ap (given batch settings k end) same
+
+-- whether the source of a transfer is late in a setting
+abbrev late_in : List Transfer → List (List ℕ) → ℕ → ℕ → Bool
+late_in batch settings k t = is_changed batch settings k (source_of (transfer_at batch t))
+
+-- what passes over the pair of a transfer
+passes_is : (batch : List Transfer) (settings : List (List ℕ)) (k t j : ℕ) (aside : Place → List ℕ) (old new : Store) → IsScheduleOf batch settings → k < length settings → Stands batch settings k t → PassesOver (all_told batch settings) aside k j (joined_pair (transfer_at batch t)) old new → new ≡ sends_word aside (late_in batch settings k t) (transfer_at batch t) j old
+passes_is batch settings k t j aside old new schedule l c p =
+    let x = transfer_at batch t in
+    let late = late_in batch settings k t in
+    let between : (from to : End) → Passes (all_told batch settings) aside k j (link_at from x) (link_at to x) old new
+    → ((order_at late k from x).act ≢ Receive) × (new ≡ set_word old (block_there (link_at to x) (order_at late k to x)) j (slice_index (words_sent aside old (order_at late k from x).act (block_there (link_at from x) (order_at late k from x))) j)) = λ from to q. (
+    let sent : q.sent ≡ given batch settings k from t = its_order batch settings k t from q.sent schedule l c q.sends in
+    let received : q.received ≡ given batch settings k to t = its_order batch settings k t to q.received schedule l c q.receives in (
+      subst (λ (o : Order). o.act ≢ Receive) sent q.is_sent,
+      q.passed ∙ ap₂ (λ (s r : Order). set_word old (block_there (link_at to x) r) j (slice_index (words_sent aside old s.act (block_there (link_at from x) s)) j)) sent received,
+    )
+    ) in
+    elim p [
+      | inl q ↦ let b = between Zero Three q in forth aside late k j old new x.kind x.initiator x.own_block x.responder x.far_block b.0 b.1
+      | inr q ↦ let b = between Three Zero q in back aside late k j old new x.kind x.initiator x.own_block x.responder x.far_block b.0 b.1
+    ]
+
+-- and that can pass
+can_pass : (told : RackTold) (aside : Place → List ℕ) (late : Bool) (k j : ℕ) (old new : Store) (kind : Kind) (i o r f : ℕ)
+    → let x : Transfer = record { kind = kind; initiator = i; own_block = o; responder = r; far_block = f } in
+    HasOrder told k (link_at Zero x) (order_at late k Zero x) → HasOrder told k (link_at Three x) (order_at late k Three x) → new ≡ sends_word aside late x j old → PassesOver told aside k j (joined_pair x) old new
+can_pass told aside late k j old new Push i o r f has0 has3 e =
+    let x : Transfer = record { kind = Push; initiator = i; own_block = o; responder = r; far_block = f } in
+    inl (record { sent = order_at late k Zero x; received = order_at late k Three x; sends = has0; receives = has3; is_sent = sends_some late; is_received = refl; passed = e })
+can_pass told aside late k j old new Pull i o r f has0 has3 e =
+    let x : Transfer = record { kind = Pull; initiator = i; own_block = o; responder = r; far_block = f } in
+    inr (record { sent = order_at late k Three x; received = order_at late k Zero x; sends = has3; receives = has0; is_sent = sends_some late; is_received = refl; passed = e })
+
+is_passed : (batch : List Transfer) (settings : List (List ℕ)) (opening : Store) (k t j : ℕ) (aside : Place → List ℕ) (old new : Store) → CanObey batch settings opening → k < length settings → Stands batch settings k t → new ≡ sends_word aside (late_in batch settings k t) (transfer_at batch t) j old → PassesOver (all_told batch settings) aside k j (joined_pair (transfer_at batch t)) old new
+is_passed batch settings opening k t j aside old new can l c e =
+    let x = transfer_at batch t in
+    let known = known_number batch settings k t can.schedule l c in
+    can_pass (all_told batch settings) aside (late_in batch settings k t) k j old new x.kind x.initiator x.own_block x.responder x.far_block
+    (gives batch settings k Zero t l c (low batch settings opening Zero t can known))
+    (gives batch settings k Three t l c (low batch settings opening Three t can known)) e
+
+-- ---- what has been copied aside
+
+-- the end that sends a transfer's source
+sender : Kind → End
+sender Push = Zero
+sender Pull = Three
+
+sender_is : (kind : Kind) (i o r f : ℕ) (late : Bool) (k : ℕ) → let x : Transfer = record { kind = kind; initiator = i; own_block = o; responder = r; far_block = f } in
+    let order = order_at late k (sender kind) x in (module_at (sender kind) x ≡ (source_of x).«module») × (order.block ≡ (source_of x).block) × (order.act ≡ sending late)
+unfolding sender
+sender_is Push i o r f late k = (refl, refl, refl)
+sender_is Pull i o r f late k = (refl, refl, refl)
+
+copy_sent : (o : Order) (b : ℕ) → o.block ≡ b → o.act ≡ SendCopy → sends_copy b o ≡ true
+copy_sent o b e act = ap₂ (λ (x y : Bool). x && y) (ap is_copy act) (eq-eqb o.block b e)
+
+in_copies : (orders : List Order) (b : ℕ) → b < MAX_BLOCKS → is_copied orders b ≡ true → Contains (copies_in orders) b
+unfolding copies_in
+in_copies orders b l up = to_filter (is_copied orders) (range_with_len 0 MAX_BLOCKS) b (to_range MAX_BLOCKS b l) up
+
+aside_there : (batch : List Transfer) (settings : List (List ℕ)) (opening : Store) (k t : ℕ) → CanObey batch settings opening → k < length settings → Stands batch settings k t → late_in batch settings k t ≡ true
+    → let p = source_of (transfer_at batch t) in aside_of (all_told batch settings) opening p ≡ block_of opening p
+aside_there batch settings opening k t can l c late =
+    let x = transfer_at batch t in
+    let p = source_of x in
+    let end = sender x.kind in
+    let m = module_at end x in
+    let o = given batch settings k end t in
+    let orders = orders_before batch settings (length settings) m in
+    let is = sender_is x.kind x.initiator x.own_block x.responder x.far_block (late_in batch settings k t) k in
+    let known = known_number batch settings k t can.schedule l c in
+    let has = is_given batch settings k end t l c in
+    let block_low : p.block < MAX_BLOCKS = omega (arith, (can.places t known).0.in_blocks, can.whole.within.few_blocks) in
+    let copied : is_copied orders p.block ≡ true = any_from (sends_copy p.block) orders o has (copy_sent o p.block is.1 (is.2 ∙ ap sending late)) in
+    let inner : list_any (λ b. b == p.block) (copies_in orders) ≡ true = any_from (λ b. b == p.block) (copies_in orders) p.block (in_copies orders p.block block_low copied) (eq-eqb p.block p.block refl) in
+    let one : ModuleTold → Bool = λ told. told.«module» == p.«module» && list_any (λ b. b == p.block) (copies_in told.orders) in
+    let told : is_aside (all_told batch settings) p ≡ true =
+    any_from one (all_told batch settings).modules (module_told m orders) (is_among batch settings m o (low batch settings opening end t can known) has) (ap₂ (λ (a b : Bool). a && b) (eq-eqb m p.«module» is.0) inner) in
+    ap (λ (b : Bool). cond b (block_of opening p) []) told
+
+-- ---- blocks that no transfer has changed
+
+unchanged_now : (opening s now : Store) (ts : List Transfer) (m : ℕ → ℕ) (p : Place) → IsMovedFrom opening s ts m now → HasPlace s.shape p → block_of s p ≡ block_of opening p → ((i : ℕ) → i < length ts → changes (transfer_at ts i) p ≡ false) → block_of now p ≡ block_of opening p
+unchanged_now opening s now ts m p h hp agrees none = elim (find_destination ts p) [
+  | inl f ↦
+      let y = transfer_at ts f.0 in
+      elim (same_or_not (source_of y) (destination_of y)) [
+        | inl same ↦
+            ap (block_of now) (sym f.2) ∙ h.destinations f.0 f.1
+            ∙ ap₂ (λ (a b : List ℕ). take (m f.0) a ++ drop (m f.0) b) (ap (block_of opening) (same ∙ f.2)) (ap (block_of s) f.2 ∙ agrees)
+            ∙ take-append-drop (m f.0) (block_of opening p)
+        | inr other ↦ absurd (false≢true (sym (none f.0 f.1) ∙ ap (changes y) (sym f.2) ∙ changes-own y other))
+      ]
+  | inr unwritten ↦ h.others p hp unwritten ∙ agrees
+]
+
+or_none : (a b : Bool) → (a || b) ≡ false → (a ≡ false) × (b ≡ false)
+or_none true b e = absurd (false≢true (sym e))
+or_none false b e = (refl, e)
+
+none_changes : (ts : List Transfer) (p : Place) → changed_by ts p ≡ false → (i : ℕ) → i < length ts → changes (transfer_at ts i) p ≡ false
+none_changes ts p none i l = none_from (λ t. changes t p) ts (transfer_at ts i) none (Contains-get_or ts i no_transfer l)
+
+-- the transfers before a setting, and those of it
+abbrev before : List Transfer → List (List ℕ) → ℕ → List Transfer
+before batch settings k = setting_of batch (concat (take k settings))
+
+changed_up : (batch : List Transfer) (settings : List (List ℕ)) (k : ℕ) (p : Place) → k < length settings → is_changed batch settings k p ≡ (changed_by (before batch settings k) p || changed_by (setting_of batch (numbers_in settings k)) p)
+changed_up batch settings k p l =
+    ap (λ (ns : List ℕ). changed_by (setting_of batch ns) p) (concat_more settings k l)
+    ∙ ap (λ (ts : List Transfer). changed_by ts p) (map-append (transfer_at batch) (concat (take k settings)) (numbers_in settings k))
+    ∙ list_any-append (λ t. changes t p) (before batch settings k) (setting_of batch (numbers_in settings k))
+
+-- where nothing has changed a block, it is as it was
+abbrev Agrees : List Transfer → List (List ℕ) → Store → ℕ → Store → Type 0
+Agrees batch settings opening k s = (p : Place) → HasPlace s.shape p → changed_by (before batch settings k) p ≡ false → block_of s p ≡ block_of opening p
+
+-- ---- a setting
+
+-- as a setting begins
+pub record Begins (batch : List Transfer) (settings : List (List ℕ)) (opening : Store) (k : ℕ) (s : Store) : Type 0 where
+  pub can : CanObey batch settings opening
+  pub within : k < length settings
+  pub ready : IsReady opening s batch (numbers_in settings k)
+  pub agrees : Agrees batch settings opening k s
+
+-- what is sent of a source is what it had at first
+reads_opening : (batch : List Transfer) (settings : List (List ℕ)) (opening : Store) (k : ℕ) (s now : Store) (m : ℕ → ℕ) (t : ℕ) → Begins batch settings opening k s → IsMovedFrom opening s (setting_of batch (numbers_in settings k)) m now → Stands batch settings k t
+    → let p = source_of (transfer_at batch t) in words_sent (aside_of (all_told batch settings) opening) now (sending (late_in batch settings k t)) p ≡ block_of opening p
+reads_opening batch settings opening k s now m t b h c =
+    let ts = setting_of batch (numbers_in settings k) in
+    let p = source_of (transfer_at batch t) in
+    let aside = aside_of (all_told batch settings) opening in
+    elim (late_in batch settings k t) as (λ late. late_in batch settings k t ≡ late → words_sent aside now (sending late) p ≡ block_of opening p) [
+      | true ↦ λ e. aside_there batch settings opening k t b.can b.within c e
+      | false ↦ λ e.
+          let parts = or_none (changed_by (before batch settings k) p) (changed_by ts p) (sym (changed_up batch settings k p b.within) ∙ e) in
+          let hp : HasPlace s.shape p = (b.ready.places t (known_number batch settings k t b.can.schedule b.within c)).0 in
+          unchanged_now opening s now ts m p h hp (b.agrees p hp parts.0) (none_changes ts p parts.1)
+    ] refl
+
+-- so a word that passes is that which the machine moves
+same_step : (batch : List Transfer) (settings : List (List ℕ)) (opening : Store) (k : ℕ) (s : Store) (c : Core) (m : ℕ → ℕ) (i : ℕ) → Begins batch settings opening k s → let numbers = numbers_in settings k in let ts = setting_of batch numbers in
+    IsMovedFrom opening s ts m c.store → i < length numbers
+    → let t = get_or numbers i 0 in
+    sends_word (aside_of (all_told batch settings) opening) (late_in batch settings k t) (transfer_at batch t) (slice_index c.moved i) c.store ≡ (step (found batch opening) ts c i).store
+same_step batch settings opening k s c m i b h l =
+    let numbers = numbers_in settings k in
+    let ts = setting_of batch numbers in
+    let t = get_or numbers i 0 in
+    let x = transfer_at batch t in
+    let j = slice_index c.moved i in
+    let stands = Contains-get_or numbers i 0 l in
+    let sent = reads_opening batch settings opening k s c.store m t b h stands in
+    let finds = source_found opening s c.store batch numbers b.ready h.others t (known_number batch settings k t b.can.schedule b.within stands) in
+    ap (λ (words : List ℕ). set_word c.store (destination_of x) j (slice_index words j)) (sent ∙ sym finds)
+    ∙ ap (λ (y : Transfer). set_word c.store (destination_of y) j (slice_index (found batch opening c.store (source_of y)) j)) (sym (transfer_at-setting_of batch numbers i l))
+
+-- steps after others
+run-append : (find : Store → Place → List ℕ) (ts : List Transfer) (c : Core) (xs ys : List ℕ) → run find ts c (xs ++ ys) ≡ run find ts (run find ts c xs) ys
+run-append find ts c [] ys = refl
+run-append find ts c (x ∷ xs) ys = run-append find ts (step find ts c x) xs ys
+
+-- the machine on its way through a setting, behind some of its steps
+pub record IsGoing (opening s : Store) (batch : List Transfer) (numbers : List ℕ) (behind : List ℕ) (c : Core) (steps : List ℕ) : Type 0 where
+  pub is : c ≡ run (found batch opening) (setting_of batch numbers) (at_start s (setting_of batch numbers)) behind
+  pub list : IsStepList (setting_of batch numbers) s.shape.words (behind ++ steps)
+
+first_steps : (ts : List Transfer) (words : ℕ) (xs ys : List ℕ) → IsStepList ts words (xs ++ ys) → IsStepList ts words xs
+first_steps ts words xs ys h = record {
+  known = all_left (λ i. i < length ts) xs ys h.known;
+  bounded = λ i l. omega (arith, h.bounded i l, sum_by-append (λ (n : ℕ). cond (n == i) 1 0) xs ys);
+}
+
+-- so many words have moved
+has_moved : (opening s : Store) (batch : List Transfer) (numbers behind : List ℕ) (c : Core) (steps : List ℕ) → IsReady opening s batch numbers → IsGoing opening s batch numbers behind c steps → IsMovedFrom opening s (setting_of batch numbers) (λ i. times i behind) c.store
+has_moved opening s batch numbers behind c steps ready g =
+    let ts = setting_of batch numbers in
+    subst (λ (x : Core). IsMovedFrom opening s ts (λ i. times i behind) x.store) (sym g.is) (each_prefix opening s batch numbers ready behind (first_steps ts s.shape.words behind steps g.list))
+
+goes_on : (opening s : Store) (batch : List Transfer) (numbers behind : List ℕ) (c : Core) (i : ℕ) (steps : List ℕ) → IsGoing opening s batch numbers behind c (i ∷ steps) → IsGoing opening s batch numbers (behind ++ i ∷ []) (step (found batch opening) (setting_of batch numbers) c i) steps
+goes_on opening s batch numbers behind c i steps g =
+    let ts = setting_of batch numbers in
+    let find = found batch opening in
+    record {
+      is = ap (λ (x : Core). step find ts x i) g.is ∙ sym (run-append find ts (at_start s ts) behind (i ∷ []));
+      list = subst (IsStepList ts s.shape.words) (sym (append_assoc behind (i ∷ []) steps)) g.list;
+    }
+
+-- the next step is one of the setting's
+next_known : (opening s : Store) (batch : List Transfer) (numbers behind : List ℕ) (c : Core) (i : ℕ) (steps : List ℕ) → IsGoing opening s batch numbers behind c (i ∷ steps) → i < length numbers
+next_known opening s batch numbers behind c i steps g =
+    let ts = setting_of batch numbers in
+    omega (arith, All-head (λ n. n < length ts) i steps (all_right (λ n. n < length ts) behind (i ∷ steps) g.list.known), length-map numbers (transfer_at batch))
+
+-- the pair of a transfer of a setting
+pair_at : (batch : List Transfer) (numbers : List ℕ) (i : ℕ) → i < length numbers → get_or (setting_pairs batch numbers) i no_pair ≡ joined_pair (transfer_at batch (get_or numbers i 0))
+pair_at batch numbers i l =
+    get_or-map joined_pair (setting_of batch numbers) i no_transfer no_pair (omega (arith, length-map numbers (transfer_at batch))) ∙ ap joined_pair (transfer_at-setting_of batch numbers i l)
+
+-- words that pass in turn are moved so by the machine
+turn_is_run : (batch : List Transfer) (settings : List (List ℕ)) (opening : Store) (k : ℕ) (s t : Store) (behind : List ℕ) (c : Core) (steps : List ℕ) → Begins batch settings opening k s → let numbers = numbers_in settings k in
+    IsGoing opening s batch numbers behind c steps → PassInTurn (all_told batch settings) (aside_of (all_told batch settings) opening) k (setting_pairs batch numbers) c.moved steps c.store t → t ≡ (run (found batch opening) (setting_of batch numbers) c steps).store
+turn_is_run batch settings opening k s t behind c [] b g h = h
+turn_is_run batch settings opening k s t behind c (i ∷ steps) b g h =
+    let numbers = numbers_in settings k in
+    let told = all_told batch settings in
+    let aside = aside_of told opening in
+    let j = slice_index c.moved i in
+    let l = next_known opening s batch numbers behind c i steps g in
+    let n = get_or numbers i 0 in
+    let over : PassesOver told aside k j (joined_pair (transfer_at batch n)) c.store h.0 = subst (λ (q : Pair). PassesOver told aside k j q c.store h.0) (pair_at batch numbers i l) h.1 in
+    let next = step (found batch opening) (setting_of batch numbers) c i in
+    let same : h.0 ≡ next.store =
+    passes_is batch settings k n j aside c.store h.0 b.can.schedule b.within (Contains-get_or numbers i 0 l) over
+    ∙ same_step batch settings opening k s c (λ x. times x behind) i b (has_moved opening s batch numbers behind c (i ∷ steps) b.ready g) l in
+    turn_is_run batch settings opening k s t (behind ++ i ∷ []) next steps b (goes_on opening s batch numbers behind c i steps g)
+    (subst (λ (x : Store). PassInTurn told aside k (setting_pairs batch numbers) next.moved steps x t) same h.2)
+
+-- and the other way round
+run_is_turn : (batch : List Transfer) (settings : List (List ℕ)) (opening : Store) (k : ℕ) (s t : Store) (behind : List ℕ) (c : Core) (steps : List ℕ) → Begins batch settings opening k s → let numbers = numbers_in settings k in
+    IsGoing opening s batch numbers behind c steps → t ≡ (run (found batch opening) (setting_of batch numbers) c steps).store → PassInTurn (all_told batch settings) (aside_of (all_told batch settings) opening) k (setting_pairs batch numbers) c.moved steps c.store t
+run_is_turn batch settings opening k s t behind c [] b g e = e
+run_is_turn batch settings opening k s t behind c (i ∷ steps) b g e =
+    let numbers = numbers_in settings k in
+    let told = all_told batch settings in
+    let aside = aside_of told opening in
+    let j = slice_index c.moved i in
+    let l = next_known opening s batch numbers behind c i steps g in
+    let n = get_or numbers i 0 in
+    let next = step (found batch opening) (setting_of batch numbers) c i in
+    let moves = same_step batch settings opening k s c (λ x. times x behind) i b (has_moved opening s batch numbers behind c (i ∷ steps) b.ready g) l in
+    let over = is_passed batch settings opening k n j aside c.store next.store b.can b.within (Contains-get_or numbers i 0 l) (sym moves) in (
+      next.store,
+      subst (λ (q : Pair). PassesOver told aside k j q c.store next.store) (sym (pair_at batch numbers i l)) over,
+      run_is_turn batch settings opening k s t (behind ++ i ∷ []) next steps b (goes_on opening s batch numbers behind c i steps g) e,
+    )
+
+-- before a word has passed
+all_zero : (ts : List Transfer) → ◌≡◌ {A = List ℕ} (map (λ (p : Pair). 0) (map joined_pair ts)) (map (λ (t : Transfer). 0) ts)
+all_zero [] = refl
+all_zero (t ∷ ts) = ap (λ (ns : List ℕ). 0 ∷ ns) (all_zero ts)
+
+going_first : (opening s : Store) (batch : List Transfer) (numbers steps : List ℕ) → IsComplete (setting_of batch numbers) s.shape.words steps → IsGoing opening s batch numbers [] (at_start s (setting_of batch numbers)) steps
+going_first opening s batch numbers steps whole = record { is = refl; list = record { known = whole.known; bounded = λ i l. omega (arith, whole.complete i l) } }
+
+-- a setting that is obeyed is one that the machine runs
+pub setting_is_run : (batch : List Transfer) (settings : List (List ℕ)) (opening : Store) (k : ℕ) (s t : Store) → Begins batch settings opening k s → let numbers = numbers_in settings k in let told = all_told batch settings in
+    AreObeyedIn told (aside_of told opening) k (setting_pairs batch numbers) s t → (steps : List ℕ) × IsComplete (setting_of batch numbers) s.shape.words steps × (t ≡ (after_steps opening s batch numbers steps).store)
+setting_is_run batch settings opening k s t b h =
+    let numbers = numbers_in settings k in
+    let ts = setting_of batch numbers in
+    let told = all_told batch settings in
+    let pairs = setting_pairs batch numbers in
+    let whole : IsComplete ts s.shape.words h.0 = record { known = subst (λ (n : ℕ). All (λ i. i < n) h.0) (length-map ts joined_pair) h.1.known; complete = λ i l. h.1.all i (omega (arith, length-map ts joined_pair)) } in
+    let turn : PassInTurn told (aside_of told opening) k pairs (at_start s ts).moved h.0 s t = subst (λ (ns : List ℕ). PassInTurn told (aside_of told opening) k pairs ns h.0 s t) (all_zero ts) h.2 in
+    (h.0, whole, turn_is_run batch settings opening k s t [] (at_start s ts) h.0 b (going_first opening s batch numbers h.0 whole) turn)
+
+pub setting_is_obeyed : (batch : List Transfer) (settings : List (List ℕ)) (opening : Store) (k : ℕ) (s t : Store) (steps : List ℕ) → Begins batch settings opening k s → let numbers = numbers_in settings k in let told = all_told batch settings in
+    IsComplete (setting_of batch numbers) s.shape.words steps → t ≡ (after_steps opening s batch numbers steps).store → AreObeyedIn told (aside_of told opening) k (setting_pairs batch numbers) s t
+setting_is_obeyed batch settings opening k s t steps b whole e =
+    let numbers = numbers_in settings k in
+    let ts = setting_of batch numbers in
+    let told = all_told batch settings in
+    let pairs = setting_pairs batch numbers in (
+      steps,
+      record { known = subst (λ (n : ℕ). All (λ i. i < n) steps) (sym (length-map ts joined_pair)) whole.known; all = λ i l. whole.complete i (omega (arith, length-map ts joined_pair)) },
+      subst (λ (ns : List ℕ). PassInTurn told (aside_of told opening) k pairs ns steps s t) (sym (all_zero ts)) (run_is_turn batch settings opening k s t [] (at_start s ts) steps b (going_first opening s batch numbers steps whole) e),
+    )
+
+-- ---- one setting after another
+
+first_setting : (batch : List Transfer) (numbers more : List ℕ) → IsSetting batch (numbers ++ more) → IsSetting batch numbers
+first_setting batch numbers more h = record {
+  known = all_left (λ t. t < length batch) numbers more h.known;
+  distinct = λ i j l m e. h.distinct i j (omega (arith, length-append numbers more)) (omega (arith, length-append numbers more)) (get_or_append_left numbers more 0 i l ∙ e ∙ sym (get_or_append_left numbers more 0 j m));
+}
+
+ready_first : (opening s : Store) (batch : List Transfer) (numbers more : List ℕ) → IsReady opening s batch (numbers ++ more) → IsReady opening s batch numbers
+ready_first opening s batch numbers more r = record {
+  opening_whole = r.opening_whole;
+  whole = r.whole;
+  same_shape = r.same_shape;
+  agrees = r.agrees;
+  places = r.places;
+  apart = r.apart;
+  setting = first_setting batch numbers more r.setting;
+}
+
+-- what is still to come, from a setting on
+pub record IsAhead (batch : List Transfer) (settings : List (List ℕ)) (opening : Store) (k : ℕ) (s : Store) (more : List (List ℕ)) : Type 0 where
+  pub can : CanObey batch settings opening
+  pub rest : more ≡ drop k settings
+  pub ready : IsReady opening s batch (concat more)
+  pub agrees : Agrees batch settings opening k s
+
+ahead_within : (settings more : List (List ℕ)) (k : ℕ) (numbers : List ℕ) → numbers ∷ more ≡ drop k settings → k < length settings
+ahead_within settings more k numbers e = omega (arith, ap length e, length-drop k settings)
+
+here_is : (settings more : List (List ℕ)) (k : ℕ) (numbers : List ℕ) → numbers ∷ more ≡ drop k settings → (numbers ≡ numbers_in settings k) × (more ≡ drop (k + 1) settings)
+here_is settings more k numbers e =
+    let split = e ∙ drop_more settings k [] (ahead_within settings more k numbers e) in
+    (ap (λ (ls : List (List ℕ)). get_or ls 0 []) split, ap (λ (ls : List (List ℕ)). drop 1 ls) split)
+
+begins : (batch : List Transfer) (settings : List (List ℕ)) (opening : Store) (k : ℕ) (s : Store) (numbers : List ℕ) (more : List (List ℕ)) → IsAhead batch settings opening k s (numbers ∷ more) → Begins batch settings opening k s
+begins batch settings opening k s numbers more a = record {
+  can = a.can;
+  within = ahead_within settings more k numbers a.rest;
+  ready = subst (IsReady opening s batch) (here_is settings more k numbers a.rest).0 (ready_first opening s batch numbers (concat more) a.ready);
+  agrees = a.agrees;
+}
+
+-- behind a setting
+ahead_next : (batch : List Transfer) (settings : List (List ℕ)) (opening : Store) (k : ℕ) (s : Store) (numbers : List ℕ) (more : List (List ℕ)) (steps : List ℕ) → IsAhead batch settings opening k s (numbers ∷ more) → IsComplete (setting_of batch numbers) s.shape.words steps → IsAhead batch settings opening (suc k) (after_steps opening s batch numbers steps).store more
+ahead_next batch settings opening k s numbers more steps a whole =
+    let ts = setting_of batch numbers in
+    let b = begins batch settings opening k s numbers more a in
+    let is = here_is settings more k numbers a.rest in
+    let now = (after_steps opening s batch numbers steps).store in
+    let moved = complete_moves (found batch opening) opening s ts (Premises-from_ready opening s batch numbers (ready_first opening s batch numbers (concat more) a.ready)) steps whole in
+    record {
+      can = a.can;
+      rest = is.1 ∙ ap (λ (n : ℕ). drop n settings) (add-one k);
+      ready = ready_after opening s now batch numbers (concat more) (λ _. s.shape.words) a.ready moved;
+      agrees = λ p hp none.
+          let here : HasPlace s.shape p = subst (λ (x : Extent). HasPlace x p) moved.same_shape hp in
+          let both = ap (λ (n : ℕ). changed_by (before batch settings n) p) (add-one k) ∙ none in
+          let parts = or_none (changed_by (before batch settings k) p) (changed_by (setting_of batch (numbers_in settings k)) p) (sym (changed_up batch settings k p b.within) ∙ both) in
+          unchanged_now opening s now ts (λ _. s.shape.words) p moved here (a.agrees p here parts.0) (none_changes ts p (ap (λ (ns : List ℕ). changed_by (setting_of batch ns) p) is.0 ∙ parts.1));
+    }
+
+obeyed_is_run : (batch : List Transfer) (settings : List (List ℕ)) (opening : Store) (k : ℕ) (s t : Store) (more : List (List ℕ)) → IsAhead batch settings opening k s more → AreObeyedFrom (all_told batch settings) (aside_of (all_told batch settings) opening) k (map (setting_pairs batch) more) s t → IsRun opening s batch more t
+obeyed_is_run batch settings opening k s t [] a h = h
+obeyed_is_run batch settings opening k s t (numbers ∷ more) a h =
+    let told = all_told batch settings in
+    let is = here_is settings more k numbers a.rest in
+    let obeyed = subst (λ (ns : List ℕ). AreObeyedIn told (aside_of told opening) k (setting_pairs batch ns) s h.0) is.0 h.1 in
+    let ran = setting_is_run batch settings opening k s h.0 (begins batch settings opening k s numbers more a) obeyed in
+    let whole : IsComplete (setting_of batch numbers) s.shape.words ran.0 = subst (λ (ns : List ℕ). IsComplete (setting_of batch ns) s.shape.words ran.0) (sym is.0) ran.1 in
+    let now = (after_steps opening s batch numbers ran.0).store in
+    let same : h.0 ≡ now = ran.2 ∙ ap (λ (ns : List ℕ). (after_steps opening s batch ns ran.0).store) (sym is.0) in
+    (ran.0, whole, obeyed_is_run batch settings opening (suc k) now t more (ahead_next batch settings opening k s numbers more ran.0 a whole) (subst (λ (x : Store). AreObeyedFrom told (aside_of told opening) (suc k) (map (setting_pairs batch) more) x t) same h.2))
+
+run_is_obeyed_from : (batch : List Transfer) (settings : List (List ℕ)) (opening : Store) (k : ℕ) (s t : Store) (more : List (List ℕ)) → IsAhead batch settings opening k s more → IsRun opening s batch more t → AreObeyedFrom (all_told batch settings) (aside_of (all_told batch settings) opening) k (map (setting_pairs batch) more) s t
+run_is_obeyed_from batch settings opening k s t [] a h = h
+run_is_obeyed_from batch settings opening k s t (numbers ∷ more) a h =
+    let told = all_told batch settings in
+    let is = here_is settings more k numbers a.rest in
+    let now = (after_steps opening s batch numbers h.0).store in
+    let obeyed = setting_is_obeyed batch settings opening k s now h.0 (begins batch settings opening k s numbers more a)
+    (subst (λ (ns : List ℕ). IsComplete (setting_of batch ns) s.shape.words h.0) is.0 h.1)
+    (ap (λ (ns : List ℕ). (after_steps opening s batch ns h.0).store) is.0) in (
+      now,
+      subst (λ (ns : List ℕ). AreObeyedIn told (aside_of told opening) k (setting_pairs batch ns) s now) (sym is.0) obeyed,
+      run_is_obeyed_from batch settings opening (suc k) now t more (ahead_next batch settings opening k s numbers more h.0 a h.1) h.2,
+    )
+
+-- ---- all settings
+
+setting_from : (batch : List Transfer) (xs : List ℕ) → All (λ t. t < length batch) xs → AreDistinct xs → IsSetting batch xs
+setting_from batch xs known distinct = record {
+  known = known;
+  distinct = λ i j hi hj e. elim (cases_lt i j) [
+    | inl less ↦ absurd (distinct i j 0 less hj e)
+    | inr up ↦ elim (cases_lt j i) [
+      | inl less ↦ absurd (distinct j i 0 less hi (sym e))
+      | inr down ↦ omega arith
+    ]
+  ];
+}
+
+all_ahead : (batch : List Transfer) (settings : List (List ℕ)) (opening : Store) → CanObey batch settings opening → IsAhead batch settings opening 0 opening settings
+all_ahead batch settings opening can = record {
+  can = can;
+  rest = refl;
+  ready = record {
+    opening_whole = can.whole;
+    whole = can.whole;
+    same_shape = refl;
+    agrees = λ i l none. refl;
+    places = can.places;
+    apart = can.apart;
+    setting = setting_from batch (concat settings) (is_known batch settings can.schedule) (is_once batch settings can.schedule).distinct;
+  };
+  agrees = λ p hp none. refl;
+}
+
+pub obeyed_is_placed : ObeyedIsPlaced
+obeyed_is_placed batch settings opening new can h =
+    let ahead = all_ahead batch settings opening can in
+    let ran = obeyed_is_run batch settings opening 0 opening new settings ahead h in
+    whole_batch_is_placed opening opening new batch (concat settings) ahead.ready (is_once batch settings can.schedule).every (run_is_placed opening opening new batch settings ahead.ready ran)
+
+pub run_is_obeyed : RunIsObeyed
+run_is_obeyed batch settings opening new can h = run_is_obeyed_from batch settings opening 0 opening new settings (all_ahead batch settings opening can) h

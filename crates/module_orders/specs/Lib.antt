@@ -1,0 +1,5 @@
+pub mod Orders
+pub mod Flags
+pub mod OrdersText
+pub mod Obeying
+pub mod Laws

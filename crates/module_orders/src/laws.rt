@@ -1,0 +1,24 @@
+//! Laws of orders, of the modules that obey them, and of their text. They make no call.
+
+ghost use Rattle.module_orders.specs.Laws.{JoinedHaveOrders, LinksHaveOne, ObeyedIsPlaced, OneTold, OrdersMeet, RunIsObeyed};
+
+/// Each order of a link has its opposite at the link to which its setting joins it: one sends, the
+/// other receives. A link has one order at most in a setting, and each that is joined has one.
+pub fn orders_meet()
+    ensures meet { OrdersMeet }
+    ensures one { LinksHaveOne }
+    ensures joined { JoinedHaveOrders }
+{}
+
+/// Modules that obey all their orders, setting by setting, place all blocks of a batch without
+/// overlaps, in whatever order words pass within a setting. And in whatever order the words of each
+/// setting are moved, modules can obey so.
+pub fn obeying()
+    ensures placed { ObeyedIsPlaced }
+    ensures any_order { RunIsObeyed }
+{}
+
+/// A text tells one thing at most.
+pub fn one_reading()
+    ensures { OneTold }
+{}
