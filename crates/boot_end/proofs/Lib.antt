@@ -1,2 +1,4 @@
 pub mod Fronts
 pub mod Feeding
+pub mod Parts
+pub mod Windows

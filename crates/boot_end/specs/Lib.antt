@@ -1,3 +1,4 @@
 pub mod Memory
 pub mod States
 pub mod Taking
+pub mod Laws
