@@ -31,6 +31,17 @@ WIDE = f"{EXAMPLES}/wide-rack.txt"
 # An enquiry of each output.
 ASKED = bytes(byte for output in range(32) for byte in (ENQUIRE, output))
 
+# The byte that ends a sequence.
+END = b"\x03"
+
+# As a switch comes up: what ends a command and resets, a join of each output to its own input, and
+# the enquiries, of which these are so many.
+JOINED = b"\x03\x03\x04" + bytes(byte for output in range(32) for byte in (0, output, output))
+WOKEN, ENQUIRIES = JOINED + ASKED, 32
+
+# What it is sent up to the first enquiry.
+FIRST_ASKED = WOKEN[: len(JOINED) + 2]
+
 
 def ask(*words, given=b""):
     """What the program prints, standard error with it, and its status."""
@@ -44,9 +55,11 @@ def start_drive(*words):
 
 
 def end_of(process, given=None):
-    """The lines that a program has printed at its end, and its status."""
+    """The lines that a program has printed at its end, but for what it tells beside them, and its
+    status."""
     printed = process.communicate(given)[0]
-    return printed.decode().splitlines(), process.returncode
+    lines = printed.decode().splitlines()
+    return [line for line in lines if not line.startswith("exchange: ")], process.returncode
 
 
 def drive(*words, given=b""):
@@ -70,15 +83,21 @@ def all_driven(lines):
     return lines + [f"driven settings {len(lines)}"], 0
 
 
+def driven(settings):
+    """What a switch is to be sent that is set so, setting by setting: it comes up, and behind the bytes
+    of each setting that changes it are the enquiries, and the end of the sequence again."""
+    sent = [b"" if setting == END else setting + ASKED + END for setting in settings]
+    return [WOKEN + sent[0], *sent[1:]] if sent else []
+
+
 def sent_for(batch, *options):
-    """What each switch is to be sent, by `switch`: of each setting the bytes that set it, and then
-    the enquiries."""
+    """What each switch is to be sent, by `switch`."""
     sent = {}
     for line in ask("switch", batch, *options)[0].splitlines():
         _, _, *words = line.split()
         name = words.pop(0) if words[0] in ("a", "b") else ""
-        sent.setdefault(name, []).append(bytes.fromhex("".join(words)) + ASKED)
-    return [sent[name] for name in sorted(sent)]
+        sent.setdefault(name, []).append(bytes.fromhex("".join(words)))
+    return [driven(sent[name]) for name in sorted(sent)]
 
 
 def is_batch(path):
@@ -189,12 +208,13 @@ def board_text(links):
 def sent_by(wiring, batch):
     """What the switch of a board is to be sent, by the second implementation, for each setting."""
     transfers, settings = plan_of(batch)
-    return [bytes(sent) + ASKED for _, _, [(_, sent)] in switching.told(transfers, settings, wiring)]
+    return driven([bytes(sent) for _, _, [(_, sent)] in switching.told(transfers, settings, wiring)])
 
 
 def touched(sent):
-    """The links that commands join or cut behind the first, which is a reset. Another reset cuts all."""
-    links, left = set(), list(sent[1:])
+    """The links that commands join or cut once it has come up, behind the first, which is a reset.
+    Another reset cuts all."""
+    links, left = set(), list(sent[len(WOKEN) + 1 :])
     while left:
         byte = left.pop(0)
         named = [left.pop(0) for _ in range(PORTS[byte])]
@@ -265,6 +285,7 @@ def left_alone():
     chip = Far(Pipes("port"))
     process = start_drive(THREE, "port", *options)
     yield process.stdout.readline(), b"setting 0 0 2\n"
+    yield chip.sent_by_now(sent_for(THREE, *options)[0][0]), sent_for(THREE, *options)[0][0]
     chip.chip.switch.obey(0, [3, 30])
     yield end_of(process, b"\n"), (["stopped setting 1 switch 30"], 1)
 
@@ -304,7 +325,7 @@ def hears_in_order():
     first, second = sent_for(THREE)[0]
     process = start_drive(THREE, "port")
     yield process.stdout.readline(), b"setting 0 0 2\n"
-    yield bytes(chip.sent), first
+    yield chip.sent_by_now(first), first
     for text in b"", b"go", b" on\r":
         process.stdin.write(text)
         process.stdin.flush()
@@ -314,7 +335,7 @@ def hears_in_order():
     process.stdin.write(b"\n")
     process.stdin.flush()
     yield process.stdout.readline(), b"setting 1 1\n"
-    yield bytes(chip.sent), first + second
+    yield chip.sent_by_now(first + second), first + second
     yield process.poll(), None
     yield end_of(process, b"\n"), (["driven settings 2"], 0)
     yield chip.heard(), (first + second, [])
@@ -346,6 +367,7 @@ def no_line_comes():
     first = sent_for(THREE)[0][0]
     process = start_drive(THREE, "port")
     yield process.stdout.readline(), b"setting 0 0 2\n"
+    yield chip.sent_by_now(first), first
     for _ in range(20):
         process.stdin.write(b"no line feed " * 200)
         process.stdin.flush()
@@ -420,7 +442,8 @@ def forgets():
         for which in names:
             for number in range(turns_of(batch, which)):
                 fault = fault_of(batch, which, number)
-                chips = [Far(Pipes(f"port{name}"), forgets=number if name == which else None) for name in names]
+                # The joins as it comes up are counted too.
+                chips = [Far(Pipes(f"port{name}"), forgets=ENQUIRIES + number if name == which else None) for name in names]
                 lines, status = drive(batch, *(chip.way.port for chip in chips), "--go-on")
                 wanted = all_driven(lines_for(batch)) if fault is None else stopped(batch, fault[0], f"switch {fault[1]}")
                 yield (batch, number, (lines, status)), (batch, number, wanted)
@@ -464,12 +487,14 @@ def wide_batch():
 
 
 def lies_at(batch, *options):
-    """A switch that lies once, at each output of each setting, and of two each in turn."""
+    """A switch that lies once, at each output of each setting, and of two each in turn. Then it is
+    silent: the lie is found out as it comes."""
     wanted = sent_for(batch, *options)
     for which, sent in enumerate(wanted):
-        for number, answer in enumerate(true_answers(sent)):
-            lie = {number: lie_for(number, answer)}
-            chips = [Far(Pipes(f"port{n}"), lies=lie if n == which else None) for n in range(len(wanted))]
+        for number, answer in enumerate(true_answers(sent)[ENQUIRIES:]):
+            asked = ENQUIRIES + number
+            lie = {asked: lie_for(number, answer)}
+            chips = [Far(Pipes(f"port{n}"), lies=lie, silent=asked + 1) if n == which else Far(Pipes(f"port{n}")) for n in range(len(wanted))]
             ended = drive(batch, *(chip.way.port for chip in chips), *options, "--go-on")
             output = number % 32 + 32 * which
             yield (which, number, ended), (which, number, stopped(batch, number // 32, f"switch {output}"))
@@ -489,10 +514,18 @@ def two_lie():
 
 def is_loose():
     """Of an answer whose top bit is 0 nothing else is read: the output is loose."""
-    loose = [number for number, answer in enumerate(true_answers(sent_for(THREE)[0])) if answer < 0x80]
-    chip = Far(Pipes("port"), lies={number: 1 + 2 * number for number in loose})
+    loose = [number for number, answer in enumerate(true_answers(sent_for(THREE)[0])) if number >= ENQUIRIES and answer < 0x80]
+    chip = Far(Pipes("port"), lies={number: 1 + number for number in loose})
     yield drive(THREE, "port", "--go-on"), all_driven(lines_for(THREE))
     yield chip.heard()[1], []
+
+
+def ended_at(batch, first, second, count):
+    """What is printed where a switch of two settings dies behind so many bytes: no answer comes to an
+    enquiry that ends there."""
+    if count == len(first + second):
+        return all_driven(lines_for(batch))
+    return stopped(batch, int(count >= len(first)), "port")
 
 
 def dies_at_pipes():
@@ -500,7 +533,7 @@ def dies_at_pipes():
     first, second = sent_for(THREE)[0]
     for count in range(len(first + second) + 1):
         chip = Far(Pipes("port"), dies=count)
-        yield (count, drive(THREE, "port", "--go-on")), (count, stopped(THREE, int(count > len(first)), "port"))
+        yield (count, drive(THREE, "port", "--go-on")), (count, ended_at(THREE, first, second, count))
         yield chip.heard(), ((first + second)[:count], [])
         put_away("port")
 
@@ -512,8 +545,8 @@ def one_of_two_dies():
     for which, (first, second) in enumerate(wanted):
         for count in range(len(first + second) + 1):
             chips = [Far(Pipes(f"port{n}"), dies=count if n == which else None) for n in range(2)]
-            number = int(count > len(first))
-            yield (which, count, drive(batch, "port0", "port1", "--go-on")), (which, count, stopped(batch, number, "port"))
+            number = int(count >= len(first))
+            yield (which, count, drive(batch, "port0", "port1", "--go-on")), (which, count, ended_at(batch, first, second, count))
             heard, early = chips[which].heard()
             yield (heard, early), ((first + second)[:count], [])
             heard, early = chips[1 - which].heard()
@@ -527,17 +560,22 @@ def one_of_two_dies():
 def dies_at_a_pty():
     """The same at a pty, for some N."""
     first, second = sent_for(THREE)[0]
-    for count in 1, 3, 8, 9, 10, 71, 72, 73, 90, 145, 146:
+    whole = len(first + second)
+    for count in 1, 3, 4, 100, 101, 102, 163, 164, 171, 173, 235, 236, 237, 246, 248, whole - 1, whole:
         chip = Far(Pty("port"), dies=count)
-        yield (count, drive(THREE, "port", "--go-on")), (count, stopped(THREE, int(count > len(first)), "port"))
+        yield (count, drive(THREE, "port", "--go-on")), (count, ended_at(THREE, first, second, count))
         yield chip.heard(), ((first + second)[:count], [])
         put_away("port")
 
 
 def says_too_much():
-    """A switch that says a byte more than it is asked: the next output is heard to have it."""
-    Far(Pipes("port"), adds={4: b"\x8f"})
+    """A switch that says a byte more than it is asked: the next output is heard to have it. As it
+    comes up that is taken for an old answer."""
+    Far(Pipes("port"), adds={ENQUIRIES + 4: b"\x8f"})
     yield drive(THREE, "port", "--go-on"), stopped(THREE, 0, "switch 5")
+    put_away("port")
+    Far(Pipes("port"), adds={4: b"\x8f"})
+    yield drive(THREE, "port", "--go-on"), all_driven(lines_for(THREE))
 
 
 def at_a_pty():
@@ -554,18 +592,105 @@ def at_a_pty():
 def is_silent():
     """A switch that answers nothing, at a pty whose reads end by themselves: it is sent one
     enquiry."""
-    chip = Far(Pty("port", ["raw", "-echo", "min", "0", "time", "2"]), is_silent=True)
+    chip = Far(Pty("port", ["raw", "-echo", "min", "0", "time", "2"]), silent=0)
     yield drive(THREE, "port", "--go-on"), stopped(THREE, 0, "port")
-    yield chip.heard(), (sent_for(THREE)[0][0][:10], [])
+    yield chip.heard(), (FIRST_ASKED, [])
+
+
+# ---- switches as they were left
+
+
+def left_by_another():
+    """A switch that was left within what a drive sends, at each place of two settings, with up to 30
+    answers in its line: it comes up, and all settings stand."""
+    first, second = sent_for(THREE)[0]
+    chance = random.Random(69)
+    for count in range(len(first + second) + 1):
+        old = bytes(chance.choice((0, 0x80 | chance.randrange(32), chance.randrange(256))) for _ in range(count % 31))
+        for make in [Pipes, Pty] if count % 20 == 0 else [Pipes]:
+            chip = Far(make("port"), left=(first + second)[:count], old=old)
+            yield (count, drive(THREE, "port", "--go-on")), (count, all_driven(lines_for(THREE)))
+            yield chip.heard(), (first + second, [])
+            put_away("port")
+
+
+def killed():
+    """Drives that are killed at a slow switch, one after another, over one pty: the next one drives all."""
+    for count in 1, 100, 101, 102, 130, 163, 165, 172, 190, 235, 240:
+        chip = Far(Pty("port"), waits=70)
+        process = start_drive(THREE, "port", "--go-on")
+        while len(chip.sent) < count:
+            time.sleep(0.001)
+        stopped_waiting(process)
+        yield (count, drive(THREE, "port", "--go-on")), (count, all_driven(lines_for(THREE)))
+        chip.heard()
+        put_away("port")
+
+
+def two_left():
+    """Two switches, each left in another way."""
+    batch = wide_batch()
+    wanted = sent_for(batch)
+    for count in range(0, len(wanted[0][0]), 7):
+        chips = [Far(Pipes(f"port{n}"), left=b"".join(wanted[n])[: count + n], old=bytes([0x91] * ((count + 5 * n) % 31))) for n in range(2)]
+        yield (count, drive(batch, "port0", "port1", "--go-on")), (count, all_driven(lines_for(batch)))
+        yield [chip.heard() for chip in chips], [(b"".join(sent), []) for sent in wanted]
+        put_away("port0", "port1")
+
+
+def too_many_left():
+    """More old answers than can be told, and what is no answer: it doesn't go on to a setting."""
+    for old in bytes(32), b"\x05" * 40, b"\x9f\xff" * 16:
+        chip = Far(Pipes("port"), old=old)
+        yield drive(THREE, "port", "--go-on"), stopped(THREE, 0, "port")
+        yield chip.heard(), (WOKEN, [])
+        put_away("port")
+
+
+def loses_an_end():
+    """A switch to which the byte doesn't come that ends the joins of a setting: all outputs answer
+    rightly, and it isn't ready. It is once the setting is told."""
+    first, second = sent_for(THREE)[0]
+    for number, loses in enumerate([len(first) - len(ASKED) - 2, len(first + second) - len(ASKED) - 2]):
+        chip = Far(Pipes("port"), loses=loses)
+        process = start_drive(THREE, "port")
+        for line in lines_for(THREE)[: number + 1]:
+            yield process.stdout.readline().decode(), f"{line}\n"
+            if line != lines_for(THREE)[number]:
+                process.stdin.write(b"\n")
+                process.stdin.flush()
+        sent = b"".join([first, second][: number + 1])
+        yield (sent[loses], chip.sent_by_now(sent)), (3, sent)
+        yield chip.chip.switch.is_ready, True
+        stopped_waiting(process)
+        chip.heard()
+        put_away("port")
+
+
+def taken_up():
+    """A schedule from each of its settings on: the first one is set as from a reset."""
+    for batch in THREE, wide_batch(), f"{EXAMPLES}/patterns/halo.txt":
+        transfers, settings = plan_of(batch)
+        names = switching.switches_for(transfers)
+        for first in range(len(settings)):
+            told = list(switching.told(transfers, settings[first:]))
+            wanted = [driven([bytes(dict(sent)[name]) for _, _, sent in told]) for name in names]
+            chips = [Far(Pipes(f"port{n}")) for n in range(len(names))]
+            ended = drive(batch, *(chip.way.port for chip in chips), "--go-on", "--from", str(first))
+            lines = lines_for(batch)
+            yield (batch, first, ended), (batch, first, (lines[first:] + [f"driven settings {len(lines)}"], 0))
+            yield [chip.heard() for chip in chips], [(b"".join(sent), []) for sent in wanted]
+            put_away("port0", "port1")
+        yield first_line(batch, *(["none"] * len(names)), "--from", str(len(settings))), (f"refused no setting {len(settings)}", 1)
 
 
 def keeps_lines():
     """A pty that keeps what comes until a line feed, with and without sending it back to the
     switch, and with reads that would end if it were raw: `drive` waits, as docs/SWITCHES.md says. It
     has sent one enquiry and told nothing, and is killed."""
-    asked = sent_for(THREE)[0][0][:10]
+    asked = FIRST_ASKED.replace(b"\n", b"\r\n")
     for modes, sent in [
-        (["echo"], asked + b"\x91"),
+        (["echo"], asked + b"\x80"),
         (["-echo"], asked),
         (["-echo", "min", "0", "time", "2"], asked),
     ]:
@@ -587,7 +712,8 @@ def alters_bytes():
     write_batch("batch", [(10, 0)])
     chip = Far(Pty("port", ["raw", "-echo", "opost", "onlcr"]))
     yield drive("batch", "port", "--go-on"), stopped("batch", 0, "switch 10")
-    yield chip.heard()[0], sent_for("batch")[0][0].replace(b"\x0a", b"\x0d\x0a")
+    sent = sent_for("batch")[0][0]
+    yield chip.heard()[0], sent[: len(sent) - len(ASKED) - 1 + 22].replace(b"\x0a", b"\x0d\x0a")
 
 
 def at_a_file():
@@ -596,7 +722,7 @@ def at_a_file():
         pass
     yield drive(THREE, "port", "--go-on"), stopped(THREE, 0, "port")
     with open("port", "rb") as file:
-        yield file.read(), sent_for(THREE)[0][0][:10]
+        yield file.read(), FIRST_ASKED
     yield drive(THREE, "/dev/null", "--go-on"), stopped(THREE, 0, "port")
 
 
@@ -821,7 +947,7 @@ CASES = [
     examples, many_settings, other_schedules, a_pty_and_c004, hears_in_order, input_ends, no_line_comes, batch_on_input, is_late, forgets,
     lies, two_lie, is_loose, dies_at_pipes, one_of_two_dies, dies_at_a_pty, says_too_much, at_a_pty, is_silent, keeps_lines, alters_bytes,
     at_a_file, refuses, output_is_full, no_memory, no_memory_steady, no_memory_schedule, no_memory_two_ports, no_memory_on_a_board,
-    answers_at_once, chip_ends,
+    left_by_another, killed, two_left, too_many_left, loses_an_end, taken_up, answers_at_once, chip_ends,
     c004_no_memory, texts, boards, a_board_at_c004, the_usual_board, lies_on_a_board, left_alone, refuses_boards,
 ]  # fmt: skip
 

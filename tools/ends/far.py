@@ -7,6 +7,7 @@ import select
 import subprocess
 import termios
 import threading
+import time
 
 from chip import Chip
 
@@ -73,15 +74,21 @@ class Far(threading.Thread):
     dies        how many bytes it reads before it closes its ends; it answers none that ends there
     waits       before how many answers it looks for PAUSE whether a byte comes too early
     adds        what it says behind the enquiry of each such number
-    is_silent   whether it answers nothing
+    silent      the enquiry from whose number on it answers nothing
+    loses       the number of the byte that doesn't come to it, from 0
+    left        what it was sent before, so that it may stand within a command
+    old         answers that stand in its line at first
     piece       how many bytes it reads at once
     """
 
-    def __init__(self, way, forgets=None, lies=None, dies=None, waits=0, adds=None, is_silent=False, piece=4096):
+    def __init__(self, way, forgets=None, lies=None, dies=None, waits=0, adds=None, silent=None, loses=None, left=b"", old=b"", piece=4096):
         super().__init__(daemon=True)
         self.way, self.chip = way, Chip()
         self.chip.forgets = forgets
-        self.lies, self.dies, self.waits, self.adds, self.is_silent, self.piece = lies or {}, dies, waits, adds or {}, is_silent, piece
+        for byte in left:
+            self.chip.take(byte)
+        self.lies, self.dies, self.waits, self.adds, self.piece = lies or {}, dies, waits, adds or {}, piece
+        self.silent, self.loses, self.old = silent, loses, old
         self.sent, self.enquiries, self.early = bytearray(), 0, []
         self.is_open = threading.Event()
         self.start()
@@ -89,6 +96,7 @@ class Far(threading.Thread):
     def run(self):
         self.way.open()
         self.is_open.set()
+        os.write(self.way.write, self.old)
         try:
             while self.dies is None or len(self.sent) < self.dies:
                 most = self.piece if self.dies is None else self.dies - len(self.sent)
@@ -105,6 +113,8 @@ class Far(threading.Thread):
     def hear(self, byte, behind):
         """Takes a byte, behind which these came at once, and answers."""
         self.sent.append(byte)
+        if len(self.sent) - 1 == self.loses:
+            return
         answer = self.chip.take(byte)
         if answer is None:
             return
@@ -112,7 +122,7 @@ class Far(threading.Thread):
         self.enquiries += 1
         if behind or self.is_sent_more(PAUSE if number < self.waits else 0):
             self.early.append(number)
-        if not self.is_silent and len(self.sent) != self.dies:
+        if (self.silent is None or number < self.silent) and len(self.sent) != self.dies:
             os.write(self.way.write, bytes([self.lies.get(number, answer)]) + self.adds.get(number, b""))
 
     def is_sent_more(self, seconds):
@@ -122,6 +132,14 @@ class Far(threading.Thread):
             return False
         count = fcntl.ioctl(self.way.read, termios.FIONREAD, b"\0" * 4)
         return any(count)
+
+    def sent_by_now(self, wanted):
+        """What it was sent, once it has read so many bytes as are wanted, or a second has passed."""
+        for _ in range(100):
+            if len(self.sent) >= len(wanted):
+                break
+            time.sleep(0.01)
+        return bytes(self.sent)
 
     def heard(self):
         """What it was sent, once it has read all, and the enquiries before whose answers a byte

@@ -108,7 +108,7 @@ noted request end (Some line) eb em ea on beside (inr t) =
 -- what is told of a file that can't be read
 pub file_told : (r : Option (String Global)) → IfSome r (λ line. IsWholeLine (string_bytes line)) → IsNoteOn (unanswered File) (bytes_of_line r)
 file_told None h = tt
-file_told (Some text) h = record { refused = refl; of = (refusal.File, (λ e. cc), refl); whole = h }
+file_told (Some text) h = record { refused = refl; of = inl (refusal.File, (λ e. cc), refl); whole = h }
 
 -- an answer that is printed behind it
 pub answered : {E : Type 0} (r : Result ℕ E) (named : Named) (keeps : Job → Response → Type 0) (given : Given) (request : Request) (told : List ℕ) (left : Option Account) (ports : Ways) (ends : List SessionEnd) (done : Answered) (out_before out_after has eb em ea : Option (List ℕ))

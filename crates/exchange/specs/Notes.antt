@@ -1,5 +1,5 @@
 -- What is told on standard error beside what is printed.
-use Rattle.std.specs.Prelude.{◌≡◌, ◌≢◌, ◌⊎◌, ◌++◌, ⊤, ℕ, Bool, false, List, [], Option, Some, None, IfSome}
+use Rattle.std.specs.Prelude.{◌≡◌, ◌≢◌, ◌⊎◌, ◌++◌, ⊤, ℕ, Bool, false, List, [], Option, Some, None, IfSome, codes}
 use Rattle.std.specs.Io.KnownBytes.{Appends}
 use Rattle.client_session.specs.Listening.{Told, TellsOfRefusals}
 use Rattle.plan_answers.specs.Refusals.{Printed}
@@ -19,14 +19,18 @@ use Rattle.exchange.specs.Responses.{IsTalk}
 abbrev pub SaysRefusal : List ℕ → Type 0
 SaysRefusal line = (refusal : Refusal) × (refusal ≢ NoMemory) × (line ≡ refusal_line refusal)
 
+-- it says that a drive stopped
+abbrev pub SaysStop : List ℕ → Type 0
+SaysStop line = (words : List ℕ) × (line ≡ codes "stopped " ++ words)
+
 -- it is a whole line that begins with the program's name
 abbrev pub IsWholeLine : List ℕ → Type 0
 IsWholeLine line = (words : List ℕ) × (line ≡ line_told words)
 
--- the line is told of an answer: of a refusal, and of nothing else
+-- the line is told of an answer: of a refusal, or where a drive stopped, and of nothing else
 pub record HasSecondLine (printed : Printed) (line : List ℕ) : Type 0 where
   pub refused : printed.status ≡ REFUSED
-  pub of : SaysRefusal printed.text
+  pub of : SaysRefusal printed.text ⊎ SaysStop printed.text
   pub whole : IsWholeLine line
 
 -- what is told of what is printed, if anything is
@@ -73,7 +77,7 @@ IsBeside request before after =
     × ((told : List ℕ) × Appends before after told))
 
 -- what was told on standard error of an answer, behind what was told beside a session: nothing, or
--- one text of a refusal, and nothing where the arguments ask for that
+-- one text of a refusal or of what stopped a drive, and nothing where the arguments ask for that
 abbrev pub IsNoted : Request → Printed → Option (List ℕ) → Option (List ℕ) → Type 0
 IsNoted request end before after =
     (mid : Option (List ℕ)) × IsBeside request before mid

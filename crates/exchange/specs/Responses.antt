@@ -92,7 +92,7 @@ IsAnswerTo (Switch batch source wiring workers) files given response =
     (text_in files.list)) files.wiring response.end
 IsAnswerTo (Drive batch port port_b source wiring first goes_on workers) files given response =
     (response.left ≡ None)
-    × IsDriveBy (source_in source (text_in files.other)) (text_in files.list) files.wiring goes_on
+    × IsDriveBy (source_in source (text_in files.other)) (text_in files.list) files.wiring first goes_on
     (names_in port port_b) given.input given.ports response.ports response.told response.end
 IsAnswerTo C004 files given response =
     (response.left ≡ None) × IsC004By given.input response.told response.end
@@ -121,7 +121,7 @@ IsAnswerTo (Replay shape recorded image) files given response =
 -- what was told before an answer where not all of it could be written
 abbrev pub IsToldCut : Job → Files (List ℕ) → Given → Ways → List ℕ → Type 0
 IsToldCut (Drive batch port port_b source wiring first goes_on workers) files given ports told =
-    IsDriveCut (source_in source (text_in files.other)) (text_in files.list) files.wiring goes_on
+    IsDriveCut (source_in source (text_in files.other)) (text_in files.list) files.wiring first goes_on
     (names_in port port_b) given.input given.ports ports told
 IsToldCut C004 files given ports told = IsC004Cut given.input told
 IsToldCut job files given ports told = ⊥

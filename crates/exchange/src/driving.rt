@@ -10,15 +10,28 @@ ghost use Rattle.exchange.specs.Outcomes.{HasTold, IsNoAnswer};
 ghost use Rattle.exchange.specs.Responses.{source_in, text_in};
 
 use crate::contents::{Contents, slice_of, source_with, text_of};
-use crate::found::Found;
+use crate::found::{Found, Lack};
 use crate::notes::NoAnswer;
 use command_words::Text;
-use drive_answers::{DriveFault, PortNames, Ports, answer_drive};
+use crossbar::Chip;
+use drive_answers::{
+    DriveEnd, DriveFault, PortFailure, PortFile, PortNames, Ports, Sight, answer_drive,
+};
 use exchange_limits::WorkerCount;
-use plan_answers::{Answer, Source};
-use std::io::{Read, Write};
+use plan_answers::Source;
+use refusals::PortName;
+use std::alloc::{AllocError, Global};
+use std::io;
+use std::io::{ErrorKind, Read, Write};
 use std::thread::Threads;
 use switch_driver::Lines;
+
+/// How a drive by lines ended, and why no line could be read, where one couldn't.
+#[derive(Drop)]
+struct LinesEnd {
+    end: Result<DriveEnd, DriveFault>,
+    unread: Option<io::Error>,
+}
 
 /// What is answered to these texts behind lines that are told on `out`. Behind each a line of
 /// `input` is waited for, unless it goes on.
@@ -27,22 +40,23 @@ fn answer_lines<R: AllocGlobal + Threads + Sync, P: Ports, I: Read, O: Write>(
     workers: WorkerCount,
     source: &Source<Text>,
     contents: &Contents,
+    first: usize,
     names: PortNames<'_>,
     goes_on: bool,
     ports: &mut P,
     input: &mut I,
     out: &mut O,
-) -> Result<Answer, DriveFault>
+) -> LinesEnd
     ensures { (told : List ℕ) × Appends (O.contents out.old) (O.contents out.new) told
-        × IfOk result (let files = contents_in contents.now in
+        × IfOk result.end (λ end. let files = contents_in contents.now in
         IsDriveBy (source_in source.now (text_in files.other)) (text_in files.list) files.wiring
-        goes_on (names_of names.entry) (I.remaining input.old) (P.ways ports.old)
-        (P.ways ports.new) told)
-        × IfErr result (λ fault. (fault ≡ NoMemory
+        first goes_on (names_of names.entry) (I.remaining input.old) (P.ways ports.old)
+        (P.ways ports.new) told end.answer)
+        × IfErr result.end (λ fault. (fault ≡ NoMemory
         → (told ≡ []) × (P.ways ports.new ≡ P.ways ports.old))
         × (fault ≡ Untold → let files = contents_in contents.now in
         IsDriveCut (source_in source.now (text_in files.other)) (text_in files.list) files.wiring
-        goes_on (names_of names.entry) (I.remaining input.old) (P.ways ports.old)
+        first goes_on (names_of names.entry) (I.remaining input.old) (P.ways ports.old)
         (P.ways ports.new) told)) }
 {
     let (list, wiring) = (text_of(&contents.list), slice_of(&contents.wiring));
@@ -50,20 +64,23 @@ fn answer_lines<R: AllocGlobal + Threads + Sync, P: Ports, I: Read, O: Write>(
     let alloc = rt.alloc();
     let mut lines = Lines::new(input, out, !goes_on);
     let end = answer_drive(
-        rt, alloc, wiring, list, source, workers, names, ports, &mut lines,
+        rt, alloc, wiring, list, source, workers, first, names, ports, &mut lines,
     );
+    let unread = lines.take_unread();
     // It does nothing when the program runs: the proof reads from it what `out` holds.
     lines.into_out();
-    end
+    LinesEnd { end, unread }
 }
 
-/// The answer of `exchange drive BATCH PORT [PORT_B]`, behind the lines that are told on `out`,
-/// each once its setting stands. Behind each a line of `input` is waited for, unless it goes on.
+/// The answer of `exchange drive BATCH PORT [PORT_B]`, from this setting on, behind the lines that
+/// are told on `out`, each once its setting stands. Behind each a line of `input` is waited for,
+/// unless it goes on.
 pub(crate) fn drive<R: AllocGlobal + Threads + Sync, P: Ports, I: Read, O: Write>(
     rt: &R,
     workers: WorkerCount,
     source: &Source<Text>,
     contents: &Contents,
+    first: usize,
     names: PortNames<'_>,
     goes_on: bool,
     ports: &mut P,
@@ -73,20 +90,85 @@ pub(crate) fn drive<R: AllocGlobal + Threads + Sync, P: Ports, I: Read, O: Write
     ensures answer { HasTold (O.contents out.old) (O.contents out.new)
         (λ told found. let files = contents_in contents.now in (found.book ≡ None)
         × IsDriveBy (source_in source.now (text_in files.other)) (text_in files.list) files.wiring
-        goes_on (names_of names.entry) (I.remaining input.old) (P.ways ports.old)
+        first goes_on (names_of names.entry) (I.remaining input.old) (P.ways ports.old)
         (P.ways ports.new) told found.answer)
         (λ told. (told ≡ []) × (P.ways ports.new ≡ P.ways ports.old))
         (λ told. let files = contents_in contents.now in
         IsDriveCut (source_in source.now (text_in files.other)) (text_in files.list) files.wiring
-        goes_on (names_of names.entry) (I.remaining input.old) (P.ways ports.old)
+        first goes_on (names_of names.entry) (I.remaining input.old) (P.ways ports.old)
         (P.ways ports.new) told) result }
     ensures note { IfErr result (λ missed. IsNoAnswer missed) }
 {
-    let answer = answer_lines(
-        rt, workers, source, contents, names, goes_on, ports, input, out,
-    )?;
-    Ok(Found {
-        unopened: ports.take_failure(),
-        ..Found::alone(answer)
-    })
+    let LinesEnd { end, unread } = answer_lines(
+        rt, workers, source, contents, first, names, goes_on, ports, input, out,
+    );
+    match end {
+        Ok(end) => {
+            let failure = ports.take_failure();
+            let lack = lack_of(rt.alloc(), names, failure, end.sight, unread);
+            Ok(Found {
+                lack,
+                ..Found::alone(end.answer)
+            })
+        }
+        Err(fault) => Err(fault.into()),
+    }
+}
+
+/// What is told of a port that failed, of an output that disagrees, or of input that can't be read.
+fn lack_of(
+    alloc: Global,
+    names: PortNames<'_>,
+    failure: Option<PortFailure>,
+    sight: Option<Sight>,
+    unread: Option<io::Error>,
+) -> Option<Lack> {
+    if let Some(failure) = failure {
+        return port_lack(alloc, names, &failure).ok();
+    }
+    if let Some(sight) = sight {
+        return sight_lack(alloc, names, &sight).ok();
+    }
+    input_lack(alloc, &unread?).ok()
+}
+
+/// What is told of a port that couldn't be opened, or that failed.
+fn port_lack(
+    alloc: Global,
+    names: PortNames<'_>,
+    failure: &PortFailure,
+) -> Result<Lack, AllocError> {
+    let port = match failure.port {
+        PortName::A => names.port,
+        PortName::B => names.port_b.unwrap_or(""),
+    };
+    let end = match failure.file {
+        PortFile::Port => "",
+        PortFile::In => ".in",
+        PortFile::Out => ".out",
+    };
+    let why = match failure.why.kind() {
+        ErrorKind::UnexpectedEof => format!(in alloc; "it ended")?,
+        _ => failure.why.to_string(alloc)?,
+    };
+    let name = format!(in alloc; "{port}{end}")?;
+    Ok(Lack { name, why })
+}
+
+/// What is told of an output that disagrees.
+fn sight_lack(alloc: Global, names: PortNames<'_>, sight: &Sight) -> Result<Lack, AllocError> {
+    let port = match sight.chip() {
+        Chip::A => names.port,
+        Chip::B => names.port_b.unwrap_or(""),
+    };
+    let name = format!(in alloc; "{port}")?;
+    let why = sight.to_string(alloc)?;
+    Ok(Lack { name, why })
+}
+
+/// What is told of standard input that can't be read.
+fn input_lack(alloc: Global, unread: &io::Error) -> Result<Lack, AllocError> {
+    let name = format!(in alloc; "-")?;
+    let why = unread.to_string(alloc)?;
+    Ok(Lack { name, why })
 }

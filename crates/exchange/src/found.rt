@@ -7,7 +7,6 @@ use plan_answers::Answer;
 use record_replay::RecordError;
 use replay_answers::Replayed;
 use session_answers::Closing;
-use std::io;
 
 /// The answer to a job, and what is known beside it.
 #[derive(Drop)]
@@ -17,8 +16,16 @@ pub(crate) struct Found {
     pub(crate) book: Option<Book>,
     /// Where a record is wrong, and what is due there, where it is refused.
     pub(crate) error: Option<RecordError>,
-    /// Why a port can't be opened, where that is refused.
-    pub(crate) unopened: Option<io::Error>,
+    /// What stopped a drive, where something did, or why a port can't be opened.
+    pub(crate) lack: Option<Lack>,
+}
+
+/// What lacks, and what is told of it.
+#[derive(Drop)]
+pub(crate) struct Lack {
+    /// The name of the file.
+    pub(crate) name: String,
+    pub(crate) why: String,
 }
 
 impl Found {
@@ -30,7 +37,7 @@ impl Found {
             answer,
             book: None,
             error: None,
-            unopened: None,
+            lack: None,
         }
     }
 

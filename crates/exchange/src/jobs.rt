@@ -192,6 +192,7 @@ fn answer_job<R: Runtime, S: System, P: Ports, I: Read, O: Write, E: Write>(
             port,
             port_b,
             source,
+            first,
             goes_on,
             workers,
             ..
@@ -205,6 +206,7 @@ fn answer_job<R: Runtime, S: System, P: Ports, I: Read, O: Write, E: Write>(
                 *workers,
                 source,
                 contents,
+                *first,
                 names,
                 *goes_on,
                 &mut peers.ports,

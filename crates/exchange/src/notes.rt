@@ -1,22 +1,23 @@
 //! What is told beside an answer.
 
-ghost use Rattle.std.specs.Prelude.{◌≡◌, IfSome, option_map, string_bytes};
+ghost use Rattle.std.specs.Prelude.{◌≡◌, IfSome, IsTrue, option_map, string_bytes};
+ghost use Rattle.plan_answers.specs.declared.limits.TheConstants.{REFUSED as FAILED};
 ghost use Rattle.exchange.specs.Outputs.{AreOutputsWritten};
-ghost use Rattle.exchange.specs.Notes.{IsToldInPart, IsNoteOn, IsToldUnless, IsWholeLine};
+ghost use Rattle.exchange.specs.Notes.{IsToldInPart, IsNoteOn, IsToldUnless, IsWholeLine, SaysStop};
 ghost use Rattle.exchange.specs.Outcomes.{IsRefused};
 
 use crate::contents::Contents;
-use crate::found::Found;
+use crate::found::{Found, Lack};
 use crate::lost::Lost;
 use crate::outputs::{Outputs, keep};
 use crate::system::System;
-use crate::texts::{port_of, texts_of};
+use crate::texts::texts_of;
 use crate::unanswered::Unanswered;
 use crate::unwritten::Unwritten;
 use byte_streams::write_bytes;
 use command_words::{Job, Text};
 use drive_answers::DriveFault;
-use plan_answers::Answer;
+use plan_answers::{Answer, REFUSED};
 use refusal_notes::{Texts, file_line, second_line};
 use refusals::Refusal;
 use std::alloc::{AllocError, Global};
@@ -90,28 +91,39 @@ pub(crate) fn finished<S: System>(
         answer,
         book,
         error,
-        unopened,
+        lack,
     } = found;
     let texts = texts_of(job, contents, &answer, &error);
-    let note = note_on(alloc, &answer, texts, job, &unopened);
+    let note = note_on(alloc, &answer, texts, &lack);
     let lost = keep(system, alloc, &book, outputs);
     Answered { answer, note, lost }
 }
 
-/// What is told beside an answer to these texts, or of a job's port that can't be opened.
-fn note_on(
-    alloc: Global,
-    answer: &Answer,
-    texts: Texts<'_>,
-    job: &Job,
-    unopened: &Option<io::Error>,
-) -> Option<String>
+/// What is told beside an answer to these texts, or of what lacks where a port can't be opened or a
+/// drive stopped.
+fn note_on(alloc: Global, answer: &Answer, texts: Texts<'_>, lack: &Option<Lack>) -> Option<String>
     ensures { IsNoteOn answer.now (option_map (λ line. string_bytes line) result) }
 {
-    match (answer.refusal()?, unopened) {
-        (Refusal::Port(port), Some(error)) => reason_line(alloc, port_of(job, port), error),
-        (refusal, _) => second_line(alloc, refusal, texts),
+    match (answer.refusal(), lack) {
+        (Some(Refusal::Port(_)), Some(lack)) => lack_line(alloc, lack),
+        (Some(refusal), _) => second_line(alloc, refusal, texts),
+        (None, Some(lack)) if says_stop(answer) => lack_line(alloc, lack),
+        (None, _) => None,
     }
+}
+
+/// Whether an answer says that a drive stopped.
+fn says_stop(answer: &Answer) -> bool
+    ensures { IsTrue result → (answer.now.status ≡ FAILED) × SaysStop answer.now.text }
+{
+    answer.status() == REFUSED && answer.text().starts_with(b"stopped ")
+}
+
+/// What is told of what lacks.
+fn lack_line(alloc: Global, lack: &Lack) -> Option<String>
+    ensures { IfSome result (λ line. IsWholeLine (string_bytes line)) }
+{
+    file_line(alloc, lack.name.as_str(), lack.why.as_str())
 }
 
 /// Why there is no answer where a file of this name can't be read, or opened, and what is told of

@@ -4,20 +4,24 @@ ghost use Rattle.std.specs.Prelude.{◌≡◌, ◌≢◌, IfErr};
 ghost use Rattle.refusals.specs.declared.refusal.Refusal.TheVariants.{NoMemory, Port};
 ghost use Rattle.drive_answers.specs.Ways.{unopened_ways};
 
-use drive_answers::{PortNames, PortWays, Ports};
+use crossbar::{Chip, Direction};
+use drive_answers::{PortFailure, PortFile, PortNames, PortWays, Ports};
 use refusals::{PortName, Refusal};
 use std::fs::{OpenFile, OpenOptions};
 use std::io::ErrorKind;
 use std::marker::Model;
 use std::rt::Files;
 use std::{fs, io};
-use switch_driver::{StreamPort, SwitchStream};
+use switch_driver::{StreamFault, StreamPort, SwitchStream};
 
-/// The ports of the real system, and why one couldn't be opened.
+/// The ports of the real system, and why one couldn't be opened, or failed.
 #[derive(Drop)]
 pub struct HostPorts<'a, R> {
     rt: &'a R,
-    failure: Option<io::Error>,
+    /// Whether the port of A is two pipes, and that of B.
+    is_piped: bool,
+    is_piped_b: bool,
+    failure: Option<PortFailure>,
     ways: PortWays,
 }
 
@@ -36,8 +40,28 @@ impl<'a, R> HostPorts<'a, R> {
     {
         HostPorts {
             rt,
+            is_piped: false,
+            is_piped_b: false,
             failure: None,
             ways: PortWays::none(),
+        }
+    }
+
+    /// Why a port failed over whose streams this happened.
+    fn failure_of(&self, fault: StreamFault) -> PortFailure {
+        let (port, is_piped) = match fault.chip {
+            Chip::A => (PortName::A, self.is_piped),
+            Chip::B => (PortName::B, self.is_piped_b),
+        };
+        let file = match (is_piped, fault.direction) {
+            (false, _) => PortFile::Port,
+            (true, Direction::Sent) => PortFile::In,
+            (true, Direction::Heard) => PortFile::Out,
+        };
+        PortFailure {
+            port,
+            file,
+            why: fault.why,
         }
     }
 }
@@ -52,41 +76,123 @@ fn look_at_port<R: Files>(rt: &R, name: &str) -> io::Result<()> {
     Ok(())
 }
 
-/// Opens both ways of a port: `NAME.in` to the switch, and then `NAME.out` from it, where both are
-/// there; else `NAME` both to read and to write. Nothing is made, and nothing emptied.
-fn open_stream<R: AllocGlobal + Files>(
-    rt: &R,
-    name: &str,
-) -> io::Result<SwitchStream<R::File, R::File>> {
-    let to = format!(in rt.alloc(); "{name}.in")?;
-    let from = format!(in rt.alloc(); "{name}.out")?;
-    if fs::exists(rt, to.as_str())? && fs::exists(rt, from.as_str())? {
-        look_at_port(rt, to.as_str())?;
-        let writer = OpenOptions::new().write(true).open(rt, to.as_str())?;
-        let reader = OpenOptions::new().read(true).open(rt, from.as_str())?;
-        return Ok(SwitchStream { reader, writer });
-    }
+/// Opens the pipe to a switch.
+fn open_to<R: Files>(rt: &R, name: &str) -> io::Result<R::File> {
+    look_at_port(rt, name)?;
+    OpenOptions::new().write(true).open(rt, name)
+}
+
+/// Opens a device both to read and to write.
+fn open_device<R: Files>(rt: &R, name: &str) -> io::Result<SwitchStream<R::File, R::File>> {
     look_at_port(rt, name)?;
     let reader = OpenOptions::new().read(true).write(true).open(rt, name)?;
     let writer = reader.try_clone()?;
     Ok(SwitchStream { reader, writer })
 }
 
+/// A port that was opened.
+#[derive(Drop)]
+struct Opened<F> {
+    stream: SwitchStream<F, F>,
+    /// Whether it is two pipes.
+    is_piped: bool,
+}
+
+/// A file of a port that couldn't be opened, and why.
+#[derive(Drop)]
+struct Unopened {
+    file: PortFile,
+    why: io::Error,
+}
+
+impl Unopened {
+    fn of(file: PortFile, why: io::Error) -> Unopened {
+        Unopened { file, why }
+    }
+}
+
+/// The pipes that a port may be, by their names, and whether they are there.
+#[derive(Drop)]
+struct Pipes {
+    to: String,
+    from: String,
+    has_to: bool,
+    has_from: bool,
+}
+
+impl Pipes {
+    /// Those of a port of this name.
+    fn of<R: AllocGlobal + Files>(rt: &R, name: &str) -> io::Result<Pipes> {
+        let to = format!(in rt.alloc(); "{name}.in")?;
+        let from = format!(in rt.alloc(); "{name}.out")?;
+        let has_to = fs::exists(rt, to.as_str())?;
+        let has_from = fs::exists(rt, from.as_str())?;
+        Ok(Pipes {
+            to,
+            from,
+            has_to,
+            has_from,
+        })
+    }
+
+    /// The file that lacks where the port's own couldn't be opened for this reason: the other pipe,
+    /// where one is there alone, and the port's own isn't.
+    fn lacking(&self, why: &io::Error) -> PortFile {
+        match (why.kind(), self.has_to, self.has_from) {
+            (ErrorKind::NotFound, true, false) => PortFile::Out,
+            (ErrorKind::NotFound, false, true) => PortFile::In,
+            _ => PortFile::Port,
+        }
+    }
+
+    /// Opens both, that to the switch first.
+    fn open<R: AllocGlobal + Files>(&self, rt: &R) -> Result<Opened<R::File>, Unopened> {
+        let writer = match open_to(rt, self.to.as_str()) {
+            Ok(writer) => writer,
+            Err(why) => return Err(Unopened::of(PortFile::In, why)),
+        };
+        match OpenOptions::new().read(true).open(rt, self.from.as_str()) {
+            Ok(reader) => Ok(Opened {
+                stream: SwitchStream { reader, writer },
+                is_piped: true,
+            }),
+            Err(why) => Err(Unopened::of(PortFile::Out, why)),
+        }
+    }
+}
+
+/// Opens both ways of a port: `NAME.in` to the switch, and then `NAME.out` from it, where both are
+/// there; else `NAME` both to read and to write. Nothing is made, and nothing emptied.
+fn open_port<R: AllocGlobal + Files>(rt: &R, name: &str) -> Result<Opened<R::File>, Unopened> {
+    let pipes = match Pipes::of(rt, name) {
+        Ok(pipes) => pipes,
+        Err(why) => return Err(Unopened::of(PortFile::Port, why)),
+    };
+    if pipes.has_to && pipes.has_from {
+        return pipes.open(rt);
+    }
+    match open_device(rt, name) {
+        Ok(stream) => Ok(Opened {
+            stream,
+            is_piped: false,
+        }),
+        Err(why) => Err(Unopened::of(pipes.lacking(&why), why)),
+    }
+}
+
 impl<'a, R: AllocGlobal + Files> HostPorts<'a, R> {
     /// Opens one of them.
-    fn open_one(
-        &mut self,
-        port: PortName,
-        name: &str,
-    ) -> Result<SwitchStream<R::File, R::File>, Refusal>
+    fn open_one(&mut self, port: PortName, name: &str) -> Result<Opened<R::File>, Refusal>
         ensures refused { IfErr result (λ refusal. refusal ≢ NoMemory → refusal ≡ Port port) }
         ensures same { self.new ≡ self.old }
     {
-        match open_stream(self.rt, name) {
-            Ok(stream) => Ok(stream),
-            Err(error) if error.kind() == ErrorKind::OutOfMemory => Err(Refusal::NoMemory),
-            Err(error) => {
-                self.failure = Some(error);
+        match open_port(self.rt, name) {
+            Ok(opened) => Ok(opened),
+            Err(unopened) if unopened.why.kind() == ErrorKind::OutOfMemory => {
+                Err(Refusal::NoMemory)
+            }
+            Err(Unopened { file, why }) => {
+                self.failure = Some(PortFailure { port, file, why });
                 Err(Refusal::Port(port))
             }
         }
@@ -100,19 +206,28 @@ impl<'a, R: AllocGlobal + Files> Ports for HostPorts<'a, R> {
 
     fn open(&mut self, names: PortNames<'_>) -> Result<StreamPort<R::File, R::File>, Refusal> {
         let a = self.open_one(PortName::A, names.port)?;
+        self.is_piped = a.is_piped;
         let b = match names.port_b {
-            Some(name) => Some(self.open_one(PortName::B, name)?),
+            Some(name) => {
+                let opened = self.open_one(PortName::B, name)?;
+                self.is_piped_b = opened.is_piped;
+                Some(opened.stream)
+            }
             None => None,
         };
         self.ways.open(names);
-        Ok(StreamPort::new(a, b))
+        Ok(StreamPort::new(a.stream, b))
     }
 
-    fn take_failure(&mut self) -> Option<io::Error> {
+    fn take_failure(&mut self) -> Option<PortFailure> {
         self.failure.take()
     }
 
     fn close(&mut self, port: StreamPort<R::File, R::File>) {
+        let mut port = port;
+        if let Some(fault) = port.take_fault() {
+            self.failure = Some(self.failure_of(fault));
+        }
         self.ways.give_back(port);
     }
 }

@@ -5,7 +5,7 @@ use command_words::{Job, Text};
 use plan_answers::Answer;
 use record_replay::RecordError;
 use refusal_notes::{Listing, Named, Texts};
-use refusals::{PortName, Refusal};
+use refusals::Refusal;
 
 /// A file's name, and what it contains, where one was read.
 fn named<'a>(name: Option<&'a Text>, file: &'a Option<Vec<u8>>) -> Named<'a> {
@@ -96,14 +96,5 @@ pub(crate) fn texts_of<'a>(
             }
         }
         _ => texts,
-    }
-}
-
-/// The name of a job's port.
-pub(crate) fn port_of(job: &Job, port: PortName) -> &str {
-    match (job, port) {
-        (Job::Drive { port, .. }, PortName::A) => port.as_str(),
-        (Job::Drive { port_b, .. }, PortName::B) => word_in(port_b),
-        _ => "",
     }
 }

@@ -36,13 +36,21 @@ impl<'a, I, O> Lines<'a, I, O> {
         }
     }
 
-    /// Gives the stream back on which settings were told, and why no line could be read, where one
-    /// couldn't.
-    pub fn into_out(self) -> (&'a mut O, Option<io::Error>)
-        ensures { (result.0.ghost_name ≡ self.entry.out.ghost_name)
-            × (result.0.now ≡ self.entry.out.now) }
+    /// Why no line could be read, where one couldn't. It is told once.
+    pub fn take_unread(&mut self) -> Option<io::Error>
+        ensures input { self.new.input ≡ self.old.input }
+        ensures out { self.new.out ≡ self.old.out }
+        ensures waits { self.new.waits ≡ self.old.waits }
     {
-        (self.out, self.unread)
+        self.unread.take()
+    }
+
+    /// Gives the stream back on which settings were told.
+    pub fn into_out(self) -> &'a mut O
+        ensures { (result.ghost_name ≡ self.entry.out.ghost_name)
+            × (result.now ≡ self.entry.out.now) }
+    {
+        self.out
     }
 }
 

@@ -1,12 +1,12 @@
-//! Three settings of one switch, driven over a stream whose other end follows a script: which bytes
-//! it is sent, when it is asked for a reply, and when a setting is told, all in one order. Its
-//! modules are wired as usual, or as a board has it.
+//! Three settings of one switch, driven over a stream whose other end follows a script: how the
+//! switch comes up, which bytes it is sent, when it is asked for a reply, and when a setting is
+//! told, all in one order. Its modules are wired as usual, or as a board has it.
 
 ghost use Rattle.std.specs.Prelude.{⊤};
 
-use drive_answers::{DriveFault, PortNames, PortWays, Ports, answer_drive};
+use drive_answers::{DriveEnd, DriveFault, PortFailure, PortNames, PortWays, Ports, answer_drive};
 use exchange_limits::WorkerCount;
-use plan_answers::{Answer, DONE, REFUSED, Source};
+use plan_answers::{DONE, REFUSED, Source};
 use refusals::{PortName, Refusal};
 use std::alloc::{AllocError, Global};
 use std::io;
@@ -26,6 +26,14 @@ const SETTINGS: usize = 3;
 
 /// How many outputs are asked.
 const OUTPUTS: u8 = 32;
+
+/// How many steps there are as a switch comes up whose line is empty: three bytes, three for each
+/// join, and three for each enquiry with its answer.
+const WAKING: usize = 195;
+
+/// How many steps the first setting has: five bytes, three for each enquiry with its reply, the
+/// byte behind them, and that it is told.
+const FIRST: usize = 103;
 
 /// What a rack is told by, and what its switch is sent and replies.
 #[derive(Clone, Copy, Drop)]
@@ -101,6 +109,35 @@ fn reply_of(rack: &Rack<'_>, output: u8, joined: (u8, u8)) -> u8 {
     }
 }
 
+/// Puts behind the other steps what happens as the switch comes up, where these answers stand in
+/// its line. Behind each enquiry a byte is read, and in the end those that are still to come.
+fn push_waking(steps: &mut Vec<Step>, old: &[u8]) -> Result<(), AllocError> {
+    for byte in [3, 3, 4] {
+        steps.push(Step::Sent(byte))?;
+    }
+    for output in 0..OUTPUTS {
+        for byte in [0, output, output] {
+            steps.push(Step::Sent(byte))?;
+        }
+    }
+    let mut due = 0;
+    for output in 0..OUTPUTS {
+        steps.push(Step::Sent(2))?;
+        steps.push(Step::Sent(output))?;
+        match old.get(output as usize) {
+            Some(byte) => steps.push(Step::Heard(*byte))?,
+            None => {
+                steps.push(Step::Heard(0x80 | due))?;
+                due += 1;
+            }
+        }
+    }
+    for output in due..OUTPUTS {
+        steps.push(Step::Heard(0x80 | output))?;
+    }
+    Ok(())
+}
+
 /// Puts what happens in a setting behind the other steps.
 fn push_setting(
     steps: &mut Vec<Step>,
@@ -111,9 +148,7 @@ fn push_setting(
     let (Some(bytes), Some(joined)) = (rack.sent.get(number), rack.joined.get(number)) else {
         return Ok(());
     };
-    for byte in *bytes {
-        steps.push(Step::Sent(*byte))?;
-    }
+    push_bytes(steps, bytes)?;
     for output in 0..OUTPUTS {
         let reply = match lie {
             Some((liar, reply)) if liar == output && number == 1 => reply,
@@ -123,13 +158,23 @@ fn push_setting(
         steps.push(Step::Sent(output))?;
         steps.push(Step::Heard(reply))?;
     }
+    steps.push(Step::Sent(3))?;
     steps.push(Step::Told(number))?;
+    Ok(())
+}
+
+/// Puts bytes that are sent behind the other steps.
+fn push_bytes(steps: &mut Vec<Step>, bytes: &[u8]) -> Result<(), AllocError> {
+    for byte in bytes {
+        steps.push(Step::Sent(*byte))?;
+    }
     Ok(())
 }
 
 /// What happens in all three settings.
 fn steps_of(alloc: Global, rack: &Rack<'_>, lie: Lie) -> Result<Vec<Step>, AllocError> {
     let mut steps = Vec::new(alloc);
+    push_waking(&mut steps, &[])?;
     for number in 0..SETTINGS {
         push_setting(&mut steps, rack, number, lie)?;
     }
@@ -207,6 +252,10 @@ impl Read for FromSwitch<'_> {
         }
         *first = reply;
         self.desk.make(Step::Heard(reply));
+        // Nothing was sent since the last flush.
+        self.desk
+            .flushed
+            .store(self.desk.at.load(Ordering::SeqCst), Ordering::SeqCst);
         Ok(1)
     }
 }
@@ -263,7 +312,7 @@ impl<'a> Ports for DeskPorts<'a> {
         Ok(StreamPort::new(stream, None))
     }
 
-    fn take_failure(&mut self) -> Option<io::Error> {
+    fn take_failure(&mut self) -> Option<PortFailure> {
         None
     }
 
@@ -299,7 +348,19 @@ fn answer_at<R: AllocGlobal + Threads + Sync>(
     says: [Cue; 3],
     is_refused: bool,
     wiring: Option<&[u8]>,
-) -> Result<Answer, DriveFault> {
+) -> Result<DriveEnd, DriveFault> {
+    answer_from(rt, desk, 0, says, is_refused, wiring)
+}
+
+/// The same from this setting on.
+fn answer_from<R: AllocGlobal + Threads + Sync>(
+    rt: &R,
+    desk: &Desk<'_>,
+    first: usize,
+    says: [Cue; 3],
+    is_refused: bool,
+    wiring: Option<&[u8]>,
+) -> Result<DriveEnd, DriveFault> {
     let mut ports = DeskPorts {
         desk,
         is_refused,
@@ -313,13 +374,13 @@ fn answer_at<R: AllocGlobal + Threads + Sync>(
     let source = Source::Text(SCHEDULE);
     let (alloc, one) = (rt.alloc(), WorkerCount::ONE);
     answer_drive(
-        rt, alloc, wiring, BATCH, source, one, names, &mut ports, &mut stage,
+        rt, alloc, wiring, BATCH, source, one, first, names, &mut ports, &mut stage,
     )
 }
 
 /// Whether the answer is this line, under this status.
-fn is_line(answer: &Result<Answer, DriveFault>, line: &[u8], status: u8) -> bool {
-    matches!(answer, Ok(answer) if answer.text() == line && answer.status() == status)
+fn is_line(end: &Result<DriveEnd, DriveFault>, line: &[u8], status: u8) -> bool {
+    matches!(end, Ok(end) if end.answer.text() == line && end.answer.status() == status)
 }
 
 const ON: [Cue; 3] = [Cue::GoOn, Cue::GoOn, Cue::GoOn];
@@ -353,7 +414,7 @@ fn stops_behind<R: AllocGlobal + Threads + Sync>(
 }
 
 /// Whether a reply of this output in the second setting that names an input which nothing is on
-/// stops the drive there, behind all replies of the setting.
+/// stops the drive there.
 fn is_caught<R: AllocGlobal + Threads + Sync>(
     rt: &R,
     rack: &Rack<'_>,
@@ -361,7 +422,9 @@ fn is_caught<R: AllocGlobal + Threads + Sync>(
 ) -> Result<bool, AllocError> {
     let alloc = rt.alloc();
     let steps = steps_of(alloc, rack, Some((output, 0x93)))?;
-    let desk = Desk::of(steps.as_slice().get(..205).unwrap_or(&[]));
+    // Behind the second setting's seven bytes, and the enquiries up to this one, with their replies.
+    let count = WAKING + FIRST + 7 + 3 * (output as usize + 1);
+    let desk = Desk::of(steps.as_slice().get(..count).unwrap_or(&[]));
     let answer = answer_at(rt, &desk, ON, false, rack.wiring);
     let line = format!(in alloc; "stopped setting 1 switch {output}\n")?;
     Ok(desk.is_followed() && is_line(&answer, line.as_bytes(), REFUSED))
@@ -399,7 +462,7 @@ fn lied_to(rt: HostRuntime) {
 #[test]
 fn left(rt: HostRuntime) {
     let steps = steps_of(rt.alloc(), &USUAL, None).expect(&rt, "memory");
-    let desk = Desk::of(steps.as_slice().get(..206).unwrap_or(&[]));
+    let desk = Desk::of(steps.as_slice().get(..WAKING + FIRST + 105).unwrap_or(&[]));
     let says = [Cue::GoOn, Cue::Leave, Cue::GoOn];
     let answer = answer_at(&rt, &desk, says, false, None);
     assert!(rt; is_line(&answer, b"left setting 1\n", REFUSED));
@@ -409,7 +472,7 @@ fn left(rt: HostRuntime) {
 #[test]
 fn untold(rt: HostRuntime) {
     let steps = steps_of(rt.alloc(), &USUAL, None).expect(&rt, "memory");
-    let desk = Desk::of(steps.as_slice().get(..102).unwrap_or(&[]));
+    let desk = Desk::of(steps.as_slice().get(..WAKING + FIRST).unwrap_or(&[]));
     let says = [Cue::Untold, Cue::GoOn, Cue::GoOn];
     let answer = answer_at(&rt, &desk, says, false, None);
     assert!(rt; matches!(answer, Err(DriveFault::Untold)));
@@ -423,4 +486,75 @@ fn refused(rt: HostRuntime) {
     let answer = answer_at(&rt, &desk, ON, true, None);
     assert!(rt; is_line(&answer, b"refused port a\n", REFUSED));
     assert!(rt; desk.opened.load(Ordering::SeqCst) == 1 && desk.is_followed());
+}
+
+/// Old answers, as many as a line may have and still be told, and one more.
+const OLD: [u8; 32] = [0x85; 32];
+
+/// What happens where so many of the old answers stand in the line, and nothing is to be set.
+fn woken_behind(alloc: Global, count: usize) -> Result<Vec<Step>, AllocError> {
+    let mut steps = Vec::new(alloc);
+    push_waking(&mut steps, OLD.get(..count).unwrap_or(&[]))?;
+    Ok(steps)
+}
+
+/// Whether a drive goes on with its first setting's bytes behind so many old answers.
+fn comes_up_behind<R: AllocGlobal + Threads + Sync>(
+    rt: &R,
+    count: usize,
+) -> Result<bool, AllocError> {
+    let mut steps = woken_behind(rt.alloc(), count)?;
+    push_bytes(&mut steps, &[0x04, 0x01])?;
+    let desk = Desk::of(steps.as_slice());
+    let answer = answer_at(rt, &desk, ON, false, None);
+    Ok(desk.is_followed() && is_line(&answer, b"stopped setting 0 port\n", REFUSED))
+}
+
+/// Up to 31 answers that stood in the line are read as the switch comes up.
+#[test]
+fn comes_up(rt: HostRuntime) {
+    for count in 0..32 {
+        let goes_on = comes_up_behind(&rt, count).expect(&rt, "memory");
+        assert!(rt; goes_on);
+    }
+}
+
+/// What comes as no switch would answer isn't taken.
+#[test]
+fn comes_up_to_a_stranger(rt: HostRuntime) {
+    let mut steps = woken_behind(rt.alloc(), 32).expect(&rt, "memory");
+    // The last byte that is read behind an enquiry is 05: an echo would say so.
+    steps.truncate(WAKING - 1);
+    steps.push(Step::Heard(0x05)).expect(&rt, "memory");
+    let desk = Desk::of(steps.as_slice());
+    let answer = answer_at(&rt, &desk, ON, false, None);
+    assert!(rt; is_line(&answer, b"stopped setting 0 port\n", REFUSED));
+    assert!(rt; desk.is_followed());
+}
+
+/// What happens from the second setting on, where that is the first to be driven: it is set as from
+/// a reset, whatever stood before.
+fn later_steps(alloc: Global) -> Result<Vec<Step>, AllocError> {
+    let later = Rack {
+        sent: [&[], &[0x04, 0x01, 0x00, 0x12, 0x03], USUAL.sent[2]],
+        ..USUAL
+    };
+    let mut steps = Vec::new(alloc);
+    push_waking(&mut steps, &[])?;
+    push_setting(&mut steps, &later, 1, None)?;
+    push_setting(&mut steps, &later, 2, None)?;
+    Ok(steps)
+}
+
+#[test]
+fn taken_up(rt: HostRuntime) {
+    let steps = later_steps(rt.alloc()).expect(&rt, "memory");
+    let desk = Desk::of(steps.as_slice());
+    let answer = answer_from(&rt, &desk, 1, ON, false, None);
+    assert!(rt; is_line(&answer, b"driven settings 3\n", DONE));
+    assert!(rt; desk.is_followed());
+    let none = Desk::of(&[]);
+    let answer = answer_from(&rt, &none, 3, ON, false, None);
+    assert!(rt; is_line(&answer, b"refused no setting 3\n", REFUSED));
+    assert!(rt; none.is_followed());
 }
