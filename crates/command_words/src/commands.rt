@@ -11,6 +11,7 @@ pub(crate) enum CommandName {
     Check,
     Draw,
     Switch,
+    Orders,
     Drive,
     C004,
     Direct,
@@ -60,6 +61,8 @@ pub(crate) enum Argument {
     ScheduleOption,
     /// `--wiring FILE`.
     WiringOption,
+    /// `--module M`.
+    Module,
     /// `--steady`.
     Steady,
     /// `--go-on`.
@@ -72,11 +75,12 @@ pub(crate) enum Argument {
 
 impl CommandName {
     /// All commands, in the order in which the program's help lists them.
-    pub(crate) const ALL: [CommandName; 13] = [
+    pub(crate) const ALL: [CommandName; 14] = [
         CommandName::Plan,
         CommandName::Check,
         CommandName::Draw,
         CommandName::Switch,
+        CommandName::Orders,
         CommandName::Drive,
         CommandName::C004,
         CommandName::Direct,
@@ -107,8 +111,8 @@ impl CommandName {
         ensures arguments { result.1.now ≡ arguments_of self }
     {
         use Argument::{
-            Batch, Clients, File, GoOn, Image, ImageOption, ImageOut, Moves, Port, PortB, Quiet,
-            Record, RecordOut, Schedule, ScheduleOption, Scripts, Settings, Shape, Steady,
+            Batch, Clients, File, GoOn, Image, ImageOption, ImageOut, Module, Moves, Port, PortB,
+            Quiet, Record, RecordOut, Schedule, ScheduleOption, Scripts, Settings, Shape, Steady,
             WiringOption, Workers,
         };
         match self {
@@ -118,6 +122,10 @@ impl CommandName {
             CommandName::Switch => (
                 "switch",
                 &[Batch, ScheduleOption, Steady, Workers, WiringOption, Quiet],
+            ),
+            CommandName::Orders => (
+                "orders",
+                &[Batch, ScheduleOption, Steady, Workers, Module, Quiet],
             ),
             CommandName::Drive => {
                 (
