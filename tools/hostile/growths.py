@@ -124,6 +124,8 @@ COMMANDS = [
     ["switch", "three", "--wiring", "board"], ["switch", "three", "--wiring", "board", "--workers", "2"],
     ["switch", "three", "--wiring", "board", "--steady"], ["switch", "three", "--wiring", "board", "--schedule", "schedule"],
     ["switch", "three", "--wiring", "small"], ["switch", "three", "--wiring", "wrong"], ["switch", "two", "--wiring", "-"],
+    # `RackOrders::of` and `RackOrders::write`.
+    ["orders", "three"], ["orders", "swap", "--module", "0"], ["orders", "three", "--schedule", "schedule"], ["orders", "three", "--steady"],
     # `Schedule::read`, `check_schedule` and `answer_check`.
     # What `answer_check` finds out of a schedule that it refuses, and `second_line`.
     ["check", "three", "schedule"], ["check", "three", "three"], ["check", "three", "long"], ["check", "-", "schedule"], ["check", "-", "-"],

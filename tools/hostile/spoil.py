@@ -178,6 +178,23 @@ def schedule(draw, transfers, named):
     return settings, named
 
 
+def loose_schedule(draw, transfers):
+    """The settings of any schedule of the transfers, as lists: each transfer stands in one of its own choice, and some may be empty."""
+    settings = [[] for _ in range(draw.randint(0, len(transfers) + 1))]
+    for t in draw.sample(range(len(transfers)), len(transfers)):
+        free = [k for k, setting in enumerate(settings) if not any(links_in(transfers[t]) & links_in(transfers[u]) for u in setting)]
+        if not free:
+            settings.append([])
+            free = [len(settings) - 1]
+        settings[draw.choice(free)].append(t)
+    return settings
+
+
+def links_in(transfer):
+    """The two links that a transfer uses."""
+    return {(0, transfer[1]), (3, transfer[3])}
+
+
 def bend(draw, settings, certificate, count):
     """Does something to a schedule that leaves its text well formed."""
     settings = [list(setting) for setting in settings]

@@ -21,6 +21,7 @@ from collections import Counter, namedtuple
 
 import mend
 import notes
+import orders
 import picture
 import plain
 import records
@@ -320,6 +321,40 @@ def try_run_by(draw):
     return is_answer(answer, wanted) and told, wanted, [words.encode(), batch, text, image], answer
 
 
+def try_orders(draw):
+    """A batch, and how its schedule is made: the plan, a steady one, or any schedule in a text; put to `orders`, in some cases for one module.
+    Few blocks are read and written often. Modules that obey what all are told have to move all blocks. A text is spoilt now and then."""
+    shape = (draw.choice([1, 2, 3, 5, 16, plain.MODULES]), draw.choice([1, 2, 4, plain.BLOCKS]), plain.WORDS)
+    batch = spoil.batch(draw, shape, draw.choice([3, 10, 40]))
+    settings = spoil.loose_schedule(draw, plain.read_batch(batch, plain.WIDEST))
+    text = spoil.schedule_text(settings, None)
+    if draw.random() < 0.1:
+        text = spoil.spoil(draw, text)
+    if draw.random() < 0.1:
+        batch = spoil.spoil(draw, batch)
+    files, options = [keep("batch", batch)], steadiness_of(draw)
+    if not options and draw.random() < 0.5:
+        files += ["--schedule", keep("schedule", text)]
+    elif not plain.answer_plan(batch):
+        text = ask("plan", "batch", *options).out
+    only = draw.randrange(shape[0]) if draw.random() < 0.3 else None
+    module = [] if only is None else ["--module", str(only)]
+    answer = ask_of(draw, ["orders", *options, *module], files)
+    wanted = orders.answer_orders(batch, text, only)
+    asked = notes.Asked("batch", named(answer, "batch", batch), named(answer, "schedule", text) if files[1:] else ("", text))
+    told = is_well_told(answer, asked, wanted, lambda it: orders.answer_orders(it.list[1], it.other[1], only))
+    if wanted.startswith(b"refused "):
+        return is_refusal(answer, wanted) and told, wanted, [batch, text], answer
+    well = is_answer(answer, wanted) and told and (only is not None or orders.is_obeyed(draw, batch, text, answer.out))
+    return well, kind_of_orders(wanted, only), [batch, text], answer
+
+
+def kind_of_orders(answer, only):
+    """Whom orders are for, and whether a block is copied, in words."""
+    whom = "all modules" if only is None else "one module"
+    return f"orders of {whom}, {'with' if b'copy block ' in answer else 'without'} copies".encode()
+
+
 def try_wiring(draw):
     """A board's wiring, spoilt in half of the cases, put to `switch`. The batch fits the board mostly. Its schedule is a plan, or in half of
     the cases one that is spoilt."""
@@ -467,6 +502,7 @@ KINDS = {
     "batches to switch": try_switch,
     "schedules to switch by": try_switch_by,
     "wirings to switch by": try_wiring,
+    "batches to order modules by": try_orders,
     "batches to run": try_run,
     "schedules to run by": try_run_by,
     "images to apply a batch to": try_apply,

@@ -33,7 +33,7 @@ PROGRAM = os.path.abspath(os.environ.get("EXCHANGE") or f"{TOP}/exchange")
 LIMIT = 300
 
 # The commands whose help begins with an example of one line; that of `host` is a walk of several.
-HELPED = ("", "plan", "check", "draw", "switch", "direct", "apply", "run", "serve", "talk")
+HELPED = ("", "plan", "check", "draw", "switch", "orders", "direct", "apply", "run", "serve", "talk")
 
 # Any lines, within what a command prints.
 ANY = "..."

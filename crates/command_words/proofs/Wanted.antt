@@ -10,7 +10,7 @@ use Rattle.command_words.specs.declared.commands.CommandName.TheVariants as name
 use Rattle.command_words.specs.declared.uses.Access.TheVariants.{Read, Write}
 use Rattle.command_words.specs.declared.uses.FileUse.{FileUse}
 use Rattle.command_words.specs.declared.jobs.Job.{Job}
-use Rattle.command_words.specs.declared.jobs.Job.TheVariants.{Plan, Check, Draw, Switch, Drive, C004, Direct, Apply, Run, Serve, Host, Talk, Replay}
+use Rattle.command_words.specs.declared.jobs.Job.TheVariants.{Plan, Check, Draw, Switch, Orders, Drive, C004, Direct, Apply, Run, Serve, Host, Talk, Replay}
 use Rattle.command_words.specs.declared.jobs.Request.{Request}
 use Rattle.plan_answers.specs.declared.source.Source.{Source}
 use Rattle.plan_answers.specs.declared.source.Source.TheVariants as source
@@ -31,6 +31,7 @@ wanted rows (Plan file planning workers) has = ((file, has.0), (planning, has.1)
 wanted rows (Check batch schedule) has = ((batch, has.0), (schedule, has.1))
 wanted rows (Draw batch schedule settings) has = ((batch, has.0), (schedule, has.1))
 wanted rows (Switch batch source wiring workers) has = ((batch, has.0), (source, has.1), (workers, has.3))
+wanted rows (Orders batch source of_module workers) has = ((batch, has.0), (source, has.1), (of_module, has.2), (workers, has.3))
 wanted rows (Drive batch port port_b source wiring first goes_on workers) has =
     ((batch, has.0), (port, has.1), (source, has.3), (first, has.5), (workers, has.7))
 wanted rows C004 has = tt
@@ -88,6 +89,7 @@ files_in name.Plan rows = of_list (text_in (codes "FILE") rows) None None
 files_in name.Check rows = of_list (text_in (codes "BATCH") rows) (first_of (codes "SCHEDULE") rows) None
 files_in name.Draw rows = of_list (text_in (codes "BATCH") rows) (first_of (codes "SCHEDULE") rows) None
 files_in name.Switch rows = switched_in rows
+files_in name.Orders rows = of_list (text_in (codes "BATCH") rows) (first_of (codes "schedule") rows) None
 files_in name.Drive rows = switched_in rows
 files_in name.C004 rows = scripts_on None []
 files_in name.Direct rows = of_list (text_in (codes "MOVES") rows) None None
@@ -107,6 +109,7 @@ files_are rows (Plan file planning workers) has = rw has.0 refl
 files_are rows (Check batch schedule) has = rw (has.0, has.1) refl
 files_are rows (Draw batch schedule settings) has = rw (has.0, has.1) refl
 files_are rows (Switch batch source wiring workers) has = rw (has.0, scheduled rows source has.1, has.2) refl
+files_are rows (Orders batch source of_module workers) has = rw (has.0, scheduled rows source has.1) refl
 files_are rows (Drive batch port port_b source wiring first goes_on workers) has = rw (has.0, scheduled rows source has.3, has.4) refl
 files_are rows C004 has = refl
 files_are rows (Direct moves) has = rw has refl

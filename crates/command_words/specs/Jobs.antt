@@ -13,12 +13,12 @@ use Rattle.plan_answers.specs.declared.source.Planning.{Planning}
 use Rattle.plan_answers.specs.declared.source.Planning.TheVariants as planning
 use Rattle.plan_answers.specs.declared.source.Source.{Source}
 use Rattle.plan_answers.specs.declared.source.Source.TheVariants as source
-use Rattle.command_words.specs.declared.limits.TheConstants.{LAST_SETTING, MAX_CLIENTS}
+use Rattle.command_words.specs.declared.limits.TheConstants.{LAST_MODULE, LAST_SETTING, MAX_CLIENTS}
 use Rattle.command_words.specs.declared.uses.Access.{Access}
 use Rattle.command_words.specs.declared.uses.Access.TheVariants.{Read, Write, Port}
 use Rattle.command_words.specs.declared.uses.FileUse.{FileUse}
 use Rattle.command_words.specs.declared.jobs.Job.{Job}
-use Rattle.command_words.specs.declared.jobs.Job.TheVariants.{Plan, Check, Draw, Switch, Drive, C004, Direct, Apply, Run, Serve, Host, Talk, Replay}
+use Rattle.command_words.specs.declared.jobs.Job.TheVariants.{Plan, Check, Draw, Switch, Orders, Drive, C004, Direct, Apply, Run, Serve, Host, Talk, Replay}
 use Rattle.command_words.specs.declared.jobs.Request.{Request}
 use Rattle.command_words.specs.declared.jobs.SharedRack.{SharedRack}
 use Rattle.command_words.specs.declared.jobs.ArgumentsFault.{ArgumentsFault}
@@ -44,6 +44,14 @@ HasWorkers rows n =
     (text : Text) × (one_of (codes "workers") rows ≡ Some text)
     × IsNumeral 10 (without_leading_plus text) × (n ≡ digits_value 10 (without_leading_plus text))
     × (1 ≤ n) × (n ≤ MAX_WORKERS)
+
+-- the number that the text of `--module` reads as, where it is there
+abbrev pub HasModule : List Row → Option ℕ → Type 0
+HasModule rows None = first_of (codes "module") rows ≡ None
+HasModule rows (Some m) =
+    (text : Text) × (one_of (codes "module") rows ≡ Some text)
+    × IsNumeral 10 (without_leading_plus text) × (m ≡ digits_value 10 (without_leading_plus text))
+    × (m ≤ LAST_MODULE)
 
 -- the number of a setting that the text of `--from` reads as
 abbrev pub HasFirst : List Row → ℕ → Type 0
@@ -96,6 +104,7 @@ name_of (Plan file planning workers) = name.Plan
 name_of (Check batch schedule) = name.Check
 name_of (Draw batch schedule settings) = name.Draw
 name_of (Switch batch source wiring workers) = name.Switch
+name_of (Orders batch source of_module workers) = name.Orders
 name_of (Drive batch port port_b source wiring first goes_on workers) = name.Drive
 name_of C004 = name.C004
 name_of (Direct moves) = name.Direct
@@ -118,6 +127,9 @@ HasJob rows (Draw batch schedule settings) =
 HasJob rows (Switch batch source wiring workers) =
     HasText (codes "BATCH") rows batch × HasSource rows source
     × HasOption (codes "wiring") rows wiring × HasWorkers rows workers
+HasJob rows (Orders batch source of_module workers) =
+    HasText (codes "BATCH") rows batch × HasSource rows source × HasModule rows of_module
+    × HasWorkers rows workers
 HasJob rows (Drive batch port port_b source wiring first goes_on workers) =
     HasText (codes "BATCH") rows batch × HasText (codes "PORT") rows port
     × HasOption (codes "PORT_B") rows port_b × HasSource rows source
@@ -224,6 +236,7 @@ files_of (Plan file planning workers) = of_list file None None
 files_of (Check batch schedule) = of_list batch (Some schedule) None
 files_of (Draw batch schedule settings) = of_list batch (Some schedule) None
 files_of (Switch batch source wiring workers) = of_list batch (schedule_in source) wiring
+files_of (Orders batch source of_module workers) = of_list batch (schedule_in source) None
 files_of (Drive batch port port_b source wiring first goes_on workers) =
     of_list batch (schedule_in source) wiring
 files_of C004 = scripts_on None []
@@ -382,6 +395,9 @@ HasWanted name.Draw rows =
     HasSome (HasText (codes "BATCH") rows) × HasSome (HasText (codes "SCHEDULE") rows)
 HasWanted name.Switch rows =
     HasSome (HasText (codes "BATCH") rows) × HasSome (HasSource rows) × HasSome (HasWorkers rows)
+HasWanted name.Orders rows =
+    HasSome (HasText (codes "BATCH") rows) × HasSome (HasSource rows) × HasSome (HasModule rows)
+    × HasSome (HasWorkers rows)
 HasWanted name.Drive rows =
     HasSome (HasText (codes "BATCH") rows) × HasSome (HasText (codes "PORT") rows)
     × HasSome (HasSource rows) × HasSome (HasFirst rows) × HasSome (HasWorkers rows)

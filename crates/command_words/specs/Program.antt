@@ -9,10 +9,10 @@ use Rattle.clap.specs.declared.builder.action.ArgAction.TheVariants.{SetTrue}
 use Rattle.clap.specs.declared.builder.value_parser.ValueParser.TheVariants as parser
 use Rattle.exchange_limits.specs.declared.limits.TheConstants.{MAX_WORKERS}
 use Rattle.command_words.specs.declared.commands.Argument.{Argument}
-use Rattle.command_words.specs.declared.commands.Argument.TheVariants.{Shape, File, Batch, Schedule, Port, PortB, Moves, Image, Record, Scripts, Clients, ImageOption, RecordOut, ImageOut, Settings, ScheduleOption, WiringOption, FromOption, Steady, GoOn, Workers, Quiet}
+use Rattle.command_words.specs.declared.commands.Argument.TheVariants.{Shape, File, Batch, Schedule, Port, PortB, Moves, Image, Record, Scripts, Clients, ImageOption, RecordOut, ImageOut, Settings, ScheduleOption, WiringOption, FromOption, Module, Steady, GoOn, Workers, Quiet}
 use Rattle.command_words.specs.declared.commands.CommandName.{CommandName}
-use Rattle.command_words.specs.declared.commands.CommandName.TheVariants.{Plan, Check, Draw, Switch, Drive, C004, Direct, Apply, Run, Serve, Host, Talk, Replay}
-use Rattle.command_words.specs.declared.limits.TheConstants.{LAST_SETTING, MAX_CLIENTS}
+use Rattle.command_words.specs.declared.commands.CommandName.TheVariants.{Plan, Check, Draw, Switch, Orders, Drive, C004, Direct, Apply, Run, Serve, Host, Talk, Replay}
+use Rattle.command_words.specs.declared.limits.TheConstants.{LAST_MODULE, LAST_SETTING, MAX_CLIENTS}
 
 -- ---- what a command takes
 
@@ -41,6 +41,11 @@ workers =
       defaults = codes "1" ∷ [];
       parser = Some (parser.Signed (pos 1) (pos MAX_WORKERS));
     }
+
+-- `--module`, of which a rack may have the number, and which may be left out
+abbrev pub module_option : Rule
+module_option =
+    record (option (codes "module")) { parser = Some (parser.Signed (pos 0) (pos LAST_MODULE)) }
 
 -- `--from`, a setting's number, and 0 where it is left out
 abbrev pub from : Rule
@@ -74,6 +79,7 @@ rule_for Settings = option (codes "settings")
 rule_for ScheduleOption = option (codes "schedule")
 rule_for WiringOption = option (codes "wiring")
 rule_for FromOption = from
+rule_for Module = module_option
 rule_for Steady = flag (codes "steady")
 rule_for GoOn = flag (codes "go-on")
 rule_for Workers = workers
@@ -84,8 +90,8 @@ rule_for Quiet = flag (codes "quiet")
 -- all of them, in their order
 abbrev pub commands : List CommandName
 commands =
-    Plan ∷ Check ∷ Draw ∷ Switch ∷ Drive ∷ C004 ∷ Direct ∷ Apply ∷ Run ∷ Serve ∷ Host ∷ Talk
-    ∷ Replay ∷ []
+    Plan ∷ Check ∷ Draw ∷ Switch ∷ Orders ∷ Drive ∷ C004 ∷ Direct ∷ Apply ∷ Run ∷ Serve ∷ Host
+    ∷ Talk ∷ Replay ∷ []
 
 -- the word that calls a command, and what it takes, in this order
 abbrev pub sheet_of : CommandName → List ℕ × List Argument
@@ -94,6 +100,8 @@ sheet_of Check = (codes "check", Batch ∷ Schedule ∷ Quiet ∷ [])
 sheet_of Draw = (codes "draw", Batch ∷ Schedule ∷ Settings ∷ Quiet ∷ [])
 sheet_of Switch =
     (codes "switch", Batch ∷ ScheduleOption ∷ Steady ∷ Workers ∷ WiringOption ∷ Quiet ∷ [])
+sheet_of Orders =
+    (codes "orders", Batch ∷ ScheduleOption ∷ Steady ∷ Workers ∷ Module ∷ Quiet ∷ [])
 sheet_of Drive = (
   codes "drive",
   Batch ∷ Port ∷ PortB ∷ ScheduleOption ∷ Steady ∷ Workers ∷ WiringOption ∷ FromOption ∷ GoOn

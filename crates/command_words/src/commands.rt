@@ -11,6 +11,7 @@ pub(crate) enum CommandName {
     Check,
     Draw,
     Switch,
+    Orders,
     Drive,
     C004,
     Direct,
@@ -62,6 +63,8 @@ pub(crate) enum Argument {
     WiringOption,
     /// `--from K`.
     FromOption,
+    /// `--module M`.
+    Module,
     /// `--steady`.
     Steady,
     /// `--go-on`.
@@ -74,11 +77,12 @@ pub(crate) enum Argument {
 
 impl CommandName {
     /// All commands, in the order in which the program's help lists them.
-    pub(crate) const ALL: [CommandName; 13] = [
+    pub(crate) const ALL: [CommandName; 14] = [
         CommandName::Plan,
         CommandName::Check,
         CommandName::Draw,
         CommandName::Switch,
+        CommandName::Orders,
         CommandName::Drive,
         CommandName::C004,
         CommandName::Direct,
@@ -109,9 +113,9 @@ impl CommandName {
         ensures arguments { result.1.now ≡ arguments_of self }
     {
         use Argument::{
-            Batch, Clients, File, FromOption, GoOn, Image, ImageOption, ImageOut, Moves, Port,
-            PortB, Quiet, Record, RecordOut, Schedule, ScheduleOption, Scripts, Settings, Shape,
-            Steady, WiringOption, Workers,
+            Batch, Clients, File, FromOption, GoOn, Image, ImageOption, ImageOut, Module, Moves,
+            Port, PortB, Quiet, Record, RecordOut, Schedule, ScheduleOption, Scripts, Settings,
+            Shape, Steady, WiringOption, Workers,
         };
         match self {
             CommandName::Plan => ("plan", &[File, Steady, Workers, Quiet]),
@@ -120,6 +124,10 @@ impl CommandName {
             CommandName::Switch => (
                 "switch",
                 &[Batch, ScheduleOption, Steady, Workers, WiringOption, Quiet],
+            ),
+            CommandName::Orders => (
+                "orders",
+                &[Batch, ScheduleOption, Steady, Workers, Module, Quiet],
             ),
             CommandName::Drive => {
                 (

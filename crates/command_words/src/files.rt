@@ -104,6 +104,11 @@ impl Job {
                 wiring: lent(wiring),
                 ..none
             },
+            Job::Orders { batch, source, .. } => JobFiles {
+                list: Some(batch),
+                other: schedule_of(source),
+                ..none
+            },
             Job::Run {
                 batch,
                 source,

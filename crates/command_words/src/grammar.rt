@@ -3,12 +3,12 @@
 ghost use Rattle.std.specs.Prelude.{IfErr, IfOk, OnOk};
 ghost use Rattle.command_words.specs.Jobs.{AreMatchesOf, IsFaultIn, IsTaken, texts_of};
 ghost use Rattle.clap.specs.Words.{app_of, new_app};
-ghost use Rattle.command_words.specs.Program.{IsArgument, IsCommand, IsLocal, command as command_app, flag, option, program, rule_for, spare_word, top, with_arguments, with_command, one_argument, client_arguments, from as first_setting, workers};
+ghost use Rattle.command_words.specs.Program.{IsArgument, IsCommand, IsLocal, command as command_app, flag, option, program, rule_for, spare_word, top, with_arguments, with_command, one_argument, client_arguments, from as first_setting, module_option, workers};
 
 use crate::commands::{Argument, CommandName};
 use crate::help::{CommandHelp, PROGRAM, help_of, help_on};
 use crate::jobs::ArgumentsFault;
-use crate::limits::{LAST_SETTING, MAX_CLIENTS, VERSION};
+use crate::limits::{LAST_MODULE, LAST_SETTING, MAX_CLIENTS, VERSION};
 use clap::{Arg, ArgAction, ArgMatches, Command, value_parser};
 use exchange_limits::MAX_WORKERS;
 use std::alloc::{AllocError, Global};
@@ -59,6 +59,15 @@ fn from<'a>(alloc: Global, help: &'a str) -> Arg<'a>
         .default_value("0")
 }
 
+/// `--module M`.
+fn module_option<'a>(alloc: Global, help: &'a str) -> Arg<'a>
+    ensures { IsArgument module_option result }
+{
+    option(alloc, "module", "0..31", help).value_parser(value_parser!(u8).range(
+        0..=LAST_MODULE as i64,
+    ))
+}
+
 /// An option with no value, as `--quiet`.
 fn flag<'a>(alloc: Global, id: &'a str, help: &'a str) -> Arg<'a>
     ensures { IsArgument (flag id.entry.now) result }
@@ -93,6 +102,7 @@ fn arg_of<'a>(alloc: Global, argument: Argument) -> Arg<'a>
         Argument::ScheduleOption => option(alloc, "schedule", "FILE", help),
         Argument::WiringOption => option(alloc, "wiring", "FILE", help),
         Argument::FromOption => from(alloc, help),
+        Argument::Module => module_option(alloc, help),
         Argument::Steady => flag(alloc, "steady", help),
         Argument::GoOn => flag(alloc, "go-on", help),
         Argument::Workers => workers(alloc, help),

@@ -21,6 +21,7 @@ pub(crate) fn help_of(name: CommandName) -> &'static CommandHelp {
         CommandName::Check => &CHECK,
         CommandName::Draw => &DRAW,
         CommandName::Switch => &SWITCH,
+        CommandName::Orders => &ORDERS,
         CommandName::Drive => &DRIVE,
         CommandName::C004 => &C004,
         CommandName::Direct => &DIRECT,
@@ -191,6 +192,41 @@ Else it is the first of these that is wrong. The files are read first:
   refused check ..        the same, where FILE has no schedule of BATCH
 
 Status: 0 the bytes were printed, 1 they were refused or there was no memory,
+2 the words fit no command, 3 the answer couldn't be written.",
+};
+
+/// What help says of `orders`.
+const ORDERS: CommandHelp = CommandHelp {
+    about: "Tells what each module does: what it copies first, and sends and receives in each setting",
+    example: "\
+Example:
+  ./exchange orders examples/swap.txt",
+    notes: "\
+BATCH is a batch text, in the form that `exchange plan --help` shows. Which
+schedule of it the orders are for, `exchange switch --help` tells.
+
+The answer is the line `modules N settings S`, and for each of the N modules that
+have orders, from the first on:
+  module M copies C orders O         O orders, and C blocks to copy before them
+  copy block B                       C such lines: before setting 0 block B is
+                                     copied aside
+  setting K link L send block B      O such lines: in setting K all words of
+                                     block B are sent over link L, 0 or 3;
+  setting K link L send copy B       or those that were copied aside;
+  setting K link L receive block B   or words that come become those of block B
+Words are sent in their order. What a module does over link 0 and link 3 in one
+setting it does side by side: else it may wait for itself. A setting begins when
+all modules are done with the one before. Then the blocks are where BATCH says.
+With --module the answer tells one module alone.
+
+Else it is the first of these that is wrong. The files are read first:
+  refused file            a file can't be read
+  refused ..              BATCH, as `exchange plan --help` shows
+  refused schedule line N line N of FILE, as `exchange check --help` shows
+  refused check ..        the same, where FILE has no schedule of BATCH
+  refused overlap I J     transfers I and J write one block
+
+Status: 0 the orders were printed, 1 they were refused or there was no memory,
 2 the words fit no command, 3 the answer couldn't be written.",
 };
 
@@ -612,6 +648,7 @@ pub(crate) fn help_on(argument: Argument) -> &'static str {
         Argument::ScheduleOption => "The file of its schedule, or - for standard input",
         Argument::WiringOption => "The file of the board's wiring, or - for standard input",
         Argument::FromOption => "The setting of the schedule to begin with, counted from 0",
+        Argument::Module => "The module whose orders are wanted, from 0 to 31",
         Argument::Steady => "Plan so that the switch changes seldom",
         Argument::GoOn => "Wait for no line of standard input behind a setting",
         Argument::Workers => "\

@@ -41,6 +41,14 @@ pub enum Job {
         wiring: Option<Text>,
         workers: WorkerCount,
     },
+    /// Tell what each module does in the settings of a schedule of the batch of a file, or what one
+    /// module does. So many workers plan.
+    Orders {
+        batch: Text,
+        source: Source<Text>,
+        module: Option<usize>,
+        workers: WorkerCount,
+    },
     /// Set the switches behind a port, or behind two, or the one switch of a board whose wiring a
     /// file has, as each setting of a schedule of the batch of a file calls for, from the first one
     /// on, and behind each wait for a line of standard input, unless it goes on. So many workers

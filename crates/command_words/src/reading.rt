@@ -5,7 +5,7 @@ ghost use Rattle.command_words.specs.declared.jobs.Job.{Job};
 ghost use Rattle.command_words.specs.declared.jobs.Request.{Request};
 ghost use Rattle.command_words.specs.declared.jobs.ArgumentsFault.TheVariants.{NoMemory};
 ghost use Rattle.command_words.specs.declared.reading.Lack.TheVariants.{Memory};
-ghost use Rattle.command_words.specs.Jobs.{AskFor, HasFirst, HasOption, HasPlanning, HasServed, HasRack, HasSource, HasText, HasWorkers, GivesRequest, IsFaultIn, IsGiven, IsMistake, IsReading, IsReadJob, IsRequest, IsTaken, IsWithinLimits, MayBeDone, rows_in, texts_of};
+ghost use Rattle.command_words.specs.Jobs.{AskFor, HasFirst, HasModule, HasOption, HasPlanning, HasServed, HasRack, HasSource, HasText, HasWorkers, GivesRequest, IsFaultIn, IsGiven, IsMistake, IsReading, IsReadJob, IsRequest, IsTaken, IsWithinLimits, MayBeDone, rows_in, texts_of};
 
 use crate::clients::names_clients;
 use crate::commands::CommandName;
@@ -15,7 +15,7 @@ use crate::faults::{
 use crate::grammar::matches_of;
 use crate::input::reads_input_once;
 use crate::jobs::{ArgumentsFault, Job, Request, SharedRack};
-use crate::limits::{LAST_SETTING, MAX_CLIENTS};
+use crate::limits::{LAST_MODULE, LAST_SETTING, MAX_CLIENTS};
 use crate::outputs::have_names;
 use crate::text::Text;
 use crate::text_list::TextList;
@@ -100,6 +100,22 @@ fn workers_of(matches: &ArgMatches<'_>) -> Result<WorkerCount, Lack>
         return Err(Lack::Word);
     };
     WorkerCount::new(number).ok_or(Lack::Word)
+}
+
+/// The number of `--module`, where it is there.
+fn module_of(matches: &ArgMatches<'_>) -> Result<Option<usize>, Lack>
+    ensures { IsReading (HasModule (rows_in matches.now)) result }
+{
+    if matches.get_str("module").is_none() {
+        return Ok(None);
+    }
+    let Some(number) = matches.get_one::<usize>("module") else {
+        return Err(Lack::Word);
+    };
+    if number > LAST_MODULE {
+        return Err(Lack::Word);
+    }
+    Ok(Some(number))
 }
 
 /// The number of `--from`.
@@ -197,6 +213,18 @@ fn switch_job(alloc: Global, found: &ArgMatches<'_>) -> Result<Job, Lack>
         batch: text_of(alloc, found, "BATCH")?,
         source: source_of(alloc, found)?,
         wiring: option_of(alloc, found, "wiring")?,
+        workers: workers_of(found)?,
+    })
+}
+
+/// The job of `orders`.
+fn orders_job(alloc: Global, found: &ArgMatches<'_>) -> Result<Job, Lack>
+    ensures { IsReadJob CommandName.Orders (rows_in found.now) result }
+{
+    Ok(Job::Orders {
+        batch: text_of(alloc, found, "BATCH")?,
+        source: source_of(alloc, found)?,
+        module: module_of(found)?,
         workers: workers_of(found)?,
     })
 }
@@ -302,6 +330,7 @@ fn job_of(alloc: Global, name: CommandName, found: &ArgMatches<'_>) -> Result<Jo
         CommandName::Check => check_job(alloc, found),
         CommandName::Draw => draw_job(alloc, found),
         CommandName::Switch => switch_job(alloc, found),
+        CommandName::Orders => orders_job(alloc, found),
         CommandName::Drive => drive_job(alloc, found),
         CommandName::C004 => Ok(Job::C004),
         CommandName::Direct => direct_job(alloc, found),

@@ -4,6 +4,7 @@ use Rattle.std.specs.Io.KnownBytes.{Consumes, IsAtEnd}
 use Rattle.batch.specs.Extent.{widest}
 use Rattle.plan_answers.specs.Answers.{IsPlanned, IsChecked}
 use Rattle.rack_answers.specs.Answers.{IsApplied, IsRunAnswer}
+use Rattle.rack_answers.specs.Orders.{IsOrdered}
 use Rattle.rack_answers.specs.Switching.{IsOn, IsSwitched}
 use Rattle.plan_answers.specs.Drawings.{IsDrawn}
 use Rattle.plan_answers.specs.Directing.{IsDirected}
@@ -21,7 +22,7 @@ use Rattle.replay_answers.specs.Replays.{IsReplayPrinted}
 use Rattle.plan_answers.specs.declared.limits.TheConstants.{DONE, REFUSED}
 use Rattle.command_words.specs.Jobs.{Files, file_uses, files_of}
 use Rattle.command_words.specs.declared.jobs.Job.{Job}
-use Rattle.command_words.specs.declared.jobs.Job.TheVariants.{Plan, Check, Draw, Switch, Drive, C004, Direct, Apply, Run, Serve, Host, Talk, Replay}
+use Rattle.command_words.specs.declared.jobs.Job.TheVariants.{Plan, Check, Draw, Switch, Orders, Drive, C004, Direct, Apply, Run, Serve, Host, Talk, Replay}
 use Rattle.refusals.specs.declared.refusal.Refusal.{Refusal}
 use Rattle.refusals.specs.declared.refusal.Refusal.TheVariants as refusal
 use Rattle.refusals.specs.Refusals.{refusal_line}
@@ -90,6 +91,9 @@ IsAnswerTo (Switch batch source wiring workers) files given response =
     IsAlone response
     × IsOn (λ board. IsSwitched (source_in source (text_in files.other)) board
     (text_in files.list)) files.wiring response.end
+IsAnswerTo (Orders batch source of_module workers) files given response =
+    IsAlone response
+    × IsOrdered (source_in source (text_in files.other)) of_module (text_in files.list) response.end
 IsAnswerTo (Drive batch port port_b source wiring first goes_on workers) files given response =
     (response.left ≡ None)
     × IsDriveBy (source_in source (text_in files.other)) (text_in files.list) files.wiring first goes_on

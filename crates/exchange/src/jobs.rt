@@ -33,7 +33,7 @@ use contract_data::PassedBytes;
 use drive_answers::{PortNames, Ports};
 use exchange_limits::WorkerCount;
 use plan_answers::{Answer, answer_check, answer_direct, answer_draw, answer_plan};
-use rack_answers::{answer_apply, answer_run, answer_switch};
+use rack_answers::{answer_apply, answer_orders, answer_run, answer_switch};
 use replay_answers::answer_replay;
 use session_answers::{Ending, answer_host, answer_serve, answer_talk};
 use std::alloc::{AllocError, Global};
@@ -280,6 +280,16 @@ fn answer_texts<R: AllocGlobal + Threads + Sync>(
             let source = source_with(source, other);
             let wiring = slice_of(&contents.wiring);
             let answer = answer_switch(rt, alloc, wiring, list, source, *workers)?;
+            Ok(Found::alone(answer))
+        }
+        Job::Orders {
+            source,
+            module,
+            workers,
+            ..
+        } => {
+            let source = source_with(source, other);
+            let answer = answer_orders(rt, alloc, list, source, *module, *workers)?;
             Ok(Found::alone(answer))
         }
         Job::Direct { .. } => Ok(Found::alone(answer_direct(alloc, list)?)),

@@ -7,6 +7,7 @@ mod batch_rows;
 mod euler_split_rows;
 mod exchange_limits_rows;
 mod link_graph_rows;
+mod module_orders_rows;
 mod move_directions_rows;
 mod planning;
 mod prints;

@@ -32,6 +32,10 @@ fn said_by(job: &Job) -> Said<'_> {
             source: Source::Plan(Planning::Steady),
             ..
         }
+        | Job::Orders {
+            source: Source::Plan(Planning::Steady),
+            ..
+        }
         | Job::Drive {
             source: Source::Plan(Planning::Steady),
             ..
@@ -41,6 +45,10 @@ fn said_by(job: &Job) -> Said<'_> {
             ..
         } => Said::Steady,
         Job::Switch {
+            source: Source::Text(file),
+            ..
+        }
+        | Job::Orders {
             source: Source::Text(file),
             ..
         }
@@ -54,6 +62,7 @@ fn said_by(job: &Job) -> Said<'_> {
         } => Said::File(file.as_str()),
         Job::Plan { workers, .. }
         | Job::Switch { workers, .. }
+        | Job::Orders { workers, .. }
         | Job::Drive { workers, .. }
         | Job::Apply { workers, .. }
         | Job::Run { workers, .. }
@@ -101,6 +110,8 @@ fn words_name_workers(rt: HostRuntime) {
         ("exchange plan F --workers 007", Said::Workers(7)),
         ("exchange switch B", Said::Workers(1)),
         ("exchange switch B --workers 3", Said::Workers(3)),
+        ("exchange orders B", Said::Workers(1)),
+        ("exchange orders B --module 4 --workers 3", Said::Workers(3)),
         ("exchange drive B P", Said::Workers(1)),
         ("exchange drive B P Q --workers 3", Said::Workers(3)),
         ("exchange apply S B I --workers 9", Said::Workers(9)),

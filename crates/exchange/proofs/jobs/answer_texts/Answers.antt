@@ -3,6 +3,7 @@ use Rattle.plan_answers.specs.Answers.{IsChecked, IsPlanned}
 use Rattle.plan_answers.specs.Directing.{IsDirected}
 use Rattle.plan_answers.specs.Drawings.{IsDrawn}
 use Rattle.rack_answers.specs.Answers.{IsApplied, IsRunAnswer}
+use Rattle.rack_answers.specs.Orders.{IsOrdered}
 use Rattle.rack_answers.specs.Switching.{IsOn, IsSwitched}
 use Rattle.replay_answers.specs.Replays.{IsReplayPrinted}
 use Rattle.exchange.specs.Contents.{contents_in}
@@ -29,6 +30,11 @@ pub returns-in_ok-answer-in-Switch : goal.returns-in_ok-answer-in-Switch
 returns-in_ok-answer-in-Switch g c = λ given ends.
     let files = contents_in c.args.contents.now in
     rw c.in-Switch.is (alone (IsOn (λ board. IsSwitched (source_in c.in-Switch.source (text_in files.other)) board (text_in files.list)) files.wiring) given.ports ends c.alone-in-Switch.result _ c.alone-in-Switch.ensures (rw (c.source_with-source.ensures, c.text_of-list.ensures, c.text_of-other.ensures, c.slice_of-wiring.ensures) at c.in_ok-answer-in-Switch.ensures.switched))
+
+pub returns-in_ok-answer-in-Orders : goal.returns-in_ok-answer-in-Orders
+returns-in_ok-answer-in-Orders g c = λ given ends.
+    let files = contents_in c.args.contents.now in
+    rw c.in-Orders.is (alone (IsOrdered (source_in c.in-Orders.source (text_in files.other)) c.in-Orders.module (text_in files.list)) given.ports ends c.alone-in-Orders.result _ c.alone-in-Orders.ensures (rw (c.source_with-source-in-Orders.ensures, c.text_of-list.ensures, c.text_of-other.ensures) at c.in_ok-answer-in-Orders.ensures.ordered))
 
 pub returns-in_ok-answer_direct-in-Direct : goal.returns-in_ok-answer_direct-in-Direct
 returns-in_ok-answer_direct-in-Direct g c = λ given ends.
