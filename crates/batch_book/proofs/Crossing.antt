@@ -20,15 +20,18 @@ use Rattle.schedule_certificate.specs.contracts.gate.OpenGate as OpenGate
 use Rattle.schedule_certificate.proofs.gate.OpenGate.TheSendSync as open_gate
 use Rattle.own_lists.specs.declared.keeper.HistoryName as HistoryName
 use Rattle.own_lists.specs.contracts.keeper.Keeper as Keeper
-use Rattle.own_lists.specs.contracts.keeper.OwnList as OwnList
 use Rattle.own_lists.proofs.keeper.Keeper.TheSendSync as keeper
 use Rattle.own_lists.proofs.keeper.OwnList.TheSendSync as own
 use Rattle.setting_runner.proofs.plant.Plant.TheSendSync as plant
+use Rattle.batch_book.specs.declared.history.History as History
 use Rattle.batch_book.specs.declared.naming.ExchangeName as ExchangeName
 use Rattle.batch_book.specs.contracts.book.Book as Book
 use Rattle.batch_book.specs.contracts.entry.Entry as Entry
-use Rattle.batch_book.specs.contracts.entry.EntryOfSession.TheImpl.{ghosts}
+use Rattle.batch_book.specs.contracts.kept_history.Kept as Kept
+use Rattle.batch_book.specs.contracts.kept_history.KeptHistory.TheImpl as kept
 use Rattle.batch_book.specs.contracts.locked.Locked as Locked
+use Rattle.batch_book.specs.contracts.noted.NotedEntry as NotedEntry
+use Rattle.batch_book.specs.contracts.noted.NotedEntryOfSession.TheImpl.{ghosts}
 use Rattle.batch_book.specs.contracts.seat.Place as Place
 use Rattle.batch_book.specs.contracts.seat.Seat as Seat
 use Rattle.batch_book.specs.contracts.shared.Shared as Shared
@@ -41,33 +44,43 @@ use denote.Struct.Declared.{shape}
 entry_send : IsSend Entry.the_row
 entry_send = search (crosses, sendable) depth 60 fits 20000
 
-book_send : IsSend Book.the_row
-book_send = let e = entry_send in search (crosses, sendable) depth 60 fits 20000
+kept_send : IsSend Kept.the_row
+kept_send = let e = entry_send in search (crosses, sendable) depth 60 fits 20000
+
+noted_send : IsSend NotedEntry.the_row
+noted_send = search (crosses, sendable) depth 60 fits 20000
+
+book_send : (H : RattleType) (t : History.Ghosts H.Denot) → IsSend H → IsSend (Book.the_row H t)
+book_send H t s = search (crosses, sendable) depth 60 fits 20000
 
 module _ (L : RattleType) (n : ExchangeName.Ghosts L.Denot) (h : HistoryName.Ghosts L.Denot) (l : Ledger.Ghosts L.Denot) where
-  keeper_send : IsSend (Keeper.the_row Entry.the_row L ghosts h)
-  keeper_send = keeper.the_send Entry.the_row L ghosts h entry_send
+  keeper_send : IsSend (Keeper.the_row NotedEntry.the_row L ghosts h)
+  keeper_send = keeper.the_send NotedEntry.the_row L ghosts h noted_send
 
   place_send : IsSend (Place.the_field L n h l).row
-  place_send = struct_send (shape (Place.the_type L n h l)) (access.the_field_send L n h l, (own.the_send Entry.the_row L h entry_send, tt))
+  place_send = struct_send (shape (Place.the_type L n h l)) (access.the_field_send L n h l, (own.the_send NotedEntry.the_row L h noted_send, tt))
 
   pub seat_send : IsSend (Seat.the_row L n h l)
   seat_send = let p = place_send in search sendable depth 20
 
-  module _ (P W G I : RattleType) (p : ConfigPort.Ghosts P.Denot) (w : WireMaker.Ghosts W.Denot I.Denot) (i : Wire.Ghosts I.Denot) where
-    locked_send : IsSend P → IsSend W → IsSend G → IsSend (Locked.the_row L P W G I n h p w i l)
-    locked_send sp sw sg =
-        let T = Locked.the_type L P W G I n h p w i l in
-        recorded_send (Locked.the_field L P W G I n h p w i l).row _ _ T.to_one
-        (struct_send (shape T) (book_send, (plant.the_field_send P W G sp sw sg, (total.the_send L l, (keeper_send, tt)))))
+  module _ (P W G H I : RattleType) (p : ConfigPort.Ghosts P.Denot) (w : WireMaker.Ghosts W.Denot I.Denot) (i : Wire.Ghosts I.Denot) (t : History.Ghosts H.Denot) where
+    locked_send : IsSend P → IsSend W → IsSend G → IsSend H → IsSend (Locked.the_row L P W G H I n h p w i t l)
+    locked_send sp sw sg sh =
+        let T = Locked.the_type L P W G H I n h p w i t l in
+        recorded_send (Locked.the_field L P W G H I n h p w i t l).row _ _ T.to_one
+        (struct_send (shape T) (book_send H t sh, (plant.the_field_send P W G sp sw sg, (total.the_send L l, (keeper_send, tt)))))
 
-    pub shared_sync : IsSend P → IsSend W → IsSend G → IsSync (Shared.the_row L P W G I n h p w i l)
-    shared_sync sp sw sg =
-        let T = Inside.the_type L P W G I n h p w i l in
-        view_sync (Inside.the_row L P W G I n h p w i l) _ _ _ _
-        (recorded_sync (Inside.the_field L P W G I n h p w i l).row _ _ T.to_one
-        (struct_sync (shape T) (mutex.the_sync (Locked.the_row L P W G I n h p w i l) (locked_send sp sw sg), (word.the_sync, (extent.the_sync, tt)))))
+    pub any_shared_sync : IsSend P → IsSend W → IsSend G → IsSend H → IsSync (Shared.the_row L P W G H I n h p w i t l)
+    any_shared_sync sp sw sg sh =
+        let T = Inside.the_type L P W G H I n h p w i t l in
+        view_sync (Inside.the_row L P W G H I n h p w i t l) _ _ _ _
+        (recorded_sync (Inside.the_field L P W G H I n h p w i t l).row _ _ T.to_one
+        (struct_sync (shape T) (mutex.the_sync (Locked.the_row L P W G H I n h p w i t l) (locked_send sp sw sg sh), (word.the_sync, (extent.the_sync, tt)))))
 
--- where port and wires never fail
-pub plain_sync : (L : RattleType) (n : ExchangeName.Ghosts L.Denot) (h : HistoryName.Ghosts L.Denot) (l : Ledger.Ghosts L.Denot) → IsSync (Shared.the_row L MemoryPort.the_row PlainWires.the_row OpenGate.the_row PlainWire.the_row n h port.ghosts wires.ghosts wire.ghosts l)
+  -- where the history is kept in memory
+  pub shared_sync : (P W G I : RattleType) (p : ConfigPort.Ghosts P.Denot) (w : WireMaker.Ghosts W.Denot I.Denot) (i : Wire.Ghosts I.Denot) → IsSend P → IsSend W → IsSend G → IsSync (Shared.the_row L P W G Kept.the_row I n h p w i kept.ghosts l)
+  shared_sync P W G I p w i sp sw sg = any_shared_sync P W G Kept.the_row I p w i kept.ghosts sp sw sg kept_send
+
+-- and port and wires never fail
+pub plain_sync : (L : RattleType) (n : ExchangeName.Ghosts L.Denot) (h : HistoryName.Ghosts L.Denot) (l : Ledger.Ghosts L.Denot) → IsSync (Shared.the_row L MemoryPort.the_row PlainWires.the_row OpenGate.the_row Kept.the_row PlainWire.the_row n h port.ghosts wires.ghosts wire.ghosts kept.ghosts l)
 plain_sync L n h l = shared_sync L n h l MemoryPort.the_row PlainWires.the_row OpenGate.the_row PlainWire.the_row port.ghosts wires.ghosts wire.ghosts memory_port.the_send plain_wires.the_send open_gate.the_send

@@ -1,11 +1,13 @@
 -- A history that grows.
-use Rattle.std.proofs.Common.{◌≡◌, ℕ, ◌+◌, ◌<◌, List, [], ◌∷◌, ◌++◌, length, refl, sym, ap, ◌∙◌, subst, arith, length-append}
-use Rattle.batch_book.specs.declared.limits.TheConstants.{MAX_ENTRIES}
+use Rattle.std.proofs.Common.{◌≡◌, ℕ, ◌+◌, List, [], ◌∷◌, ◌++◌, Bool, true, false, true≢false, length, refl, sym, ap, ◌∙◌, subst, arith, length-append}
 use Rattle.batch_book.specs.declared.entry.Entry.{Entry}
 use Rattle.batch_book.specs.declared.reply.Reply.{Reply}
 use Rattle.batch_book.specs.declared.call.Call.{Call}
 use Rattle.batch_book.specs.Machine.{Machine, opened, IsMachineStep}
-use Rattle.batch_book.specs.History.{Account, account, IsReplay, IsKeptBook, entry}
+use Rattle.batch_book.specs.History.{Account, account, IsReplay, IsGrown, IsKeptBook, IsWithin, entry}
+use Rattle.batch_book.specs.Recording.{IsAnswered}
+use Rattle.batch_book.specs.Replies.{is_logged}
+use Rattle.batch_book.proofs.Room.{HasRoom, within_more}
 use Rattle.batch_book.proofs.Steps.{small_step}
 
 replay_push : (m : Machine) (es : List Entry) (k : Machine) (session : ℕ) (c : Call) (r : Reply) (n : Machine)
@@ -14,15 +16,23 @@ replay_push m [] k session c r n led step = (n, subst (λ (x : Machine). IsMachi
 replay_push m (e ∷ es) k session c r n led step = (led.0, led.1, replay_push led.0 es k session c r n led.2 step)
 
 -- one step of the machine and one more entry, where there was room for it
-pub grown : (a : Account) (session : ℕ) (c : Call) (r : Reply) (es : List Entry) (n : Machine)
-    → IsKeptBook a → length a.history < MAX_ENTRIES → es ≡ a.history ++ entry session c r ∷ [] → IsMachineStep a.machine session c r n → IsKeptBook (account a.opening es n)
-grown a session c r es n kept room is step =
+pub grown : (limited loses : Bool) (a : Account) (session : ℕ) (c : Call) (r : Reply) (es : List Entry) (n : Machine) (whole : Bool)
+    → IsKeptBook limited loses a → HasRoom limited a → es ≡ a.history ++ entry session c r ∷ [] → IsMachineStep a.machine session c r n → (whole ≡ false → loses ≡ true) → IsKeptBook limited loses (account a.opening es n whole)
+grown limited loses a session c r es n whole kept room is step lost =
     let small = small_step a.machine session c r n step in
     let given = small.given in let runs = small.runs in
     let given_before = kept.given in let runs_before = kept.runs in
+    let given_room = room.given in let runs_room = room.runs in
     let longer : length es ≡ length a.history + 1 = ap length is ∙ length-append a.history (entry session c r ∷ []) in record {
       replay = subst (λ (x : List Entry). IsReplay (opened a.opening) x n) (sym is) (replay_push (opened a.opening) a.history a.machine session c r n kept.replay step);
-      few = omega arith;
+      few = subst (IsWithin limited) (sym longer) (within_more limited (length a.history) room.entries);
       given = omega arith;
       runs = omega arith;
+      few_given = omega arith;
+      few_runs = omega arith;
+      lost = lost;
     }
+
+-- an answer that can be told
+pub is_answered : (old new : Account) (session : ℕ) (c : Call) (r : Reply) → old.whole ≡ true → new.whole ≡ true → is_logged r ≡ true → IsGrown old session c r new → IsAnswered old session c r new
+is_answered old new session c r was is logged more = record { was_whole = was; whole = is; grown = λ _. more; unlogged = λ un. absurd (true≢false (sym logged ∙ un)) }

@@ -1,6 +1,7 @@
 pub mod Entries
 pub mod Runs
 pub mod Steps
+pub mod Room
 pub mod Histories
 pub mod OneReplay
 pub mod OwnPlans
@@ -8,5 +9,6 @@ pub mod Numbers
 pub mod Unstopped
 pub mod Answering
 pub mod Seats
+pub mod Noting
 pub mod Dealing
 pub mod Crossing

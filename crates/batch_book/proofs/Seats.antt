@@ -1,6 +1,6 @@
 -- What a notice heard, and the greatest value of a list that grows.
-use Rattle.std.proofs.Common.{◌≡◌, ℕ, zero, suc, ◌+◌, ◌<◌, ◌≤◌, max, List, [], ◌∷◌, ◌++◌, length, length-append, if◌then◌else◌, cond, nat_eq, get_or, All, Some, Bool, true, false, refl, sym, ap, ◌∙◌, subst, arith}
-use Rattle.std.proofs.lemmas.List.{get_or_push, get_or_append_left}
+use Rattle.std.proofs.Common.{◌≡◌, ℕ, zero, suc, ◌+◌, ◌<◌, max, List, [], ◌∷◌, ◌++◌, length, length-append, get_or, All, Some, true, false, refl, sym, ap, ◌∙◌, subst, arith}
+use Rattle.std.proofs.lemmas.List.{get_or_append_left}
 use Rattle.atomic_table.specs.Seated.{TableId}
 use Rattle.progress_word.specs.Watchers.{WatcherView}
 use Rattle.setting_runner.specs.Runs.{ToldUpTo, TellsOutcome}
@@ -8,9 +8,9 @@ use Rattle.batch_book.specs.declared.entry.Entry.{Entry}
 use Rattle.batch_book.specs.declared.reply.Reply.{Reply}
 use Rattle.batch_book.specs.declared.reply.Reply.TheVariants.{Ran, Stopped}
 use Rattle.batch_book.specs.declared.call.Call.{Call}
-use Rattle.batch_book.specs.History.{Account, entry, IsGrown, IsSound}
+use Rattle.batch_book.specs.History.{Account, IsGrown, IsSound}
 use Rattle.batch_book.specs.Replies.{is_logged, outcome_of}
-use Rattle.batch_book.specs.Seats.{SeatState, LogAgrees, Reaches, own}
+use Rattle.batch_book.specs.Seats.{SeatState, Reaches}
 use Rattle.batch_book.specs.Values.{value_at, value_of, greatest}
 use Rattle.batch_book.proofs.Answering.{answered}
 
@@ -35,7 +35,7 @@ told {N} watcher run a (suc k) b h =
     let seen_then = s0.seen in
     (record { word = s0.word ∙ t0.word; parts = s0.parts ∙ t0.parts; raised = omega arith; later = omega arith; seen = omega arith }, s1 ∙ t1)
 
-stays : (a b : WatcherView) → b ≡ a → Reaches a 0 b
+pub stays : (a b : WatcherView) → b ≡ a → Reaches a 0 b
 stays a b is = record {
   word = ap (λ (o : WatcherView). o.word) is;
   parts = ap (λ (o : WatcherView). o.parts) is;
@@ -75,36 +75,6 @@ pub unlogged_value : (r : Reply) → is_logged r ≡ false → value_of r ≡ 0
 unlogged_value (Ran run settings words) h = absurd (cc)
 unlogged_value (Stopped run setting cause moved) h = absurd (cc)
 unlogged_value r h = refl
-
-pub entered_by : (b : Bool) (es ns : List Entry) (e : Entry) (amount later raised now : ℕ) → (b ≡ false → value_of e.reply ≡ 0) → ns ≡ (if b then es ++ e ∷ [] else es) → later ≡ (if b then amount + 1 else amount) → now ≡ max raised (value_of e.reply)
-    → amount ≡ length es → raised ≡ greatest es → (later ≡ length ns) × (now ≡ greatest ns)
-entered_by true es ns e amount later raised now quiet ns_is later_is now_is amount_is raised_is =
-    (omega (arith, ap length ns_is, length-append es (e ∷ [])), omega (arith, ap greatest ns_is, greatest_push es e))
-entered_by false es ns e amount later raised now quiet ns_is later_is now_is amount_is raised_is =
-    (omega (arith, ap length ns_is), omega (arith, ap greatest ns_is, quiet refl))
-
--- the list has a copy of the call, with its reply, where the history has them
-pub listed : (es log ns : List Entry) (session : ℕ) (kept c : Call) (r : Reply)
-    → is_logged r ≡ true → ns ≡ (if is_logged r then log ++ entry session kept r ∷ [] else log) → log ≡ es → kept ≡ c → ns ≡ es ++ entry session c r ∷ []
-listed es log ns session kept c r logged is same equal =
-    is ∙ (ap (λ b. if b then log ++ entry session kept r ∷ [] else log) logged ∙ (λ i. same i ++ entry session (equal i) r ∷ []))
-
--- the last entry of a history that has one more
-pub last_is : (es ns hs : List Entry) (e x : Entry) (k : ℕ) → ns ≡ es ++ e ∷ [] → hs ≡ ns → x ≡ get_or hs k x → k ≡ length es → x ≡ e
-last_is es ns hs e x k grown same is here = is ∙ ap (λ (l : List Entry). get_or l k x) (same ∙ grown) ∙ get_or_push es e x k (sym here)
-
-own_step : (e : Entry) (es os : List Entry) → greatest os ≤ greatest es → (b : Bool) → greatest (cond b (e ∷ os) os) ≤ greatest (e ∷ es)
-own_step e es os le true = omega arith
-own_step e es os le false = omega arith
-
--- a session's own entries tell of no more than the history
-pub own_below : (session : ℕ) (es : List Entry) → greatest (own session es) ≤ greatest es
-own_below session [] = omega arith
-own_below session (e ∷ es) = own_step e es (own session es) (own_below session es) (nat_eq e.session session)
-
--- nor does a list that agrees with the history
-pub agree_below : (history : List Entry) (seat : SeatState) → LogAgrees history seat → greatest seat.log ≤ greatest history
-agree_below history seat agrees = subst (λ l. greatest l ≤ greatest history) (sym agrees) (own_below seat.session history)
 
 -- a seat before the last one, of seats that are all of one word
 pub its_word : (seats rest : List SeatState) (last s : SeatState) (word : TableId) (k : ℕ) → All (λ (t : SeatState). t.exchange ≡ Some word) seats → seats ≡ rest ++ last ∷ [] → k < length rest → s ≡ get_or rest k s → s.exchange ≡ Some word

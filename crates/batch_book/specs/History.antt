@@ -1,10 +1,10 @@
 -- Histories of the book.
-use Rattle.std.specs.Prelude.{◌≡◌, ℕ, ◌≤◌, List, [], ◌∷◌, ◌++◌, length, All}
+use Rattle.std.specs.Prelude.{◌≡◌, ℕ, ◌≤◌, ◌⊎◌, nat_lt, if◌then◌else◌, Bool, true, false, List, [], ◌∷◌, ◌++◌, length, All}
 use Rattle.std.specs.List.{flat_map}
 use Rattle.batch.specs.Extent.{IsShape}
 use Rattle.module_memory.specs.Store.{Store}
 use Rattle.schedule_certificate.specs.Plans.{Plan, IsPlan}
-use Rattle.batch_book.specs.declared.limits.TheConstants.{MAX_ENTRIES}
+use Rattle.batch_book.specs.declared.limits.TheConstants.{MAX_ENTRIES, MAX_NUMBER}
 use Rattle.batch_book.specs.declared.kept.KeptBatch.{KeptBatch}
 use Rattle.batch_book.specs.declared.kept.Stage.TheVariants.{Planned}
 use Rattle.batch_book.specs.declared.entry.Entry.{Entry}
@@ -28,31 +28,66 @@ IsLegal opening es = (n : Machine) × IsReplay (opened opening) es n
 abbrev pub entry : ℕ → Call → Reply → Entry
 entry session call reply = record { session = session; call = call; reply = reply }
 
--- what contracts see of a book: the words that it was opened with, its history, and the machine as
--- it is
+-- What contracts see of a book: the words that it was opened with, its history, the machine as it
+-- is, and whether each entry of the history stands where it belongs. If not, the last one may not.
 pub record Account : Type 0 where
   pub opening : Store
   pub history : List Entry
   pub machine : Machine
+  pub whole : Bool
 
-abbrev pub account : Store → List Entry → Machine → Account
-account opening history machine = record { opening = opening; history = history; machine = machine }
+abbrev pub account : Store → List Entry → Machine → Bool → Account
+account opening history machine whole =
+    record { opening = opening; history = history; machine = machine; whole = whole }
+
+-- what they see of one without its history
+pub record Bare : Type 0 where
+  pub opening : Store
+  pub machine : Machine
 
 -- what contracts see of a new book of these words
 abbrev pub new_account : Store → Account
-new_account store = account store [] (opened store)
+new_account store = account store [] (opened store) true
 
--- there is no room for another entry
-abbrev pub IsFull : Account → Type 0
-IsFull a = length a.history ≡ MAX_ENTRIES
+-- ---- room; entries are limited in number, or they aren't
 
--- the machine is the history's replay, and there are no more entries than may be, nor more numbers
--- than entries
-pub record IsKeptBook (a : Account) : Type 0 where
+-- there is room for an entry behind so many
+abbrev pub has_room : Bool → ℕ → Bool
+has_room true n = nat_lt n MAX_ENTRIES
+has_room false n = true
+
+-- there is a number for another batch, and one for another run
+abbrev pub has_numbers : Machine → Bool
+has_numbers m = if nat_lt m.given MAX_NUMBER then nat_lt m.runs MAX_NUMBER else false
+
+-- there is room for another entry, whatever it tells
+abbrev pub has_book_room : Bool → Account → Bool
+has_book_room limited a =
+    if has_room limited (length a.history) then has_numbers a.machine else false
+
+-- there are no more entries than may be
+abbrev pub IsWithin : Bool → ℕ → Type 0
+IsWithin true n = n ≤ MAX_ENTRIES
+IsWithin false n = Unit {0}
+
+-- No call is made: there is no room for its entry. Where entries aren't limited, there is no number
+-- for another batch, or for another run.
+abbrev pub IsFull : Bool → Account → Type 0
+IsFull true a = length a.history ≡ MAX_ENTRIES
+IsFull false a = (a.machine.given ≡ MAX_NUMBER) ⊎ (a.machine.runs ≡ MAX_NUMBER)
+
+-- The machine is the history's replay. There are no more entries than may be, nor more numbers than
+-- entries, or than a line can hold. An entry can be lost only where the history's kind says so.
+pub record IsKeptBook (limited loses : Bool) (a : Account) : Type 0 where
   pub replay : IsReplay (opened a.opening) a.history a.machine
-  pub few : length a.history ≤ MAX_ENTRIES
+  pub few : IsWithin limited (length a.history)
   pub given : a.machine.given ≤ length a.history
   pub runs : a.machine.runs ≤ length a.history
+  pub few_given : a.machine.given ≤ MAX_NUMBER
+  pub few_runs : a.machine.runs ≤ MAX_NUMBER
+  pub lost : a.whole ≡ false → loses ≡ true
+
+-- ---- growth
 
 -- one step of the machine, and one entry more
 pub record IsGrown (old : Account) (session : ℕ) (call : Call) (reply : Reply)

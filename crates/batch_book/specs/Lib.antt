@@ -3,6 +3,8 @@ pub mod Machine
 pub mod Running
 pub mod Holdings
 pub mod History
+pub mod Past
+pub mod Recording
 pub mod Answering
 pub mod Values
 pub mod Seats

@@ -1,20 +1,25 @@
 -- What an exchange is named by.
-use Rattle.std.specs.Prelude.{◌≡◌, ℕ, []}
+use Rattle.std.specs.Prelude.{◌≡◌, ℕ, true, List, []}
 use Rattle.atomic_table.specs.Seated.{TableId}
 use Rattle.progress_word.specs.declared.limits.TheConstants.{ALL_PARTS}
 use Rattle.batch.specs.Extent.{extent}
 use Rattle.module_memory.specs.Store.{Store}
+use Rattle.batch_book.specs.declared.entry.Entry.{Entry}
 use Rattle.batch_book.specs.declared.naming.ExchangeBlank.{ExchangeBlank}
+use Rattle.batch_book.specs.History.{Account}
 
 -- the words of no exchange
 abbrev pub no_words : Store
 no_words = record { shape = extent 0 0 0; blocks = [] }
 
--- the blank and these words are those that an exchange is named by, and its ledger has all parts
+-- The blank, and the words and the history of the book, are those that an exchange is named by. Its
+-- ledger has all parts, and each entry of the history stands where it belongs.
 pub record IsNamed (ledger ledger_parts : ℕ) (table : TableId) (words : Store)
-    (blank : ExchangeBlank) (rack : Store) : Type 0 where
+    (earlier : List Entry) (blank : ExchangeBlank) (book : Account) : Type 0 where
   pub name : blank.ledger.name ≡ ledger
   pub parts : blank.ledger.parts ≡ ledger_parts
   pub all_parts : blank.ledger.parts ≡ ALL_PARTS
   pub history : blank.history ≡ table
-  pub opening : rack ≡ words
+  pub opening : book.opening ≡ words
+  pub entries : book.history ≡ earlier
+  pub whole : book.whole ≡ true

@@ -1,12 +1,17 @@
 -- The seats of an exchange, and their lists.
-use Rattle.std.specs.Prelude.{◌≡◌, ℕ, ◌≤◌, max, List, length, sum_by, Option, Some}
+use Rattle.std.specs.Prelude.{◌≡◌, ℕ, ◌≤◌, max, List, ◌++◌, length, sum_by, Option, Some, Result}
 use Rattle.atomic_table.specs.Seated.{TableId}
 use Rattle.progress_word.specs.Watchers.{WatcherView}
 use Rattle.own_lists.specs.Lists.{own_of}
+use Rattle.batch_book.specs.declared.call.Call.{Call}
 use Rattle.batch_book.specs.declared.entry.Entry.{Entry}
+use Rattle.batch_book.specs.declared.reply.Reply.{Reply}
+use Rattle.batch_book.specs.declared.unrecorded.Unrecorded.{Unrecorded}
+use Rattle.batch_book.specs.Recording.{told_by, value_made}
 
--- What contracts see of a seat: the word of its exchange, its session, its list, the greatest value
--- that it saw of the word, the greatest to which it raised it, and its parts
+-- What contracts see of a seat: the word of its exchange, its session, the list of what could be
+-- told to it, the greatest value that it saw of the word, the greatest to which it raised it, and
+-- its parts
 pub record SeatState : Type 0 where
   pub exchange : Option TableId
   pub session : ℕ
@@ -32,6 +37,17 @@ pub record IsSameSeat (old new : SeatState) : Type 0 where
   pub exchange : new.exchange ≡ old.exchange
   pub session : new.session ≡ old.session
   pub parts : new.parts ≡ old.parts
+
+-- What a call leaves of a seat. Its list has the entry behind it, where the reply can be told. The
+-- word was raised to the reply's value, and the seat has seen that, and nothing new where it is 0.
+pub record IsAsked (old : SeatState) (call : Call) (made : Result Reply Unrecorded)
+    (new : SeatState) : Type 0 where
+  pub seat : IsSameSeat old new
+  pub log : new.log ≡ old.log ++ told_by old.session call made
+  pub raised : new.raised ≡ max old.raised (value_made made)
+  pub later : old.seen ≤ new.seen
+  pub seen : value_made made ≤ new.seen
+  pub quiet : value_made made ≡ 0 → new.seen ≡ old.seen
 
 -- the parts of these seats together
 abbrev pub parts_of : List SeatState → ℕ

@@ -1,22 +1,26 @@
-//! The book, and its history.
+//! The book.
 
 ghost use Rattle.std.specs.Option.{option_copied};
-ghost use Rattle.std.specs.Prelude.{◌+◌, ◌≡◌, ◌↔◌, ◌≤◌, ◌<◌, [], true, false, IfOk, IfErr, OnErr, length};
+ghost use Rattle.std.specs.Prelude.{◌+◌, ◌≡◌, ◌↔◌, ◌≤◌, [], true, false, IfOk, IfErr, OnErr, length};
 ghost use Rattle.setting_runner.specs.Plants.{LeavesPlant};
 ghost use Rattle.setting_runner.specs.Runs.{TellsOutcome};
 ghost use Rattle.batch_book.specs.Holdings.{batch_in};
 ghost use Rattle.batch_book.specs.Machine.{opened, batch_of};
 ghost use Rattle.batch_book.specs.Running.{plan_to_run};
-ghost use Rattle.batch_book.specs.Replies.{is_logged, outcome_of, outcome_in};
-ghost use Rattle.batch_book.specs.History.{new_account, IsReplay, IsLegal, IsFull, IsGrown, IsSound};
+ghost use Rattle.batch_book.specs.Replies.{is_logged, outcome_of};
+ghost use Rattle.batch_book.specs.History.{new_account, IsReplay, IsLegal, IsFull, IsGrown, IsSound, IsKeptBook, account, has_book_room};
+ghost use Rattle.batch_book.specs.Recording.{Applies, outcome_made, outcome_entered};
 
 use crate::call::Call;
-use crate::entry::{Entry, list};
+use crate::entry::Entry;
+use crate::history::History;
 use crate::holdings::Holdings;
-use crate::limits::MAX_ENTRIES;
-use crate::logged::LoggedCall;
+use crate::kept_history::Kept;
+use crate::limits::{MAX_ENTRIES, MAX_NUMBER};
+use crate::logged::{LoggedCall, LoggedReply};
 use crate::refusal::BookRefusal;
 use crate::reply::Reply;
+use crate::unrecorded::Unrecorded;
 use batch::Batch;
 use crossbar::ConfigPort;
 use module_memory::Rack;
@@ -28,17 +32,32 @@ use std::marker::Model;
 use std::snapshot::Snapshot;
 use std::thread::Threads;
 
-/// The batches that sessions have submitted, the rack that these are run on, and the history of
-/// what was asked and answered. Contracts see the words that it was opened with, the history, and
-/// the machine that this has led to, step by step.
-pub struct Book {
+/// A book without its history. Contracts see the words that it was opened with, and the machine.
+#[derive(Drop)]
+pub struct BareBook {
     holdings: Holdings,
     opening: Rack,
-    history: Vec<Entry>,
+}
+
+impl Model for BareBook {
+    ghost use Rattle.batch_book.specs.History.{Bare};
+
+    ghost Value = { Bare };
+
+    ghost view = { λ b. record { opening = b.opening; machine = b.holdings } };
+}
+
+/// The batches that sessions have submitted, the rack that these are run on, and the history of
+/// what was asked and answered. Contracts see the words that it was opened with, the history, the
+/// machine that this has led to, step by step, and whether each entry stands where it belongs.
+pub struct Book<H: History = Kept> {
+    holdings: Holdings,
+    opening: Rack,
+    history: H,
 }
 
 // Said once, so that no function that lets go of one has to say it again.
-impl Drop for Book {
+impl<H: History + Drop> Drop for Book<H> {
     fn drop(self) {
         let Book {
             holdings: _,
@@ -48,34 +67,29 @@ impl Drop for Book {
     }
 }
 
-impl Model for Book {
+impl<H: History> Model for Book<H> {
     ghost use Rattle.batch_book.specs.History.{Account, account, IsKeptBook};
 
     ghost Value = { Account };
 
-    ghost view = { λ b. account b.opening b.history.items b.holdings };
+    ghost view = { λ b. account b.opening (H.pushed b.history) b.holdings (H.whole b.history) };
 
-    ghost invariant = { λ b. IsKeptBook (account b.opening b.history.items b.holdings) };
+    ghost invariant = { λ b. IsKeptBook H.limited H.loses
+        (account b.opening (H.pushed b.history) b.holdings (H.whole b.history)) };
 }
 
-impl Book {
+impl Book<Kept> {
     /// A book of this rack, with no batch and no entry. It takes memory, and time, for a copy of
     /// the rack and for as many batches as it may hold; where there is no memory the rack comes
     /// back as it was.
-    pub fn new(alloc: Global, rack: Rack) -> Result<Book, (Rack, AllocError)>
+    pub fn new(alloc: Global, rack: Rack) -> Result<Book<Kept>, (Rack, AllocError)>
         ensures ok { IfOk result (λ book. book ≡ new_account rack) }
         ensures unchanged { IfErr result (λ refused. refused.0 ≡ rack) }
     {
-        let opening = match rack.copy() {
-            Ok(opening) => opening,
-            Err(error) => return Err((rack, error)),
-        };
-        let holdings = Holdings::new(alloc, rack)?;
-        Ok(Book {
-            holdings,
-            opening,
-            history: Vec::new(alloc),
-        })
+        match Book::with(alloc, rack, Kept::new(alloc)) {
+            Ok(book) => Ok(book),
+            Err((rack, _, error)) => Err((rack, error)),
+        }
     }
 
     /// What was asked and answered, in order. Each reply is one that the machine may give where the
@@ -85,8 +99,72 @@ impl Book {
         ensures replay { IsReplay (opened self.now.opening) self.now.history self.now.machine }
         ensures legal { IsLegal self.now.opening self.now.history }
         ensures few { length self.now.history ≤ MAX_ENTRIES }
+        ensures whole { self.now.whole ≡ true }
     {
-        self.history.as_slice()
+        self.history.entries.as_slice()
+    }
+}
+
+impl<H: History> Book<H> {
+    /// The same, with this history, which is empty.
+    pub fn with(alloc: Global, rack: Rack, history: H) -> Result<Book<H>, (Rack, H, AllocError)>
+        requires empty { H.pushed history ≡ [] }
+        requires whole { H.whole history ≡ true }
+        ensures ok { IfOk result (λ book. book ≡ new_account rack) }
+        ensures unchanged { IfErr result (λ back. (back.0 ≡ rack) × (back.1 ≡ history)) }
+    {
+        let opening = match rack.copy() {
+            Ok(opening) => opening,
+            Err(error) => return Err((rack, history, error)),
+        };
+        match Holdings::new(alloc, rack) {
+            Ok(holdings) => Ok(Book {
+                holdings,
+                opening,
+                history,
+            }),
+            Err((rack, error)) => Err((rack, history, error)),
+        }
+    }
+
+    /// Where the entries go. Each reply is one that the machine may give where the entries before
+    /// it lead, and the batches and memories are where all of them lead.
+    pub fn log(&self) -> &H
+        ensures pushed { H.pushed result.now ≡ self.now.history }
+        ensures whole { H.whole result.now ≡ self.now.whole }
+        ensures replay { IsReplay (opened self.now.opening) self.now.history self.now.machine }
+    {
+        &self.history
+    }
+
+    /// The book without its history, and that.
+    pub fn part(self) -> (BareBook, H)
+        ensures kept { IsKeptBook H.limited H.loses (account result.0.opening (H.pushed result.1)
+            result.0.machine (H.whole result.1)) }
+        ensures same { account result.0.opening (H.pushed result.1) result.0.machine
+            (H.whole result.1) ≡ self }
+    {
+        let Book {
+            holdings,
+            opening,
+            history,
+        } = self;
+        (BareBook { holdings, opening }, history)
+    }
+
+    /// The book that goes on with this history.
+    pub fn go_on(bare: BareBook, history: H) -> Book<H>
+        requires { IsKeptBook H.limited H.loses (account bare.opening (H.pushed history)
+            bare.machine (H.whole history)) }
+        ensures { result ≡ account bare.opening (H.pushed history) bare.machine
+            (H.whole history) }
+    {
+        let BareBook { holdings, opening } = bare;
+        Book {
+            holdings,
+            opening,
+            history,
+        }
     }
 
     /// The session's batch of this number, where it has one.
@@ -113,7 +191,7 @@ impl Book {
     /// The number that the next run gets.
     pub(crate) fn next_run(&self) -> usize
         ensures number { result ≡ self.now.machine.runs + 1 }
-        ensures limit { result ≤ MAX_ENTRIES + 1 }
+        ensures limit { result ≤ MAX_NUMBER + 1 }
         ensures sound { IsSound self.now.machine }
     {
         // Its contract has the bounds of the shape, of which `sound` tells.
@@ -121,18 +199,111 @@ impl Book {
         self.holdings.runs() + 1
     }
 
-    /// One call of a session, and its reply. The history has both then, but where it is full, and
-    /// where there was no memory: then nothing has changed. A plan of a call that is refused is
-    /// dropped.
+    /// Whether there is room for another entry, whatever it tells.
+    fn has_room(&self) -> bool
+        ensures room { result ≡ has_book_room H.limited self.now }
+        ensures full { result ≡ false → IsFull H.limited self.now }
+    {
+        self.history.has_room() && self.holdings.has_numbers()
+    }
+
+    /// One call of a session, and its reply, where that can be told: then the history has both, but
+    /// where there was no room for them, and where there was no memory: then nothing has changed. A
+    /// plan of a call that is refused is dropped.
     ///
-    /// In a full history no memory is asked for. Else all of it is taken before anything changes:
-    /// for the entry, for the copy of a batch that is fetched, and for the run, if there is one. An
-    /// entry keeps no plan and no batch that was fetched. It shares a batch that was handed in with
-    /// the book, while that has it.
+    /// Where the entry couldn't be put where it belongs the reply is lost, and no later call is
+    /// made.
+    ///
+    /// Where there is no room no memory is asked for. Else all of it is taken before anything
+    /// changes: for the entry, for the copy of a batch that is fetched, and for the run, if there
+    /// is one. An entry keeps no plan and no batch that was fetched. It shares a batch that was
+    /// handed in with the book, while that has it.
     ///
     /// A run takes its time, `Fetch` and `Settle` take time by the batch, and `Discard` by the
-    /// batches that are held. All other calls take constant time, however long the history is, but
-    /// for those few at which its memory grows.
+    /// batches that are held. All other calls take constant time, beside what the history takes,
+    /// however long it is, but for those few at which its memory grows.
+    pub fn try_apply<
+        R: Threads + Sync,
+        P: ConfigPort,
+        W: WireMaker + Sync,
+        G: Gate + Sync,
+        N: Notice,
+    >(
+        &mut self,
+        rt: &R,
+        session: usize,
+        call: Call,
+        plant: &mut Plant<P, W, G>,
+        notice: &mut N,
+    ) -> Result<Reply, Unrecorded>
+
+        // One step of the machine, and one entry more; told or lost.
+        ensures step { Applies self.old session call result self.new }
+        ensures opening { self.new.opening ≡ self.old.opening }
+        ensures full { IfOk result (λ reply.
+            (reply ≡ Reply.Refused BookRefusal.HistoryFull) ↔ IsFull H.limited self.old) }
+        ensures loses { OnErr result (H.loses ≡ true) }
+
+        // What a run leaves of the plant, and what the notice is told. Nothing else does anything
+        // to them.
+        ensures plant { LeavesPlant P.ConfigPort W.is_sure self.old.machine.store.shape
+            (plan_to_run self.old.machine session call) (outcome_made result) plant.old plant.new }
+        ensures told { TellsOutcome N.hears notice.old (outcome_made result) notice.new }
+    {
+        if !self.history.is_whole() {
+            return Err(Unrecorded::Before);
+        }
+        if !self.has_room() {
+            return Ok(Reply::Refused(BookRefusal::HistoryFull));
+        }
+        match self.enter(rt, session, call, plant, notice) {
+            Ok(made) => made,
+            Err(_) => Ok(Reply::Refused(BookRefusal::NoMemory)),
+        }
+    }
+
+    /// One call of a session, where there is room for its entry. For want of memory nothing
+    /// changes.
+    fn enter<R: Threads + Sync, P: ConfigPort, W: WireMaker + Sync, G: Gate + Sync, N: Notice>(
+        &mut self,
+        rt: &R,
+        session: usize,
+        call: Call,
+        plant: &mut Plant<P, W, G>,
+        notice: &mut N,
+    ) -> Result<Result<Reply, Unrecorded>, AllocError>
+        requires whole { self.old.whole ≡ true }
+        requires room { has_book_room H.limited self.old ≡ true }
+
+        ensures step { IfOk result (λ made. Applies self.old session call made self.new) }
+        ensures logged { IfOk result (λ made. IfOk made (λ reply. is_logged reply ≡ true)) }
+        ensures loses { IfOk result (λ made. OnErr made (H.loses ≡ true)) }
+        ensures opening { self.new.opening ≡ self.old.opening }
+        ensures unchanged { OnErr result (self.new ≡ self.old) }
+
+        ensures plant { LeavesPlant P.ConfigPort W.is_sure self.old.machine.store.shape
+            (plan_to_run self.old.machine session call) (outcome_entered result)
+            plant.old plant.new }
+        ensures told { TellsOutcome N.hears notice.old (outcome_entered result) notice.new }
+    {
+        // Its contract has the bounds of the shape, by which the machine is sound.
+        let _shape = self.holdings.rack().shape();
+        self.history.draft(session, &call)?;
+        let asked = Snapshot::of(&call);
+        let (told, reply) = self.holdings.answer(rt, session, call, plant, notice)?;
+        let entry = Entry {
+            session,
+            call: LoggedCall::new(asked, told),
+            reply: LoggedReply::of(&reply),
+        };
+        match self.history.push(entry) {
+            Ok(()) => Ok(Ok(reply)),
+            Err(_) => Ok(Err(Unrecorded::Now(reply))),
+        }
+    }
+
+    /// The same as [`try_apply`](Book::try_apply) for a history that loses no entry, as [`Kept`]
+    /// and [`Silent`](crate::Silent).
     pub fn apply<R: Threads + Sync, P: ConfigPort, W: WireMaker + Sync, G: Gate + Sync, N: Notice>(
         &mut self,
         rt: &R,
@@ -141,56 +312,22 @@ impl Book {
         plant: &mut Plant<P, W, G>,
         notice: &mut N,
     ) -> Reply
+        requires sure { H.loses ≡ false }
 
-        // One step of the machine, and one entry more.
         ensures grown { is_logged result ≡ true → IsGrown self.old session call result self.new }
         ensures opening { self.new.opening ≡ self.old.opening }
-        ensures full { (result ≡ Reply.Refused BookRefusal.HistoryFull) ↔ IsFull self.old }
+        ensures whole { self.new.whole ≡ true }
+        ensures full { (result ≡ Reply.Refused BookRefusal.HistoryFull)
+            ↔ IsFull H.limited self.old }
         ensures unchanged { is_logged result ≡ false → self.new ≡ self.old }
 
-        // What a run leaves of the plant, and what the notice is told. Nothing else does anything
-        // to them.
         ensures plant { LeavesPlant P.ConfigPort W.is_sure self.old.machine.store.shape
             (plan_to_run self.old.machine session call) (outcome_of result) plant.old plant.new }
         ensures told { TellsOutcome N.hears notice.old (outcome_of result) notice.new }
     {
-        if self.history.len() >= MAX_ENTRIES {
-            return Reply::Refused(BookRefusal::HistoryFull);
-        }
-        match self.enter(rt, session, call, plant, notice) {
+        match self.try_apply(rt, session, call, plant, notice) {
             Ok(reply) => reply,
-            Err(_) => Reply::Refused(BookRefusal::NoMemory),
+            Err(_) => unreachable!(),
         }
-    }
-
-    /// One call of a session, where the history has room. For want of memory nothing changes.
-    fn enter<R: Threads + Sync, P: ConfigPort, W: WireMaker + Sync, G: Gate + Sync, N: Notice>(
-        &mut self,
-        rt: &R,
-        session: usize,
-        call: Call,
-        plant: &mut Plant<P, W, G>,
-        notice: &mut N,
-    ) -> Result<Reply, AllocError>
-        requires room { length self.old.history < MAX_ENTRIES }
-
-        ensures grown { IfOk result (λ reply. IsGrown self.old session call reply self.new) }
-        ensures logged { IfOk result (λ reply. is_logged reply ≡ true) }
-        ensures unchanged { OnErr result (self.new ≡ self.old) }
-
-        ensures plant { LeavesPlant P.ConfigPort W.is_sure self.old.machine.store.shape
-            (plan_to_run self.old.machine session call) (outcome_in result) plant.old plant.new }
-        ensures told { TellsOutcome N.hears notice.old (outcome_in result) notice.new }
-    {
-        self.history.reserve(1)?;
-        let asked = Snapshot::of(&call);
-        let (told, reply) = self.holdings.answer(rt, session, call, plant, notice)?;
-        list(
-            &mut self.history,
-            session,
-            LoggedCall::new(asked, told),
-            &reply,
-        );
-        Ok(reply)
     }
 }

@@ -1,10 +1,4 @@
-ghost use Rattle.std.specs.Prelude.{◌≡◌, ◌++◌, ◌<◌, [], ◌∷◌, vec_len, vec_capacity, if◌then◌else◌};
-ghost use Rattle.batch_book.specs.History.{entry};
-ghost use Rattle.batch_book.specs.Replies.{is_logged};
-
 use crate::logged::{LoggedCall, LoggedReply};
-use crate::reply::Reply;
-use own_lists::OfSession;
 
 /// What a session asked, and what it was answered.
 pub struct Entry {
@@ -24,26 +18,5 @@ impl Drop for Entry {
             call: _,
             reply: _,
         } = self;
-    }
-}
-
-impl OfSession for Entry {
-    ghost session = { λ e. e.session };
-}
-
-/// Adds an entry to a list with room, where a history has it.
-pub(crate) fn list(log: &mut Vec<Entry>, session: usize, call: LoggedCall, reply: &Reply)
-    requires room { vec_len log.old < vec_capacity log.old }
-    ensures { log.new.items ≡ (if is_logged reply.now
-        then log.old.items ++ entry session call reply.now ∷ []
-        else log.old.items) }
-{
-    if reply.is_logged() {
-        let entry = Entry {
-            session,
-            call,
-            reply: LoggedReply::of(reply),
-        };
-        log.push(entry).unwrap();
     }
 }

@@ -5,6 +5,7 @@ ghost use Rattle.std.specs.Option.{option_copied};
 ghost use Rattle.std.specs.Map.{lookup};
 ghost use Rattle.setting_runner.specs.Plants.{LeavesPlant};
 ghost use Rattle.setting_runner.specs.Runs.{TellsOutcome};
+ghost use Rattle.batch_book.specs.History.{has_numbers};
 ghost use Rattle.batch_book.specs.Holdings.{EndsRun, batch_in};
 ghost use Rattle.batch_book.specs.Machine.{Machine, opened, owned, batch_of, set_stage, Gives, submit, fetch, settle, show, discard, peek, poke, run_to, IsRunStep, IsMachineStep};
 ghost use Rattle.batch_book.specs.Running.{plan_in, plan_to_run};
@@ -13,7 +14,7 @@ ghost use Rattle.batch_book.specs.Told.{told};
 
 use crate::call::Call;
 use crate::kept::{KeptBatch, Stage};
-use crate::limits::{MAX_BATCHES, MAX_ENTRIES};
+use crate::limits::{MAX_BATCHES, MAX_NUMBER};
 use crate::refusal::BookRefusal;
 use crate::reply::Reply;
 use crate::shared_batch::SharedBatch;
@@ -137,8 +138,15 @@ impl Holdings {
         self.runs
     }
 
+    /// Whether there is a number for another batch, and one for another run.
+    pub fn has_numbers(&self) -> bool
+        ensures { result ≡ has_numbers self.now }
+    {
+        self.given < MAX_NUMBER && self.runs < MAX_NUMBER
+    }
+
     fn submit(&mut self, session: usize, batch: SharedBatch) -> Result<Reply, AllocError>
-        requires { self.old.given < MAX_ENTRIES }
+        requires { self.old.given < MAX_NUMBER }
         ensures step { IfOk result (λ reply. Gives (submit self.old session batch) reply self.new) }
         ensures quiet { TellsNoRun (outcome_in result) }
         ensures unchanged { OnErr result (self.new ≡ self.old) }
@@ -246,7 +254,7 @@ impl Holdings {
         plant: &mut Plant<P, W, G>,
         notice: &mut N,
     ) -> Result<Reply, AllocError>
-        requires number { self.old.runs < MAX_ENTRIES }
+        requires number { self.old.runs < MAX_NUMBER }
 
         ensures step { IfOk result (λ reply.
             IsRunStep self.old id (batch_of self.old session id) reply self.new) }
@@ -278,7 +286,7 @@ impl Holdings {
     /// Brings a batch to the stage behind its run, which left these words, and gives the run's
     /// number.
     fn number(&mut self, id: usize, stage: Stage) -> usize
-        requires { self.old.runs < MAX_ENTRIES }
+        requires { self.old.runs < MAX_NUMBER }
         ensures number { result ≡ self.old.runs + 1 }
         ensures next { self.new ≡ run_to self.old id stage self.old.store }
     {
@@ -290,7 +298,7 @@ impl Holdings {
     /// The reply that tells of a run, which left these words. A run that was refused leaves its
     /// batch planned.
     fn end(&mut self, id: usize, outcome: &Outcome) -> Result<Reply, AllocError>
-        requires { self.old.runs < MAX_ENTRIES }
+        requires { self.old.runs < MAX_NUMBER }
         ensures { EndsRun self.old id outcome.now result self.new }
     {
         match outcome {
@@ -330,8 +338,8 @@ impl Holdings {
         plant: &mut Plant<P, W, G>,
         notice: &mut N,
     ) -> Result<(ToldCall<SharedBatch>, Reply), AllocError>
-        requires id { self.old.given < MAX_ENTRIES }
-        requires number { self.old.runs < MAX_ENTRIES }
+        requires id { self.old.given < MAX_NUMBER }
+        requires number { self.old.runs < MAX_NUMBER }
 
         ensures call { IfOk result (λ answered. answered.0 ≡ told call) }
         ensures step { IfOk result

@@ -7,11 +7,16 @@
 //! that each reply in it is one that the machine may give there, and that batches and memories are
 //! where the history leads. A history leads to one machine (`laws::replays`).
 //!
+//! The entries go where the book's [`History`] puts them: [`Kept`] has them in memory, [`Silent`]
+//! is known to contracts alone, and others may write them. A reply whose entry couldn't be put
+//! there is [`Unrecorded`]: it is told to nobody, and no later call is made
+//! ([`Book::try_apply`], `Applies` of `specs/Recording.antt`).
+//!
 //! A [`Shared`] is one exchange for many sessions: a book behind a lock, and a word that says how
 //! far the runs have come, which is read without the lock. Each session calls from its own
-//! [`Seat`]. Contracts see the list of what it asked and was answered. Where all seats are given
-//! back and the exchange closes, each list is the history filtered to its session (`AreClosed` of
-//! `specs/Closing.antt`).
+//! [`Seat`]. Contracts see the list of what it asked and could be told. Where all seats are given
+//! back and the exchange closes, each list is the history filtered to its session, but for a last
+//! entry that was lost (`AreClosed` of `specs/Closing.antt`).
 #![tactic(auto)]
 
 mod access;
@@ -19,15 +24,19 @@ mod book;
 mod call;
 mod close;
 mod entry;
+mod history;
 mod holdings;
 mod kept;
+mod kept_history;
 pub mod laws;
 mod limits;
 mod lists;
 mod locked;
 mod logged;
 mod naming;
+mod noted;
 mod open;
+mod past;
 mod raise;
 mod reading;
 mod refusal;
@@ -35,17 +44,23 @@ mod reply;
 mod seat;
 mod shared;
 mod shared_batch;
+mod silent;
 mod told_call;
+mod unrecorded;
 
-pub use book::Book;
+pub use book::{BareBook, Book};
 pub use call::Call;
 pub use close::{Closed, SeatMissing};
 pub use entry::Entry;
+pub use history::{History, Unwritten};
 pub use kept::{BatchState, KeptBatch, Stage};
-pub use limits::{MAX_BATCHES, MAX_ENTRIES, RUN_STEP};
+pub use kept_history::Kept;
+pub use limits::{MAX_BATCHES, MAX_ENTRIES, MAX_NUMBER, RUN_STEP};
 pub use logged::{LoggedCall, LoggedReply};
 pub use naming::{ExchangeBlank, ExchangeName};
+pub use noted::NotedEntry;
 pub use open::SharedFault;
+pub use past::PastEntries;
 pub use progress_word::ALL_PARTS;
 pub use reading::Reading;
 pub use refusal::BookRefusal;
@@ -53,4 +68,6 @@ pub use reply::Reply;
 pub use seat::Seat;
 pub use shared::Shared;
 pub use shared_batch::SharedBatch;
+pub use silent::Silent;
 pub use told_call::ToldCall;
+pub use unrecorded::Unrecorded;

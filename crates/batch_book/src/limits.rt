@@ -3,8 +3,11 @@
 /// The most batches that the book holds at a time.
 pub const MAX_BATCHES: usize = 256;
 
-/// The most entries of the book's history.
+/// The most entries of a history that is kept in memory.
 pub const MAX_ENTRIES: usize = 65536;
+
+/// The greatest number of a batch or a run. A line can hold no greater one.
+pub const MAX_NUMBER: usize = 999_999_999;
 
 /// How far apart on the progress word two runs are that follow each other: the word is this many
 /// times the number of a run, and the settings of it that are done. No plan has as many settings.

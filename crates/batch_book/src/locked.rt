@@ -1,78 +1,81 @@
 //! What lies under the lock of an exchange.
 
-ghost use Rattle.std.specs.Prelude.{◌≡◌, ◌+◌, ◌++◌, ◌≤◌, [], ◌∷◌, length, true, false, Some};
+ghost use Rattle.std.specs.Prelude.{◌≡◌, ◌+◌, ◌++◌, ◌≤◌, [], ◌∷◌, length, true, false, Some, IfOk, OnErr};
 ghost use Rattle.batch_book.specs.Answering.{IsReplyTo};
-ghost use Rattle.batch_book.specs.History.{entry, AreUnstopped, IsGrown};
-ghost use Rattle.batch_book.specs.Replies.{is_logged, NeverFail};
-ghost use Rattle.batch_book.specs.Seats.{IsSameSeat, Reaches};
-ghost use Rattle.batch_book.specs.Values.{value_of, greatest};
+ghost use Rattle.batch_book.specs.History.{AreUnstopped};
+ghost use Rattle.batch_book.specs.Recording.{Applies, AreAllBut, made_in, told_in};
+ghost use Rattle.batch_book.specs.Replies.{NeverFail};
+ghost use Rattle.batch_book.specs.Seats.{IsAsked, open_seat};
 
 use crate::access::ExchangeAccess;
 use crate::book::Book;
 use crate::call::Call;
-use crate::entry::Entry;
+use crate::history::History;
 use crate::naming::ExchangeName;
+use crate::noted::{NotedEntry, note_call};
 use crate::raise::Raise;
 use crate::reply::Reply;
 use crate::seat::{Place, Seat};
+use crate::unrecorded::Unrecorded;
 use crossbar::ConfigPort;
 use own_lists::Keeper;
 use peek_poke::WireMaker;
 use progress_word::ProgressWord;
 use schedule_certificate::Gate;
 use setting_runner::Plant;
+use std::snapshot::Snapshot;
 use std::sync::ledger;
 use std::thread::Threads;
 
-/// The book and the plant, the ledger's total, which is the number of entries, and the keeper of
-/// the sessions' lists, which knows the book's history. The book was opened with the words that the
-/// exchange's name says. Where port and wires never fail, no run of the book has stopped.
+/// The book and the plant, the ledger's total, which is the number of entries that were told, and
+/// the keeper of the sessions' lists, which knows what the book's history has beyond the entries
+/// that the exchange's name says. The book was opened with the words that this says. Where port and
+/// wires never fail, no run of the book has stopped.
 #[derive(Drop)]
-pub struct Locked<L: ExchangeName, P: ConfigPort, W: WireMaker, G> {
-    pub book: Book,
+pub struct Locked<L: ExchangeName, P: ConfigPort, W: WireMaker, G, H: History> {
+    pub book: Book<H>,
     pub plant: Plant<P, W, G>,
     pub entries: ledger::Book<L>,
-    pub keeper: Keeper<Entry, L>,
-    pub ghost counted: { length book.history ≡ entries.total },
-    pub ghost kept: { keeper.history ≡ book.history },
+    pub keeper: Keeper<NotedEntry, L>,
+    pub ghost counted: { length (told_in keeper.history) ≡ entries.total },
+    pub ghost kept: { book.history ≡ L.earlier ++ made_in keeper.history },
+    pub ghost all_told: { AreAllBut book.whole (told_in keeper.history) (made_in keeper.history) },
     pub ghost opened: { book.opening ≡ L.opening },
     pub ghost unstopped: { NeverFail P.ConfigPort W.is_sure → AreUnstopped book.history },
 }
 
-impl<L: ExchangeName, P: ConfigPort, W: WireMaker + Sync, G: Gate + Sync> Locked<L, P, W, G> {
-    /// One call of a seat. The history and the seat's list get the entry, or neither does.
+impl<L: ExchangeName, P: ConfigPort, W: WireMaker + Sync, G: Gate + Sync, H: History> Locked<
+    L,
+    P,
+    W,
+    G,
+    H,
+> {
+    /// One call of a seat. Where the reply can be told, the history and the seat's list get the
+    /// entry, or neither does.
     pub fn call<R: Threads + Sync>(
         &mut self,
         rt: &R,
         word: &ProgressWord,
         seat: &mut Seat<L>,
         call: Call,
-    ) -> Reply
+    ) -> Result<Reply, Unrecorded>
         requires { seat.old.exchange ≡ Some word.now }
-        ensures reply { IsReplyTo call result }
-        ensures history { is_logged result ≡ true →
-            IsGrown self.old.book seat.old.session call result self.new.book }
-        ensures list { is_logged result ≡ true →
-            seat.new.log ≡ seat.old.log ++ entry seat.old.session call result ∷ [] }
-        ensures unlogged { is_logged result ≡ false →
-            (self.new.book ≡ self.old.book) × (seat.new ≡ seat.old) }
-        ensures seat { IsSameSeat seat.old seat.new }
-        ensures later { seat.old.seen ≤ seat.new.seen }
-        ensures seen { value_of result ≤ seat.new.seen }
-        ensures quiet { value_of result ≡ 0 → seat.new.seen ≡ seat.old.seen }
-        ensures raised { seat.new.raised ≡ greatest seat.new.log }
+        ensures reply { IfOk result (IsReplyTo call) }
+        ensures step { Applies self.old.book seat.old.session call result self.new.book }
+        ensures asked { IsAsked seat.old call result seat.new }
+        ensures loses { OnErr result (H.loses ≡ true) }
     {
         let session = seat.session;
         let Some(place) = seat.place.take() else {
             unreachable!()
         };
-        let (reply, place) = self.ask(rt, word, session, place, call);
+        let (made, place) = self.ask(rt, word, session, place, call);
         seat.place = Some(place);
-        reply
+        made
     }
 
-    // One call of the book, which raises the word from the access's watcher, counts in the ledger,
-    // and adds to the session's list.
+    // One call of the book, which raises the word from the access's watcher, and is noted.
     fn ask<R: Threads + Sync>(
         &mut self,
         rt: &R,
@@ -80,22 +83,20 @@ impl<L: ExchangeName, P: ConfigPort, W: WireMaker + Sync, G: Gate + Sync> Locked
         session: usize,
         place: Place<L>,
         call: Call,
-    ) -> (Reply, Place<L>)
+    ) -> (Result<Reply, Unrecorded>, Place<L>)
         requires word { place.access.watcher.word ≡ word.now }
         requires session { place.own.session ≡ session }
-        ensures reply { IsReplyTo call result.0 }
-        ensures history { is_logged result.0 ≡ true →
-            IsGrown self.old.book session call result.0 self.new.book }
-        ensures list { is_logged result.0 ≡ true →
-            result.1.own.list ≡ place.own.list ++ entry session call result.0 ∷ [] }
-        ensures unlogged { is_logged result.0 ≡ false →
-            (self.new.book ≡ self.old.book) × (result.1.own.list ≡ place.own.list) }
+        ensures reply { IfOk result.0 (IsReplyTo call) }
+        ensures step { Applies self.old.book session call result.0 self.new.book }
+        ensures asked { IsAsked
+            (open_seat place.access.watcher session (told_in place.own.list) place.access.parts)
+            call result.0
+            (open_seat result.1.access.watcher session (told_in result.1.own.list)
+            result.1.access.parts) }
         ensures session { result.1.own.session ≡ session }
-        ensures quiet { value_of result.0 ≡ 0 → result.1.access.watcher ≡ place.access.watcher }
-        ensures parts { result.1.access.parts ≡ place.access.parts }
-        ensures watcher { Reaches place.access.watcher (value_of result.0) result.1.access.watcher }
+        ensures loses { OnErr result.0 (H.loses ≡ true) }
     {
-        let Place { access, mut own } = place;
+        let Place { access, own } = place;
         let ExchangeAccess {
             mut share,
             watcher,
@@ -106,14 +107,19 @@ impl<L: ExchangeName, P: ConfigPort, W: WireMaker + Sync, G: Gate + Sync> Locked
             watcher,
             run: self.book.next_run(),
         };
-        let reply = self
+        let asked = Snapshot::of(&call);
+        let made = self
             .book
-            .apply(rt, session, call, &mut self.plant, &mut raise);
-        if reply.is_logged() {
-            self.entries.add(&mut share, 1);
-            let history = self.book.history();
-            own = self.keeper.add(own, &history[history.len() - 1]);
-        }
+            .try_apply(rt, session, call, &mut self.plant, &mut raise);
+        let own = note_call(
+            &mut self.keeper,
+            &mut self.entries,
+            &mut share,
+            own,
+            asked,
+            &made,
+            session,
+        );
         let Raise {
             word: _,
             watcher,
@@ -124,6 +130,6 @@ impl<L: ExchangeName, P: ConfigPort, W: WireMaker + Sync, G: Gate + Sync> Locked
             watcher,
             parts,
         };
-        (reply, Place { access, own })
+        (made, Place { access, own })
     }
 }

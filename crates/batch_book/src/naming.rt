@@ -3,7 +3,7 @@
 ghost use Rattle.std.specs.Prelude.{◌≡◌, IfOk};
 ghost use Rattle.progress_word.specs.declared.limits.TheConstants.{ALL_PARTS};
 
-use crate::entry::Entry;
+use crate::noted::NotedEntry;
 use own_lists::{Fresh, HistoryName};
 use progress_word::ALL_PARTS;
 use std::alloc::{AllocError, Global};
@@ -11,17 +11,24 @@ use std::marker::Brand;
 use std::sync::ledger::{Blank, Ledger};
 
 /// Names an exchange, so that what lies under its lock can be told to be of it: beside its ledger
-/// and its history, the words that it was opened with.
+/// and its history, the words that its book was opened with, and the entries that this had before.
 pub trait ExchangeName: Ledger + HistoryName {
+    ghost use Rattle.std.specs.Prelude.{List};
     ghost use Rattle.module_memory.specs.Store.{Store};
+    ghost use Rattle.batch_book.specs.declared.entry.Entry.{Entry};
 
     ghost opening: { Store };
+
+    ghost earlier: { List Entry };
 }
 
 impl ExchangeName for Brand {
     ghost use Rattle.batch_book.specs.Naming.{no_words};
+    ghost use Rattle.std.specs.Prelude.{[]};
 
     ghost opening = { no_words };
+
+    ghost earlier = { [] };
 }
 
 /// What an exchange is made of that no type names yet: a ledger of [`ALL_PARTS`], and an empty
@@ -29,7 +36,7 @@ impl ExchangeName for Brand {
 #[derive(Drop)]
 pub struct ExchangeBlank {
     pub ledger: Blank,
-    pub history: Fresh<Entry>,
+    pub history: Fresh<NotedEntry>,
 }
 
 impl ExchangeBlank {

@@ -1,15 +1,21 @@
 //! How an exchange is made.
 
-ghost use Rattle.std.specs.Prelude.{◌≡◌, ◌↔◌, ◌≤◌, ◌<◌, ◌⊎◌, [], vec_capacity, IfOk, IfErr, OnOk};
+ghost use Rattle.std.specs.Prelude.{◌≡◌, ◌↔◌, ◌≤◌, ◌<◌, ◌⊎◌, [], vec_capacity, Ok, IfOk, IfErr, OnOk};
+ghost use Rattle.exchange_limits.specs.declared.limits.TheConstants.{MAX_SESSIONS};
+ghost use Rattle.progress_word.specs.declared.limits.TheConstants.{ALL_PARTS};
 ghost use Rattle.progress_word.specs.Watchers.{watcher_view};
 ghost use Rattle.batch_book.specs.Exchanges.{AreNew};
+ghost use Rattle.batch_book.specs.History.{AreUnstopped, new_account};
 ghost use Rattle.batch_book.specs.Naming.{IsNamed};
+ghost use Rattle.batch_book.specs.Replies.{NeverFail};
 
 use crate::access::ExchangeAccess;
 use crate::book::Book;
-use crate::entry::Entry;
+use crate::history::History;
+use crate::kept_history::Kept;
 use crate::locked::Locked;
 use crate::naming::{ExchangeBlank, ExchangeName};
+use crate::noted::NotedEntry;
 use crate::seat::Seat;
 use crate::shared::Shared;
 use crossbar::ConfigPort;
@@ -17,7 +23,7 @@ use exchange_limits::MAX_SESSIONS;
 use module_memory::Rack;
 use own_lists::Keeper;
 use peek_poke::WireMaker;
-use progress_word::{ALL_PARTS, ProgressWord};
+use progress_word::{ALL_PARTS, ProgressWord, Watcher};
 use setting_runner::Plant;
 use std::alloc::Global;
 use thiserror::Error;
@@ -33,7 +39,46 @@ pub enum SharedFault {
     NoMemory,
 }
 
-impl<L: ExchangeName, P: ConfigPort, W: WireMaker, G> Shared<L, P, W, G> {
+/// What an exchange of so many sessions takes memory for, beside its book.
+#[derive(Drop)]
+struct Places<L: ExchangeName> {
+    word: ProgressWord,
+    watcher: Watcher,
+    // None yet, but room for all.
+    seats: Vec<Seat<L>>,
+    sessions: usize,
+    ghost whole: { watcher ≡ watcher_view word 0 0 ALL_PARTS },
+    ghost empty: { seats.items ≡ [] },
+    ghost room: { sessions ≤ vec_capacity seats },
+    ghost some: { 1 ≤ sessions },
+    ghost few: { sessions ≤ MAX_SESSIONS },
+}
+
+impl<L: ExchangeName> Places<L> {
+    fn new(alloc: Global, sessions: usize) -> Result<Places<L>, SharedFault>
+        ensures sessions { IfOk result (λ places. places.sessions ≡ sessions) }
+        ensures bad { IfErr result (λ fault.
+            (fault ≡ SharedFault.BadSessions) ↔ ((sessions ≡ 0) ⊎ (MAX_SESSIONS < sessions))) }
+    {
+        if sessions == 0 || sessions > MAX_SESSIONS {
+            return Err(SharedFault::BadSessions);
+        }
+        let Ok(seats) = Vec::with_capacity(alloc, sessions) else {
+            return Err(SharedFault::NoMemory);
+        };
+        let Ok((word, watcher)) = ProgressWord::new(alloc) else {
+            return Err(SharedFault::NoMemory);
+        };
+        Ok(Places {
+            word,
+            watcher,
+            seats,
+            sessions,
+        })
+    }
+}
+
+impl<L: ExchangeName, P: ConfigPort, W: WireMaker, G> Shared<L, P, W, G, Kept> {
     /// An exchange over this rack and plant, and a seat for each session, from 1 to
     /// [`MAX_SESSIONS`] of them. The sessions are numbered from 0, in the order of the seats. Blank
     /// and rack are those that the exchange is named by.
@@ -47,10 +92,10 @@ impl<L: ExchangeName, P: ConfigPort, W: WireMaker, G> Shared<L, P, W, G> {
         plant: Plant<P, W, G>,
         sessions: usize,
     ) -> Result<
-        (Shared<L, P, W, G>, Vec<Seat<L>>),
+        (Shared<L, P, W, G, Kept>, Vec<Seat<L>>),
         (ExchangeBlank, Rack, Plant<P, W, G>, SharedFault),
     >
-        requires { IsNamed L.name L.parts L.table L.opening blank rack }
+        requires { IsNamed L.name L.parts L.table L.opening L.earlier blank (new_account rack) }
         ensures sessions { OnOk result ((1 ≤ sessions) × (sessions ≤ MAX_SESSIONS)) }
         ensures shape { IfOk result (λ made. made.0.shape ≡ rack.shape) }
         ensures seats { IfOk result (λ made. AreNew made.0.word sessions made.1.items) }
@@ -60,44 +105,89 @@ impl<L: ExchangeName, P: ConfigPort, W: WireMaker, G> Shared<L, P, W, G> {
         ensures bad { IfErr result (λ back.
             (back.3 ≡ SharedFault.BadSessions) ↔ ((sessions ≡ 0) ⊎ (MAX_SESSIONS < sessions))) }
     {
-        if sessions == 0 || sessions > MAX_SESSIONS {
-            return Err((blank, rack, plant, SharedFault::BadSessions));
+        let places = match Places::new(alloc, sessions) {
+            Ok(places) => places,
+            Err(fault) => return Err((blank, rack, plant, fault)),
+        };
+        match Book::new(alloc, rack) {
+            Ok(book) => Ok(assemble(blank, book, plant, places)),
+            Err((rack, _)) => Err((blank, rack, plant, SharedFault::NoMemory)),
         }
-        let Ok(seats) = Vec::with_capacity(alloc, sessions) else {
-            return Err((blank, rack, plant, SharedFault::NoMemory));
-        };
-        let Ok((word, watcher)) = ProgressWord::new(alloc) else {
-            return Err((blank, rack, plant, SharedFault::NoMemory));
-        };
-        let shape = rack.shape();
-        let book = match Book::new(alloc, rack) {
-            Ok(book) => book,
-            Err((rack, _)) => return Err((blank, rack, plant, SharedFault::NoMemory)),
-        };
-        let ExchangeBlank { ledger, history } = blank;
-        let (entries, share) = ledger.open::<L>();
-        let mut keeper = history.open::<L>();
-        let all = ExchangeAccess {
-            share,
-            watcher,
-            parts: ALL_PARTS,
-        };
-        let seats = deal(&word, &mut keeper, seats, all, sessions);
-        let locked = Locked {
-            book,
-            plant,
-            entries,
-            keeper,
-        };
-        Ok((Shared::of(locked, word, shape), seats))
     }
+}
+
+impl<L: ExchangeName, P: ConfigPort, W: WireMaker, G, H: History> Shared<L, P, W, G, H> {
+    /// An exchange over this book, which may have entries before, and this plant; else the same as
+    /// [`new`](Shared::new).
+    pub fn of_book(
+        alloc: Global,
+        blank: ExchangeBlank,
+        book: Book<H>,
+        plant: Plant<P, W, G>,
+        sessions: usize,
+    ) -> Result<
+        (Shared<L, P, W, G, H>, Vec<Seat<L>>),
+        (ExchangeBlank, Book<H>, Plant<P, W, G>, SharedFault),
+    >
+        requires named { IsNamed L.name L.parts L.table L.opening L.earlier blank book }
+        requires unstopped { NeverFail P.ConfigPort W.is_sure → AreUnstopped book.history }
+        ensures sessions { OnOk result ((1 ≤ sessions) × (sessions ≤ MAX_SESSIONS)) }
+        ensures shape { IfOk result (λ made. made.0.shape ≡ book.machine.store.shape) }
+        ensures seats { IfOk result (λ made. AreNew made.0.word sessions made.1.items) }
+        ensures back { IfErr result (λ back.
+            (back.0 ≡ blank) × (back.1 ≡ book) × (back.2 ≡ plant)) }
+        ensures bad { IfErr result (λ back.
+            (back.3 ≡ SharedFault.BadSessions) ↔ ((sessions ≡ 0) ⊎ (MAX_SESSIONS < sessions))) }
+    {
+        match Places::new(alloc, sessions) {
+            Ok(places) => Ok(assemble(blank, book, plant, places)),
+            Err(fault) => Err((blank, book, plant, fault)),
+        }
+    }
+}
+
+// The exchange and its seats, which takes no memory.
+fn assemble<L: ExchangeName, P: ConfigPort, W: WireMaker, G, H: History>(
+    blank: ExchangeBlank,
+    book: Book<H>,
+    plant: Plant<P, W, G>,
+    places: Places<L>,
+) -> (Shared<L, P, W, G, H>, Vec<Seat<L>>)
+    requires named { IsNamed L.name L.parts L.table L.opening L.earlier blank book }
+    requires unstopped { NeverFail P.ConfigPort W.is_sure → AreUnstopped book.history }
+    ensures shape { result.0.shape ≡ book.machine.store.shape }
+    ensures seats { AreNew result.0.word places.sessions result.1.items }
+{
+    let Places {
+        word,
+        watcher,
+        seats,
+        sessions,
+    } = places;
+    let shape = book.rack().shape();
+    let ExchangeBlank { ledger, history } = blank;
+    let (entries, share) = ledger.open::<L>();
+    let mut keeper = history.open::<L>();
+    let all = ExchangeAccess {
+        share,
+        watcher,
+        parts: ALL_PARTS,
+    };
+    let seats = deal(&word, &mut keeper, seats, all, sessions);
+    let locked = Locked {
+        book,
+        plant,
+        entries,
+        keeper,
+    };
+    (Shared::of(locked, word, shape), seats)
 }
 
 // Deals the parts to the seats, which takes no memory: each gets one, and the first keeps those
 // left over.
 fn deal<L: ExchangeName>(
     word: &ProgressWord,
-    keeper: &mut Keeper<Entry, L>,
+    keeper: &mut Keeper<NotedEntry, L>,
     mut seats: Vec<Seat<L>>,
     mut first: ExchangeAccess<L>,
     sessions: usize,

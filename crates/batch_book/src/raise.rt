@@ -1,7 +1,7 @@
 //! Whoever raises the word of an exchange while a run goes on.
 
 ghost use Rattle.std.specs.Prelude.{◌≡◌, ◌+◌, ◌<◌, ◌≤◌};
-ghost use Rattle.batch_book.specs.declared.limits.TheConstants.{MAX_ENTRIES};
+ghost use Rattle.batch_book.specs.declared.limits.TheConstants.{MAX_NUMBER};
 
 use crate::limits::RUN_STEP;
 use progress_word::{ProgressWord, Watcher};
@@ -16,7 +16,7 @@ pub struct Raise<'a> {
     pub run: usize,
     pub ghost own: { watcher.word ≡ word.now },
     pub ghost some: { 0 < watcher.parts },
-    pub ghost limit: { run ≤ MAX_ENTRIES + 1 },
+    pub ghost limit: { run ≤ MAX_NUMBER + 1 },
 }
 
 impl Notice for Raise<'_> {

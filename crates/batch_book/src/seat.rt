@@ -1,13 +1,14 @@
 //! A session's seat at an exchange.
 
 ghost use Rattle.std.specs.Prelude.{◌≡◌, ◌≤◌, [], length, Some, IsSome};
+ghost use Rattle.batch_book.specs.Recording.{made_in, told_in};
 ghost use Rattle.progress_word.specs.declared.limits.TheConstants.{ALL_PARTS};
 ghost use Rattle.batch_book.specs.Values.{greatest};
 ghost use Rattle.batch_book.specs.Seats.{open_seat};
 
 use crate::access::ExchangeAccess;
-use crate::entry::Entry;
 use crate::naming::ExchangeName;
+use crate::noted::NotedEntry;
 use own_lists::OwnList;
 use progress_word::ALL_PARTS;
 use std::marker::Model;
@@ -16,13 +17,13 @@ use std::marker::Model;
 #[derive(Drop)]
 pub(crate) struct Place<L: ExchangeName> {
     pub(crate) access: ExchangeAccess<L>,
-    pub(crate) own: OwnList<Entry, L>,
-    pub(crate) ghost counted: { access.share.amount ≡ length own.list },
-    pub(crate) ghost highest: { access.watcher.raised ≡ greatest own.list },
+    pub(crate) own: OwnList<NotedEntry, L>,
+    pub(crate) ghost counted: { access.share.amount ≡ length (told_in own.list) },
+    pub(crate) ghost highest: { access.watcher.raised ≡ greatest (made_in own.list) },
 }
 
 /// The seat of a session at an exchange. Contracts see the list of what the session has asked and
-/// was answered, of which no byte is kept.
+/// could be told, of which no byte is kept.
 pub struct Seat<L: ExchangeName> {
     pub(crate) session: usize,
     // There, but while a call is made.
@@ -42,6 +43,7 @@ impl<L: ExchangeName> Drop for Seat<L> {
 impl<L: ExchangeName> Model for Seat<L> {
     ghost use Rattle.std.specs.Prelude.{◌≡◌, [], IfSome, option_map};
     ghost use Rattle.std.specs.Option.{option_map_or};
+    ghost use Rattle.batch_book.specs.Recording.{told_in};
     ghost use Rattle.batch_book.specs.Seats.{SeatState};
 
     ghost Value = { SeatState };
@@ -49,7 +51,7 @@ impl<L: ExchangeName> Model for Seat<L> {
     ghost view = { λ s. record {
       exchange = option_map (λ p. p.access.watcher.word) s.place;
       session = s.session;
-      log = option_map_or (λ p. p.own.list) s.place [];
+      log = option_map_or (λ p. told_in p.own.list) s.place [];
       seen = option_map_or (λ p. p.access.watcher.seen) s.place 0;
       raised = option_map_or (λ p. p.access.watcher.raised) s.place 0;
       parts = option_map_or (λ p. p.access.parts) s.place 0;
@@ -60,7 +62,11 @@ impl<L: ExchangeName> Model for Seat<L> {
 
 impl<L: ExchangeName> Seat<L> {
     /// The seat of a session that has asked nothing yet.
-    pub(crate) fn new(session: usize, access: ExchangeAccess<L>, own: OwnList<Entry, L>) -> Seat<L>
+    pub(crate) fn new(
+        session: usize,
+        access: ExchangeAccess<L>,
+        own: OwnList<NotedEntry, L>,
+    ) -> Seat<L>
         requires amount { access.share.amount ≡ 0 }
         requires raised { access.watcher.raised ≡ 0 }
         requires session { own.session ≡ session }
@@ -98,7 +104,7 @@ impl<L: ExchangeName> Seat<L> {
         ensures seen { result.access.watcher.seen ≡ self.seen }
         ensures parts { result.access.parts ≡ self.parts }
         ensures session { result.own.session ≡ self.session }
-        ensures list { result.own.list ≡ self.log }
+        ensures list { told_in result.own.list ≡ self.log }
     {
         let Seat { session: _, place } = self;
         match place {

@@ -1,19 +1,20 @@
 //! One exchange, and the calls of its seats.
 
-ghost use Rattle.std.specs.Prelude.{◌≡◌, ◌++◌, ◌≤◌, ◌<◌, [], ◌∷◌, true, false, Some};
+ghost use Rattle.std.specs.Prelude.{◌≡◌, ◌≤◌, ◌<◌, true, false, Some, Ok, IfOk, OnErr};
 ghost use Rattle.batch_book.specs.Answering.{IsReplyTo};
-ghost use Rattle.batch_book.specs.History.{entry};
-ghost use Rattle.batch_book.specs.Replies.{is_logged};
-ghost use Rattle.batch_book.specs.Seats.{IsSameSeat};
-ghost use Rattle.batch_book.specs.Values.{value_at, value_of, greatest};
+ghost use Rattle.batch_book.specs.Seats.{IsSameSeat, IsAsked};
+ghost use Rattle.batch_book.specs.Values.{value_at};
 
 use crate::call::Call;
+use crate::history::History;
+use crate::kept_history::Kept;
 use crate::limits::RUN_STEP;
 use crate::locked::Locked;
 use crate::naming::ExchangeName;
 use crate::reading::Reading;
 use crate::reply::Reply;
 use crate::seat::Seat;
+use crate::unrecorded::Unrecorded;
 use batch::Shape;
 use crossbar::ConfigPort;
 use peek_poke::WireMaker;
@@ -27,13 +28,13 @@ use std::thread::Threads;
 /// that says how far the runs have come. Each session calls from a [`Seat`] of its own. Contracts
 /// see which exchange it is, and the shape of its rack.
 #[derive(Drop)]
-pub struct Shared<L: ExchangeName, P: ConfigPort, W: WireMaker, G> {
-    locked: Mutex<Locked<L, P, W, G>>,
+pub struct Shared<L: ExchangeName, P: ConfigPort, W: WireMaker, G, H: History = Kept> {
+    locked: Mutex<Locked<L, P, W, G, H>>,
     word: ProgressWord,
     shape: Shape,
 }
 
-impl<L: ExchangeName, P: ConfigPort, W: WireMaker, G> Model for Shared<L, P, W, G> {
+impl<L: ExchangeName, P: ConfigPort, W: WireMaker, G, H: History> Model for Shared<L, P, W, G, H> {
     ghost use Rattle.batch_book.specs.Exchanges.{Exchange, exchange_coded};
 
     ghost Value = { Exchange };
@@ -43,12 +44,12 @@ impl<L: ExchangeName, P: ConfigPort, W: WireMaker, G> Model for Shared<L, P, W, 
     ghost view = { λ s. record { word = s.word; shape = s.shape } };
 }
 
-impl<L: ExchangeName, P: ConfigPort, W: WireMaker, G> Shared<L, P, W, G> {
+impl<L: ExchangeName, P: ConfigPort, W: WireMaker, G, H: History> Shared<L, P, W, G, H> {
     pub(crate) fn of(
-        locked: Locked<L, P, W, G>,
+        locked: Locked<L, P, W, G, H>,
         word: ProgressWord,
         shape: Shape,
-    ) -> Shared<L, P, W, G>
+    ) -> Shared<L, P, W, G, H>
         ensures { (result.word ≡ word) × (result.shape ≡ shape) }
     {
         Shared {
@@ -58,7 +59,7 @@ impl<L: ExchangeName, P: ConfigPort, W: WireMaker, G> Shared<L, P, W, G> {
         }
     }
 
-    pub(crate) fn into_parts(self) -> (Locked<L, P, W, G>, ProgressWord)
+    pub(crate) fn into_parts(self) -> (Locked<L, P, W, G, H>, ProgressWord)
         ensures { result.1 ≡ self.word }
     {
         let Shared {
@@ -98,25 +99,48 @@ impl<L: ExchangeName, P: ConfigPort, W: WireMaker, G> Shared<L, P, W, G> {
     }
 }
 
-impl<L: ExchangeName, P: ConfigPort, W: WireMaker + Sync, G: Gate + Sync> Shared<L, P, W, G> {
-    /// One call of the seat's session, and its reply: it takes the lock, and applies the call to
-    /// the book. Call and reply are added to the seat's list, where they are in the history. The
-    /// seat has then seen what the reply tells of a run, and nothing new where it tells of none.
+impl<L: ExchangeName, P: ConfigPort, W: WireMaker + Sync, G: Gate + Sync, H: History> Shared<
+    L,
+    P,
+    W,
+    G,
+    H,
+> {
+    /// One call of the seat's session, and its reply, where that can be told: it takes the lock,
+    /// and applies the call to the book. Call and reply are added to the seat's list, where they
+    /// are in the history. The seat has then seen what the reply tells of a run, and nothing new
+    /// where it tells of none.
+    ///
+    /// Where the entry couldn't be recorded, or an earlier one couldn't, the reply is lost. Then
+    /// the seat's list is as it was.
     ///
     /// It waits until the calls of other seats that go before it are done, runs included. It takes
     /// the memory that the book takes.
-    pub fn call<R: Threads + Wait + Sync>(&self, rt: &R, seat: &mut Seat<L>, call: Call) -> Reply
+    pub fn try_call<R: Threads + Wait + Sync>(
+        &self,
+        rt: &R,
+        seat: &mut Seat<L>,
+        call: Call,
+    ) -> Result<Reply, Unrecorded>
         requires { seat.old.exchange ≡ Some self.now.word }
-        ensures reply { IsReplyTo call result }
-        ensures list { is_logged result ≡ true →
-            seat.new.log ≡ seat.old.log ++ entry seat.old.session call result ∷ [] }
-        ensures unlogged { is_logged result ≡ false → seat.new ≡ seat.old }
-        ensures seat { IsSameSeat seat.old seat.new }
-        ensures later { seat.old.seen ≤ seat.new.seen }
-        ensures seen { value_of result ≤ seat.new.seen }
-        ensures quiet { value_of result ≡ 0 → seat.new.seen ≡ seat.old.seen }
-        ensures raised { seat.new.raised ≡ greatest seat.new.log }
+        ensures reply { IfOk result (IsReplyTo call) }
+        ensures asked { IsAsked seat.old call result seat.new }
+        ensures loses { OnErr result (H.loses ≡ true) }
     {
         self.locked.lock(rt).call(rt, &self.word, seat, call)
+    }
+
+    /// The same as [`try_call`](Shared::try_call) where the book's history loses no entry, as
+    /// [`Kept`].
+    pub fn call<R: Threads + Wait + Sync>(&self, rt: &R, seat: &mut Seat<L>, call: Call) -> Reply
+        requires exchange { seat.old.exchange ≡ Some self.now.word }
+        requires sure { H.loses ≡ false }
+        ensures reply { IsReplyTo call result }
+        ensures asked { IsAsked seat.old call (Ok result) seat.new }
+    {
+        match self.try_call(rt, seat, call) {
+            Ok(reply) => reply,
+            Err(_) => unreachable!(),
+        }
     }
 }

@@ -12,5 +12,5 @@ pub mod laws;
 mod reading;
 mod writing;
 
-pub use reading::{read_entry, read_head};
-pub use writing::{id_of, push_reply, write_record};
+pub use reading::{hex8_and_line, read_entry, read_head};
+pub use writing::{id_of, push_asked, push_logged, push_reply, push_session, write_record};

@@ -32,7 +32,7 @@ pub fn read_head(text: &[u8]) -> Option<(usize, &[u8])>
 }
 
 /// A word in eight hexadecimal digits with a line feed behind it, and the rest.
-fn hex8_and_line(text: &[u8]) -> Option<(u32, &[u8])>
+pub fn hex8_and_line(text: &[u8]) -> Option<(u32, &[u8])>
     ensures some { IfSome result (λ x. IsWord x.0 × (text.now ≡ hex8 x.0 ++ line_feed ∷ x.1.now)) }
     ensures none { IfNone result (BeginsWithNoHex8 text.now line_feed) }
 {

@@ -4,10 +4,11 @@ ghost use Rattle.std.specs.Prelude.{◌≡◌, ◌++◌, ◌≤◌, ◌+◌, len
 ghost use Rattle.std.specs.Fmt.{decimal};
 ghost use Rattle.batch.specs.Text.{number, space};
 ghost use Rattle.line_words.specs.declared.limits.TheConstants.{NUMBER_ROOM};
+ghost use Rattle.batch_book.specs.Told.{told};
 ghost use Rattle.client_session.specs.Replies.{with_feed};
 ghost use Rattle.book_record.specs.RecordText.{CanBePut, id_of, call_text, reply_text, entry_text, record_text};
 
-use batch_book::{Book, Entry, LoggedReply, Reply, SharedBatch, ToldCall};
+use batch_book::{Book, Call, Entry, LoggedReply, Reply, SharedBatch, ToldCall};
 use client_session::SessionCommand;
 use client_session::reply_line::ReplyLine;
 use line_words::Line;
@@ -55,6 +56,25 @@ fn push_call(text: &mut Vec<u8>, call: &ToldCall<SharedBatch>) -> Result<(), All
     push_line(text, line.as_bytes())
 }
 
+/// Puts the lines of a call that isn't made yet.
+pub fn push_asked(text: &mut Vec<u8>, call: &Call) -> Result<(), AllocError>
+    ensures { OnOk result (text.new.items ≡ text.old.items ++ call_text (told call.now)) }
+{
+    let line = match call {
+        Call::Submit(batch) => return text.extend_from_slice(batch.write()?.as_slice()),
+        Call::Fetch(id) => named(b"fetch ", *id),
+        Call::Settle(id, _) => named(b"settle ", *id),
+        Call::Run(id) => SessionCommand::Run(*id).line(),
+        Call::Show(id) => SessionCommand::Show(*id).line(),
+        Call::Discard(id) => SessionCommand::Drop(*id).line(),
+        Call::Peek(module, address) => SessionCommand::Peek(*module, *address).line(),
+        Call::Poke(module, address, word) => {
+            SessionCommand::Poke(*module, *address, *word).line()
+        }
+    };
+    push_line(text, line.as_bytes())
+}
+
 /// The batch that a call names, or 0.
 pub fn id_of<B: Drop>(call: &ToldCall<B>) -> usize
     ensures { result ≡ id_of call.now }
@@ -80,7 +100,7 @@ pub fn push_reply(text: &mut Vec<u8>, id: usize, reply: &Reply) -> Result<(), Al
 }
 
 /// Puts the line of a reply of the history.
-fn push_logged(text: &mut Vec<u8>, id: usize, reply: &LoggedReply) -> Result<(), AllocError>
+pub fn push_logged(text: &mut Vec<u8>, id: usize, reply: &LoggedReply) -> Result<(), AllocError>
     requires { CanBePut reply.now }
     ensures { OnOk result (text.new.items ≡ text.old.items ++ reply_text id reply.now) }
 {
@@ -91,7 +111,7 @@ fn push_logged(text: &mut Vec<u8>, id: usize, reply: &LoggedReply) -> Result<(),
 }
 
 /// Puts the session's number, and a space.
-fn push_session(text: &mut Vec<u8>, session: usize) -> Result<(), AllocError>
+pub fn push_session(text: &mut Vec<u8>, session: usize) -> Result<(), AllocError>
     ensures { OnOk result (text.new.items ≡ text.old.items ++ number session space) }
 {
     let mut line = named(b"", session);

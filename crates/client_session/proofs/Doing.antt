@@ -1,5 +1,5 @@
 -- What calls of the seat and readings do.
-use Rattle.std.proofs.Common.{◌≡◌, ◌≢◌, ℕ, ◌≤◌, List, [], ◌∷◌, ◌++◌, map, Option, Some, Bool, true, false, sym, ap, ◌∙◌, append_assoc, append-nil, refl, subst, arith, inl, inr}
+use Rattle.std.proofs.Common.{◌≡◌, ◌≢◌, ℕ, ◌≤◌, List, [], ◌∷◌, ◌++◌, map, Option, Some, Result, Ok, Err, Bool, true, false, sym, ap, ◌∙◌, append_assoc, append-nil, refl, subst, arith, inl, inr}
 use Rattle.std.specs.List.{AllByRecursion}
 use Rattle.std.proofs.lemmas.List.{map-append}
 use Rattle.batch.specs.declared.fault.BatchFault.{BatchFault}
@@ -21,11 +21,13 @@ use Rattle.refusals.specs.declared.refusal.Refusal.TheVariants as refusal
 use Rattle.refusals.specs.Refusals.{refusal_line}
 use Rattle.refusals.specs.Sources.{of_batch}
 use Rattle.client_session.specs.declared.command.SessionCommand.{SessionCommand}
+use Rattle.client_session.specs.declared.fault.ServeFault.{ServeFault}
+use Rattle.client_session.specs.declared.fault.ServeFault.TheVariants.{Record}
 use Rattle.batch_book.specs.declared.reading.Reading.{Reading}
 use Rattle.client_session.specs.Replies.{reply_line, progress_line}
-use Rattle.client_session.specs.Seats.{SeatView, logged, GoesOnFrom, IsCalled, IsProgressRead}
-use Rattle.client_session.specs.Turns.{Answer, plain_answer, tells, settles, TellsReply, Submits, Settles, Plans, ReadsProgress}
-use Rattle.client_session.specs.Steps.{CanBeTold, IsNoFetch, Did, Acts}
+use Rattle.client_session.specs.Seats.{SeatView, logged, GoesOnFrom, IsCalled, IsUncalled, IsProgressRead}
+use Rattle.client_session.specs.Turns.{Answer, plain_answer, tells, settles, TellsReply, Submits, Settles, Plans, ReadsProgress, IsFetching}
+use Rattle.client_session.specs.Steps.{CanBeTold, IsNoFetch, Did, Acts, Breaks, Does}
 use Rattle.client_session.proofs.Lists.{every_weaker, every_append}
 
 pub stays : (p : SeatView) → GoesOnFrom p p
@@ -82,6 +84,10 @@ acts_call old new id c r line IsSo h so e = record { answer = tells old.session 
 pub called : (old new : SeatView) (id : ℕ) (c : Call) (r : Reply) (line : List ℕ) → IsCalled old c r new → line ≡ reply_line id r → Acts old new (TellsReply old.session id c) line
 called old new id c r line h e = acts_call old new id c r line (TellsReply old.session id c) h (r, h.answers, refl) e
 
+-- a call couldn't be recorded, and nothing was added before
+pub breaks : (old new : SeatView) (fault : ServeFault) (HasBegun : List Entry → Type 0) → fault ≡ Record → IsUncalled old new → HasBegun [] → Breaks fault old new HasBegun
+breaks old new fault HasBegun is un begun = record { fault_is = is; goes_on = un.goes_on; entries = []; log = un.log ∙ sym (append-nil old.log); begun = begun }
+
 -- what was done first, and then without a reading
 did_more : (old mid new : SeatView) (a b : List Entry) (x y line : List ℕ) → Did old mid (plain_answer a x) → Did mid new (plain_answer b y) → Did old new (plain_answer (a ++ b) line)
 did_more old mid new a b x y line p q = record {
@@ -106,6 +112,18 @@ settled old mid new id batch plan line h shortest of acts =
     (did_more old mid new (entry old.session (call.Fetch id) (Fetched batch) ∷ []) _ [] (reply_line id r) (reply_line id r) (did_call old mid (call.Fetch id) (Fetched batch) [] h) second)
     (inl (plan, r, shortest, of, acts.is_so.1, refl))
     (acts.line_is ∙ ap (λ (x : Answer). x.line) same)
+
+-- and so that of its plan couldn't be recorded, or it was settled
+pub settled_or : {T : Type 0} (old mid new : SeatView) (id : ℕ) (batch : List Transfer) (plan : Plan) (line : List ℕ) (r : Result T ServeFault) → IsCalled old (call.Fetch id) (Fetched batch) mid → IsPlan plan → plan.batch ≡ batch
+    → Does mid new (TellsReply mid.session id (call.Settle id plan)) (λ es. es ≡ []) line r → Does old new (Plans old.session id) (IsFetching old.session id) line r
+settled_or old mid new id batch plan line (Ok x) h shortest of does = settled old mid new id batch plan line h shortest of does
+settled_or old mid new id batch plan line (Err e) h shortest of b = record {
+  fault_is = b.fault_is;
+  goes_on = goes_on old mid new h.goes_on b.goes_on;
+  entries = entry old.session (call.Fetch id) (Fetched batch) ∷ [];
+  log = b.log ∙ (ap (λ es. mid.log ++ es) b.begun ∙ (append-nil mid.log ∙ h.log));
+  begun = inr (batch, refl);
+}
 
 -- a batch was fetched, and there was no memory to plan it
 pub unplanned : (old mid : SeatView) (id : ℕ) (batch : List Transfer) (line : List ℕ) → IsCalled old (call.Fetch id) (Fetched batch) mid → line ≡ refusal_line refusal.NoMemory → Acts old mid (Plans old.session id) line

@@ -5,6 +5,7 @@ pub mod Asking
 pub mod Lists
 pub mod Listening
 pub mod Taken
+mod Calling
 pub mod Doing
 pub mod Turning
 pub mod Readings

@@ -37,3 +37,12 @@ readings_push from to next turns t le r have did = record {
 
 pub shown_push : (to next : SeatView) (turns : List Turn) (t : Turn) → HaveShown to.seen turns → Did to next t.did → HaveShown next.seen (turns ++ t ∷ [])
 shown_push to next turns t have did = every-push (λ (x : Turn). AllByRecursion (λ v. v ≤ next.seen) (shown x.did)) turns t (shown_more to.seen next.seen turns did.goes_on.seen have) did.high
+
+-- later as many were read
+pub readings_later : (from to next : SeatView) (turns : List Turn) → to.seen ≤ next.seen → AreReadings from.seen to.seen turns → AreReadings from.seen next.seen turns
+readings_later from to next turns le r = record {
+  low = r.low;
+  high = every_weaker (λ (x : Turn). AllByRecursion (λ r. r ≤ to.seen) (readings_of x.did.reading)) (λ (x : Turn). AllByRecursion (λ r. r ≤ next.seen) (readings_of x.did.reading)) turns
+      (λ x h. every_weaker (λ r. r ≤ to.seen) (λ r. r ≤ next.seen) _ (λ r p. omega (arith, p, le)) h) r.high;
+  rising = r.rising;
+}

@@ -7,19 +7,19 @@ use Rattle.batch_book.specs.declared.entry.Entry.{Entry}
 use Rattle.client_session.specs.declared.input.InputFault.{InputFault}
 use Rattle.client_session.specs.declared.input.InputFault.TheVariants as input
 use Rattle.client_session.specs.declared.fault.ServeFault.{ServeFault}
-use Rattle.client_session.specs.declared.fault.ServeFault.TheVariants.{Read, Write, LineTooLong, Cut, Turns, NoMemory}
+use Rattle.client_session.specs.declared.fault.ServeFault.TheVariants.{Read, Write, LineTooLong, Cut, Turns, NoMemory, Record}
 use Rattle.batch.specs.Extent.{Extent}
 use Rattle.batch_book.specs.Seats.{SeatState, IsSameSeat}
 use Rattle.client_session.specs.Bytes.{PendingInput, TakesIn}
 use Rattle.client_session.specs.Faults.{IsFaultAt}
 use Rattle.client_session.specs.Seats.{SeatView, GoesOnFrom, seat_view}
-use Rattle.client_session.specs.Turns.{Turn, IsTurn, SessionGoesOn, turn_text}
+use Rattle.client_session.specs.Turns.{Turn, IsTurn, IsLostTurn, SessionGoesOn, lost_text, turn_text}
 use Rattle.client_session.specs.Sessions.{IsSession, IsPartialCommand, RestAt, GoOn, HasEnded, GoesThrough}
-use Rattle.client_session.specs.Steps.{TurnTaken, TurnStopped, IsCutLine, of_input}
+use Rattle.client_session.specs.Steps.{TurnFails, TurnLost, TurnTaken, TurnStopped, IsCutLine, of_input}
 use Rattle.client_session.proofs.Known.{Consumes-nil, Consumes-more, Appends-nil, Appends-more}
 use Rattle.client_session.proofs.Lists.{every-push}
 use Rattle.client_session.proofs.Doing.{stays, goes_on}
-use Rattle.client_session.proofs.Readings.{HaveShown, readings_none, readings_push, shown_push}
+use Rattle.client_session.proofs.Readings.{HaveShown, readings_later, readings_none, readings_push, shown_push}
 
 -- the commands so far, and what is pending behind them
 pub record Going (from to : SeatView) (h : PendingInput) (bytes : List ℕ) (entries : List Entry) (written : List ℕ) : Type 0 where
@@ -153,6 +153,7 @@ stopped_as Cut known from to turns bytes rest entries written s go at = (turns, 
 stopped_as Turns known from to turns bytes rest entries written s go at = (turns, rest, s, go, at)
 stopped_as NoMemory known from to turns bytes rest entries written s go at = (turns, rest, s, go, at)
 stopped_as Write known from to turns bytes rest entries written s go at = absurd at
+stopped_as Record known from to turns bytes rest entries written s go at = absurd at
 
 rest_at : (f : InputFault) (known : Option (List ℕ)) (h : PendingInput) (read : ℕ) → h.reads ≤ read → IsFaultAt f known h → RestAt (of_input f) known read h.pending
 rest_at f known h read fewer at = left f at where
@@ -183,8 +184,9 @@ more_read Cut known few many rest le at = at
 more_read Turns known few many rest le at = (at.0, at.1, omega (arith, at.2, le))
 more_read NoMemory known few many rest le at = at
 more_read Write known few many rest le at = at
+more_read Record known few many rest le at = at
 
-pub stopped_turn : (e : ServeFault) (a b c w v : Option (List ℕ)) (from to next : SeatView) (h : PendingInput) → Serving a b w v from to h → TurnStopped e b c h to next → Ends a c w v from next (Some e)
+stopped_turn : (e : ServeFault) (a b c w v : Option (List ℕ)) (from to next : SeatView) (h : PendingInput) → Serving a b w v from to h → TurnStopped e b c h to next → Ends a c w v from next (Some e)
 stopped_turn e a b c w v from to next h p t = subst (λ (q : SeatView). Ends a c w v from q (Some e)) (sym t.same) record {
   bytes = p.bytes ++ t.bytes;
   entries = p.entries;
@@ -196,6 +198,56 @@ stopped_turn e a b c w v from to next h p t = subst (λ (q : SeatView). Ends a c
       (session_read from to p.is_so.turns p.bytes t.bytes h.pending (h.pending ++ t.bytes) p.entries p.written p.is_so.session refl) p.is_so.go_on
       (more_read e c (h.reads + length t.bytes) (length (p.bytes ++ t.bytes)) (h.pending ++ t.bytes) (omega (arith, p.is_so.reads, length-append p.bytes t.bytes)) t.rest);
 }
+
+-- the reply of the last command is lost
+lost_turn : (a b c w v : Option (List ℕ)) (from to next : SeatView) (h : PendingInput) → Serving a b w v from to h → TurnLost b c h to next → Ends a c w v from next (Some Record)
+lost_turn a b c w v from to next h p t =
+    let s = p.is_so.session in
+    let read = session_read from to p.is_so.turns p.bytes t.bytes h.pending (lost_text t.turn ++ t.rest) p.entries p.written s t.kept in
+    record {
+      bytes = p.bytes ++ t.bytes;
+      entries = p.entries ++ t.turn.entries;
+      written = p.written;
+      consumed = Consumes-more a b c p.bytes t.bytes p.consumed t.consumed;
+      logged = t.log ∙ ap (λ l. l ++ t.turn.entries) p.logged ∙ append_assoc from.log p.entries t.turn.entries;
+      appended = p.appended;
+      is_so = record {
+        turns = p.is_so.turns;
+        last = t.turn;
+        rest = t.rest;
+        told = p.entries;
+        session = record {
+          each = read.each;
+          bytes_are = read.bytes_are;
+          entries_are = read.entries_are;
+          text_is = read.text_is;
+          readings = readings_later from to next p.is_so.turns t.goes_on.seen read.readings;
+          seat = goes_on from to next read.seat t.goes_on;
+        };
+        go_on = p.is_so.go_on;
+        lost = subst (λ by. IsLostTurn by t.turn) s.seat.session t.is;
+        entries_are = refl;
+      };
+    }
+
+pub failed_turn : (e : ServeFault) (a b c w v : Option (List ℕ)) (from to next : SeatView) (h : PendingInput) → Serving a b w v from to h → TurnFails e b c h to next → Ends a c w v from next (Some e)
+failed_turn Record a b c w v from to next h p t = lost_turn a b c w v from to next h p t
+failed_turn Read a b c w v from to next h p t = stopped_turn Read a b c w v from to next h p t
+failed_turn Write a b c w v from to next h p t = stopped_turn Write a b c w v from to next h p t
+failed_turn LineTooLong a b c w v from to next h p t = stopped_turn LineTooLong a b c w v from to next h p t
+failed_turn Cut a b c w v from to next h p t = stopped_turn Cut a b c w v from to next h p t
+failed_turn Turns a b c w v from to next h p t = stopped_turn Turns a b c w v from to next h p t
+failed_turn NoMemory a b c w v from to next h p t = stopped_turn NoMemory a b c w v from to next h p t
+
+-- the input has other faults than that
+pub no_input : (f : InputFault) → Some (of_input f) ≡ Some Record → ⊥
+no_input input.Read is = absurd (cc)
+no_input input.LineTooLong is = absurd (cc)
+no_input input.Cut is = absurd (cc)
+no_input input.Turns is = absurd (cc)
+
+pub the_fault : (e f : ServeFault) → Some e ≡ Some f → e ≡ f
+the_fault e f is = cc
 
 pub stopped_writing : (e : ServeFault) (a b c w v u : Option (List ℕ)) (from to next : SeatView) (old new : PendingInput) (line : List ℕ) (ends : Bool) → Serving a b w v from to old → TurnTaken b c old new to next line ends → IsCutLine e v u line → Ends a c w u from next (Some e)
 stopped_writing e a b c w v u from to next old new line ends p t cut = subst (λ (x : ServeFault). Ends a c w u from next (Some x)) (sym cut.fault_is)
@@ -220,6 +272,7 @@ none_of (Some x) h = absurd (h x refl)
 same_seat : (fault : Option ServeFault) (known : Option (List ℕ)) (from to : SeatView) (bytes : List ℕ) (entries : List Entry) (written : List ℕ) → HasEnded fault known from to bytes entries written → GoesOnFrom from to
 same_seat None known from to bytes entries written h = h.2.seat
 same_seat (Some Write) known from to bytes entries written h = h.session.seat
+same_seat (Some Record) known from to bytes entries written h = h.session.seat
 same_seat (Some Read) known from to bytes entries written h = h.2.seat
 same_seat (Some LineTooLong) known from to bytes entries written h = h.2.seat
 same_seat (Some Cut) known from to bytes entries written h = h.2.seat

@@ -7,14 +7,15 @@ use Rattle.client_session.specs.declared.limits.TheConstants.{LINE_BYTES}
 use Rattle.client_session.specs.declared.command.SessionCommand.{SessionCommand}
 use Rattle.client_session.specs.declared.command.SessionCommand.TheVariants.{Batch, Plan, Run, Show, Drop, Peek, Poke, Progress, Bye}
 use Rattle.client_session.specs.declared.fault.ServeFault.{ServeFault}
-use Rattle.client_session.specs.declared.fault.ServeFault.TheVariants.{Read, Write, LineTooLong, Cut, Turns, NoMemory}
+use Rattle.client_session.specs.declared.fault.ServeFault.TheVariants.{Read, Write, LineTooLong, Cut, Turns, NoMemory, Record}
 use Rattle.client_session.specs.Bytes.{PendingInput, HasLine, fuel}
 use Rattle.client_session.specs.Commands.{Means}
 use Rattle.client_session.specs.Seats.{SeatView}
 use Rattle.client_session.specs.Replies.{with_feed}
-use Rattle.client_session.specs.Turns.{Submits, DoesCommand, SessionGoesOn, lines_after}
+use Rattle.batch_book.specs.declared.entry.Entry.{Entry}
+use Rattle.client_session.specs.Turns.{Submits, DoesCommand, IsBegun, SessionGoesOn, lines_after}
 use Rattle.client_session.specs.Sessions.{BeginsBatch, IsPartialCommand, RestAt}
-use Rattle.client_session.specs.Steps.{Acts, LinesTaken, LinesStopped, PendingAt, StandsAlone, TurnTaken, TurnStopped}
+use Rattle.client_session.specs.Steps.{Acts, Breaks, LinesTaken, LinesStopped, PendingAt, StandsAlone, TurnFails, TurnLost, TurnTaken, TurnStopped}
 use Rattle.client_session.proofs.Known.{Consumes-nil}
 use Rattle.client_session.proofs.Taken.{line_front, line_is}
 
@@ -93,6 +94,25 @@ stopped_in_lines e a b old mid new seat n count before after has short begins re
     whole = whole;
   }
   left Write h = h
+  left Record h = h
+
+-- so it is none of recording
+pub lines_unlost : (e : ServeFault) (a b : Option (List ℕ)) (old new : PendingInput) (before after : List ℕ) (wanted : ℕ) → e ≡ Record → LinesStopped e a b old new before after wanted → ⊥
+lines_unlost e a b old new before after wanted is s = subst (λ (x : ServeFault). PendingAt x b new) is s.at
+
+-- a fault came first
+pub fails : (e : ServeFault) (a b : Option (List ℕ)) (old : PendingInput) (from to : SeatView) → TurnStopped e a b old from to → TurnFails e a b old from to
+fails Read a b old from to s = s
+fails Write a b old from to s = s
+fails LineTooLong a b old from to s = s
+fails Cut a b old from to s = s
+fails Turns a b old from to s = s
+fails NoMemory a b old from to s = s
+fails Record a b old from to s = absurd s.rest
+
+-- a reply is lost
+lost_as : (e : ServeFault) (a b : Option (List ℕ)) (old : PendingInput) (from to : SeatView) → e ≡ Record → TurnLost a b old from to → TurnFails e a b old from to
+lost_as e a b old from to is lost = subst (λ (x : ServeFault). TurnFails x a b old from to) (sym is) lost
 
 few_after : (count : ℕ) → count ≤ MAX_TRANSFERS → lines_after (Some (Batch count)) ≡ count
 few_after count most = rw (le-ltb MAX_TRANSFERS count most) refl
@@ -124,6 +144,21 @@ batch_taken a b old mid new from to n count before after all line has short begi
       line_is = acts.line_is;
       last = tt;
     }
+
+-- it was taken whole, and its reply is lost
+pub batch_lost : (e : ServeFault) (a b : Option (List ℕ)) (old mid new : PendingInput) (from to : SeatView) (n count : ℕ) (before after : List ℕ) → HasLine old.pending n → n ≤ LINE_BYTES
+    → BeginsBatch (take n old.pending) count → mid.pending ≡ drop (n + 1) old.pending → LinesTaken a b mid new before after count
+    → Breaks e from to (λ (es : List Entry). es ≡ []) → TurnFails e a b old from to
+batch_lost e a b old mid new from to n count before after has short begins rest t broken = lost_as e a b old from to broken.fault_is record {
+  turn = record { head = take n old.pending; body = t.lines; command = Some (Batch count); entries = broken.entries };
+  is = record { head = line_is old.pending n has short; body = t.each; means = begins.0; whole = t.count ∙ sym (few_after count begins.1); begun = broken.begun };
+  bytes = t.bytes;
+  consumed = t.consumed;
+  rest = new.pending;
+  kept = lines_are a b old mid new n count before after has rest t;
+  goes_on = broken.goes_on;
+  log = broken.log;
+}
 
 none_after : (command : Option SessionCommand) → StandsAlone command → lines_after command ≡ 0
 none_after None h = refl
@@ -160,3 +195,17 @@ alone_taken a old new from to n command line ends has short means alone rest sam
       line_is = done.line_is;
       last = last;
     }
+
+-- its reply is lost
+pub alone_lost : (e : ServeFault) (a : Option (List ℕ)) (old new : PendingInput) (from to : SeatView) (n : ℕ) (command : Option SessionCommand) → HasLine old.pending n → n ≤ LINE_BYTES
+    → Means (take n old.pending) command → StandsAlone command → new.pending ≡ drop (n + 1) old.pending → Breaks e from to (IsBegun from.session command) → TurnFails e a a old from to
+alone_lost e a old new from to n command has short means alone rest broken = lost_as e a a old from to broken.fault_is record {
+  turn = record { head = take n old.pending; body = []; command = command; entries = broken.entries };
+  is = record { head = line_is old.pending n has short; body = tt; means = means; whole = sym (none_after command alone); begun = broken.begun };
+  bytes = [];
+  consumed = Consumes-nil a;
+  rest = new.pending;
+  kept = append-nil old.pending ∙ front_is old.pending n has ∙ ap (λ l. with_feed (take n old.pending) ++ l) (sym rest) ∙ ap (λ l. l ++ new.pending) (sym (append-nil (with_feed (take n old.pending))));
+  goes_on = broken.goes_on;
+  log = broken.log;
+}

@@ -58,6 +58,11 @@ pub record IsCalled (old : SeatView) (call : Call) (reply : Reply) (new : SeatVi
   pub answers : IsReplyTo call reply
   pub seen : value_of reply ≤ new.seen
 
+-- a call wasn't made, or its reply is lost
+pub record IsUncalled (old new : SeatView) : Type 0 where
+  pub goes_on : GoesOnFrom old new
+  pub log : new.log ≡ old.log
+
 -- the progress word was read
 pub record IsProgressRead (old : SeatView) (r : Reading) (new : SeatView) : Type 0 where
   pub goes_on : GoesOnFrom old new

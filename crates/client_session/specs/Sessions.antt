@@ -9,11 +9,11 @@ use Rattle.batch_book.specs.Seats.{SeatState}
 use Rattle.client_session.specs.declared.limits.TheConstants.{LINE_BYTES, MAX_READS}
 use Rattle.client_session.specs.declared.command.SessionCommand.TheVariants.{Batch, Bye}
 use Rattle.client_session.specs.declared.fault.ServeFault.{ServeFault}
-use Rattle.client_session.specs.declared.fault.ServeFault.TheVariants.{Read, Write, LineTooLong, Cut, Turns, NoMemory}
+use Rattle.client_session.specs.declared.fault.ServeFault.TheVariants.{Read, Write, LineTooLong, Cut, Turns, NoMemory, Record}
 use Rattle.client_session.specs.Bytes.{HasNoFeed, IsSessionLine}
 use Rattle.client_session.specs.Commands.{Means}
 use Rattle.client_session.specs.Seats.{SeatView, GoesOnFrom, seat_view}
-use Rattle.client_session.specs.Turns.{Turn, IsTurn, SessionGoesOn, turn_text, lines_text, AreReadings}
+use Rattle.client_session.specs.Turns.{Turn, IsTurn, LostTurn, IsLostTurn, SessionGoesOn, turn_text, lost_text, lines_text, AreReadings}
 
 -- ---- the session
 
@@ -94,6 +94,7 @@ RestAt Turns known read rest =
     (p : IsPartialCommand rest) × IsSessionLine p.part × (MAX_READS ≤ read)
 RestAt NoMemory known read rest = IsUnkept rest
 RestAt Write known read rest = ⊥
+RestAt Record known read rest = ⊥
 
 -- a session whose last reply line was written in part, or not at all
 pub record IsCutOff (old new : SeatView) (bytes : List ℕ) (entries : List Entry)
@@ -107,6 +108,19 @@ pub record IsCutOff (old new : SeatView) (bytes : List ℕ) (entries : List Entr
   pub go_on : GoOn before
   pub line : last.did.line ≡ front ++ missing
 
+-- a session whose last command was read whole, and of which nothing is told, since a call of it
+-- couldn't be recorded
+pub record IsBroken (old new : SeatView) (bytes : List ℕ) (entries : List Entry)
+    (written : List ℕ) : Type 0 where
+  pub turns : List Turn
+  pub last : LostTurn
+  pub rest : List ℕ
+  pub told : List Entry
+  pub session : IsSession old new turns bytes (lost_text last ++ rest) told written
+  pub go_on : GoOn turns
+  pub lost : IsLostTurn old.session last
+  pub entries_are : entries ≡ told ++ last.entries
+
 -- the session of these bytes, entries and lines has ended so: by itself, or by a fault
 abbrev pub HasEnded : Option ServeFault → Option (List ℕ) → SeatView → SeatView → List ℕ
     → List Entry → List ℕ → Type 0
@@ -114,6 +128,7 @@ HasEnded None known old new bytes entries written =
     (turns : List Turn) × (rest : List ℕ) × IsSession old new turns bytes rest entries written
     × IsWholeSession turns known rest
 HasEnded (Some Write) known old new bytes entries written = IsCutOff old new bytes entries written
+HasEnded (Some Record) known old new bytes entries written = IsBroken old new bytes entries written
 HasEnded (Some fault) known old new bytes entries written =
     (turns : List Turn) × (rest : List ℕ) × IsSession old new turns bytes rest entries written
     × GoOn turns × RestAt fault known (length bytes) rest

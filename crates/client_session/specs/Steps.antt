@@ -1,9 +1,10 @@
 -- What the parts of a session do.
-use Rattle.std.specs.Prelude.{◌≡◌, ℕ, ◌+◌, ◌*◌, ◌<◌, ◌≤◌, Bool, List, ◌++◌, length, Option, Some, MatchBool}
+use Rattle.std.specs.Prelude.{◌≡◌, ℕ, ◌+◌, ◌*◌, ◌<◌, ◌≤◌, Bool, List, ◌++◌, length, Option, Some, Result, Ok, Err, MatchBool}
 use Rattle.std.specs.List.{AllByRecursion}
 use Rattle.std.specs.Io.KnownBytes.{Consumes, Appends, IsAtEnd}
 use Rattle.batch.specs.declared.limits.TheConstants.{MAX_TRANSFERS, MAX_WORDS}
 use Rattle.batch_book.specs.declared.call.Call.{Call}
+use Rattle.batch_book.specs.declared.entry.Entry.{Entry}
 use Rattle.batch_book.specs.declared.call.Call.TheVariants.{Fetch}
 use Rattle.batch_book.specs.declared.reply.Reply.{Reply}
 use Rattle.batch_book.specs.declared.reply.Reply.TheVariants.{Fetched, Ran}
@@ -13,10 +14,10 @@ use Rattle.client_session.specs.declared.input.InputFault.TheVariants as input
 use Rattle.client_session.specs.declared.command.SessionCommand.{SessionCommand}
 use Rattle.client_session.specs.declared.command.SessionCommand.TheVariants.{Batch, Bye}
 use Rattle.client_session.specs.declared.fault.ServeFault.{ServeFault}
-use Rattle.client_session.specs.declared.fault.ServeFault.TheVariants.{Read, Write, LineTooLong, Cut, Turns, NoMemory}
+use Rattle.client_session.specs.declared.fault.ServeFault.TheVariants.{Read, Write, LineTooLong, Cut, Turns, NoMemory, Record}
 use Rattle.client_session.specs.Bytes.{PendingInput, HasNoFeed, IsSessionLine}
 use Rattle.client_session.specs.Seats.{SeatView, GoesOnFrom}
-use Rattle.client_session.specs.Turns.{Turn, IsTurn, SessionGoesOn, Answer, turn_text, lines_text, readings_of, shown}
+use Rattle.client_session.specs.Turns.{Turn, IsTurn, LostTurn, IsLostTurn, SessionGoesOn, Answer, turn_text, lost_text, lines_text, readings_of, shown}
 use Rattle.client_session.specs.Sessions.{RestAt}
 
 abbrev pub of_input : InputFault → ServeFault
@@ -55,6 +56,21 @@ pub record Acts (old new : SeatView) (IsSo : Answer → Type 0) (line : List ℕ
   pub is_so : IsSo answer
   pub line_is : line ≡ answer.line
 
+-- a call couldn't be recorded: such entries were added before, and nothing is told
+pub record Breaks (fault : ServeFault) (old new : SeatView)
+    (HasBegun : List Entry → Type 0) : Type 0 where
+  pub fault_is : fault ≡ Record
+  pub goes_on : GoesOnFrom old new
+  pub entries : List Entry
+  pub log : new.log ≡ old.log ++ entries
+  pub begun : HasBegun entries
+
+-- something such was done, and this is its line; or a call couldn't be recorded
+abbrev pub Does : {T : Type 0} → SeatView → SeatView → (Answer → Type 0) → (List Entry → Type 0)
+    → List ℕ → Result T ServeFault → Type 0
+Does old new IsSo HasBegun line (Ok done) = Acts old new IsSo line
+Does old new IsSo HasBegun line (Err fault) = Breaks fault old new HasBegun
+
 -- n lines were taken from the input, and stand behind the text
 pub record LinesTaken (before after : Option (List ℕ)) (old new : PendingInput)
     (text_before text_after : List ℕ) (n : ℕ) : Type 0 where
@@ -75,6 +91,7 @@ PendingAt Cut known h = IsSessionLine h.pending × IsAtEnd known
 PendingAt Turns known h = IsSessionLine h.pending × (h.reads ≡ MAX_READS)
 PendingAt NoMemory known h = length h.pending ≤ LINE_BYTES + 1
 PendingAt Write known h = ⊥
+PendingAt Record known h = ⊥
 
 -- some lines were taken, fewer than wanted, and then a fault came
 pub record LinesStopped (fault : ServeFault) (before after : Option (List ℕ))
@@ -104,6 +121,25 @@ pub record TurnStopped (fault : ServeFault) (before after : Option (List ℕ)) (
   pub consumed : Consumes before after bytes
   pub same : to ≡ from
   pub rest : RestAt fault after (old.reads + length bytes) (old.pending ++ bytes)
+
+-- a turn was taken from the input, of which nothing is told, since a call of it couldn't be
+-- recorded
+pub record TurnLost (before after : Option (List ℕ)) (old : PendingInput)
+    (from to : SeatView) : Type 0 where
+  pub turn : LostTurn
+  pub is : IsLostTurn from.session turn
+  pub bytes : List ℕ
+  pub consumed : Consumes before after bytes
+  pub rest : List ℕ
+  pub kept : old.pending ++ bytes ≡ lost_text turn ++ rest
+  pub goes_on : GoesOnFrom from to
+  pub log : to.log ≡ from.log ++ turn.entries
+
+-- either, by the fault
+abbrev pub TurnFails : ServeFault → (before after : Option (List ℕ)) → PendingInput → SeatView
+    → SeatView → Type 0
+TurnFails Record before after old from to = TurnLost before after old from to
+TurnFails fault before after old from to = TurnStopped fault before after old from to
 
 -- writing failed, and so much as a front of the line was written
 pub record IsCutLine (fault : ServeFault) (out_before out_after : Option (List ℕ))

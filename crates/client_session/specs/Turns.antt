@@ -136,6 +136,38 @@ pub record IsTurn (shape : Extent) (by : ℕ) (t : Turn) : Type 0 where
   pub whole : length t.body ≡ lines_after t.command
   pub does : DoesCommand shape by t.command (turn_text t) t.did
 
+-- ---- a command whose reply is lost
+
+-- for `plan` its batch was fetched, or nothing was done
+abbrev pub IsFetching : ℕ → ℕ → List Entry → Type 0
+IsFetching by id entries =
+    (entries ≡ []) ⊎ ((batch : List Transfer)
+    × (entries ≡ entry by (call.Fetch id) (Fetched batch) ∷ []))
+
+-- the entries that a command may have added before one of it was lost
+abbrev pub IsBegun : ℕ → Option SessionCommand → List Entry → Type 0
+IsBegun by (Some (PlanOf id)) entries = IsFetching by id entries
+IsBegun by command entries = entries ≡ []
+
+-- the line of the command, those behind it that belong to it, what it means, and what it added
+pub record LostTurn : Type 0 where
+  pub head : List ℕ
+  pub body : List (List ℕ)
+  pub command : Option SessionCommand
+  pub entries : List Entry
+
+abbrev pub lost_text : LostTurn → List ℕ
+lost_text t = with_feed t.head ++ lines_text t.body
+
+pub record IsLostTurn (by : ℕ) (t : LostTurn) : Type 0 where
+  pub head : IsSessionLine t.head
+  pub body : AllByRecursion IsSessionLine t.body
+  pub means : Means t.head t.command
+  pub whole : length t.body ≡ lines_after t.command
+  pub begun : IsBegun by t.command t.entries
+
+-- ---- whether the session goes on
+
 -- the session goes on after it
 abbrev pub SessionGoesOn : Option SessionCommand → Type 0
 SessionGoesOn (Some Bye) = ⊥

@@ -1,14 +1,15 @@
 //! What is done for a command, and its reply line, which is put into an empty one.
 
-ghost use Rattle.std.specs.Prelude.{◌≡◌, [], ℕ, List};
-ghost use Rattle.client_session.specs.Turns.{TellsReply, Submits, Plans, DoesCommand};
-ghost use Rattle.client_session.specs.Steps.{IsNoFetch, StandsAlone, Acts};
+ghost use Rattle.std.specs.Prelude.{◌≡◌, [], ℕ, List, true, OnErr};
+ghost use Rattle.client_session.specs.Turns.{TellsReply, Submits, Plans, DoesCommand, IsFetching, IsBegun};
+ghost use Rattle.client_session.specs.Steps.{IsNoFetch, StandsAlone, Does};
 
 use crate::command::SessionCommand;
 use crate::exchange_seat::ExchangeSeat;
+use crate::fault::ServeFault;
 use crate::reply_line::ReplyLine;
 use batch::Batch;
-use batch_book::{Call, ExchangeName, Reply};
+use batch_book::{Call, ExchangeName, History, Reply};
 use crossbar::ConfigPort;
 use exchange_limits::WorkerCount;
 use peek_poke::WireMaker;
@@ -25,13 +26,23 @@ fn call<
     P: ConfigPort,
     W: WireMaker + Sync,
     G: Gate + Sync,
->(rt: &R, seat: &mut ExchangeSeat<'_, L, P, W, G>, line: &mut ReplyLine, id: usize, call: Call)
+    K: History,
+>(
+    rt: &R,
+    seat: &mut ExchangeSeat<'_, L, P, W, G, K>,
+    line: &mut ReplyLine,
+    id: usize,
+    call: Call,
+) -> Result<(), ServeFault>
     requires empty { line.old ≡ [] }
     requires other { IsNoFetch call }
-    ensures { Acts seat.old seat.new (TellsReply seat.old.session id call) line.new }
+    ensures done { Does seat.old seat.new (TellsReply seat.old.session id call) (λ es. es ≡ [])
+        line.new result }
+    ensures loses { OnErr result (K.loses ≡ true) }
 {
-    let reply = seat.call(rt, call);
+    let reply = seat.call(rt, call)?;
     line.tell(id, &reply);
+    Ok(())
 }
 
 /// Submits the batch that the text denotes, or tells the text's first fault.
@@ -41,14 +52,25 @@ pub(crate) fn submit<
     P: ConfigPort,
     W: WireMaker + Sync,
     G: Gate + Sync,
->(rt: &R, alloc: Global, seat: &mut ExchangeSeat<'_, L, P, W, G>, line: &mut ReplyLine, text: &[u8])
+    K: History,
+>(
+    rt: &R,
+    alloc: Global,
+    seat: &mut ExchangeSeat<'_, L, P, W, G, K>,
+    line: &mut ReplyLine,
+    text: &[u8],
+) -> Result<(), ServeFault>
     requires { line.old ≡ [] }
-    ensures { Acts seat.old seat.new
-        (Submits seat.old.shape seat.old.session text.now) line.new }
+    ensures done { Does seat.old seat.new (Submits seat.old.shape seat.old.session text.now)
+        (λ es. es ≡ []) line.new result }
+    ensures loses { OnErr result (K.loses ≡ true) }
 {
     match Batch::read(alloc, text, seat.shape()) {
         Ok(batch) => call(rt, seat, line, 0, Call::Submit(batch)),
-        Err(fault) => line.refuse(Refusal::from(fault)),
+        Err(fault) => {
+            line.refuse(Refusal::from(fault));
+            Ok(())
+        }
     }
 }
 
@@ -59,49 +81,69 @@ fn plan<
     P: ConfigPort,
     W: WireMaker + Sync,
     G: Gate + Sync,
+    K: History,
 >(
     rt: &R,
     alloc: Global,
-    seat: &mut ExchangeSeat<'_, L, P, W, G>,
+    seat: &mut ExchangeSeat<'_, L, P, W, G, K>,
     line: &mut ReplyLine,
     id: usize,
     workers: WorkerCount,
-)
+) -> Result<(), ServeFault>
     requires { line.old ≡ [] }
-    ensures { Acts seat.old seat.new (Plans seat.old.session id) line.new }
+    ensures done { Does seat.old seat.new (Plans seat.old.session id)
+        (IsFetching seat.old.session id) line.new result }
+    ensures loses { OnErr result (K.loses ≡ true) }
 {
-    match seat.call(rt, Call::Fetch(id)) {
+    let reply = seat.call(rt, Call::Fetch(id))?;
+    match reply {
         Reply::Fetched(batch) => match schedule(rt, alloc, batch, workers, &OpenGate) {
             Ok(planned) => call(rt, seat, line, id, Call::Settle(id, planned)),
-            Err(_) => line.refuse(Refusal::NoMemory),
+            Err(_) => {
+                line.refuse(Refusal::NoMemory);
+                Ok(())
+            }
         },
-        reply => line.tell(id, &reply),
+        reply => {
+            line.tell(id, &reply);
+            Ok(())
+        }
     }
 }
 
-/// Does what a line commands that has no lines behind it, and puts the reply line.
+/// Does what a line commands that has no lines behind it, and puts the reply line. The fault is that
+/// a call couldn't be recorded.
 pub(crate) fn answer<
     R: Threads + Wait + Sync,
     L: ExchangeName,
     P: ConfigPort,
     W: WireMaker + Sync,
     G: Gate + Sync,
+    K: History,
 >(
     rt: &R,
     alloc: Global,
-    seat: &mut ExchangeSeat<'_, L, P, W, G>,
+    seat: &mut ExchangeSeat<'_, L, P, W, G, K>,
     line: &mut ReplyLine,
     command: Option<SessionCommand>,
     workers: WorkerCount,
-)
+) -> Result<(), ServeFault>
     requires empty { line.old ≡ [] }
     requires alone { StandsAlone command }
-    ensures { (text : List ℕ) → Acts seat.old seat.new
-        (DoesCommand seat.old.shape seat.old.session command text) line.new }
+    ensures done { (text : List ℕ) → Does seat.old seat.new
+        (DoesCommand seat.old.shape seat.old.session command text)
+        (IsBegun seat.old.session command) line.new result }
+    ensures loses { OnErr result (K.loses ≡ true) }
 {
     match command {
-        None => line.refuse(Refusal::Line),
-        Some(SessionCommand::Batch(_)) => line.refuse(Refusal::TooMany),
+        None => {
+            line.refuse(Refusal::Line);
+            Ok(())
+        }
+        Some(SessionCommand::Batch(_)) => {
+            line.refuse(Refusal::TooMany);
+            Ok(())
+        }
         Some(SessionCommand::Plan(id)) => plan(rt, alloc, seat, line, id, workers),
         Some(SessionCommand::Run(id)) => call(rt, seat, line, id, Call::Run(id)),
         Some(SessionCommand::Show(id)) => call(rt, seat, line, id, Call::Show(id)),
@@ -116,7 +158,13 @@ pub(crate) fn answer<
         Some(SessionCommand::Poke(module, address, word)) => {
             call(rt, seat, line, 0, Call::Poke(module, address, word))
         }
-        Some(SessionCommand::Progress) => line.tell_progress(seat.progress()),
-        Some(SessionCommand::Bye) => line.tell_bye(),
+        Some(SessionCommand::Progress) => {
+            line.tell_progress(seat.progress());
+            Ok(())
+        }
+        Some(SessionCommand::Bye) => {
+            line.tell_bye();
+            Ok(())
+        }
     }
 }

@@ -1,10 +1,12 @@
 //! A seat, and what its session asks of the exchange.
 
-ghost use Rattle.std.specs.Prelude.{◌≡◌, Some};
-ghost use Rattle.client_session.specs.Seats.{seat_view, IsCalled, IsProgressRead};
+ghost use Rattle.std.specs.Prelude.{◌≡◌, true, Some, IfOk, IfErr, OnErr};
+ghost use Rattle.client_session.specs.declared.fault.ServeFault.TheVariants.{Record};
+ghost use Rattle.client_session.specs.Seats.{seat_view, IsCalled, IsUncalled, IsProgressRead};
 
+use crate::fault::ServeFault;
 use batch::Shape;
-use batch_book::{Call, ExchangeName, Reading, Reply, Seat, Shared};
+use batch_book::{Call, ExchangeName, History, Reading, Reply, Seat, Shared};
 use crossbar::ConfigPort;
 use peek_poke::WireMaker;
 use schedule_certificate::Gate;
@@ -14,12 +16,13 @@ use std::thread::Threads;
 
 /// A seat beside the exchange that it belongs to. Contracts see the seat as its session does.
 #[derive(Drop)]
-pub(crate) struct ExchangeSeat<'a, L: ExchangeName, P: ConfigPort, W: WireMaker, G> {
-    shared: &'a Shared<L, P, W, G>,
+pub(crate) struct ExchangeSeat<'a, L: ExchangeName, P: ConfigPort, W: WireMaker, G, K: History> {
+    shared: &'a Shared<L, P, W, G, K>,
     seat: Seat<L>,
 }
 
-impl<'a, L: ExchangeName, P: ConfigPort, W: WireMaker, G> Model for ExchangeSeat<'a, L, P, W, G> {
+impl<'a, L: ExchangeName, P: ConfigPort, W: WireMaker, G, K: History> Model
+    for ExchangeSeat<'a, L, P, W, G, K> {
     ghost use Rattle.std.specs.Prelude.{◌≡◌, Some};
     ghost use Rattle.client_session.specs.Seats.{SeatView, seat_view};
 
@@ -30,9 +33,16 @@ impl<'a, L: ExchangeName, P: ConfigPort, W: WireMaker, G> Model for ExchangeSeat
     ghost invariant = { λ d. d.seat.exchange ≡ Some d.shared.now.word };
 }
 
-impl<'a, L: ExchangeName, P: ConfigPort, W: WireMaker, G> ExchangeSeat<'a, L, P, W, G> {
+impl<'a, L: ExchangeName, P: ConfigPort, W: WireMaker, G, K: History> ExchangeSeat<
+    'a,
+    L,
+    P,
+    W,
+    G,
+    K,
+> {
     /// The seat at its exchange.
-    pub fn new(shared: &'a Shared<L, P, W, G>, seat: Seat<L>) -> ExchangeSeat<'a, L, P, W, G>
+    pub fn new(shared: &'a Shared<L, P, W, G, K>, seat: Seat<L>) -> ExchangeSeat<'a, L, P, W, G, K>
         requires { seat.exchange ≡ Some shared.now.word }
         ensures { result ≡ seat_view shared.now.shape seat }
     {
@@ -61,17 +71,29 @@ impl<'a, L: ExchangeName, P: ConfigPort, W: WireMaker, G> ExchangeSeat<'a, L, P,
     }
 }
 
-impl<L: ExchangeName, P: ConfigPort, W: WireMaker + Sync, G: Gate + Sync> ExchangeSeat<
+impl<L: ExchangeName, P: ConfigPort, W: WireMaker + Sync, G: Gate + Sync, K: History> ExchangeSeat<
     '_,
     L,
     P,
     W,
     G,
+    K,
 > {
-    /// Makes a call of the book.
-    pub fn call<R: Threads + Wait + Sync>(&mut self, rt: &R, call: Call) -> Reply
-        ensures { IsCalled self.old call result self.new }
+    /// Makes a call of the book. The fault is that it couldn't be recorded, or an earlier one
+    /// couldn't.
+    pub fn call<R: Threads + Wait + Sync>(
+        &mut self,
+        rt: &R,
+        call: Call,
+    ) -> Result<Reply, ServeFault>
+        ensures ok { IfOk result (λ reply. IsCalled self.old call reply self.new) }
+        ensures fault { IfErr result (λ fault. fault ≡ Record) }
+        ensures err { OnErr result (IsUncalled self.old self.new) }
+        ensures loses { OnErr result (K.loses ≡ true) }
     {
-        self.shared.call(rt, &mut self.seat, call)
+        match self.shared.try_call(rt, &mut self.seat, call) {
+            Ok(reply) => Ok(reply),
+            Err(_) => Err(ServeFault::Record),
+        }
     }
 }

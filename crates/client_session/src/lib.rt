@@ -6,8 +6,10 @@
 //! (`HasEnded` of `specs/Sessions.antt`). A line means one command at most (`laws::one_meaning`).
 //! Each command did what the table of commands says (`DoesCommand` of `specs/Turns.antt`), and what
 //! was written are their reply lines, in order. No reading of the progress is behind an earlier one
-//! (`AreReadings`). Where a fault ends the session, the commands before it were served. A reader
-//! that counts is asked at most a million times (`AsksWithinLimit` of `specs/Asking.antt`).
+//! (`AreReadings`). Where a fault ends the session, the commands before it were served. Where that
+//! is a call which couldn't be recorded, its command was read whole, and nothing is told of it
+//! (`IsBroken`). A reader that counts is asked at most a million times (`AsksWithinLimit` of
+//! `specs/Asking.antt`).
 //!
 //! A [`Listener`] hears beside them what was said, and what of it is refused. What it tells is told
 //! of refusals (`TellsOfRefusals` of `specs/Listening.antt`); which ones no contract says.

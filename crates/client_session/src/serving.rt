@@ -1,6 +1,6 @@
 //! The session.
 
-ghost use Rattle.std.specs.Prelude.{◌≡◌, Some, OnOk, IfErr};
+ghost use Rattle.std.specs.Prelude.{◌≡◌, true, Some, OnOk, IfErr};
 ghost use Rattle.std.specs.Io.KnownBytes.{Appends};
 ghost use Rattle.batch_book.specs.Seats.{IsSameSeat};
 ghost use Rattle.client_session.specs.Asking.{AsksWithinLimit};
@@ -15,7 +15,7 @@ use crate::input::Input;
 use crate::listener::Listener;
 use crate::reply_line::ReplyLine;
 use crate::turns::turn;
-use batch_book::{ExchangeName, Seat, Shared};
+use batch_book::{ExchangeName, History, Seat, Shared};
 use crossbar::ConfigPort;
 use exchange_limits::WorkerCount;
 use peek_poke::WireMaker;
@@ -61,13 +61,14 @@ fn serve_seat<
     P: ConfigPort,
     W: WireMaker + Sync,
     G: Gate + Sync,
+    K: History,
     I: AskedReader,
     O: Write,
     H: Listener,
 >(
     rt: &R,
     alloc: Global,
-    seat: &mut ExchangeSeat<'_, L, P, W, G>,
+    seat: &mut ExchangeSeat<'_, L, P, W, G, K>,
     reader: &mut I,
     writer: &mut O,
     listener: &mut H,
@@ -77,6 +78,7 @@ fn serve_seat<
         (O.contents writer.old) (O.contents writer.new) seat.old seat.new
         (HasEnded (fault_in result) (I.remaining reader.new) seat.old seat.new) }
     ensures asks { AsksWithinLimit (I.asked reader.old) (I.asked reader.new) (fault_in result) }
+    ensures loses { fault_in result ≡ Some ServeFault.Record → K.loses ≡ true }
     ensures beside { TellsOfRefusals H.may_tell (H.told listener.old) (H.told listener.new) }
 {
     let mut input = Input::new();
@@ -99,8 +101,9 @@ fn serve_seat<
 /// ended by itself, behind a whole command or by `bye`, or by a fault.
 ///
 /// A client that asks for a plan has it made by so many workers, outside the exchange's lock. A
-/// reply takes no memory, so none is lost whose call was made; want of memory is a reply, but for
-/// the text of a batch, where it ends the session.
+/// reply takes no memory, so none is lost for want of it whose call was made; want of memory is a
+/// reply, but for the text of a batch, where it ends the session. A call that couldn't be recorded,
+/// or one behind it, ends it too: no reply is written that isn't recorded.
 ///
 /// The listener hears each command, and each line that is none, before it is done, and each refusal
 /// behind its reply line. What it tells stands behind what it had told, and is told of such
@@ -116,13 +119,14 @@ pub fn serve<
     P: ConfigPort,
     W: WireMaker + Sync,
     G: Gate + Sync,
+    K: History,
     I: AskedReader,
     O: Write,
     H: Listener,
 >(
     rt: &R,
     alloc: Global,
-    shared: &Shared<L, P, W, G>,
+    shared: &Shared<L, P, W, G, K>,
     seat: Seat<L>,
     reader: &mut I,
     writer: &mut O,
@@ -135,6 +139,7 @@ pub fn serve<
         (I.remaining reader.old) (I.remaining reader.new)
         (O.contents writer.old) (O.contents writer.new) }
     ensures asks { AsksWithinLimit (I.asked reader.old) (I.asked reader.new) (fault_back result) }
+    ensures loses { fault_back result ≡ Some ServeFault.Record → K.loses ≡ true }
     ensures beside { TellsOfRefusals H.may_tell (H.told listener.old) (H.told listener.new) }
 {
     let mut exchange_seat = ExchangeSeat::new(shared, seat);

@@ -1,11 +1,11 @@
 //! One command with the lines that belong to it.
 
-ghost use Rattle.std.specs.Prelude.{◌≡◌, ◌+◌, ◌<◌, ◌≤◌, length, take, [], Some, IfOk, IfErr, OnOk, MatchOption, MatchBool, false};
+ghost use Rattle.std.specs.Prelude.{◌≡◌, ◌+◌, ◌<◌, ◌≤◌, length, take, [], Some, IfOk, IfErr, OnOk, MatchOption, MatchBool, true, false};
 ghost use Rattle.client_session.specs.Asking.{GivesOrStops};
 ghost use Rattle.client_session.specs.Bytes.{HasLine, fuel};
 ghost use Rattle.client_session.specs.Turns.{SessionGoesOn};
 ghost use Rattle.client_session.specs.Sessions.{BeginsBatch};
-ghost use Rattle.client_session.specs.Steps.{StandsAlone, LinesTaken, LinesStopped, TurnTaken, TurnStopped};
+ghost use Rattle.client_session.specs.Steps.{StandsAlone, LinesTaken, LinesStopped, TurnTaken, TurnFails};
 
 use crate::answering::{answer, submit};
 use crate::asked_reader::AskedReader;
@@ -17,7 +17,7 @@ use crate::limits::{LINE_BYTES, MAX_READS};
 use crate::listener::Listener;
 use crate::reply_line::ReplyLine;
 use batch::MAX_TRANSFERS;
-use batch_book::ExchangeName;
+use batch_book::{ExchangeName, History};
 use crossbar::ConfigPort;
 use exchange_limits::WorkerCount;
 use peek_poke::WireMaker;
@@ -59,12 +59,13 @@ fn batch<
     P: ConfigPort,
     W: WireMaker + Sync,
     G: Gate + Sync,
+    K: History,
     I: AskedReader,
     H: Listener,
 >(
     rt: &R,
     alloc: Global,
-    seat: &mut ExchangeSeat<'_, L, P, W, G>,
+    seat: &mut ExchangeSeat<'_, L, P, W, G, K>,
     input: &mut Input,
     reader: &mut I,
     listener: &mut H,
@@ -79,8 +80,9 @@ fn batch<
     requires means { BeginsBatch (take n input.old.pending) count }
     ensures ok { OnOk result (TurnTaken (I.remaining reader.old) (I.remaining reader.new)
         input.old input.new seat.old seat.new line.new false) }
-    ensures err { IfErr result (λ e. TurnStopped e (I.remaining reader.old) (I.remaining reader.new)
+    ensures err { IfErr result (λ e. TurnFails e (I.remaining reader.old) (I.remaining reader.new)
         input.old seat.old seat.new) }
+    ensures loses { IfErr result (λ e. e ≡ ServeFault.Record → K.loses ≡ true) }
     ensures asks { GivesOrStops (I.asked reader.old) (I.asked reader.new)
         input.old.reads input.new.reads result }
     ensures beside { H.told listener.new ≡ H.told listener.old }
@@ -91,7 +93,7 @@ fn batch<
     take_lines(input, reader, &mut text, count)?;
     let text = text.as_slice();
     listener.heard(text);
-    submit(rt, alloc, seat, line, text);
+    submit(rt, alloc, seat, line, text)?;
     Ok(())
 }
 
@@ -124,12 +126,13 @@ pub(crate) fn turn<
     P: ConfigPort,
     W: WireMaker + Sync,
     G: Gate + Sync,
+    K: History,
     I: AskedReader,
     H: Listener,
 >(
     rt: &R,
     alloc: Global,
-    seat: &mut ExchangeSeat<'_, L, P, W, G>,
+    seat: &mut ExchangeSeat<'_, L, P, W, G, K>,
     input: &mut Input,
     reader: &mut I,
     listener: &mut H,
@@ -143,8 +146,9 @@ pub(crate) fn turn<
     requires reads { input.old.reads ≤ MAX_READS }
     ensures ok { IfOk result (λ ends. TurnTaken (I.remaining reader.old) (I.remaining reader.new)
         input.old input.new seat.old seat.new line.new ends) }
-    ensures err { IfErr result (λ e. TurnStopped e (I.remaining reader.old) (I.remaining reader.new)
+    ensures err { IfErr result (λ e. TurnFails e (I.remaining reader.old) (I.remaining reader.new)
         input.old seat.old seat.new) }
+    ensures loses { IfErr result (λ e. e ≡ ServeFault.Record → K.loses ≡ true) }
     ensures asks { GivesOrStops (I.asked reader.old) (I.asked reader.new)
         input.old.reads input.new.reads result }
     ensures beside { H.told listener.new ≡ H.told listener.old }
@@ -159,7 +163,7 @@ pub(crate) fn turn<
         None => {
             listener.heard(&input.pending()[..n + 1]);
             input.skip(n + 1);
-            answer(rt, alloc, seat, line, command, workers);
+            answer(rt, alloc, seat, line, command, workers)?;
             Ok(ends(command))
         }
     }

@@ -1,5 +1,6 @@
 //! The calls that are handed a rack, and hand it back where there is no memory.
 
+ghost use Rattle.batch_book.specs.History.{new_account};
 ghost use Rattle.batch_book.specs.Naming.{IsNamed};
 
 use crate::marks::{begin, end};
@@ -120,7 +121,7 @@ fn open_exchange<L: ExchangeName, R: AllocGlobal + Eprint>(
     blank: ExchangeBlank,
     rack: Rack,
 ) -> Met
-    requires { IsNamed L.name L.parts L.table L.opening blank rack }
+    requires { IsNamed L.name L.parts L.table L.opening L.earlier blank (new_account rack) }
 {
     let plant = plant_of(WorkerCount::new(2).unwrap());
     begin(rt);

@@ -5,3 +5,5 @@ mod Strangers
 mod Others
 mod Telling
 mod Turns
+mod GoingOn
+mod Cuts

@@ -18,10 +18,10 @@ use Rattle.book_record.specs.RecordText.{CanSay}
 use Rattle.client_session.specs.Commands.{Means}
 use Rattle.client_session.specs.Seats.{SeatView, logged}
 use Rattle.client_session.specs.Sessions.{IsSession, added_entries}
-use Rattle.client_session.specs.Turns.{Answer, Turn, IsTurn, DoesCommand, Submits, Settles, Plans, TellsReply}
+use Rattle.client_session.specs.Turns.{Answer, Turn, IsBegun, IsTurn, DoesCommand, Submits, Settles, Plans, TellsReply}
 use Rattle.client_session.specs.declared.command.SessionCommand.{SessionCommand}
 use Rattle.client_session.specs.declared.command.SessionCommand.TheVariants.{Batch, Plan as PlanOf, Run, Show, Drop, Peek, Poke, Progress, Bye}
-use Rattle.client_session.specs.declared.fault.ServeFault.TheVariants.{Write}
+use Rattle.client_session.specs.declared.fault.ServeFault.TheVariants.{Record, Write}
 use Rattle.record_replay.specs.Fetched.{fetched_by, SettlesFetched, SettleFetched, AreOfLines}
 use Rattle.record_replay.specs.SessionLaws.{SessionsSay}
 
@@ -128,15 +128,35 @@ turns_said shape by [] is each = nothing
 turns_said shape by (t ∷ turns) is each =
     said_append t.did.entries (added_entries turns) (command_said shape by t.head t.command _ t.did is each.0.means each.0.does) (turns_said shape by turns is each.1)
 
+-- what a command may have added before a call of it couldn't be recorded
+begun_said : (by : ℕ) (head : List ℕ) (command : Option SessionCommand) (es : List Entry) → Means head command → IsBegun by command es → Said es
+begun_said by head None es means is = subst Said (sym is) nothing
+begun_said by head (Some (Batch count)) es means is = subst Said (sym is) nothing
+begun_said by head (Some (PlanOf id)) es means (inl none) = subst Said (sym none) nothing
+begun_said by head (Some (PlanOf id)) es means (inr fetched) = subst Said (sym fetched.1) ((means.0, tt), (λ last. (settles_none last (call.Fetch id) tt, tt)))
+begun_said by head (Some (Run id)) es means is = subst Said (sym is) nothing
+begun_said by head (Some (Show id)) es means is = subst Said (sym is) nothing
+begun_said by head (Some (Drop id)) es means is = subst Said (sym is) nothing
+begun_said by head (Some (Peek mo ad)) es means is = subst Said (sym is) nothing
+begun_said by head (Some (Poke mo ad w)) es means is = subst Said (sym is) nothing
+begun_said by head (Some Progress) es means is = subst Said (sym is) nothing
+begun_said by head (Some Bye) es means is = subst Said (sym is) nothing
+
 -- ---- sessions
 
 are_of_lines : (es : List Entry) → Said es → AreOfLines es
 are_of_lines es said = record { calls = All-from_recursion (λ e. CanSay (told e.call)) es said.0; settle = said.1 None }
 
+told_said_so : (old new : SeatView) (turns : List Turn) (bytes rest : List ℕ) (entries : List Entry) (text : List ℕ) → IsShape old.shape → IsSession old new turns bytes rest entries text → Said entries
+told_said_so old new turns bytes rest entries text is session = subst Said (sym session.entries_are) (turns_said old.shape old.session turns is session.each)
+
 session_said : (old new : SeatView) (turns : List Turn) (bytes rest : List ℕ) (entries : List Entry) (text : List ℕ) → IsShape old.shape → IsSession old new turns bytes rest entries text → AreOfLines entries
-session_said old new turns bytes rest entries text is session = are_of_lines entries (subst Said (sym session.entries_are) (turns_said old.shape old.session turns is session.each))
+session_said old new turns bytes rest entries text is session = are_of_lines entries (told_said_so old new turns bytes rest entries text is session)
 
 pub sessions_say : SessionsSay
 sessions_say None known old new bytes entries written is ended = session_said old new ended.0 bytes ended.1 entries written is ended.2
 sessions_say (Some Write) known old new bytes entries written is ended = session_said old new _ bytes ended.rest entries _ is ended.session
+sessions_say (Some Record) known old new bytes entries written is ended =
+    are_of_lines entries (subst Said (sym ended.entries_are)
+    (said_append ended.told ended.last.entries (told_said_so old new ended.turns bytes _ ended.told written is ended.session) (begun_said old.session ended.last.head ended.last.command ended.last.entries ended.lost.means ended.lost.begun)))
 sessions_say (Some fault) known old new bytes entries written is ended = session_said old new ended.0 bytes ended.1 entries written is ended.2

@@ -1,7 +1,6 @@
 //! The call that a record tells, made again.
 
-ghost use Rattle.std.specs.Prelude.{◌≡◌, ◌<◌, IfOk, length};
-ghost use Rattle.batch_book.specs.declared.limits.TheConstants.{MAX_ENTRIES};
+ghost use Rattle.std.specs.Prelude.{◌≡◌, IfOk};
 ghost use Rattle.batch_book.specs.Answering.{IsReplyTo};
 ghost use Rattle.batch_book.specs.History.{IsGrown};
 ghost use Rattle.batch_book.specs.Machine.{batch_of};
@@ -10,7 +9,7 @@ ghost use Rattle.book_record.specs.RecordText.{CanBeReplied};
 ghost use Rattle.record_replay.specs.Replays.{IsPlanFor, HasOwnPlanIn};
 
 use batch::Batch;
-use batch_book::{Book, BookRefusal, Call, Reply, ToldCall};
+use batch_book::{Book, BookRefusal, Call, Reply, Silent, ToldCall};
 use crossbar::MemoryPort;
 use exchange_limits::WorkerCount;
 use peek_poke::PlainWires;
@@ -36,7 +35,7 @@ impl Notice for Unheard {
 fn plan_for<R: Threads + Sync>(
     rt: &R,
     alloc: Global,
-    book: &Book,
+    book: &Book<Silent>,
     session: usize,
     id: usize,
     workers: WorkerCount,
@@ -55,7 +54,7 @@ fn plan_for<R: Threads + Sync>(
 pub(crate) fn call_of<R: Threads + Sync>(
     rt: &R,
     alloc: Global,
-    book: &Book,
+    book: &Book<Silent>,
     session: usize,
     call: ToldCall<Batch>,
     workers: WorkerCount,
@@ -78,15 +77,15 @@ pub(crate) fn call_of<R: Threads + Sync>(
     Ok(call)
 }
 
-/// The reply to a call, over a port and wires that never fail. For want of memory nothing changes.
+/// The reply to a call, over a port and wires that never fail. For want of memory nothing changes,
+/// nor where there is no number for another batch or run, which counts as that.
 pub(crate) fn ask<R: Threads + Sync>(
     rt: &R,
-    book: &mut Book,
+    book: &mut Book<Silent>,
     plant: &mut PlainPlant,
     session: usize,
     call: Call,
 ) -> Result<Reply, AllocError>
-    requires room { length book.old.history < MAX_ENTRIES }
     requires own { HasOwnPlanIn book.old.machine session call }
     ensures grown { IfOk result (λ reply. IsGrown book.old session call reply book.new) }
     ensures can { IfOk result CanBeReplied }
@@ -94,12 +93,12 @@ pub(crate) fn ask<R: Threads + Sync>(
     ensures opening { book.new.opening ≡ book.old.opening }
 {
     // These are asked for only for their contracts: the machine is sound.
-    book.history();
+    book.log();
     let _shape = book.rack().shape();
     let reply = book.apply(rt, session, call, plant, &mut Unheard);
     match reply {
         Reply::Refused(BookRefusal::NoMemory) => Err(AllocError),
-        Reply::Refused(BookRefusal::HistoryFull) => unreachable!(),
+        Reply::Refused(BookRefusal::HistoryFull) => Err(AllocError),
         Reply::Refused(BookRefusal::Stranger) => unreachable!(),
         Reply::Stopped { .. } => unreachable!(),
         reply => Ok(reply),

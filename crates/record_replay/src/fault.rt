@@ -3,7 +3,7 @@ use thiserror::Error;
 
 /// Why a text doesn't go on with an entry that comes.
 #[derive(Drop)]
-pub(crate) enum EntryFault<'a> {
+pub enum EntryFault<'a> {
     /// No session's number and call stand there.
     Call,
     /// This stands behind the call, and doesn't begin with this line, which is that of its reply.

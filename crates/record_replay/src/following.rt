@@ -1,13 +1,12 @@
 //! One entry of a record, made again.
 
-ghost use Rattle.std.specs.Prelude.{◌≡◌, ◌<◌, IfOk, IfErr, length};
-ghost use Rattle.batch_book.specs.declared.limits.TheConstants.{MAX_ENTRIES};
+ghost use Rattle.std.specs.Prelude.{◌≡◌, IfOk, IfErr};
 ghost use Rattle.book_record.specs.RecordText.{CanBePut, reply_text};
 ghost use Rattle.record_replay.specs.Replays.{GoesOnBy, IsEntryFault};
 
 use crate::asking::{PlainPlant, ask, call_of};
 use crate::fault::EntryFault;
-use batch_book::{Book, Reply};
+use batch_book::{Book, Reply, Silent};
 use book_record::{id_of, push_reply, read_entry};
 use exchange_limits::WorkerCount;
 use line_words::behind;
@@ -29,12 +28,11 @@ fn due_line(alloc: Global, id: usize, reply: &Reply) -> Result<Vec<u8>, AllocErr
 pub(crate) fn follow<'a, R: Threads + Sync>(
     rt: &R,
     alloc: Global,
-    book: &mut Book,
+    book: &mut Book<Silent>,
     plant: &mut PlainPlant,
     text: &'a [u8],
     workers: WorkerCount,
 ) -> Result<&'a [u8], EntryFault<'a>>
-    requires room { length book.old.history < MAX_ENTRIES }
     ensures ok { IfOk result (λ rest. GoesOnBy book.old book.new text.entry.now rest.now) }
     ensures fault { IfErr result (IsEntryFault book.old.machine text.entry.now) }
     ensures opening { book.new.opening ≡ book.old.opening }

@@ -4,11 +4,12 @@ ghost use Rattle.std.specs.Prelude.{◌≡◌, All, IfOk, IfErr, map};
 ghost use Rattle.book_record.specs.RecordText.{CanTell};
 ghost use Rattle.book_record.specs.Untold.{told_entry};
 ghost use Rattle.record_replay.specs.Laws.{NeverBoth, OneFault};
+ghost use Rattle.record_replay.specs.ResumeLaws.{CutIsResumed, StreamIsResumed};
 ghost use Rattle.record_replay.specs.SessionLaws.{NoStrangers, SessionsAreTold, SessionsSay};
 
 use crate::fault::{RecordError, RecordFault};
 use crate::replaying::replay;
-use batch_book::Book;
+use batch_book::{Book, Silent};
 use book_record::write_record;
 use exchange_limits::WorkerCount;
 use std::alloc::Global;
@@ -29,13 +30,21 @@ pub fn sessions_are_told()
     ensures told { SessionsAreTold }
 {}
 
+/// Wherever the text of a legal history is cut, what is read of it leads to the words that a front
+/// of the history leads to. So what a stream has got, at any moment and wherever a crash cuts it
+/// behind what was told, leads to the words behind a front that has all that was told.
+pub fn resumed()
+    ensures cut { CutIsResumed }
+    ensures stream { StreamIsResumed }
+{}
+
 /// What is recorded of a book is replayed to the words that it has, or there is no memory for it.
 pub fn recorded_then_replayed<R: Threads + Sync>(
     rt: &R,
     alloc: Global,
     book: &Book,
     workers: WorkerCount,
-) -> Result<Book, RecordError>
+) -> Result<Book<Silent>, RecordError>
     requires { All CanTell book.now.history }
     ensures words { IfOk result (λ again. again.machine.store ≡ book.now.machine.store) }
     ensures told { IfOk result (λ again.

@@ -8,6 +8,10 @@
 //! any other text has one at most (`laws::one_fault`). What is recorded of a book is replayed to
 //! the same words, where a record can tell all its entries (`laws::recorded_then_replayed`). It can
 //! tell all that sessions leave, where no run stopped (`laws::sessions_are_told`).
+//!
+//! [`resume`] makes again what stands whole in a text that may have been cut off. Wherever the text
+//! of a legal history was cut, that leads to the words that a front of the history leads to
+//! (`laws::resumed`).
 #![tactic(auto)]
 
 mod asking;
@@ -15,6 +19,8 @@ mod fault;
 mod following;
 pub mod laws;
 mod replaying;
+mod resuming;
 
-pub use fault::{RecordError, RecordFault};
+pub use fault::{EntryFault, RecordError, RecordFault};
 pub use replaying::replay;
+pub use resuming::{ResumeError, resume};

@@ -9,7 +9,7 @@ ghost use Rattle.record_replay.specs.Replays.{IsRecordError};
 use crate::asking::PlainPlant;
 use crate::fault::{EntryFault, RecordError, RecordFault};
 use crate::following::follow;
-use batch_book::{Book, MAX_ENTRIES};
+use batch_book::{Book, MAX_ENTRIES, Silent};
 use book_record::read_head;
 use crossbar::MemoryPort;
 use exchange_limits::WorkerCount;
@@ -53,7 +53,7 @@ pub fn replay<R: Threads + Sync>(
     rack: Rack,
     text: &[u8],
     workers: WorkerCount,
-) -> Result<Book, RecordError>
+) -> Result<Book<Silent>, RecordError>
     ensures opening { IfOk result (λ book. book.opening ≡ rack) }
     ensures record { IfOk result (λ book. IsRecordOf book.history text.now) }
     ensures legal { IfOk result (λ book. IsReplay (opened rack) book.history book.machine) }
@@ -72,11 +72,11 @@ pub fn replay<R: Threads + Sync>(
     if count > MAX_ENTRIES {
         return Err(wrong_at(RecordFault::Head, text, text));
     }
-    let Ok(mut book) = Book::new(alloc, rack) else {
+    let Ok(mut book) = Book::with(alloc, rack, Silent::new()) else {
         return Err(RecordError::from(AllocError));
     };
     for k in 0..count {
-        book.history();
+        book.log();
         match follow(rt, alloc, &mut book, &mut plant, rest, workers) {
             Ok(after) => rest = after,
             Err(EntryFault::Call) => return Err(wrong_at(RecordFault::Call(k), text, rest)),
@@ -91,7 +91,7 @@ pub fn replay<R: Threads + Sync>(
         }
     }
     // The history is asked for only for its contract, which says that it is legal.
-    book.history();
+    book.log();
     if !rest.is_empty() {
         return Err(wrong_at(RecordFault::More, text, rest));
     }

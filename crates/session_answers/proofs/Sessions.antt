@@ -1,5 +1,5 @@
 -- The sessions of scripts, the seats of their exchange, and its history.
-use Rattle.std.proofs.Common.{◌≡◌, ℕ, ◌+◌, ◌<◌, ◌≤◌, suc, Bool, ◌||◌, List, [], ◌∷◌, ◌++◌, length, get_or, map, option_map, All, Option, Some, Result, Ok, Err, IfOk, OnOk, is_ok, if◌then◌else◌, refl, sym, ap, ap₂, ◌∙◌, subst, slice_get, take, arith}
+use Rattle.std.proofs.Common.{◌≡◌, ℕ, ◌+◌, ◌<◌, ◌≤◌, suc, Bool, true, ◌||◌, List, [], ◌∷◌, ◌++◌, length, get_or, map, option_map, All, Option, Some, Result, Ok, Err, IfOk, OnOk, is_ok, if◌then◌else◌, refl, sym, ap, ap₂, ◌∙◌, subst, slice_get, take, arith}
 use Rattle.std.specs.List.{range_with_len, sum, sum_by, list_any}
 use Rattle.std.proofs.lemmas.List.{take_more, take-map, flat_map_more, get_or-map, length-map, map-id}
 use Rattle.std.proofs.lemmas.List.Elements.{All-map}
@@ -11,16 +11,17 @@ use Rattle.std.specs.Io.KnownBytes.{Appends}
 use Rattle.module_memory.specs.Store.{Store}
 use Rattle.batch.specs.Extent.{Extent}
 use Rattle.crossbar.specs.declared.port.ConfigPort.{Ghosts}
-use Rattle.batch_book.specs.declared.close.Closed.{Closed}
 use Rattle.batch_book.specs.declared.entry.Entry.{Entry}
 use Rattle.batch_book.specs.declared.limits.TheConstants.{MAX_ENTRIES}
 use Rattle.batch_book.specs.Closing.{AreClosed}
 use Rattle.batch_book.specs.Exchanges.{Exchange, AreNew, new_seat, parts_at}
-use Rattle.batch_book.specs.History.{IsReplay}
+use Rattle.batch_book.specs.History.{Account, IsReplay}
+use Rattle.batch_book.specs.Recording.{AreAllBut}
 use Rattle.batch_book.specs.Machine.{opened}
 use Rattle.batch_book.specs.Replies.{NeverFail}
-use Rattle.batch_book.specs.Seats.{SeatState, IsSameSeat, own}
+use Rattle.batch_book.specs.Seats.{SeatState, IsSameSeat, LogAgrees, own}
 use Rattle.batch_book.specs.Values.{greatest}
+use Rattle.batch_book.proofs.Noting.{has_all}
 use Rattle.client_session.specs.declared.fault.ServeFault.{ServeFault}
 use Rattle.client_session.specs.Seats.{SeatView, seat_view}
 use Rattle.client_session.specs.Sessions.{GoesThrough, HasEnded}
@@ -159,15 +160,16 @@ all_served {L} x scripts n seats ss count new len each =
 -- ---- the exchange is closed
 
 -- the history that the exchange kept is that of its sessions
-pub one_history : {P W G : Type 0} (seen : Ghosts P) (sure : W → ℕ → Type 0) (opening : Store) (seats : List SeatState) (c : Closed P W G)
-    → AreClosed seen sure opening seats c → NeverFail seen sure → IsReplay (opened c.book.opening) c.book.history c.book.machine → length c.book.history ≤ MAX_ENTRIES → HaveOneHistory opening (map part_of seats) c.book
-one_history seen sure opening seats c closed never replay few =
-    let h = c.book.history in
+pub one_history : {P W : Type 0} (seen : Ghosts P) (sure : W → ℕ → Type 0) (opening : Store) (earlier : List Entry) (seats : List SeatState) (book : Account)
+    → AreClosed seen sure opening earlier seats book → earlier ≡ [] → book.whole ≡ true → NeverFail seen sure → IsReplay (opened book.opening) book.history book.machine → length book.history ≤ MAX_ENTRIES → HaveOneHistory opening (map part_of seats) book
+one_history seen sure opening earlier seats book closed none whole never replay few =
+    let h = book.history in
+    let told : h ≡ closed.told = has_all book.whole closed.told h whole (subst (λ (es : List Entry). AreAllBut book.whole (es ++ closed.told) h) none closed.all_told) in
     record {
       is_opening = closed.opened;
-      replay = subst (λ (s : Store). IsReplay (opened s) h c.book.machine) closed.opened replay;
-      counted = closed.counted ∙ sym (sum_mapped (λ (p : Part). length p.entries) part_of seats);
-      are_parts = All-map (λ (p : Part). p.entries ≡ own p.session h) part_of seats closed.agree;
+      replay = subst (λ (s : Store). IsReplay (opened s) h book.machine) closed.opened replay;
+      counted = ap length told ∙ closed.counted ∙ sym (sum_mapped (λ (p : Part). length p.entries) part_of seats);
+      are_parts = All-map (λ (p : Part). p.entries ≡ own p.session h) part_of seats (subst (λ (es : List Entry). All (LogAgrees es) seats) (sym told) closed.agree);
       few = few;
       unstopped = closed.unstopped never;
       seen = All-map (λ (p : Part). p.seen ≤ greatest h) part_of seats closed.none_ahead;

@@ -3,7 +3,7 @@ use Rattle.std.specs.Prelude.{ℕ, ◌-◌, ◌==◌, if◌then◌else◌, Bool,
 use Rattle.std.specs.Fmt.{decimal}
 use Rattle.std.specs.List.{list_any}
 use Rattle.client_session.specs.declared.fault.ServeFault.{ServeFault}
-use Rattle.client_session.specs.declared.fault.ServeFault.TheVariants.{Read, Write, LineTooLong, Cut, Turns, NoMemory}
+use Rattle.client_session.specs.declared.fault.ServeFault.TheVariants.{Read, Write, LineTooLong, Cut, Turns, NoMemory, Record}
 use Rattle.session_answers.specs.Histories.{Part}
 
 -- a session that has ended: its part of the history, what it was told, and the fault that ended it,
@@ -21,6 +21,7 @@ ended_line LineTooLong = codes "ended line too long\n"
 ended_line Cut = codes "ended cut\n"
 ended_line Turns = codes "ended turns\n"
 ended_line NoMemory = codes "ended no memory\n"
+ended_line Record = codes "ended record\n"
 
 -- the line that tells which fault ended a session, where one did
 abbrev pub end_line : Option ServeFault → List ℕ

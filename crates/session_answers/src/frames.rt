@@ -20,6 +20,7 @@ fn ended_line(fault: ServeFault) -> &'static [u8]
         ServeFault::Cut => b"ended cut\n",
         ServeFault::Turns => b"ended turns\n",
         ServeFault::NoMemory => b"ended no memory\n",
+        ServeFault::Record => b"ended record\n",
     }
 }
 

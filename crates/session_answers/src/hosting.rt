@@ -3,6 +3,7 @@
 ghost use Rattle.std.specs.Prelude.{◌≡◌, ◌≤◌, ◌++◌, [], All, IfOk, IfSome, OnOk, None, Some, map, flat_map};
 ghost use Rattle.std.specs.List.{list_any};
 ghost use Rattle.batch_book.specs.Exchanges.{AreNew};
+ghost use Rattle.batch_book.specs.History.{new_account};
 ghost use Rattle.batch_book.specs.Naming.{IsNamed};
 ghost use Rattle.plan_answers.specs.Lent.{bytes_of};
 ghost use Rattle.plan_answers.specs.Refusals.{Refuses};
@@ -342,7 +343,7 @@ fn host_clients<L: ExchangeName + Send + Sync, R: Threads + Wait + Sync, D: Clie
     workers: WorkerCount,
     streams: &D,
 ) -> Result<Hosted<D::Receipt>, AllocError>
-    requires named { IsNamed L.name L.parts L.table L.opening blank rack }
+    requires named { IsNamed L.name L.parts L.table L.opening L.earlier blank (new_account rack) }
     requires some { 1 ≤ (D.known streams.now).clients }
     requires few { (D.known streams.now).clients ≤ MAX_SESSIONS }
     ensures { IfOk result (λ hosted. IsHosting rack (D.known streams.now)

@@ -1,10 +1,11 @@
 //! An exchange whose port and wires never fail: how it is opened, how a client has its session
 //! there, and how it is closed.
 
-ghost use Rattle.std.specs.Prelude.{◌≡◌, ◌≤◌, List, ℕ, IfOk, map};
+ghost use Rattle.std.specs.Prelude.{◌≡◌, ◌≤◌, List, [], ℕ, IfOk, map};
 ghost use Rattle.std.specs.Io.KnownBytes.{Appends};
 ghost use Rattle.progress_word.specs.declared.limits.TheConstants.{ALL_PARTS};
 ghost use Rattle.batch_book.specs.Exchanges.{AreNew};
+ghost use Rattle.batch_book.specs.History.{new_account};
 ghost use Rattle.batch_book.specs.Naming.{IsNamed};
 ghost use Rattle.batch_book.specs.Seats.{IsSameSeat};
 ghost use Rattle.client_session.specs.Listening.{TellsOfRefusals};
@@ -39,7 +40,7 @@ pub fn open_exchange<L: ExchangeName>(
     workers: WorkerCount,
     sessions: usize,
 ) -> Result<(PlainExchange<L>, Vec<Seat<L>>), AllocError>
-    requires named { IsNamed L.name L.parts L.table L.opening blank rack }
+    requires named { IsNamed L.name L.parts L.table L.opening L.earlier blank (new_account rack) }
     requires some { 1 ≤ sessions }
     requires few { sessions ≤ MAX_SESSIONS }
     ensures shape { IfOk result (λ made. made.0.shape ≡ rack.shape) }
@@ -93,6 +94,7 @@ pub fn finish<L: ExchangeName>(
     failed: bool,
 ) -> Closing
     requires parts { L.parts ≡ ALL_PARTS }
+    requires fresh { L.earlier ≡ [] }
     requires seats { AreAllSeats exchange seats.items }
     ensures { IsClosing L.opening (map part_of seats.items) text.items failed result.answer
         result.book }

@@ -2,6 +2,7 @@
 
 ghost use Rattle.std.specs.Prelude.{◌≡◌, ◌≤◌, IfOk, length, map};
 ghost use Rattle.batch_book.specs.Exchanges.{AreNew};
+ghost use Rattle.batch_book.specs.History.{new_account};
 ghost use Rattle.batch_book.specs.Naming.{IsNamed};
 ghost use Rattle.batch_book.specs.Seats.{IsSameSeat};
 ghost use Rattle.session_answers.specs.Hosting.{transcript, IsSeatReady, AreServedAt};
@@ -98,7 +99,7 @@ fn serve_scripts<L: ExchangeName + Send + Sync, R: Threads + Wait + Sync>(
     workers: WorkerCount,
     scripts: &[Vec<u8>],
 ) -> Result<Closing, AllocError>
-    requires named { IsNamed L.name L.parts L.table L.opening blank rack }
+    requires named { IsNamed L.name L.parts L.table L.opening L.earlier blank (new_account rack) }
     requires some_scripts { 1 ≤ length scripts.now }
     requires few_scripts { length scripts.now ≤ MAX_SESSIONS }
     ensures { IfOk result (λ closing. AreServed rack (map (λ s. s.items) scripts.now)

@@ -2,6 +2,7 @@
 
 ghost use Rattle.std.specs.Prelude.{◌≡◌, List, ℕ, IfOk, OnErr};
 ghost use Rattle.std.specs.Io.KnownBytes.{Appends};
+ghost use Rattle.batch_book.specs.History.{new_account};
 ghost use Rattle.batch_book.specs.Naming.{IsNamed};
 ghost use Rattle.client_session.specs.Listening.{TellsOfRefusals};
 ghost use Rattle.plan_answers.specs.Lent.{bytes_of};
@@ -34,7 +35,7 @@ fn talk<L: ExchangeName, R: Threads + Wait + Sync, I: Read, O: Write, H: Listene
     writer: &mut O,
     listener: &mut H,
 ) -> Result<Closing, AllocError>
-    requires named { IsNamed L.name L.parts L.table L.opening blank rack }
+    requires named { IsNamed L.name L.parts L.table L.opening L.earlier blank (new_account rack) }
     ensures session { (told : List ℕ)
         × Appends (O.contents writer.old) (O.contents writer.new) told
         × IfOk result (λ closing. HasTalked rack (I.remaining reader.old) (I.remaining reader.new)

@@ -1,5 +1,6 @@
 //! An exchange with two seats, what they ask, and what they are answered as plain values.
 
+ghost use Rattle.batch_book.specs.History.{new_account};
 ghost use Rattle.batch_book.specs.Naming.{IsNamed};
 ghost use Rattle.std.specs.Prelude.{◌≡◌, Some};
 ghost use Rattle.progress_word.specs.declared.limits.TheConstants.{ALL_PARTS};
@@ -129,7 +130,7 @@ pub fn open_pair<L: ExchangeName, W: WireMaker + Drop, G: Drop>(
     rack: Rack,
     plant: Plant<MemoryPort, W, G>,
 ) -> Option<Pair<L, W, G>>
-    requires named { IsNamed L.name L.parts L.table L.opening blank rack }
+    requires named { IsNamed L.name L.parts L.table L.opening L.earlier blank (new_account rack) }
 {
     let made = Shared::<L, MemoryPort, W, G>::new(alloc, blank, rack, plant, 2);
     let Ok((shared, mut seats)) = made else {

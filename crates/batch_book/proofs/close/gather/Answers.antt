@@ -6,13 +6,14 @@ use Rattle.std.proofs.lemmas.List.Elements.{All-push}
 use Rattle.std.proofs.lemmas.List.Sums.{sum_by_push}
 use Rattle.progress_word.specs.Watchers.{WatcherView}
 use Rattle.batch_book.specs.Seats.{SeatState, LogAgrees}
-use Rattle.batch_book.proofs.Seats.{agree_below, its_word}
+use Rattle.batch_book.specs.Recording.{made_in, told_in}
+use Rattle.batch_book.specs.Values.{greatest}
+use Rattle.batch_book.proofs.Seats.{its_word}
 use Rattle.batch_book.proofs.close.gather.Goals as goal
 
 pub loop-seat-init : goal.loop-seat-init
 loop-seat-init g c =
     let e = c.compared-all.ensures in
-    let below = agree_below c.args.keeper.now.history c.in-Some.last e.agrees in
     record {
       same = e.keeper;
       agree = λ k d none. absurd (omega arith);
@@ -21,7 +22,7 @@ loop-seat-init g c =
       amount = omega arith;
       first_seen = omega arith;
       seen = λ k d none. absurd (omega arith);
-      raised = omega (arith, e.raised, below);
+      raised = e.raised;
     }
 
 pub compared-access-requires : goal.compared-access-requires
@@ -38,14 +39,14 @@ join-requires-clause-word g c =
 
 pub loop-seat-preserved : goal.loop-seat-preserved
 loop-seat-preserved g c =
-    let h = c.args.keeper.now.history in
+    let h = told_in c.args.keeper.now.history in
     let i = c.loop-seat.invariant in
     let e = c.compared-access.ensures in
     let j = c.join.ensures in
     let s : SeatState = c.in-Some-seat.seat in
     let ys = c.loop-seat.yielded in
-    let agrees : LogAgrees h s = subst (λ l. LogAgrees l s) i.same e.agrees in
-    let below = agree_below h s agrees in
+    let agrees : LogAgrees h s = subst (λ l. LogAgrees (told_in l) s) i.same e.agrees in
+    let below = subst (λ l. c.compared-access.result.watcher.raised ≤ greatest (made_in l)) i.same e.raised in
     let seen = ap (λ (o : WatcherView). o.seen) j.watcher in
     let raised = ap (λ (o : WatcherView). o.raised) j.watcher in
     let n = c.join.new.self.watcher.seen in
@@ -57,12 +58,12 @@ loop-seat-preserved g c =
       amount = omega (arith, i.amount, j.amount, e.amount, sum_by_push (λ (s : SeatState). length s.log) ys s);
       first_seen = omega (arith, i.first_seen, seen);
       seen = All-push (λ (s : SeatState). s.seen ≤ n) ys s (λ k d lt. omega (arith, i.seen k d lt, seen)) (omega (arith, e.seen, seen));
-      raised = omega (arith, i.raised, e.raised, below, raised);
+      raised = omega (arith, i.raised, below, raised);
     }
 
 pub returns-clause-agree : goal.returns-clause-agree
 returns-clause-agree g c =
-    let h = c.args.keeper.now.history in
+    let h = told_in c.args.keeper.now.history in
     let rest = c.pop.new.self.items in
     let end = YieldsList-end (YieldsList-from_vec {s = c.into_iter-seat-iterator.result} rest (search rules) (search rules)) c.loop-seat.yielded c.loop-seat.seat-iterator c.loop-seat.yielded_by c.next.result c.next.new.self c.in-None.is c.next.ensures.steps in
     let others : All (LogAgrees h) rest = subst (λ (l : List SeatState). All (LogAgrees h) l) (sym (map-id c.loop-seat.yielded) ∙ end.0) c.loop-seat.invariant.agree in

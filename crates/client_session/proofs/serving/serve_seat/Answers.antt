@@ -3,7 +3,7 @@ use Rattle.std.proofs.lemmas.Result.{err_from_is_err_and}
 use Rattle.client_session.specs.declared.fault.ServeFault.TheVariants.{Write}
 use Rattle.client_session.proofs.Asking.{gives_none, gives_more, stops_after, stops_here, asks_all}
 use Rattle.client_session.proofs.Listening.{tells_nothing, tells_more, tells_still}
-use Rattle.client_session.proofs.Served.{Serving-none, Serving-read, Serving-turn, ended_at_end, ended_by_bye, stopped_reading, stopped_turn, stopped_writing, none_of}
+use Rattle.client_session.proofs.Served.{Serving-none, Serving-read, Serving-turn, ended_at_end, ended_by_bye, failed_turn, no_input, stopped_reading, stopped_writing, none_of, the_fault}
 use Rattle.client_session.proofs.serving.serve_seat.Goals as goal
 
 pub loop-n-init : goal.loop-n-init
@@ -23,7 +23,7 @@ returns-in_err-ends-clause-session g c =
     let p = err_from_is_err_and c.from_residual-in_err-ends.result c.from_residual-in_err-ends.ensures.1 in
     let mid = c.next_line.new.self in
     let s = Serving-read _ _ _ _ _ _ _ c.loop-n.input mid c.loop-n.invariant.0 c.in_ok-n.ensures.takes in
-    rw (p.1, p.2) (stopped_turn _ _ _ _ _ _ _ _ _ mid s c.in_err-ends.ensures.err)
+    rw (p.1, p.2) (failed_turn _ _ _ _ _ _ _ _ _ mid s c.in_err-ends.ensures.err)
 
 pub returns-in_err-send-clause-session : goal.returns-in_err-send-clause-session
 returns-in_err-send-clause-session g c =
@@ -90,3 +90,18 @@ returns-clause-asks g c =
 
 pub returns-then-ends-clause-beside : goal.returns-then-ends-clause-beside
 returns-then-ends-clause-beside g c = tells_more (tells_still c.loop-n.invariant.2 c.in_ok-ends.ensures.beside) c.tell_refusal.ensures
+
+pub returns-in_err-n-clause-loses : goal.returns-in_err-n-clause-loses
+returns-in_err-n-clause-loses g c =
+    let p = err_from_is_err_and c.from_residual.result c.from_residual.ensures.1 in
+    rw (p.1, p.2) (λ is. absurd (no_input _ is))
+
+pub returns-in_err-ends-clause-loses : goal.returns-in_err-ends-clause-loses
+returns-in_err-ends-clause-loses g c =
+    let p = err_from_is_err_and c.from_residual-in_err-ends.result c.from_residual-in_err-ends.ensures.1 in
+    rw (p.1, p.2) (λ is. c.in_err-ends.ensures.loses (the_fault _ _ is))
+
+pub returns-in_err-send-clause-loses : goal.returns-in_err-send-clause-loses
+returns-in_err-send-clause-loses g c =
+    let p = err_from_is_err_and c.from_residual-in_err-send.result c.from_residual-in_err-send.ensures.1 in
+    rw (p.1, p.2, c.in_err-send.ensures.err.fault_is) (λ is. absurd (cc))

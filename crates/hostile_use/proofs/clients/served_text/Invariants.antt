@@ -1,7 +1,8 @@
+use Rattle.std.proofs.Common.{[]}
 use Rattle.hostile_use.proofs.clients.served_text.Given as goal
 
 abbrev pub ghosts-serve_all-L-ExchangeName : goal.ghosts-serve_all-L-ExchangeName
-ghosts-serve_all-L-ExchangeName g a = record { opening = a.rack }
+ghosts-serve_all-L-ExchangeName g a = record { opening = a.rack; earlier = [] }
 
 abbrev pub ghosts-serve_all-L-Ledger : goal.ghosts-serve_all-L-Ledger
 ghosts-serve_all-L-Ledger g a = record { name = a.blank.ledger.name; parts = a.blank.ledger.parts }

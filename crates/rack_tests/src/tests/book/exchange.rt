@@ -1,5 +1,6 @@
 //! What the seats of an exchange are answered.
 
+ghost use Rattle.batch_book.specs.History.{new_account};
 ghost use Rattle.batch_book.specs.Naming.{IsNamed};
 ghost use Rattle.std.specs.Prelude.{◌≡◌, IfSome};
 ghost use Rattle.progress_word.specs.declared.limits.TheConstants.{ALL_PARTS};
@@ -192,8 +193,9 @@ fn refused<L: ExchangeName>(
     rack: Rack,
     sessions: usize,
 ) -> Option<(ExchangeBlank, Rack)>
-    requires named { IsNamed L.name L.parts L.table L.opening blank rack }
-    ensures { IfSome result (λ back. IsNamed L.name L.parts L.table L.opening back.0 back.1) }
+    requires named { IsNamed L.name L.parts L.table L.opening L.earlier blank (new_account rack) }
+    ensures { IfSome result (λ back. IsNamed L.name L.parts L.table L.opening L.earlier back.0
+        (new_account back.1)) }
 {
     let plant = with_wires(PlainWires);
     let made = Shared::<L, MemoryPort, PlainWires, OpenGate>::new(
@@ -211,7 +213,7 @@ fn open_behind_refusals<L: ExchangeName>(
     blank: ExchangeBlank,
     rack: Rack,
 ) -> Option<Two<L>>
-    requires named { IsNamed L.name L.parts L.table L.opening blank rack }
+    requires named { IsNamed L.name L.parts L.table L.opening L.earlier blank (new_account rack) }
 {
     let (blank, rack) = refused::<L>(alloc, blank, rack, 0)?;
     let (blank, rack) = refused::<L>(alloc, blank, rack, 17)?;
@@ -225,7 +227,7 @@ fn holds<L: ExchangeName, R: AllocGlobal + Threads + Wait + Sync>(
     rack: Rack,
     case: Case<'_>,
 ) -> bool
-    requires named { IsNamed L.name L.parts L.table L.opening blank rack }
+    requires named { IsNamed L.name L.parts L.table L.opening L.earlier blank (new_account rack) }
 {
     let Some(mut pair) = open_behind_refusals::<L>(rt.alloc(), blank, rack) else {
         return false;

@@ -1,6 +1,7 @@
 //! Runs are made by as many workers as the plant has, and the exchange gives back the plant that it
 //! was made with.
 
+ghost use Rattle.batch_book.specs.History.{new_account};
 ghost use Rattle.batch_book.specs.Naming.{IsNamed};
 
 use crate::tests::common::{TWO_PUSHES, marked, two, with_gate};
@@ -33,7 +34,7 @@ fn runs_by_two<L: ExchangeName, R: AllocGlobal + Threads + Wait + Sync>(
     blank: ExchangeBlank,
     rack: Rack,
 ) -> bool
-    requires named { IsNamed L.name L.parts L.table L.opening blank rack }
+    requires named { IsNamed L.name L.parts L.table L.opening L.earlier blank (new_account rack) }
 {
     let opened = open_pair::<L, PlainWires, Meeting>(
         rt.alloc(),

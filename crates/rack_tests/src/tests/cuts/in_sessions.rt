@@ -1,5 +1,6 @@
 //! The same faults in a session: what it is told, the history and the words.
 
+ghost use Rattle.batch_book.specs.History.{new_account};
 ghost use Rattle.batch_book.specs.Naming.{IsNamed};
 ghost use Rattle.std.specs.Prelude.{◌≡◌, Some};
 ghost use Rattle.progress_word.specs.declared.limits.TheConstants.{ALL_PARTS};
@@ -181,7 +182,7 @@ fn is_served<L: ExchangeName, R: AllocGlobal + Threads + Wait + Sync>(
     fault: Fault,
     workers: WorkerCount,
 ) -> bool
-    requires named { IsNamed L.name L.parts L.table L.opening blank rack }
+    requires named { IsNamed L.name L.parts L.table L.opening L.earlier blank (new_account rack) }
 {
     match Faulty::<L>::new(rt.alloc(), blank, rack, fault.plant(workers), 1) {
         Ok((exchange, mut seats)) => {

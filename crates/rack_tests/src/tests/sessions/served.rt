@@ -1,5 +1,6 @@
 //! Sessions at a new exchange with two seats, one after the other and at once.
 
+ghost use Rattle.batch_book.specs.History.{new_account};
 ghost use Rattle.batch_book.specs.Naming.{IsNamed};
 ghost use Rattle.std.specs.Prelude.{◌≡◌, Some};
 ghost use Rattle.progress_word.specs.declared.limits.TheConstants.{ALL_PARTS};
@@ -219,7 +220,7 @@ fn spend<L: ExchangeName, R: AllocGlobal + Threads + Wait + Sync>(
     rack: Rack,
     day: &Day,
 ) -> bool
-    requires named { IsNamed L.name L.parts L.table L.opening blank rack }
+    requires named { IsNamed L.name L.parts L.table L.opening L.earlier blank (new_account rack) }
 {
     match open_pair::<L, FuseWires, OpenGate>(rt.alloc(), blank, rack, with_wires(day.wires)) {
         Some(office) => is_played(rt, office, day),

@@ -1,6 +1,7 @@
 //! Two sessions at once whose lines come in one order, so that each reading comes behind what the
 //! other did.
 
+ghost use Rattle.batch_book.specs.History.{new_account};
 ghost use Rattle.batch_book.specs.Naming.{IsNamed};
 
 use super::served::{NO_FUSE, Saying, serve_at_once};
@@ -91,7 +92,7 @@ fn hear_on<L: ExchangeName + Send + Sync, R: AllocGlobal + Threads + Wait + Sync
     talk: &Talk,
     wanted: [&'static str; 2],
 ) -> bool
-    requires named { IsNamed L.name L.parts L.table L.opening blank rack }
+    requires named { IsNamed L.name L.parts L.table L.opening L.earlier blank (new_account rack) }
 {
     let [first, second] = wanted;
     match open_pair::<L, FuseWires, OpenGate>(rt.alloc(), blank, rack, with_wires(NO_FUSE)) {

@@ -18,7 +18,7 @@ pub returns-in-Err-Call-clause-wrong : goal.returns-in-Err-Call-clause-wrong
 returns-in-Err-Call-clause-wrong g c = λ _.
     let l = c.loop-k in
     let e = c.wrong_at-in-Err-Call.result in
-    let here = replayed_so_far c.args.text.now c.args.rack c.in-Some.count l.k l.book l.rest.now l.invariant (omega (arith, c.loop-k-test.true)) c.if-count-gt-MAX_ENTRIES.false c.history.ensures.replay in
+    let here = replayed_so_far c.args.text.now c.args.rack c.in-Some.count l.k l.book l.rest.now l.invariant (omega (arith, c.loop-k-test.true)) c.if-count-gt-MAX_ENTRIES.false c.log.ensures.replay in
     told_behind c.args.text.now c.args.rack c.in-Some.count l.book.history l.book.machine l.rest.now e here c.wrong_at-in-Err-Call.ensures.offset c.wrong_at-in-Err-Call.ensures.due
     (call c.in-Some.count l.book.history l.book.machine here (omega (arith, l.invariant.counted, c.loop-k-test.true)) (rw c.in-Err-Call.field-0-is at c.in-Err-Call.ensures.fault)
     (c.wrong_at-in-Err-Call.ensures.fault ∙ ap fault.Call (sym l.invariant.counted)) refl)
@@ -26,7 +26,7 @@ returns-in-Err-Call-clause-wrong g c = λ _.
 pub returns-in-Err-Reply-clause-wrong : goal.returns-in-Err-Reply-clause-wrong
 returns-in-Err-Reply-clause-wrong g c = λ _.
     let l = c.loop-k in
-    let here = replayed_so_far c.args.text.now c.args.rack c.in-Some.count l.k l.book l.rest.now l.invariant (omega (arith, c.loop-k-test.true)) c.if-count-gt-MAX_ENTRIES.false c.history.ensures.replay in
+    let here = replayed_so_far c.args.text.now c.args.rack c.in-Some.count l.k l.book l.rest.now l.invariant (omega (arith, c.loop-k-test.true)) c.if-count-gt-MAX_ENTRIES.false c.log.ensures.replay in
     let at = rw c.in-Err-Reply.field-0-is at c.offset_of.ensures in
     let other = rw c.in-Err-Reply.field-0-is at c.in-Err-Reply.ensures.fault in
     told_reply c.args.text.now c.args.rack c.in-Some.count l.book.history l.book.machine l.rest.now c.in-Err-Reply.replied.now c.in-Err-Reply.due.items _ here other at (search rules)
@@ -43,7 +43,7 @@ returns-then-not-is_empty-clause-wrong g c = λ _.
     let end : l.k ≡ c.in-Some.count = search rules in
     let all : Going c.args.text.now c.args.rack c.in-Some.count c.in-Some.count l.book l.rest.now = subst (λ (k : ℕ). Going c.args.text.now c.args.rack c.in-Some.count k l.book l.rest.now) end l.invariant in
     let some : length l.rest.now ≢ 0 = search rules in
-    let here = all_replayed c.args.text.now c.args.rack c.in-Some.count l.book l.rest.now all c.if-count-gt-MAX_ENTRIES.false c.history-2.ensures.replay in
+    let here = all_replayed c.args.text.now c.args.rack c.in-Some.count l.book l.rest.now all c.if-count-gt-MAX_ENTRIES.false c.log-2.ensures.replay in
     told_behind c.args.text.now c.args.rack (length l.book.history) l.book.history l.book.machine l.rest.now c.wrong_at-then-not-is_empty.result here c.wrong_at-then-not-is_empty.ensures.offset c.wrong_at-then-not-is_empty.ensures.due
     (more l.book.history l.book.machine here (λ e. some (ap length e)) c.wrong_at-then-not-is_empty.ensures.fault refl)
 

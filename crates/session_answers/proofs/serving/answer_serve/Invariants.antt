@@ -1,7 +1,8 @@
+use Rattle.std.proofs.Common.{[]}
 use Rattle.session_answers.proofs.serving.answer_serve.Given as goal
 
 abbrev pub ghosts-serve_scripts-L-ExchangeName : goal.ghosts-serve_scripts-L-ExchangeName
-ghosts-serve_scripts-L-ExchangeName g a = record { opening = a.rack }
+ghosts-serve_scripts-L-ExchangeName g a = record { opening = a.rack; earlier = [] }
 
 abbrev pub ghosts-serve_scripts-L-Ledger : goal.ghosts-serve_scripts-L-Ledger
 ghosts-serve_scripts-L-Ledger g a = record { name = a.blank.ledger.name; parts = a.blank.ledger.parts }

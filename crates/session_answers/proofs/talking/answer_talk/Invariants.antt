@@ -1,7 +1,8 @@
+use Rattle.std.proofs.Common.{[]}
 use Rattle.session_answers.proofs.talking.answer_talk.Given as goal
 
 abbrev pub ghosts-talk-L-ExchangeName : goal.ghosts-talk-L-ExchangeName
-ghosts-talk-L-ExchangeName g a = record { opening = a.rack }
+ghosts-talk-L-ExchangeName g a = record { opening = a.rack; earlier = [] }
 
 abbrev pub ghosts-talk-L-Ledger : goal.ghosts-talk-L-Ledger
 ghosts-talk-L-Ledger g a = record { name = a.blank.ledger.name; parts = a.blank.ledger.parts }

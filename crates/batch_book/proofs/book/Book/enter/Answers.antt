@@ -1,31 +1,56 @@
-use Rattle.std.proofs.Common.{◌≡◌, ◌∙◌, ◌<◌, length, [], ◌∷◌, ◌++◌, refl}
-use Rattle.batch_book.specs.declared.limits.TheConstants.{MAX_ENTRIES}
-use Rattle.batch_book.specs.History.{account, entry}
-use Rattle.batch_book.proofs.Histories.{grown}
-use Rattle.batch_book.proofs.Seats.{listed}
+use Rattle.std.proofs.Common.{◌≡◌, ◌∙◌, [], ◌∷◌, ◌++◌, true, refl, sym, subst}
+use Rattle.std.specs.Prelude.{Result, IfOk}
+use Rattle.std.specs.declared.alloc.AllocError.{AllocError}
+use Rattle.batch.specs.Extent.{IsShape}
+use Rattle.module_memory.specs.Store.{Store}
+use Rattle.batch_book.specs.declared.call.Call.{Call}
+use Rattle.batch_book.specs.declared.reply.Reply.{Reply}
+use Rattle.batch_book.specs.declared.unrecorded.Unrecorded.{Unrecorded}
+use Rattle.batch_book.specs.Answering.{IsReplyTo}
+use Rattle.batch_book.specs.History.{account, entry, has_book_room, IsGrown}
+use Rattle.batch_book.specs.Recording.{Applies}
+use Rattle.batch_book.proofs.Answering.{answered, sound}
+use Rattle.batch_book.proofs.Histories.{grown, is_answered}
+use Rattle.batch_book.proofs.Room.{lost_by, room_of}
 use Rattle.batch_book.proofs.Steps.{small_step}
 use Rattle.batch_book.proofs.book.Book.enter.Goals as goal
+use Rattle.batch_book.proofs.book.Book.enter.Goals.{in-Ok, in-Err}
+
+pub push-requires-clause-answers : goal.push-requires-clause-answers
+push-requires-clause-answers g c =
+    let inside = c.self.inside in
+    let shape : IsShape inside.holdings.store.shape = subst (λ (s : Store). IsShape s.shape) c.rack.ensures c.shape-shape.ensures.whole.within in
+    let fits = (answered inside.holdings c.args.session c.args.call c.in_ok-told.reply _ (sound inside.opening (g.H.History.pushed inside.history) inside.holdings shape c.self.invariant.replay) c.in_ok-told.ensures.step).fits in
+    let same : c.new.result ≡ c.args.call = c.new.ensures ∙ c.of-asked.ensures in
+    subst (λ (k : Call). IsReplyTo k c.of.result) (sym same) (subst (IsReplyTo c.args.call) (sym c.of.ensures) fits)
 
 pub invariant_of-self-2 : goal.invariant_of-self-2
 invariant_of-self-2 g c =
-    let es = c.self.inside.history.items in
-    let room : length es < MAX_ENTRIES = rw (← c.self.view_is) at c.requires.room in
-    let step = c.in_ok-told.ensures.step in
-    let reply = c.in_ok-told.reply in
-    let logged = (small_step c.self.inside.holdings c.args.session c.args.call reply _ step).logged in
-    let longer : c.list.new.log.items ≡ es ++ entry c.args.session c.args.call reply ∷ [] =
-    listed es c.reserve.new.self.items c.list.new.log.items c.args.session c.new.result c.args.call reply logged c.list.ensures c.in_ok-reserve.ensures.items (c.new.ensures ∙ c.of-asked.ensures) in
-    grown (account c.self.inside.opening es c.self.inside.holdings) c.args.session c.args.call reply _ _ c.self.invariant room longer step
+    let inside = c.self.inside in
+    let h = g.H.History in
+    let same : c.new.result ≡ c.args.call = c.new.ensures ∙ c.of-asked.ensures in
+    let longer : h.pushed c.push.new.self ≡ h.pushed inside.history ++ entry c.args.session c.args.call c.in_ok-told.reply ∷ [] =
+    c.push.ensures.pushed ∙ (λ i. c.draft.ensures.pushed i ++ entry c.args.session (same i) (c.of.ensures i) ∷ []) in
+    let room : has_book_room h.limited (account inside.opening (h.pushed inside.history) inside.holdings (h.whole inside.history)) ≡ true = rw (← c.self.view_is) at c.requires.room in
+    grown h.limited h.loses (account inside.opening (h.pushed inside.history) inside.holdings (h.whole inside.history)) c.args.session c.args.call c.in_ok-told.reply _ _ (h.whole c.push.new.self)
+    c.self.invariant (room_of _ _ room) longer c.in_ok-told.ensures.step (lost_by c.push.result (h.whole c.push.new.self) h.loses c.push.ensures.ok c.push.ensures.loses)
 
-pub returns-clause-grown : goal.returns-clause-grown
-returns-clause-grown g c =
-    let es = c.self.inside.history.items in
+pub returns-clause-step : goal.returns-clause-step
+returns-clause-step g c =
+    let inside = c.self.inside in
+    let h = g.H.History in
+    let same : c.new.result ≡ c.args.call = c.new.ensures ∙ c.of-asked.ensures in
+    let longer : h.pushed c.push.new.self ≡ h.pushed inside.history ++ entry c.args.session c.args.call c.in_ok-told.reply ∷ [] =
+    c.push.ensures.pushed ∙ (λ i. c.draft.ensures.pushed i ++ entry c.args.session (same i) (c.of.ensures i) ∷ []) in
+    let old = account inside.opening (h.pushed inside.history) inside.holdings (h.whole inside.history) in
+    let new = account inside.opening (h.pushed c.push.new.self) c.answer.new.self (h.whole c.push.new.self) in
     let step = c.in_ok-told.ensures.step in
-    let reply = c.in_ok-told.reply in
-    let logged = (small_step c.self.inside.holdings c.args.session c.args.call reply _ step).logged in
-    let longer : c.list.new.log.items ≡ es ++ entry c.args.session c.args.call reply ∷ [] =
-    listed es c.reserve.new.self.items c.list.new.log.items c.args.session c.new.result c.args.call reply logged c.list.ensures c.in_ok-reserve.ensures.items (c.new.ensures ∙ c.of-asked.ensures) in
-    rw (← c.self.view_is) (record { step = step; history = longer; opening = refl })
-
-pub returns-clause-logged : goal.returns-clause-logged
-returns-clause-logged g c = (small_step c.self.inside.holdings c.args.session c.args.call c.in_ok-told.reply _ c.in_ok-told.ensures.step).logged
+    let logged = (small_step inside.holdings c.args.session c.args.call c.in_ok-told.reply _ step).logged in
+    let was : h.whole inside.history ≡ true = rw (← c.self.view_is) at c.requires.whole in
+    let more : IsGrown old c.args.session c.args.call c.in_ok-told.reply new = record { step = step; history = longer; opening = refl } in
+    elim c.match-push.branch [
+      | in-Ok w ↦ subst (λ (x : Result (Result Reply Unrecorded) AllocError). IfOk x (λ made. Applies c.args.self.now c.args.session c.args.call made new)) (sym w.result-is)
+          (rw (← c.self.view_is) (is_answered old new c.args.session c.args.call c.in_ok-told.reply was w.in-Ok.ensures.ok logged more))
+      | in-Err w ↦ subst (λ (x : Result (Result Reply Unrecorded) AllocError). IfOk x (λ made. Applies c.args.self.now c.args.session c.args.call made new)) (sym w.result-is)
+          (rw (← c.self.view_is) (logged, was, w.in-Err.ensures.err, more))
+    ]

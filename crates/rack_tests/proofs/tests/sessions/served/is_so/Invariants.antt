@@ -1,7 +1,8 @@
+use Rattle.std.proofs.Common.{[]}
 use Rattle.rack_tests.proofs.tests.sessions.served.is_so.Given as goal
 
 abbrev pub ghosts-spend-L-ExchangeName : goal.ghosts-spend-L-ExchangeName
-ghosts-spend-L-ExchangeName g a = record { opening = a.rack }
+ghosts-spend-L-ExchangeName g a = record { opening = a.rack; earlier = [] }
 
 abbrev pub ghosts-spend-L-Ledger : goal.ghosts-spend-L-Ledger
 ghosts-spend-L-Ledger g a = record { name = a.blank.ledger.name; parts = a.blank.ledger.parts }

@@ -1,8 +1,0 @@
-use Rattle.std.proofs.Common.{rules}
-use Rattle.batch_book.proofs.book.Book.new.Goals as goal
-
-pub invariant_of-result : goal.invariant_of-result
-invariant_of-result c = search rules
-
-pub returns-clause-ok : goal.returns-clause-ok
-returns-clause-ok c = search rules

@@ -1,0 +1,56 @@
+//! A history that contracts alone see.
+
+ghost use Rattle.std.specs.Prelude.{◌≡◌, [], true, false};
+
+use crate::call::Call;
+use crate::entry::Entry;
+use crate::history::{History, Unwritten};
+use crate::past::PastEntries;
+use std::alloc::AllocError;
+
+/// Entries that go nowhere. They take no memory, and there may be any number of them.
+#[derive(Drop)]
+pub struct Silent {
+    /// The entries, which contracts alone see.
+    pub past: PastEntries,
+}
+
+impl Silent {
+    /// No entry.
+    pub fn new() -> Silent
+        ensures { result.past ≡ [] }
+    {
+        Silent {
+            past: PastEntries::none(),
+        }
+    }
+}
+
+impl History for Silent {
+    ghost pushed = { λ s. s.past };
+
+    ghost whole = { λ _. true };
+
+    ghost limited = { false };
+
+    ghost loses = { false };
+
+    ghost drafted = { λ _ _ _. Unit {0} };
+
+    fn is_whole(&self) -> bool {
+        true
+    }
+
+    fn has_room(&self) -> bool {
+        true
+    }
+
+    fn draft(&mut self, _session: usize, _call: &Call) -> Result<(), AllocError> {
+        Ok(())
+    }
+
+    fn push(&mut self, entry: Entry) -> Result<(), Unwritten> {
+        self.past.add(&entry);
+        Ok(())
+    }
+}

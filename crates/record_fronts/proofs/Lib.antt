@@ -1,0 +1,5 @@
+mod Feeds
+mod Replies
+pub mod Fronts
+mod Reading
+mod Heads

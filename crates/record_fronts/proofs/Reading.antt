@@ -1,0 +1,63 @@
+-- The last line of a record, and what the reader finds.
+use Rattle.std.proofs.Common.{◌≡◌, ℕ, ◌+◌, ◌<◌, List, [], ◌∷◌, ◌++◌, ◌==◌, length, get_or, take, drop, None, Some, get_or-take, length-take-le, refl, sym, ap, ◌∙◌, append_assoc, arith}
+use Rattle.std.specs.Fmt.{decimal}
+use Rattle.std.specs.Int.{IsInRange}
+use Rattle.std.proofs.lemmas.Fmt.{decimal_is_IsNumeral}
+use Rattle.std.specs.Prelude.{position}
+use Rattle.std.proofs.lemmas.List.{drop_more, get_or_append_left, get_or_at, get_or_default, length-append, take-append-drop}
+use Rattle.std.proofs.lemmas.Str.Parse.{digit_at}
+use Rattle.batch.proofs.Lines.{IsFirst, first_from_position, position_from_first}
+use Rattle.batch.proofs.Numbers.{form}
+use Rattle.client_session.specs.Bytes.{HasNoFeed}
+use Rattle.book_record.specs.Reading.{BeginsWithNoEntry}
+use Rattle.book_record.proofs.CallTexts.{one_behind, one_call}
+use Rattle.batch.specs.Text.{IsNumber, number, space, line_feed}
+use Rattle.batch_book.specs.Told.{PlanlessCall}
+use Rattle.book_record.specs.RecordText.{call_text, CanSay}
+use Rattle.record_fronts.specs.Fronts.{IsUnfinished}
+use Rattle.record_fronts.specs.Laws.{EndIsNoEntry}
+use Rattle.record_fronts.proofs.Fronts.{empty}
+
+first_digit : (s : ℕ) (z : List ℕ) → IsNumber s → 101 ≡ get_or (number s space ++ z) 0 0 → ⊥
+first_digit s z fits is =
+    let numeral = (decimal_is_IsNumeral s (omega (arith, fits))).0 in
+    let digit : IsInRange 48 57 (get_or (decimal s) 0 0) = digit_at (decimal s) 0 (form (decimal s) s fits refl).digits numeral.0 in
+    let at : get_or (number s space ++ z) 0 0 ≡ get_or (decimal s) 0 0 = ap (λ (l : List ℕ). get_or l 0 0) (append_assoc (decimal s) (space ∷ []) z) ∙ get_or_append_left (decimal s) (space ∷ z) 0 0 numeral.0 in
+    omega (arith, is, at, digit)
+
+pub end_is_no_entry : EndIsNoEntry
+end_is_no_entry [] missing same = empty
+end_is_no_entry (b ∷ front) missing same =
+    λ s call line rest fits say none is.
+    let first : 101 ≡ b = cc in
+    first_digit s (call_text call ++ (line ++ line_feed ∷ rest)) fits (first ∙ ap (λ (l : List ℕ). get_or l 0 0) is)
+
+-- ---- what the reader finds
+
+pub no_entry : (text : List ℕ) → BeginsWithNoEntry text → IsUnfinished text
+no_entry text none s call line rest fits say no_feed is = none s call (line ++ line_feed ∷ rest) fits say is
+
+first_in : (w y : List ℕ) → HasNoFeed w → IsFirst (w ++ line_feed ∷ y) line_feed (length w)
+first_in w y none = record {
+  within = omega (arith, length-append w (line_feed ∷ y));
+  here = get_or_at w line_feed y 0 (length w) refl;
+  before = λ k less same. none k 0 less (sym (get_or_append_left w (line_feed ∷ y) 0 k less) ∙ same);
+}
+
+-- where no line feed stands behind the call, no whole entry stands there
+pub no_line : (text replied : List ℕ) (s : ℕ) (c : PlanlessCall) → IsNumber s → CanSay c → text ≡ number s space ++ (call_text c ++ replied) → position (λ b. b == line_feed) replied ≡ None → IsUnfinished text
+no_line text replied s c fits say read none t d line rest ft sd no_feed is =
+    let first = one_behind [] s t _ _ fits ft (sym read ∙ is) in
+    let second = one_call c d _ _ say sd first.1 in
+    let there : position (λ b. b == line_feed) replied ≡ Some (length line) = ap (position (λ b. b == line_feed)) second.1 ∙ position_from_first (line ++ line_feed ∷ rest) line_feed (length line) (first_in line rest no_feed) in
+    absurd cc
+
+-- the line behind the call, and what stands behind it
+pub its_end : (replied : List ℕ) (i : ℕ) → position (λ b. b == line_feed) replied ≡ Some i → (i < length replied) × HasNoFeed (take i replied) × (replied ≡ take i replied ++ line_feed ∷ drop (i + 1) replied)
+its_end replied i is =
+    let f = first_from_position replied line_feed i is in
+    let tail : drop i replied ≡ line_feed ∷ drop (i + 1) replied = drop_more replied i 0 f.within ∙ ap (λ (b : ℕ). b ∷ drop (i + 1) replied) f.here in (
+      f.within,
+      (λ k d less same. f.before k (omega (arith, less, length-take-le i replied (omega (arith, f.within)))) (sym (get_or-take i replied k 0 (omega (arith, less, length-take-le i replied (omega (arith, f.within))))) ∙ get_or_default (take i replied) k 0 d less ∙ same)),
+      sym (take-append-drop i replied) ∙ ap (λ (l : List ℕ). take i replied ++ l) tail,
+    )

@@ -1,0 +1,67 @@
+-- What is read of a text that was cut leads where a front of its history leads.
+use Rattle.std.proofs.Common.{◌≡◌, ℕ, List, [], ◌∷◌, ◌++◌, length, map, refl, sym, ap, ◌∙◌, append_assoc, append-nil, subst, arith}
+use Rattle.std.specs.List.{flat_map}
+use Rattle.std.proofs.lemmas.Grind.{flat_map-append}
+use Rattle.std.proofs.lemmas.List.{length-append, length-map, nil_from_length}
+use Rattle.std.proofs.lemmas.List.Elements.{All-append}
+use Rattle.module_memory.specs.Store.{Store, HasAllBlocks}
+use Rattle.batch_book.specs.declared.entry.Entry.{Entry}
+use Rattle.batch_book.specs.History.{IsReplay}
+use Rattle.batch_book.specs.Machine.{Machine, opened}
+use Rattle.book_record.specs.RecordText.{entry_text, CanTell}
+use Rattle.book_record.specs.Untold.{told_entry}
+use Rattle.book_record.proofs.Records.{fit_at_first, goes_on}
+use Rattle.record_fronts.specs.Fronts.{IsReadAs, lined}
+use Rattle.record_fronts.proofs.Fronts.{one_reading, each_front}
+use Rattle.record_replay.specs.ResumeLaws.{LeadsToFront, CutIsResumed, StreamIsResumed}
+
+-- where two lists follow each other, the first leads to a machine from which the second goes on
+replay_split : (m : Machine) (es fs : List Entry) (n : Machine) → IsReplay m (es ++ fs) n → (k : Machine) × IsReplay m es k × IsReplay k fs n
+replay_split m [] fs n led = (m, refl, led)
+replay_split m (e ∷ es) fs n led =
+    let rest = replay_split led.0 es fs n led.2 in
+    (rest.0, (led.0, led.1, rest.1), rest.2)
+
+same_length : (es fs : List Entry) → map lined es ≡ map lined fs → length es ≡ length fs
+same_length es fs same = sym (length-map es lined) ∙ ap length same ∙ length-map fs lined
+
+-- two readings of one text: of the one it is known that it is a front of a legal history
+at_front : (opening : Store) (es fs whole more : List Entry) (end n : Machine) (text x y : List ℕ) → HasAllBlocks opening → es ≡ whole ++ more → IsReplay (opened opening) es end
+    → IsReadAs text whole x → IsReadAs text fs y → IsReplay (opened opening) fs n → (l : LeadsToFront opening es fs n) × (l.front ≡ whole)
+at_front opening es fs whole more end n text x y all are led known read too =
+    let one = one_reading text fs whole y x read known in
+    let len = same_length fs whole one.0 in
+    let part = replay_split (opened opening) whole more end (subst (λ (l : List Entry). IsReplay (opened opening) l end) are led) in
+    let fit = fit_at_first opening all in
+    let go = goes_on (opened opening) (opened opening) fs whole y x n part.0 refl fit fit read.each known.each too part.1 (omega (arith, len)) (sym read.front ∙ known.front) in
+    let none : go.more ≡ [] = nil_from_length go.more (omega (arith, len, go.counted, ap length go.list, length-append go.front go.more)) in
+    let all_of : go.front ≡ whole = sym (append-nil go.front) ∙ ap (λ (l : List Entry). go.front ++ l) (sym none) ∙ sym go.list in
+    let mid : part.0 ≡ go.mid = subst (λ (l : List Entry). IsReplay go.mid l part.0) none go.replay in (
+      record {
+        front = whole;
+        more = more;
+        are = are;
+        mid = part.0;
+        led = part.1;
+        same = go.same ∙ ap (map told_entry) all_of;
+        store = ap (λ (m : Machine). m.store) go.alike ∙ ap (λ (m : Machine). m.store) (sym mid);
+      },
+      refl,
+    )
+
+pub cut_is_resumed : CutIsResumed
+cut_is_resumed opening es fs end n text missing rest all each led cut read too =
+    let c = each_front es text missing each cut in
+    (at_front opening es fs c.whole c.more end n text c.rest rest all c.are led c.read read too).0
+
+pub stream_is_resumed : StreamIsResumed
+stream_is_resumed opening told later fs end n text behind missing rest all told_can later_can led is cut read too =
+    let c = each_front later behind missing later_can cut in
+    let known : IsReadAs text (told ++ c.whole) c.rest = record {
+      front = is ∙ ap (λ (l : List ℕ). flat_map entry_text told ++ l) c.read.front ∙ sym (append_assoc (flat_map entry_text told) (flat_map entry_text c.whole) c.rest)
+          ∙ ap (λ (l : List ℕ). l ++ c.rest) (sym (flat_map-append entry_text told c.whole));
+      each = All-append CanTell told c.whole told_can c.read.each;
+      unfinished = c.read.unfinished;
+    } in
+    let l = at_front opening (told ++ later) fs (told ++ c.whole) c.more end n text c.rest rest all (ap (λ (x : List Entry). told ++ x) c.are ∙ sym (append_assoc told c.whole c.more)) led known read too in
+    (l.0, omega (arith, ap length l.1, length-append told c.whole))
