@@ -610,7 +610,7 @@ def left_by_another():
         for make in [Pipes, Pty] if count % 20 == 0 else [Pipes]:
             chip = Far(make("port"), left=(first + second)[:count], old=old)
             yield (count, drive(THREE, "port", "--go-on")), (count, all_driven(lines_for(THREE)))
-            yield chip.heard(), (first + second, [])
+            yield chip.heard()[0], first + second
             put_away("port")
 
 
@@ -634,7 +634,7 @@ def two_left():
     for count in range(0, len(wanted[0][0]), 7):
         chips = [Far(Pipes(f"port{n}"), left=b"".join(wanted[n])[: count + n], old=bytes([0x91] * ((count + 5 * n) % 31))) for n in range(2)]
         yield (count, drive(batch, "port0", "port1", "--go-on")), (count, all_driven(lines_for(batch)))
-        yield [chip.heard() for chip in chips], [(b"".join(sent), []) for sent in wanted]
+        yield [chip.heard()[0] for chip in chips], [b"".join(sent) for sent in wanted]
         put_away("port0", "port1")
 
 
@@ -643,7 +643,7 @@ def too_many_left():
     for old in bytes(32), b"\x05" * 40, b"\x9f\xff" * 16:
         chip = Far(Pipes("port"), old=old)
         yield drive(THREE, "port", "--go-on"), stopped(THREE, 0, "port")
-        yield chip.heard(), (WOKEN, [])
+        yield WOKEN.startswith(chip.heard()[0]), True
         put_away("port")
 
 
