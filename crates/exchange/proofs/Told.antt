@@ -131,7 +131,7 @@ pub not_answered : {E : Type 0} (r : Result ℕ E) (named : Named) (keeps : Job 
     → IfOk r (IsDone named keeps given request (streams_of out_before has eb ea))
 not_answered (Ok status) named keeps given request told why line out_before out_after has eb em ea first none kept note beside then said = (
   record { told = told; end = unanswered why; left = None; ports = given.ports; ends = [] },
-  inr (none, refl, refl, (why, refl)),
+  inr (none, refl, refl, refl, (why, refl)),
   kept,
   record { text = Appends-trans out_before out_after has told (unanswered why).text first then.text; status = then.status },
   noted request (unanswered why) (bytes_of_line line) eb em ea note beside said,
@@ -178,7 +178,7 @@ pub refused_in_part : {E : Type 0} (r : Result ℕ E) (named : Named) (ports : W
 refused_in_part (Ok status) named ports ends arguments given request told why before mid after ask first none cut = tt
 refused_in_part (Err e) named ports ends arguments given request told why before mid after ask first none cut =
     let response : Response = record { told = told; end = unanswered why; left = None; ports = given.ports; ends = [] } in
-    (Ok request, ask, tt, inl (response, inr (none.0, refl, refl, (why, refl)), (sym none.1, sym none.2), printed_in_part before mid after told (unanswered why).text first cut))
+    (Ok request, ask, tt, inl (response, inr (none.0, refl, refl, refl, (why, refl)), (sym none.1, sym none.2), printed_in_part before mid after told (unanswered why).text first cut))
 
 -- the end for a request
 pub asked : {E : Type 0} (r : Result ℕ E) (named : Named) (keeps : Job → Response → Type 0) (none : Type 0) (arguments : List (List ℕ)) (given : Given) (request : Request) (streams : Streams) → AskFor arguments request → IfOk r (IsDone named keeps given request streams) → IfOk r (IsEndForArguments named keeps none arguments given streams)

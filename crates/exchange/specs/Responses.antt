@@ -198,10 +198,11 @@ abbrev pub named_by : Holding → Leading → Named
 named_by holds leads = record { holds = holds; leads = leads }
 
 -- The answer to a job, and then what it writes was seen to be apart from what it reads; or why
--- there is none, behind what was told before, and then no port was opened, and no end of a session
--- is known.
+-- there is none, behind what was told before, and then no port was opened, no end of a session is
+-- known, and no book is left.
 abbrev pub IsResponseTo : Named → Given → Job → Response → Type 0
 IsResponseTo named given job response =
     (AreSeenApart named.leads (file_uses job) × IsJobAnswer named.holds given job response)
     ⊎ (IsJobInVain named.holds given job response.told × (response.ports ≡ given.ports)
-    × (response.ends ≡ []) × ((why : Unanswered) × (response.end ≡ unanswered why)))
+    × (response.ends ≡ []) × (response.left ≡ None)
+    × ((why : Unanswered) × (response.end ≡ unanswered why)))

@@ -10,16 +10,16 @@ use std::alloc::Global;
 use std::fs::File;
 use std::io;
 
-/// What opens the files of clients, in the thread of each.
+/// What opens the files of clients, in the thread of each, once all threads are there.
 pub trait ClientFiles: Sync {
     /// What has gone to the file of this name before it is opened.
     ghost had: { Self → List ℕ → List ℕ };
 
     /// Opens the file from which a client is heard.
-    fn open_heard(&self, name: &str) -> io::Result<File>;
+    fn open_heard(&self, there: &AllThere, name: &str) -> io::Result<File>;
 
     /// Opens the file by which a client is told: it is made where it isn't there, and emptied.
-    fn open_told(&self, name: &str) -> io::Result<SentFile>
+    fn open_told(&self, there: &AllThere, name: &str) -> io::Result<SentFile>
         ensures { IfOk result (λ told. told.sent ≡ had self.now name.now) };
 }
 
@@ -58,12 +58,12 @@ impl<'a, S: ClientFiles> ClientStreams for FileStreams<'a, S> {
     }
 
     // What the client says is opened first.
-    fn open(&self, _there: AllThere, client: usize) -> io::Result<(File, SentFile)> {
+    fn open(&self, there: AllThere, client: usize) -> io::Result<(File, SentFile)> {
         let name = self.name(client);
         let said = format!(in self.alloc; "{name}.in")?;
         let told = format!(in self.alloc; "{name}.out")?;
-        let reader = self.system.open_heard(said.as_str())?;
-        let writer = self.system.open_told(told.as_str())?;
+        let reader = self.system.open_heard(&there, said.as_str())?;
+        let writer = self.system.open_told(&there, told.as_str())?;
         Ok((reader, writer))
     }
 

@@ -4,6 +4,7 @@ use crate::client_streams::ClientFiles;
 use crate::sent_file::SentFile;
 use crate::system::System;
 use contract_data::PassedBytes;
+use session_answers::AllThere;
 use std::fs::{File, OpenOptions};
 use std::{fs, io};
 
@@ -46,11 +47,11 @@ impl ClientFiles for HostRuntime {
 
     ghost had = { λ _ _. [] };
 
-    fn open_heard(&self, name: &str) -> io::Result<File> {
+    fn open_heard(&self, _there: &AllThere, name: &str) -> io::Result<File> {
         File::open(self, name)
     }
 
-    fn open_told(&self, name: &str) -> io::Result<SentFile> {
+    fn open_told(&self, _there: &AllThere, name: &str) -> io::Result<SentFile> {
         let file = OpenOptions::new()
             .write(true)
             .create(true)

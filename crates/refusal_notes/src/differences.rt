@@ -16,6 +16,9 @@ const _: () = prove!(MAX_DIGITS == 9);
 /// What is wanted where a number is: no byte of a form's words.
 const NUMBER: u8 = b'N';
 
+/// What is wanted where a word of memory or its address is: no byte of a form's words.
+const HEX: u8 = b'H';
+
 /// What is wanted behind a form.
 const LINE_END: u8 = b'\n';
 
@@ -25,7 +28,7 @@ pub(crate) enum Difference<'a> {
     /// It begins a text of moves, in the place of a batch.
     Moves,
     /// At this byte, counted from 1, it stops being of the form: what is wanted there, a byte,
-    /// [`NUMBER`] or [`LINE_END`], and what stands from there on.
+    /// [`NUMBER`], [`HEX`] or [`LINE_END`], and what stands from there on.
     Stops(usize, u8, &'a [u8]),
     /// It has a link of the switch that a line above has, of this number, or itself.
     Taken(usize, usize),
@@ -55,8 +58,21 @@ fn behind_number(line: &[u8]) -> Result<&[u8], (u8, &[u8])> {
     }
 }
 
+/// What stands behind a space and eight hexadecimal digits; or what a line hasn't of them.
+fn behind_hex8(line: &[u8]) -> Result<&[u8], (u8, &[u8])> {
+    let rest = behind_word(line, b" ")?;
+    let end = rest
+        .iter()
+        .position(|b| !b.is_ascii_digit() && !(*b >= b'a' && *b <= b'f'));
+    let (digits, behind) = rest.split_at(end.unwrap_or(rest.len()));
+    match digits.len() {
+        8 => Ok(behind),
+        _ => Err((HEX, rest)),
+    }
+}
+
 /// Where a line stops being of a form, if it does: what is wanted there, and what stands. A word of
-/// one letter is a number there, and `U ..` are any more.
+/// one letter is a number there, an `h` eight hexadecimal digits, and `U ..` are any more.
 fn stop_of<'a>(line: &'a [u8], form: &str) -> Result<(), (u8, &'a [u8])> {
     let (front, most) = match form.strip_suffix(" U ..") {
         Some(front) => (front, line.len()),
@@ -65,6 +81,7 @@ fn stop_of<'a>(line: &'a [u8], form: &str) -> Result<(), (u8, &'a [u8])> {
     let mut rest = line;
     for (k, word) in front.as_bytes().split(|b| *b == b' ').enumerate() {
         rest = match word {
+            [b'h'] => behind_hex8(rest)?,
             [letter] if letter.is_ascii_alphabetic() => behind_number(rest)?,
             _ if k == 0 => behind_word(rest, word)?,
             _ => behind_word(behind_word(rest, b" ")?, word)?,
@@ -147,6 +164,7 @@ fn write_stop<W: Write>(f: &mut Formatter<W>, piece: u8, rest: &[u8]) -> fmt::Re
         (NUMBER, [b'0', ..]) => return f.write_str("a number has a leading zero"),
         (NUMBER, [b'1'..=b'9', ..]) => return f.write_str("a number has more than nine digits"),
         (_, [b'\r']) => return f.write_str("a carriage return stands before the line's end"),
+        (HEX, [_, ..]) => return f.write_str("eight digits 0 to 9 and a to f have to stand"),
         (_, []) => f.write_str("the line's end")?,
         (_, [b'\t', ..]) => f.write_str("a tab")?,
         (_, [b'\r', ..]) => f.write_str("a carriage return")?,
@@ -157,6 +175,7 @@ fn write_stop<W: Write>(f: &mut Formatter<W>, piece: u8, rest: &[u8]) -> fmt::Re
     }
     match piece {
         NUMBER => f.write_str(" stands where a number has to"),
+        HEX => f.write_str(" stands where eight digits have to"),
         b' ' => f.write_str(" stands where a space has to"),
         LINE_END => f.write_str(" stands where the line's end has to"),
         _ => write!(f, " stands where {} has to", Quote::of(&[piece])),

@@ -59,7 +59,7 @@ pub fn session_line<'a>(
 
 /// The line that is told on standard error of a file that can't be read, or opened, for this
 /// reason, without the system's number for it; none where there is no memory for the line. Of a
-/// name that is a rack's shape it is told that the shape comes first.
+/// name that is a rack's shape it is told that a shape comes first, where there is one.
 pub fn file_line(alloc: Global, name: &str, reason: &str) -> Option<String>
     ensures { IfSome result (λ text. (words : List ℕ) × (string_bytes text ≡ line_told words)) }
 {
@@ -69,7 +69,7 @@ pub fn file_line(alloc: Global, name: &str, reason: &str) -> Option<String>
         None => reason,
     };
     let hint = match Shape::read(name.as_bytes()) {
-        Ok(_) => "; a shape stands before the files",
+        Ok(_) => "; where a command takes a shape, that stands before the files",
         Err(_) => "",
     };
     let words = format!(in alloc; "{named}: {reason}{hint}").ok()?;

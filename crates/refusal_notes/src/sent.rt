@@ -1,8 +1,10 @@
 //! What is told of a line of a session.
 
+use crate::differences::Difference;
 use crate::lines::line_at;
 use crate::quote::Quote;
 use crate::told::Note;
+use crate::wanted::Wanted;
 use crate::words::Numbered;
 use batch::Shape;
 use module_memory::{MemoryFault, WINDOW_START, WORD_BYTES};
@@ -32,10 +34,7 @@ pub(crate) fn write_sent<W: Write>(f: &mut Formatter<W>, note: Note<'_>) -> fmt:
         Refusal::Line if line == b"quit".as_slice() => {
             f.write_str("isn't a line of a session; \"bye\" ends it")
         }
-        Refusal::Line => write!(
-            f,
-            "isn't a line of a session: {LINES}, where {LETTERS}: {RULES}"
-        ),
+        Refusal::Line => write_unread(f, note.texts.list.text),
         Refusal::Memory(fault) => write_memory(f, fault, note.texts.rack()),
         refusal => f.write_str(match refusal {
             Refusal::Unknown =>
@@ -50,6 +49,17 @@ pub(crate) fn write_sent<W: Write>(f: &mut Formatter<W>, note: Note<'_>) -> fmt:
                 "is one call too many for the exchange; end the session, and start another exchange",
         }),
     }
+}
+
+/// Writes the first thing by which a line differs from those of a session, unless that is its first
+/// byte, and which these are.
+fn write_unread<W: Write>(f: &mut Formatter<W>, text: &[u8]) -> fmt::Result {
+    f.write_str("isn't a line of a session: ")?;
+    match Difference::of(text, 1, Wanted::Sent) {
+        Some(Difference::Stops(1, ..)) | None => {}
+        Some(difference) => write!(f, "{difference}; the lines are ")?,
+    }
+    write!(f, "{LINES}, where {LETTERS}: {RULES}")
 }
 
 /// Writes why no word is at an address of this rack.

@@ -39,6 +39,8 @@ pub(crate) enum Wanted<'a> {
     Reply(usize, Quote<'a>),
     /// The end of a record.
     RecordEnd,
+    /// A line of a session.
+    Sent,
 }
 
 impl<'a> Wanted<'a> {
@@ -58,7 +60,8 @@ impl<'a> Wanted<'a> {
     }
 
     /// Its forms, each in quotation marks, and what they say; none where it is told otherwise. In a
-    /// form a word of one letter is a number, and `U ..` at its end are any more.
+    /// form a word of one letter is a number, an `h` eight hexadecimal digits, and `U ..` at its end are
+    /// any more.
     pub(crate) fn form(self) -> Option<&'static str> {
         Some(match self {
             Wanted::Head(Listing::Transfers) => "\"batch N\", where N counts the transfers",
@@ -78,6 +81,9 @@ impl<'a> Wanted<'a> {
             }
             Wanted::Named => "\"named T U ..\", where T, U .. are transfers, one at least",
             Wanted::RecordHead => "\"record N\", where N counts the entries, at most 65536",
+            Wanted::Sent => {
+                "\"batch N\", \"plan N\", \"run N\", \"show N\", \"drop N\", \"peek M h\", \"poke M h h\", \"progress\", \"bye\""
+            }
             Wanted::End | Wanted::Call(_) | Wanted::Reply(..) | Wanted::RecordEnd => return None,
         })
     }
