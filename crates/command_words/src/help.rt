@@ -653,7 +653,7 @@ pub(crate) fn help_on(argument: Argument) -> &'static str {
         Argument::GoOn => "Wait for no line of standard input behind a setting",
         Argument::Workers => "\
 How many workers there may be, from 1 to 64. Any number gives the
-same answer; one is quickest, since no wire of this program waits",
+same answer; one is mostly quickest",
         Argument::Quiet => "Tell nothing on standard error beside a refusal",
     }
 }
