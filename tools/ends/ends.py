@@ -369,7 +369,7 @@ def no_line_comes():
     yield process.stdout.readline(), b"setting 0 0 2\n"
     yield chip.sent_by_now(first), first
     for _ in range(20):
-        process.stdin.write(b"no line feed " * 200)
+        process.stdin.write(b"no line feed " * 2000)
         process.stdin.flush()
         time.sleep(0.1)
         yield bytes(chip.sent), first
