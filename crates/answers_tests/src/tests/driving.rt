@@ -120,19 +120,15 @@ fn push_waking(steps: &mut Vec<Step>, old: &[u8]) -> Result<(), AllocError> {
             steps.push(Step::Sent(byte))?;
         }
     }
-    let mut due = 0;
+    let ahead = old.len().min(OUTPUTS as usize) as u8;
     for output in 0..OUTPUTS {
         steps.push(Step::Sent(2))?;
         steps.push(Step::Sent(output))?;
-        match old.get(output as usize) {
-            Some(byte) => steps.push(Step::Heard(*byte))?,
-            None => {
-                steps.push(Step::Heard(0x80 | due))?;
-                due += 1;
-            }
-        }
+        let own = 0x80 | output.saturating_sub(ahead);
+        let heard = old.get(output as usize).copied().unwrap_or(own);
+        steps.push(Step::Heard(heard))?;
     }
-    for output in due..OUTPUTS {
+    for output in OUTPUTS.saturating_sub(ahead)..OUTPUTS {
         steps.push(Step::Heard(0x80 | output))?;
     }
     Ok(())
