@@ -1,7 +1,7 @@
 #!/usr/bin/env python3
 """An emulator of sixteen modules, whose memories are bytearrays. They share a grid of 16 by 16 cells, on which a fire spreads.
 
-Each has 4 by 4 of the cells. In each step the modules push their outer cells to their neighbours, by a plan that is made once, and then
+Each has 4 by 4 of the cells. In each step the modules push their outer cells to their neighbours, by orders that are made once, and then
 each goes on by itself. What the pushes bring is compared with plain copying. docs/EMULATORS.md says how to run it.
 """
 
@@ -27,14 +27,21 @@ def neighbours(module):
             yield way, SIDE * r + c
 
 
-def move(modules, transfers, settings):
-    """Moves the blocks setting by setting, each as it was before."""
-    before = [bytes(memory) for memory in modules]
-    for setting in settings:
-        # Here an emulator sets its switch. All transfers of a setting may move at once.
-        for number in setting:
-            (m, b), (n, c) = transfers[number].source, transfers[number].destination
-            modules[n][BLOCKS[c]] = before[m][BLOCKS[b]]
+def move(modules, orders, settings):
+    """Has each setting set, and has the modules obey their orders of it: all of them send, and then all of them receive."""
+    aside = {(told.module, block): bytes(modules[told.module][BLOCKS[block]]) for told in orders for block in told.copies}
+    for setting, (sent,) in enumerate(settings):
+        switch.take(sent)
+        obeyed = [(told.module, told.module if order.link == 0 else 16 + told.module, order) for told in orders for order in told.settings[setting]]
+        wires = {}
+        for module, link, order in obeyed:
+            if order.act == "send block":
+                wires[link] = bytes(modules[module][BLOCKS[order.block]])
+            elif order.act == "send copy":
+                wires[link] = aside[module, order.block]
+        for module, link, order in obeyed:
+            if order.act == "receive block":
+                modules[module][BLOCKS[order.block]] = wires[switch.source(link)]
 
 
 def is_as_copied(modules):
@@ -58,13 +65,14 @@ modules = [bytearray(CELLS.stop) for _ in range(SIDE * SIDE)]
 modules[10][CELLS.start] = 1
 transfers = [exchange.Transfer("push", m, way, n, 4 + (way + 2) % 4) for m in range(SIDE * SIDE) for way, n in neighbours(m)]
 batch = exchange.batch_text(transfers)
-settings = exchange.settings(exchange.plan(batch))
+plan = exchange.plan(batch)
+orders, settings, switch = exchange.orders(batch, plan), exchange.switch_bytes(batch, plan), exchange.C004()
 print(f"{len(transfers)} transfers in {len(settings)} settings")
 for step in range(1, STEPS + 1):
     for memory in modules:
         for way in range(4):
             memory[BLOCKS[way]] = memory[CELLS][OUTER[way]]
-    move(modules, transfers, settings)
+    move(modules, orders, settings)
     if not is_as_copied(modules):
         sys.exit(f"step {step}: WRONG")
     for memory in modules:
