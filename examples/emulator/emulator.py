@@ -18,6 +18,9 @@ BLOCKS = [slice(SIDE * block, SIDE * block + SIDE) for block in range(8)]
 CELLS = slice(8 * SIDE, 8 * SIDE + SIDE * SIDE)
 OUTER = [slice(0, 4), slice(3, 16, 4), slice(12, 16), slice(0, 16, 4)]
 
+# Link 0 of module m is on link m of the switch, and link 3 on link 16 + m.
+FIRST = {0: 0, 3: 16}
+
 
 def neighbours(module):
     """The neighbours of a module, each behind the way there: 0 is north, 1 east, 2 south, 3 west."""
@@ -32,16 +35,15 @@ def move(modules, orders, settings):
     aside = {(told.module, block): bytes(modules[told.module][BLOCKS[block]]) for told in orders for block in told.copies}
     for setting, (sent,) in enumerate(settings):
         switch.take(sent)
-        obeyed = [(told.module, told.module if order.link == 0 else 16 + told.module, order) for told in orders for order in told.settings[setting]]
-        wires = {}
-        for module, link, order in obeyed:
-            if order.act == "send block":
-                wires[link] = bytes(modules[module][BLOCKS[order.block]])
-            elif order.act == "send copy":
-                wires[link] = aside[module, order.block]
-        for module, link, order in obeyed:
-            if order.act == "receive block":
-                modules[module][BLOCKS[order.block]] = wires[switch.source(link)]
+        wires, obeyed = {}, [(told.module, order) for told in orders for order in told.settings[setting]]
+        for module, (link, act, block) in obeyed:
+            if act == "send block":
+                wires[FIRST[link] + module] = bytes(modules[module][BLOCKS[block]])
+            elif act == "send copy":
+                wires[FIRST[link] + module] = aside[module, block]
+        for module, (link, act, block) in obeyed:
+            if act == "receive block":
+                modules[module][BLOCKS[block]] = wires[switch.source(FIRST[link] + module)]
 
 
 def is_as_copied(modules):

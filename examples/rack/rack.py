@@ -11,6 +11,7 @@ program is `exchange` on the PATH, or the one that EXCHANGE names.
 
 import argparse
 import os
+import shutil
 import socket
 import subprocess
 import sys
@@ -19,7 +20,7 @@ import tempfile
 import exchange
 
 HERE = os.path.dirname(os.path.realpath(__file__))
-PROGRAM = os.path.abspath(os.environ["EXCHANGE"]) if os.environ.get("EXCHANGE") else "exchange"
+PROGRAM = os.path.abspath(os.environ.get("EXCHANGE") or shutil.which("exchange") or "exchange")
 
 
 def read(path):
