@@ -41,11 +41,19 @@ class Module:
         """Moves the words of one order. Whoever sends waits until the other end has taken them, as on a real link."""
         link = self.links[order.link]
         if order.act == "receive block":
-            self.memory[order.block] = link.recv(self.size, socket.MSG_WAITALL)
+            self.memory[order.block] = take(link, self.size)
             link.sendall(ACKNOWLEDGE)
         else:
             link.sendall(self.aside[order.block] if order.act == "send copy" else self.memory[order.block])
-            link.recv(1)
+            take(link, len(ACKNOWLEDGE))
+
+
+def take(link, count):
+    """So many bytes that come over a link."""
+    taken = link.recv(count, socket.MSG_WAITALL)
+    if len(taken) < count:
+        raise EOFError("module.py: the link has ended")
+    return taken
 
 
 def main():

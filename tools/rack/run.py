@@ -62,14 +62,11 @@ CASES = [
     ("pulls", "3x4x2", PULLS, []),
     ("two switches", "17x2x2", read("wide-rack.txt"), []),
     ("no transfers", "2x1x1", "batch 0\n", []),
+    ("no ring, links in turn", "3x2x2", read("three-transfers.txt"), ["--in-turn"]),
 ]
 
-# Each case with links in turn: its name, the shape, the batch, the schedule, and whether it hangs.
-IN_TURN = [
-    ("a ring", "4x1x16", RING, [], True),
-    ("a transfer within a module", "2x4x2", WITHIN, [], True),
-    ("no ring", "3x2x2", read("three-transfers.txt"), APART, False),
-]
+# What hangs with links in turn.
+RINGS = [("a ring", "4x1x16", RING), ("a transfer within a module", "2x4x2", WITHIN)]
 
 wrong = []
 
@@ -114,18 +111,13 @@ class Racks:
         Path("left").unlink(missing_ok=True)
         expect(what, run.returncode == 0 and left == applied and told.endswith("as exchange apply\n"), f"{case}\n{told}")
 
-    def hangs(self, what, *case):
-        """Whether a rack whose links move in turn says nothing more behind a setting."""
-        run = self.start([*self.write(what, *case), "--in-turn"])
+    def hangs(self, what, shape, batch):
+        """Notes whether a rack whose links move in turn says nothing behind its only setting."""
+        run = self.start(self.write(what, shape, batch, ["--in-turn"]))
         told = run.stdout.readline()
-        while told and select.select([run.stdout], [], [], SILENCE)[0]:
-            line = os.read(run.stdout.fileno(), 4096)
-            if not line:
-                break
-            told += line
-        is_silent = told.count(b"\n") == 1 and run.poll() is None
+        is_silent = not select.select([run.stdout], [], [], SILENCE)[0]
         stop(run)
-        return is_silent
+        expect(f"it hangs: {what}, links in turn", told.startswith(b"setting 0 ") and is_silent, told)
 
     def refuses(self, what, line, *case):
         """Notes whether the rack isn't started, and says this."""
@@ -157,11 +149,11 @@ def try_all(racks, count):
         racks.is_moved(*case)
     for number in range(count):
         racks.is_moved(f"random batch {number}", *random_case(random.Random(f"rack {number}")))
-    for what, *case, wanted in IN_TURN:
-        expect(f"links in turn: {what}", racks.hangs(what, *case) == wanted, f"wanted to hang: {wanted}")
+    for ring in RINGS:
+        racks.hangs(*ring)
     racks.refuses("two transfers that write one block", "refused overlap 0 1", "3x1x1", "batch 2\npush 0 0 1 0\npush 2 0 1 0\n", [])
     racks.refuses("no schedule of the batch", "refused check missing 1", "2x1x1", read("swap.txt"), "settings 1\nsetting 0\n")
-    print(f"rack of processes: {len(CASES) + len(IN_TURN) + 2 + count} tried, {len(wrong)} wrong")
+    print(f"rack of processes: {len(CASES) + len(RINGS) + 2 + count} tried, {len(wrong)} wrong")
 
 
 def main():
