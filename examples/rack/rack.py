@@ -4,7 +4,7 @@ carries the two words that a setting needs: to all modules that it stands, and t
 
     rack.py SHAPE BATCH IMAGE [--steady | --schedule FILE] [--image-out FILE] [--in-turn]
 
-Without an option all go by the plan. In the end the words of all modules are compared with those that `apply` leaves. With --in-turn each
+Without an option all go by the plan, which is made once. In the end the words of all modules are compared with those that `apply` leaves. With --in-turn each
 module does what it is told for link 0, and then what it is told for link 3: that hangs in a ring. docs/ORDERS.md says how to run it. The
 program is `exchange` on the PATH, or the one that EXCHANGE names.
 """
@@ -38,49 +38,45 @@ def keep(name, text):
 class Rack:
     """The processes, which have their files in this folder."""
 
-    def __init__(self, shape, batch, schedule, image, in_turn):
-        files, self.started = [keep("batch", batch), keep("schedule", schedule), keep("image", image)], []
-        is_wide = any(max(it.initiator, it.responder) > 15 for it in exchange.transfers(batch.decode()))
-        ports = ["a", "b"] if is_wide else ["board"]
-        for port in ports:
-            os.mkfifo(f"{port}.in")
-            os.mkfifo(f"{port}.out")
-        # Each link is a pair of sockets, whose other end is at the switch.
-        links = [[socket.socketpair() for _ in (0, 3)] for _ in range(int(shape.split("x")[0]))]
-        self.start([f"{HERE}/switch.py", *ports], [far for pairs in links for _, far in pairs])
-        self.modules = [
-            self.start([f"{HERE}/module.py", str(m), shape, *files, *["--in-turn"] * in_turn], [near for near, _ in pairs])
-            for m, pairs in enumerate(links)
-        ]
-        for near, far in sum(links, []):
-            near.close()
-            far.close()
-        self.drive = self.start([PROGRAM, "drive", "batch", *ports, "--schedule", "schedule"], [])
+    def __init__(self):
+        self.started, self.modules, self.drive = [], [], None
 
-    def start(self, words, links):
-        """Starts a program, which is given the numbers of its sockets."""
+    def start(self, *words, links=()):
+        """Starts a program, whose last words are the numbers of its links, if it has any."""
         numbers = [link.fileno() for link in links]
-        if words[0].endswith(".py"):
-            words = [sys.executable, *words, *map(str, numbers)]
-        process = subprocess.Popen(words, stdin=subprocess.PIPE, stdout=subprocess.PIPE, pass_fds=numbers)
-        self.started.append(process)
-        return process
+        words = [*words, *map(str, numbers)]
+        self.started.append(subprocess.Popen(words, stdin=subprocess.PIPE, stdout=subprocess.PIPE, pass_fds=numbers))
+        return self.started[-1]
+
+    def start_all(self, shape, ports, files, options):
+        """Starts the switch, the modules, and `drive`. Each link is a pair of sockets: one end is a module's, and the other the switch's."""
+        links = [[socket.socketpair() for _ in (0, 3)] for _ in range(int(shape.split("x")[0]))]
+        self.start(sys.executable, f"{HERE}/switch.py", *ports, links=[far for pairs in links for _, far in pairs])
+        for m, pairs in enumerate(links):
+            words = [f"{HERE}/module.py", str(m), shape, *files, *options]
+            self.modules.append(self.start(sys.executable, *words, links=[near for near, _ in pairs]))
+        for end in (end for pairs in links for pair in pairs for end in pair):
+            end.close()
+        self.drive = self.start(PROGRAM, "drive", "batch", *ports, "--schedule", "schedule")
 
     def run(self):
-        """Has each setting set, and moved by all modules, and prints the lines of `drive`: whether that came to its end."""
+        """Has each setting set and moved, and prints the lines of `drive`: whether that came to its end."""
         while True:
             line = self.drive.stdout.readline().decode().strip()
             print(line, flush=True)
             if not line.startswith("setting "):
                 return line.startswith("driven ")
-            setting = line.split()[1]
-            for module in self.modules:
-                say(module, f"setting {setting}\n")
-            # Not before all are done the next setting may be set.
-            for m, module in enumerate(self.modules):
-                if module.stdout.readline().decode() != f"done {setting}\n":
-                    sys.exit(f"rack.py: module {m} isn't done with setting {setting}")
+            self.move(line.split()[1])
+            # All are done, and not before that the next setting may be set.
             say(self.drive, "\n")
+
+    def move(self, setting):
+        """Tells all modules that a setting stands, and waits until each says that it is done."""
+        for module in self.modules:
+            say(module, f"setting {setting}\n")
+        for m, module in enumerate(self.modules):
+            if module.stdout.readline().decode() != f"done {setting}\n":
+                sys.exit(f"rack.py: module {m} isn't done with setting {setting}")
 
     def image(self):
         """The words of all modules, which end."""
@@ -121,10 +117,16 @@ def main():
         exchange.orders(batch, schedule)
     except exchange.Refused as refused:
         sys.exit(str(refused))
+    is_wide = any(max(it.initiator, it.responder) > 15 for it in exchange.transfers(batch.decode()))
+    ports = ["a", "b"] if is_wide else ["board"]
     with tempfile.TemporaryDirectory(prefix="rack-") as folder:
         os.chdir(folder)
-        rack = Rack(given.shape, batch, schedule, image, given.in_turn)
+        for port in ports:
+            os.mkfifo(f"{port}.in")
+            os.mkfifo(f"{port}.out")
+        files, rack = [keep("batch", batch), keep("schedule", schedule), keep("image", image)], Rack()
         try:
+            rack.start_all(given.shape, ports, files, ["--in-turn"] if given.in_turn else [])
             left = rack.image() if rack.run() else b""
         finally:
             rack.stop()
