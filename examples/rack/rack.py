@@ -4,9 +4,9 @@ carries the two words that a setting needs: to all modules that it stands, and t
 
     rack.py SHAPE BATCH IMAGE [--steady | --schedule FILE] [--image-out FILE] [--in-turn]
 
-Without an option all go by the plan, which is made once. In the end the words of all modules are compared with those that `apply` leaves. With --in-turn each
-module does what it is told for link 0, and then what it is told for link 3: that hangs in a ring. docs/ORDERS.md says how to run it. The
-program is `exchange` on the PATH, or the one that EXCHANGE names.
+Without an option all go by the plan, which is made once. In the end the words of all modules are compared with those that `apply` leaves.
+With --in-turn each module does what it is told for link 0, and then what it is told for link 3: that hangs in a ring. docs/ORDERS.md says
+how to run it. The program is `exchange` on the PATH, or the one that EXCHANGE names.
 """
 
 import argparse
